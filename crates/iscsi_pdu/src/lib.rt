@@ -1,0 +1,34 @@
+//! The protocol data units of iSCSI (RFC 7143 §11), as a target meets them: the bytes of a
+//! connection cut into frames, the fields of a frame's header, and the spelling of each answer.
+//!
+//! ```text
+//!   bytes in ──> Framer::feed ──> Framer::next ──> Frame { header, body } ──> the target
+//!   bytes out <── BytesMut <──────────── Answer::write <── Answer <────────── the target
+//! ```
+//!
+//! Promised, and proved:
+//!
+//! - The frames are the same however the bytes are cut into pieces ([`laws::chunking`]). They are
+//!   the only ones whose spellings, joined, are the front of the bytes
+//!   ([`laws::frames_are_the_spellings`], [`laws::only_these_frames`]).
+//! - A data segment longer than 262144 bytes is refused as soon as its header has come, and not
+//!   before the frames ahead of it were given.
+//! - An answer is written whole, padding included, or the buffer keeps its bytes.
+//! - Want of memory is an error in each place, and leaves every value as it was.
+#![tactic(auto)]
+
+mod answer;
+mod fault;
+mod frame;
+mod framer;
+mod header;
+pub mod laws;
+mod segment;
+#[cfg(test)]
+mod tests;
+
+pub use answer::{Answer, LoginResponse, LoginStatus, Residual, ScsiResponse, Stamp};
+pub use fault::PduFault;
+pub use frame::Frame;
+pub use framer::Framer;
+pub use header::{Header, Opcode};

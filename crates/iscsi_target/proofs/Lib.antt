@@ -1,0 +1,9 @@
+pub mod Lists
+pub mod Outcomes
+pub mod LoginText
+pub mod Taking
+pub mod Connections
+pub mod Counting
+pub mod UnitStates
+pub mod Numbers
+pub mod Steps

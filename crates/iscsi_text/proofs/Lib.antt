@@ -1,0 +1,6 @@
+pub mod Parts
+pub mod Lists
+pub mod PieceFaults
+pub mod Pieces
+pub mod Keys
+pub mod ReadAgain

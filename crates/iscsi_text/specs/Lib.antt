@@ -1,0 +1,5 @@
+pub mod FaultNumbers
+pub mod Pairs
+pub mod Reading
+pub mod Laws
+pub mod PairView

@@ -1,0 +1,71 @@
+//! Why a text is not read or written.
+
+ghost use Rattle.std.specs.Prelude.{◌≡◌};
+ghost use Rattle.iscsi_text.specs.declared.fault.TextFault.TheVariants.{Memory};
+ghost use Rattle.iscsi_text.specs.FaultNumbers.{number_of};
+
+use std::alloc::{AllocError, AllocFailed};
+use thiserror::Error;
+
+/// What is wrong with a text (RFC 7143 §6.1), or want of memory.
+#[derive(Clone, Copy, Debug, PartialEq, Eq, Error)]
+pub enum TextFault {
+    /// A piece has no `=`, or nothing before it.
+    #[error("a pair has no key")]
+    NoKey,
+    /// A key is longer than 63 bytes.
+    #[error("a key is longer than 63 bytes")]
+    LongKey,
+    /// A value is longer than 255 bytes.
+    #[error("a value is longer than 255 bytes")]
+    LongValue,
+    /// No zero byte ends the last pair.
+    #[error("the last pair is not ended")]
+    NotTerminated,
+    /// A pair is not UTF-8.
+    #[error("a pair is not UTF-8")]
+    NotUtf8,
+    /// A key comes twice.
+    #[error("a key comes twice")]
+    KeyTwice,
+    /// The text is longer than 65536 bytes.
+    #[error("the text is longer than 65536 bytes")]
+    TooLong,
+    /// Memory ran out.
+    #[error("out of memory")]
+    Memory,
+}
+
+impl TextFault {
+    /// The number of the fault, 1 to 8.
+    pub fn number(&self) -> u8
+        ensures { result ≡ number_of self.now }
+    {
+        match self {
+            TextFault::NoKey => 1,
+            TextFault::LongKey => 2,
+            TextFault::LongValue => 3,
+            TextFault::NotTerminated => 4,
+            TextFault::NotUtf8 => 5,
+            TextFault::KeyTwice => 6,
+            TextFault::TooLong => 7,
+            TextFault::Memory => 8,
+        }
+    }
+}
+
+impl From<AllocError> for TextFault {
+    ghost from_gives = { λ _ fault. fault ≡ Memory };
+
+    fn from(_error: AllocError) -> TextFault {
+        TextFault::Memory
+    }
+}
+
+impl<T: Drop> From<AllocFailed<T>> for TextFault {
+    ghost from_gives = { λ _ fault. fault ≡ Memory };
+
+    fn from(_error: AllocFailed<T>) -> TextFault {
+        TextFault::Memory
+    }
+}

@@ -1,0 +1,24 @@
+//! The text format of iSCSI (RFC 7143 §6.1): pairs KEY=VALUE, each ended by a zero byte.
+//!
+//! ```text
+//! InitiatorName=a\0TargetName=t1\0   (InitiatorName, a), (TargetName, t1)
+//! ```
+//!
+//! `pairs` reads exactly the pairs of a text, or the first fault that it has. `text` writes exactly
+//! the text of pairs. What `pairs` read and `text` wrote, `pairs` reads again as the same pairs.
+#![tactic(auto)]
+
+mod fault;
+mod laws;
+mod list;
+mod reading;
+mod writing;
+
+pub use fault::TextFault;
+pub use laws::is_read_again;
+pub use list::Pairs;
+pub use reading::pairs;
+pub use writing::text;
+
+#[cfg(test)]
+mod tests;

@@ -1,0 +1,83 @@
+//! The list of pairs.
+
+ghost use Rattle.std.specs.Prelude.{◌≡◌, ◌<◌, ◌++◌, ◌∷◌, [], length, slice_get, Some, OnOk, OnErr, IsOkUnless, option_map};
+ghost use Rattle.iscsi_text.specs.Pairs.{value_of};
+
+use crate::fault::TextFault;
+use std::alloc::Global;
+use std::marker::Model;
+
+/// A key and its value.
+#[derive(Debug, Drop)]
+struct Pair {
+    key: String,
+    value: String,
+}
+
+/// Keys with their values, in the order in which they stand in the text.
+#[derive(Debug, Drop)]
+pub struct Pairs {
+    alloc: Global,
+    list: Vec<Pair>,
+}
+
+impl Model for Pairs {
+    ghost use Rattle.std.specs.Prelude.{ℕ, List, map};
+    ghost use Rattle.iscsi_text.specs.PairView.{pair_view};
+
+    ghost Value = { List (List ℕ × List ℕ) };
+
+    ghost view = { λ pairs. map pair_view pairs.list.items };
+}
+
+impl Pairs {
+    /// No pairs yet.
+    pub fn new(alloc: Global) -> Pairs
+        ensures { result ≡ [] }
+    {
+        Pairs {
+            alloc,
+            list: Vec::new(alloc),
+        }
+    }
+
+    /// How many pairs there are.
+    pub fn len(&self) -> usize
+        ensures { result ≡ length self.now }
+    {
+        self.list.len()
+    }
+
+    /// Puts a pair at the end. The one fault is want of memory, which leaves the pairs as they were.
+    pub fn push(&mut self, key: &str, value: &str) -> Result<(), TextFault>
+        ensures added { OnOk result (self.new ≡ self.old ++ (key.now, value.now) ∷ []) }
+        ensures unchanged { OnErr result (self.new ≡ self.old) }
+        ensures memory { IsOkUnless result TextFault.Memory }
+    {
+        let key = String::from_str(self.alloc, key)?;
+        let value = String::from_str(self.alloc, value)?;
+        self.list.push(Pair { key, value })?;
+        Ok(())
+    }
+
+    /// The key and the value at a place.
+    pub fn pair(&self, at: usize) -> (&str, &str)
+        requires { at < length self.now }
+        ensures { slice_get self.now at ≡ Some (result.0.now, result.1.now) }
+    {
+        let pair = &self.list[at];
+        (pair.key.as_str(), pair.value.as_str())
+    }
+
+    /// The value of a key: that of the first pair with this key.
+    pub fn get(&self, key: &str) -> Option<&str>
+        ensures { option_map (λ value. value.now) result ≡ value_of key.now self.now }
+    {
+        for pair in &self.list {
+            if key == pair.key.as_str() {
+                return Some(pair.value.as_str());
+            }
+        }
+        None
+    }
+}

@@ -1,0 +1,3 @@
+pub use Rattle.scsi_sense.specs.Codes
+pub use Rattle.scsi_sense.specs.Sense
+pub mod Command

@@ -1,0 +1,25 @@
+-- What a command ended with, without where its data lies in memory.
+use Rattle.std.specs.Prelude.{ℕ, List, [], Option, Some, None}
+use Rattle.scsi_sense.specs.declared.sense.Sense.{Sense}
+use Rattle.scsi_sense.specs.declared.done.Status.{Status}
+use Rattle.scsi_sense.specs.declared.done.Status.TheVariants.{Good, CheckCondition}
+use Rattle.scsi_sense.specs.declared.done.Done.{Done}
+
+pub record Outcome : Type 0 where
+  pub status : Status
+  pub sense : Option Sense
+  -- the data given, before it is cut to the expected length
+  pub given : List ℕ
+  -- the bytes that the residual counts from
+  pub moved : ℕ
+
+abbrev pub outcome : Done → Outcome
+outcome done = record { status = done.status; sense = done.sense; given = done.given.items; moved = done.moved }
+
+-- GOOD, with nothing moved
+abbrev pub good : Outcome
+good = record { status = Good; sense = None; given = []; moved = 0 }
+
+-- CHECK CONDITION with this sense, with nothing moved
+abbrev pub check_condition : Sense → Outcome
+check_condition sense = record { status = CheckCondition; sense = Some sense; given = []; moved = 0 }

@@ -1,0 +1,4 @@
+pub mod Codes
+pub mod Sense
+pub mod Done
+pub mod Nexus

@@ -1,0 +1,68 @@
+//! What a command ended with.
+
+ghost use Rattle.std.specs.Prelude.{◌≡◌};
+ghost use Rattle.scsi_sense.specs.Codes.{status_number};
+ghost use Rattle.scsi_sense.specs.Done.{outcome, good as good_outcome, check_condition as check_outcome};
+
+use std::alloc::Global;
+
+use crate::sense::Sense;
+
+/// The status of a command (SAM-5 §5.3.1).
+#[derive(Clone, Copy, Debug, PartialEq, Eq)]
+pub enum Status {
+    Good,
+    CheckCondition,
+    ReservationConflict,
+}
+
+impl Status {
+    /// Its byte: 00h, 02h or 18h.
+    pub fn number(self) -> u8
+        ensures { result ≡ status_number self }
+    {
+        match self {
+            Status::Good => 0x00,
+            Status::CheckCondition => 0x02,
+            Status::ReservationConflict => 0x18,
+        }
+    }
+}
+
+/// A command that was done: what the initiator is told of it.
+#[derive(Debug, Drop)]
+pub struct Done {
+    pub status: Status,
+    /// There is sense where the status is CHECK CONDITION.
+    pub sense: Option<Sense>,
+    /// The data given, before it is cut to the expected length.
+    pub given: Vec<u8>,
+    /// The bytes that the command gave, or needed of what it was sent: the residual counts from it.
+    pub moved: u32,
+}
+
+impl Done {
+    /// GOOD, with nothing moved. It takes no memory.
+    pub fn good(alloc: Global) -> Done
+        ensures { outcome result ≡ good_outcome }
+    {
+        Done {
+            status: Status::Good,
+            sense: None,
+            given: Vec::new(alloc),
+            moved: 0,
+        }
+    }
+
+    /// CHECK CONDITION with this sense, with nothing moved. It takes no memory.
+    pub fn check_condition(alloc: Global, sense: Sense) -> Done
+        ensures { outcome result ≡ check_outcome sense }
+    {
+        Done {
+            status: Status::CheckCondition,
+            sense: Some(sense),
+            given: Vec::new(alloc),
+            moved: 0,
+        }
+    }
+}

@@ -1,0 +1,27 @@
+//! What a SCSI command ends with: its status, its sense data, and the data that it gave.
+//!
+//! Sense data is that of SPC-4 §4.5.3, in the fixed format, 18 bytes:
+//!
+//! ```text
+//! byte  0      70h, or F0h where the information counts (VALID)
+//! byte  2      FILEMARK 80h, EOM 40h, ILI 20h, sense key 0Fh
+//! byte  3-6    information
+//! byte  7      0Ah: ten bytes follow
+//! byte 12-13   additional sense code and its qualifier
+//! ```
+//!
+//! Promised: [`Sense::bytes`] is exactly that layout, and each number is that of SPC-4's tables.
+#![tactic(auto)]
+
+mod code;
+mod done;
+mod nexus;
+mod sense;
+
+pub use code::{AdditionalSense, SenseKey};
+pub use done::{Done, Status};
+pub use nexus::Nexus;
+pub use sense::Sense;
+
+#[cfg(test)]
+mod tests;
