@@ -6,4 +6,9 @@ pub mod Connections
 pub mod Counting
 pub mod UnitStates
 pub mod Numbers
+pub mod Choices
 pub mod Steps
+pub mod Histories
+pub mod Places
+pub mod Standing
+pub mod Events

@@ -16,6 +16,7 @@ use Rattle.iscsi_target.specs.Output.{out_of}
 use Rattle.iscsi_target.specs.Machine.{PhaseState, SessionState, FullFeature, LoggingIn, Closing, Parts, reads, shut, say, counted, finished_one, first_numbers, entered, enter, is_next, attempt, told, served, handle, frame_in, take_frame, joined_slot, slots_perform}
 use Rattle.iscsi_target.specs.Stands.{unit_for, phase_for, phase_of, AreNumbered, IsNew, IsQuiet}
 use Rattle.iscsi_target.specs.declared.units.Slot.{Slot}
+use Rattle.iscsi_target.proofs.Choices.{cond_true, cond_false, and_true, not_true}
 use Rattle.iscsi_target.proofs.Counting.{index_of, eqb_self}
 use Rattle.iscsi_target.proofs.Numbers.{stamp_answered, out_answered, numbered_next, stamp_finished, none_left, one_left, finished_next, stamp_asked}
 use Rattle.iscsi_target.proofs.UnitStates.{joined_all, left_all, perform_same}
@@ -35,7 +36,7 @@ pub record PartStands (c : ℕ) (o w : List ℕ) (part : Part) (parts : Parts) :
 
 -- ---- the end of a session
 
-units_left : (o : Option Session) (units : List Unit) (slots : List Slot) → units ≡ map (unit_for o) slots → left o units ≡ map (unit_for None) slots
+pub units_left : (o : Option Session) (units : List Unit) (slots : List Slot) → units ≡ map (unit_for o) slots → left o units ≡ map (unit_for None) slots
 units_left None units slots e = e
 units_left (Some session) units slots e = rw e (left_all session slots)
 
@@ -53,14 +54,6 @@ closes c o w part parts h = record {
 }
 
 -- ---- small facts
-
-cond_true : {X : Type 0} (b : Bool) (x y : X) → b ≡ true → cond b x y ≡ x
-cond_true true x y e = refl
-cond_true false x y e = absurd cc
-
-cond_false : {X : Type 0} (b : Bool) (x y : X) → b ≡ false → cond b x y ≡ y
-cond_false true x y e = absurd cc
-cond_false false x y e = refl
 
 -- the same bytes behind two texts
 grows : (xs ys more s : List ℕ) → xs ≡ ys ++ more → xs ++ s ≡ ys ++ (more ++ s)
@@ -147,14 +140,6 @@ logs_in targets c o w part parts request h reads_ none =
     rw same (entered_by c o w part parts request reply h reads_ none)
 
 -- ---- full feature phase
-
-and_true : (a b : Bool) → (a && b) ≡ true → (a ≡ true) × (b ≡ true)
-and_true true b e = (refl, e)
-and_true false b e = absurd cc
-
-not_true : (b : Bool) → not b ≡ true → b ≡ false
-not_true true e = absurd cc
-not_true false e = refl
 
 -- a command that is accepted is complete: it writes nothing
 no_write : (life : Life) (frame : Frame) → is_accepted life frame ≡ true → is_write frame.header ≡ false
@@ -301,7 +286,7 @@ takes_all targets c o w part parts (frame ∷ fs) h = takes_all targets c o w (a
 
 -- ---- the rest
 
-reads_life : (b : Bool) (s : Option Session) (numbers : Stamp) → reads (cond b (phase_for s numbers) Closing) ≡ b
+pub reads_life : (b : Bool) (s : Option Session) (numbers : Stamp) → reads (cond b (phase_for s numbers) Closing) ≡ b
 reads_life true None numbers = refl
 reads_life true (Some session) numbers = refl
 reads_life false s numbers = refl

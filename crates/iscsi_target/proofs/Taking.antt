@@ -72,7 +72,7 @@ fed_done targets c link slots piece framer parts half e p h = rw (e, ← p, ← 
 
 -- ---- what is kept between two pieces
 
-nothing_long : is_long [] ≡ false
+pub nothing_long : is_long [] ≡ false
 unfolding is_long
 nothing_long = refl
 
@@ -89,7 +89,7 @@ still_reads : (long : Bool) (parts : Parts) → reads (shut_if long parts).phase
 still_reads false parts e = refl
 still_reads true parts e = still_reads_by (reads parts.phase) parts refl e
 
-short_rest : (targets : List (List ℕ)) (c : ℕ) (parts : Parts) (bytes : List ℕ) → reads (take_bytes targets c parts bytes).phase ≡ true → is_long (rest bytes) ≡ false
+pub short_rest : (targets : List (List ℕ)) (c : ℕ) (parts : Parts) (bytes : List ℕ) → reads (take_bytes targets c parts bytes).phase ≡ true → is_long (rest bytes) ≡ false
 unfolding take_bytes
 short_rest targets c parts bytes e = still_reads (is_long (rest bytes)) (fold (take_frame targets c) parts (frames bytes)) e
 

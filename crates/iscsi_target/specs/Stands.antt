@@ -96,8 +96,23 @@ session_now (life ∷ older) = life.session
 abbrev pub setting_of : Machine → Setting
 setting_of machine = record { targets = machine.targets; places = map (λ slot. slot.place) machine.slots }
 
+-- The code stands where this World does, after this history.
+pub record StandsAt (w : World) (machine : Machine) (history : List Event) : Type 0 where
+  pub links : (c : ℕ) → c < connections → LinkStands (link_at machine c) (joined c history) (present c w.lives)
+  pub units : w.units ≡ map (unit_for (session_now w.lives)) machine.slots
+  pub alone : IsAlone w.lives
+
 -- The code stands where the World of this history does.
-pub record Stands (machine : Machine) (history : List Event) : Type 0 where
-  pub links : (c : ℕ) → c < connections → LinkStands (link_at machine c) (joined c history) (present c (world (setting_of machine) history).lives)
-  pub units : (world (setting_of machine) history).units ≡ map (unit_for (session_now (world (setting_of machine) history).lives)) machine.slots
-  pub alone : IsAlone (world (setting_of machine) history).lives
+abbrev pub Stands : Machine → List Event → Type 0
+Stands machine history = StandsAt (world (setting_of machine) history) machine history
+
+-- the answers of a connection's present life
+abbrev pub out_now : Option Life → List ℕ
+out_now None = []
+out_now (Some life) = out_of life
+
+-- What waits on a connection grows by what its present life is answered.
+pub record GrowsBy (old new : Machine) (before after : List Event) (c : ℕ) : Type 0 where
+  pub more : List ℕ
+  pub answered : out_now (present c (world (setting_of new) after).lives) ≡ out_now (present c (world (setting_of old) before).lives) ++ more
+  pub waiting : (link_at new c).waiting ≡ (link_at old c).waiting ++ more

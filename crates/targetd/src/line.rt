@@ -1,5 +1,8 @@
 //! A line of the input.
 
+ghost use Rattle.std.specs.Prelude.{◌≡◌, ◌<◌, IfOk, IfSome, option_map};
+ghost use Rattle.targetd.specs.Line.{event_view, connection_in, connection_of, bytes_of, event_of};
+
 use hex::FromHexError;
 use iscsi_target::{Event, Memory};
 use std::alloc::Global;
@@ -8,7 +11,11 @@ use std::alloc::Global;
 pub const CONNECTIONS: usize = 64;
 
 /// The number of a connection, in decimal and without leading zeros.
-fn connection(text: &str) -> Option<usize> {
+#[tactic(auto, unfolding(crate::specs::Line::connection_of))]
+fn connection(text: &str) -> Option<usize>
+    ensures value { result ≡ connection_of text.now }
+    ensures in_range { IfSome result (λ c. c < 64) }
+{
     let number = match *text.as_bytes() {
         [ones @ b'0'..=b'9'] => usize::from(ones - b'0'),
         [tens @ b'1'..=b'9', ones @ b'0'..=b'9'] => {
@@ -20,7 +27,11 @@ fn connection(text: &str) -> Option<usize> {
 }
 
 /// A connection and the bytes on it, in hexadecimal digits of either case.
-fn bytes(alloc: Global, text: &str) -> Result<Option<Event>, Memory> {
+#[tactic(auto, unfolding(crate::specs::Line::bytes_of))]
+fn bytes(alloc: Global, text: &str) -> Result<Option<Event>, Memory>
+    ensures event { IfOk result (λ event. option_map event_view event ≡ bytes_of text.now) }
+    ensures in_range { IfOk result (λ event. IfSome event (λ e. connection_in e < 64)) }
+{
     let Some((number, digits)) = text.split_once(' ') else {
         return Ok(None);
     };
@@ -42,7 +53,11 @@ fn bytes(alloc: Global, text: &str) -> Result<Option<Event>, Memory> {
 ///
 /// C is the number of a connection, in decimal and without leading zeros. HEX are digits of either
 /// case, two for each byte, or none.
-pub fn line(alloc: Global, text: &str) -> Result<Option<Event>, Memory> {
+#[tactic(auto, unfolding(crate::specs::Line::event_of))]
+pub fn line(alloc: Global, text: &str) -> Result<Option<Event>, Memory>
+    ensures event { IfOk result (λ event. option_map event_view event ≡ event_of text.now) }
+    ensures in_range { IfOk result (λ event. IfSome event (λ e. connection_in e < 64)) }
+{
     if let Some(number) = text.strip_prefix("open ") {
         return Ok(connection(number).map(Event::Open));
     }

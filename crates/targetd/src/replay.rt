@@ -1,9 +1,11 @@
 //! The replay: events come as lines, and what the target answers is printed after each.
 
-ghost use Rattle.std.specs.Prelude.{◌≡◌, ◌<◌, true, length};
-ghost use Rattle.iscsi_target.specs.Machine.{is_open_at};
+ghost use Rattle.std.specs.Prelude.{◌≡◌, ◌<◌, true, length, IfOk, if◌then◌else◌};
+ghost use Rattle.iscsi_target.specs.Machine.{link_at, is_open_at, all_free, sent};
+ghost use Rattle.targetd.specs.Line.{event_view, connection_in};
+ghost use Rattle.targetd.specs.Replay.{is_allowed, after};
 
-use iscsi_target::{Event, Memory, Target};
+use iscsi_target::{Event, Memory, Starved, Target};
 use std::alloc::Global;
 use std::io::{ErrorKind, Read, Write};
 use std::str;
@@ -14,36 +16,47 @@ use crate::line::{CONNECTIONS, line};
 /// Input that has no end after so many reads is a fault.
 const MOST_READS: u64 = 4_294_967_296;
 
-/// The target, and where its answers are printed.
-#[derive(Drop)]
-struct Printer<W: Write + Drop> {
-    alloc: Global,
-    target: Target,
-    writer: W,
-}
-
-/// What waits on a connection. It is sent.
+/// Takes all that waits on a connection, which is then sent.
 fn drain(alloc: Global, target: &mut Target, c: usize) -> Result<Vec<u8>, Memory>
     requires in_range { c < 64 }
     requires open { is_open_at target.old c ≡ true }
+    ensures bytes { IfOk result (λ bytes. bytes.items ≡ (link_at target.old c).waiting) }
+    ensures sent { IfOk result (λ bytes. target.new ≡ sent target.old c (length bytes.items)) }
+    ensures connections { length target.new.links ≡ length target.old.links }
 {
     let mut bytes = Vec::new(alloc);
-    while target.is_open(c) && !target.out(c).is_empty() {
+    loop {
         let piece = target.out(c);
+        if piece.is_empty() {
+            return Ok(bytes);
+        }
         bytes.extend_from_slice(piece)?;
         let count = piece.len();
         target.sent(c, count);
     }
-    Ok(bytes)
 }
 
 /// No connection is open.
-fn is_idle(target: &Target) -> bool {
-    (0..CONNECTIONS).all(|c| !target.is_open(c))
+fn is_idle(target: &Target) -> bool
+    requires { length target.now.links ≡ 64 }
+    ensures { result ≡ all_free target.now }
+{
+    for c in 0..CONNECTIONS {
+        if target.is_open(c) {
+            return false;
+        }
+    }
+    true
 }
 
-/// Carries out an event, or refuses it where it breaks a condition.
-fn act(target: &mut Target, event: &Event) -> Result<bool, Fault> {
+/// Carries out an event where it is allowed, and says whether it is.
+fn act(target: &mut Target, event: &Event) -> Result<bool, Starved>
+    requires in_range { connection_in event.now < 64 }
+    requires connections { length target.old.links ≡ 64 }
+    ensures allowed { IfOk result (λ allowed. allowed ≡ is_allowed target.old (event_view event.now)) }
+    ensures after { IfOk result (λ allowed. target.new ≡ if allowed then after target.old (event_view event.now) else target.old) }
+    ensures connections { length target.new.links ≡ 64 }
+{
     match event {
         Event::Open(c) => {
             if !is_idle(target) {
@@ -67,9 +80,21 @@ fn act(target: &mut Target, event: &Event) -> Result<bool, Fault> {
     Ok(true)
 }
 
+/// The target, and where its answers are printed.
+#[derive(Drop)]
+struct Printer<W: Write + Drop> {
+    alloc: Global,
+    target: Target,
+    writer: W,
+    ghost connections: { length target.links ≡ 64 },
+}
+
 impl<W: Write + Drop> Printer<W> {
     /// Prints what waits on an open connection, and lets it go where it is closing.
-    fn print_connection(&mut self, c: usize) -> Result<(), Fault> {
+    fn print_connection(&mut self, c: usize) -> Result<(), Fault>
+        requires in_range { c < 64 }
+        requires open { is_open_at self.old.target c ≡ true }
+    {
         let bytes = drain(self.alloc, &mut self.target, c)?;
         if !bytes.is_empty() {
             let digits = hex::encode(self.alloc, bytes)?;
@@ -154,7 +179,9 @@ pub fn replay<R: Read + Drop, W: Write + Drop>(
     target: Target,
     mut reader: R,
     writer: W,
-) -> Result<(), Fault> {
+) -> Result<(), Fault>
+    requires { length target.links ≡ 64 }
+{
     let mut lines = Lines {
         printer: Printer {
             alloc,
