@@ -4,7 +4,7 @@ use Rattle.std.specs.Prelude.{find, fold}
 use Rattle.std.specs.List.{AllByRecursion, list_all}
 use Rattle.std.proofs.lemmas.Bool.{ne_eqb, eqb-true}
 use Rattle.std.proofs.lemmas.Bool.Decides.{eqb_tells}
-use Rattle.std.proofs.lemmas.List.{append-nil, drop-drop, length-drop, get_or-replicate, get_or-set_same, get_or-set_other}
+use Rattle.std.proofs.lemmas.List.{append-nil, drop-drop, length-drop, get_or-replicate, length-replicate, get_or-set_same, get_or-set_other}
 use Rattle.std.proofs.lemmas.List.Sums.{AllPass-from_list_all}
 use Rattle.iscsi_pdu.specs.Frames.{rest, is_long}
 use Rattle.iscsi_pdu.specs.declared.answer.Stamp.{Stamp}
@@ -44,7 +44,7 @@ on_link_by (Some life) w machine history c e stands open_ alone = record { life 
 pub on_link : (w : World) (machine : Machine) (history : List Event) (c : ℕ) → c < connections → is_open_at machine c ≡ true → StandsAt w machine history → OnLink w machine history c
 on_link w machine history c lt open_ s = on_link_by (present c w.lives) w machine history c refl (s.links c lt) open_ s.alone
 
-newest_present : (c : ℕ) (lives : List Life) (life : Life) → Newest c lives life → present c lives ≡ Some life
+pub newest_present : (c : ℕ) (lives : List Life) (life : Life) → Newest c lives life → present c lives ≡ Some life
 newest_present c lives life n = ap (present c) n.lives_are ∙ cond_true (is_present c life) (Some life) (present c n.older) n.here
 
 newest_absent : (d c : ℕ) (lives : List Life) (life : Life) → Newest c lives life → d ≢ c → present d lives ≡ None
@@ -80,17 +80,17 @@ fed_world setting history w c piece life n =
 is_here : (c : ℕ) (life : Life) → life.connection ≡ c → life.is_gone ≡ false → is_present c life ≡ true
 is_here c life e gone = rw (e, gone, eqb_self c) refl
 
-setting_fed : (machine : Machine) (c : ℕ) (piece : List ℕ) → setting_of (fed machine c piece) ≡ setting_of machine
+pub setting_fed : (machine : Machine) (c : ℕ) (piece : List ℕ) → setting_of (fed machine c piece) ≡ setting_of machine
 setting_fed machine c piece = ap (λ places. record { targets = machine.targets; places = places }) (piece_places machine.targets c (link_at machine c) machine.slots piece)
 
-fed_at : (machine : Machine) (history : List Event) (c : ℕ) (piece : List ℕ) (n : OnLink (world (setting_of machine) history) machine history c)
+pub fed_at : (machine : Machine) (history : List Event) (c : ℕ) (piece : List ℕ) (n : OnLink (world (setting_of machine) history) machine history c)
     → world (setting_of (fed machine c piece)) (history ++ Bytes c piece [] ∷ []) ≡ record { lives = (fed_part (setting_of machine) history (world (setting_of machine) history) c piece n.life).life ∷ n.newest.older; units = (fed_part (setting_of machine) history (world (setting_of machine) history) c piece n.life).units }
 fed_at machine history c piece n =
     ap (λ (setting : Setting). world setting (history ++ Bytes c piece [] ∷ [])) (setting_fed machine c piece)
     ∙ world-push (setting_of machine) history (Bytes c piece [])
     ∙ fed_world (setting_of machine) history (world (setting_of machine) history) c piece n.life n.newest
 
-fed_life : (machine : Machine) (history : List Event) (c : ℕ) (piece : List ℕ) → c < connections → Stands machine history → (n : OnLink (world (setting_of machine) history) machine history c)
+pub fed_life : (machine : Machine) (history : List Event) (c : ℕ) (piece : List ℕ) → c < connections → Stands machine history → (n : OnLink (world (setting_of machine) history) machine history c)
     → Fed c (out_of n.life) (link_at machine c).waiting (joined c history ++ piece) (fed_part (setting_of machine) history (world (setting_of machine) history) c piece n.life) (piece_for machine.targets c (link_at machine c) machine.slots piece).0 (piece_for machine.targets c (link_at machine c) machine.slots piece).1
 fed_life machine history c piece lt s n =
     let w = world (setting_of machine) history in
@@ -115,7 +115,7 @@ fed_keeps machine history c piece lt count open_ s =
 
 -- ---- Gone
 
-ended_at : (machine : Machine) (history : List Event) (c : ℕ) (n : OnLink (world (setting_of machine) history) machine history c)
+pub ended_at : (machine : Machine) (history : List Event) (c : ℕ) (n : OnLink (world (setting_of machine) history) machine history c)
     → let part = end (record { life = n.life; units = (world (setting_of machine) history).units; steps = 0 }) in
     world (setting_of (ended machine c)) (history ++ Gone c ∷ []) ≡ record { lives = part.life ∷ n.newest.older; units = part.units }
 ended_at machine history c n =
@@ -144,7 +144,7 @@ is_free_for : (o : Option Session) (numbers : Stamp) → is_free (phase_for o nu
 is_free_for None numbers = refl
 is_free_for (Some session) numbers = refl
 
-is_free_phase : (b : Bool) (life : Life) → is_free (cond b (phase_for life.session (stamp life)) Closing) ≡ false
+pub is_free_phase : (b : Bool) (life : Life) → is_free (cond b (phase_for life.session (stamp life)) Closing) ≡ false
 is_free_phase true life = is_free_for life.session (stamp life)
 is_free_phase false life = refl
 
@@ -229,6 +229,7 @@ new_stands targets places = record {
   links = λ c lt. get_or-replicate connections c free_link free_link lt;
   units = free_slots places;
   alone = tt;
+  count = length-replicate connections free_link;
 }
 
 -- ---- what waits grows by what is answered

@@ -12,3 +12,6 @@ pub mod Histories
 pub mod Places
 pub mod Standing
 pub mod Events
+pub mod Promises
+pub mod Running
+pub mod RunSteps

@@ -4,7 +4,7 @@ use Rattle.std.specs.Prelude.{find, fold, filter_map}
 use Rattle.std.specs.List.{AllByRecursion, list_any}
 use Rattle.std.proofs.lemmas.Bool.{ne_eqb, eqb-true}
 use Rattle.std.proofs.lemmas.Bool.Decides.{eqb_tells}
-use Rattle.std.proofs.lemmas.List.{append-nil, length-append, get_or-set_same, get_or-set_other, drop-append-le}
+use Rattle.std.proofs.lemmas.List.{append-nil, length-append, get_or-set_same, get_or-set_other, drop-append-le, length-set}
 use Rattle.std.proofs.lemmas.List.Sums.{fold-append}
 use Rattle.iscsi_pdu.specs.Frames.{Frame, frames, rest, is_long}
 use Rattle.iscsi_pdu.proofs.Cuts.{rest_in_pieces}
@@ -216,4 +216,5 @@ assembled w machine history c link slots lt count here others units alone = reco
   ];
   units = units;
   alone = alone;
+  count = length-set machine.links c link ∙ count;
 }

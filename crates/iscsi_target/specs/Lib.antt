@@ -13,6 +13,8 @@ pub mod Units
 pub mod World
 pub mod Output
 pub mod Replies
+pub mod Events
 pub mod Machine
 pub mod Links
 pub mod Stands
+pub mod Runs

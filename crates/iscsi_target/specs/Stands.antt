@@ -101,6 +101,7 @@ pub record StandsAt (w : World) (machine : Machine) (history : List Event) : Typ
   pub links : (c : ℕ) → c < connections → LinkStands (link_at machine c) (joined c history) (present c w.lives)
   pub units : w.units ≡ map (unit_for (session_now w.lives)) machine.slots
   pub alone : IsAlone w.lives
+  pub count : length machine.links ≡ connections
 
 -- The code stands where the World of this history does.
 abbrev pub Stands : Machine → List Event → Type 0

@@ -4,8 +4,10 @@
 mod config;
 mod event;
 mod fault;
+mod history;
 mod link;
 mod login;
+mod run;
 mod session;
 mod target;
 mod units;
@@ -13,4 +15,6 @@ mod units;
 pub use config::{Config, LogicalUnit};
 pub use event::Event;
 pub use fault::{Memory, Starved};
+pub use history::well_formed;
+pub use run::Outputs;
 pub use target::Target;

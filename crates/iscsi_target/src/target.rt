@@ -1,8 +1,10 @@
 //! The target: all connections and all units, behind one state.
 
-ghost use Rattle.std.specs.Prelude.{◌≡◌, ◌<◌, ◌≤◌, ◌++◌, ℕ, List, [], true, length, map, replicate, IsOk, IfOk, IfErr, OnOk, OnErr, string_bytes};
+ghost use Rattle.std.specs.Prelude.{◌≡◌, ◌<◌, ◌≤◌, ◌++◌, ◌∷◌, ℕ, List, [], true, length, map, replicate, IsOk, IfOk, IfErr, OnOk, OnErr, string_bytes};
+ghost use Rattle.iscsi_target.specs.History.{Event, Open, Bytes, Gone};
 ghost use Rattle.iscsi_target.specs.Links.{links_view};
 ghost use Rattle.iscsi_target.specs.Machine.{free_link, new_slot, new_machine, link_at, opened, fed, ended, sent as sent_of, all_free, is_open_at, is_closing, want_of, IsStarved};
+ghost use Rattle.iscsi_target.specs.Stands.{Stands, GrowsBy};
 
 use std::alloc::Global;
 use std::marker::Model;
@@ -13,7 +15,7 @@ use crate::link::{Link, Phase, Setting};
 use crate::units::Slot;
 
 /// Connections are numbered from 0 to one less than this.
-const CONNECTIONS: usize = 64;
+pub(crate) const CONNECTIONS: usize = 64;
 
 /// A connection with more bytes than this waiting is not read.
 const MOST_WAITING: usize = 1_048_576;
@@ -37,7 +39,8 @@ impl Model for Target {
 
     ghost Value = { Machine };
 
-    ghost use Rattle.iscsi_target.specs.Links.{links_view};
+    ghost use Rattle.iscsi_target.specs.History.{Event, Open, Bytes, Gone};
+ghost use Rattle.iscsi_target.specs.Links.{links_view};
 
     ghost view = { λ t. record { targets = map string_bytes t.config.targets.items; slots = t.slots.items; links = links_view t.links.items } };
 
@@ -72,7 +75,8 @@ fn new_slots(alloc: Global, units: &[LogicalUnit]) -> Result<Vec<Slot>, Memory>
 impl Target {
     /// A target with these units, and no connection open.
     pub fn new(alloc: Global, config: Config, units: Vec<LogicalUnit>) -> Result<Target, Memory>
-        ensures { IfOk result (λ target. target ≡ new_machine (map string_bytes config.targets.items) units.items) }
+        ensures made { IfOk result (λ target. target ≡ new_machine (map string_bytes config.targets.items) units.items) }
+        ensures stands { IfOk result (λ target. Stands target []) }
     {
         let slots = new_slots(alloc, units.as_slice())?;
         let links = free_links(alloc)?;
@@ -89,6 +93,7 @@ impl Target {
         requires in_range { c < 64 }
         requires alone { all_free self.old ≡ true }
         ensures ok { OnOk result (self.new ≡ opened self.old c) }
+        ensures stands { OnOk result ((h : List Event) → Stands self.old h → Stands self.new (h ++ Open c ∷ [])) }
         ensures refused { OnErr result (self.new ≡ self.old) }
     {
         self.links[c] = Link::opened(self.alloc);
@@ -102,6 +107,11 @@ impl Target {
         requires in_range { c < 64 }
         requires open { is_open_at self.old c ≡ true }
         ensures ok { OnOk result (self.new ≡ fed self.old c piece.now) }
+        ensures stands { OnOk result ((h : List Event) → Stands self.old h → Stands self.new (h ++ Bytes c piece.now [] ∷ [])) }
+
+        // What waits on each connection grows by what it is answered.
+        ensures grows { OnOk result ((h : List Event) → Stands self.old h → (d : ℕ) → d < 64 → GrowsBy self.old self.new h (h ++ Bytes c piece.now [] ∷ []) d) }
+
         ensures empty { piece.now ≡ [] → IsOk result }
         ensures closing { is_closing (link_at self.old c).phase ≡ true → IsOk result }
         ensures names { IfErr result (λ starved. starved.connection ≡ c) }
@@ -123,7 +133,8 @@ impl Target {
     pub fn gone(&mut self, c: usize)
         requires in_range { c < 64 }
         requires open { is_open_at self.old c ≡ true }
-        ensures { self.new ≡ ended self.old c }
+        ensures now { self.new ≡ ended self.old c }
+        ensures stands { (h : List Event) → Stands self.old h → Stands self.new (h ++ Gone c ∷ []) }
     {
         self.links[c] = Link::free(self.alloc);
     }
@@ -143,10 +154,33 @@ impl Target {
         requires in_range { c < 64 }
         requires open { is_open_at self.old c ≡ true }
         requires waits { n ≤ length (link_at self.old c).waiting }
-        ensures { self.new ≡ sent_of self.old c n }
+        ensures now { self.new ≡ sent_of self.old c n }
+        ensures stands { (h : List Event) → Stands self.old h → Stands self.new h }
     {
         let link = &mut self.links[c];
         link.waiting.advance(n);
+    }
+
+    /// Takes all that waits on a connection, behind what is there. Want of memory takes nothing.
+    pub(crate) fn drain(&mut self, c: usize, out: &mut Vec<u8>) -> Result<(), Memory>
+        requires in_range { c < 64 }
+        requires open { is_open_at self.old c ≡ true }
+        ensures out { OnOk result (out.new.items ≡ out.old.items ++ (link_at self.old c).waiting) }
+        ensures now { OnOk result (self.new ≡ sent_of self.old c (length (link_at self.old c).waiting)) }
+    {
+        let waits = self.out_len(c);
+        out.extend_from_slice(self.links[c].waiting.as_slice())?;
+        self.sent(c, waits);
+        Ok(())
+    }
+
+    /// How many bytes wait on a connection.
+    fn out_len(&self, c: usize) -> usize
+        requires in_range { c < 64 }
+        requires open { is_open_at self.now c ≡ true }
+        ensures { result ≡ length (link_at self.now c).waiting }
+    {
+        self.links[c].waiting.len()
     }
 
     /// What waits is still sent, and nothing more is read.

@@ -1,16 +1,56 @@
 -- The connections of a target, by number.
-use Rattle.std.proofs.Common.{◌≡◌, ℕ, ◌+◌, ◌<◌, ◌≤◌, Bool, true, false, not, ◌&&◌, List, ◌++◌, length, take, drop, get_or, set, refl, sym, ap, ◌∙◌, arith, inl, inr}
+use Rattle.std.proofs.Common.{◌≡◌, ℕ, ◌+◌, ◌<◌, ◌≤◌, Bool, true, false, not, List, [], ◌++◌, length, take, drop, get_or, set, refl, sym, ap, ◌∙◌, rules, arith, inl, inr}
 use Rattle.std.specs.List.{list_all}
-use Rattle.std.proofs.lemmas.List.{get_or-set_same, length-set}
-use Rattle.std.proofs.lemmas.List.Folds.{list_all_at, list_all_more}
-use Rattle.iscsi_target.specs.Machine.{Machine, LinkState, free_link, is_free, link_at, is_open_at, sent, sent_link, all_free}
+use Rattle.std.proofs.lemmas.Bool.{false≢true, cases_lt}
+use Rattle.std.proofs.lemmas.List.{get_or-set_same, get_or_past, length-set, set-set, set-get_or, drop-drop, append_assoc, length-append}
+use Rattle.std.proofs.Math.Seq.{drop-append_seam}
+use Rattle.iscsi_target.specs.Machine.{Machine, LinkState, free_link, is_free, link_at, is_open_at, sent, sent_link}
 
 abbrev pub is_free_link : LinkState → Bool
 is_free_link link = is_free link.phase
 
--- what waits on a connection after some of it was sent
-pub waiting-sent : (machine : Machine) (c n : ℕ) → c < length machine.links → link_at (sent machine c n) c ≡ sent_link (link_at machine c) n
-waiting-sent machine c n lt = get_or-set_same machine.links c (sent_link (link_at machine c) n) free_link lt
+-- an open connection is one of those that there are
+pub open_in_range : (machine : Machine) (c : ℕ) → is_open_at machine c ≡ true → c < length machine.links
+open_in_range machine c is_open = elim (cases_lt c (length machine.links)) [
+  | inl lt ↦ lt
+  | inr past ↦
+      let closed : is_open_at machine c ≡ false = ap (λ (link : LinkState). not (is_free_link link)) (get_or_past machine.links c free_link past) in
+      absurd (false≢true (sym closed ∙ is_open))
+]
 
-pub length-sent : (machine : Machine) (c n : ℕ) → length (sent machine c n).links ≡ length machine.links
-length-sent machine c n = length-set machine.links c (sent_link (link_at machine c) n)
+-- a connection after so many bytes were sent on it
+pub link_at-sent : (machine : Machine) (c n : ℕ) → c < length machine.links → link_at (sent machine c n) c ≡ sent_link (link_at machine c) n
+link_at-sent machine c n lt = get_or-set_same machine.links c (sent_link (link_at machine c) n) free_link lt
+
+-- it is as open as before
+pub is_open_at-sent : (machine : Machine) (c n : ℕ) → c < length machine.links → is_open_at (sent machine c n) c ≡ is_open_at machine c
+is_open_at-sent machine c n lt = ap (λ (link : LinkState). not (is_free_link link)) (link_at-sent machine c n lt)
+
+-- nothing was sent
+pub sent-nothing : (machine : Machine) (c : ℕ) → machine ≡ sent machine c 0
+sent-nothing machine c = ap (λ (links : List LinkState). record machine { links = links }) (sym (set-get_or machine.links c free_link))
+
+-- what is sent in two steps
+pub sent-sent : (machine : Machine) (c a b : ℕ) → c < length machine.links → sent (sent machine c a) c b ≡ sent machine c (a + b)
+sent-sent machine c a b lt =
+    let link : sent_link (link_at (sent machine c a) c) b ≡ sent_link (link_at machine c) (a + b) =
+    ap (λ (link : LinkState). sent_link link b) (link_at-sent machine c a lt) ∙ ap (λ (w : List ℕ). record (link_at machine c) { waiting = w }) (drop-drop b a (link_at machine c).waiting) in
+    ap (λ (links : List LinkState). record machine { links = links })
+    (set-set machine.links c (sent_link (link_at machine c) a) _ ∙ ap (set machine.links c) link)
+
+-- one more piece from the front is sent
+pub sent_more : (first machine : Machine) (c : ℕ) (front piece : List ℕ) → c < length first.links → machine ≡ sent first c (length front)
+    → sent machine c (length piece) ≡ sent first c (length (front ++ piece))
+sent_more first machine c front piece lt e = rw (e, length-append front piece) (sent-sent first c (length front) (length piece) lt)
+
+pub length_links : (first machine : Machine) (c n : ℕ) → machine ≡ sent first c n → length machine.links ≡ length first.links
+length_links first machine c n e = rw e (length-set first.links c (sent_link (link_at first c) n))
+
+-- and the piece stands behind what was taken before
+pub taken_more : (first machine : Machine) (c : ℕ) (front piece more : List ℕ) → c < length first.links → machine ≡ sent first c (length front)
+    → (link_at machine c).waiting ≡ piece ++ more → (front ++ piece) ++ (link_at (sent machine c (length piece)) c).waiting ≡ front ++ (link_at machine c).waiting
+taken_more first machine c front piece more lt e w =
+    let within : c < length machine.links = rw (length_links first machine c (length front) e) lt in
+    let left : (link_at (sent machine c (length piece)) c).waiting ≡ more =
+    ap (λ (link : LinkState). link.waiting) (link_at-sent machine c (length piece) within) ∙ ap (drop (length piece)) w ∙ drop-append_seam piece more in
+    rw (left, w) (append_assoc front piece more)

@@ -1,3 +1,6 @@
 pub mod Fault
 pub mod Line
 pub mod Replay
+pub mod Document
+pub mod Limits
+pub mod Config

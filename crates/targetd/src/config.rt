@@ -3,8 +3,15 @@
 
 mod fields;
 mod limits;
+mod refusal;
 
-use std::alloc::{AllocError, AllocFailed, Global};
+ghost use Rattle.std.specs.Prelude.{◌≡◌, ◌≢◌, map, nat_eq, IfOk, IfErr, Ok, Err, true, false};
+ghost use Rattle.toml.specs.Errors.{IsMemory};
+ghost use Rattle.targetd.specs.Limits.{unit_entries, target_entry, target_entries, configuration_view};
+ghost use Rattle.targetd.specs.Config.{is_distinct, has_distinct_luns as are_luns_distinct, has_distinct_names as are_names_distinct, has_lun_zero as is_lun_zero_there, config_of};
+ghost use Rattle.targetd.specs.declared.config.ConfigFault.TheVariants.{NotToml, OutOfMemory};
+
+use std::alloc::Global;
 
 use crate::configuration::{Configuration, TargetConfiguration};
 use crate::fault::Fault;
@@ -30,19 +37,9 @@ pub enum ConfigFault {
     OutOfMemory,
 }
 
-impl From<AllocError> for ConfigFault {
-    fn from(_error: AllocError) -> ConfigFault {
-        ConfigFault::OutOfMemory
-    }
-}
-
-impl<T: Drop> From<AllocFailed<T>> for ConfigFault {
-    fn from(_error: AllocFailed<T>) -> ConfigFault {
-        ConfigFault::OutOfMemory
-    }
-}
-
 impl From<toml::de::Error> for ConfigFault {
+    ghost from_gives = { λ error fault. (fault ≢ OutOfMemory → (fault ≡ NotToml) × ¬ (IsMemory error)) };
+
     fn from(error: toml::de::Error) -> ConfigFault {
         if error.is_memory() {
             ConfigFault::OutOfMemory
@@ -67,38 +64,56 @@ impl From<ConfigFault> for Fault {
     }
 }
 
-/// The units of a target have different LUNs.
-fn has_distinct_luns(target: &TargetConfiguration) -> bool {
-    let units = target.units.as_slice();
-    units
-        .iter()
-        .enumerate()
-        .all(|(i, unit)| units[..i].iter().all(|earlier| earlier.lun != unit.lun))
+/// The units of the target have different LUNs.
+fn has_distinct_luns(target: &TargetConfiguration) -> bool
+    ensures { result ≡ are_luns_distinct (target_entry target.now) }
+{
+    let mut rest = target.units.as_slice();
+    while let [first, others @ ..] = rest {
+        if others.iter().any(|unit| unit.lun == first.lun) {
+            return false;
+        }
+        rest = others;
+    }
+    true
 }
 
 /// The targets have different names.
-fn has_distinct_names(targets: &[TargetConfiguration]) -> bool {
-    targets
-        .iter()
-        .enumerate()
-        .all(|(i, target)| targets[..i].iter().all(|earlier| earlier.name != target.name))
+fn has_distinct_names(targets: &[TargetConfiguration]) -> bool
+    ensures { result ≡ are_names_distinct (target_entries targets.now) }
+{
+    let mut rest = targets;
+    while let [first, others @ ..] = rest {
+        if others.iter().any(|target| target.name == first.name) {
+            return false;
+        }
+        rest = others;
+    }
+    true
 }
 
 /// A unit of the target has LUN 0.
-fn has_lun_zero(target: &TargetConfiguration) -> bool {
+fn has_lun_zero(target: &TargetConfiguration) -> bool
+    ensures { result ≡ is_lun_zero_there (target_entry target.now) }
+{
     target.units.iter().any(|unit| unit.lun == 0)
 }
 
-/// The configuration that a TOML document describes, or the first fault that it has.
-pub fn config(alloc: Global, text: &str) -> Result<Configuration, ConfigFault> {
+/// The configuration that a TOML document describes, or the first fault that it has. Fields that
+/// nothing reads are passed over.
+#[tactic(auto, unfolding(crate::specs::Config::config_of, crate::specs::Config::checked))]
+pub fn config(alloc: Global, text: &str) -> Result<Configuration, ConfigFault>
+    ensures read { IfOk result (λ configuration. config_of text.now ≡ Ok (configuration_view configuration)) }
+    ensures refused { IfErr result (λ fault. fault ≢ OutOfMemory → config_of text.now ≡ Err fault) }
+{
     let table = toml::table_from_str(alloc, text)?;
-    let document = fields(alloc, &table)?;
-    let configuration = limited(alloc, document)?;
+    let document = fields(alloc, &table).map_err(|refusal| refusal.or(ConfigFault::Field))?;
+    let configuration = limited(alloc, document).map_err(|refusal| refusal.or(ConfigFault::Limit))?;
     let targets = configuration.targets.as_slice();
-    if !has_distinct_names(targets) || !targets.iter().all(has_distinct_luns) {
+    if !has_distinct_names(targets) || !targets.iter().all(|target| has_distinct_luns(target)) {
         return Err(ConfigFault::Twice);
     }
-    if !targets.iter().all(has_lun_zero) {
+    if !targets.iter().all(|target| has_lun_zero(target)) {
         return Err(ConfigFault::NoLunZero);
     }
     Ok(configuration)

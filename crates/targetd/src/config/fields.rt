@@ -1,10 +1,15 @@
 //! The fields of the document: each is there, of its type, and in the range that belongs to it.
 //! Fields that nothing reads are passed over.
 
+ghost use Rattle.std.specs.Prelude.{◌≡◌, map, codes, string_bytes};
+ghost use Rattle.toml.specs.Data.{get_member};
+ghost use Rattle.toml.specs.View.{view, items_view, table_view};
+ghost use Rattle.targetd.specs.Document.{Gives, text_at, integer_at, items_at, number_at, name_at, disk_of, tape_of, kind_of, has_member, is_name as is_name_text, unit_in, unit_of, target_of, each, document_of, unit_view, target_view, document_view};
+
 use std::alloc::Global;
 use toml::{Table, Value};
 
-use super::ConfigFault;
+use super::refusal::Refusal;
 use crate::configuration::UnitKind;
 
 /// What the document says, before any limit is tested.
@@ -36,74 +41,123 @@ const MOST_BLOCKS: u64 = 1_048_576;
 const MOST_CAPACITY: u64 = 34_359_738_360;
 
 /// The value of a field that is needed.
-fn member<'a>(table: &'a Table, key: &str) -> Result<&'a Value, ConfigFault> {
-    table.get(key).ok_or(ConfigFault::Field)
+fn member<'a>(table: &'a Table, key: &str) -> Result<&'a Value, Refusal>
+    ensures { Gives (λ v. view v.now) result (get_member key.now (table_view table.now)) }
+{
+    table.get(key).ok_or(Refusal::Refused)
 }
 
-fn integer(table: &Table, key: &str) -> Result<i64, ConfigFault> {
-    member(table, key)?.as_integer().ok_or(ConfigFault::Field)
+/// The field is there, whatever it is.
+fn has(table: &Table, key: &str) -> bool
+    ensures { result ≡ has_member key.now (table_view table.now) }
+{
+    table.get(key).is_some()
 }
 
-fn text<'a>(table: &'a Table, key: &str) -> Result<&'a str, ConfigFault> {
-    member(table, key)?.as_str().ok_or(ConfigFault::Field)
+fn integer(table: &Table, key: &str) -> Result<i64, Refusal>
+    ensures { Gives (λ n. n) result (integer_at (table_view table.now) key.now) }
+{
+    member(table, key)?.as_integer().ok_or(Refusal::Refused)
 }
 
-fn array<'a>(table: &'a Table, key: &str) -> Result<&'a [Value], ConfigFault> {
+fn text<'a>(table: &'a Table, key: &str) -> Result<&'a str, Refusal>
+    ensures { Gives (λ t. t.now) result (text_at (table_view table.now) key.now) }
+{
+    member(table, key)?.as_str().ok_or(Refusal::Refused)
+}
+
+fn array<'a>(table: &'a Table, key: &str) -> Result<&'a [Value], Refusal>
+    ensures { Gives (λ vs. items_view vs.now) result (items_at (table_view table.now) key.now) }
+{
     match member(table, key)?.as_array() {
         Some(values) => Ok(values.as_slice()),
-        None => Err(ConfigFault::Field),
+        None => Err(Refusal::Refused),
     }
 }
 
 /// A number from `least` to `most`.
-fn number(table: &Table, key: &str, least: u64, most: u64) -> Result<u64, ConfigFault> {
+#[tactic(auto, unfolding(crate::specs::Document::number_at))]
+fn number(table: &Table, key: &str, least: u64, most: u64) -> Result<u64, Refusal>
+    ensures { Gives (λ n. n) result (number_at (table_view table.now) key.now least most) }
+{
     match u64::try_from(integer(table, key)?) {
         Ok(number) if least <= number && number <= most => Ok(number),
-        _ => Err(ConfigFault::Field),
+        _ => Err(Refusal::Refused),
     }
 }
 
-/// A text that is not empty and has no zero byte.
-fn name(alloc: Global, table: &Table, key: &str) -> Result<String, ConfigFault> {
+/// It is not empty and has no zero byte.
+fn is_name(text: &str) -> bool
+    ensures { result ≡ is_name_text text.now }
+{
+    !text.is_empty() && !text.as_bytes().contains(&0)
+}
+
+/// A text that may be a name.
+#[tactic(auto, unfolding(crate::specs::Document::name_at))]
+fn name(alloc: Global, table: &Table, key: &str) -> Result<String, Refusal>
+    ensures { Gives string_bytes result (name_at (table_view table.now) key.now) }
+{
     let name = text(table, key)?;
-    if name.is_empty() || name.as_bytes().contains(&0) {
-        return Err(ConfigFault::Field);
+    if !is_name(name) {
+        return Err(Refusal::Refused);
     }
     Ok(String::from_str(alloc, name)?)
 }
 
-fn disk(table: &Table) -> Result<UnitKind, ConfigFault> {
+#[tactic(auto, unfolding(crate::specs::Document::disk_of))]
+fn disk(table: &Table) -> Result<UnitKind, Refusal>
+    ensures { Gives (λ k. k) result (disk_of (table_view table.now)) }
+{
     let blocks = number(table, "blocks", 1, MOST_BLOCKS)?;
     Ok(UnitKind::Disk { blocks })
 }
 
-fn tape(table: &Table) -> Result<UnitKind, ConfigFault> {
+#[tactic(auto, unfolding(crate::specs::Document::tape_of))]
+fn tape(table: &Table) -> Result<UnitKind, Refusal>
+    ensures { Gives (λ k. k) result (tape_of (table_view table.now)) }
+{
     let capacity = number(table, "capacity", 1, MOST_CAPACITY)?;
     let early = number(table, "early", 0, capacity)?;
     Ok(UnitKind::Tape { capacity, early })
 }
 
-fn kind(table: &Table) -> Result<UnitKind, ConfigFault> {
+#[tactic(auto, unfolding(crate::specs::Document::kind_of))]
+fn kind(table: &Table) -> Result<UnitKind, Refusal>
+    ensures { Gives (λ k. k) result (kind_of (table_view table.now)) }
+{
     match text(table, "kind")? {
         "disk" => disk(table),
         "tape" => tape(table),
-        _ => Err(ConfigFault::Field),
+        _ => Err(Refusal::Refused),
     }
 }
 
-/// A unit in memory. One in a file is not read yet.
-fn unit(alloc: Global, value: &Value) -> Result<UnitFields, ConfigFault> {
-    let table = value.as_table().ok_or(ConfigFault::Field)?;
-    if table.get("file").is_some() {
-        return Err(ConfigFault::Field);
-    }
+#[tactic(auto, unfolding(crate::specs::Document::unit_in))]
+fn unit_fields(alloc: Global, table: &Table) -> Result<UnitFields, Refusal>
+    ensures { Gives unit_view result (unit_in (table_view table.now)) }
+{
     let lun = integer(table, "lun")?;
     let serial = String::from_str(alloc, text(table, "serial")?)?;
     let kind = kind(table)?;
     Ok(UnitFields { lun, serial, kind })
 }
 
-fn units(alloc: Global, values: &[Value]) -> Result<Vec<UnitFields>, ConfigFault> {
+/// A unit in memory. One in a file is not read yet.
+#[tactic(auto, unfolding(crate::specs::Document::unit_of))]
+fn unit(alloc: Global, value: &Value) -> Result<UnitFields, Refusal>
+    ensures { Gives unit_view result (unit_of (view value.now)) }
+{
+    let table = value.as_table().ok_or(Refusal::Refused)?;
+    if has(table, "file") {
+        return Err(Refusal::Refused);
+    }
+    unit_fields(alloc, table)
+}
+
+fn units(alloc: Global, values: &[Value]) -> Result<Vec<UnitFields>, Refusal>
+    ensures { Gives (λ us. map unit_view us.items) result (each unit_of (items_view values.now)) }
+{
     let mut units = Vec::new(alloc);
     for value in values {
         units.push(unit(alloc, value)?)?;
@@ -111,14 +165,19 @@ fn units(alloc: Global, values: &[Value]) -> Result<Vec<UnitFields>, ConfigFault
     Ok(units)
 }
 
-fn target(alloc: Global, value: &Value) -> Result<TargetFields, ConfigFault> {
-    let table = value.as_table().ok_or(ConfigFault::Field)?;
+#[tactic(auto, unfolding(crate::specs::Document::target_of))]
+fn target(alloc: Global, value: &Value) -> Result<TargetFields, Refusal>
+    ensures { Gives target_view result (target_of (view value.now)) }
+{
+    let table = value.as_table().ok_or(Refusal::Refused)?;
     let name = name(alloc, table, "name")?;
     let units = units(alloc, array(table, "unit")?)?;
     Ok(TargetFields { name, units })
 }
 
-fn targets(alloc: Global, values: &[Value]) -> Result<Vec<TargetFields>, ConfigFault> {
+fn targets(alloc: Global, values: &[Value]) -> Result<Vec<TargetFields>, Refusal>
+    ensures { Gives (λ ts. map target_view ts.items) result (each target_of (items_view values.now)) }
+{
     let mut targets = Vec::new(alloc);
     for value in values {
         targets.push(target(alloc, value)?)?;
@@ -127,7 +186,10 @@ fn targets(alloc: Global, values: &[Value]) -> Result<Vec<TargetFields>, ConfigF
 }
 
 /// The fields of a document.
-pub fn fields(alloc: Global, table: &Table) -> Result<Document, ConfigFault> {
+#[tactic(auto, unfolding(crate::specs::Document::document_of))]
+pub fn fields(alloc: Global, table: &Table) -> Result<Document, Refusal>
+    ensures { Gives document_view result (document_of (table_view table.now)) }
+{
     let listen = name(alloc, table, "listen")?;
     let targets = targets(alloc, array(table, "target")?)?;
     Ok(Document { listen, targets })

@@ -3,6 +3,9 @@ use Rattle.std.specs.Prelude.{string_bytes}
 use Rattle.std.proofs.lemmas.List.{with_items_is}
 use Rattle.iscsi_target.specs.Links.{link_view}
 use Rattle.iscsi_target.proofs.Connections.{keeps_links, view_fed, view_starved}
+use Rattle.iscsi_target.specs.Machine.{Machine, fed}
+use Rattle.iscsi_target.proofs.Events.{fed_keeps, fed_grows}
+use Rattle.iscsi_target.proofs.Promises.{on_ok_then, count_links, stands_as, grows_as}
 use Rattle.iscsi_target.proofs.target.Target.feed.Goals as goal
 use Rattle.iscsi_target.proofs.target.Target.feed.Goals.{in-Ok, in-Err}
 
@@ -25,3 +28,15 @@ returns-clause-starved c =
       | in-Ok w ↦ rw w.result-is tt
       | in-Err w ↦ rw w.result-is (view_starved _ c.self.inside.slots.items _ c.self.inside.links.items c.args.c c.feed.new.self c.args.self.now lt w.in-Err.ensures.err c.self.view_is)
     ]
+
+pub returns-clause-stands : goal.returns-clause-stands
+returns-clause-stands c =
+    let count = count_links c.self.inside.links.items c.args.self.now c.self.invariant.0 (ap (λ (m : Machine). m.links) c.self.view_is) in
+    on_ok_then c.match-feed.result _ _ (returns-clause-ok c) (λ e h s.
+        stands_as (fed c.args.self.now c.args.c c.args.piece.now) _ _ e (fed_keeps c.args.self.now h c.args.c c.args.piece.now c.requires.in_range count c.requires.open s))
+
+pub returns-clause-grows : goal.returns-clause-grows
+returns-clause-grows c =
+    let count = count_links c.self.inside.links.items c.args.self.now c.self.invariant.0 (ap (λ (m : Machine). m.links) c.self.view_is) in
+    on_ok_then c.match-feed.result _ _ (returns-clause-ok c) (λ e h s d below.
+        grows_as c.args.self.now (fed c.args.self.now c.args.c c.args.piece.now) _ _ _ d e (fed_grows c.args.self.now h c.args.c c.args.piece.now c.requires.in_range count c.requires.open s d below))

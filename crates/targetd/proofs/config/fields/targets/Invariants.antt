@@ -1,0 +1,9 @@
+use Rattle.std.proofs.Common.{◌≡◌, drop, map}
+use Rattle.toml.specs.View.{items_view}
+use Rattle.targetd.specs.Document.{each, target_of, target_view}
+use Rattle.targetd.proofs.Entries.{behind}
+use Rattle.targetd.proofs.config.fields.targets.Given as goal
+
+-- those that were read, and then the rest, are all
+abbrev pub invariant-loop-value : goal.invariant-loop-value
+invariant-loop-value l = behind (map target_view l.targets.items) (each target_of (items_view (drop l.value-index l.values))) ≡ each target_of (items_view l.values)

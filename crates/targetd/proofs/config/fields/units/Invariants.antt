@@ -1,0 +1,9 @@
+use Rattle.std.proofs.Common.{◌≡◌, drop, map}
+use Rattle.toml.specs.View.{items_view}
+use Rattle.targetd.specs.Document.{each, unit_of, unit_view}
+use Rattle.targetd.proofs.Entries.{behind}
+use Rattle.targetd.proofs.config.fields.units.Given as goal
+
+-- those that were read, and then the rest, are all
+abbrev pub invariant-loop-value : goal.invariant-loop-value
+invariant-loop-value l = behind (map unit_view l.units.items) (each unit_of (items_view (drop l.value-index l.values))) ≡ each unit_of (items_view l.values)

@@ -1,0 +1,146 @@
+-- What a configuration document says: each field that is needed is there, of its type, and in the range
+-- that belongs to it.
+use Rattle.std.specs.Prelude.{◌≡◌, ℕ, ℤ, pos, negsuc, List, [], ◌∷◌, length, map, Bool, true, not, ◌&&◌, ◌==◌, nat_lt, nat_le, codes, Option, Some, None, is_some, option_and_then, Result, Ok, Err, if◌then◌else◌, string_bytes, bytes_eq}
+use Rattle.std.specs.List.{list_any}
+use Rattle.toml.specs.Data.{Data, Items, no_items, item, Members, as_str, as_integer, as_array, as_table, get_member}
+use Rattle.targetd.specs.declared.configuration.UnitKind.{UnitKind}
+use Rattle.targetd.specs.declared.configuration.UnitKind.TheVariants as kinds
+use Rattle.targetd.specs.declared.config.refusal.Refusal.{Refusal}
+use Rattle.targetd.specs.declared.config.refusal.Refusal.TheVariants as refusals
+use Rattle.targetd.specs.declared.config.fields.UnitFields.{UnitFields}
+use Rattle.targetd.specs.declared.config.fields.TargetFields.{TargetFields}
+use Rattle.targetd.specs.declared.config.fields.Document.{Document as CodeDocument}
+
+-- a logical unit, with its number as it is written
+pub record UnitEntry : Type 0 where
+  pub lun : ℤ
+  pub serial : List ℕ
+  pub kind : UnitKind
+
+pub record TargetEntry : Type 0 where
+  pub name : List ℕ
+  pub units : List UnitEntry
+
+pub record Document : Type 0 where
+  pub listen : List ℕ
+  pub targets : List TargetEntry
+
+-- the second step, where the first gave a value
+infixl 10 ◌>>=◌
+abbrev pub ◌>>=◌ : {A B : Type 0} → Option A → (A → Option B) → Option B
+None >>= f = None
+(Some x) >>= f = f x
+
+-- ---- one field of a table
+
+abbrev pub has_member : List ℕ → Members → Bool
+has_member key table = is_some (get_member key table)
+
+abbrev pub text_at : Members → List ℕ → Option (List ℕ)
+text_at table key = option_and_then as_str (get_member key table)
+
+abbrev pub integer_at : Members → List ℕ → Option ℤ
+integer_at table key = option_and_then as_integer (get_member key table)
+
+abbrev pub items_at : Members → List ℕ → Option Items
+items_at table key = option_and_then as_array (get_member key table)
+
+abbrev pub within : ℕ → ℕ → ℤ → Option ℕ
+within least most (pos n) = if nat_le least n && nat_le n most then Some n else None
+within least most (negsuc n) = None
+
+-- a number from `least` to `most`
+unfoldable pub number_at : Members → List ℕ → ℕ → ℕ → Option ℕ
+number_at table key least most = option_and_then (within least most) (integer_at table key)
+
+-- not empty, and without a zero byte
+abbrev pub is_name : List ℕ → Bool
+is_name text = not (length text == 0) && not (list_any (λ byte. byte == 0) text)
+
+abbrev pub named : List ℕ → Option (List ℕ)
+named text = if is_name text then Some text else None
+
+unfoldable pub name_at : Members → List ℕ → Option (List ℕ)
+name_at table key = option_and_then named (text_at table key)
+
+-- what each value gives, where all give something
+abbrev pub each : {Y : Type 0} → (Data → Option Y) → Items → Option (List Y)
+each f no_items = Some []
+each f (item value values) = do
+  y ← f value
+  ys ← each f values
+  Some (y ∷ ys)
+
+-- ---- a unit
+
+-- profile: 1 to 1048576 blocks
+unfoldable pub disk_of : Members → Option UnitKind
+disk_of table = do
+  blocks ← number_at table (codes "blocks") 1 1048576
+  Some (kinds.Disk blocks)
+
+-- profile: 1 to 34359738360 bytes, so that the numbers of a tape's items fit in 4 bytes
+unfoldable pub tape_of : Members → Option UnitKind
+tape_of table = do
+  capacity ← number_at table (codes "capacity") 1 34359738360
+  early ← number_at table (codes "early") 0 capacity
+  Some (kinds.Tape capacity early)
+
+abbrev pub kind_named : Members → List ℕ → Option UnitKind
+kind_named table name = if bytes_eq name (codes "disk") then disk_of table else if bytes_eq name (codes "tape") then tape_of table else None
+
+unfoldable pub kind_of : Members → Option UnitKind
+kind_of table = option_and_then (kind_named table) (text_at table (codes "kind"))
+
+unfoldable pub unit_in : Members → Option UnitEntry
+unit_in table = do
+  lun ← integer_at table (codes "lun")
+  serial ← text_at table (codes "serial")
+  kind ← kind_of table
+  Some (record { lun = lun; serial = serial; kind = kind })
+
+-- for now no unit is in a file
+unfoldable pub unit_of : Data → Option UnitEntry
+unit_of value = do
+  table ← as_table value
+  if has_member (codes "file") table then None else unit_in table
+
+-- ---- a target, and the document
+
+unfoldable pub target_of : Data → Option TargetEntry
+target_of value = do
+  table ← as_table value
+  name ← name_at table (codes "name")
+  values ← items_at table (codes "unit")
+  units ← each unit_of values
+  Some (record { name = name; units = units })
+
+unfoldable pub document_of : Members → Option Document
+document_of table = do
+  listen ← name_at table (codes "listen")
+  values ← items_at table (codes "target")
+  targets ← each target_of values
+  Some (record { listen = listen; targets = targets })
+
+-- ---- the code's values
+
+abbrev pub unit_view : UnitFields → UnitEntry
+unit_view unit = record { lun = unit.lun; serial = string_bytes unit.serial; kind = unit.kind }
+
+abbrev pub units_view : List UnitFields → List UnitEntry
+units_view units = map unit_view units
+
+abbrev pub target_view : TargetFields → TargetEntry
+target_view target = record { name = string_bytes target.name; units = units_view target.units.items }
+
+abbrev pub targets_view : List TargetFields → List TargetEntry
+targets_view targets = map target_view targets
+
+abbrev pub document_view : CodeDocument → Document
+document_view document = record { listen = string_bytes document.listen; targets = targets_view document.targets.items }
+
+-- what a step of the code returned, seen by `view`, is what reading gives, unless memory ran out
+abbrev pub Gives : {X Y : Type 0} → (X → Y) → Result X Refusal → Option Y → Type 0
+Gives view (Ok x) read = read ≡ Some (view x)
+Gives view (Err refusals.Refused) read = read ≡ None
+Gives view (Err refusals.OutOfMemory) read = Unit {0}
