@@ -89,7 +89,7 @@ scsi_header r n =
     ++ big_bytes 3 n ++ replicate 8 0 ++ big_bytes 4 r.initiator_task_tag ++ replicate 4 0
     ++ stamp_bytes r.stamp ++ big_bytes 4 r.exp_data_sn ++ replicate 4 0 ++ big_bytes 4 (residual_count r.residual)
 
--- RFC 7143 §11.13.2: T, C, CSG and NSG; NSG stands only beside T
+-- RFC 7143 §11.13.6, §11.13.7, §11.12.3: T, C, CSG and NSG; NSG stands only beside T
 abbrev pub login_flags : LoginAnswer → ℕ
 login_flags r = (if r.transit then 0x80 + r.next_stage else 0) + (if r.continued then 0x40 else 0) + 4 * r.current_stage
 

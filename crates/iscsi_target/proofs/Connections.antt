@@ -1,9 +1,9 @@
 -- The connections of a target, one of which changes.
-use Rattle.std.proofs.Common.{◌≡◌, ℕ, ◌<◌, List, [], length, set, get_or, map, replicate, refl, sym, ap, ◌∙◌, arith}
+use Rattle.std.proofs.Common.{◌≡◌, ℕ, ◌<◌, List, [], length, set, get_or, replicate, refl, sym, ap, ◌∙◌, arith}
 use Rattle.std.specs.List.{All}
 use Rattle.std.proofs.lemmas.List.{map-set, get_or-map, get_or-set_same, length-set, length-map, length-replicate}
 use Rattle.std.proofs.lemmas.List.Elements.{All-set, All-replicate}
-use Rattle.iscsi_target.specs.Machine.{Free, LoggingIn, LinkState, Machine, IsSettled, IsStarved, Closing, free_link, opened_link, with_link, link_at, sent, sent_link, piece_for, fed}
+use Rattle.iscsi_target.specs.Machine.{Free, LoggingIn, LinkState, Machine, IsSettled, IsStarved, Closing, free_link, opened_link, with_link, sent, sent_link, piece_for, fed}
 use Rattle.iscsi_target.specs.Links.{link_view, links_view}
 use Rattle.iscsi_target.proofs.Taking.{nothing_is_settled}
 use Rattle.iscsi_target.specs.declared.link.Link.{Link}

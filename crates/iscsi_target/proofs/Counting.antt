@@ -1,10 +1,10 @@
 -- Requests that come in order: all are taken, and the last is the first that is not finished.
-use Rattle.std.proofs.Common.{◌≡◌, ◌≢◌, ℕ, zero, suc, ◌+◌, ◌^◌, ◌%◌, ◌<◌, ◌≤◌, List, [], ◌∷◌, ◌++◌, length, map, Bool, true, false, cond, not, ◌||◌, eqb, Option, Some, None, refl, sym, ap, ◌∙◌, arith, append_assoc}
-use Rattle.std.specs.Prelude.{find, ⊤}
+use Rattle.std.proofs.Common.{◌≡◌, ◌≢◌, ℕ, suc, ◌+◌, ◌≤◌, List, [], ◌∷◌, ◌++◌, length, map, Bool, true, false, not, ◌||◌, eqb, Some, None, refl, sym, ap, ◌∙◌, arith, append_assoc}
+use Rattle.std.specs.Prelude.{find}
 use Rattle.std.specs.List.{list_any}
 use Rattle.std.proofs.lemmas.Bool.{eq-eqb, ne_eqb}
-use Rattle.std.proofs.lemmas.List.{append-nil, length-append, length-map, map-append}
-use Rattle.iscsi_target.specs.World.{Accepted, taken_on, taken_from}
+use Rattle.std.proofs.lemmas.List.{append-nil, length-append}
+use Rattle.iscsi_target.specs.World.{Accepted, taken_from}
 use Rattle.iscsi_target.specs.Stands.{AreNumbered}
 
 abbrev pub index_of : Accepted → ℕ

@@ -1,24 +1,22 @@
 -- The three events: each keeps the code where the World is.
-use Rattle.std.proofs.Common.{◌≡◌, ◌≢◌, ◌⊎◌, ℕ, zero, suc, ◌+◌, ◌-◌, ◌<◌, ◌≤◌, List, [], ◌∷◌, ◌++◌, length, map, drop, set, get_or, replicate, Bool, true, false, cond, not, ◌&&◌, eqb, Option, Some, None, refl, sym, ap, ◌∙◌, arith, inl, inr}
-use Rattle.std.specs.Prelude.{find, fold}
-use Rattle.std.specs.List.{AllByRecursion, list_all}
-use Rattle.std.proofs.lemmas.Bool.{ne_eqb, eqb-true}
+use Rattle.std.proofs.Common.{◌≡◌, ◌≢◌, ℕ, ◌+◌, ◌-◌, ◌<◌, ◌≤◌, List, [], ◌∷◌, ◌++◌, length, map, drop, Bool, true, false, cond, not, eqb, Option, Some, None, refl, sym, ap, ◌∙◌, arith, inl, inr}
+use Rattle.std.specs.Prelude.{fold}
+use Rattle.std.specs.List.{AllByRecursion}
+use Rattle.std.proofs.lemmas.Bool.{eqb-true}
 use Rattle.std.proofs.lemmas.Bool.Decides.{eqb_tells}
 use Rattle.std.proofs.lemmas.List.{append-nil, drop-drop, length-drop, get_or-replicate, length-replicate, get_or-set_same, get_or-set_other}
 use Rattle.std.proofs.lemmas.List.Sums.{AllPass-from_list_all}
-use Rattle.iscsi_pdu.specs.Frames.{rest, is_long}
 use Rattle.iscsi_pdu.specs.declared.answer.Stamp.{Stamp}
 use Rattle.iscsi_pdu.proofs.Frames.{no_frame, rest_none}
 use Rattle.iscsi_target.specs.declared.config.LogicalUnit.{LogicalUnit}
-use Rattle.iscsi_target.specs.History.{Event, Open, Bytes, Gone, joined, joined_with, grown, connections}
+use Rattle.iscsi_target.specs.History.{Event, Open, Bytes, Gone, joined, grown, connections}
 use Rattle.iscsi_target.specs.Login.{Session}
 use Rattle.iscsi_target.specs.Units.{Unit, free_unit}
-use Rattle.iscsi_target.specs.World.{Setting, Life, Part, World, stamp, world, new_world, arrive, at_end, close, end, acting, is_present, live_sessions, happened, born}
+use Rattle.iscsi_target.specs.World.{Setting, Life, Part, World, stamp, world, arrive, at_end, end, acting, is_present, live_sessions, happened, born}
 use Rattle.iscsi_target.specs.Output.{out_of}
-use Rattle.iscsi_target.specs.Machine.{PhaseState, Free, LoggingIn, FullFeature, Closing, Machine, LinkState, is_free, free_link, opened_link, link_at, with_link, opened, ended, sent, sent_link, fed, piece_for, is_open_at, all_free, new_machine, new_slot}
-use Rattle.iscsi_target.specs.Stands.{unit_for, phase_for, phase_of, IsQuiet, IsLinkOf, LinkStands, present, IsOver, IsNow, IsAlone, session_now, setting_of, StandsAt, Stands, out_now, GrowsBy}
-use Rattle.iscsi_target.specs.declared.units.Slot.{Slot}
-use Rattle.iscsi_target.proofs.Choices.{cond_true, cond_false, and_true}
+use Rattle.iscsi_target.specs.Machine.{Closing, Machine, LinkState, is_free, free_link, opened_link, link_at, opened, ended, sent, sent_link, fed, piece_for, is_open_at, all_free, new_machine, new_slot}
+use Rattle.iscsi_target.specs.Stands.{unit_for, phase_for, IsLinkOf, LinkStands, present, IsOver, IsAlone, session_now, setting_of, StandsAt, Stands, out_now, GrowsBy}
+use Rattle.iscsi_target.proofs.Choices.{cond_true, and_true}
 use Rattle.iscsi_target.proofs.Counting.{eqb_self}
 use Rattle.iscsi_target.proofs.Histories.{world-push, joined-push}
 use Rattle.iscsi_target.proofs.Places.{place_of, piece_places}
@@ -109,7 +107,7 @@ fed_keeps machine history c piece lt count open_ s =
     let here : present c after.lives ≡ Some part.life = cond_true (is_present c part.life) (Some part.life) (present c n.newest.older) (is_here c part.life f.connection f.gone) in
     let link : LinkStands p.0 (joined c later) (present c after.lives) = rw (joined_here c history piece, here) (goes_on c (joined c history ++ piece) n.life (link_at machine c).waiting part p.0 p.1 n.link.waiting.0 n.link.waiting.1 n.link.waiting.2 f) in
     let others : (d : ℕ) → d < connections → d ≢ c → LinkStands (link_at machine d) (joined d later) (present d after.lives) = λ d below differ.
-        (let absent = absent_other d c part.life n.newest.older f.connection differ n.newest.over in rw absent (others_free w machine history c n.life s n.newest d below differ)) in
+    (let absent = absent_other d c part.life n.newest.older f.connection differ n.newest.over in rw absent (others_free w machine history c n.life s n.newest d below differ)) in
     rw (fed_at machine history c piece n)
     (assembled after machine later c p.0 p.1 lt count link others f.units (inr (record { gone = f.gone; in_range = rw f.connection lt; session = f.closed }), n.newest.over))
 
@@ -188,7 +186,7 @@ opened_keeps machine history c lt count free s =
     let link : LinkStands opened_link (joined c later) (present c after.lives) = rw (opened_here c history, here) (born_link c) in
     let free_at : (d : ℕ) → d < connections → link_at machine d ≡ free_link = λ d below. (let absent = all_absent d w.lives over in rw absent at (s.links d below)) in
     let others : (d : ℕ) → d < connections → d ≢ c → LinkStands (link_at machine d) (joined d later) (present d after.lives) = λ d below differ.
-        (let absent = absent_other d c (born c) w.lives refl differ over in rw absent (free_at d below)) in
+    (let absent = absent_other d c (born c) w.lives refl differ over in rw absent (free_at d below)) in
     let units : w.units ≡ map (unit_for None) machine.slots = s.units ∙ ap (λ (o : Option Session). map (unit_for o) machine.slots) (no_session w.lives over) in
     rw (world-push (setting_of machine) history (Open c))
     (assembled after machine later c opened_link machine.slots lt count link others units (inr (record { gone = refl; in_range = lt; session = λ e. absurd cc }), over))
@@ -246,24 +244,24 @@ fed_grows machine history c piece lt count open_ s d below =
     let lives_after = ap (λ (x : World). out_now (present d x.lives)) (fed_at machine history c piece n) in
     elim (eqb_tells d c) [
       | inl same ↦ (
-        let here : present d after.lives ≡ Some part.life = ap (λ (k : ℕ). present k after.lives) same.1 ∙ cond_true (is_present c part.life) (Some part.life) (present c n.newest.older) (is_here c part.life f.connection f.gone) in
-        let was : present d w.lives ≡ Some n.life = ap (λ (k : ℕ). present k w.lives) same.1 ∙ newest_present c w.lives n.life n.newest in
-        let link_new : link_at (fed machine c piece) d ≡ p.0 = ap (λ (k : ℕ). link_at (fed machine c piece) k) same.1 ∙ get_or-set_same machine.links c p.0 free_link (omega arith) in
-        let link_old : link_at machine d ≡ link_at machine c = ap (link_at machine) same.1 in
-        record {
-          more = f.more;
-          answered = lives_after ∙ ap out_now here ∙ f.out ∙ ap (λ (o : Option Life). out_now o ++ f.more) (sym was);
-          waiting = ap (λ (k : LinkState). k.waiting) link_new ∙ f.waiting ∙ ap (λ (k : LinkState). k.waiting ++ f.more) (sym link_old);
-        }
-      )
+          let here : present d after.lives ≡ Some part.life = ap (λ (k : ℕ). present k after.lives) same.1 ∙ cond_true (is_present c part.life) (Some part.life) (present c n.newest.older) (is_here c part.life f.connection f.gone) in
+          let was : present d w.lives ≡ Some n.life = ap (λ (k : ℕ). present k w.lives) same.1 ∙ newest_present c w.lives n.life n.newest in
+          let link_new : link_at (fed machine c piece) d ≡ p.0 = ap (λ (k : ℕ). link_at (fed machine c piece) k) same.1 ∙ get_or-set_same machine.links c p.0 free_link (omega arith) in
+          let link_old : link_at machine d ≡ link_at machine c = ap (link_at machine) same.1 in
+          record {
+            more = f.more;
+            answered = lives_after ∙ ap out_now here ∙ f.out ∙ ap (λ (o : Option Life). out_now o ++ f.more) (sym was);
+            waiting = ap (λ (k : LinkState). k.waiting) link_new ∙ f.waiting ∙ ap (λ (k : LinkState). k.waiting ++ f.more) (sym link_old);
+          }
+          )
       | inr differ ↦ (
-        let gone : present d after.lives ≡ None = absent_other d c part.life n.newest.older f.connection differ.1 n.newest.over in
-        let was : present d w.lives ≡ None = newest_absent d c w.lives n.life n.newest differ.1 in
-        let link_new : link_at (fed machine c piece) d ≡ link_at machine d = get_or-set_other machine.links c d p.0 free_link differ.1 in
-        record {
-          more = [];
-          answered = lives_after ∙ ap out_now gone ∙ ap (λ (o : Option Life). out_now o ++ []) (sym was);
-          waiting = ap (λ (k : LinkState). k.waiting) link_new ∙ sym (append-nil (link_at machine d).waiting);
-        }
-      )
+          let gone : present d after.lives ≡ None = absent_other d c part.life n.newest.older f.connection differ.1 n.newest.over in
+          let was : present d w.lives ≡ None = newest_absent d c w.lives n.life n.newest differ.1 in
+          let link_new : link_at (fed machine c piece) d ≡ link_at machine d = get_or-set_other machine.links c d p.0 free_link differ.1 in
+          record {
+            more = [];
+            answered = lives_after ∙ ap out_now gone ∙ ap (λ (o : Option Life). out_now o ++ []) (sym was);
+            waiting = ap (λ (k : LinkState). k.waiting) link_new ∙ sym (append-nil (link_at machine d).waiting);
+          }
+          )
     ]

@@ -1,12 +1,11 @@
 -- One more event behind a history.
-use Rattle.std.proofs.Common.{◌≡◌, ℕ, ◌+◌, List, [], ◌∷◌, ◌++◌, length, drop, map, Bool, true, false, cond, not, ◌&&◌, refl, sym, ap, ◌∙◌, append_assoc}
-use Rattle.std.specs.Prelude.{fold}
+use Rattle.std.proofs.Common.{◌≡◌, ℕ, List, [], ◌∷◌, ◌++◌, length, drop, map, Bool, true, false, cond, not, ◌&&◌, refl, sym, ap, ◌∙◌, append_assoc}
 use Rattle.std.proofs.lemmas.List.{append-nil}
 use Rattle.std.proofs.lemmas.List.Sums.{fold-append}
 use Rattle.std.proofs.Math.Seq.{drop-append_seam}
-use Rattle.iscsi_pdu.specs.Frames.{Frame, frames, rest, is_long}
+use Rattle.iscsi_pdu.specs.Frames.{frames, rest, is_long}
 use Rattle.iscsi_pdu.proofs.Cuts.{frames_in_pieces, rest_in_pieces}
-use Rattle.iscsi_target.specs.History.{Event, joined, joined_with, Arrival, Whole, TooLong, grown, too_long}
+use Rattle.iscsi_target.specs.History.{Event, joined, joined_with, Arrival, Whole, TooLong, grown}
 use Rattle.iscsi_target.specs.World.{Setting, World, world, world_after, new_world, happened}
 
 world_after-push : (setting : Setting) (before history : List Event) (w : World) (event : Event) → world_after setting before w (history ++ event ∷ []) ≡ happened setting (before ++ history) (world_after setting before w history) event

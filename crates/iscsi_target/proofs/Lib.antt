@@ -15,3 +15,4 @@ pub mod Events
 pub mod Promises
 pub mod Running
 pub mod RunSteps
+pub mod Pieces

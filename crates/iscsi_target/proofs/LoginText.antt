@@ -1,9 +1,9 @@
 -- Which rule of the first text answers, from the tests that came before it.
-use Rattle.std.proofs.Common.{◌≡◌, ℕ, ◌<◌, ◌≤◌, List, [], length, Bool, true, false, cond, not, ◌||◌, eqb, ltb, Option, Some, None, refl, sym, ap, ◌∙◌, arith}
+use Rattle.std.proofs.Common.{◌≡◌, ℕ, ◌≤◌, List, length, Bool, true, false, cond, not, ◌||◌, eqb, Option, refl}
 use Rattle.std.specs.List.{position}
 use Rattle.std.specs.Prelude.{bytes_eq}
 use Rattle.std.proofs.lemmas.Bool.{le-ltb}
-use Rattle.iscsi_target.specs.Login.{Session, LoginReply, Texts, said, is_normal, is_long_name, initiator_name_key, target_name_key, with_text, to_named, to_target}
+use Rattle.iscsi_target.specs.Login.{Session, Texts, said, is_normal, is_long_name, initiator_name_key, target_name_key, with_text, to_named}
 
 -- the last of four tests in turn
 passed : {X : Type 0} (a n b l k : Bool) (x y z w v : X) → a ≡ false → n ≡ true → b ≡ false → l ≡ false → k ≡ false → cond a x (cond (not n) y (cond b z (cond (l || k) w v))) ≡ v

@@ -1,16 +1,14 @@
 -- The numbers of a life, one request or one answer further on.
-use Rattle.std.proofs.Common.{◌≡◌, ℕ, zero, suc, ◌+◌, ◌^◌, ◌%◌, ◌<◌, List, [], ◌∷◌, ◌++◌, length, map, Bool, true, false, cond, Option, Some, None, refl, sym, ap, ◌∙◌, arith}
+use Rattle.std.proofs.Common.{◌≡◌, ℕ, ◌+◌, ◌^◌, ◌%◌, List, [], ◌∷◌, ◌++◌, length, map, Bool, true, cond, Some, None, refl, sym, ap, ◌∙◌, arith}
 use Rattle.std.specs.Prelude.{find, filter}
 use Rattle.std.specs.List.{flat_map}
-use Rattle.std.proofs.lemmas.List.{append-nil, length-append, length-map, map-append}
+use Rattle.std.proofs.lemmas.List.{append-nil, length-append, map-append}
 use Rattle.std.proofs.lemmas.List.Elements.{filter-append}
 use Rattle.std.proofs.lemmas.Grind.{flat_map-append}
 use Rattle.iscsi_pdu.specs.Frames.{Frame}
 use Rattle.iscsi_pdu.specs.Header.{cmd_sn}
 use Rattle.iscsi_pdu.specs.Answers.{Answer, Scsi, Login, spelling}
-use Rattle.iscsi_pdu.specs.declared.answer.Stamp.{Stamp}
-use Rattle.iscsi_target.specs.World.{Accepted, Life, Part, taken, taken_from, stamp, bears_status, first_cmd_sn, accept, first_unfinished}
-use Rattle.iscsi_target.specs.Output.{out_of}
+use Rattle.iscsi_target.specs.World.{Accepted, Life, taken, stamp, bears_status, first_cmd_sn, accept, first_unfinished}
 use Rattle.iscsi_target.specs.Machine.{next_number, counted, finished_one, first_numbers}
 use Rattle.iscsi_target.specs.Stands.{AreNumbered}
 use Rattle.iscsi_target.proofs.Counting.{index_of, AreNumbered-push, taken_all, unfinished_by, all_finished, last_unfinished}
@@ -30,7 +28,7 @@ unfolding stamp counted taken
 stamp_answered life answer =
     let n = length (filter bears_status life.answers) in
     let more : length (filter bears_status (life.answers ++ answer ∷ [])) ≡ n + 1 =
-        ap length (filter-append bears_status life.answers (answer ∷ [])) ∙ length-append (filter bears_status life.answers) (filter bears_status (answer ∷ [])) ∙ ap (λ (b : Bool). n + length (cond b (answer ∷ []) [])) (bears answer) in
+    ap length (filter-append bears_status life.answers (answer ∷ [])) ∙ length-append (filter bears_status life.answers) (filter bears_status (answer ∷ [])) ∙ ap (λ (b : Bool). n + length (cond b (answer ∷ []) [])) (bears answer) in
     ap (λ (k : ℕ). record (stamp life) { stat_sn = k }) (ap (λ (k : ℕ). k % 2 ^ 32) more ∙ sym (next_mod n))
 
 pub out_answered : (answers : List Answer) (answer : Answer) → flat_map spelling (answers ++ answer ∷ []) ≡ flat_map spelling answers ++ spelling answer
@@ -51,13 +49,13 @@ stamp_finished life frame index h =
     let after = record (accept frame life) { finished = life.finished ++ index ∷ [] } in
     let first = first_cmd_sn life.requests in
     let more : length (taken after) ≡ length (taken life) + 1 =
-        ap length (taken_is after (numbered_next life frame h)) ∙ length-append life.came _ ∙ ap (λ (n : ℕ). n + 1) (ap length (sym (taken_is life h))) in
+    ap length (taken_is after (numbered_next life frame h)) ∙ length-append life.came _ ∙ ap (λ (n : ℕ). n + 1) (ap length (sym (taken_is life h))) in
     let exp : (first + length (taken after)) % 2 ^ 32 ≡ next_number ((first + length (taken life)) % 2 ^ 32) =
-        let sum : first + length (taken after) ≡ first + length (taken life) + 1 = omega arith in
-        ap (λ (n : ℕ). n % 2 ^ 32) sum ∙ sym (next_mod (first + length (taken life))) in
+    let sum : first + length (taken after) ≡ first + length (taken life) + 1 = omega arith in
+    ap (λ (n : ℕ). n % 2 ^ 32) sum ∙ sym (next_mod (first + length (taken life))) in
     let max : (first + 31 + length (life.finished ++ index ∷ [])) % 2 ^ 32 ≡ next_number ((first + 31 + length life.finished) % 2 ^ 32) =
-        let sum : first + 31 + length (life.finished ++ index ∷ []) ≡ first + 31 + length life.finished + 1 = omega (arith, length-append life.finished (index ∷ [])) in
-        ap (λ (n : ℕ). n % 2 ^ 32) sum ∙ sym (next_mod (first + 31 + length life.finished)) in
+    let sum : first + 31 + length (life.finished ++ index ∷ []) ≡ first + 31 + length life.finished + 1 = omega (arith, length-append life.finished (index ∷ [])) in
+    ap (λ (n : ℕ). n % 2 ^ 32) sum ∙ sym (next_mod (first + 31 + length life.finished)) in
     ap (λ (e : ℕ). record (stamp life) { exp_cmd_sn = e; max_cmd_sn = (first + 31 + length (life.finished ++ index ∷ [])) % 2 ^ 32 }) exp
     ∙ ap (λ (m : ℕ). record (stamp life) { exp_cmd_sn = next_number ((first + length (taken life)) % 2 ^ 32); max_cmd_sn = m }) max
 

@@ -1,11 +1,11 @@
 -- Units stay where they stand.
-use Rattle.std.proofs.Common.{◌≡◌, ℕ, zero, suc, List, [], ◌∷◌, ◌++◌, map, set, Bool, true, false, cond, eqb, Option, Some, None, refl, sym, ap, ◌∙◌}
+use Rattle.std.proofs.Common.{◌≡◌, ℕ, zero, suc, List, [], ◌∷◌, ◌++◌, map, Bool, true, false, cond, eqb, Option, Some, None, refl, sym, ap, ◌∙◌}
 use Rattle.std.specs.Prelude.{fold}
 use Rattle.std.specs.List.{slice_get}
-use Rattle.iscsi_pdu.specs.Frames.{Frame, frames, rest, is_long}
+use Rattle.iscsi_pdu.specs.Frames.{Frame, frames}
 use Rattle.iscsi_target.specs.Login.{LoginReply, Refused, Full, login}
 use Rattle.iscsi_target.specs.World.{login_answer, is_login}
-use Rattle.iscsi_target.specs.Machine.{PhaseState, SessionState, Free, LoggingIn, FullFeature, Closing, Parts, LinkState, reads, shut, shut_if, say, first_numbers, entered, enter, handle, served, attempt, is_next, frame_in, take_frame, take_bytes, joined_slot, told, told_in, told_slot, fed_link, piece_for, parts_of}
+use Rattle.iscsi_target.specs.Machine.{PhaseState, SessionState, Free, LoggingIn, FullFeature, Closing, Parts, LinkState, reads, shut, say, first_numbers, entered, enter, handle, served, attempt, is_next, frame_in, take_frame, take_bytes, joined_slot, told, told_in, fed_link, piece_for, parts_of}
 use Rattle.iscsi_target.specs.declared.config.LogicalUnit.{LogicalUnit}
 use Rattle.iscsi_target.specs.declared.units.Slot.{Slot}
 

@@ -1,9 +1,9 @@
 -- From what a call does to the code to what it promises of histories.
-use Rattle.std.proofs.Common.{◌≡◌, ℕ, ◌<◌, List, [], ◌∷◌, ◌++◌, length, map, replicate, refl, sym, ap, ◌∙◌, subst, Result, Ok, Err}
-use Rattle.std.specs.Prelude.{OnOk, IfOk}
+use Rattle.std.proofs.Common.{◌≡◌, ℕ, List, length, map, replicate, refl, sym, ap, ◌∙◌, subst, Result, Ok, Err}
+use Rattle.std.specs.Prelude.{OnOk}
 use Rattle.std.proofs.lemmas.List.{length-map}
-use Rattle.iscsi_target.specs.History.{Event, Open, Bytes, Gone, connections}
-use Rattle.iscsi_target.specs.Machine.{Machine, LinkState, free_link, new_slot, opened, ended, fed, sent, new_machine}
+use Rattle.iscsi_target.specs.History.{Event, connections}
+use Rattle.iscsi_target.specs.Machine.{Machine, LinkState, free_link, new_slot, new_machine}
 use Rattle.iscsi_target.specs.Links.{link_view, links_view}
 use Rattle.iscsi_target.specs.Stands.{Stands, GrowsBy}
 use Rattle.iscsi_target.specs.declared.link.Link.{Link}

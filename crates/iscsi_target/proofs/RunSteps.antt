@@ -1,13 +1,11 @@
 -- One event of a slice of events.
-use Rattle.std.proofs.Common.{◌≡◌, ℕ, ◌+◌, ◌-◌, ◌<◌, List, [], ◌∷◌, ◌++◌, length, map, take, set, get_or, true, refl, sym, ap, ◌∙◌, subst}
-use Rattle.std.proofs.lemmas.List.{take_more, map-append, get_or-map, take-map, length-map, map-set}
-use Rattle.std.specs.Global.{Vec}
+use Rattle.std.proofs.Common.{◌≡◌, ℕ, ◌+◌, ◌-◌, ◌<◌, List, [], ◌∷◌, ◌++◌, length, take, set, get_or, true, sym, ap, ◌∙◌, subst}
+use Rattle.std.proofs.lemmas.List.{take_more, map-append, get_or-map, take-map, length-map}
 use Rattle.iscsi_target.specs.History as history
 use Rattle.iscsi_target.specs.Machine.{Machine, link_at, is_open_at, all_free, opened, fed, ended, sent}
 use Rattle.iscsi_target.specs.Events.{event_view, events_view}
-use Rattle.iscsi_target.specs.Runs.{Runs, connected, is_among, bytes_of}
+use Rattle.iscsi_target.specs.Runs.{Runs, connected}
 use Rattle.iscsi_target.specs.declared.event.Event.{Event}
-use Rattle.iscsi_target.specs.declared.event.Event.TheVariants as events
 use Rattle.iscsi_target.proofs.Running.{allowed_at, opens, is_on, has_output, opened_runs, gone_runs, fed_runs}
 
 -- the events up to the next

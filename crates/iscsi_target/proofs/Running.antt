@@ -1,25 +1,24 @@
 -- A whole history, with all that is answered sent at once.
-use Rattle.std.proofs.Common.{◌≡◌, ◌≢◌, ◌⊎◌, ℕ, zero, suc, ◌+◌, ◌-◌, ◌<◌, ◌≤◌, List, [], ◌∷◌, ◌++◌, length, map, take, drop, set, get_or, Bool, true, false, cond, not, ◌&&◌, ◌||◌, eqb, ltb, Option, Some, None, refl, sym, ap, ◌∙◌, arith, inl, inr, subst}
+use Rattle.std.proofs.Common.{◌≡◌, ◌≢◌, ℕ, zero, suc, ◌-◌, ◌<◌, List, [], ◌∷◌, ◌++◌, length, map, take, set, get_or, Bool, true, false, not, ◌||◌, eqb, refl, sym, ap, ◌∙◌, arith, inl, inr, subst}
 use Rattle.std.specs.Prelude.{fold, filter, nat_lt}
-use Rattle.std.specs.List.{AllByRecursion, list_all, list_any}
+use Rattle.std.specs.List.{AllByRecursion}
 use Rattle.std.proofs.lemmas.Bool.{ne_eqb, eqb-true, ltb-true}
 use Rattle.std.proofs.lemmas.Bool.Decides.{eqb_tells}
-use Rattle.std.proofs.lemmas.List.{append-nil, nil_from_length, drop_all, get_or_default, get_or-set_same, get_or-set_other, get_or-replicate, length-append, length-map, length-set}
+use Rattle.std.proofs.lemmas.List.{nil_from_length, drop_all, get_or_default, get_or-set_same, get_or-set_other, get_or-replicate, length-append}
 use Rattle.std.proofs.Math.Seq.{set-append_seam, get_or-append_seam}
 use Rattle.std.proofs.lemmas.List.Sums.{fold-append, list_all-from_AllPass}
 use Rattle.iscsi_target.specs.History.{Event, Open, Bytes, Gone, connections, connected_after, is_allowed, well_formed, well_formed_from}
-use Rattle.iscsi_target.specs.World.{Setting, Life, Part, World, world, born, end, is_present}
-use Rattle.iscsi_target.specs.Output.{out_of, outs_of, outputs}
+use Rattle.iscsi_target.specs.World.{World, world}
+use Rattle.iscsi_target.specs.Output.{out_of, outs_of}
 use Rattle.iscsi_target.specs.Machine.{Machine, new_machine, new_slot, LinkState, free_link, opened_link, link_at, is_free, is_open_at, all_free, opened, fed, ended, sent, sent_link, piece_for}
-use Rattle.iscsi_target.specs.Stands.{Stands, setting_of, present}
+use Rattle.iscsi_target.specs.Stands.{Stands, setting_of}
 use Rattle.iscsi_target.specs.Runs.{Runs, connected, is_among}
 use Rattle.iscsi_target.specs.declared.config.LogicalUnit.{LogicalUnit}
 use Rattle.iscsi_target.proofs.Places.{place_of}
-use Rattle.iscsi_target.proofs.Choices.{cond_true, cond_false, and_true, not_true}
+use Rattle.iscsi_target.proofs.Choices.{and_true}
 use Rattle.iscsi_target.proofs.Counting.{eqb_self}
 use Rattle.iscsi_target.proofs.Histories.{world-push}
-use Rattle.iscsi_target.proofs.Standing.{Newest, Fed}
-use Rattle.iscsi_target.proofs.Events.{new_stands, OnLink, on_link, fed_part, fed_at, fed_life, fed_keeps, opened_keeps, ended_keeps, ended_at, sent_keeps, setting_fed, is_free_phase}
+use Rattle.iscsi_target.proofs.Events.{new_stands, on_link, fed_part, fed_at, fed_life, fed_keeps, opened_keeps, ended_keeps, ended_at, sent_keeps, is_free_phase}
 
 connected-push : (history : List Event) (event : Event) → connected (history ++ event ∷ []) ≡ connected_after (connected history) event
 connected-push history event = fold-append connected_after [] history (event ∷ [])
@@ -151,10 +150,10 @@ fed_runs_ machine sent_ history c piece i d r open_ lt last =
     let was : sent_ ≡ outs_of n.newest.older ++ out_of n.life ∷ [] = r.answered ∙ ap outs_of n.newest.lives_are in
     let place : i ≡ length (outs_of n.newest.older ++ out_of n.life ∷ []) - 1 = last ∙ ap (λ (s : List (List ℕ)). length s - 1) was in
     let grown_ : get_or sent_ i d ++ waits ≡ out_of part.life =
-        ap (λ (s : List (List ℕ)). get_or s i d ++ waits) was ∙ ap (λ (x : List ℕ). x ++ waits) (get_last (outs_of n.newest.older) (out_of n.life) d i place) ∙ ap (λ (x : List ℕ). out_of n.life ++ x) more ∙ sym f.out in
+    ap (λ (s : List (List ℕ)). get_or s i d ++ waits) was ∙ ap (λ (x : List ℕ). x ++ waits) (get_last (outs_of n.newest.older) (out_of n.life) d i place) ∙ ap (λ (x : List ℕ). out_of n.life ++ x) more ∙ sym f.out in
     let count_after : length after.links ≡ connections = stands.count in
     let link_at_sent : (k : ℕ) → k ≢ c → link_at (sent after c (length waits)) k ≡ link_at machine k = λ k differ.
-        get_or-set_other after.links c k sent_link_ free_link differ ∙ get_or-set_other machine.links c k p.0 free_link differ in
+    get_or-set_other after.links c k sent_link_ free_link differ ∙ get_or-set_other machine.links c k p.0 free_link differ in
     let link_c : link_at (sent after c (length waits)) c ≡ sent_link_ = get_or-set_same after.links c sent_link_ free_link (omega (arith, count_after)) in
     record {
       stands = sent_keeps after later c (length waits) lt count_after is_open (omega arith) stands;
@@ -163,10 +162,10 @@ fed_runs_ machine sent_ history c piece i d r open_ lt last =
         | inr differ ↦ ap (λ (l : LinkState). l.waiting) (link_at_sent k differ.1) ∙ r.drained k below
       ];
       answered =
-        ap (λ (s : List (List ℕ)). set s i (get_or sent_ i d ++ waits)) was
-        ∙ set_last (outs_of n.newest.older) (out_of n.life) (get_or sent_ i d ++ waits) i place
-        ∙ ap (λ (x : List ℕ). outs_of n.newest.older ++ x ∷ []) grown_
-        ∙ sym (ap (λ (x : World). outs_of x.lives) (fed_at machine history c piece n));
+          ap (λ (s : List (List ℕ)). set s i (get_or sent_ i d ++ waits)) was
+          ∙ set_last (outs_of n.newest.older) (out_of n.life) (get_or sent_ i d ++ waits) i place
+          ∙ ap (λ (x : List ℕ). outs_of n.newest.older ++ x ∷ []) grown_
+          ∙ sym (ap (λ (x : World). outs_of x.lives) (fed_at machine history c piece n));
       tracks = λ k below. rw (connected-push history (Bytes c piece [])) (elim (eqb_tells k c) [
         | inl same ↦ rw same.1 (ap (λ (l : LinkState). not (is_free l.phase)) link_c ∙ is_open ∙ sym open_ ∙ r.tracks c lt)
         | inr differ ↦ ap (λ (l : LinkState). not (is_free l.phase)) (link_at_sent k differ.1) ∙ r.tracks k below

@@ -1,23 +1,22 @@
 -- One event keeps the code where the World is.
-use Rattle.std.proofs.Common.{◌≡◌, ◌≢◌, ◌⊎◌, ℕ, zero, suc, ◌+◌, ◌<◌, ◌≤◌, List, [], ◌∷◌, ◌++◌, length, map, drop, set, get_or, Bool, true, false, cond, not, ◌&&◌, ◌||◌, eqb, Option, Some, None, refl, sym, ap, ◌∙◌, arith, append_assoc, inl, inr}
-use Rattle.std.specs.Prelude.{find, fold, filter_map}
-use Rattle.std.specs.List.{AllByRecursion, list_any}
+use Rattle.std.proofs.Common.{◌≡◌, ◌≢◌, ◌⊎◌, ℕ, ◌<◌, ◌≤◌, List, [], ◌∷◌, ◌++◌, length, map, drop, set, get_or, Bool, true, false, cond, not, ◌&&◌, eqb, Some, None, refl, sym, ap, ◌∙◌, arith, inl, inr}
+use Rattle.std.specs.Prelude.{fold}
+use Rattle.std.specs.List.{AllByRecursion}
 use Rattle.std.proofs.lemmas.Bool.{ne_eqb, eqb-true}
 use Rattle.std.proofs.lemmas.Bool.Decides.{eqb_tells}
 use Rattle.std.proofs.lemmas.List.{append-nil, length-append, get_or-set_same, get_or-set_other, drop-append-le, length-set}
 use Rattle.std.proofs.lemmas.List.Sums.{fold-append}
-use Rattle.iscsi_pdu.specs.Frames.{Frame, frames, rest, is_long}
+use Rattle.iscsi_pdu.specs.Frames.{frames, rest, is_long}
 use Rattle.iscsi_pdu.proofs.Cuts.{rest_in_pieces}
-use Rattle.iscsi_target.specs.History.{Event, Open, Bytes, Gone, Mark, Arrival, Whole, TooLong, joined, joined_with, grown, connections}
-use Rattle.iscsi_target.specs.Login.{Session}
+use Rattle.iscsi_target.specs.History.{Event, Arrival, Whole, TooLong, joined, grown, connections}
 use Rattle.iscsi_target.specs.Units.{Unit}
-use Rattle.iscsi_target.specs.World.{Setting, Life, Part, World, world, close, arrive, at_end, acting, is_present, other_session, live_sessions, happened, born, end, stamp}
+use Rattle.iscsi_target.specs.World.{Life, Part, World, close, arrive, at_end, acting, is_present, live_sessions, stamp}
 use Rattle.iscsi_target.specs.Output.{out_of}
-use Rattle.iscsi_target.specs.Machine.{PhaseState, Free, LoggingIn, FullFeature, Closing, Parts, Machine, LinkState, reads, shut, shut_if, kept, is_free, free_link, opened_link, link_at, link_of, parts_of, take_frame, take_bytes, fed_link, piece_for}
-use Rattle.iscsi_target.specs.Stands.{unit_for, phase_for, phase_of, IsQuiet, IsLinkOf, LinkStands, present, IsOver, IsNow, IsAlone, session_now, setting_of, StandsAt, Stands}
+use Rattle.iscsi_target.specs.Machine.{Parts, Machine, LinkState, reads, shut, shut_if, free_link, link_at, parts_of, take_bytes, fed_link, piece_for}
+use Rattle.iscsi_target.specs.Stands.{unit_for, phase_of, IsQuiet, IsLinkOf, LinkStands, present, IsOver, IsNow, IsAlone, session_now, StandsAt}
 use Rattle.iscsi_target.specs.declared.units.Slot.{Slot}
 use Rattle.iscsi_target.proofs.Choices.{cond_true, cond_false, and_false, and_true}
-use Rattle.iscsi_target.proofs.Taking.{short_rest, kept_reads}
+use Rattle.iscsi_target.proofs.Taking.{short_rest}
 use Rattle.iscsi_target.proofs.Histories.{grown_is}
 use Rattle.iscsi_target.proofs.Steps.{PartStands, closes, takes_all, reads_life, reads_phase}
 
@@ -124,8 +123,15 @@ fed_open targets c life units link slots bytes piece is reads_ connection gone a
     let begin : Part = record { life = life; units = units; steps = 0 } in
     let half : link.half ≡ rest bytes = is.half ∙ cond_true life.is_open (rest bytes) [] reads_ in
     let init : PartStands c (out_of life) link.waiting begin (parts_of link slots) = record {
-      phase = is.phase; units = at; quiet = is.quiet; connection = connection; gone = gone; closed = λ e. absurd (cc (e, reads_));
-      more = []; out = sym (append-nil (out_of life)); waiting = sym (append-nil link.waiting);
+      phase = is.phase;
+      units = at;
+      quiet = is.quiet;
+      connection = connection;
+      gone = gone;
+      closed = λ e. absurd (cc (e, reads_));
+      more = [];
+      out = sym (append-nil (out_of life));
+      waiting = sym (append-nil link.waiting);
     } in
     let after = at_end [] (fold (arrive targets [] []) begin (grown bytes piece)) in
     let parts = take_bytes targets c (parts_of link slots) (rest bytes ++ piece) in
@@ -208,11 +214,11 @@ pub assembled : (w : World) (machine : Machine) (history : List Event) (c : ℕ)
 assembled w machine history c link slots lt count here others units alone = record {
   links = λ d below. elim (eqb_tells d c) [
     | inl same ↦
-      let there : get_or (set machine.links c link) c free_link ≡ link = get_or-set_same machine.links c link free_link (omega arith) in
-      rw same.1 (rw there here)
+        let there : get_or (set machine.links c link) c free_link ≡ link = get_or-set_same machine.links c link free_link (omega arith) in
+        rw same.1 (rw there here)
     | inr differ ↦
-      let there : get_or (set machine.links c link) d free_link ≡ link_at machine d = get_or-set_other machine.links c d link free_link differ.1 in
-      rw there (others d below differ.1)
+        let there : get_or (set machine.links c link) d free_link ≡ link_at machine d = get_or-set_other machine.links c d link free_link differ.1 in
+        rw there (others d below differ.1)
   ];
   units = units;
   alone = alone;

@@ -1,6 +1,6 @@
 -- A frame does to the World what it does to the code.
-use Rattle.std.proofs.Common.{◌≡◌, ℕ, zero, suc, ◌+◌, ◌<◌, List, [], ◌∷◌, ◌++◌, length, map, Bool, true, false, cond, not, ◌&&◌, eqb, Option, Some, None, refl, sym, ap, ◌∙◌, arith, append_assoc}
-use Rattle.std.specs.Prelude.{find, fold}
+use Rattle.std.proofs.Common.{◌≡◌, ℕ, zero, suc, List, [], ◌∷◌, ◌++◌, length, map, Bool, true, false, cond, Option, Some, None, refl, sym, ap, ◌∙◌, arith, append_assoc}
+use Rattle.std.specs.Prelude.{fold}
 use Rattle.std.proofs.lemmas.List.{length-append}
 use Rattle.std.specs.List.{flat_map}
 use Rattle.scsi_sense.specs.Done.{Outcome}
@@ -8,16 +8,16 @@ use Rattle.iscsi_pdu.specs.Header.{is_write, lun_field, cdb}
 use Rattle.iscsi_pdu.specs.Frames.{Frame}
 use Rattle.iscsi_pdu.specs.Answers.{Answer, spelling}
 use Rattle.iscsi_pdu.specs.declared.answer.Stamp.{Stamp}
-use Rattle.iscsi_target.specs.History.{Mark, Arrival, Whole, TooLong}
+use Rattle.iscsi_target.specs.History.{Whole}
 use Rattle.iscsi_target.specs.Login.{Session, LoginReply, Refused, Full, login}
-use Rattle.iscsi_target.specs.Units.{Unit, join, invalid_field}
-use Rattle.iscsi_target.specs.World.{Accepted, Life, Part, stamp, taken, close, left, is_login, is_accepted, accept, is_complete, finish, finished_life, carried_out, cannot_be_done, first_unfinished, settle, settled_with, step, step_if_open, judge, serve, phase, arrived, arrive, log_in, after_login, with_login_answer, login_answer, scsi_answer}
+use Rattle.iscsi_target.specs.Units.{Unit, join}
+use Rattle.iscsi_target.specs.World.{Accepted, Life, Part, stamp, taken, close, left, is_login, is_accepted, accept, is_complete, finish, finished_life, carried_out, cannot_be_done, first_unfinished, settle, settled_with, step, step_if_open, take_ready, serve, phase, arrived, arrive, log_in, after_login, with_login_answer, login_answer, scsi_answer}
 use Rattle.iscsi_target.specs.Output.{out_of}
-use Rattle.iscsi_target.specs.Machine.{PhaseState, SessionState, FullFeature, LoggingIn, Closing, Parts, reads, shut, say, counted, finished_one, first_numbers, entered, enter, is_next, attempt, told, served, handle, frame_in, take_frame, joined_slot, slots_perform}
+use Rattle.iscsi_target.specs.Machine.{SessionState, FullFeature, LoggingIn, Closing, Parts, reads, shut, say, counted, finished_one, first_numbers, entered, enter, is_next, attempt, told, served, handle, frame_in, take_frame}
 use Rattle.iscsi_target.specs.Stands.{unit_for, phase_for, phase_of, AreNumbered, IsNew, IsQuiet}
 use Rattle.iscsi_target.specs.declared.units.Slot.{Slot}
 use Rattle.iscsi_target.proofs.Choices.{cond_true, cond_false, and_true, not_true}
-use Rattle.iscsi_target.proofs.Counting.{index_of, eqb_self}
+use Rattle.iscsi_target.proofs.Counting.{eqb_self}
 use Rattle.iscsi_target.proofs.Numbers.{stamp_answered, out_answered, numbered_next, stamp_finished, none_left, one_left, finished_next, stamp_asked}
 use Rattle.iscsi_target.proofs.UnitStates.{joined_all, left_all, perform_same}
 
@@ -201,7 +201,7 @@ finishes c o w part parts session frame n h reads_ some =
     let after = finished_life (record { index = index; frame = frame }) p.1 (accept frame life) in
     let over = record (accept frame life) { finished = life.finished ++ index ∷ [] } in
     let answer : scsi_answer (stamp over) frame p.1 ≡ scsi_answer (finished_one (stamp life)) frame r.0 =
-        ap (λ (x : Stamp). scsi_answer x frame p.1) (stamp_finished life frame index q.numbered) ∙ ap (scsi_answer (finished_one (stamp life)) frame) done in
+    ap (λ (x : Stamp). scsi_answer x frame p.1) (stamp_finished life frame index q.numbered) ∙ ap (scsi_answer (finished_one (stamp life)) frame) done in
     let numbers = numbers_finished life frame index p.1 q.numbered in
     record {
       phase = sym (phase_open after reads_ ∙ ap (λ (s : Option Session). phase_for s (stamp after)) some ∙ ap (λ (x : Stamp). phase_for (Some session) x) numbers);
@@ -218,8 +218,9 @@ finishes c o w part parts session frame n h reads_ some =
 -- the frame is judged, and where it is accepted it is done and answered
 serves_by : (b : Bool) (c : ℕ) (o w : List ℕ) (part : Part) (parts : Parts) (session : Session) (frame : Frame) → PartStands c o w part parts → part.life.is_open ≡ true → part.life.session ≡ Some session → is_accepted part.life frame ≡ b
     → let judged = cond b (record { life = accept frame part.life; units = part.units; steps = suc part.steps }) (close (record part { steps = suc part.steps })) in
+    let took = step_if_open [] take_ready judged in
     let numbers = stamp part.life in
-    PartStands c o w (settle (length judged.life.came) [] session judged) (cond b (served (state session numbers) frame (attempt (state session numbers) frame parts.slots) parts) (shut parts))
+    PartStands c o w (settle (length took.life.came) [] session took) (cond b (served (state session numbers) frame (attempt (state session numbers) frame parts.slots) parts) (shut parts))
 serves_by false c o w part parts session frame h reads_ some e =
     let q = h.quiet reads_ in
     let closed = close (record part { steps = suc part.steps }) in
@@ -230,13 +231,14 @@ serves_by true c o w part parts session frame h reads_ some e =
     let life = part.life in
     let command : Accepted = record { index = length (taken life); frame = frame } in
     let judged : Part = record { life = accept frame life; units = part.units; steps = suc part.steps } in
-    let after = finish session command (record judged { steps = suc judged.steps }) in
-    let one : settle (suc (length life.came)) [] session judged ≡ settle (length life.came) [] session after =
-        settle_one (length life.came) session judged command (one_left life frame q.numbered q.finished) (complete (length (taken life)) frame (no_write life frame e)) reads_ in
+    let took : Part = record judged { steps = suc judged.steps } in
+    let after = finish session command (record took { steps = suc took.steps }) in
+    let one : settle (suc (length life.came)) [] session took ≡ settle (length life.came) [] session after =
+    settle_one (length life.came) session took command (one_left life frame q.numbered q.finished) (complete (length (taken life)) frame (no_write life frame e)) reads_ in
     let fuel : length (accept frame life).came ≡ suc (length life.came) = omega (arith, length-append life.came (command ∷ [])) in
     let none : first_unfinished after.life ≡ None = none_left after.life (numbered_next life frame q.numbered) (finished_next life frame q.finished) in
-    rw (ap (λ (n : ℕ). settle n [] session judged) fuel ∙ one ∙ settle_none (length life.came) session after none)
-    (finishes c o w part parts session frame (suc (suc part.steps)) h reads_ some)
+    rw (ap (λ (p : Part). settle (length p.life.came) [] session p) (cond_true life.is_open took judged reads_) ∙ ap (λ (n : ℕ). settle n [] session took) fuel ∙ one ∙ settle_none (length life.came) session after none)
+    (finishes c o w part parts session frame (suc (suc (suc part.steps))) h reads_ some)
 
 pub serves : (c : ℕ) (o w : List ℕ) (part : Part) (parts : Parts) (session : Session) (frame : Frame) → PartStands c o w part parts → part.life.is_open ≡ true → part.life.session ≡ Some session
     → PartStands c o w (serve [] session frame part) (handle (state session (stamp part.life)) frame parts)

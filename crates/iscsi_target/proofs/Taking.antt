@@ -1,7 +1,7 @@
 -- What a connection's bytes do, frame by frame.
 use Rattle.std.proofs.Common.{◌≡◌, ℕ, List, [], ◌∷◌, ◌++◌, Bool, true, false, cond, ◌&&◌, refl, sym, ap, ◌∙◌}
 use Rattle.std.specs.Prelude.{fold}
-use Rattle.iscsi_pdu.specs.Frames.{Frame, frames, rest, has_frame, is_long, first_frame, frame_length}
+use Rattle.iscsi_pdu.specs.Frames.{Frame, frames, rest, has_frame, is_long}
 use Rattle.std.proofs.lemmas.List.{append-nil}
 use Rattle.iscsi_pdu.proofs.Frames.{no_frame, frames_none, rest_none}
 use Rattle.iscsi_pdu.proofs.Cuts.{frames_are_cut}

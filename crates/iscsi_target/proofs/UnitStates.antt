@@ -1,18 +1,18 @@
 -- The units of the code are those of the World, where one session is joined to them or none.
-use Rattle.std.proofs.Common.{◌≡◌, ℕ, zero, suc, ◌+◌, ◌<◌, List, [], ◌∷◌, ◌++◌, length, map, set, Bool, true, false, cond, not, ◌&&◌, eqb, Option, Some, None, Result, Ok, Err, refl, sym, ap, ◌∙◌, arith, inl, inr}
+use Rattle.std.proofs.Common.{◌≡◌, ℕ, suc, ◌+◌, List, [], ◌∷◌, length, map, Bool, true, false, cond, ◌&&◌, eqb, Option, Some, None, Result, Ok, Err, refl, ap, ◌∙◌, arith, inl, inr}
 use Rattle.std.proofs.lemmas.Bool.{cases_lt, le-ltb, lt-ltb}
 use Rattle.std.specs.Prelude.{bytes_eq, option_map, position, nat_lt}
-use Rattle.std.specs.List.{slice_get, position_or_len, filter}
-use Rattle.scsi_sense.specs.Done.{Outcome, good, check_condition}
+use Rattle.std.specs.List.{slice_get, position_or_len}
+use Rattle.scsi_sense.specs.Done.{Outcome}
 use Rattle.scsi_sense.specs.Nexus.{NexusName, same_nexus}
 use Rattle.scsi_sense.specs.declared.sense.Sense.{Sense}
 use Rattle.scsi_cdb.specs.Command.{command_of}
 use Rattle.scsi_cdb.specs.declared.command.Command.{Command}
 use Rattle.scsi_cdb.specs.declared.command.Command.TheVariants.{TestUnitReady}
 use Rattle.iscsi_target.specs.Login.{Session}
-use Rattle.iscsi_target.specs.Units.{Unit, free_unit, join, leave, joined_unit, left_unit, is_at, lun_number, perform, perform_at, performed, performed_at, read_by_unit, without_unit}
+use Rattle.iscsi_target.specs.Units.{Unit, join, leave, joined_unit, left_unit, is_at, lun_number, perform, performed, performed_at, read_by_unit}
 use Rattle.iscsi_target.specs.Machine.{joined_slot, slot_read, slot_perform, slots_perform, slots_perform_at, slots_perform_in, slot_at, slot_numbered, told, told_in, told_slot, told_at}
-use Rattle.iscsi_target.specs.Stands.{unit_for, pending}
+use Rattle.iscsi_target.specs.Stands.{unit_for}
 use Rattle.iscsi_target.specs.declared.units.Slot.{Slot}
 use Rattle.iscsi_target.proofs.Counting.{eqb_self}
 

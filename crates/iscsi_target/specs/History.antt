@@ -1,5 +1,5 @@
 -- What happens to the target: connections open, bring bytes and end, one event after the other.
-use Rattle.std.specs.Prelude.{ℕ, ◌+◌, List, [], ◌∷◌, ◌++◌, length, drop, map, filter, fold, Bool, true, false, ◌&&◌, not, ◌==◌, nat_lt, Option, Some, None, if◌then◌else◌}
+use Rattle.std.specs.Prelude.{ℕ, List, [], ◌∷◌, ◌++◌, length, drop, map, filter, fold, Bool, true, ◌&&◌, not, ◌==◌, nat_lt, Option, if◌then◌else◌}
 use Rattle.std.specs.List.{list_any}
 use Rattle.iscsi_pdu.specs.Frames.{Frame, frames, rest, is_long}
 

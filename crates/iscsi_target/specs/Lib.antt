@@ -14,6 +14,7 @@ pub mod World
 pub mod Output
 pub mod Replies
 pub mod Events
+pub mod Laws
 pub mod Machine
 pub mod Links
 pub mod Stands

@@ -1,5 +1,5 @@
 -- A connection of the code, without where its bytes lie in memory.
-use Rattle.std.specs.Prelude.{ℕ, List, map, string_bytes}
+use Rattle.std.specs.Prelude.{List, map}
 use Rattle.scsi_sense.specs.Nexus.{nexus_name}
 use Rattle.iscsi_target.specs.Machine.{SessionState, PhaseState, Free, LoggingIn, FullFeature, Closing, LinkState, Parts, kept}
 use Rattle.iscsi_target.specs.declared.units.Slot.{Slot}

@@ -1,5 +1,5 @@
 -- The reply to a Login request (RFC 7143 §6, §11.12, §11.13), as a rule of all requests of the login.
-use Rattle.std.specs.Prelude.{ℕ, ◌+◌, List, [], ◌∷◌, ◌++◌, length, Bool, true, false, ◌&&◌, ◌||◌, not, ◌==◌, nat_lt, nat_le, Option, Some, None, unwrap_or, position, Result, Ok, Err, if◌then◌else◌, codes, bytes_eq}
+use Rattle.std.specs.Prelude.{ℕ, ◌+◌, List, [], ◌∷◌, length, Bool, ◌&&◌, ◌||◌, not, ◌==◌, nat_lt, nat_le, Option, Some, None, unwrap_or, position, Result, Ok, Err, if◌then◌else◌, codes, bytes_eq}
 use Rattle.std.specs.List.{list_any, list_all}
 use Rattle.iscsi_pdu.specs.Header.{is_transit, is_continued, current_stage, next_stage, version_min, isid, tsih}
 use Rattle.iscsi_pdu.specs.Frames.{Frame}
@@ -23,7 +23,7 @@ abbrev pub first_request : List Frame → Frame → Frame
 first_request [] last = last
 first_request (first ∷ others) last = first
 
--- RFC 7143 §6.2: an agreed T leads to the next stage
+-- RFC 7143 §6.3: an agreed T leads to the next stage
 abbrev pub stage_after : ℕ → List Frame → ℕ
 stage_after stage [] = stage
 stage_after stage (request ∷ others) = stage_after (if is_transit request.header then next_stage request.header else stage) others
@@ -70,7 +70,7 @@ said key pairs = unwrap_or (value_of key pairs) []
 unfoldable pub is_normal : Texts → Bool
 is_normal pairs = bytes_eq (unwrap_or (value_of session_type_key pairs) (codes "Normal")) (codes "Normal")
 
--- RFC 7143 §4.2.7.1: a name is up to 223 bytes
+-- RFC 7143 §4.2.7: a name is up to 223 bytes
 unfoldable pub is_long_name : List ℕ → Bool
 is_long_name name = nat_lt 223 (length name)
 
@@ -82,7 +82,7 @@ is_login_key pair = bytes_eq pair.0 initiator_name_key || bytes_eq pair.0 sessio
 abbrev pub is_same_session : NexusName → ℕ → ℕ → Session → Bool
 is_same_session nexus target handle session = same_nexus session.nexus nexus && session.target == target && session.tsih == handle
 
--- RFC 7143 §6.3.5: a TSIH other than 0 would add a connection to a session
+-- RFC 7143 §6.3.1, §11.12.6: a TSIH other than 0 would add a connection to a session
 abbrev pub joins : NexusName → ℕ → ℕ → List Session → LoginStatus
 joins nexus target handle live = if list_any (is_same_session nexus target handle) live then status.TooManyConnections else status.SessionDoesNotExist
 

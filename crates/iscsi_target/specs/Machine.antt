@@ -1,9 +1,9 @@
 -- What a clause sees of the code: for each connection the bytes that are no whole frame yet, its phase
 -- and what waits, and for each unit whether the power on is still to be told; and one step of it.
-use Rattle.std.specs.Prelude.{◌≡◌, ℕ, ◌+◌, ◌^◌, ◌%◌, List, [], ◌∷◌, ◌++◌, length, drop, map, fold, Bool, true, false, ◌&&◌, ◌||◌, not, ◌==◌, nat_lt, Option, Some, None, position, slice_index, slice_index_or, slice_get, slice_set, replicate, Result, Ok, Err, if◌then◌else◌, string_bytes}
+use Rattle.std.specs.Prelude.{◌≡◌, ℕ, ◌+◌, ◌^◌, ◌%◌, List, [], ◌++◌, length, drop, map, fold, Bool, true, false, ◌&&◌, ◌||◌, not, ◌==◌, nat_lt, Option, Some, None, position, slice_index_or, slice_get, slice_set, replicate, Result, Ok, Err, if◌then◌else◌}
 use Rattle.scsi_sense.specs.Sense.{plain_sense}
 use Rattle.scsi_sense.specs.Done.{Outcome, good, check_condition}
-use Rattle.scsi_sense.specs.Nexus.{NexusName, nexus_name}
+use Rattle.scsi_sense.specs.Nexus.{NexusName}
 use Rattle.scsi_sense.specs.declared.sense.Sense.{Sense}
 use Rattle.scsi_sense.specs.declared.code.SenseKey.TheVariants.{UnitAttention}
 use Rattle.scsi_sense.specs.declared.code.AdditionalSense.TheVariants.{PowerOnOrReset}
@@ -16,7 +16,7 @@ use Rattle.iscsi_pdu.specs.Frames.{Frame, frames, rest, is_long, has_frame, want
 use Rattle.iscsi_pdu.specs.Answers.{Answer, spelling}
 use Rattle.iscsi_pdu.specs.declared.answer.Stamp.{Stamp}
 use Rattle.iscsi_target.specs.History.{connections}
-use Rattle.iscsi_target.specs.Login.{Session, LoginReply, Refused, Full, login}
+use Rattle.iscsi_target.specs.Login.{LoginReply, Refused, Full, login}
 use Rattle.iscsi_target.specs.Units.{lun_number, is_at, without_unit, invalid_field}
 use Rattle.iscsi_target.specs.World.{login_answer, scsi_answer, cannot_be_done, is_login, reserved_tag}
 use Rattle.iscsi_target.specs.declared.config.LogicalUnit.{LogicalUnit}

@@ -3,7 +3,7 @@ use Rattle.std.specs.Prelude.{ℕ, List, [], ◌∷◌, ◌++◌}
 use Rattle.std.specs.List.{flat_map}
 use Rattle.iscsi_pdu.specs.Answers.{spelling}
 use Rattle.iscsi_target.specs.History.{Event}
-use Rattle.iscsi_target.specs.World.{Setting, Life, World, world}
+use Rattle.iscsi_target.specs.World.{Setting, Life, world}
 
 -- the answers of a life, each spelled, joined
 abbrev pub out_of : Life → List ℕ

@@ -1,5 +1,5 @@
 -- A target that is put through events from its beginning, with all that it answers sent at once.
-use Rattle.std.specs.Prelude.{◌≡◌, ◌<◌, ℕ, List, [], map, fold, Bool, ◌==◌}
+use Rattle.std.specs.Prelude.{◌≡◌, ◌<◌, ℕ, List, [], fold, Bool, ◌==◌}
 use Rattle.std.specs.List.{list_any, AllByRecursion}
 use Rattle.std.specs.Global.{Vec}
 use Rattle.iscsi_target.specs.History.{Event, connected_after, connections}

@@ -1,5 +1,5 @@
--- The logical units and what a command does to them (SPC-4 §4.1, SAM-5 §5.14).
-use Rattle.std.specs.Prelude.{ℕ, List, [], ◌∷◌, ◌++◌, length, drop, map, filter, replicate, Bool, ◌&&◌, ◌||◌, not, ◌==◌, Option, Some, None, slice_index, Result, Ok, Err, if◌then◌else◌, bytes_eq}
+-- The logical units and what a command does to them (SAM-5 §5.14, SPC-4).
+use Rattle.std.specs.Prelude.{ℕ, List, [], ◌∷◌, ◌++◌, drop, map, filter, replicate, Bool, ◌&&◌, ◌||◌, not, ◌==◌, Option, Some, None, slice_index, Result, Ok, Err, if◌then◌else◌, bytes_eq}
 use Rattle.scsi_sense.specs.Sense.{plain_sense}
 use Rattle.scsi_sense.specs.Done.{Outcome, good, check_condition}
 use Rattle.scsi_sense.specs.Nexus.{NexusName, same_nexus}
@@ -40,7 +40,7 @@ left_unit nexus target unit = if unit.place.target == target then record unit { 
 abbrev pub leave : NexusName → ℕ → List Unit → List Unit
 leave nexus target units = map (left_unit nexus target) units
 
--- RFC 7143 §11.2.1.6, SAM-5 §4.6: byte 1 is the number, and all others are zero
+-- RFC 7143 §11.2.1.7, SAM-5 §4.6: byte 1 is the number, and all others are zero
 abbrev pub lun_number : List ℕ → Option ℕ
 lun_number field = if bytes_eq field (0 ∷ slice_index field 1 ∷ replicate 6 0) then Some (slice_index field 1) else None
 
@@ -99,7 +99,7 @@ performed_at units target nexus cdb None = (units, check_condition (without_unit
 performed_at units target nexus cdb (Some number) = performed units target number nexus cdb
 
 -- What a command does: the units after it, and what its initiator is told. The first check that
--- fails answers (SPC-4 §4.1): unit, operation code, attention.
+-- fails answers, in this order (own, after SPC-4): unit, operation code, attention.
 unfoldable pub perform : List Unit → ℕ → NexusName → List ℕ → List ℕ → List Unit × Outcome
 perform units target nexus lun cdb = performed_at units target nexus cdb (lun_number lun)
 

@@ -10,7 +10,6 @@ use Rattle.iscsi_pdu.specs.Answers.{Answer, Scsi, Login}
 use Rattle.iscsi_pdu.specs.declared.answer.Stamp.{Stamp}
 use Rattle.iscsi_pdu.specs.declared.answer.Residual.{Residual}
 use Rattle.iscsi_pdu.specs.declared.answer.Residual.TheVariants as residuals
-use Rattle.iscsi_pdu.specs.declared.answer.LoginStatus.{LoginStatus}
 use Rattle.iscsi_pdu.specs.declared.answer.LoginStatus.TheVariants as status
 use Rattle.iscsi_target.specs.History.{Event, Open, Bytes, Gone, Mark, Arrival, Whole, TooLong, joined, grown}
 use Rattle.iscsi_target.specs.Login.{Session, LoginReply, Refused, Full, login, declared_text}
@@ -109,14 +108,28 @@ close part = record part { life = record part.life { is_open = false; session = 
 -- a Login Response with this status; one other than Success has byte 1 zero, and no text
 unfoldable pub login_answer : Stamp → Frame → LoginReply → Answer
 login_answer stamp request (Refused why) = Login (record {
-  transit = false; continued = false; current_stage = 0; next_stage = 0;
-  isid = isid request.header; tsih = tsih request.header; initiator_task_tag = initiator_task_tag request.header;
-  stamp = stamp; status = why; text = [];
+  transit = false;
+  continued = false;
+  current_stage = 0;
+  next_stage = 0;
+  isid = isid request.header;
+  tsih = tsih request.header;
+  initiator_task_tag = initiator_task_tag request.header;
+  stamp = stamp;
+  status = why;
+  text = [];
 })
 login_answer stamp request (Full session) = Login (record {
-  transit = true; continued = false; current_stage = 1; next_stage = 3;
-  isid = isid request.header; tsih = session.tsih; initiator_task_tag = initiator_task_tag request.header;
-  stamp = stamp; status = status.Success; text = declared_text;
+  transit = true;
+  continued = false;
+  current_stage = 1;
+  next_stage = 3;
+  isid = isid request.header;
+  tsih = session.tsih;
+  initiator_task_tag = initiator_task_tag request.header;
+  stamp = stamp;
+  status = status.Success;
+  text = declared_text;
 })
 
 -- the life with one more Login request and its answer
@@ -178,8 +191,12 @@ sense_of done = option_map sense_bytes done.sense
 
 unfoldable pub scsi_answer : Stamp → Frame → Outcome → Answer
 scsi_answer stamp frame done = Scsi (record {
-  initiator_task_tag = initiator_task_tag frame.header; stamp = stamp; status = status_number done.status;
-  residual = residual_of (expected frame done) done.moved; exp_data_sn = 0; sense = sense_of done;
+  initiator_task_tag = initiator_task_tag frame.header;
+  stamp = stamp;
+  status = status_number done.status;
+  residual = residual_of (expected frame done) done.moved;
+  exp_data_sn = 0;
+  sense = sense_of done;
 })
 
 -- a command with an additional header, or with R and W, is answered in place of being done
@@ -244,10 +261,14 @@ settle (suc n) marks session part = settled_with (settle n marks session) marks 
 abbrev pub judge : Frame → Part → Part
 judge frame part = if is_accepted part.life frame then record part { life = accept frame part.life } else close part
 
+-- which requests are taken is read from those that came: the act itself changes no list
+abbrev pub take_ready : Part → Part
+take_ready part = part
+
 abbrev pub serve : List Mark → Session → Frame → Part → Part
 serve marks session frame part =
-    let judged = step marks (judge frame) part in
-    settle (length judged.life.came) marks session judged
+    let took = step_if_open marks take_ready (step marks (judge frame) part) in
+    settle (length took.life.came) marks session took
 
 -- a frame of a connection: Login requests before full feature phase, and none in it
 abbrev pub phase : List (List ℕ) → List Session → List Mark → Frame → Part → Option Session → Part

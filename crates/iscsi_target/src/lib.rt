@@ -5,6 +5,7 @@ mod config;
 mod event;
 mod fault;
 mod history;
+pub mod laws;
 mod link;
 mod login;
 mod run;
@@ -18,3 +19,6 @@ pub use fault::{Memory, Starved};
 pub use history::well_formed;
 pub use run::Outputs;
 pub use target::Target;
+
+#[cfg(test)]
+mod tests;

@@ -6,15 +6,14 @@ ghost use Rattle.scsi_sense.specs.Done.{outcome};
 ghost use Rattle.iscsi_target.specs.Machine.{FullFeature, Closing, reads as reads_in, is_closing as is_closing_in, is_next, attempt as attempt_of, handle, enter as enter_of, take_frame as take_frame_of, fed_link, piece_for, IsSettled, free_link, opened_link};
 ghost use Rattle.iscsi_target.specs.Links.{session_view, phase_view, parts_view, link_view};
 
-use bytes::BytesMut;
-use iscsi_pdu::{Frame, Framer, Opcode, PduFault, Stamp};
-use scsi_sense::{AdditionalSense, Done, Sense, SenseKey};
-use std::alloc::Global;
-
 use crate::fault::Memory;
 use crate::login::{Reply, answer, login};
 use crate::session::{Session, cannot_be_carried_out, count, finish_one, response};
 use crate::units::{Performed, Slot, join, perform, tell};
+use bytes::BytesMut;
+use iscsi_pdu::{Frame, Framer, Opcode, PduFault, Stamp};
+use scsi_sense::{AdditionalSense, Done, Sense, SenseKey};
+use std::alloc::Global;
 
 /// Where a connection is (RFC 7143 §4.2.5).
 #[derive(Debug, Drop)]
@@ -171,7 +170,12 @@ impl Link {
 
     /// One frame of the connection, in its phase. Want of memory leaves all as it was.
     #[tactic(auto, unfolding(crate::specs::Machine::take_frame, crate::specs::World::is_login))]
-    fn take_frame(&mut self, setting: Setting, slots: &mut [Slot], frame: &Frame) -> Result<(), Memory>
+    fn take_frame(
+        &mut self,
+        setting: Setting,
+        slots: &mut [Slot],
+        frame: &Frame,
+    ) -> Result<(), Memory>
         requires { setting.connection < 64 }
         ensures parts { OnOk result (parts_view self.new slots.new ≡ take_frame_of (map string_bytes setting.entry.targets.now) setting.entry.connection (parts_view self.old slots.old) (frame_view frame.now)) }
         ensures framer { self.new.framer ≡ self.old.framer }
@@ -218,7 +222,12 @@ impl Link {
 
     /// The next piece of a connection's bytes. One that closes reads no more, and so does one for
     /// which memory ran out: it is closing from then on.
-    pub(crate) fn feed(&mut self, setting: Setting, slots: &mut [Slot], piece: &[u8]) -> Result<(), Memory>
+    pub(crate) fn feed(
+        &mut self,
+        setting: Setting,
+        slots: &mut [Slot],
+        piece: &[u8],
+    ) -> Result<(), Memory>
         requires in_range { setting.connection < 64 }
         requires settled { IsSettled (link_view self.old) }
         ensures ok { OnOk result ((link_view self.new, slots.new) ≡ piece_for (map string_bytes setting.entry.targets.now) setting.entry.connection (link_view self.old) slots.old piece.now) }

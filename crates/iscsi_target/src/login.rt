@@ -8,12 +8,11 @@ ghost use Rattle.iscsi_target.specs.Login.{login as login_reply, with_text, to_t
 ghost use Rattle.iscsi_target.specs.World.{login_answer};
 ghost use Rattle.iscsi_target.specs.Replies.{reply_view};
 
+use crate::fault::Memory;
 use iscsi_pdu::{Answer, Frame, Header, LoginResponse, LoginStatus, Stamp};
 use iscsi_text::{Pairs, TextFault, pairs, text};
 use scsi_sense::Nexus;
 use std::alloc::Global;
-
-use crate::fault::Memory;
 
 /// The reply to a connection's first Login request, which at once ends the login.
 #[derive(Debug, Drop)]
@@ -25,8 +24,9 @@ pub(crate) enum Reply {
 }
 
 const OPERATIONAL: u8 = 1;
+
 const FULL_FEATURE: u8 = 3;
-/// The longest name (RFC 7143 §4.2.7.1).
+/// The longest name (RFC 7143 §4.2.7).
 const LONGEST_NAME: usize = 223;
 
 /// The reply to a login's only request: the first rule that applies refuses it.

@@ -8,12 +8,11 @@ ghost use Rattle.iscsi_target.specs.Output.{outputs as outputs_of};
 ghost use Rattle.iscsi_target.specs.Stands.{Stands, setting_of};
 ghost use Rattle.iscsi_target.specs.Runs.{Runs, connected, bytes_of};
 
-use std::alloc::Global;
-
 use crate::config::{Config, LogicalUnit};
 use crate::event::Event;
 use crate::fault::{Memory, Starved};
 use crate::target::Target;
+use std::alloc::Global;
 
 /// What was answered in each life of a connection, in the order in which they began.
 pub type Outputs = Vec<Vec<u8>>;

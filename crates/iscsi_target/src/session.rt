@@ -43,7 +43,7 @@ pub(crate) fn count(numbers: Stamp) -> Stamp
     }
 }
 
-/// The PDU can be carried out: it has no additional header, and does not both read and write.
+/// The PDU cannot be carried out: it has an additional header, or it both reads and writes.
 #[tactic(auto, unfolding(crate::specs::World::cannot_be_done))]
 pub(crate) fn cannot_be_carried_out(frame: &Frame) -> bool
     ensures { result ≡ cannot_be_done (frame_view frame.now) }

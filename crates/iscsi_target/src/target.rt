@@ -6,13 +6,12 @@ ghost use Rattle.iscsi_target.specs.Links.{links_view};
 ghost use Rattle.iscsi_target.specs.Machine.{free_link, new_slot, new_machine, link_at, opened, fed, ended, sent as sent_of, all_free, is_open_at, is_closing, want_of, IsStarved};
 ghost use Rattle.iscsi_target.specs.Stands.{Stands, GrowsBy};
 
-use std::alloc::Global;
-use std::marker::Model;
-
 use crate::config::{Config, LogicalUnit};
 use crate::fault::{Memory, Starved};
 use crate::link::{Link, Phase, Setting};
 use crate::units::Slot;
+use std::alloc::Global;
+use std::marker::Model;
 
 /// Connections are numbered from 0 to one less than this.
 pub(crate) const CONNECTIONS: usize = 64;
@@ -40,7 +39,7 @@ impl Model for Target {
     ghost Value = { Machine };
 
     ghost use Rattle.iscsi_target.specs.History.{Event, Open, Bytes, Gone};
-ghost use Rattle.iscsi_target.specs.Links.{links_view};
+    ghost use Rattle.iscsi_target.specs.Links.{links_view};
 
     ghost view = { λ t. record { targets = map string_bytes t.config.targets.items; slots = t.slots.items; links = links_view t.links.items } };
 

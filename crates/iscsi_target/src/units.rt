@@ -5,11 +5,10 @@ ghost use Rattle.scsi_sense.specs.Done.{outcome};
 ghost use Rattle.iscsi_target.specs.Units.{is_at as is_at_place, lun_number as number_of_lun};
 ghost use Rattle.iscsi_target.specs.Machine.{joined_slot, slot_at, slots_perform, slot_perform, sense_without_unit, told as told_slots};
 
+use crate::config::LogicalUnit;
 use scsi_cdb::{Cdb, Command};
 use scsi_sense::{AdditionalSense, Done, Sense, SenseKey};
 use std::alloc::Global;
-
-use crate::config::LogicalUnit;
 
 /// A logical unit, and whether the session on its target has still to be told of the power on.
 #[derive(Clone, Copy, Debug, PartialEq, Eq)]
@@ -26,6 +25,7 @@ pub(crate) struct Performed {
 }
 
 const INQUIRY: u8 = 0x12;
+
 const REQUEST_SENSE: u8 = 0x03;
 
 /// A new session has the power-on attention on each unit of its target (SAM-5 §5.14).
@@ -129,8 +129,8 @@ fn perform_at(alloc: Global, slot: &Slot, cdb: [u8; 16]) -> (bool, Done)
     }
 }
 
-/// What a command ends with, before it has had any effect: the checks in SPC-4's order (§4.1), the
-/// unit, the operation code, the attention.
+/// What a command ends with, before it has had any effect. The unit is judged first, then the
+/// operation code, then the attention (own, after SPC-4).
 #[tactic(auto, unfolding(crate::specs::Machine::slots_perform))]
 pub(crate) fn perform(
     alloc: Global,

@@ -7,7 +7,7 @@ use scsi_sense::{AdditionalSense, Sense, SenseKey};
 
 use crate::command::{Command, Kind};
 
-/// A command descriptor block of up to 16 bytes, filled with zeros (RFC 7143 §11.3.6).
+/// A command descriptor block of up to 16 bytes, filled with zeros (RFC 7143 §11.3.5).
 pub struct Cdb;
 
 impl Cdb {

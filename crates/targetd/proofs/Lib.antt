@@ -1,2 +1,4 @@
 pub mod Links
 pub mod Entries
+pub mod Passing
+pub mod Lists

@@ -17,30 +17,31 @@ fault_of refusals.OutOfMemory fault = faults.OutOfMemory
 -- nothing comes twice
 abbrev pub is_distinct : {X : Type 0} → (X → X → Bool) → List X → Bool
 is_distinct same [] = true
-is_distinct same (x ∷ xs) = not (list_any (same x) xs) && is_distinct same xs
+is_distinct same (x ∷ xs) = not (list_any (λ y. same y x) xs) && is_distinct same xs
 
--- the number of a LUN that keeps its limit
-abbrev pub lun_number : UnitEntry → ℕ
-lun_number unit = number unit.lun
-  where
-    number : ℤ → ℕ
-    number (pos n) = n
-    number (negsuc n) = 0
+abbrev pub natural : ℤ → ℕ
+natural (pos n) = n
+natural (negsuc n) = 0
+
+-- the LUNs, which are not below 0
+abbrev pub luns_of : List UnitEntry → List ℕ
+luns_of units = map (λ unit. natural unit.lun) units
+
+abbrev pub names_of : List TargetEntry → List (List ℕ)
+names_of targets = map (λ target. target.name) targets
 
 abbrev pub has_distinct_luns : TargetEntry → Bool
-has_distinct_luns target = is_distinct nat_eq (map lun_number target.units)
-
-abbrev pub has_distinct_names : List TargetEntry → Bool
-has_distinct_names targets = is_distinct bytes_eq (map (λ target. target.name) targets)
+has_distinct_luns target = is_distinct nat_eq (luns_of target.units)
 
 abbrev pub has_lun_zero : TargetEntry → Bool
-has_lun_zero target = list_any (λ unit. lun_number unit == 0) target.units
+has_lun_zero target = list_any (λ lun. nat_eq lun 0) (luns_of target.units)
 
 -- the faults of a document whose fields are all there, in order
 unfoldable pub checked : Document → Result Document ConfigFault
 checked document =
     if not (keeps_limits document) then Err faults.Limit
-    else if not (has_distinct_names document.targets && list_all has_distinct_luns document.targets) then Err faults.Twice
+    else if not (is_distinct bytes_eq (names_of document.targets)) then Err faults.Twice
+    else if not (list_all has_distinct_luns document.targets) then Err faults.Twice
     else if not (list_all has_lun_zero document.targets) then Err faults.NoLunZero
     else Ok document
 

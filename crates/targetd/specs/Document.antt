@@ -139,8 +139,12 @@ targets_view targets = map target_view targets
 abbrev pub document_view : CodeDocument → Document
 document_view document = record { listen = string_bytes document.listen; targets = targets_view document.targets.items }
 
+-- why a step of the code gave nothing: reading gives nothing, or memory ran out
+abbrev pub Refuses : {Y : Type 0} → Refusal → Option Y → Type 0
+Refuses refusals.Refused read = read ≡ None
+Refuses refusals.OutOfMemory read = Unit {0}
+
 -- what a step of the code returned, seen by `view`, is what reading gives, unless memory ran out
 abbrev pub Gives : {X Y : Type 0} → (X → Y) → Result X Refusal → Option Y → Type 0
 Gives view (Ok x) read = read ≡ Some (view x)
-Gives view (Err refusals.Refused) read = read ≡ None
-Gives view (Err refusals.OutOfMemory) read = Unit {0}
+Gives view (Err refusal) read = Refuses refusal read

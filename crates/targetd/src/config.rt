@@ -5,15 +5,16 @@ mod fields;
 mod limits;
 mod refusal;
 
-ghost use Rattle.std.specs.Prelude.{◌≡◌, ◌≢◌, map, nat_eq, IfOk, IfErr, Ok, Err, true, false};
+ghost use Rattle.std.specs.Prelude.{◌≡◌, ◌≢◌, nat_eq, bytes_eq, string_bytes, IfOk, IfErr, Ok, Err, true, false};
+ghost use Rattle.std.specs.List.{list_all, list_any};
 ghost use Rattle.toml.specs.Errors.{IsMemory};
-ghost use Rattle.targetd.specs.Limits.{unit_entries, target_entry, target_entries, configuration_view};
-ghost use Rattle.targetd.specs.Config.{is_distinct, has_distinct_luns as are_luns_distinct, has_distinct_names as are_names_distinct, has_lun_zero as is_lun_zero_there, config_of};
+ghost use Rattle.targetd.specs.Limits.{target_entry, target_entries, configuration_view};
+ghost use Rattle.targetd.specs.Config.{is_distinct, names_of, has_distinct_luns as are_luns_distinct, has_lun_zero as is_lun_zero_there, config_of};
 ghost use Rattle.targetd.specs.declared.config.ConfigFault.TheVariants.{NotToml, OutOfMemory};
 
 use std::alloc::Global;
 
-use crate::configuration::{Configuration, TargetConfiguration};
+use crate::configuration::{Configuration, TargetConfiguration, UnitConfiguration};
 use crate::fault::Fault;
 use fields::fields;
 use limits::limited;
@@ -64,30 +65,22 @@ impl From<ConfigFault> for Fault {
     }
 }
 
+/// One of the units has this LUN.
+fn has_lun(units: &[UnitConfiguration], lun: u8) -> bool
+    ensures { result ≡ list_any (λ unit. nat_eq unit.lun lun) units.now }
+{
+    units.iter().any(|unit| unit.lun == lun)
+}
+
 /// The units of the target have different LUNs.
 fn has_distinct_luns(target: &TargetConfiguration) -> bool
     ensures { result ≡ are_luns_distinct (target_entry target.now) }
 {
-    let mut rest = target.units.as_slice();
-    while let [first, others @ ..] = rest {
-        if others.iter().any(|unit| unit.lun == first.lun) {
+    let units = target.units.as_slice();
+    for (i, unit) in units.iter().enumerate() {
+        if has_lun(&units[i + 1..], unit.lun) {
             return false;
         }
-        rest = others;
-    }
-    true
-}
-
-/// The targets have different names.
-fn has_distinct_names(targets: &[TargetConfiguration]) -> bool
-    ensures { result ≡ are_names_distinct (target_entries targets.now) }
-{
-    let mut rest = targets;
-    while let [first, others @ ..] = rest {
-        if others.iter().any(|target| target.name == first.name) {
-            return false;
-        }
-        rest = others;
     }
     true
 }
@@ -96,12 +89,45 @@ fn has_distinct_names(targets: &[TargetConfiguration]) -> bool
 fn has_lun_zero(target: &TargetConfiguration) -> bool
     ensures { result ≡ is_lun_zero_there (target_entry target.now) }
 {
-    target.units.iter().any(|unit| unit.lun == 0)
+    has_lun(target.units.as_slice(), 0)
+}
+
+/// One of the targets has this name.
+fn has_name(targets: &[TargetConfiguration], name: &str) -> bool
+    ensures { result ≡ list_any (λ target. bytes_eq (string_bytes target.name) name.now) targets.now }
+{
+    targets.iter().any(|target| target.name.as_str() == name)
+}
+
+/// The targets have different names.
+fn have_distinct_names(targets: &[TargetConfiguration]) -> bool
+    ensures { result ≡ is_distinct bytes_eq (names_of (target_entries targets.now)) }
+{
+    for (i, target) in targets.iter().enumerate() {
+        if has_name(&targets[i + 1..], target.name.as_str()) {
+            return false;
+        }
+    }
+    true
+}
+
+/// The units of each target have different LUNs.
+fn have_distinct_luns(targets: &[TargetConfiguration]) -> bool
+    ensures { result ≡ list_all (λ target. are_luns_distinct (target_entry target)) targets.now }
+{
+    targets.iter().all(|target| has_distinct_luns(target))
+}
+
+/// Each target has a LUN 0.
+fn have_lun_zero(targets: &[TargetConfiguration]) -> bool
+    ensures { result ≡ list_all (λ target. is_lun_zero_there (target_entry target)) targets.now }
+{
+    targets.iter().all(|target| has_lun_zero(target))
 }
 
 /// The configuration that a TOML document describes, or the first fault that it has. Fields that
 /// nothing reads are passed over.
-#[tactic(auto, unfolding(crate::specs::Config::config_of, crate::specs::Config::checked))]
+#[tactic(auto, using(crate::proofs::Lists::tests_targets), unfolding(crate::specs::Config::config_of, crate::specs::Config::checked))]
 pub fn config(alloc: Global, text: &str) -> Result<Configuration, ConfigFault>
     ensures read { IfOk result (λ configuration. config_of text.now ≡ Ok (configuration_view configuration)) }
     ensures refused { IfErr result (λ fault. fault ≢ OutOfMemory → config_of text.now ≡ Err fault) }
@@ -110,10 +136,13 @@ pub fn config(alloc: Global, text: &str) -> Result<Configuration, ConfigFault>
     let document = fields(alloc, &table).map_err(|refusal| refusal.or(ConfigFault::Field))?;
     let configuration = limited(alloc, document).map_err(|refusal| refusal.or(ConfigFault::Limit))?;
     let targets = configuration.targets.as_slice();
-    if !has_distinct_names(targets) || !targets.iter().all(|target| has_distinct_luns(target)) {
+    if !have_distinct_names(targets) {
         return Err(ConfigFault::Twice);
     }
-    if !targets.iter().all(|target| has_lun_zero(target)) {
+    if !have_distinct_luns(targets) {
+        return Err(ConfigFault::Twice);
+    }
+    if !have_lun_zero(targets) {
         return Err(ConfigFault::NoLunZero);
     }
     Ok(configuration)

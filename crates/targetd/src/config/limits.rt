@@ -3,7 +3,7 @@
 ghost use Rattle.std.specs.Prelude.{◌≡◌};
 ghost use Rattle.std.specs.List.{list_all};
 ghost use Rattle.targetd.specs.Document.{Gives, unit_view, units_view, target_view, targets_view, document_view};
-ghost use Rattle.targetd.specs.Limits.{is_serial as is_serial_text, unit_keeps, target_keeps, keeps_limits, passed, unit_entry, unit_entries, target_entry, target_entries, configuration_view};
+ghost use Rattle.targetd.specs.Limits.{is_printable as is_printable_byte, is_serial as is_serial_text, unit_keeps, target_keeps, keeps_limits, passed, unit_entry, unit_entries, target_entry, target_entries, configuration_view};
 
 use std::alloc::Global;
 
@@ -21,14 +21,18 @@ const MOST_UNITS: usize = 16;
 
 const MOST_SERIAL: usize = 32;
 
-/// 1 to 32 bytes of printable ASCII, spaces among them.
+/// Printable ASCII, spaces among it.
+fn is_printable(bytes: &[u8]) -> bool
+    ensures { result ≡ list_all is_printable_byte bytes.now }
+{
+    bytes.iter().all(|byte| 0x20 <= *byte && *byte <= 0x7e)
+}
+
+/// 1 to 32 bytes of printable ASCII.
 fn is_serial(text: &str) -> bool
     ensures { result ≡ is_serial_text text.now }
 {
-    let bytes = text.as_bytes();
-    !bytes.is_empty()
-        && bytes.len() <= MOST_SERIAL
-        && bytes.iter().all(|byte| 0x20 <= *byte && *byte <= 0x7e)
+    !text.is_empty() && text.len() <= MOST_SERIAL && is_printable(text.as_bytes())
 }
 
 fn unit(fields: UnitFields) -> Result<UnitConfiguration, Refusal>

@@ -1,4 +1,4 @@
-use Rattle.std.proofs.Common.{◌≡◌, ◌∙◌, sym, ap, map, List, [], Some, None}
+use Rattle.std.proofs.Common.{◌∙◌, sym, [], Some, None}
 use Rattle.std.specs.Prelude.{string_bytes, bytes_eq}
 use Rattle.iscsi_target.proofs.Lists.{position_of_map}
 use Rattle.iscsi_target.proofs.Outcomes.{if_ok_then}

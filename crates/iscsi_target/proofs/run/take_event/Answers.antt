@@ -1,8 +1,8 @@
-use Rattle.std.proofs.Common.{◌≡◌, ℕ, ◌+◌, ◌-◌, ◌<◌, ◌++◌, List, [], ◌∷◌, length, map, take, get_or, refl, sym, ap, ◌∙◌, arith, subst}
+use Rattle.std.proofs.Common.{◌≡◌, ℕ, ◌-◌, ◌<◌, ◌++◌, List, [], ◌∷◌, length, map, take, get_or, sym, ap, ◌∙◌, arith}
 use Rattle.std.proofs.lemmas.List.{map-append, map-set, get_or-map, length-map}
-use Rattle.iscsi_target.specs.Machine.{Machine, link_at, opened, fed, ended, sent}
+use Rattle.iscsi_target.specs.Machine.{link_at, fed}
 use Rattle.iscsi_target.specs.Events.{event_view, events_view}
-use Rattle.iscsi_target.specs.Runs.{Runs, bytes_of}
+use Rattle.iscsi_target.specs.Runs.{bytes_of}
 use Rattle.iscsi_target.specs.Stands.{setting_of}
 use Rattle.iscsi_target.proofs.Events.{setting_fed}
 use Rattle.iscsi_target.proofs.Running.{fed_is_open}

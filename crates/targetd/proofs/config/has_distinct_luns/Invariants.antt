@@ -1,11 +1,9 @@
-use Rattle.std.proofs.Common.{◌≡◌, length, map}
+use Rattle.std.proofs.Common.{◌≡◌, drop}
 use Rattle.std.specs.Prelude.{nat_eq}
 use Rattle.targetd.specs.Limits.{unit_entries}
-use Rattle.targetd.specs.Config.{is_distinct, lun_number}
+use Rattle.targetd.specs.Config.{is_distinct, luns_of}
 use Rattle.targetd.proofs.config.has_distinct_luns.Given as goal
 
-abbrev pub invariant-loop-rest : goal.invariant-loop-rest
-invariant-loop-rest l = is_distinct nat_eq (map lun_number (unit_entries l.target.units.items)) ≡ is_distinct nat_eq (map lun_number (unit_entries l.rest))
-
-abbrev pub decreases-loop-rest : goal.decreases-loop-rest
-decreases-loop-rest l = length l.rest
+-- the units from this one on decide
+abbrev pub invariant-loop-i : goal.invariant-loop-i
+invariant-loop-i l = is_distinct nat_eq (luns_of (unit_entries l.units)) ≡ is_distinct nat_eq (luns_of (unit_entries (drop l.i l.units)))

@@ -1,5 +1,4 @@
-use Rattle.std.proofs.Common.{◌≡◌, ◌∙◌, ◌<◌, sym, ap, refl, map, length, arith, false, ◌++◌}
-use Rattle.std.specs.Prelude.{string_bytes}
+use Rattle.std.proofs.Common.{◌≡◌, ◌∙◌, sym, ap, refl, false, ◌++◌}
 use Rattle.iscsi_pdu.specs.Frames.{rest}
 use Rattle.iscsi_pdu.proofs.Frames.{drop_shorter, rest_none}
 use Rattle.iscsi_pdu.proofs.Cuts.{long_is_no_frame}

@@ -1,4 +1,4 @@
-use Rattle.std.proofs.Common.{◌≡◌, ◌<◌, ap, ◌∙◌, arith, length, map, refl}
+use Rattle.std.proofs.Common.{◌<◌, ap, ◌∙◌, arith, length, map, refl}
 use Rattle.std.specs.Prelude.{string_bytes}
 use Rattle.std.proofs.lemmas.List.{with_items_is}
 use Rattle.iscsi_target.specs.Links.{link_view}
@@ -33,10 +33,10 @@ pub returns-clause-stands : goal.returns-clause-stands
 returns-clause-stands c =
     let count = count_links c.self.inside.links.items c.args.self.now c.self.invariant.0 (ap (λ (m : Machine). m.links) c.self.view_is) in
     on_ok_then c.match-feed.result _ _ (returns-clause-ok c) (λ e h s.
-        stands_as (fed c.args.self.now c.args.c c.args.piece.now) _ _ e (fed_keeps c.args.self.now h c.args.c c.args.piece.now c.requires.in_range count c.requires.open s))
+    stands_as (fed c.args.self.now c.args.c c.args.piece.now) _ _ e (fed_keeps c.args.self.now h c.args.c c.args.piece.now c.requires.in_range count c.requires.open s))
 
 pub returns-clause-grows : goal.returns-clause-grows
 returns-clause-grows c =
     let count = count_links c.self.inside.links.items c.args.self.now c.self.invariant.0 (ap (λ (m : Machine). m.links) c.self.view_is) in
     on_ok_then c.match-feed.result _ _ (returns-clause-ok c) (λ e h s d below.
-        grows_as c.args.self.now (fed c.args.self.now c.args.c c.args.piece.now) _ _ _ d e (fed_grows c.args.self.now h c.args.c c.args.piece.now c.requires.in_range count c.requires.open s d below))
+    grows_as c.args.self.now (fed c.args.self.now c.args.c c.args.piece.now) _ _ _ d e (fed_grows c.args.self.now h c.args.c c.args.piece.now c.requires.in_range count c.requires.open s d below))

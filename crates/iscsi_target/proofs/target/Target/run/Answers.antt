@@ -1,8 +1,7 @@
-use Rattle.std.proofs.Common.{◌≡◌, [], ap, ◌∙◌, map}
+use Rattle.std.proofs.Common.{[], ap, ◌∙◌, map}
 use Rattle.std.specs.Prelude.{string_bytes}
 use Rattle.iscsi_target.specs.Machine.{new_machine}
 use Rattle.iscsi_target.specs.Stands.{setting_of}
-use Rattle.iscsi_target.specs.Runs.{bytes_of}
 use Rattle.iscsi_target.proofs.Running.{new_runs, new_setting, runs_as}
 use Rattle.iscsi_target.proofs.target.Target.run.Goals as goal
 

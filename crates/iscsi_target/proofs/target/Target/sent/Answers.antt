@@ -1,5 +1,5 @@
-use Rattle.std.proofs.Common.{◌≡◌, ◌<◌, ap, arith, length, drop, List, ℕ, refl}
-use Rattle.iscsi_target.specs.Machine.{LinkState, Machine, sent, sent_link}
+use Rattle.std.proofs.Common.{◌<◌, ap, arith, length, List, ℕ, refl}
+use Rattle.iscsi_target.specs.Machine.{Machine, sent}
 use Rattle.iscsi_target.specs.Links.{link_view}
 use Rattle.iscsi_target.proofs.Connections.{keeps_links, settled_at, view_sent}
 use Rattle.iscsi_target.proofs.Events.{sent_keeps}

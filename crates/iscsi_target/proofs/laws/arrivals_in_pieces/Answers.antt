@@ -1,0 +1,5 @@
+use Rattle.iscsi_target.proofs.Pieces.{in_pieces}
+use Rattle.iscsi_target.proofs.laws.arrivals_in_pieces.Goals as goal
+
+pub returns : goal.returns
+returns c = in_pieces
