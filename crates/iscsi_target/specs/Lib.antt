@@ -19,3 +19,9 @@ pub mod Machine
 pub mod Links
 pub mod Stands
 pub mod Runs
+pub mod ExamplesBytes
+pub mod ExamplesLogin
+pub mod ExamplesSession
+pub mod ExamplesCommands
+pub mod ExamplesHistories
+pub mod ExamplesRules

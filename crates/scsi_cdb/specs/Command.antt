@@ -1,5 +1,5 @@
 -- What a command descriptor block spells (SPC-4 §4.2.5.2: byte 0 is the operation code).
-use Rattle.std.specs.Prelude.{ℕ, zero, suc, List, [], ◌∷◌, Result, Ok, Err, slice_index}
+use Rattle.std.specs.Prelude.{ℕ, zero, suc, List, Result, Ok, Err, slice_index}
 use Rattle.scsi_sense.specs.Sense.{plain_sense}
 use Rattle.scsi_sense.specs.declared.sense.Sense.{Sense}
 use Rattle.scsi_sense.specs.declared.code.SenseKey.TheVariants.{IllegalRequest}

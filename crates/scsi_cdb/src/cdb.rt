@@ -3,9 +3,8 @@
 ghost use Rattle.std.specs.Prelude.{◌≡◌};
 ghost use Rattle.scsi_cdb.specs.Command.{command_of};
 
-use scsi_sense::{AdditionalSense, Sense, SenseKey};
-
 use crate::command::{Command, Kind};
+use scsi_sense::{AdditionalSense, Sense, SenseKey};
 
 /// A command descriptor block of up to 16 bytes, filled with zeros (RFC 7143 §11.3.5).
 pub struct Cdb;

@@ -11,7 +11,11 @@ fn only_test_unit_ready_is_read(rt: HostRuntime) {
                 SenseKey::IllegalRequest,
                 AdditionalSense::InvalidCommandOperationCode,
             );
-            let want = if opcode == 0 { Ok(Command::TestUnitReady) } else { Err(refused) };
+            let want = if opcode == 0 {
+                Ok(Command::TestUnitReady)
+            } else {
+                Err(refused)
+            };
             assert_eq!(rt; Cdb::read(bytes, kind), want);
         }
     }

@@ -1,5 +1,5 @@
 -- Sense data in the fixed format (SPC-4 §4.5.3).
-use Rattle.std.specs.Prelude.{◌≡◌, ℕ, ◌+◌, List, [], ◌∷◌, ◌++◌, Bool, true, false, Option, Some, None, is_some, unwrap_or, replicate, if◌then◌else◌, refl}
+use Rattle.std.specs.Prelude.{◌≡◌, ℕ, ◌+◌, List, [], ◌∷◌, ◌++◌, true, false, Some, None, is_some, unwrap_or, replicate, if◌then◌else◌, refl}
 use Rattle.std.specs.Int.{w16, w32, to_be_bytes}
 use Rattle.scsi_sense.specs.Codes.{key_number, code_number}
 use Rattle.scsi_sense.specs.declared.code.SenseKey.{SenseKey}

@@ -4,9 +4,8 @@ ghost use Rattle.std.specs.Prelude.{◌≡◌};
 ghost use Rattle.scsi_sense.specs.Codes.{status_number};
 ghost use Rattle.scsi_sense.specs.Done.{outcome, good as good_outcome, check_condition as check_outcome};
 
-use std::alloc::Global;
-
 use crate::sense::Sense;
+use std::alloc::Global;
 
 /// The status of a command (SAM-5 §5.3.1).
 #[derive(Clone, Copy, Debug, PartialEq, Eq)]

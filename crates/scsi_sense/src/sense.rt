@@ -39,8 +39,14 @@ impl Sense {
     pub fn bytes(&self) -> [u8; 18]
         ensures { result ≡ sense_bytes self.now }
     {
-        let flags = flag(self.filemark, 0x80) | flag(self.end_of_medium, 0x40) | flag(self.incorrect_length, 0x20);
-        let response_code = if self.information.is_some() { 0xf0 } else { 0x70 };
+        let flags = flag(self.filemark, 0x80)
+            | flag(self.end_of_medium, 0x40)
+            | flag(self.incorrect_length, 0x20);
+        let response_code = if self.information.is_some() {
+            0xf0
+        } else {
+            0x70
+        };
         let information = self.information.unwrap_or(0).to_be_bytes();
         let code = self.code.number().to_be_bytes();
         [

@@ -12,9 +12,19 @@ fn sense_is_in_the_fixed_format(rt: HostRuntime) -> Result<(), Fail> {
             AdditionalSense::MiscompareDuringVerifyOperation,
         )
     };
-    assert_eq!(rt; difference.bytes(), [0xf0, 0, 0x0e, 0, 0, 1, 0xff, 0x0a, 0, 0, 0, 0, 0x1d, 0, 0, 0, 0, 0]);
+    assert_eq!(rt;
+        difference.bytes(),
+        [
+            0xf0, 0, 0x0e, 0, 0, 1, 0xff, 0x0a, 0, 0, 0, 0, 0x1d, 0, 0, 0, 0, 0
+        ]
+    );
     let power_on = Sense::new(SenseKey::UnitAttention, AdditionalSense::PowerOnOrReset);
-    assert_eq!(rt; power_on.bytes(), [0x70, 0, 0x06, 0, 0, 0, 0, 0x0a, 0, 0, 0, 0, 0x29, 0, 0, 0, 0, 0]);
+    assert_eq!(rt;
+        power_on.bytes(),
+        [
+            0x70, 0, 0x06, 0, 0, 0, 0, 0x0a, 0, 0, 0, 0, 0x29, 0, 0, 0, 0, 0
+        ]
+    );
     assert_eq!(rt; Status::ReservationConflict.number(), 0x18);
     Ok(())
 }

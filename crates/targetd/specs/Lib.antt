@@ -4,3 +4,5 @@ pub mod Replay
 pub mod Document
 pub mod Limits
 pub mod Config
+pub mod Configuration
+pub mod Words

@@ -8,16 +8,16 @@ mod refusal;
 ghost use Rattle.std.specs.Prelude.{◌≡◌, ◌≢◌, nat_eq, bytes_eq, string_bytes, IfOk, IfErr, Ok, Err, true, false};
 ghost use Rattle.std.specs.List.{list_all, list_any};
 ghost use Rattle.toml.specs.Errors.{IsMemory};
+ghost use Rattle.targetd.specs.Document.{document_view};
 ghost use Rattle.targetd.specs.Limits.{target_entry, target_entries, configuration_view};
-ghost use Rattle.targetd.specs.Config.{is_distinct, names_of, has_distinct_luns as are_luns_distinct, has_lun_zero as is_lun_zero_there, config_of};
+ghost use Rattle.targetd.specs.Config.{program_fault, is_distinct, names_of, has_distinct_luns as are_luns_distinct, has_lun_zero as is_lun_zero_there, fault_together as fault_in, read_of, limited_of, config_of};
 ghost use Rattle.targetd.specs.declared.config.ConfigFault.TheVariants.{NotToml, OutOfMemory};
-
-use std::alloc::Global;
 
 use crate::configuration::{Configuration, TargetConfiguration, UnitConfiguration};
 use crate::fault::Fault;
-use fields::fields;
+use fields::{Document, fields};
 use limits::limited;
+use std::alloc::Global;
 
 /// Why there is no configuration.
 #[derive(Clone, Copy, Debug, PartialEq, Eq)]
@@ -51,6 +51,8 @@ impl From<toml::de::Error> for ConfigFault {
 }
 
 impl From<ConfigFault> for Fault {
+    ghost from_gives = { λ fault seen. seen ≡ program_fault fault };
+
     fn from(fault: ConfigFault) -> Fault {
         let number = match fault {
             ConfigFault::Unreadable => 1,
@@ -92,11 +94,11 @@ fn has_lun_zero(target: &TargetConfiguration) -> bool
     has_lun(target.units.as_slice(), 0)
 }
 
-/// One of the targets has this name.
-fn has_name(targets: &[TargetConfiguration], name: &str) -> bool
-    ensures { result ≡ list_any (λ target. bytes_eq (string_bytes target.name) name.now) targets.now }
+/// One of the targets has the name of this one.
+fn has_namesake(targets: &[TargetConfiguration], target: &TargetConfiguration) -> bool
+    ensures { result ≡ list_any (λ other. bytes_eq (string_bytes other.name) (string_bytes target.now.name)) targets.now }
 {
-    targets.iter().any(|target| target.name.as_str() == name)
+    targets.iter().any(|other| other.name == target.name)
 }
 
 /// The targets have different names.
@@ -104,7 +106,7 @@ fn have_distinct_names(targets: &[TargetConfiguration]) -> bool
     ensures { result ≡ is_distinct bytes_eq (names_of (target_entries targets.now)) }
 {
     for (i, target) in targets.iter().enumerate() {
-        if has_name(&targets[i + 1..], target.name.as_str()) {
+        if has_namesake(&targets[i + 1..], target) {
             return false;
         }
     }
@@ -125,25 +127,60 @@ fn have_lun_zero(targets: &[TargetConfiguration]) -> bool
     targets.iter().all(|target| has_lun_zero(target))
 }
 
+/// The first thing that is wrong with the targets and units together.
+#[tactic(auto, using(crate::proofs::Lists::tests_targets), unfolding(crate::specs::Config::fault_together))]
+fn fault_together(configuration: &Configuration) -> Option<ConfigFault>
+    ensures { result ≡ fault_in (configuration_view configuration.now) }
+{
+    let targets = configuration.targets.as_slice();
+    if !have_distinct_names(targets) {
+        return Some(ConfigFault::Twice);
+    }
+    if !have_distinct_luns(targets) {
+        return Some(ConfigFault::Twice);
+    }
+    if !have_lun_zero(targets) {
+        return Some(ConfigFault::NoLunZero);
+    }
+    None
+}
+
+/// The fields of a TOML document.
+#[tactic(auto, unfolding(crate::specs::Config::read_of))]
+fn read(alloc: Global, text: &str) -> Result<Document, ConfigFault>
+    ensures read { IfOk result (λ document. read_of text.now ≡ Ok (document_view document)) }
+    ensures refused { IfErr result (λ fault. fault ≢ OutOfMemory → read_of text.now ≡ Err fault) }
+{
+    let table = toml::table_from_str(alloc, text)?;
+    match fields(alloc, &table) {
+        Ok(document) => Ok(document),
+        Err(refusal) => Err(refusal.or(ConfigFault::Field)),
+    }
+}
+
+/// The configuration of a document that keeps its limits.
+#[tactic(auto, unfolding(crate::specs::Config::limited_of))]
+fn within_limits(alloc: Global, document: Document) -> Result<Configuration, ConfigFault>
+    ensures read { IfOk result (λ configuration. limited_of (document_view document) ≡ Ok (configuration_view configuration)) }
+    ensures refused { IfErr result (λ fault. fault ≢ OutOfMemory → limited_of (document_view document) ≡ Err fault) }
+{
+    match limited(alloc, document) {
+        Ok(configuration) => Ok(configuration),
+        Err(refusal) => Err(refusal.or(ConfigFault::Limit)),
+    }
+}
+
 /// The configuration that a TOML document describes, or the first fault that it has. Fields that
 /// nothing reads are passed over.
-#[tactic(auto, using(crate::proofs::Lists::tests_targets), unfolding(crate::specs::Config::config_of, crate::specs::Config::checked))]
+#[tactic(auto, unfolding(crate::specs::Config::config_of))]
 pub fn config(alloc: Global, text: &str) -> Result<Configuration, ConfigFault>
     ensures read { IfOk result (λ configuration. config_of text.now ≡ Ok (configuration_view configuration)) }
     ensures refused { IfErr result (λ fault. fault ≢ OutOfMemory → config_of text.now ≡ Err fault) }
 {
-    let table = toml::table_from_str(alloc, text)?;
-    let document = fields(alloc, &table).map_err(|refusal| refusal.or(ConfigFault::Field))?;
-    let configuration = limited(alloc, document).map_err(|refusal| refusal.or(ConfigFault::Limit))?;
-    let targets = configuration.targets.as_slice();
-    if !have_distinct_names(targets) {
-        return Err(ConfigFault::Twice);
+    let document = read(alloc, text)?;
+    let configuration = within_limits(alloc, document)?;
+    match fault_together(&configuration) {
+        None => Ok(configuration),
+        Some(fault) => Err(fault),
     }
-    if !have_distinct_luns(targets) {
-        return Err(ConfigFault::Twice);
-    }
-    if !have_lun_zero(targets) {
-        return Err(ConfigFault::NoLunZero);
-    }
-    Ok(configuration)
 }

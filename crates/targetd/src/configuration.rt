@@ -1,5 +1,8 @@
 //! What the program is configured to be.
 
+ghost use Rattle.std.specs.Prelude.{◌≡◌, ◌++◌, map, string_bytes, IfOk, OnOk};
+ghost use Rattle.targetd.specs.Configuration.{kind_of, place_of, places_from, name_of};
+
 use iscsi_target::{Config, LogicalUnit};
 use scsi_cdb::Kind;
 use std::alloc::{AllocError, Global};
@@ -42,7 +45,9 @@ pub enum UnitKind {
 
 impl UnitKind {
     /// The kind alone.
-    pub fn kind(&self) -> Kind {
+    pub fn kind(&self) -> Kind
+        ensures { result ≡ kind_of self.now }
+    {
         match self {
             UnitKind::Disk { .. } => Kind::Disk,
             UnitKind::Tape { .. } => Kind::Tape,
@@ -50,24 +55,42 @@ impl UnitKind {
     }
 }
 
+/// Adds the place of each unit of a target.
+fn push_places(
+    places: &mut Vec<LogicalUnit>,
+    target: usize,
+    units: &[UnitConfiguration],
+) -> Result<(), AllocError>
+    ensures { OnOk result (places.new.items ≡ places.old.items ++ map (place_of target) units.now) }
+{
+    for unit in units {
+        places.push(LogicalUnit {
+            target,
+            lun: unit.lun,
+            kind: unit.kind.kind(),
+        })?;
+    }
+    Ok(())
+}
+
 impl Configuration {
     /// The place of each unit, target by target.
-    pub fn units(&self, alloc: Global) -> Result<Vec<LogicalUnit>, AllocError> {
+    pub fn units(&self, alloc: Global) -> Result<Vec<LogicalUnit>, AllocError>
+        ensures { IfOk result (λ places. places.items ≡ places_from 0 self.now.targets.items) }
+    {
         let mut places = Vec::new(alloc);
-        for (target, configured) in self.targets.iter().enumerate() {
-            for unit in &configured.units {
-                places.push(LogicalUnit {
-                    target,
-                    lun: unit.lun,
-                    kind: unit.kind.kind(),
-                })?;
-            }
+        let targets = self.targets.as_slice();
+        for (target, configured) in targets.iter().enumerate() {
+            push_places(&mut places, target, configured.units.as_slice())?;
         }
         Ok(places)
     }
 
     /// The portal and the targets' names.
-    pub fn into_config(self, alloc: Global) -> Result<Config, AllocError> {
+    pub fn into_config(self, alloc: Global) -> Result<Config, AllocError>
+        ensures listen { IfOk result (λ config. string_bytes config.listen ≡ string_bytes self.listen) }
+        ensures names { IfOk result (λ config. map string_bytes config.targets.items ≡ map name_of self.targets.items) }
+    {
         let mut targets = Vec::new(alloc);
         for target in self.targets {
             targets.push(target.name)?;

@@ -26,10 +26,9 @@ mod fault;
 mod line;
 mod replay;
 mod run;
-mod words;
-
 #[cfg(test)]
 mod tests;
+mod words;
 
 use std::process::ExitCode;
 

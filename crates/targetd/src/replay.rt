@@ -5,13 +5,12 @@ ghost use Rattle.iscsi_target.specs.Machine.{link_at, is_open_at, all_free, sent
 ghost use Rattle.targetd.specs.Line.{event_view, connection_in};
 ghost use Rattle.targetd.specs.Replay.{is_allowed, after};
 
+use crate::fault::Fault;
+use crate::line::{CONNECTIONS, line};
 use iscsi_target::{Event, Memory, Starved, Target};
 use std::alloc::Global;
 use std::io::{ErrorKind, Read, Write};
 use std::str;
-
-use crate::fault::Fault;
-use crate::line::{CONNECTIONS, line};
 
 /// Input that has no end after so many reads is a fault.
 const MOST_READS: u64 = 4_294_967_296;
@@ -143,7 +142,8 @@ impl<W: Write + Drop> Lines<W> {
     /// The pending line has ended.
     fn end_line(&mut self) -> Result<(), Fault> {
         self.number = self.number.saturating_add(1);
-        self.printer.carry_out(self.number, self.pending.as_slice())?;
+        self.printer
+            .carry_out(self.number, self.pending.as_slice())?;
         self.pending.clear();
         Ok(())
     }

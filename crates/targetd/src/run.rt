@@ -1,14 +1,13 @@
 //! A whole run: its words, its configuration, its target, its lines.
 
-use iscsi_target::Target;
-use std::rt::{Env, Files};
-use std::{env, fs, io, str};
-
 use crate::config::{ConfigFault, config};
 use crate::configuration::Configuration;
 use crate::fault::Fault;
 use crate::replay::replay;
 use crate::words::{Mode, mode_of};
+use iscsi_target::Target;
+use std::rt::{Env, Files};
+use std::{env, fs, io, str};
 
 /// The words that the program was called with, its name first.
 fn arguments(rt: &(impl Env + AllocGlobal)) -> Result<Vec<String>, Fault> {

@@ -1,10 +1,13 @@
 //! The words that the program is called with.
 
+ghost use Rattle.std.specs.Prelude.{◌≡◌, ◌≢◌, [], true, Err, IfOk};
+ghost use Rattle.clap.specs.Words.{kind_of};
+ghost use Rattle.targetd.specs.Words.{config_in, fault_at, has_dashes as are_dashes_among};
+
+use crate::fault::Fault;
 use clap::error::ErrorKind;
 use clap::{Arg, ArgAction, Command};
 use std::alloc::Global;
-
-use crate::fault::Fault;
 
 /// What the program is asked to do.
 #[derive(Clone, Copy, Debug, PartialEq, Eq)]
@@ -14,6 +17,8 @@ pub enum Mode<'a> {
 }
 
 impl From<clap::Error> for Fault {
+    ghost from_gives = { λ error fault. fault ≡ fault_at (kind_of error) };
+
     fn from(error: clap::Error) -> Fault {
         match error.kind() {
             ErrorKind::OutOfMemory => Fault::OutOfMemory,
@@ -22,11 +27,21 @@ impl From<clap::Error> for Fault {
     }
 }
 
+/// One of the words is `--`, which ends the options.
+fn has_dashes(words: &[String]) -> bool
+    ensures { result ≡ are_dashes_among words.now }
+{
+    words.iter().any(|word| word.as_str() == "--")
+}
+
 /// The command of the words, of which the first is the program's name. A call for help is a usage
 /// fault too.
-pub fn mode_of<'a>(alloc: Global, words: &'a [String]) -> Result<Mode<'a>, Fault> {
-    // It would end the options, and nothing may stand behind them.
-    if words.iter().any(|word| word.as_str() == "--") {
+pub fn mode_of<'a>(alloc: Global, words: &'a [String]) -> Result<Mode<'a>, Fault>
+    ensures named { IfOk result (λ mode. config_in mode ≢ []) }
+    ensures dashes { are_dashes_among words.entry.now ≡ true → result ≡ Err Fault.Usage }
+{
+    // Nothing may stand behind the options, so nothing may end them.
+    if has_dashes(words) {
         return Err(Fault::Usage);
     }
     let config = Arg::new(alloc, "config")

@@ -6,11 +6,10 @@ ghost use Rattle.toml.specs.Data.{get_member};
 ghost use Rattle.toml.specs.View.{view, items_view, table_view};
 ghost use Rattle.targetd.specs.Document.{Gives, text_at, integer_at, items_at, number_at, name_at, disk_of, tape_of, kind_of, has_member, is_name as is_name_text, unit_in, unit_of, target_of, each, document_of, unit_view, target_view, document_view};
 
-use std::alloc::Global;
-use toml::{Table, Value};
-
 use super::refusal::Refusal;
 use crate::configuration::UnitKind;
+use std::alloc::Global;
+use toml::{Table, Value};
 
 /// What the document says, before any limit is tested.
 #[derive(Drop)]

@@ -5,11 +5,10 @@ ghost use Rattle.std.specs.List.{list_all};
 ghost use Rattle.targetd.specs.Document.{Gives, unit_view, units_view, target_view, targets_view, document_view};
 ghost use Rattle.targetd.specs.Limits.{is_printable as is_printable_byte, is_serial as is_serial_text, unit_keeps, target_keeps, keeps_limits, passed, unit_entry, unit_entries, target_entry, target_entries, configuration_view};
 
-use std::alloc::Global;
-
 use super::fields::{Document, TargetFields, UnitFields};
 use super::refusal::Refusal;
 use crate::configuration::{Configuration, TargetConfiguration, UnitConfiguration};
+use std::alloc::Global;
 
 const MOST_LISTEN: usize = 253;
 

@@ -2,9 +2,8 @@
 
 ghost use Rattle.targetd.specs.declared.config.refusal.Refusal.TheVariants.{OutOfMemory};
 
-use std::alloc::{AllocError, AllocFailed};
-
 use super::ConfigFault;
+use std::alloc::{AllocError, AllocFailed};
 
 /// Why a step gives nothing.
 #[derive(Clone, Copy, Debug, PartialEq, Eq)]

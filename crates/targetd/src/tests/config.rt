@@ -7,6 +7,7 @@ use crate::run::load;
 use scsi_cdb::Kind;
 use std::alloc::{AllocError, Global};
 use std::fs;
+use std::process::Abort;
 use std::test::Fail;
 
 /// The configuration of the worked example.
@@ -28,9 +29,10 @@ early = 90000
 ";
 
 /// A target with a disk, behind the example.
-const ANOTHER: &str = "[[target]]\nname = \"t2\"\n[[target.unit]]\nlun = 0\nkind = \"disk\"\nserial = \"D\"\nblocks = 1\n";
+const ANOTHER: &str =
+    "[[target]]\nname = \"t2\"\n[[target.unit]]\nlun = 0\nkind = \"disk\"\nserial = \"D\"\nblocks = 1\n";
 
-/// `text` with its first `old` replaced by `new`, of which `{n}` is `n` times `x`.
+/// `text` with its first `old` replaced by `new`.
 fn with(alloc: Global, text: &str, old: &str, new: &str) -> Result<String, AllocError> {
     let mut edited = String::new(alloc);
     match text.split_once(old) {
@@ -67,7 +69,13 @@ fn reads_the_example(rt: HostRuntime) -> Result<(), Fail> {
     assert_eq!(rt; disk.kind, UnitKind::Disk { blocks: 4096 });
     let tape = &read.targets[0].units[1];
     assert_eq!(rt; (tape.lun, tape.serial.as_str()), (1, "T1"));
-    assert_eq!(rt; tape.kind, UnitKind::Tape { capacity: 100000, early: 90000 });
+    assert_eq!(rt;
+        tape.kind,
+        UnitKind::Tape {
+            capacity: 100000,
+            early: 90000
+        }
+    );
     Ok(())
 }
 
@@ -77,104 +85,204 @@ fn gives_places_and_names(rt: HostRuntime) -> Result<(), Fail> {
     let read = config(rt.alloc(), text.as_str()).ok().ok_or("two targets")?;
     let units = read.units(rt.alloc())?;
     assert_eq!(rt; units.len(), 3);
-    assert_eq!(rt; (units[0].target, units[0].lun, units[0].kind), (0, 0, Kind::Disk));
-    assert_eq!(rt; (units[1].target, units[1].lun, units[1].kind), (0, 1, Kind::Tape));
-    assert_eq!(rt; (units[2].target, units[2].lun, units[2].kind), (1, 0, Kind::Disk));
+    assert_eq!(rt;
+        (units[0].target, units[0].lun, units[0].kind),
+        (0, 0, Kind::Disk)
+    );
+    assert_eq!(rt;
+        (units[1].target, units[1].lun, units[1].kind),
+        (0, 1, Kind::Tape)
+    );
+    assert_eq!(rt;
+        (units[2].target, units[2].lun, units[2].kind),
+        (1, 0, Kind::Disk)
+    );
     let made = read.into_config(rt.alloc())?;
     assert_eq!(rt; made.listen.as_str(), "127.0.0.1:3260");
     assert_eq!(rt; made.targets.len(), 2);
-    assert_eq!(rt; (made.targets[0].as_str(), made.targets[1].as_str()), ("t1", "t2"));
+    assert_eq!(rt;
+        (made.targets[0].as_str(), made.targets[1].as_str()),
+        ("t1", "t2")
+    );
+    Ok(())
+}
+
+/// Each row is a part of the example, what stands in its place, and the number of the fault, 0
+/// where the document is read.
+fn expect_numbers(rt: &(impl Abort + AllocGlobal), rows: &[(&str, &str, u8)]) -> Result<(), Fail> {
+    for (old, new, number) in rows {
+        let text = with(rt.alloc(), EXAMPLE, old, new)?;
+        assert_eq!(rt;
+            fault_number(rt.alloc(), text.as_str()),
+            *number,
+            "{old} for {new}"
+        );
+    }
     Ok(())
 }
 
 #[test]
-fn edits_of_the_example(rt: HostRuntime) -> Result<(), Fail> {
-    let edits = [
-        // Read: what nothing reads, and the ends of each range.
-        ("listen", "other = 1\nlisten", 0),
-        ("name", "serial = 1\nname", 0),
-        ("blocks = 4096", "blocks = 1", 0),
-        ("blocks = 4096", "blocks = 1048576", 0),
-        ("blocks = 4096", "blocks = 4096\ncapacity = \"no\"\nearly = -1", 0),
-        ("capacity = 100000", "capacity = 34359738360\nblocks = 0", 0),
-        ("capacity = 100000\nearly = 90000", "capacity = 1\nearly = 0", 0),
-        ("early = 90000", "early = 100000", 0),
-        ("lun = 1", "lun = 255", 0),
-        ("\"D0\"", "\" ~\"", 0),
-        ("\"D0\"", "\"T1\"", 0),
-        ("\"t1\"", "\" \"", 0),
-        // 2: no TOML.
-        ("listen = ", "listen ", 2),
-        ("listen", "listen = \"a\"\nlisten", 2),
-        ("lun = 0", "lun = 00", 2),
-        ("lun = 0", "lun = 9223372036854775808", 2),
-        ("lun = 0", "lun = -9223372036854775809", 2),
-        ("\"t1\"", "\"t1", 2),
-        // 3: a field that is not there.
-        ("listen = \"127.0.0.1:3260\"", "", 3),
-        ("name = \"t1\"", "", 3),
-        ("lun = 0", "", 3),
-        ("kind = \"disk\"", "", 3),
-        ("serial = \"D0\"", "", 3),
-        ("blocks = 4096", "", 3),
-        ("capacity = 100000", "", 3),
-        ("early = 90000", "", 3),
-        // 3: a field of the wrong type.
-        ("\"127.0.0.1:3260\"", "3260", 3),
-        ("\"t1\"", "1", 3),
-        ("lun = 0", "lun = \"0\"", 3),
-        ("lun = 0", "lun = 0.0", 3),
-        ("\"disk\"", "1", 3),
-        ("\"D0\"", "0", 3),
-        ("blocks = 4096", "blocks = true", 3),
-        ("capacity = 100000", "capacity = \"100000\"", 3),
-        ("early = 90000", "early = 1979-05-27", 3),
-        // 3: outside a range.
-        ("127.0.0.1:3260", "", 3),
-        ("127.0.0.1:3260", "a\\u0000b", 3),
-        ("\"t1\"", "\"\"", 3),
-        ("\"t1\"", "\"\\u0000\"", 3),
-        ("\"disk\"", "\"cdrom\"", 3),
-        ("\"disk\"", "\"Disk\"", 3),
-        ("\"disk\"", "\"\"", 3),
-        ("blocks = 4096", "blocks = 0", 3),
-        ("blocks = 4096", "blocks = -1", 3),
-        ("blocks = 4096", "blocks = 1048577", 3),
-        ("capacity = 100000\nearly = 90000", "capacity = 0\nearly = 0", 3),
-        ("capacity = 100000", "capacity = 34359738361", 3),
-        ("early = 90000", "early = -1", 3),
-        ("early = 90000", "early = 100001", 3),
-        // 3: a file, for now.
-        ("blocks", "file = \"disk.img\"\nblocks", 3),
-        ("blocks = 4096", "file = \"disk.img\"", 3),
-        ("capacity", "file = 1\ncapacity", 3),
-        // 4: a limit.
-        ("lun = 1", "lun = 256", 4),
-        ("lun = 1", "lun = -1", 4),
-        ("lun = 1", "lun = 9223372036854775807", 4),
-        ("\"D0\"", "\"\"", 4),
-        ("\"D0\"", "\"123456789012345678901234567890123\"", 4),
-        ("\"D0\"", "\"12345678901234567890123456789012\"", 0),
-        ("\"D0\"", "\"\\u007f\"", 4),
-        ("\"D0\"", "\"\\u001f\"", 4),
-        ("\"D0\"", "\"\u{e9}\"", 4),
-        ("\"D0\"", "\"a\\u0000b\"", 4),
-        // 5: a LUN twice. 6: no LUN 0.
-        ("lun = 1", "lun = 0", 5),
-        ("lun = 0", "lun = 2", 6),
-        // The first that holds counts.
-        ("lun = 0\nkind = \"disk\"", "lun = 256\nkind = \"cdrom\"", 3),
-        ("lun = 0\nkind = \"disk\"", "lun = 1\nkind = \"cdrom\"", 3),
-        ("serial = \"D0\"\nblocks = 4096", "serial = \"\"\nblocks = 0", 3),
-        ("lun = 0\nkind = \"disk\"\nserial = \"D0\"", "lun = 1\nkind = \"disk\"\nserial = \"\"", 4),
-        ("lun = 0", "lun = 1", 5),
-    ];
-    assert_eq!(rt; fault_number(rt.alloc(), EXAMPLE), 0);
-    for (old, new, number) in edits {
-        let text = with(rt.alloc(), EXAMPLE, old, new)?;
-        assert_eq!(rt; fault_number(rt.alloc(), text.as_str()), number, "{old} for {new}");
-    }
-    Ok(())
+fn edits_that_are_read(rt: HostRuntime) -> Result<(), Fail> {
+    expect_numbers(
+        &rt,
+        &[
+            ("listen", "other = 1\nlisten", 0),
+            ("name", "serial = 1\nname", 0),
+            ("blocks = 4096", "blocks = 1", 0),
+            ("blocks = 4096", "blocks = 1048576", 0),
+            (
+                "blocks = 4096",
+                "blocks = 4096\ncapacity = \"no\"\nearly = -1",
+                0,
+            ),
+            ("capacity = 100000", "capacity = 34359738360\nblocks = 0", 0),
+            (
+                "capacity = 100000\nearly = 90000",
+                "capacity = 1\nearly = 0",
+                0,
+            ),
+            ("early = 90000", "early = 100000", 0),
+            ("lun = 1", "lun = 255", 0),
+            ("\"D0\"", "\" ~\"", 0),
+            ("\"D0\"", "\"T1\"", 0),
+            ("\"t1\"", "\" \"", 0),
+        ],
+    )
+}
+
+#[test]
+fn not_toml(rt: HostRuntime) -> Result<(), Fail> {
+    expect_numbers(
+        &rt,
+        &[
+            ("listen = ", "listen ", 2),
+            ("listen", "listen = \"a\"\nlisten", 2),
+            ("lun = 0", "lun = 00", 2),
+            ("lun = 0", "lun = 9223372036854775808", 2),
+            ("lun = 0", "lun = -9223372036854775809", 2),
+            ("\"t1\"", "\"t1", 2),
+        ],
+    )
+}
+
+#[test]
+fn fields_that_are_missing(rt: HostRuntime) -> Result<(), Fail> {
+    expect_numbers(
+        &rt,
+        &[
+            ("listen = \"127.0.0.1:3260\"", "", 3),
+            ("name = \"t1\"", "", 3),
+            ("lun = 0", "", 3),
+            ("kind = \"disk\"", "", 3),
+            ("serial = \"D0\"", "", 3),
+            ("blocks = 4096", "", 3),
+            ("capacity = 100000", "", 3),
+            ("early = 90000", "", 3),
+        ],
+    )
+}
+
+#[test]
+fn fields_of_the_wrong_type(rt: HostRuntime) -> Result<(), Fail> {
+    expect_numbers(
+        &rt,
+        &[
+            ("\"127.0.0.1:3260\"", "3260", 3),
+            ("\"t1\"", "1", 3),
+            ("lun = 0", "lun = \"0\"", 3),
+            ("lun = 0", "lun = 0.0", 3),
+            ("\"disk\"", "1", 3),
+            ("\"D0\"", "0", 3),
+            ("blocks = 4096", "blocks = true", 3),
+            ("capacity = 100000", "capacity = \"100000\"", 3),
+            ("early = 90000", "early = 1979-05-27", 3),
+        ],
+    )
+}
+
+#[test]
+fn fields_outside_their_range(rt: HostRuntime) -> Result<(), Fail> {
+    expect_numbers(
+        &rt,
+        &[
+            ("127.0.0.1:3260", "", 3),
+            ("127.0.0.1:3260", "a\\u0000b", 3),
+            ("\"t1\"", "\"\"", 3),
+            ("\"t1\"", "\"\\u0000\"", 3),
+            ("\"disk\"", "\"cdrom\"", 3),
+            ("\"disk\"", "\"Disk\"", 3),
+            ("\"disk\"", "\"\"", 3),
+            ("blocks = 4096", "blocks = 0", 3),
+            ("blocks = 4096", "blocks = -1", 3),
+            ("blocks = 4096", "blocks = 1048577", 3),
+            (
+                "capacity = 100000\nearly = 90000",
+                "capacity = 0\nearly = 0",
+                3,
+            ),
+            ("capacity = 100000", "capacity = 34359738361", 3),
+            ("early = 90000", "early = -1", 3),
+            ("early = 90000", "early = 100001", 3),
+        ],
+    )
+}
+
+#[test]
+fn units_in_files(rt: HostRuntime) -> Result<(), Fail> {
+    expect_numbers(
+        &rt,
+        &[
+            ("blocks", "file = \"disk.img\"\nblocks", 3),
+            ("blocks = 4096", "file = \"disk.img\"", 3),
+            ("capacity", "file = 1\ncapacity", 3),
+        ],
+    )
+}
+
+#[test]
+fn limits_that_are_passed(rt: HostRuntime) -> Result<(), Fail> {
+    expect_numbers(
+        &rt,
+        &[
+            ("lun = 1", "lun = 256", 4),
+            ("lun = 1", "lun = -1", 4),
+            ("lun = 1", "lun = 9223372036854775807", 4),
+            ("\"D0\"", "\"\"", 4),
+            ("\"D0\"", "\"123456789012345678901234567890123\"", 4),
+            ("\"D0\"", "\"12345678901234567890123456789012\"", 0),
+            ("\"D0\"", "\"\\u007f\"", 4),
+            ("\"D0\"", "\"\\u001f\"", 4),
+            ("\"D0\"", "\"\u{e9}\"", 4),
+            ("\"D0\"", "\"a\\u0000b\"", 4),
+        ],
+    )
+}
+
+#[test]
+fn luns_of_one_target(rt: HostRuntime) -> Result<(), Fail> {
+    expect_numbers(&rt, &[("lun = 1", "lun = 0", 5), ("lun = 0", "lun = 2", 6)])
+}
+
+#[test]
+fn the_first_fault_counts(rt: HostRuntime) -> Result<(), Fail> {
+    expect_numbers(
+        &rt,
+        &[
+            ("lun = 0\nkind = \"disk\"", "lun = 256\nkind = \"cdrom\"", 3),
+            ("lun = 0\nkind = \"disk\"", "lun = 1\nkind = \"cdrom\"", 3),
+            (
+                "serial = \"D0\"\nblocks = 4096",
+                "serial = \"\"\nblocks = 0",
+                3,
+            ),
+            (
+                "lun = 0\nkind = \"disk\"\nserial = \"D0\"",
+                "lun = 1\nkind = \"disk\"\nserial = \"\"",
+                4,
+            ),
+            ("lun = 0", "lun = 1", 5),
+        ],
+    )
 }
 
 #[test]
@@ -190,12 +298,24 @@ fn whole_documents(rt: HostRuntime) -> Result<(), Fail> {
         ("listen = \"a\"\n[[target]]\nname = \"t1\"", 3),
         ("listen = \"a\"\n[[target]]\nname = \"t1\"\nunit = 1", 3),
         ("listen = \"a\"\n[[target]]\nname = \"t1\"\nunit = [1]", 3),
-        ("listen = \"a\"\n[[target]]\nname = \"t1\"\n[target.unit]\nlun = 0", 3),
+        (
+            "listen = \"a\"\n[[target]]\nname = \"t1\"\n[target.unit]\nlun = 0",
+            3,
+        ),
         ("listen = \"a\"\n[[target]]\nname = \"t1\"\nunit = []", 6),
-        ("listen = \"a\"\n[[target]]\nname = \"t1\"\nunit = []\n[[target]]\nname = \"t1\"\nunit = []", 5),
-        ("listen = \"a\"\n[[target]]\nname = \"t1\"\nunit = []\n[[target]]\nname = \"t2\"", 3),
+        (
+            "listen = \"a\"\n[[target]]\nname = \"t1\"\nunit = []\n[[target]]\nname = \"t1\"\nunit = []",
+            5,
+        ),
+        (
+            "listen = \"a\"\n[[target]]\nname = \"t1\"\nunit = []\n[[target]]\nname = \"t2\"",
+            3,
+        ),
         ("listen = 1\ntarget = [", 2),
-        ("listen = \"a\"\ntarget = [{ name = \"t\", unit = [{ lun = 0, kind = \"disk\", serial = \"D\", blocks = 1 }] }]", 0),
+        (
+            "listen = \"a\"\ntarget = [{ name = \"t\", unit = [{ lun = 0, kind = \"disk\", serial = \"D\", blocks = 1 }] }]",
+            0,
+        ),
     ];
     for (text, number) in documents {
         assert_eq!(rt; fault_number(rt.alloc(), text), number, "{text}");
@@ -214,7 +334,12 @@ fn xs(alloc: Global, count: usize) -> Result<String, AllocError> {
 
 #[test]
 fn the_longest_texts(rt: HostRuntime) -> Result<(), Fail> {
-    let longest = [("127.0.0.1:3260", 253, 0), ("127.0.0.1:3260", 254, 4), ("t1", 223, 0), ("t1", 224, 4)];
+    let longest = [
+        ("127.0.0.1:3260", 253, 0),
+        ("127.0.0.1:3260", 254, 4),
+        ("t1", 223, 0),
+        ("t1", 224, 4),
+    ];
     for (old, count, number) in longest {
         let long = xs(rt.alloc(), count)?;
         let text = with(rt.alloc(), EXAMPLE, old, long.as_str())?;
@@ -234,11 +359,17 @@ fn the_most_targets_and_units(rt: HostRuntime) -> Result<(), Fail> {
                 text.push_str("unit = []\n")?;
             }
             for lun in 0..units {
-                let unit = format!(in rt.alloc(); "[[target.unit]]\nlun = {lun}\nkind = \"disk\"\nserial = \"D\"\nblocks = 1\n")?;
+                let unit = format!(in rt.alloc();
+                    "[[target.unit]]\nlun = {lun}\nkind = \"disk\"\nserial = \"D\"\nblocks = 1\n"
+                )?;
                 text.push_str(unit.as_str())?;
             }
         }
-        assert_eq!(rt; fault_number(rt.alloc(), text.as_str()), number, "{targets}, {units}");
+        assert_eq!(rt;
+            fault_number(rt.alloc(), text.as_str()),
+            number,
+            "{targets}, {units}"
+        );
     }
     Ok(())
 }

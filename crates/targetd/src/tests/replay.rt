@@ -15,6 +15,7 @@ const LOGIN: &str = "\
 438700000000001e800000000001000000000001000100000000007b00000000\
 00000000000000000000000000000000496e69746961746f724e616d653d6100\
 5461726765744e616d653d7431000000";
+
 const LOGGED_IN: &str = "\
 238700000000003780000000000100010000000100000000000000000000007b\
 0000009a000000000000000000000000546172676574506f7274616c47726f75\
@@ -25,6 +26,7 @@ const LOGGED_IN: &str = "\
 const FIRST: &str = "\
 0181000000000000000000000000000000000002000000000000007b00000001\
 00000000000000000000000000000000";
+
 const ATTENTION: &str = "\
 218000020000001400000000000000000000000200000000000000010000007c\
 0000009b0000000000000000000000000012700006000000000a000000002900\
@@ -34,6 +36,7 @@ const ATTENTION: &str = "\
 const SECOND: &str = "\
 0181000000000000000000000000000000000003000000000000007c00000002\
 00000000000000000000000000000000";
+
 const GOOD: &str = "\
 218000000000000000000000000000000000000300000000000000020000007d\
 0000009c000000000000000000000000";
@@ -43,12 +46,15 @@ const OTHER_TARGET: &str = "\
 438700000000001e800000000001000000000001000100000000007b00000000\
 00000000000000000000000000000000496e69746961746f724e616d653d6100\
 5461726765744e616d653d7439000000";
+
 const NOT_FOUND: &str = "\
 230000000000000080000000000100000000000100000000000000000000007b\
 0000009a020300000000000000000000";
+
 const NO_TARGET: &str = "\
 4387000000000010800000000001000000000001000100000000007b00000000\
 00000000000000000000000000000000496e69746961746f724e616d653d6100";
+
 const MISSING_PARAMETER: &str = "\
 230000000000000080000000000100000000000100000000000000000000007b\
 0000009a020700000000000000000000";
@@ -147,15 +153,25 @@ fn the_example_in_pieces_of_each_size(rt: HostRuntime) -> Result<(), Fail> {
     let input = worked(rt.alloc())?;
     let wanted = answered(rt.alloc())?;
     for size in [1, 2, 3, 7, 64, 100, 4096, 5000] {
-        let reader = Pieces { rest: input.as_bytes(), size, fails: false };
+        let reader = Pieces {
+            rest: input.as_bytes(),
+            size,
+            fails: false,
+        };
         let mut out = Vec::new(rt.alloc());
         let ended = replay(rt.alloc(), example(rt.alloc())?, reader, &mut out);
         assert_eq!(rt; ended, Ok(()), "{size}");
         assert_eq!(rt; out.as_slice(), wanted.as_bytes(), "{size}");
     }
-    let reader = Interrupted { rest: input.as_bytes(), is_ready: false };
+    let reader = Interrupted {
+        rest: input.as_bytes(),
+        is_ready: false,
+    };
     let mut out = Vec::new(rt.alloc());
-    assert_eq!(rt; replay(rt.alloc(), example(rt.alloc())?, reader, &mut out), Ok(()));
+    assert_eq!(rt;
+        replay(rt.alloc(), example(rt.alloc())?, reader, &mut out),
+        Ok(())
+    );
     assert_eq!(rt; out.as_slice(), wanted.as_bytes());
     Ok(())
 }
@@ -190,7 +206,9 @@ fn refused_logins_are_closed(rt: HostRuntime) -> Result<(), Fail> {
     let alloc = rt.alloc();
     for (request, answer) in [(OTHER_TARGET, NOT_FOUND), (NO_TARGET, MISSING_PARAMETER)] {
         // Connection 63 is closed, so it is gone, and may be opened again.
-        let input = format!(in alloc; "open 63\nbytes 63 {request}\nopen 63\nbytes 63 {LOGIN}\ngone 63\nopen 5\n")?;
+        let input = format!(in alloc;
+            "open 63\nbytes 63 {request}\nopen 63\nbytes 63 {LOGIN}\ngone 63\nopen 5\n"
+        )?;
         let wanted = format!(in alloc; "63 {answer}\n63 closed\n63 ")?;
         let (out, ended) = printed(alloc, input.as_bytes())?;
         assert_eq!(rt; ended, Ok(()));
@@ -246,7 +264,12 @@ fn lines_that_are_refused(rt: HostRuntime) -> Result<(), Fail> {
 
 #[test]
 fn no_input_and_no_line(rt: HostRuntime) -> Result<(), Fail> {
-    for input in [b"".as_slice(), b"open 0", b"open 0\nbytes 0 ", b"open 0\ngone 0\n"] {
+    for input in [
+        b"".as_slice(),
+        b"open 0",
+        b"open 0\nbytes 0 ",
+        b"open 0\ngone 0\n",
+    ] {
         let (out, ended) = printed(rt.alloc(), input)?;
         assert_eq!(rt; ended, Ok(()), "{input:?}");
         assert!(rt; out.is_empty(), "{input:?}");
@@ -271,7 +294,11 @@ fn a_reader_that_fails(rt: HostRuntime) -> Result<(), Fail> {
     let input = format!(in alloc; "open 0\nbytes 0 {LOGIN}\nopen")?;
     let wanted = format!(in alloc; "0 {LOGGED_IN}\n")?;
     for size in [1, 30, 4096] {
-        let reader = Pieces { rest: input.as_bytes(), size, fails: true };
+        let reader = Pieces {
+            rest: input.as_bytes(),
+            size,
+            fails: true,
+        };
         let mut out = Vec::new(alloc);
         let ended = replay(alloc, example(alloc)?, reader, &mut out);
         assert_eq!(rt; ended, Err(Fault::Stream), "{size}");
@@ -288,13 +315,19 @@ fn a_writer_that_fails(rt: HostRuntime) -> Result<(), Fail> {
     let wanted = format!(in alloc; "0 {LOGGED_IN}{ATTENTION}\n0 closed\n")?;
     for room in 0..wanted.len() {
         let mut out = Vec::new(alloc);
-        let writer = Full { out: &mut out, room };
+        let writer = Full {
+            out: &mut out,
+            room,
+        };
         let ended = replay(alloc, example(alloc)?, input.as_bytes(), writer);
         assert_eq!(rt; ended, Err(Fault::Stream), "{room}");
         assert_eq!(rt; out.as_slice(), &wanted.as_bytes()[..room], "{room}");
     }
     let mut out = Vec::new(alloc);
-    let writer = Full { out: &mut out, room: wanted.len() };
+    let writer = Full {
+        out: &mut out,
+        room: wanted.len(),
+    };
     let ended = replay(alloc, example(alloc)?, input.as_bytes(), writer);
     assert_eq!(rt; ended, Err(Fault::Refused { line: 4 }));
     Ok(())

@@ -75,7 +75,11 @@ fn refuses_other_words(rt: HostRuntime) -> Result<(), Fail> {
     ];
     for words in refused {
         let words = called_with(rt.alloc(), words)?;
-        assert_eq!(rt; mode_of(rt.alloc(), words.as_slice()), Err(Fault::Usage), "{words:?}");
+        assert_eq!(rt;
+            mode_of(rt.alloc(), words.as_slice()),
+            Err(Fault::Usage),
+            "{words:?}"
+        );
     }
     assert_eq!(rt; mode_of(rt.alloc(), &[]), Err(Fault::Usage));
     Ok(())
