@@ -1,11 +1,10 @@
 -- The values of a document, one after the other.
 use Rattle.std.proofs.Common.{◌≡◌, List, ◌++◌, Option, Some, None, is_some, option_map, ok_or, Bor, sym, ap}
-use Rattle.toml.specs.Data.{Data, Members, get_member}
-use Rattle.toml.specs.View.{view, items_view}
+use Rattle.toml.specs.Data.{Data}
+use Rattle.toml.specs.View.{view}
 use Rattle.toml.specs.declared.value.Value.{Value}
-use Rattle.toml.proofs.Views.{items_view-drop}
 use Rattle.targetd.specs.declared.config.refusal.Refusal.TheVariants.{Refused}
-use Rattle.targetd.specs.Document.{◌>>=◌, each, Gives}
+use Rattle.targetd.specs.Document.{Gives}
 
 -- the value that a look-up found, or the fault
 pub gives_member : (found : Option (Bor Value)) (read : Option Data) → option_map (λ v. view v.now) found ≡ read → Gives (λ (v : Bor Value). view v.now) (ok_or found Refused) read

@@ -1,6 +1,5 @@
 -- The connections of a target, by number.
-use Rattle.std.proofs.Common.{◌≡◌, ℕ, ◌+◌, ◌<◌, ◌≤◌, Bool, true, false, not, List, [], ◌++◌, length, take, drop, get_or, set, refl, sym, ap, ◌∙◌, rules, arith, inl, inr}
-use Rattle.std.specs.List.{list_all}
+use Rattle.std.proofs.Common.{◌≡◌, ℕ, ◌+◌, ◌<◌, Bool, true, false, not, List, ◌++◌, length, drop, set, sym, ap, ◌∙◌, inl, inr}
 use Rattle.std.proofs.lemmas.Bool.{false≢true, cases_lt}
 use Rattle.std.proofs.lemmas.List.{get_or-set_same, get_or_past, length-set, set-set, set-get_or, drop-drop, append_assoc, length-append}
 use Rattle.std.proofs.Math.Seq.{drop-append_seam}

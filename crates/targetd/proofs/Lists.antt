@@ -6,7 +6,7 @@ use Rattle.std.proofs.lemmas.List.{drop_more, length-drop}
 use Rattle.std.proofs.Math.Seq.{take-length}
 use Rattle.std.proofs.lemmas.List.Folds.{list_all-map}
 use Rattle.targetd.specs.Document.{TargetEntry}
-use Rattle.targetd.specs.Limits.{unit_entries, unit_entry, target_entries, target_entry}
+use Rattle.targetd.specs.Limits.{unit_entries, target_entries, target_entry}
 use Rattle.targetd.specs.Config.{is_distinct, luns_of, names_of}
 use Rattle.targetd.specs.declared.configuration.UnitConfiguration.{UnitConfiguration}
 use Rattle.targetd.specs.declared.configuration.TargetConfiguration.{TargetConfiguration}

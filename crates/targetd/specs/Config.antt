@@ -1,5 +1,5 @@
 -- The configuration that a TOML document describes, or the first fault that it has.
-use Rattle.std.specs.Prelude.{◌≡◌, ℕ, ℤ, pos, negsuc, List, [], ◌∷◌, map, Bool, true, not, ◌&&◌, ◌==◌, nat_eq, bytes_eq, Option, Some, None, Result, Ok, Err, if◌then◌else◌}
+use Rattle.std.specs.Prelude.{ℕ, ℤ, pos, negsuc, List, [], ◌∷◌, map, Bool, true, not, ◌&&◌, nat_eq, bytes_eq, Option, Some, None, Result, Ok, Err, if◌then◌else◌}
 use Rattle.std.specs.List.{list_all, list_any}
 use Rattle.toml.specs.Parse.{parse_document}
 use Rattle.targetd.specs.Document.{UnitEntry, TargetEntry, Document, document_of}

@@ -1,6 +1,6 @@
 -- What a configuration document says: each field that is needed is there, of its type, and in the range
 -- that belongs to it.
-use Rattle.std.specs.Prelude.{◌≡◌, ℕ, ℤ, pos, negsuc, List, [], ◌∷◌, length, map, Bool, true, not, ◌&&◌, ◌==◌, nat_lt, nat_le, codes, Option, Some, None, is_some, option_and_then, Result, Ok, Err, if◌then◌else◌, string_bytes, bytes_eq}
+use Rattle.std.specs.Prelude.{◌≡◌, ℕ, ℤ, pos, negsuc, List, [], ◌∷◌, length, map, Bool, not, ◌&&◌, ◌==◌, nat_le, codes, Option, Some, None, is_some, option_and_then, Result, Ok, Err, if◌then◌else◌, string_bytes, bytes_eq}
 use Rattle.std.specs.List.{list_any}
 use Rattle.toml.specs.Data.{Data, Items, no_items, item, Members, as_str, as_integer, as_array, as_table, get_member}
 use Rattle.targetd.specs.declared.configuration.UnitKind.{UnitKind}

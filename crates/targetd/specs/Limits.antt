@@ -1,5 +1,5 @@
 -- The limits that a configuration keeps.
-use Rattle.std.specs.Prelude.{ℕ, ℤ, pos, negsuc, List, length, map, Bool, false, not, ◌&&◌, ◌==◌, nat_lt, nat_le, Option, Some, None, if◌then◌else◌, string_bytes}
+use Rattle.std.specs.Prelude.{ℕ, ℤ, pos, negsuc, List, length, map, Bool, false, not, ◌&&◌, ◌==◌, nat_le, Option, Some, None, if◌then◌else◌, string_bytes}
 use Rattle.std.specs.List.{list_all}
 use Rattle.targetd.specs.Document.{UnitEntry, TargetEntry, Document}
 use Rattle.targetd.specs.declared.configuration.UnitConfiguration.{UnitConfiguration}

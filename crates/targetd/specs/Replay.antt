@@ -1,5 +1,5 @@
 -- What an event does to the target, where its conditions hold.
-use Rattle.std.specs.Prelude.{ℕ, Bool}
+use Rattle.std.specs.Prelude.{Bool}
 use Rattle.iscsi_target.specs.History.{Event, Open, Bytes, Gone}
 use Rattle.iscsi_target.specs.Machine.{Machine, all_free, is_open_at, opened, fed, ended}
 

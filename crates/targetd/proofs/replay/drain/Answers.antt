@@ -1,5 +1,4 @@
-use Rattle.std.proofs.Common.{◌≡◌, ◌<◌, ◌++◌, length, sym, ap, ◌∙◌}
-use Rattle.iscsi_target.specs.Machine.{link_at, sent}
+use Rattle.std.proofs.Common.{◌∙◌}
 use Rattle.targetd.proofs.Links.{sent_more, taken_more}
 use Rattle.targetd.proofs.replay.drain.Goals as goal
 
