@@ -4,10 +4,6 @@
 # Proves what it needs, builds targetd and prints a replay. A first proof takes some minutes.
 demo:
 	@command -v rt >/dev/null || { echo "make: the command rt of the Rattle kit is not on the path" >&2; exit 1; }
-	@echo "== 1 of 2: proving the six crates and building targetd (some minutes the first time)"
-	@cd crates/targetd && rt run -- replay --config data/t1.toml < stdin > out.demo 2> log.demo; \
-		status=$$?; if [ $$status -ne 0 ]; then cat log.demo >&2; rm -f out.demo log.demo; exit $$status; fi; rm -f out.demo log.demo
-	@echo "== 2 of 2: a login and two TEST UNIT READYs, each answer below what was sent"
 	@./tools/demo
 
 # The gate: every proof from nothing, the must-fail edits, the tests, and the stored run.
