@@ -113,6 +113,98 @@ fn one_piece(rt: HostRuntime) -> Result<(), Fail> {
     Ok(())
 }
 
+/// A header that names too long a data segment closes with its last byte, and nothing is sent.
+#[test]
+fn closes_at_the_48th_byte(rt: HostRuntime) -> Result<(), Fail> {
+    let alloc = rt.alloc();
+    for data_segment_length in [[0x04, 0x00, 0x01], [0xff, 0xff, 0xff]] {
+        let mut header = [0u8; 48];
+        header.copy_from_slice(REQUESTS[1]);
+        header[5..8].copy_from_slice(&data_segment_length);
+        let (front, last) = header.split_at(47);
+        let mut target = Target::new(alloc, config(alloc)?, units(alloc)?)?;
+        target.open(0)?;
+        target.feed(0, REQUESTS[0])?;
+        assert!(rt; target.is_open(0));
+        let waits = target.out(0).len();
+        target.sent(0, waits);
+        assert!(rt; target.is_open(0));
+        target.feed(0, front)?;
+        assert!(rt; target.is_open(0));
+        assert!(rt; !target.closing(0));
+        assert_eq!(rt; target.want(0), 1);
+        target.feed(0, last)?;
+        assert!(rt; target.is_open(0));
+        assert!(rt; target.closing(0));
+        assert_eq!(rt; target.want(0), 0);
+        assert!(rt; target.out(0).is_empty());
+    }
+    Ok(())
+}
+
+/// The session is cut after each byte in turn, and then the initiator is gone.
+#[test]
+fn answers_only_whole_pdus(rt: HostRuntime) -> Result<(), Fail> {
+    let alloc = rt.alloc();
+    let mut requests = Vec::new(alloc);
+    for request in REQUESTS {
+        requests.extend_from_slice(request)?;
+    }
+    for count in 0..=requests.len() {
+        let mut piece = Vec::new(alloc);
+        piece.extend_from_slice(&requests[..count])?;
+        let mut events = Vec::new(alloc);
+        events.push(Event::Open(0))?;
+        events.push(Event::Bytes(0, piece))?;
+        events.push(Event::Gone(0))?;
+        assert!(rt; well_formed(events.as_slice()));
+        let (outputs, target) = Target::run(
+            alloc,
+            config(alloc)?,
+            units(alloc)?,
+            events.as_slice(),
+        )?;
+        let answered = match count {
+            0..80 => 0,
+            80..128 => 104,
+            128..176 => 172,
+            _ => 220,
+        };
+        assert_eq!(rt; outputs.len(), 1);
+        assert_eq!(rt; outputs[0].as_slice(), &ANSWERS[..answered], "{count}");
+        assert!(rt; !target.is_open(0));
+    }
+    Ok(())
+}
+
+/// The login and three commands, each with its CmdSN, and the ExpCmdSN and MaxCmdSN of its answer.
+#[test]
+fn wraps_numbers_at_two_to_the_32(rt: HostRuntime) -> Result<(), Fail> {
+    let alloc = rt.alloc();
+    let mut target = Target::new(alloc, config(alloc)?, units(alloc)?)?;
+    target.open(0)?;
+    for (request, cmd_sn, exp_cmd_sn, max_cmd_sn) in [
+        (REQUESTS[0], 0xffff_fffe_u32, 0xffff_fffe_u32, 0x1d_u32),
+        (REQUESTS[1], 0xffff_fffe, 0xffff_ffff, 0x1e),
+        (REQUESTS[1], 0xffff_ffff, 0, 0x1f),
+        (REQUESTS[1], 0, 1, 0x20),
+    ] {
+        let mut piece = Vec::new(alloc);
+        piece.extend_from_slice(&request[..24])?;
+        piece.extend_from_slice(&cmd_sn.to_be_bytes())?;
+        piece.extend_from_slice(&request[28..])?;
+        assert!(rt; target.is_open(0));
+        target.feed(0, piece.as_slice())?;
+        assert!(rt; target.is_open(0));
+        let answer = target.out(0);
+        assert_eq!(rt; answer.get(28..32), Some(&exp_cmd_sn.to_be_bytes()[..]));
+        assert_eq!(rt; answer.get(32..36), Some(&max_cmd_sn.to_be_bytes()[..]));
+        let waits = answer.len();
+        target.sent(0, waits);
+    }
+    Ok(())
+}
+
 #[test]
 fn a_connection_opens_where_none_is_open(rt: HostRuntime) {
     assert!(rt; well_formed(&[Event::Open(63), Event::Gone(63), Event::Open(0)]));

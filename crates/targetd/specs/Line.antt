@@ -8,12 +8,6 @@ use Rattle.iscsi_target.specs.History.{Event, Open, Bytes, Gone, connections}
 use Rattle.iscsi_target.specs.declared.event.Event.{Event as CodeEvent}
 use Rattle.iscsi_target.specs.declared.event.Event.TheVariants as events
 
--- an event of the code, without where its bytes lie in memory
-abbrev pub event_view : CodeEvent → Event
-event_view (events.Open c) = Open c
-event_view (events.Bytes c piece) = Bytes c piece.items []
-event_view (events.Gone c) = Gone c
-
 -- the connection that an event of the code is on
 abbrev pub connection_in : CodeEvent → ℕ
 connection_in (events.Open c) = c

@@ -1,7 +1,8 @@
 //! A line of the input.
 
 ghost use Rattle.std.specs.Prelude.{◌≡◌, ◌<◌, IfOk, IfSome, option_map};
-ghost use Rattle.targetd.specs.Line.{event_view, connection_in, connection_of, bytes_of, event_of};
+ghost use Rattle.iscsi_target.specs.Events.{event_view};
+ghost use Rattle.targetd.specs.Line.{connection_in, connection_of, bytes_of, event_of};
 
 use hex::FromHexError;
 use iscsi_target::{Event, Memory};

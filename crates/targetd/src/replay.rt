@@ -2,7 +2,8 @@
 
 ghost use Rattle.std.specs.Prelude.{◌≡◌, ◌<◌, true, length, IfOk, if◌then◌else◌};
 ghost use Rattle.iscsi_target.specs.Machine.{link_at, is_open_at, all_free, sent};
-ghost use Rattle.targetd.specs.Line.{event_view, connection_in};
+ghost use Rattle.iscsi_target.specs.Events.{event_view};
+ghost use Rattle.targetd.specs.Line.{connection_in};
 ghost use Rattle.targetd.specs.Replay.{is_allowed, after};
 
 use crate::fault::Fault;
