@@ -1,6 +1,8 @@
 pub mod Fault
 pub mod Line
+pub mod Printed
 pub mod Replay
+pub mod Engine
 pub mod Document
 pub mod Limits
 pub mod Config

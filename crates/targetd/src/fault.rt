@@ -2,10 +2,11 @@
 
 ghost use Rattle.std.specs.Prelude.{◌≡◌};
 ghost use Rattle.targetd.specs.Fault.{status_of};
-ghost use Rattle.targetd.specs.declared.fault.Fault.TheVariants.{OutOfMemory};
+ghost use Rattle.targetd.specs.declared.fault.Fault.TheVariants.{OutOfMemory, Stream};
 
 use iscsi_target::{Memory, Starved};
 use std::alloc::{AllocError, AllocFailed};
+use std::io;
 use thiserror::Error;
 
 /// Why the run ended. Its text is its line on standard error.
@@ -73,5 +74,14 @@ impl From<Starved> for Fault {
 
     fn from(_error: Starved) -> Fault {
         Fault::OutOfMemory
+    }
+}
+
+/// Of the streams, only what is printed to passes its error on as it is.
+impl From<io::Error> for Fault {
+    ghost from_gives = { λ _ fault. fault ≡ Stream };
+
+    fn from(_error: io::Error) -> Fault {
+        Fault::Stream
     }
 }

@@ -22,8 +22,10 @@
 
 mod config;
 mod configuration;
+mod engine;
 mod fault;
 mod line;
+mod printing;
 mod replay;
 mod run;
 #[cfg(test)]

@@ -1,13 +1,18 @@
 //! The replay: events come as lines, and what the target answers is printed after each.
 
-ghost use Rattle.std.specs.Prelude.{◌≡◌, ◌<◌, true, length, IfOk, if◌then◌else◌};
-ghost use Rattle.iscsi_target.specs.Machine.{link_at, is_open_at, all_free, sent};
+ghost use Rattle.std.specs.Prelude.{◌≡◌, ℕ, ◌+◌, ◌^◌, ◌<◌, ◌≤◌, List, [], ◌∷◌, ◌++◌, true, false, length, IfOk, OnOk, IfErr, IfSome, MatchOption, option_map, string_bytes, if◌then◌else◌};
+ghost use Rattle.std.specs.Io.KnownBytes.{Appends, Keeps};
+ghost use Rattle.iscsi_target.specs.Machine.{all_free};
 ghost use Rattle.iscsi_target.specs.Events.{event_view};
 ghost use Rattle.targetd.specs.Line.{connection_in};
-ghost use Rattle.targetd.specs.Replay.{is_allowed, after};
+ghost use Rattle.targetd.specs.declared.fault.Fault.TheVariants.{OutOfMemory, Stream};
+ghost use Rattle.targetd.specs.Replay.{is_allowed, after, event_in, reply, finished, replayed};
+ghost use Rattle.targetd.specs.Engine.{Takes, Refuses, EndsRefused, IfRefused, progress_at};
 
+use crate::engine::Engine;
 use crate::fault::Fault;
 use crate::line::{CONNECTIONS, line};
+use crate::printing::print;
 use iscsi_target::{Event, Memory, Starved, Target};
 use std::alloc::Global;
 use std::io::{ErrorKind, Read, Write};
@@ -15,26 +20,6 @@ use std::str;
 
 /// Input that has no end after so many reads is a fault.
 const MOST_READS: u64 = 4_294_967_296;
-
-/// Takes all that waits on a connection, which is then sent.
-fn drain(alloc: Global, target: &mut Target, c: usize) -> Result<Vec<u8>, Memory>
-    requires in_range { c < 64 }
-    requires open { is_open_at target.old c ≡ true }
-    ensures bytes { IfOk result (λ bytes. bytes.items ≡ (link_at target.old c).waiting) }
-    ensures sent { IfOk result (λ bytes. target.new ≡ sent target.old c (length bytes.items)) }
-    ensures connections { length target.new.links ≡ length target.old.links }
-{
-    let mut bytes = Vec::new(alloc);
-    loop {
-        let piece = target.out(c);
-        if piece.is_empty() {
-            return Ok(bytes);
-        }
-        bytes.extend_from_slice(piece)?;
-        let count = piece.len();
-        target.sent(c, count);
-    }
-}
 
 /// No connection is open.
 fn is_idle(target: &Target) -> bool
@@ -80,123 +65,125 @@ fn act(target: &mut Target, event: &Event) -> Result<bool, Starved>
     Ok(true)
 }
 
-/// The target, and where its answers are printed.
-#[derive(Drop)]
-struct Printer<W: Write + Drop> {
-    alloc: Global,
-    target: Target,
-    writer: W,
-    ghost connections: { length target.links ≡ 64 },
-}
-
-impl<W: Write + Drop> Printer<W> {
-    /// Prints what waits on an open connection, and lets it go where it is closing.
-    fn print_connection(&mut self, c: usize) -> Result<(), Fault>
-        requires in_range { c < 64 }
-        requires open { is_open_at self.old.target c ≡ true }
-    {
-        let bytes = drain(self.alloc, &mut self.target, c)?;
-        if !bytes.is_empty() {
-            let digits = hex::encode(self.alloc, bytes)?;
-            writeln!(self.writer, "{c} {digits}").map_err(|_| Fault::Stream)?;
-        }
-        if self.target.closing(c) {
-            writeln!(self.writer, "{c} closed").map_err(|_| Fault::Stream)?;
-            self.target.gone(c);
-        }
-        Ok(())
-    }
-
-    /// Prints what has come of a line.
-    fn print(&mut self) -> Result<(), Fault> {
-        for c in 0..CONNECTIONS {
-            if self.target.is_open(c) {
-                self.print_connection(c)?;
-            }
-        }
-        self.writer.flush().map_err(|_| Fault::Stream)
-    }
-
-    /// Carries out a line of this number, given without its newline.
-    fn carry_out(&mut self, number: u64, bytes: &[u8]) -> Result<(), Fault> {
-        let refused = Fault::Refused { line: number };
-        let text = str::from_utf8(bytes).map_err(|_| refused)?;
-        let event = line(self.alloc, text)?.ok_or(refused)?;
-        if !act(&mut self.target, &event)? {
-            return Err(refused);
-        }
-        self.print()
+/// The event of a line, given without its newline, or `None` where it is of another form.
+fn event(alloc: Global, bytes: &[u8]) -> Result<Option<Event>, Memory>
+    ensures event { IfOk result (λ event. option_map event_view event ≡ event_in bytes.now) }
+    ensures in_range { IfOk result (λ event. IfSome event (λ e. connection_in e < 64)) }
+{
+    match str::from_utf8(bytes) {
+        Ok(text) => line(alloc, text),
+        Err(_) => Ok(None),
     }
 }
 
-/// Bytes cut into lines.
-#[derive(Drop)]
-struct Lines<W: Write + Drop> {
-    printer: Printer<W>,
-    /// The line that has not ended yet.
-    pending: Vec<u8>,
-    /// The number of the line before it.
-    number: u64,
+/// Carries out a line, given without its newline, and gives what is then printed: `None` where the
+/// line is of another form or breaks a condition.
+fn carry_out(alloc: Global, target: &mut Target, bytes: &[u8]) -> Result<Option<String>, Fault>
+    requires connections { length target.old.links ≡ 64 }
+    ensures reply { IfOk result (λ text. MatchOption text (reply target.old bytes.now ≡ None) (λ text. reply target.old bytes.now ≡ Some (string_bytes text, target.new))) }
+    ensures memory { IfErr result (λ fault. fault ≡ OutOfMemory) }
+    ensures connections { length target.new.links ≡ 64 }
+{
+    let Some(event) = event(alloc, bytes)? else {
+        return Ok(None);
+    };
+    if !act(target, &event)? {
+        return Ok(None);
+    }
+    Ok(Some(print(alloc, target)?))
 }
 
-impl<W: Write + Drop> Lines<W> {
+/// Writes the whole text.
+fn print_all<W: Write>(text: &[u8], writer: &mut W) -> Result<(), Fault>
+    ensures text { OnOk result (Appends (W.contents writer.old) (W.contents writer.new) text.now) }
+    ensures fault { IfErr result (λ fault. fault ≡ Stream) }
+{
+    writer.write_all(text)?;
+    writer.flush()?;
+    Ok(())
+}
+
+impl Engine {
     /// The pending line has ended.
-    fn end_line(&mut self) -> Result<(), Fault> {
-        self.number = self.number.saturating_add(1);
-        self.printer
-            .carry_out(self.number, self.pending.as_slice())?;
+    fn end_line<W: Write>(&mut self, writer: &mut W) -> Result<(), Fault>
+        requires counts { self.old.number + 1 < 2 ^ 64 }
+        ensures reply { OnOk result ((text : List ℕ) × (reply self.old.target self.old.pending.items ≡ Some (text, self.new.target)) × Appends (W.contents writer.old) (W.contents writer.new) text) }
+        ensures pending { OnOk result (self.new.pending.items ≡ []) }
+        ensures number { OnOk result (self.new.number ≡ self.old.number + 1) }
+        ensures refused { IfErr result (λ fault. IfRefused fault (λ line. (reply self.old.target self.old.pending.items ≡ None) × (line ≡ self.old.number + 1) × Keeps (W.contents writer.old) (W.contents writer.new))) }
+    {
+        self.number += 1;
+        let Some(text) = carry_out(self.alloc, &mut self.target, self.pending.as_slice())? else {
+            return Err(Fault::Refused { line: self.number });
+        };
         self.pending.clear();
+        print_all(text.as_bytes(), writer)
+    }
+
+    /// The next byte of the input.
+    fn take_byte<W: Write>(&mut self, byte: u8, writer: &mut W) -> Result<(), Fault>
+        requires counts { self.old.number + 1 < 2 ^ 64 }
+        ensures takes { OnOk result ((text : List ℕ) × Appends (W.contents writer.old) (W.contents writer.new) text × Takes self.old (byte ∷ []) self.new text) }
+        ensures number { OnOk result (self.new.number ≤ self.old.number + 1) }
+        ensures refused { IfErr result (λ fault. IfRefused fault (λ line. Keeps (W.contents writer.old) (W.contents writer.new) × Refuses self.old (byte ∷ []) [] line)) }
+    {
+        if byte == b'\n' {
+            return self.end_line(writer);
+        }
+        self.pending.push(byte)?;
         Ok(())
     }
 
     /// The next bytes of the input.
-    fn take(&mut self, piece: &[u8]) -> Result<(), Fault> {
-        for part in piece.split_inclusive(|byte| *byte == b'\n') {
-            match part {
-                [front @ .., b'\n'] => {
-                    self.pending.extend_from_slice(front)?;
-                    self.end_line()?;
-                }
-                _ => self.pending.extend_from_slice(part)?,
-            }
+    fn take<W: Write>(&mut self, piece: &[u8], writer: &mut W) -> Result<(), Fault>
+        requires counts { self.old.number + length piece.now < 2 ^ 64 }
+        ensures takes { OnOk result ((text : List ℕ) × Appends (W.contents writer.old) (W.contents writer.new) text × Takes self.old piece.now self.new text) }
+        ensures number { OnOk result (self.new.number ≤ self.old.number + length piece.now) }
+        ensures refused { IfErr result (λ fault. IfRefused fault (λ line. (text : List ℕ) × Appends (W.contents writer.old) (W.contents writer.new) text × Refuses self.old piece.now text line)) }
+    {
+        for byte in piece {
+            self.take_byte(*byte, writer)?;
         }
         Ok(())
     }
 
     /// The input has ended. Its last line may lack its newline.
-    fn end(mut self) -> Result<(), Fault> {
+    fn end<W: Write>(&mut self, writer: &mut W) -> Result<(), Fault>
+        requires counts { self.old.number + 1 < 2 ^ 64 }
+        ensures done { OnOk result ((text : List ℕ) × Appends (W.contents writer.old) (W.contents writer.new) text × ((before : List ℕ) → finished (progress_at self.old before) self.old.pending.items ≡ progress_at self.new (before ++ text))) }
+        ensures refused { IfErr result (λ fault. IfRefused fault (λ line. Keeps (W.contents writer.old) (W.contents writer.new) × ((before : List ℕ) → EndsRefused (finished (progress_at self.old before) self.old.pending.items) before line))) }
+    {
         if self.pending.is_empty() {
             return Ok(());
         }
-        self.end_line()
+        self.end_line(writer)
     }
 }
 
 /// Carries out the events of `reader`, one a line, and prints to `writer` what the target answers
 /// after each: for each connection in rising order `C HEX` where bytes wait, which are then sent,
 /// and `C closed` where it is closing, which is then gone. What was printed before a fault stays.
-pub fn replay<R: Read + Drop, W: Write + Drop>(
+pub fn replay<R: Read, W: Write>(
     alloc: Global,
     target: Target,
-    mut reader: R,
-    writer: W,
+    reader: &mut R,
+    writer: &mut W,
 ) -> Result<(), Fault>
     requires { length target.links ≡ 64 }
+    ensures done { OnOk result (IfSome (R.remaining reader.old) (λ input. ((replayed target input).refused ≡ false) × Appends (W.contents writer.old) (W.contents writer.new) (replayed target input).text)) }
+    ensures refused { IfErr result (λ fault. IfRefused fault (λ line. IfSome (R.remaining reader.old) (λ input. (text : List ℕ) × Appends (W.contents writer.old) (W.contents writer.new) text × EndsRefused (replayed target input) text line))) }
 {
-    let mut lines = Lines {
-        printer: Printer {
-            alloc,
-            target,
-            writer,
-        },
+    let mut engine = Engine {
+        alloc,
+        target,
         pending: Vec::new(alloc),
         number: 0,
     };
     let mut chunk = [0u8; 4096];
     for _ in 0..MOST_READS {
         match reader.read(&mut chunk) {
-            Ok(0) => return lines.end(),
-            Ok(count) => lines.take(&chunk[..count])?,
+            Ok(0) => return engine.end(writer),
+            Ok(count) => engine.take(&chunk[..count], writer)?,
             Err(error) if error.kind() == ErrorKind::Interrupted => {}
             Err(_) => return Err(Fault::Stream),
         }

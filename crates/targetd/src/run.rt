@@ -43,5 +43,5 @@ pub fn run(rt: &(impl Env + Files + Input + Print + AllocGlobal)) -> Result<(), 
     let configuration = load(rt, config)?;
     let units = configuration.units(rt.alloc())?;
     let target = Target::new(rt.alloc(), configuration.into_config(rt.alloc())?, units)?;
-    replay(rt.alloc(), target, rt.reader(), io::writer(rt))
+    replay(rt.alloc(), target, &mut rt.reader(), &mut io::writer(rt))
 }

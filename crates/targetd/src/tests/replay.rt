@@ -132,9 +132,9 @@ impl Write for Full<'_> {
 }
 
 /// What is printed for an input that comes in one piece, and how the replay ends.
-fn printed(alloc: Global, input: &[u8]) -> Result<(Vec<u8>, Result<(), Fault>), Fail> {
+fn printed(alloc: Global, mut input: &[u8]) -> Result<(Vec<u8>, Result<(), Fault>), Fail> {
     let mut out = Vec::new(alloc);
-    let ended = replay(alloc, example(alloc)?, input, &mut out);
+    let ended = replay(alloc, example(alloc)?, &mut input, &mut out);
     Ok((out, ended))
 }
 
@@ -153,23 +153,23 @@ fn the_example_in_pieces_of_each_size(rt: HostRuntime) -> Result<(), Fail> {
     let input = worked(rt.alloc())?;
     let wanted = answered(rt.alloc())?;
     for size in [1, 2, 3, 7, 64, 100, 4096, 5000] {
-        let reader = Pieces {
+        let mut reader = Pieces {
             rest: input.as_bytes(),
             size,
             fails: false,
         };
         let mut out = Vec::new(rt.alloc());
-        let ended = replay(rt.alloc(), example(rt.alloc())?, reader, &mut out);
+        let ended = replay(rt.alloc(), example(rt.alloc())?, &mut reader, &mut out);
         assert_eq!(rt; ended, Ok(()), "{size}");
         assert_eq!(rt; out.as_slice(), wanted.as_bytes(), "{size}");
     }
-    let reader = Interrupted {
+    let mut reader = Interrupted {
         rest: input.as_bytes(),
         is_ready: false,
     };
     let mut out = Vec::new(rt.alloc());
     assert_eq!(rt;
-        replay(rt.alloc(), example(rt.alloc())?, reader, &mut out),
+        replay(rt.alloc(), example(rt.alloc())?, &mut reader, &mut out),
         Ok(())
     );
     assert_eq!(rt; out.as_slice(), wanted.as_bytes());
@@ -294,13 +294,13 @@ fn a_reader_that_fails(rt: HostRuntime) -> Result<(), Fail> {
     let input = format!(in alloc; "open 0\nbytes 0 {LOGIN}\nopen")?;
     let wanted = format!(in alloc; "0 {LOGGED_IN}\n")?;
     for size in [1, 30, 4096] {
-        let reader = Pieces {
+        let mut reader = Pieces {
             rest: input.as_bytes(),
             size,
             fails: true,
         };
         let mut out = Vec::new(alloc);
-        let ended = replay(alloc, example(alloc)?, reader, &mut out);
+        let ended = replay(alloc, example(alloc)?, &mut reader, &mut out);
         assert_eq!(rt; ended, Err(Fault::Stream), "{size}");
         assert_eq!(rt; out.as_slice(), wanted.as_bytes(), "{size}");
     }
@@ -315,20 +315,20 @@ fn a_writer_that_fails(rt: HostRuntime) -> Result<(), Fail> {
     let wanted = format!(in alloc; "0 {LOGGED_IN}{ATTENTION}\n0 closed\n")?;
     for room in 0..wanted.len() {
         let mut out = Vec::new(alloc);
-        let writer = Full {
+        let mut writer = Full {
             out: &mut out,
             room,
         };
-        let ended = replay(alloc, example(alloc)?, input.as_bytes(), writer);
+        let ended = replay(alloc, example(alloc)?, &mut input.as_bytes(), &mut writer);
         assert_eq!(rt; ended, Err(Fault::Stream), "{room}");
         assert_eq!(rt; out.as_slice(), &wanted.as_bytes()[..room], "{room}");
     }
     let mut out = Vec::new(alloc);
-    let writer = Full {
+    let mut writer = Full {
         out: &mut out,
         room: wanted.len(),
     };
-    let ended = replay(alloc, example(alloc)?, input.as_bytes(), writer);
+    let ended = replay(alloc, example(alloc)?, &mut input.as_bytes(), &mut writer);
     assert_eq!(rt; ended, Err(Fault::Refused { line: 4 }));
     Ok(())
 }

@@ -1,6 +1,6 @@
 use Rattle.std.proofs.Common.{◌∙◌}
 use Rattle.targetd.proofs.Links.{sent_more, taken_more}
-use Rattle.targetd.proofs.replay.drain.Goals as goal
+use Rattle.targetd.proofs.printing.drain.Goals as goal
 
 pub loop-piece-preserved : goal.loop-piece-preserved
 loop-piece-preserved c =

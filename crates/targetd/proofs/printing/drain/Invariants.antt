@@ -1,6 +1,6 @@
 use Rattle.std.proofs.Common.{◌≡◌, ◌<◌, ◌++◌, length}
 use Rattle.iscsi_target.specs.Machine.{link_at, sent}
-use Rattle.targetd.proofs.replay.drain.Given as goal
+use Rattle.targetd.proofs.printing.drain.Given as goal
 
 -- what was taken, and then what waits, is what waited at first
 abbrev pub invariant-loop-piece : goal.invariant-loop-piece
