@@ -10,7 +10,7 @@ demo:
 test:
 	@command -v rt >/dev/null || { echo "make: the command rt of the Rattle kit is not on the path" >&2; exit 1; }
 	@echo "== rt ci: every proof from nothing, the wrong bodies, the tests, and the stored run of targetd"
-	@echo "== (about half an hour on four processors; a line comes as each crate ends)"
+	@echo "== (about an hour; a line comes as each crate ends)"
 	rt ci
 
 clean:
