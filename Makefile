@@ -1,18 +1,28 @@
-# Pitsagul: two commands do everything on a machine with the Rattle kit.
-.PHONY: demo test clean
+# Pitsagul: each target works from a fresh clone on a machine with the Rattle kit (the command rt).
+.PHONY: demo demo-unproved demo-proved build test clean
 
-# Proves what it needs, builds targetd and prints a replay. A first proof takes some minutes.
-demo:
-	@command -v rt >/dev/null || { echo "make: the command rt of the Rattle kit is not on the path" >&2; exit 1; }
-	@./tools/demo
+# Which demo `make demo` is: unproved takes about a minute, proved proves every crate first.
+DEMO = unproved
 
-# The gate: every proof from nothing, the must-fail edits, the tests, and the stored run.
+demo: demo-$(DEMO)
+
+demo-unproved:
+	@echo "== targetd is built here without its proofs, in about a minute; 'make build' proves it"
+	@./tools/demo rt try --
+
+demo-proved: build
+	@echo "== a login and two TEST UNIT READYs on the proved targetd"
+	@./tools/demo out/targetd
+
+# Proves every crate, builds targetd and leaves it at crates/targetd/out/targetd.
+build:
+	@echo "== proving the crates and building targetd (some minutes the first time)"
+	@./tools/build
+
+# The gate: the proofs, the wrong bodies, the cases, failing calls, the pages. About an hour.
 test:
-	@command -v rt >/dev/null || { echo "make: the command rt of the Rattle kit is not on the path" >&2; exit 1; }
-	@echo "== rt ci: every proof from nothing, the wrong bodies, the tests, and the stored run of targetd"
-	@echo "== (about an hour; a line comes as each crate ends)"
-	rt ci
+	@./tools/test
 
 clean:
 	@echo "== removing what was built"
-	rm -rf crates/*/out
+	rm -rf crates/*/out tools/out tools/__pycache__

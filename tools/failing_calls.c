@@ -1,0 +1,112 @@
+/* Makes calls of the C library fail in the program that this is loaded into (LD_PRELOAD).
+ *
+ *   FAIL_CALL    allocation, input (read of descriptor 0), file (read of another) or output (write to 1)
+ *   FAIL_NUMBER  which call of these fails, counted from 1 since the program's own start
+ *   FAIL_ON      1: all calls behind it fail too
+ *   FAIL_ERROR   errno of the failed call; 0: it reads or writes no byte and is no error
+ *   FAIL_PIECE   the most bytes that a read of descriptor 0 or a write to descriptor 1 moves
+ *   FAIL_REPORT  the descriptor that is told `failed` for each call that failed
+ */
+#include <errno.h>
+#include <stddef.h>
+#include <stdlib.h>
+#include <string.h>
+#include <sys/syscall.h>
+#include <sys/types.h>
+#include <unistd.h>
+
+extern void *__libc_malloc(size_t);
+extern void *__libc_calloc(size_t, size_t);
+extern void *__libc_realloc(void *, size_t);
+extern void *__libc_memalign(size_t, size_t);
+
+static const char *which;
+static long number, every_one, error, piece, report, calls;
+
+static long setting(const char *name)
+{
+    const char *value = getenv(name);
+    return value ? strtol(value, NULL, 10) : 0;
+}
+
+/* Runs before main. What the C library allocated until then is not counted. */
+__attribute__((constructor)) static void read_settings(void)
+{
+    number = setting("FAIL_NUMBER");
+    every_one = setting("FAIL_ON");
+    error = setting("FAIL_ERROR");
+    piece = setting("FAIL_PIECE");
+    report = setting("FAIL_REPORT");
+    which = getenv("FAIL_CALL");
+}
+
+/* Counts a call, and says whether it is to fail. */
+static int fails(const char *call)
+{
+    if (!which || strcmp(call, which))
+        return 0;
+    calls++;
+    if (calls != number && !(every_one && calls > number))
+        return 0;
+    if (report)
+        syscall(SYS_write, report, "failed\n", 7);
+    errno = error;
+    return 1;
+}
+
+void *malloc(size_t size)
+{
+    return fails("allocation") ? NULL : __libc_malloc(size);
+}
+
+void *calloc(size_t count, size_t size)
+{
+    return fails("allocation") ? NULL : __libc_calloc(count, size);
+}
+
+void *realloc(void *old, size_t size)
+{
+    return fails("allocation") ? NULL : __libc_realloc(old, size);
+}
+
+void *memalign(size_t alignment, size_t size)
+{
+    return fails("allocation") ? NULL : __libc_memalign(alignment, size);
+}
+
+void *aligned_alloc(size_t alignment, size_t size)
+{
+    return memalign(alignment, size);
+}
+
+int posix_memalign(void **out, size_t alignment, size_t size)
+{
+    void *made = memalign(alignment, size);
+    if (made)
+        *out = made;
+    return made ? 0 : ENOMEM;
+}
+
+static size_t at_most(size_t count)
+{
+    return piece && (size_t)piece < count ? (size_t)piece : count;
+}
+
+ssize_t read(int descriptor, void *out, size_t count)
+{
+    if (fails(descriptor == 0 ? "input" : "file"))
+        return error ? -1 : 0;
+    return syscall(SYS_read, descriptor, out, descriptor == 0 ? at_most(count) : count);
+}
+
+ssize_t write(int descriptor, const void *bytes, size_t count)
+{
+    if (descriptor == 1 && fails("output"))
+        return error ? -1 : 0;
+    return syscall(SYS_write, descriptor, bytes, descriptor == 1 ? at_most(count) : count);
+}
+
+ssize_t __write(int descriptor, const void *bytes, size_t count)
+{
+    return write(descriptor, bytes, count);
+}
