@@ -4,7 +4,8 @@ use Rattle.std.proofs.lemmas.Bool.{cases_Bool}
 use Rattle.std.proofs.lemmas.List.{take-append-le, drop-append-le, take-append-drop, take_at, drop_at, get_or-take, get_or_append_left, length-take-le, nil_from_length}
 use Rattle.std.proofs.Math.Seq.{take-add}
 use Rattle.iscsi_pdu.specs.Header.{header_length, additional_length, data_length}
-use Rattle.iscsi_pdu.specs.Frames.{Frame, padded, has_frame, frame_length, first_frame, frames, rest, Spells, AreSpelled}
+use Rattle.iscsi_pdu.specs.Segment.{padded}
+use Rattle.iscsi_pdu.specs.Frames.{Frame, has_frame, frame_length, first_frame, frames, rest, Spells, AreSpelled}
 use Rattle.iscsi_pdu.specs.Laws.{IsCut, LongIsNoFrame, LongStays, FramesInPieces, RestInPieces, FramesAreCut, OnlyFrames, OnlyRest}
 use Rattle.iscsi_pdu.proofs.Frames.{has_frame-true, has_frame-from, is_long-true, is_long-from, no_frame, drop_shorter, frames_step, rest_step, frames_none, rest_none}
 

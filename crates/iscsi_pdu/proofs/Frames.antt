@@ -3,7 +3,8 @@ use Rattle.std.proofs.Common.{◌≡◌, ℕ, zero, suc, ◌<◌, ◌≤◌, tru
 use Rattle.std.proofs.lemmas.Bool.{leb-true, ltb-true, le-leb, lt-ltb, and_parts, and_from, cases_Bool}
 use Rattle.std.proofs.lemmas.List.{nil_from_length}
 use Rattle.iscsi_pdu.specs.Header.{header_length, data_length}
-use Rattle.iscsi_pdu.specs.Frames.{Frame, most_data, is_long, has_frame, frame_length, first_frame, frames_within, frames, rest_within, rest}
+use Rattle.iscsi_pdu.specs.Segment.{most_data}
+use Rattle.iscsi_pdu.specs.Frames.{Frame, is_long, has_frame, frame_length, first_frame, frames_within, frames, rest_within, rest}
 
 -- what it says that bytes begin with a frame
 pub record HasFrame (bytes : List ℕ) : Type 0 where

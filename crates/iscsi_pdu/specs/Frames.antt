@@ -1,69 +1,60 @@
--- A connection's bytes as frames (RFC 7143 §11.2): header, additional header, data segment, padding.
-use Rattle.std.specs.Prelude.{◌≡◌, ℕ, zero, suc, ◌+◌, ◌-◌, ◌*◌, ◌/◌, ◌≤◌, max, List, [], ◌∷◌, ◌++◌, length, take, drop, Bool, ◌&&◌, nat_lt, nat_le, if◌then◌else◌}
-use Rattle.iscsi_pdu.specs.declared.frame.Frame as given
+-- A connection's bytes as frames (RFC 7143 §11.1 and §11.2): header, additional header, data segment, padding.
+use Rattle.std.specs.Prelude.{◌≡◌, ℕ, zero, suc, ◌+◌, ◌-◌, ◌≤◌, max, List, [], ◌∷◌, ◌++◌, length, take, drop, Bool, ◌&&◌, nat_lt, nat_le, if◌then◌else◌}
 use Rattle.iscsi_pdu.specs.Header.{header_length, additional_length, data_length}
+use Rattle.iscsi_pdu.specs.Segment.{most_data, padded}
 
--- a frame as it is judged: its header and its data segment
+-- RFC 7143 §11.2: what counts of a PDU, its header and its data segment
 pub record Frame : Type 0 where
   pub header : List ℕ
   pub body : List ℕ
 
--- a frame without where its data segment lies in memory
-abbrev pub frame_view : given.Frame → Frame
-frame_view f = record { header = f.header; body = f.body.items }
-
--- profile: the longest data segment that is taken
-abbrev pub most_data : ℕ
-most_data = 262144
-
--- n bytes and their padding to a multiple of 4
-abbrev pub padded : ℕ → ℕ
-padded n = 4 * ((n + 3) / 4)
-
--- the length that the header at the front of the bytes gives its frame
+-- RFC 7143 §11.2: the length that the header at the front of the bytes gives its frame
 unfoldable pub frame_length : List ℕ → ℕ
 frame_length bytes = header_length + additional_length bytes + padded (data_length bytes)
 
+-- a header is whole
 abbrev pub has_header : List ℕ → Bool
 has_header bytes = nat_le header_length (length bytes)
 
--- a whole header that names more data than is taken
+-- profile: a whole header that names more data than is taken
 unfoldable pub is_long : List ℕ → Bool
 is_long bytes = has_header bytes && nat_lt most_data (data_length bytes)
 
--- the bytes begin with the spelling of a frame
+-- RFC 7143 §11.2: the bytes begin with a whole frame
 unfoldable pub has_frame : List ℕ → Bool
 has_frame bytes = has_header bytes && nat_le (data_length bytes) most_data && nat_le (frame_length bytes) (length bytes)
 
--- that frame: the additional header and the pad bytes are passed over
+-- RFC 7143 §11.2: that frame; the additional header and the pad bytes are passed over
 unfoldable pub first_frame : List ℕ → Frame
 first_frame bytes = record { header = take header_length bytes; body = take (data_length bytes) (drop (header_length + additional_length bytes) bytes) }
 
--- the whole frames of a connection's bytes, in order, of which there are fewer than bytes
+-- the whole frames in front, in order: at most n
 abbrev pub frames_within : ℕ → List ℕ → List Frame
 frames_within zero bytes = []
 frames_within (suc n) bytes = if has_frame bytes then first_frame bytes ∷ frames_within n (drop (frame_length bytes) bytes) else []
 
+-- the whole frames of a connection's bytes, of which there are no more than bytes
 unfoldable pub frames : List ℕ → List Frame
 frames bytes = frames_within (length bytes) bytes
 
--- the bytes behind them, which begin with no whole frame
+-- the bytes behind them
 abbrev pub rest_within : ℕ → List ℕ → List ℕ
 rest_within zero bytes = bytes
 rest_within (suc n) bytes = if has_frame bytes then rest_within n (drop (frame_length bytes) bytes) else bytes
 
+-- the bytes behind the whole frames, which begin with none
 unfoldable pub rest : List ℕ → List ℕ
 rest bytes = rest_within (length bytes) bytes
 
--- the bytes that are missing of the header, then of its frame
+-- profile: how many bytes are missing of the header, then of its frame
 unfoldable pub missing : List ℕ → ℕ
 missing bytes = if has_header bytes then frame_length bytes - length bytes else header_length - length bytes
 
--- how many bytes to read for the header or for its frame: at least 1
+-- profile: how many bytes to read for the header or for its frame, at least 1
 abbrev pub wanted : List ℕ → ℕ
 wanted bytes = max 1 (missing bytes)
 
--- what a spelling of a frame is: the header, additional bytes and pad bytes of any value, and the data
+-- RFC 7143 §11.1 and §11.2: the bytes spell the frame, with additional bytes and pad bytes of any value
 pub record Spells (frame : Frame) (bytes : List ℕ) : Type 0 where
   pub additional : List ℕ
   pub padding : List ℕ

@@ -12,7 +12,7 @@ pub enum PduFault {
     /// 1: a header names a data segment of more than 262144 bytes.
     #[error("a data segment of more than 262144 bytes")]
     TooLong,
-    /// 2: memory ran out. The value that was called is as it was before.
+    /// 2: an allocation failed. The value that was called is as it was before.
     #[error("out of memory")]
     Memory,
 }

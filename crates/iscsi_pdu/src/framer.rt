@@ -5,17 +5,11 @@ ghost use Rattle.std.specs.Result.{IsErrOf};
 
 use crate::fault::PduFault;
 use crate::frame::Frame;
-use crate::header::Header;
-use crate::segment::padded;
+use crate::header::{HEADER_LENGTH, Header};
+use crate::segment::{MOST_DATA, padded};
 use bytes::BytesMut;
 use std::alloc::Global;
 use std::marker::Model;
-
-/// A header is this many bytes.
-const HEADER_LENGTH: usize = 48;
-
-/// The longest data segment that is taken.
-const MOST_DATA: usize = 262144;
 
 /// Cuts the bytes of one connection into frames, whatever the pieces in which they come. Clauses
 /// see it as the bytes that were fed and not yet given out.
@@ -32,7 +26,8 @@ impl Model for Framer {
 }
 
 impl Framer {
-    ghost use Rattle.iscsi_pdu.specs.Frames.{frames, rest, has_frame, is_long, first_frame, frame_length, frame_view, missing, wanted};
+    ghost use Rattle.iscsi_pdu.specs.Header.{header_length};
+    ghost use Rattle.iscsi_pdu.specs.Frames.{frames, rest, has_frame, is_long, first_frame, frame_length, missing, wanted};
 
     /// A framer with no bytes. It takes no memory.
     pub fn new(alloc: Global) -> Framer
@@ -64,11 +59,11 @@ impl Framer {
     pub fn next(&mut self) -> Result<Option<Frame>, PduFault>
         // A frame that is given is the first, and the bytes lose it.
         ensures whole { IfOk result (λ o. IfSome o (λ _. has_frame self.old ≡ true)) }
-        ensures given { IfOk result (λ o. IfSome o (λ f. first_frame self.old ≡ frame_view f)) }
+        ensures given { IfOk result (λ o. IfSome o (λ f. first_frame self.old ≡ f)) }
         ensures taken { IfOk result
             (λ o. IfSome o (λ _. self.new ≡ drop (frame_length self.old) self.old)) }
         ensures frames { IfOk result
-            (λ o. IfSome o (λ f. frames self.old ≡ frame_view f ∷ frames self.new)) }
+            (λ o. IfSome o (λ f. frames self.old ≡ f ∷ frames self.new)) }
         ensures rest { IfOk result (λ o. IfSome o (λ _. rest self.new ≡ rest self.old)) }
 
         // Nothing is given where no whole frame and no long one is in front.
@@ -118,14 +113,14 @@ impl Framer {
 
     /// The header in front, once it is whole.
     fn header(&self) -> Option<Header>
-        ensures some { IfSome result (λ h. (h ≡ take 48 self.now) × (48 ≤ length self.now)) }
-        ensures none { IfNone result (length self.now < 48) }
+        ensures some { IfSome result (λ h. (h ≡ take header_length self.now) × (header_length ≤ length self.now)) }
+        ensures none { IfNone result (length self.now < header_length) }
     {
         let bytes = self.bytes.as_slice();
         if bytes.len() < HEADER_LENGTH {
             return None;
         }
-        let mut header = [0; 48];
+        let mut header = [0; HEADER_LENGTH];
         header.copy_from_slice(&bytes[..HEADER_LENGTH]);
         Some(Header::new(header))
     }

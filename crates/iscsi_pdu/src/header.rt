@@ -1,24 +1,20 @@
-//! The 48 header bytes of a PDU (RFC 7143 §11.2.1), read as fields.
+//! The 48 header bytes of a PDU (RFC 7143 §11.2.1), and the fields that every PDU of an initiator
+//! has. RFC 7143 numbers the bits of a byte from the most significant, which is bit 0; the masks
+//! here are by value, so that bit 0 is 0x80.
 
-ghost use Rattle.std.specs.Prelude.{◌≡◌, ◌↔◌, ℕ, List, IsTrue};
+ghost use Rattle.std.specs.Prelude.{◌≡◌, ℕ, List};
 
 use byteorder::{BigEndian, ByteOrder};
 use std::marker::Model;
 
-/// I, of byte 0 of every request.
+/// The length of a header in bytes.
+pub const HEADER_LENGTH: usize = 48;
+
+/// I, in byte 0.
 const IMMEDIATE: u8 = 0x40;
 
-/// F, R and W, of byte 1 of a SCSI Command.
-const FINAL: u8 = 0x80;
-
-const READ: u8 = 0x40;
-
-const WRITE: u8 = 0x20;
-
-/// T and C, of byte 1 of a Login Request.
-const TRANSIT: u8 = 0x80;
-
-const CONTINUED: u8 = 0x40;
+/// The opcode, in byte 0.
+const OPCODE: u8 = 0x3F;
 
 /// What an initiator asks for: the opcode of its PDU (RFC 7143 §11.2.1.2).
 #[derive(Clone, Copy, Debug, PartialEq, Eq)]
@@ -47,7 +43,7 @@ pub enum Opcode {
 /// means something depends on the opcode.
 #[derive(Clone, Copy, Debug, PartialEq, Eq)]
 pub struct Header {
-    bytes: [u8; 48],
+    pub(crate) bytes: [u8; HEADER_LENGTH],
 }
 
 impl Model for Header {
@@ -59,22 +55,20 @@ impl Model for Header {
 }
 
 impl Header {
-    ghost use Rattle.iscsi_pdu.specs.Header.{opcode_of, opcode_number, is_immediate, additional_length, data_length, initiator_task_tag, lun_field, cmd_sn, is_final, is_read, is_write, expected_transfer_length, cdb, is_transit, is_continued, current_stage, next_stage, version_min, isid, tsih};
+    ghost use Rattle.iscsi_pdu.specs.Header.{opcode_of, opcode_number, is_immediate, additional_length, data_length, initiator_task_tag, lun_field, cmd_sn};
 
     /// The header with these bytes.
-    pub fn new(bytes: [u8; 48]) -> Header
+    pub fn new(bytes: [u8; HEADER_LENGTH]) -> Header
         ensures { result ≡ bytes }
     {
         Header { bytes }
     }
 
-    // ---- every PDU
-
-    /// What is asked: bits 5-0 of byte 0.
+    /// What is asked: bits 2 to 7 of byte 0.
     pub fn opcode(&self) -> Opcode
         ensures { result ≡ opcode_of (opcode_number self.now) }
     {
-        match self.bytes[0] & 0x3F {
+        match self.bytes[0] & OPCODE {
             0x00 => Opcode::NopOut,
             0x01 => Opcode::ScsiCommand,
             0x02 => Opcode::TaskManagement,
@@ -130,97 +124,5 @@ impl Header {
         ensures { result ≡ cmd_sn self.now }
     {
         BigEndian::read_u32(&self.bytes[24..])
-    }
-
-    // ---- SCSI Command (RFC 7143 §11.3)
-
-    /// The F bit: no unsolicited Data-Out follows.
-    pub fn is_final(&self) -> bool
-        ensures { result ≡ is_final self.now }
-    {
-        self.bytes[1] & FINAL == FINAL
-    }
-
-    /// The R bit: the command is expected to give data.
-    pub fn is_read(&self) -> bool
-        ensures { result ≡ is_read self.now }
-    {
-        self.bytes[1] & READ == READ
-    }
-
-    /// The W bit: the command is expected to take data.
-    pub fn is_write(&self) -> bool
-        ensures { result ≡ is_write self.now }
-    {
-        self.bytes[1] & WRITE == WRITE
-    }
-
-    /// Expected Data Transfer Length, in bytes.
-    pub fn expected_transfer_length(&self) -> u32
-        ensures { result ≡ expected_transfer_length self.now }
-    {
-        BigEndian::read_u32(&self.bytes[20..])
-    }
-
-    /// The command descriptor block: bytes 32 to 47.
-    pub fn cdb(&self) -> [u8; 16]
-        ensures { result ≡ cdb self.now }
-    {
-        let mut cdb = [0; 16];
-        cdb.copy_from_slice(&self.bytes[32..]);
-        cdb
-    }
-
-    // ---- Login Request (RFC 7143 §11.12)
-
-    /// The T bit: the initiator is ready for the next stage.
-    pub fn is_transit(&self) -> bool
-        ensures { result ≡ is_transit self.now }
-    {
-        self.bytes[1] & TRANSIT == TRANSIT
-    }
-
-    /// The C bit: the text goes on in the next request.
-    pub fn is_continued(&self) -> bool
-        ensures { result ≡ is_continued self.now }
-    {
-        self.bytes[1] & CONTINUED == CONTINUED
-    }
-
-    /// CSG, the current stage: 0 to 3.
-    pub fn current_stage(&self) -> u8
-        ensures { result ≡ current_stage self.now }
-    {
-        self.bytes[1] / 4 % 4
-    }
-
-    /// NSG, the next stage: 0 to 3.
-    pub fn next_stage(&self) -> u8
-        ensures { result ≡ next_stage self.now }
-    {
-        self.bytes[1] % 4
-    }
-
-    /// Version-min: the lowest version that the initiator speaks.
-    pub fn version_min(&self) -> u8
-        ensures { result ≡ version_min self.now }
-    {
-        self.bytes[3]
-    }
-
-    /// ISID, the initiator's part of the session identifier.
-    pub fn isid(&self) -> [u8; 6]
-        ensures { result ≡ isid self.now }
-    {
-        let mut isid = [0; 6];
-        isid.copy_from_slice(&self.bytes[8..14]);
-        isid
-    }
-
-    /// TSIH, the target's part of the session identifier: 0 for a new session.
-    pub fn tsih(&self) -> u16
-        ensures { result ≡ tsih self.now }
-    {
-        BigEndian::read_u16(&self.bytes[14..])
     }
 }

@@ -1,5 +1,5 @@
-//! The protocol data units of iSCSI (RFC 7143 §11), as a target meets them: the bytes of a
-//! connection cut into frames, the fields of a frame's header, and the spelling of each answer.
+//! The protocol data units (PDUs) of iSCSI (RFC 7143 §11), as a target meets them: the bytes of a
+//! connection cut into frames, the fields of a frame's header, and the bytes of each answer.
 //!
 //! ```text
 //!   bytes in ──> Framer::feed ──> Framer::next ──> Frame { header, body } ──> the target
@@ -13,8 +13,9 @@
 //!   ([`laws::frames_are_the_spellings`], [`laws::only_these_frames`]).
 //! - A data segment longer than 262144 bytes is refused as soon as its header has come, and not
 //!   before the frames ahead of it were given.
-//! - An answer is written whole, padding included, or the buffer keeps its bytes.
-//! - Want of memory is an error in each place, and leaves every value as it was.
+//! - An answer is written whole, padding included, or the buffer keeps its bytes. Where the buffer
+//!   has room for it, it is written, and takes exactly its length of that room.
+//! - Out of memory is an error in each place, and leaves every value as it was.
 #![tactic(auto)]
 
 mod answer;
@@ -23,12 +24,20 @@ mod frame;
 mod framer;
 mod header;
 pub mod laws;
+mod login_request;
+mod login_response;
+mod scsi_command;
+mod scsi_response;
 mod segment;
-#[cfg(test)]
-mod tests;
+mod stage;
+mod stamp;
 
-pub use answer::{Answer, LoginResponse, LoginStatus, Residual, ScsiResponse, Stamp};
+pub use answer::Answer;
 pub use fault::PduFault;
 pub use frame::Frame;
 pub use framer::Framer;
 pub use header::{Header, Opcode};
+pub use login_response::{LoginAccepted, LoginRefusal, LoginReply, LoginResponse, LoginStep};
+pub use scsi_response::{Residual, ScsiResponse};
+pub use stage::Stage;
+pub use stamp::Stamp;

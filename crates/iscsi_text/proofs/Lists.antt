@@ -1,12 +1,10 @@
 -- The text of pairs, and the value of a key, a pair at a time.
-use Rattle.std.proofs.Common.{◌≡◌, ℕ, ◌+◌, ◌<◌, cond, List, [], ◌∷◌, ◌++◌, length, map, take, drop, get_or, Some, refl, ap, ◌∙◌}
+use Rattle.std.proofs.Common.{◌≡◌, ℕ, ◌+◌, ◌<◌, cond, List, [], ◌∷◌, ◌++◌, length, take, drop, get_or, Some, refl, ap, ◌∙◌}
 use Rattle.std.specs.Prelude.{slice_get, bytes_eq}
 use Rattle.std.proofs.lemmas.List.{take_more, drop_more, append-nil}
 use Rattle.std.proofs.lemmas.List.Concat.{flat_map-append}
 use Rattle.std.proofs.lemmas.Option.{get_or_from_slice_get, slice_get_within}
-use Rattle.iscsi_text.specs.declared.list.Pair as declared
 use Rattle.iscsi_text.specs.Pairs.{Pair, spelled, text_of, value_of}
-use Rattle.iscsi_text.specs.PairView.{pair_view}
 
 -- one more pair behind a text
 pub text_more : (pairs : List Pair) (at : ℕ) (pair : Pair) → slice_get pairs at ≡ Some pair → text_of (take (at + 1) pairs) ≡ text_of (take at pairs) ++ spelled pair
@@ -15,6 +13,6 @@ text_more pairs at pair e =
     rw (take_more pairs at pair within, get_or_from_slice_get pairs at pair pair e) (flat_map-append spelled (take at pairs) (pair ∷ []) ∙ ap (λ (x : List ℕ). text_of (take at pairs) ++ x) (append-nil (spelled pair)))
 
 -- the pair at a place has the key, or the pairs behind it decide
-pub value_at : (key : List ℕ) (items : List declared.Pair) (at : ℕ) (item : declared.Pair) → at < length items → item ≡ get_or items at item
-    → value_of key (map pair_view (drop at items)) ≡ cond (bytes_eq key (pair_view item).0) (Some (pair_view item).1) (value_of key (map pair_view (drop (at + 1) items)))
+pub value_at : (key : List ℕ) (items : List Pair) (at : ℕ) (item : Pair) → at < length items → item ≡ get_or items at item
+    → value_of key (drop at items) ≡ cond (bytes_eq key item.0) (Some item.1) (value_of key (drop (at + 1) items))
 value_at key items at item lt e = rw (drop_more items at item lt, ← e) refl

@@ -1,5 +1,7 @@
-pub mod FaultNumbers
+pub mod Fault
 pub mod Pairs
 pub mod Reading
+pub mod Cut
 pub mod Laws
-pub mod PairView
+pub mod ExamplesPairs
+pub mod ExamplesCut

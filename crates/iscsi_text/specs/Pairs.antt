@@ -1,8 +1,8 @@
 -- The text format (RFC 7143 §6.1): pairs KEY=VALUE, each ended by a zero byte.
-use Rattle.std.specs.Prelude.{◌≡◌, ℕ, List, [], ◌∷◌, ◌++◌, length, map, replicate, Bool, true, false, not, ◌&&◌, nat_lt, ◌==◌, Option, Some, None, Result, Ok, Err, if◌then◌else◌, refl}
+use Rattle.std.specs.Prelude.{ℕ, List, [], ◌∷◌, ◌++◌, length, map, Bool, true, false, not, ◌&&◌, nat_lt, ◌==◌, Option, Some, None, Result, Ok, Err, if◌then◌else◌}
 use Rattle.std.specs.Option.{option_or}
 use Rattle.std.specs.List.{filter, flat_map, list_any, slice_split, before_first, after_first}
-use Rattle.std.specs.Str.{is_utf8, bytes_eq, chars}
+use Rattle.std.specs.Str.{is_utf8, bytes_eq}
 use Rattle.iscsi_text.specs.declared.fault.TextFault.{TextFault}
 use Rattle.iscsi_text.specs.declared.fault.TextFault.TheVariants as faults
 
@@ -15,22 +15,27 @@ pub record Piece : Type 0 where
   pub bytes : List ℕ
   pub ended : Bool
 
--- profile: a longer text is not read
+-- profile: the most bytes that a text may have
 abbrev pub longest_text : ℕ
 longest_text = 65536
 
--- RFC 7143 §6.1: the length of a key, and of a value
+-- RFC 7143 §6.1: the most bytes that a key may have
 abbrev pub longest_key : ℕ
 longest_key = 63
 
+-- RFC 7143 §6.1: the most bytes that a value may have
 abbrev pub longest_value : ℕ
 longest_value = 255
 
-abbrev pub is_zero : ℕ → Bool
-is_zero byte = byte == 0
+-- `=`
+abbrev pub equals_sign : ℕ
+equals_sign = 61
 
 abbrev pub is_equals : ℕ → Bool
-is_equals byte = byte == 61
+is_equals byte = byte == equals_sign
+
+abbrev pub is_zero : ℕ → Bool
+is_zero byte = byte == 0
 
 -- a zero byte ended each part but the last
 abbrev pub marked : List (List ℕ) → List Piece
@@ -41,14 +46,15 @@ marked (part ∷ next ∷ parts) = record { bytes = part; ended = true } ∷ mar
 abbrev pub is_nonempty : Piece → Bool
 is_nonempty piece = nat_lt 0 (length piece.bytes)
 
--- what stands between the zero bytes of a text; empty pieces are passed over
+-- RFC 7143 §6.1: what stands between the zero bytes of a text; profile: empty pieces are passed over
 unfoldable pub pieces : List ℕ → List Piece
 pieces text = filter is_nonempty (marked (slice_split is_zero text))
 
--- the bytes before the first `=`, and those behind it
+-- RFC 7143 §6.1: the bytes before the first `=`
 abbrev pub key_in : Piece → List ℕ
 key_in piece = before_first is_equals piece.bytes
 
+-- RFC 7143 §6.1: the bytes behind the first `=`
 abbrev pub value_in : Piece → List ℕ
 value_in piece = after_first is_equals piece.bytes
 
@@ -59,7 +65,7 @@ pair_in piece = (key_in piece, value_in piece)
 abbrev pub has_key : Piece → Bool
 has_key piece = nat_lt 0 (length (key_in piece)) && nat_lt (length (key_in piece)) (length piece.bytes)
 
--- the first fault of a piece by itself
+-- profile: the first fault of a piece by itself, in this order
 unfoldable pub own_fault : Piece → Option TextFault
 own_fault piece =
     if not piece.ended then Some faults.NotTerminated
@@ -72,11 +78,11 @@ own_fault piece =
 abbrev pub repeat_fault : List (List ℕ) → List ℕ → Option TextFault
 repeat_fault earlier key = if list_any (bytes_eq key) earlier then Some faults.KeyTwice else None
 
--- the first fault of a piece that comes after these keys
+-- the first fault of a piece that comes behind these keys
 abbrev pub fault_of : List (List ℕ) → Piece → Option TextFault
 fault_of earlier piece = option_or (own_fault piece) (repeat_fault earlier (key_in piece))
 
--- the fault of the first faulty piece
+-- profile: the fault of the first faulty piece
 abbrev pub first_fault : List (List ℕ) → List Piece → Option TextFault
 first_fault earlier [] = None
 first_fault earlier (piece ∷ later) = option_or (fault_of earlier piece) (first_fault (earlier ++ key_in piece ∷ []) later)
@@ -86,16 +92,16 @@ abbrev pub pairs_unless : Option TextFault → List Pair → Result (List Pair) 
 pairs_unless None pairs = Ok pairs
 pairs_unless (Some fault) pairs = Err fault
 
--- the pairs of a text, or what is wrong with it
+-- RFC 7143 §6.1: the pairs of a text, or what is wrong with it; profile: its length is tested first
 unfoldable pub text_pairs : List ℕ → Result (List Pair) TextFault
 text_pairs text = if nat_lt longest_text (length text) then Err faults.TooLong
     else pairs_unless (first_fault [] (pieces text)) (map pair_in (pieces text))
 
--- a pair, as a text spells it
+-- RFC 7143 §6.1: a pair, as a text spells it
 abbrev pub spelled : Pair → List ℕ
-spelled pair = pair.0 ++ 61 ∷ pair.1 ++ 0 ∷ []
+spelled pair = pair.0 ++ equals_sign ∷ pair.1 ++ 0 ∷ []
 
--- the text of pairs
+-- RFC 7143 §6.1: the text of pairs
 abbrev pub text_of : List Pair → List ℕ
 text_of pairs = flat_map spelled pairs
 
@@ -103,43 +109,3 @@ text_of pairs = flat_map spelled pairs
 abbrev pub value_of : List ℕ → List Pair → Option (List ℕ)
 value_of key [] = None
 value_of key (pair ∷ pairs) = if bytes_eq key pair.0 then Some pair.1 else value_of key pairs
-
--- `a=1`, ended
-one_pair : text_pairs (97 ∷ 61 ∷ 49 ∷ 0 ∷ []) ≡ Ok ((97 ∷ [], 49 ∷ []) ∷ [])
-unfolding text_pairs pieces own_fault is_utf8 chars lib.Utf8.encode
-one_pair = refl
-
--- `a==`: the first `=` parts
-two_equals_signs : text_pairs (97 ∷ 61 ∷ 61 ∷ 0 ∷ []) ≡ Ok ((97 ∷ [], 61 ∷ []) ∷ [])
-unfolding text_pairs pieces own_fault is_utf8 chars lib.Utf8.encode
-two_equals_signs = refl
-
--- a value may be empty
-empty_value : text_pairs (0 ∷ 97 ∷ 61 ∷ 0 ∷ 0 ∷ []) ≡ Ok ((97 ∷ [], []) ∷ [])
-unfolding text_pairs pieces own_fault is_utf8 chars lib.Utf8.encode
-empty_value = refl
-
--- `a=1` with no zero byte
-not_ended : text_pairs (97 ∷ 61 ∷ 49 ∷ []) ≡ Err faults.NotTerminated
-unfolding text_pairs pieces own_fault is_utf8 chars lib.Utf8.encode
-not_ended = refl
-
--- `=x`
-no_key : text_pairs (61 ∷ 120 ∷ 0 ∷ []) ≡ Err faults.NoKey
-unfolding text_pairs pieces own_fault is_utf8 chars lib.Utf8.encode
-no_key = refl
-
--- `a=1`, then `a=2`
-key_twice : text_pairs (97 ∷ 61 ∷ 49 ∷ 0 ∷ 97 ∷ 61 ∷ 50 ∷ 0 ∷ []) ≡ Err faults.KeyTwice
-unfolding text_pairs pieces own_fault is_utf8 chars lib.Utf8.encode
-key_twice = refl
-
--- the length is tested first
-too_long : text_pairs (replicate 65537 0) ≡ Err faults.TooLong
-unfolding text_pairs
-too_long = refl
-
--- zero bytes alone hold no pair
-no_pair : text_pairs (replicate 65536 0) ≡ Ok []
-unfolding text_pairs pieces
-no_pair = refl

@@ -2,12 +2,12 @@
 
 ghost use Rattle.std.specs.Prelude.{◌≡◌};
 ghost use Rattle.iscsi_text.specs.declared.fault.TextFault.TheVariants.{Memory};
-ghost use Rattle.iscsi_text.specs.FaultNumbers.{number_of};
+ghost use Rattle.iscsi_text.specs.Fault.{fault_number};
 
 use std::alloc::{AllocError, AllocFailed};
 use thiserror::Error;
 
-/// What is wrong with a text (RFC 7143 §6.1), or want of memory.
+/// What is wrong with a text (RFC 7143 §6.1), or out of memory.
 #[derive(Clone, Copy, Debug, PartialEq, Eq, Error)]
 pub enum TextFault {
     /// A piece has no `=`, or nothing before it.
@@ -31,7 +31,7 @@ pub enum TextFault {
     /// The text is longer than 65536 bytes.
     #[error("the text is longer than 65536 bytes")]
     TooLong,
-    /// Memory ran out.
+    /// An allocation failed.
     #[error("out of memory")]
     Memory,
 }
@@ -39,7 +39,7 @@ pub enum TextFault {
 impl TextFault {
     /// The number of the fault, 1 to 8.
     pub fn number(&self) -> u8
-        ensures { result ≡ number_of self.now }
+        ensures { result ≡ fault_number self.now }
     {
         match self {
             TextFault::NoKey => 1,

@@ -4,21 +4,25 @@
 //! InitiatorName=a\0TargetName=t1\0   (InitiatorName, a), (TargetName, t1)
 //! ```
 //!
-//! `pairs` reads exactly the pairs of a text, or the first fault that it has. `text` writes exactly
-//! the text of pairs. What `pairs` read and `text` wrote, `pairs` reads again as the same pairs.
+//! Promised, and proved:
+//!
+//! - [`pairs`] reads exactly the pairs of a text, or tells the first fault that it has.
+//! - [`text`] writes exactly the text of pairs.
+//! - What [`pairs`] read and [`text`] wrote, [`pairs`] reads again as the same pairs
+//!   ([`laws::is_read_again`]).
+//! - [`cut`] gives where the pieces of a long text lie. Joined, they are the text
+//!   ([`laws::pieces_are_the_text`]).
 #![tactic(auto)]
 
+mod cutting;
 mod fault;
-mod laws;
+pub mod laws;
 mod list;
 mod reading;
 mod writing;
 
+pub use cutting::cut;
 pub use fault::TextFault;
-pub use laws::is_read_again;
 pub use list::Pairs;
 pub use reading::pairs;
 pub use writing::text;
-
-#[cfg(test)]
-mod tests;

@@ -1,20 +1,29 @@
 //! The list of pairs.
 
-ghost use Rattle.std.specs.Prelude.{◌≡◌, ◌<◌, ◌++◌, ◌∷◌, [], length, slice_get, Some, OnOk, OnErr, IsOkUnless, option_map};
+ghost use Rattle.std.specs.Prelude.{◌≡◌, ◌==◌, ◌<◌, ◌++◌, ◌∷◌, [], length, slice_get, Some, OnOk, OnErr, IsOkUnless, option_map};
 ghost use Rattle.iscsi_text.specs.Pairs.{value_of};
 
 use crate::fault::TextFault;
 use std::alloc::Global;
 use std::marker::Model;
 
-/// A key and its value.
+/// A key and its value. Clauses see it as their bytes.
 #[derive(Debug, Drop)]
 struct Pair {
     key: String,
     value: String,
 }
 
-/// Keys with their values, in the order in which they stand in the text.
+impl Model for Pair {
+    ghost use Rattle.std.specs.Prelude.{ℕ, List, string_bytes};
+
+    ghost Value = { List ℕ × List ℕ };
+
+    ghost view = { λ pair. (string_bytes pair.key, string_bytes pair.value) };
+}
+
+/// Keys with their values, in the order in which they stand in the text. Clauses see it as the list
+/// of these pairs.
 #[derive(Debug, Drop)]
 pub struct Pairs {
     alloc: Global,
@@ -22,12 +31,11 @@ pub struct Pairs {
 }
 
 impl Model for Pairs {
-    ghost use Rattle.std.specs.Prelude.{ℕ, List, map};
-    ghost use Rattle.iscsi_text.specs.PairView.{pair_view};
+    ghost use Rattle.std.specs.Prelude.{ℕ, List};
 
     ghost Value = { List (List ℕ × List ℕ) };
 
-    ghost view = { λ pairs. map pair_view pairs.list.items };
+    ghost view = { λ pairs. pairs.list.items };
 }
 
 impl Pairs {
@@ -48,7 +56,14 @@ impl Pairs {
         self.list.len()
     }
 
-    /// Puts a pair at the end. The one fault is want of memory, which leaves the pairs as they were.
+    /// Whether there is none.
+    pub fn is_empty(&self) -> bool
+        ensures { result ≡ (length self.now == 0) }
+    {
+        self.list.is_empty()
+    }
+
+    /// Puts a pair at the end. The one fault is out of memory, which leaves the pairs as they were.
     pub fn push(&mut self, key: &str, value: &str) -> Result<(), TextFault>
         ensures added { OnOk result (self.new ≡ self.old ++ (key.now, value.now) ∷ []) }
         ensures unchanged { OnErr result (self.new ≡ self.old) }

@@ -10,13 +10,13 @@ use crate::list::Pairs;
 use std::alloc::Global;
 use std::collections::BTreeSet;
 
-/// The most bytes of a text that is read.
+/// The most bytes that a text may have.
 const LONGEST_TEXT: usize = 65536;
 
-/// The most bytes of a key (RFC 7143 §6.1).
+/// The most bytes that a key may have (RFC 7143 §6.1).
 const LONGEST_KEY: usize = 63;
 
-/// The most bytes of a value (RFC 7143 §6.1).
+/// The most bytes that a value may have (RFC 7143 §6.1).
 const LONGEST_VALUE: usize = 255;
 
 /// Where the first zero byte stands.
@@ -71,10 +71,11 @@ fn pair_in(piece: &[u8], ended: bool) -> Result<(&str, &str), TextFault>
     Ok((key, value))
 }
 
-/// The pairs of a text, or the first fault of its first faulty pair. Memory may run out.
+/// The pairs of a text (RFC 7143 §6.1), or what is wrong with it: first whether it is too long, and
+/// then the first fault of its first faulty piece. An allocation may fail as well.
 #[tactic(auto, unfolding(crate::specs::Pairs::text_pairs))]
 pub fn pairs(alloc: Global, text: &[u8]) -> Result<Pairs, TextFault>
-    ensures { Gives (λ pairs. pairs) result (text_pairs text.now) }
+    ensures { Gives result (text_pairs text.now) }
 {
     if LONGEST_TEXT < text.len() {
         return Err(TextFault::TooLong);

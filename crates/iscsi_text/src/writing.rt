@@ -19,7 +19,7 @@ fn put(bytes: &mut Vec<u8>, key: &str, value: &str) -> Result<(), TextFault>
     Ok(())
 }
 
-/// The text of pairs (RFC 7143 §6.1). The one fault is want of memory.
+/// The text of pairs (RFC 7143 §6.1). The one fault is out of memory.
 pub fn text(alloc: Global, pairs: &Pairs) -> Result<Vec<u8>, TextFault>
     ensures written { IfOk result (λ bytes. bytes.items ≡ text_of pairs.now) }
     ensures memory { IsOkUnless result TextFault.Memory }

@@ -1,3 +1,4 @@
 pub use Rattle.scsi_sense.specs.Codes
 pub use Rattle.scsi_sense.specs.Sense
 pub mod Command
+pub mod ExamplesCommand

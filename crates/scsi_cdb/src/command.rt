@@ -1,6 +1,6 @@
 //! Commands, and the kinds of unit that they are sent to.
 
-/// The kind of a logical unit (SPC-4 §6.6.2, peripheral device type).
+/// The kind of a logical unit (SPC-4 "Standard INQUIRY data", peripheral device type).
 #[derive(Clone, Copy, Debug, PartialEq, Eq)]
 pub enum Kind {
     /// A direct access block device (SBC-3).
@@ -12,6 +12,7 @@ pub enum Kind {
 /// A command with its fields.
 #[derive(Clone, Copy, Debug, PartialEq, Eq)]
 pub enum Command {
-    /// Asks whether the unit can take medium commands now (SPC-4 §6.47).
+    /// Asks whether the unit can take medium commands now (SPC-4 "TEST UNIT READY
+    /// command").
     TestUnitReady,
 }

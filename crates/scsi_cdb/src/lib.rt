@@ -1,10 +1,11 @@
-//! Command descriptor blocks: 16 bytes read as a command (SPC-4 §4.2.5).
+//! Command descriptor blocks: 16 bytes read as a command (SPC-4 "Operation code").
 //!
 //! Promised: [`Cdb::read`] gives the command that the bytes spell for a unit of that kind, or the
 //! sense with which they are refused. One command is read so far:
 //!
 //! ```text
-//! 00h  TEST UNIT READY   (SPC-4 §6.47)
+//! code  disk  tape
+//! 00h   yes   yes   TEST UNIT READY
 //! ```
 #![tactic(auto)]
 
@@ -13,6 +14,3 @@ mod command;
 
 pub use cdb::Cdb;
 pub use command::{Command, Kind};
-
-#[cfg(test)]
-mod tests;

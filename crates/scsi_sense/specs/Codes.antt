@@ -7,7 +7,7 @@ use Rattle.scsi_sense.specs.declared.code.AdditionalSense.TheVariants.{NoAdditio
 use Rattle.scsi_sense.specs.declared.done.Status.{Status}
 use Rattle.scsi_sense.specs.declared.done.Status.TheVariants.{Good, CheckCondition, ReservationConflict}
 
--- SPC-4 §4.5.6
+-- SPC-4 "Sense key and additional sense code definitions": sense keys
 abbrev pub key_number : SenseKey → ℕ
 key_number NoSense = 0x0
 key_number NotReady = 0x2
@@ -20,7 +20,7 @@ key_number BlankCheck = 0x8
 key_number VolumeOverflow = 0xd
 key_number Miscompare = 0xe
 
--- SPC-4 annex F: the code in the high byte, its qualifier in the low one
+-- SPC-4 "Sense key and additional sense code definitions": the code in the high byte, its qualifier in the low one
 abbrev pub code_number : AdditionalSense → ℕ
 code_number NoAdditionalSenseInformation = 0x0000
 code_number FilemarkDetected = 0x0001
@@ -51,7 +51,7 @@ code_number MediumNotPresent = 0x3a00
 code_number InternalTargetFailure = 0x4400
 code_number InsufficientRegistrationResources = 0x5504
 
--- SAM-5 §5.3.1
+-- SAM-5 "Status codes"
 abbrev pub status_number : Status → ℕ
 status_number Good = 0x00
 status_number CheckCondition = 0x02

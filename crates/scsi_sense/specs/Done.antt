@@ -1,10 +1,10 @@
--- What a command ended with, without where its data lies in memory.
+-- What a command ended with.
 use Rattle.std.specs.Prelude.{ℕ, List, [], Option, Some, None}
 use Rattle.scsi_sense.specs.declared.sense.Sense.{Sense}
 use Rattle.scsi_sense.specs.declared.done.Status.{Status}
 use Rattle.scsi_sense.specs.declared.done.Status.TheVariants.{Good, CheckCondition}
-use Rattle.scsi_sense.specs.declared.done.Done.{Done}
 
+-- profile: its status (SAM-5 "Status codes"), its sense data (SPC-4 "Sense data"), and its data
 pub record Outcome : Type 0 where
   pub status : Status
   pub sense : Option Sense
@@ -12,9 +12,6 @@ pub record Outcome : Type 0 where
   pub given : List ℕ
   -- the bytes that the residual counts from
   pub moved : ℕ
-
-abbrev pub outcome : Done → Outcome
-outcome done = record { status = done.status; sense = done.sense; given = done.given.items; moved = done.moved }
 
 -- GOOD, with nothing moved
 abbrev pub good : Outcome

@@ -2,3 +2,6 @@ pub mod Codes
 pub mod Sense
 pub mod Done
 pub mod Nexus
+pub mod Attentions
+pub mod ExamplesSense
+pub mod Places

@@ -3,7 +3,8 @@
 ghost use Rattle.std.specs.Prelude.{◌≡◌};
 ghost use Rattle.scsi_sense.specs.Codes.{key_number, code_number};
 
-/// The kind of condition, the low four bits of byte 2 (SPC-4 §4.5.6).
+/// The kind of condition, the low four bits of byte 2 (SPC-4 "Sense key and additional sense code
+/// definitions").
 #[derive(Clone, Copy, Debug, PartialEq, Eq)]
 pub enum SenseKey {
     NoSense,
@@ -38,7 +39,8 @@ impl SenseKey {
     }
 }
 
-/// What happened: the additional sense code and its qualifier, by SPC-4's names (§4.5.6, annex F).
+/// What happened: the additional sense code and its qualifier, by SPC-4's names ("Sense key and
+/// additional sense code definitions").
 #[derive(Clone, Copy, Debug, PartialEq, Eq)]
 pub enum AdditionalSense {
     NoAdditionalSenseInformation,

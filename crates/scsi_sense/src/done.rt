@@ -2,12 +2,12 @@
 
 ghost use Rattle.std.specs.Prelude.{◌≡◌};
 ghost use Rattle.scsi_sense.specs.Codes.{status_number};
-ghost use Rattle.scsi_sense.specs.Done.{outcome, good as good_outcome, check_condition as check_outcome};
 
 use crate::sense::Sense;
 use std::alloc::Global;
+use std::marker::Model;
 
-/// The status of a command (SAM-5 §5.3.1).
+/// The status of a command (SAM-5 "Status codes").
 #[derive(Clone, Copy, Debug, PartialEq, Eq)]
 pub enum Status {
     Good,
@@ -40,10 +40,20 @@ pub struct Done {
     pub moved: u32,
 }
 
+impl Model for Done {
+    ghost use Rattle.scsi_sense.specs.Done.{Outcome};
+
+    ghost Value = { Outcome };
+
+    ghost view = { λ done. record { status = done.status; sense = done.sense; given = done.given.items; moved = done.moved } };
+}
+
 impl Done {
+    ghost use Rattle.scsi_sense.specs.Done.{good as good_outcome, check_condition as check_outcome};
+
     /// GOOD, with nothing moved. It takes no memory.
     pub fn good(alloc: Global) -> Done
-        ensures { outcome result ≡ good_outcome }
+        ensures { result ≡ good_outcome }
     {
         Done {
             status: Status::Good,
@@ -55,7 +65,7 @@ impl Done {
 
     /// CHECK CONDITION with this sense, with nothing moved. It takes no memory.
     pub fn check_condition(alloc: Global, sense: Sense) -> Done
-        ensures { outcome result ≡ check_outcome sense }
+        ensures { result ≡ check_outcome sense }
     {
         Done {
             status: Status::CheckCondition,

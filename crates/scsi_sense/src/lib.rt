@@ -1,6 +1,7 @@
-//! What a SCSI command ends with: its status, its sense data, and the data that it gave.
+//! What a SCSI command ends with: its status, its sense data, and the data that it gave. And what a
+//! unit has to tell each initiator: its unit attention conditions.
 //!
-//! Sense data is that of SPC-4 §4.5.3, in the fixed format, 18 bytes:
+//! Sense data is in the fixed format (SPC-4 "Fixed format sense data"), 18 bytes:
 //!
 //! ```text
 //! byte  0      70h, or F0h where the information counts (VALID)
@@ -11,17 +12,17 @@
 //! ```
 //!
 //! Promised: [`Sense::bytes`] is exactly that layout, and each number is that of SPC-4's tables.
+//! [`Attentions`] keeps the codes in the order in which they were raised, and none twice.
 #![tactic(auto)]
 
+mod attentions;
 mod code;
 mod done;
 mod nexus;
 mod sense;
 
+pub use attentions::Attentions;
 pub use code::{AdditionalSense, SenseKey};
 pub use done::{Done, Status};
 pub use nexus::Nexus;
 pub use sense::Sense;
-
-#[cfg(test)]
-mod tests;

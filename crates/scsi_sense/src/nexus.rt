@@ -1,9 +1,46 @@
 //! Who sends a command.
 
-/// An I_T nexus, as attentions and reservations name it (SAM-5 §4.7, RFC 7143 §4.4.3): the
-/// initiator's name, and the ISID that tells its sessions apart.
-#[derive(Debug, PartialEq, Eq, Drop)]
+ghost use Rattle.std.specs.Prelude.{◌≡◌};
+
+use std::alloc::AllocError;
+use std::marker::Model;
+
+/// An I_T nexus: a session of an initiator with a target (RFC 7143 §4.4.2), which unit attentions
+/// and reservations are kept for. It is told by the initiator's name, and the ISID that tells its
+/// sessions apart.
+#[derive(Debug, Drop)]
 pub struct Nexus {
     pub initiator_name: String,
     pub isid: [u8; 6],
+}
+
+impl Model for Nexus {
+    ghost use Rattle.std.specs.Prelude.{string_bytes};
+    ghost use Rattle.scsi_sense.specs.Nexus.{NexusName};
+
+    ghost Value = { NexusName };
+
+    ghost view = { λ nexus. record { initiator_name = string_bytes nexus.initiator_name; isid = nexus.isid } };
+}
+
+impl Nexus {
+    ghost use Rattle.scsi_sense.specs.Nexus.{same_nexus};
+
+    /// Whether both are the same nexus: names and ISIDs are compared byte by byte.
+    pub fn is_same(&self, other: &Nexus) -> bool
+        ensures { result ≡ same_nexus self.now other.now }
+    {
+        self.initiator_name == other.initiator_name && self.isid == other.isid
+    }
+}
+
+impl Clone for Nexus {
+    ghost is_clone = { λ nexus copy. copy ≡ nexus };
+
+    fn clone(&self) -> Result<Nexus, AllocError> {
+        Ok(Nexus {
+            initiator_name: self.initiator_name.clone()?,
+            isid: self.isid,
+        })
+    }
 }

@@ -5,7 +5,7 @@ ghost use Rattle.scsi_sense.specs.Sense.{plain_sense, sense_bytes};
 
 use crate::code::{AdditionalSense, SenseKey};
 
-/// Why a command ended with CHECK CONDITION (SPC-4 §4.5.3).
+/// Why a command ended with CHECK CONDITION (SPC-4 "Sense data").
 #[derive(Clone, Copy, Debug, PartialEq, Eq)]
 pub struct Sense {
     pub key: SenseKey,
@@ -35,7 +35,7 @@ impl Sense {
         }
     }
 
-    /// The 18 bytes of the fixed format (SPC-4 §4.5.3).
+    /// The 18 bytes of the fixed format (SPC-4 "Fixed format sense data").
     pub fn bytes(&self) -> [u8; 18]
         ensures { result ≡ sense_bytes self.now }
     {

@@ -1,0 +1,11 @@
+-- What the target answers.
+use Rattle.std.specs.Prelude.{ℕ, List}
+use Rattle.iscsi_pdu.specs.ScsiResponse.{scsi_response_bytes}
+use Rattle.iscsi_pdu.specs.LoginResponse.{login_response_bytes}
+use Rattle.iscsi_pdu.specs.declared.answer.Answer.{Answer}
+use Rattle.iscsi_pdu.specs.declared.answer.Answer.TheVariants as answers
+
+-- RFC 7143 §11: the bytes of an answer, its header, its data segment and the padding
+abbrev pub spelling : Answer → List ℕ
+spelling (answers.ScsiResponse response) = scsi_response_bytes response
+spelling (answers.LoginResponse response) = login_response_bytes response

@@ -1,0 +1,64 @@
+-- The fields of a Login Request and of a SCSI Command, computed.
+use Rattle.std.specs.Prelude.{◌≡◌, ℕ, List, [], ◌∷◌, ◌++◌, true, false, Some, None, replicate, refl}
+use Rattle.iscsi_pdu.specs.declared.header.Opcode.TheVariants as opcodes
+use Rattle.iscsi_pdu.specs.declared.stage.Stage.TheVariants as stages
+use Rattle.iscsi_pdu.specs.Header.{opcode_of, opcode_number, is_immediate, additional_length, data_length, lun_field, initiator_task_tag, cmd_sn}
+use Rattle.iscsi_pdu.specs.ScsiCommand.{is_final, is_read, is_write, expected_transfer_length, cdb}
+use Rattle.iscsi_pdu.specs.LoginRequest.{is_transit, is_continued, current_stage, next_stage, version_min, isid, tsih}
+
+-- a Login Request with 30 bytes of text
+abbrev pub login_header : List ℕ
+login_header =
+    0x43 ∷ 0x87 ∷ 0x00 ∷ 0x00 ∷ 0x00 ∷ 0x00 ∷ 0x00 ∷ 0x1e ∷ 0x80 ∷ 0x00 ∷ 0x00 ∷ 0x00 ∷ 0x00 ∷ 0x01 ∷ 0x00 ∷ 0x00 ∷
+    0x00 ∷ 0x00 ∷ 0x00 ∷ 0x01 ∷ 0x00 ∷ 0x01 ∷ 0x00 ∷ 0x00 ∷ 0x00 ∷ 0x00 ∷ 0x00 ∷ 0x7b ∷ 0x00 ∷ 0x00 ∷ 0x00 ∷ 0x00 ∷
+    0x00 ∷ 0x00 ∷ 0x00 ∷ 0x00 ∷ 0x00 ∷ 0x00 ∷ 0x00 ∷ 0x00 ∷ 0x00 ∷ 0x00 ∷ 0x00 ∷ 0x00 ∷ 0x00 ∷ 0x00 ∷ 0x00 ∷ 0x00 ∷ []
+
+login_opcode : (opcode_of (opcode_number login_header) ≡ opcodes.Login) × (is_immediate login_header ≡ true)
+login_opcode = (refl, refl)
+
+login_lengths : (additional_length login_header ≡ 0) × (data_length login_header ≡ 30)
+login_lengths = (refl, refl)
+
+-- from operational negotiation to the full feature phase
+login_stages : (is_transit login_header ≡ true) × (is_continued login_header ≡ false) × (current_stage login_header ≡ Some stages.OperationalNegotiation) × (next_stage login_header ≡ Some stages.FullFeaturePhase)
+login_stages = (refl, refl, refl, refl)
+
+login_session : (version_min login_header ≡ 0) × (isid login_header ≡ 0x80 ∷ 0 ∷ 0 ∷ 0 ∷ 0 ∷ 1 ∷ []) × (tsih login_header ≡ 0)
+login_session = (refl, refl, refl)
+
+login_numbers : (initiator_task_tag login_header ≡ 1) × (cmd_sn login_header ≡ 123)
+login_numbers = (refl, refl)
+
+-- C, security negotiation, and the reserved number 2 for NSG
+continued_header : List ℕ
+continued_header = 0x03 ∷ 0x42 ∷ []
+
+continued_stages : (is_transit continued_header ≡ false) × (is_continued continued_header ≡ true) × (current_stage continued_header ≡ Some stages.SecurityNegotiation) × (next_stage continued_header ≡ None)
+unfolding continued_header
+continued_stages = (refl, refl, refl, refl)
+
+-- READ(10) of 512 bytes at LUN 5, with two words of additional header
+abbrev pub command_header : List ℕ
+command_header =
+    0x01 ∷ 0xc1 ∷ 0x00 ∷ 0x00 ∷ 0x02 ∷ 0x00 ∷ 0x00 ∷ 0x00 ∷ 0x00 ∷ 0x05 ∷ 0x00 ∷ 0x00 ∷ 0x00 ∷ 0x00 ∷ 0x00 ∷ 0x00 ∷
+    0x00 ∷ 0x00 ∷ 0x00 ∷ 0x02 ∷ 0x00 ∷ 0x00 ∷ 0x02 ∷ 0x00 ∷ 0x00 ∷ 0x00 ∷ 0x00 ∷ 0x7b ∷ 0x00 ∷ 0x00 ∷ 0x00 ∷ 0x00 ∷
+    0x28 ∷ 0x00 ∷ 0x00 ∷ 0x00 ∷ 0x00 ∷ 0x07 ∷ 0x00 ∷ 0x00 ∷ 0x01 ∷ 0x00 ∷ 0x00 ∷ 0x00 ∷ 0x00 ∷ 0x00 ∷ 0x00 ∷ 0xff ∷ []
+
+command_opcode : (opcode_of (opcode_number command_header) ≡ opcodes.ScsiCommand) × (is_immediate command_header ≡ false)
+command_opcode = (refl, refl)
+
+command_flags : (is_final command_header ≡ true) × (is_read command_header ≡ true) × (is_write command_header ≡ false)
+command_flags = (refl, refl, refl)
+
+command_lengths : (additional_length command_header ≡ 8) × (data_length command_header ≡ 0) × (expected_transfer_length command_header ≡ 512)
+command_lengths = (refl, refl, refl)
+
+command_lun : lun_field command_header ≡ 0 ∷ 5 ∷ replicate 6 0
+command_lun = refl
+
+command_cdb : cdb command_header ≡ 0x28 ∷ 0 ∷ 0 ∷ 0 ∷ 0 ∷ 7 ∷ 0 ∷ 0 ∷ 1 ∷ replicate 6 0 ++ 0xff ∷ []
+command_cdb = refl
+
+-- 3Fh is no opcode of an initiator
+no_opcode : opcode_of 0x3F ≡ opcodes.Other 0x3F
+no_opcode = refl

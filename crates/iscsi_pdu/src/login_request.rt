@@ -1,0 +1,69 @@
+//! The fields of a Login Request (RFC 7143 §11.12).
+
+ghost use Rattle.std.specs.Prelude.{◌≡◌};
+
+use crate::header::Header;
+use crate::stage::Stage;
+use byteorder::{BigEndian, ByteOrder};
+
+/// T, in byte 1 of a Login Request and of a Login Response.
+pub const TRANSIT: u8 = 0x80;
+
+/// C, in byte 1 of a Login Request and of a Login Response.
+pub const CONTINUED: u8 = 0x40;
+
+impl Header {
+    ghost use Rattle.iscsi_pdu.specs.LoginRequest.{is_transit, is_continued, current_stage, next_stage, version_min, isid, tsih};
+
+    /// The T bit: the initiator is ready for the next stage.
+    pub fn is_transit(&self) -> bool
+        ensures { result ≡ is_transit self.now }
+    {
+        self.bytes[1] & TRANSIT == TRANSIT
+    }
+
+    /// The C bit: the text goes on in the next request.
+    pub fn is_continued(&self) -> bool
+        ensures { result ≡ is_continued self.now }
+    {
+        self.bytes[1] & CONTINUED == CONTINUED
+    }
+
+    /// CSG, the stage that the login is in, or `None` for the reserved number 2.
+    pub fn current_stage(&self) -> Option<Stage>
+        ensures { result ≡ current_stage self.now }
+    {
+        Stage::of_number(self.bytes[1] / 4 % 4)
+    }
+
+    /// NSG, the stage that the initiator wants next, or `None` for the reserved number 2. It means
+    /// something only beside T.
+    pub fn next_stage(&self) -> Option<Stage>
+        ensures { result ≡ next_stage self.now }
+    {
+        Stage::of_number(self.bytes[1] % 4)
+    }
+
+    /// Version-min: the lowest version that the initiator speaks.
+    pub fn version_min(&self) -> u8
+        ensures { result ≡ version_min self.now }
+    {
+        self.bytes[3]
+    }
+
+    /// ISID, the initiator's part of the session identifier.
+    pub fn isid(&self) -> [u8; 6]
+        ensures { result ≡ isid self.now }
+    {
+        let mut isid = [0; 6];
+        isid.copy_from_slice(&self.bytes[8..14]);
+        isid
+    }
+
+    /// TSIH, the target's part of the session identifier: 0 for a new session.
+    pub fn tsih(&self) -> u16
+        ensures { result ≡ tsih self.now }
+    {
+        BigEndian::read_u16(&self.bytes[14..])
+    }
+}

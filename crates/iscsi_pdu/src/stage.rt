@@ -1,0 +1,41 @@
+//! The stages of a login.
+
+ghost use Rattle.std.specs.Prelude.{◌≡◌};
+
+/// A stage of the login phase, or the phase behind it (RFC 7143 §6.3 and §11.12.3).
+#[derive(Clone, Copy, Debug, PartialEq, Eq)]
+pub enum Stage {
+    /// 0
+    SecurityNegotiation,
+    /// 1
+    OperationalNegotiation,
+    /// 3
+    FullFeaturePhase,
+}
+
+impl Stage {
+    ghost use Rattle.iscsi_pdu.specs.Stage.{stage_number, stage_of};
+
+    /// Its number, as CSG and NSG bear it.
+    pub fn number(self) -> u8
+        ensures { result ≡ stage_number self }
+    {
+        match self {
+            Stage::SecurityNegotiation => 0,
+            Stage::OperationalNegotiation => 1,
+            Stage::FullFeaturePhase => 3,
+        }
+    }
+
+    /// The stage with this number.
+    pub(crate) fn of_number(number: u8) -> Option<Stage>
+        ensures { result ≡ stage_of number }
+    {
+        match number {
+            0 => Some(Stage::SecurityNegotiation),
+            1 => Some(Stage::OperationalNegotiation),
+            3 => Some(Stage::FullFeaturePhase),
+            _ => None,
+        }
+    }
+}
