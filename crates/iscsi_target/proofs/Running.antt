@@ -1,236 +1,322 @@
--- A whole history, with all that is answered sent at once.
-use Rattle.std.proofs.Common.{◌≡◌, ◌≢◌, ℕ, zero, suc, ◌-◌, ◌<◌, List, [], ◌∷◌, ◌++◌, length, map, take, set, get_or, Bool, true, false, not, ◌||◌, eqb, refl, sym, ap, ◌∙◌, arith, inl, inr, subst}
-use Rattle.std.specs.Prelude.{fold, filter, nat_lt}
+-- What is kept of each life of a history, from one event to the next.
+use Rattle.std.proofs.Common.{◌≡◌, ◌≢◌, ℕ, ◌<◌, List, [], ◌∷◌, ◌++◌, map, Bool, true, false, cond, not, ◌&&◌, ◌||◌, eqb, Option, Some, None, refl, sym, ap, ◌∙◌, subst, inl, inr}
+use Rattle.std.specs.Prelude.{find, nat_lt}
 use Rattle.std.specs.List.{AllByRecursion}
 use Rattle.std.proofs.lemmas.Bool.{ne_eqb, eqb-true, ltb-true}
 use Rattle.std.proofs.lemmas.Bool.Decides.{eqb_tells}
-use Rattle.std.proofs.lemmas.List.{nil_from_length, drop_all, get_or_default, get_or-set_same, get_or-set_other, get_or-replicate, length-append}
-use Rattle.std.proofs.Math.Seq.{set-append_seam, get_or-append_seam}
-use Rattle.std.proofs.lemmas.List.Sums.{fold-append, list_all-from_AllPass}
-use Rattle.iscsi_target.specs.History.{Event, Open, Bytes, Gone, connections, connected_after, is_allowed, well_formed, well_formed_from}
-use Rattle.iscsi_target.specs.World.{World, world}
-use Rattle.iscsi_target.specs.Output.{out_of, outs_of}
-use Rattle.iscsi_target.specs.Machine.{Machine, new_machine, new_slot, LinkState, free_link, opened_link, link_at, is_free, is_open_at, all_free, opened, fed, ended, sent, sent_link, piece_for}
-use Rattle.iscsi_target.specs.Stands.{Stands, setting_of}
-use Rattle.iscsi_target.specs.Runs.{Runs, connected, is_among}
-use Rattle.iscsi_target.specs.declared.config.LogicalUnit.{LogicalUnit}
-use Rattle.iscsi_target.proofs.Places.{place_of}
-use Rattle.iscsi_target.proofs.Choices.{and_true}
+use Rattle.std.proofs.lemmas.List.{map-append}
+use Rattle.std.proofs.lemmas.List.Folds.{list_any-append}
+use Rattle.iscsi_target.specs.History.{Event, Open, Bytes, Gone, History, plain, is_among, may_come, open_after, connection_limit}
+use Rattle.iscsi_target.specs.Life.{Life, Over, is_over, born, out_of}
+use Rattle.iscsi_target.specs.World.{Setting, World, is_present, present, changed_life, changed, end, world}
+use Rattle.iscsi_target.specs.Output.{out_now, outputs}
+use Rattle.iscsi_target.specs.Machine.{Machine, link_at, is_free, is_open_at}
+use Rattle.iscsi_target.specs.Stands.{phase_of, Stands, with_sent}
+use Rattle.iscsi_target.specs.Runs.{MayCome, RowState, open_row, over_row, row_of, finished_in, finished, is_on, ended, has, IsFree, AreDistinct, Runs}
+use Rattle.iscsi_target.proofs.Choices.{cond_true, cond_false, and_true, and_false, not_true}
 use Rattle.iscsi_target.proofs.Counting.{eqb_self}
-use Rattle.iscsi_target.proofs.Histories.{world-push}
-use Rattle.iscsi_target.proofs.Events.{new_stands, on_link, fed_part, fed_at, fed_life, fed_keeps, opened_keeps, ended_keeps, ended_at, sent_keeps, is_free_phase}
+use Rattle.iscsi_target.proofs.Standing.{world-push, present_open, stands_sent}
+use Rattle.iscsi_target.proofs.Tables.{among-gone, among-gone_other}
+use Rattle.iscsi_target.proofs.Keeping.{rows_in, open_is, is_open_here, rows-bring}
 
-connected-push : (history : List Event) (event : Event) → connected (history ++ event ∷ []) ≡ connected_after (connected history) event
-connected-push history event = fold-append connected_after [] history (event ∷ [])
+-- ---- the rows of a World
 
--- each event of a well-formed history is allowed when it comes
-allowed_from : (open_ : List ℕ) (events : List Event) (at : ℕ) (d : Event) → at < length events → well_formed_from open_ events ≡ true → is_allowed (fold connected_after open_ (take at events)) (get_or events at d) ≡ true
-allowed_from open_ [] at d lt e = absurd (omega arith)
-allowed_from open_ (event ∷ events) zero d lt e = (and_true _ _ e).0
-allowed_from open_ (event ∷ events) (suc at) d lt e = allowed_from (connected_after open_ event) events at d (omega arith) (and_true _ _ e).1
+abbrev is_there : Option Life → Bool
+is_there None = false
+is_there (Some life) = true
 
-pub allowed_at : (events : List Event) (at : ℕ) (d : Event) → at < length events → well_formed events ≡ true → is_allowed (connected (take at events)) (get_or events at d) ≡ true
-allowed_at events at d lt e = allowed_from [] events at d lt e
+and_so : (b : Bool) → (b && true) ≡ b
+and_so true = refl
+and_so false = refl
 
--- ---- which connections are open
+over_is : (life : Life) → is_over life.phase ≡ true → row_of life ≡ over_row (out_of life)
+over_is life e = cond_true (is_over life.phase) _ _ e
 
-or_true_second : (a b : Bool) → b ≡ true → (a || b) ≡ true
-or_true_second true b e = refl
-or_true_second false b e = e
+on_by : (b : Bool) (c : ℕ) (x : Life) → is_over x.phase ≡ b → is_on c (row_of x).connection ≡ is_present c x
+on_by true c x e = ap (λ (r : RowState). is_on c r.connection) (over_is x e) ∙ sym (ap (λ (b : Bool). eqb x.connection c && not b) e ∙ and_false (eqb x.connection c))
+on_by false c x e = ap (λ (r : RowState). is_on c r.connection) (open_is x e) ∙ sym (ap (λ (b : Bool). eqb x.connection c && not b) e ∙ and_so (eqb x.connection c))
 
-among_below : (c : ℕ) (open_ : List ℕ) → AllByRecursion (λ k. k < connections) open_ → is_among c open_ ≡ true → c < connections
-among_below c [] h e = absurd cc
-among_below c (k ∷ open_) h e = elim (eqb_tells k c) [
-  | inl same ↦ rw (← same.1) h.0
-  | inr differ ↦ among_below c open_ h.1 (rw differ.0 at e)
-]
+on_present : (c : ℕ) (x : Life) → is_on c (row_of x).connection ≡ is_present c x
+on_present c x = on_by (is_over x.phase) c x refl
 
--- without a connection, the others are as they were
-among_without : (d c : ℕ) (open_ : List ℕ) → d ≢ c → is_among d (filter (λ k. not (eqb k c)) open_) ≡ is_among d open_
-among_without d c [] differ = refl
-among_without d c (k ∷ open_) differ = elim (eqb_tells k c) [
-  | inl same ↦ (let other : eqb k d ≡ false = ne_eqb k d (λ e. differ (sym e ∙ same.1)) in rw (same.0, other) (among_without d c open_ differ))
-  | inr ne ↦ rw ne.0 (ap (λ (b : Bool). eqb k d || b) (among_without d c open_ differ))
-]
+or_there : (b : Bool) (x : Life) (o : Option Life) → (b || is_there o) ≡ is_there (cond b (Some x) o)
+or_there true x o = refl
+or_there false x o = refl
 
-none_among : (c : ℕ) (open_ : List ℕ) → is_among c (filter (λ k. not (eqb k c)) open_) ≡ false
-none_among c [] = refl
-none_among c (k ∷ open_) = elim (eqb_tells k c) [
-  | inl same ↦ rw same.0 (none_among c open_)
-  | inr ne ↦ rw (ne.0, ne.0) (none_among c open_)
-]
+has_found : (c : ℕ) (lives : List Life) → has c (map row_of lives) ≡ is_there (find (is_present c) lives)
+has_found c [] = refl
+has_found c (x ∷ lives) =
+    ap (λ (b : Bool). b || has c (map row_of lives)) (on_present c x)
+    ∙ ap (λ (b : Bool). is_present c x || b) (has_found c lives)
+    ∙ or_there (is_present c x) x (find (is_present c) lives)
 
-below_without : (c : ℕ) (open_ : List ℕ) → AllByRecursion (λ k. k < connections) open_ → AllByRecursion (λ k. k < connections) (filter (λ k. not (eqb k c)) open_)
-below_without c [] h = tt
-below_without c (k ∷ open_) h = elim (eqb_tells k c) [
-  | inl same ↦ rw same.0 (below_without c open_ h.1)
-  | inr ne ↦ rw ne.0 (h.0, below_without c open_ h.1)
-]
+-- ---- no connection has two lives that are not over
 
-free_from : (b : Bool) → not b ≡ false → b ≡ true
-free_from true e = refl
-free_from false e = absurd cc
+-- the first life of its connection that is not over
+abbrev IsOnly : List Life → Life → Type 0
+IsOnly lives x = is_over x.phase ≡ false → find (is_present x.connection) lives ≡ Some x
 
--- where none is open every link is free
-all_are_free : (machine : Machine) → length machine.links ≡ connections → ((d : ℕ) → d < connections → is_open_at machine d ≡ false) → all_free machine ≡ true
-all_are_free machine count none = list_all-from_AllPass (λ (k : LinkState). is_free k.phase) machine.links (λ k d lt.
-    let below : k < connections = omega (arith, count) in
-    let here : get_or machine.links k d ≡ link_at machine k = get_or_default machine.links k d free_link lt in
-    ap (λ (l : LinkState). is_free l.phase) here ∙ free_from (is_free (link_at machine k).phase) (none k below))
+present_here : (x : Life) → is_over x.phase ≡ false → is_present x.connection x ≡ true
+present_here x e = ap (λ (b : Bool). b && not (is_over x.phase)) (eqb_self x.connection) ∙ ap not e
 
--- ---- the events
+wider_by : (b : Bool) (x y : Life) (lives : List Life) → IsFree (row_of x).connection (map row_of lives) → IsOnly lives y → is_over y.phase ≡ false → is_present y.connection x ≡ b → find (is_present y.connection) (x ∷ lives) ≡ Some y
+wider_by true x y lives free only e at =
+    let x_open : is_over x.phase ≡ false = is_open_here y.connection x at in
+    let on : x.connection ≡ y.connection = eqb-true _ _ (and_true _ _ at).0 in
+    let none : has x.connection (map row_of lives) ≡ false = subst (λ (r : RowState). IsFree r.connection (map row_of lives)) (open_is x x_open) free in
+    let there : has x.connection (map row_of lives) ≡ true = ap (λ (c : ℕ). has c (map row_of lives)) on ∙ has_found y.connection lives ∙ ap is_there (only e) in
+    absurd (cc (none, there))
+wider_by false x y lives free only e at = cond_false (is_present y.connection x) (Some x) (find (is_present y.connection) lives) at ∙ only e
 
-opened_runs_ : (machine : Machine) (sent_ : List (List ℕ)) (history : List Event) (c : ℕ) → Runs machine sent_ history → connected history ≡ [] → c < connections → Runs (opened machine c) (sent_ ++ [] ∷ []) (history ++ Open c ∷ [])
-opened_runs_ machine sent_ history c r none lt =
-    let count = r.stands.count in
-    let closed : (d : ℕ) → d < connections → is_open_at machine d ≡ false = λ d below. r.tracks d below ∙ ap (is_among d) none in
-    record {
-      stands = opened_keeps machine history c lt count (all_are_free machine count closed) r.stands;
-      drained = λ d below. elim (eqb_tells d c) [
-        | inl same ↦ rw same.1 (ap (λ (l : LinkState). l.waiting) (get_or-set_same machine.links c opened_link free_link (omega (arith, count))))
-        | inr differ ↦ ap (λ (l : LinkState). l.waiting) (get_or-set_other machine.links c d opened_link free_link differ.1) ∙ r.drained d below
-      ];
-      answered = ap (λ (o : List (List ℕ)). o ++ [] ∷ []) r.answered ∙ ap (λ (w : World). outs_of w.lives) (sym (world-push (setting_of machine) history (Open c)));
-      tracks = λ d below. rw (connected-push history (Open c)) (elim (eqb_tells d c) [
-        | inl same ↦ rw same.1 (ap (λ (l : LinkState). not (is_free l.phase)) (get_or-set_same machine.links c opened_link free_link (omega (arith, count))) ∙ sym (rw (eqb_self c) refl))
-        | inr differ ↦ ap (λ (l : LinkState). not (is_free l.phase)) (get_or-set_other machine.links c d opened_link free_link differ.1) ∙ r.tracks d below ∙ sym (rw (ne_eqb c d (λ e. differ.1 (sym e))) refl)
-      ]);
-      below = rw (connected-push history (Open c)) (lt, r.below);
-    }
+wider : (x : Life) (lives all : List Life) → IsFree (row_of x).connection (map row_of lives) → AllByRecursion (IsOnly lives) all → AllByRecursion (IsOnly (x ∷ lives)) all
+wider x lives [] free h = tt
+wider x lives (y ∷ all) free h = (λ e. wider_by (is_present y.connection x) x y lives free h.0 e refl, wider x lives all free h.1)
 
-gone_runs_ : (machine : Machine) (sent_ : List (List ℕ)) (history : List Event) (c : ℕ) → Runs machine sent_ history → is_open_at machine c ≡ true → c < connections → Runs (ended machine c) sent_ (history ++ Gone c ∷ [])
-gone_runs_ machine sent_ history c r open_ lt =
-    let count = r.stands.count in
-    let w = world (setting_of machine) history in
-    let n = on_link w machine history c lt open_ r.stands in
-    record {
-      stands = ended_keeps machine history c lt count open_ r.stands;
-      drained = λ d below. elim (eqb_tells d c) [
-        | inl same ↦ rw same.1 (ap (λ (l : LinkState). l.waiting) (get_or-set_same machine.links c free_link free_link (omega (arith, count))))
-        | inr differ ↦ ap (λ (l : LinkState). l.waiting) (get_or-set_other machine.links c d free_link free_link differ.1) ∙ r.drained d below
-      ];
-      answered = r.answered ∙ ap outs_of n.newest.lives_are ∙ ap (λ (x : World). outs_of x.lives) (sym (ended_at machine history c n));
-      tracks = λ d below. rw (connected-push history (Gone c)) (elim (eqb_tells d c) [
-        | inl same ↦ rw same.1 (ap (λ (l : LinkState). not (is_free l.phase)) (get_or-set_same machine.links c free_link free_link (omega (arith, count))) ∙ sym (none_among c (connected history)))
-        | inr differ ↦ ap (λ (l : LinkState). not (is_free l.phase)) (get_or-set_other machine.links c d free_link free_link differ.1) ∙ r.tracks d below ∙ sym (among_without d c (connected history) differ.1)
-      ]);
-      below = rw (connected-push history (Gone c)) (below_without c (connected history) r.below);
-    }
+all_only : (lives : List Life) → AreDistinct (map row_of lives) → AllByRecursion (IsOnly lives) lives
+all_only [] d = tt
+all_only (x ∷ lives) d = (λ e. cond_true (is_present x.connection x) (Some x) (find (is_present x.connection) lives) (present_here x e), wider x lives lives d.0 (all_only lives d.1))
 
--- the answers of the newest life, and of those before it
-set_last : (front : List (List ℕ)) (x y : List ℕ) (i : ℕ) → i ≡ length (front ++ x ∷ []) - 1 → set (front ++ x ∷ []) i y ≡ front ++ y ∷ []
-set_last front x y i e =
-    let at : i ≡ length front = omega (arith, length-append front (x ∷ [])) in
-    rw at (set-append_seam front x [] y)
+-- ---- what waits
 
-get_last : (front : List (List ℕ)) (x d : List ℕ) (i : ℕ) → i ≡ length (front ++ x ∷ []) - 1 → get_or (front ++ x ∷ []) i d ≡ x
-get_last front x d i e =
-    let at : i ≡ length front = omega (arith, length-append front (x ∷ [])) in
-    rw at (get_or-append_seam front x [] d)
+-- all that a life was answered waits on its connection
+abbrev IsWaiting : Machine → Life → Type 0
+IsWaiting machine x = is_over x.phase ≡ false → (link_at machine x.connection).waiting ≡ out_of x
 
--- a piece, and all that it makes the target answer
-fed_runs_ : (machine : Machine) (sent_ : List (List ℕ)) (history : List Event) (c : ℕ) (piece : List ℕ) (i : ℕ) (d : List ℕ) → Runs machine sent_ history → is_open_at machine c ≡ true → c < connections → i ≡ length sent_ - 1
-    → let waits = (link_at (fed machine c piece) c).waiting in
-    Runs (sent (fed machine c piece) c (length waits)) (set sent_ i (get_or sent_ i d ++ waits)) (history ++ Bytes c piece [] ∷ [])
-fed_runs_ machine sent_ history c piece i d r open_ lt last =
-    let count = r.stands.count in
-    let w = world (setting_of machine) history in
-    let n = on_link w machine history c lt open_ r.stands in
-    let f = fed_life machine history c piece lt r.stands n in
-    let part = fed_part (setting_of machine) history w c piece n.life in
-    let p = piece_for machine.targets c (link_at machine c) machine.slots piece in
-    let after = fed machine c piece in
-    let later = history ++ Bytes c piece [] ∷ [] in
-    let stands : Stands after later = fed_keeps machine history c piece lt count open_ r.stands in
-    let link : link_at after c ≡ p.0 = get_or-set_same machine.links c p.0 free_link (omega (arith, count)) in
-    let is_open : is_open_at after c ≡ true = ap (λ (l : LinkState). not (is_free l.phase)) link ∙ ap (λ phase. not (is_free phase)) f.phase ∙ ap not (is_free_phase part.life.is_open part.life) in
-    let waits = (link_at after c).waiting in
-    let more : waits ≡ f.more = ap (λ (l : LinkState). l.waiting) link ∙ f.waiting ∙ ap (λ (t : List ℕ). t ++ f.more) (r.drained c lt) in
-    let sent_link_ = sent_link (link_at after c) (length waits) in
-    let was : sent_ ≡ outs_of n.newest.older ++ out_of n.life ∷ [] = r.answered ∙ ap outs_of n.newest.lives_are in
-    let place : i ≡ length (outs_of n.newest.older ++ out_of n.life ∷ []) - 1 = last ∙ ap (λ (s : List (List ℕ)). length s - 1) was in
-    let grown_ : get_or sent_ i d ++ waits ≡ out_of part.life =
-    ap (λ (s : List (List ℕ)). get_or s i d ++ waits) was ∙ ap (λ (x : List ℕ). x ++ waits) (get_last (outs_of n.newest.older) (out_of n.life) d i place) ∙ ap (λ (x : List ℕ). out_of n.life ++ x) more ∙ sym f.out in
-    let count_after : length after.links ≡ connections = stands.count in
-    let link_at_sent : (k : ℕ) → k ≢ c → link_at (sent after c (length waits)) k ≡ link_at machine k = λ k differ.
-    get_or-set_other after.links c k sent_link_ free_link differ ∙ get_or-set_other machine.links c k p.0 free_link differ in
-    let link_c : link_at (sent after c (length waits)) c ≡ sent_link_ = get_or-set_same after.links c sent_link_ free_link (omega (arith, count_after)) in
-    record {
-      stands = sent_keeps after later c (length waits) lt count_after is_open (omega arith) stands;
-      drained = λ k below. elim (eqb_tells k c) [
-        | inl same ↦ rw same.1 (ap (λ (l : LinkState). l.waiting) link_c ∙ drop_all (length waits) waits (omega arith))
-        | inr differ ↦ ap (λ (l : LinkState). l.waiting) (link_at_sent k differ.1) ∙ r.drained k below
-      ];
-      answered =
-          ap (λ (s : List (List ℕ)). set s i (get_or sent_ i d ++ waits)) was
-          ∙ set_last (outs_of n.newest.older) (out_of n.life) (get_or sent_ i d ++ waits) i place
-          ∙ ap (λ (x : List ℕ). outs_of n.newest.older ++ x ∷ []) grown_
-          ∙ sym (ap (λ (x : World). outs_of x.lives) (fed_at machine history c piece n));
-      tracks = λ k below. rw (connected-push history (Bytes c piece [])) (elim (eqb_tells k c) [
-        | inl same ↦ rw same.1 (ap (λ (l : LinkState). not (is_free l.phase)) link_c ∙ is_open ∙ sym open_ ∙ r.tracks c lt)
-        | inr differ ↦ ap (λ (l : LinkState). not (is_free l.phase)) (link_at_sent k differ.1) ∙ r.tracks k below
-      ]);
-      below = rw (connected-push history (Bytes c piece [])) r.below;
-    }
+has_row : (s : Setting) (machine : Machine) (rows : List RowState) (before : List ℕ) (history : History) → Runs s machine rows before history → (c : ℕ) → has c rows ≡ is_there (present c (world s history))
+unfolding present
+has_row s machine rows before history r c = ap (has c) r.kept ∙ has_found c (world s history).lives
 
--- ---- what the next event may be
+life_waits : (s : Setting) (machine : Machine) (rows : List RowState) (before : List ℕ) (history : History) (x : Life) → Runs s machine rows before history → IsOnly (world s history).lives x → IsWaiting machine x
+unfolding present
+life_waits s machine rows before history x r only e =
+    let c = x.connection in
+    let at : present c (world s history) ≡ Some x = only e in
+    let lt : c < connection_limit = r.below c (sym (r.tracks c) ∙ has_row s machine rows before history r c ∙ ap is_there at) in
+    (r.stands.links c lt).waiting ∙ ap out_now at
 
--- the conditions of a call, where its event is allowed
-pub opens : (machine : Machine) (sent_ : List (List ℕ)) (history : List Event) (c : ℕ) → Runs machine sent_ history → is_allowed (connected history) (Open c) ≡ true → (c < connections) × (connected history ≡ []) × (all_free machine ≡ true)
-opens machine sent_ history c r allowed =
-    let both = and_true (nat_lt c connections) (eqb (length (connected history)) 0) allowed in
-    let none : connected history ≡ [] = nil_from_length (connected history) (eqb-true _ _ both.1) in
-    (ltb-true c connections both.0, none, all_are_free machine r.stands.count (λ d below. r.tracks d below ∙ ap (is_among d) none))
+all_wait : (s : Setting) (machine : Machine) (rows : List RowState) (before : List ℕ) (history : History) (lives : List Life) → Runs s machine rows before history → AllByRecursion (IsOnly (world s history).lives) lives → AllByRecursion (IsWaiting machine) lives
+all_wait s machine rows before history [] r h = tt
+all_wait s machine rows before history (x ∷ lives) r h = (life_waits s machine rows before history x r h.0, all_wait s machine rows before history lives r h.1)
 
-pub is_on : (machine : Machine) (sent_ : List (List ℕ)) (history : List Event) (c : ℕ) → Runs machine sent_ history → is_among c (connected history) ≡ true → (c < connections) × (is_open_at machine c ≡ true)
-is_on machine sent_ history c r among = let below = among_below c (connected history) r.below among in (below, r.tracks c below ∙ among)
+waiting : (s : Setting) (machine : Machine) (rows : List RowState) (before : List ℕ) (history : History) → Runs s machine rows before history → AllByRecursion (IsWaiting machine) (world s history).lives
+waiting s machine rows before history r = all_wait s machine rows before history _ r (all_only _ (subst AreDistinct r.kept r.distinct))
 
--- there is an output where a connection is open
-pub has_output : (machine : Machine) (sent_ : List (List ℕ)) (history : List Event) (c : ℕ) → Runs machine sent_ history → is_among c (connected history) ≡ true → 0 < length sent_
-has_output machine sent_ history c r among =
-    let on = is_on machine sent_ history c r among in
-    let n = on_link (world (setting_of machine) history) machine history c on.0 on.1 r.stands in
-    let was : sent_ ≡ outs_of n.newest.older ++ out_of n.life ∷ [] = r.answered ∙ ap outs_of n.newest.lives_are in
-    omega (arith, ap length was, length-append (outs_of n.newest.older) (out_of n.life ∷ []))
+-- ---- the history ends
 
-pub opened_runs : (machine : Machine) (sent_ : List (List ℕ)) (history : List Event) (c : ℕ) → Runs machine sent_ history → is_allowed (connected history) (Open c) ≡ true → Runs (opened machine c) (sent_ ++ [] ∷ []) (history ++ Open c ∷ [])
-opened_runs machine sent_ history c r allowed = let o = opens machine sent_ history c r allowed in opened_runs_ machine sent_ history c r o.1 o.0
+finish_by : (b : Bool) (machine : Machine) (x : Life) → IsWaiting machine x → is_over x.phase ≡ b → (finished machine (row_of x)).bytes ≡ out_of x
+finish_by true machine x waits e = ap (λ (row : RowState). (finished machine row).bytes) (over_is x e)
+finish_by false machine x waits e = ap (λ (row : RowState). (finished machine row).bytes) (open_is x e) ∙ waits e
 
-pub gone_runs : (machine : Machine) (sent_ : List (List ℕ)) (history : List Event) (c : ℕ) → Runs machine sent_ history → is_among c (connected history) ≡ true → Runs (ended machine c) sent_ (history ++ Gone c ∷ [])
-gone_runs machine sent_ history c r among = let on = is_on machine sent_ history c r among in gone_runs_ machine sent_ history c r on.1 on.0
+finish_all : (machine : Machine) (lives : List Life) → AllByRecursion (IsWaiting machine) lives → map (λ (row : RowState). (finished machine row).bytes) (map row_of lives) ≡ map out_of lives
+finish_all machine [] h = refl
+finish_all machine (x ∷ lives) h =
+    ap (λ (bytes : List ℕ). bytes ∷ map (λ (row : RowState). (finished machine row).bytes) (map row_of lives)) (finish_by (is_over x.phase) machine x h.0 refl)
+    ∙ ap (λ (all : List (List ℕ)). out_of x ∷ all) (finish_all machine lives h.1)
 
-pub fed_runs : (machine : Machine) (sent_ : List (List ℕ)) (history : List Event) (c : ℕ) (piece : List ℕ) (i : ℕ) (d : List ℕ) → Runs machine sent_ history → is_among c (connected history) ≡ true → i ≡ length sent_ - 1
-    → let waits = (link_at (fed machine c piece) c).waiting in
-    Runs (sent (fed machine c piece) c (length waits)) (set sent_ i (get_or sent_ i d ++ waits)) (history ++ Bytes c piece [] ∷ [])
-fed_runs machine sent_ history c piece i d r among last = let on = is_on machine sent_ history c r among in fed_runs_ machine sent_ history c piece i d r on.1 on.0 last
+pub finished_outputs : (s : Setting) (machine : Machine) (rows : List RowState) (before : List ℕ) (history : History) → Runs s machine rows before history → map (λ (row : RowState). (finished machine row).bytes) rows ≡ outputs s history
+unfolding outputs
+finished_outputs s machine rows before history r = ap (map (λ (row : RowState). (finished machine row).bytes)) r.kept ∙ finish_all machine (world s history).lives (waiting s machine rows before history r)
 
--- a connection stays open while it brings bytes
-pub fed_is_open : (machine : Machine) (history : List Event) (c : ℕ) (piece : List ℕ) → c < connections → is_open_at machine c ≡ true → Stands machine history → is_open_at (fed machine c piece) c ≡ true
-fed_is_open machine history c piece lt open_ s =
-    let n = on_link (world (setting_of machine) history) machine history c lt open_ s in
-    let f = fed_life machine history c piece lt s n in
-    let p = piece_for machine.targets c (link_at machine c) machine.slots piece in
-    let part = fed_part (setting_of machine) history (world (setting_of machine) history) c piece n.life in
-    ap (λ (l : LinkState). not (is_free l.phase)) (get_or-set_same machine.links c p.0 free_link (omega (arith, s.count))) ∙ ap (λ phase. not (is_free phase)) f.phase ∙ ap not (is_free_phase part.life.is_open part.life)
+-- ---- which events may come
+
+open_in : (c : ℕ) (w : World) (o : Option Life) → present c w ≡ o → not (is_free (phase_of o)) ≡ is_there o
+open_in c w None e = refl
+open_in c w (Some life) e = ap not (present_open c w life e)
+
+is_open : (s : Setting) (machine : Machine) (rows : List RowState) (before : List ℕ) (history : History) (c : ℕ) → Runs s machine rows before history → c < connection_limit → is_open_at machine c ≡ is_among c before
+is_open s machine rows before history c r lt =
+    ap (λ phase. not (is_free phase)) (r.stands.links c lt).phase
+    ∙ open_in c (world s history) (present c (world s history)) refl
+    ∙ sym (has_row s machine rows before history r c) ∙ r.tracks c
+
+pub comes : (s : Setting) (machine : Machine) (rows : List RowState) (before : List ℕ) (history : History) (event : Event) → Runs s machine rows before history → may_come before event ≡ true → MayCome machine event
+comes s machine rows before history (Open c) r e =
+    let both = and_true (nat_lt c connection_limit) (not (is_among c before)) e in
+    let lt : c < connection_limit = ltb-true c connection_limit both.0 in
+    (lt, is_open s machine rows before history c r lt ∙ not_true _ both.1)
+comes s machine rows before history (Bytes c piece) r e = (r.below c e, is_open s machine rows before history c r (r.below c e) ∙ e)
+comes s machine rows before history (Gone c) r e = (r.below c e, is_open s machine rows before history c r (r.below c e) ∙ e)
 
 -- ---- the beginning
 
-pub new_runs : (targets : List (List ℕ)) (places : List LogicalUnit) → Runs (new_machine targets places) [] []
+pub new_runs : (s : Setting) (machine : Machine) → Stands s (λ k. 0) machine [] → Runs s machine [] [] []
 unfolding world
-new_runs targets places = record {
-  stands = new_stands targets places;
-  drained = λ c lt. ap (λ (l : LinkState). l.waiting) (get_or-replicate connections c free_link free_link lt);
-  answered = refl;
-  tracks = λ c lt. ap (λ (l : LinkState). not (is_free l.phase)) (get_or-replicate connections c free_link free_link lt);
-  below = tt;
+new_runs s machine h = record { stands = h; kept = refl; distinct = tt; tracks = λ c. refl; below = λ c e. absurd cc }
+
+-- ---- a connection opens
+
+none_sent : (c d : ℕ) → with_sent (λ k. 0) c 0 d ≡ 0
+none_sent c d = elim (eqb_tells d c) [
+  | inl same ↦ cond_true (eqb d c) 0 0 same.0
+  | inr differ ↦ cond_false (eqb d c) 0 0 differ.0
+]
+
+not_equal : (c d : ℕ) → eqb d c ≡ false → eqb c d ≡ false
+not_equal c d e = elim (eqb_tells c d) [
+  | inl same ↦ absurd (cc (e, ap (λ (k : ℕ). eqb k c) (sym same.1), eqb_self c))
+  | inr differ ↦ differ.0
+]
+
+free_more : (c : ℕ) (o : Option ℕ) (rows : List RowState) → is_on c o ≡ false → IsFree o rows → IsFree o (rows ++ open_row c ∷ [])
+free_more c None rows differ free = tt
+free_more c (Some d) rows differ free =
+    list_any-append (λ (row : RowState). is_on d row.connection) rows (open_row c ∷ [])
+    ∙ ap (λ (b : Bool). b || (eqb c d || false)) free
+    ∙ ap (λ (b : Bool). b || false) (not_equal c d differ)
+
+or_false : (a b : Bool) → (a || b) ≡ false → (a ≡ false) × (b ≡ false)
+or_false true b e = absurd cc
+or_false false b e = (refl, e)
+
+distinct_more : (c : ℕ) (rows : List RowState) → has c rows ≡ false → AreDistinct rows → AreDistinct (rows ++ open_row c ∷ [])
+distinct_more c [] none d = (refl, tt)
+distinct_more c (row ∷ rows) none d =
+    let both = or_false (is_on c row.connection) (has c rows) none in
+    (free_more c row.connection rows both.0 d.0, distinct_more c rows both.1 d.1)
+
+or_swap : (a b : Bool) → (a || (b || false)) ≡ (b || a)
+or_swap true true = refl
+or_swap true false = refl
+or_swap false true = refl
+or_swap false false = refl
+
+below_more : (c : ℕ) (before : List ℕ) → c < connection_limit → ((d : ℕ) → is_among d before ≡ true → d < connection_limit) → (d : ℕ) → is_among d (c ∷ before) ≡ true → d < connection_limit
+below_more c before lt below d e = elim (eqb_tells c d) [
+  | inl same ↦ subst (λ (k : ℕ). k < connection_limit) same.1 lt
+  | inr differ ↦ below d (rw differ.0 at e)
+]
+
+pub open_runs : (s : Setting) (machine after : Machine) (rows : List RowState) (before : List ℕ) (history : History) (c : ℕ) → Runs s machine rows before history → MayCome machine (Open c) → Stands s (with_sent (λ k. 0) c 0) after (history ++ plain (Open c) ∷ [])
+    → Runs s after (rows ++ open_row c ∷ []) (c ∷ before) (history ++ plain (Open c) ∷ [])
+open_runs s machine after rows before history c r may h =
+    let w = world s history in
+    let none : has c rows ≡ false = r.tracks c ∙ sym (is_open s machine rows before history c r may.0) ∙ may.1 in
+    record {
+      stands = stands_sent s (with_sent (λ k. 0) c 0) (λ k. 0) after _ (λ d lt. none_sent c d) h;
+      kept =
+          ap (λ (all : List RowState). all ++ open_row c ∷ []) r.kept
+          ∙ sym (map-append row_of w.lives (born c ∷ []))
+          ∙ ap rows_in (sym (world-push s history (plain (Open c))));
+      distinct = distinct_more c rows none r.distinct;
+      tracks = λ d.
+          list_any-append (λ (row : RowState). is_on d row.connection) rows (open_row c ∷ [])
+          ∙ or_swap (has d rows) (eqb c d) ∙ ap (λ (b : Bool). eqb c d || b) (r.tracks d);
+      below = below_more c before may.0 r.below;
+    }
+
+-- ---- and brings bytes
+
+pub bytes_runs : (s : Setting) (machine after : Machine) (rows : List RowState) (before : List ℕ) (history : History) (c : ℕ) (piece : List ℕ) → Runs s machine rows before history → Stands s (λ k. 0) after (history ++ plain (Bytes c piece) ∷ [])
+    → Runs s after rows before (history ++ plain (Bytes c piece) ∷ [])
+bytes_runs s machine after rows before history c piece r h = record {
+  stands = h;
+  kept = r.kept ∙ sym (rows-bring s [] c piece (world s history)) ∙ ap rows_in (sym (world-push s history (plain (Bytes c piece))));
+  distinct = r.distinct;
+  tracks = r.tracks;
+  below = r.below;
 }
 
-places_new : (places : List LogicalUnit) → map place_of (map new_slot places) ≡ places
-places_new [] = refl
-places_new (place ∷ places) = ap (λ (ps : List LogicalUnit). place ∷ ps) (places_new places)
+-- ---- and ends
 
-pub new_setting : (targets : List (List ℕ)) (places : List LogicalUnit) → setting_of (new_machine targets places) ≡ record { targets = targets; places = places }
-new_setting targets places = ap (λ (ps : List LogicalUnit). record { targets = targets; places = ps }) (places_new places)
+abbrev over : Life → Life
+over life = record life { phase = Over }
 
-pub runs_as : (made left : Machine) (out : List (List ℕ)) (history : List Event) → left ≡ made → Runs made out history → Runs left out history
-runs_as made left out history e r = subst (λ (m : Machine). Runs m out history) (sym e) r
+out-over : (x : Life) → out_of (over x) ≡ out_of x
+unfolding out_of
+out-over x = refl
+
+-- a life that is present is over then, and one that is not stays as it is
+end_by : (b : Bool) (machine : Machine) (c : ℕ) (x : Life) → IsWaiting machine x → is_present c x ≡ b → ended machine c (row_of x) ≡ row_of (changed_life over c x)
+end_by true machine c x waits e =
+    let open_ : is_over x.phase ≡ false = is_open_here c x e in
+    cond_true (is_on c (row_of x).connection) (finished machine (row_of x)) (row_of x) (on_present c x ∙ e)
+    ∙ ap (finished machine) (open_is x open_)
+    ∙ ap over_row (waits open_ ∙ sym (out-over x))
+    ∙ ap row_of (sym (cond_true (is_present c x) (over x) x e))
+end_by false machine c x waits e =
+    cond_false (is_on c (row_of x).connection) (finished machine (row_of x)) (row_of x) (on_present c x ∙ e)
+    ∙ ap row_of (sym (cond_false (is_present c x) (over x) x e))
+
+end_all : (machine : Machine) (c : ℕ) (lives : List Life) → AllByRecursion (IsWaiting machine) lives → map (ended machine c) (map row_of lives) ≡ map row_of (map (changed_life over c) lives)
+end_all machine c [] h = refl
+end_all machine c (x ∷ lives) h =
+    ap (λ (row : RowState). row ∷ map (ended machine c) (map row_of lives)) (end_by (is_present c x) machine c x h.0 refl)
+    ∙ ap (λ (rows : List RowState). row_of (changed_life over c x) ∷ rows) (end_all machine c lives h.1)
+
+finished_none : (machine : Machine) (bytes : List ℕ) (o : Option ℕ) → (finished_in machine bytes o).connection ≡ None
+finished_none machine bytes None = refl
+finished_none machine bytes (Some c) = refl
+
+not_on : (c d : ℕ) (o : Option ℕ) → d ≢ c → is_on c o ≡ true → is_on d o ≡ false
+not_on c d None differ e = refl
+not_on c d (Some k) differ e = ne_eqb k d (λ same. differ (sym same ∙ eqb-true k c e))
+
+ended_on : (machine : Machine) (c d : ℕ) (row : RowState) → is_on c row.connection ≡ true → is_on d (ended machine c row).connection ≡ false
+ended_on machine c d row e =
+    ap (λ (r : RowState). is_on d r.connection) (cond_true (is_on c row.connection) (finished machine row) row e)
+    ∙ ap (is_on d) (finished_none machine row.bytes row.connection)
+
+ended_off : (machine : Machine) (c : ℕ) (row : RowState) → is_on c row.connection ≡ false → ended machine c row ≡ row
+ended_off machine c row e = cond_false (is_on c row.connection) (finished machine row) row e
+
+row_not : (b : Bool) (machine : Machine) (c : ℕ) (row : RowState) → is_on c row.connection ≡ b → is_on c (ended machine c row).connection ≡ false
+row_not true machine c row e = ended_on machine c c row e
+row_not false machine c row e = ap (λ (r : RowState). is_on c r.connection) (ended_off machine c row e) ∙ e
+
+row_other : (b : Bool) (machine : Machine) (c d : ℕ) (row : RowState) → d ≢ c → is_on c row.connection ≡ b → is_on d (ended machine c row).connection ≡ is_on d row.connection
+row_other true machine c d row differ e = ended_on machine c d row e ∙ sym (not_on c d row.connection differ e)
+row_other false machine c d row differ e = ap (λ (r : RowState). is_on d r.connection) (ended_off machine c row e)
+
+has-ended : (machine : Machine) (c : ℕ) (rows : List RowState) → has c (map (ended machine c) rows) ≡ false
+has-ended machine c [] = refl
+has-ended machine c (row ∷ rows) = ap (λ (b : Bool). b || has c (map (ended machine c) rows)) (row_not (is_on c row.connection) machine c row refl) ∙ has-ended machine c rows
+
+has-ended_other : (machine : Machine) (c d : ℕ) (rows : List RowState) → d ≢ c → has d (map (ended machine c) rows) ≡ has d rows
+has-ended_other machine c d [] differ = refl
+has-ended_other machine c d (row ∷ rows) differ =
+    ap (λ (b : Bool). b || has d (map (ended machine c) rows)) (row_other (is_on c row.connection) machine c d row differ refl)
+    ∙ ap (λ (b : Bool). is_on d row.connection || b) (has-ended_other machine c d rows differ)
+
+still_free : (machine : Machine) (c : ℕ) (o : Option ℕ) (rows : List RowState) → IsFree o rows → IsFree o (map (ended machine c) rows)
+still_free machine c None rows free = tt
+still_free machine c (Some d) rows free = elim (eqb_tells d c) [
+  | inl same ↦ ap (λ (k : ℕ). has k (map (ended machine c) rows)) same.1 ∙ has-ended machine c rows
+  | inr differ ↦ has-ended_other machine c d rows differ.1 ∙ free
+]
+
+row_free : (b : Bool) (machine : Machine) (c : ℕ) (row : RowState) (rows : List RowState) → is_on c row.connection ≡ b → IsFree row.connection rows → IsFree (ended machine c row).connection rows
+row_free true machine c row rows e free =
+    let none : (ended machine c row).connection ≡ None = ap (λ (r : RowState). r.connection) (cond_true (is_on c row.connection) (finished machine row) row e) ∙ finished_none machine row.bytes row.connection in
+    subst (λ (o : Option ℕ). IsFree o rows) (sym none) tt
+row_free false machine c row rows e free = subst (λ (r : RowState). IsFree r.connection rows) (sym (ended_off machine c row e)) free
+
+distinct_ended : (machine : Machine) (c : ℕ) (rows : List RowState) → AreDistinct rows → AreDistinct (map (ended machine c) rows)
+distinct_ended machine c [] d = tt
+distinct_ended machine c (row ∷ rows) d =
+    (row_free (is_on c row.connection) machine c row (map (ended machine c) rows) refl (still_free machine c row.connection rows d.0), distinct_ended machine c rows d.1)
+
+rows-end : (c : ℕ) (w : World) → rows_in (end c w) ≡ map row_of (map (changed_life over c) w.lives)
+unfolding end changed
+rows-end c w = refl
+
+pub gone_runs : (s : Setting) (machine after : Machine) (rows : List RowState) (before : List ℕ) (history : History) (c : ℕ) → Runs s machine rows before history → Stands s (with_sent (λ k. 0) c 0) after (history ++ plain (Gone c) ∷ [])
+    → Runs s after (map (ended machine c) rows) (open_after before (Gone c)) (history ++ plain (Gone c) ∷ [])
+gone_runs s machine after rows before history c r h =
+    let w = world s history in
+    record {
+      stands = stands_sent s (with_sent (λ k. 0) c 0) (λ k. 0) after _ (λ d lt. none_sent c d) h;
+      kept =
+          ap (map (ended machine c)) r.kept
+          ∙ end_all machine c w.lives (waiting s machine rows before history r)
+          ∙ sym (rows-end c w)
+          ∙ ap rows_in (sym (world-push s history (plain (Gone c))));
+      distinct = distinct_ended machine c rows r.distinct;
+      tracks = λ d. elim (eqb_tells d c) [
+        | inl same ↦ rw same.1 (has-ended machine c rows ∙ sym (among-gone c before))
+        | inr differ ↦ has-ended_other machine c d rows differ.1 ∙ r.tracks d ∙ sym (among-gone_other d c before differ.1)
+      ];
+      below = λ d e. elim (eqb_tells d c) [
+        | inl same ↦ absurd (cc (e, ap (λ (k : ℕ). is_among k (open_after before (Gone c))) same.1, among-gone c before))
+        | inr differ ↦ r.below d (sym (among-gone_other d c before differ.1) ∙ e)
+      ];
+    }

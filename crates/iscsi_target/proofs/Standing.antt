@@ -1,226 +1,205 @@
--- One event keeps the code where the World is.
-use Rattle.std.proofs.Common.{◌≡◌, ◌≢◌, ◌⊎◌, ℕ, ◌<◌, ◌≤◌, List, [], ◌∷◌, ◌++◌, length, map, drop, set, get_or, Bool, true, false, cond, not, ◌&&◌, eqb, Some, None, refl, sym, ap, ◌∙◌, arith, inl, inr}
-use Rattle.std.specs.Prelude.{fold}
-use Rattle.std.specs.List.{AllByRecursion}
-use Rattle.std.proofs.lemmas.Bool.{ne_eqb, eqb-true}
+-- The beginning, and the events that open and end a connection, keep the code where the World is.
+use Rattle.std.proofs.Common.{◌≡◌, ◌≢◌, ℕ, ◌<◌, List, [], ◌∷◌, ◌++◌, length, set, get_or, replicate, Bool, true, false, not, ◌&&◌, eqb, Option, Some, None, refl, sym, ap, ◌∙◌, subst, arith, inl, inr}
 use Rattle.std.proofs.lemmas.Bool.Decides.{eqb_tells}
-use Rattle.std.proofs.lemmas.List.{append-nil, length-append, get_or-set_same, get_or-set_other, drop-append-le, length-set}
+use Rattle.std.proofs.lemmas.Bool.{ne_eqb}
+use Rattle.std.proofs.lemmas.List.{length-set, set-set, length-replicate, get_or-replicate, get_or-set_same, get_or-set_other}
 use Rattle.std.proofs.lemmas.List.Sums.{fold-append}
-use Rattle.iscsi_pdu.specs.Frames.{frames, rest, is_long}
-use Rattle.iscsi_pdu.proofs.Cuts.{rest_in_pieces}
-use Rattle.iscsi_target.specs.History.{Event, Arrival, Whole, TooLong, joined, grown, connections}
-use Rattle.iscsi_target.specs.Units.{Unit}
-use Rattle.iscsi_target.specs.World.{Life, Part, World, close, arrive, at_end, acting, is_present, live_sessions, stamp}
-use Rattle.iscsi_target.specs.Output.{out_of}
-use Rattle.iscsi_target.specs.Machine.{Parts, Machine, LinkState, reads, shut, shut_if, free_link, link_at, parts_of, take_bytes, fed_link, piece_for}
-use Rattle.iscsi_target.specs.Stands.{unit_for, phase_of, IsQuiet, IsLinkOf, LinkStands, present, IsOver, IsNow, IsAlone, session_now, StandsAt}
-use Rattle.iscsi_target.specs.declared.units.Slot.{Slot}
-use Rattle.iscsi_target.proofs.Choices.{cond_true, cond_false, and_false, and_true}
-use Rattle.iscsi_target.proofs.Taking.{short_rest}
-use Rattle.iscsi_target.proofs.Histories.{grown_is}
-use Rattle.iscsi_target.proofs.Steps.{PartStands, closes, takes_all, reads_life, reads_phase}
+use Rattle.iscsi_pdu.specs.Frames.{is_long}
+use Rattle.iscsi_pdu.proofs.Frames.{no_frame, rest_none}
+use Rattle.iscsi_target.specs.History.{Open, Gone, Happening, History, plain, arrivals, connection_limit}
+use Rattle.iscsi_target.specs.Units.{Units}
+use Rattle.iscsi_target.specs.Life.{Life, Phase, LoggingIn, FullFeature, Closing, Over, born, is_over, out_of}
+use Rattle.iscsi_target.specs.World.{Setting, World, present, changed, session_of, left, end, happened, new_world, world}
+use Rattle.iscsi_target.specs.Machine.{LinkState, Machine, link_at, with_link, closed, is_free, is_open_at, free_link, opened_link, shut_link, session_in_phase, new_machine}
+use Rattle.iscsi_target.specs.Stands.{phase_of, phase_for, IsLinkOf, StandsAt, Stands, with_sent}
+use Rattle.iscsi_target.specs.declared.session.Session.{Session}
+use Rattle.iscsi_target.proofs.Choices.{cond_true, cond_false, and_true, not_true}
+use Rattle.iscsi_target.proofs.Counting.{eqb_self}
+use Rattle.iscsi_target.proofs.Lives.{present-over, present-changed_other, present-units, present-born, present-born_other, present_is}
+use Rattle.iscsi_target.proofs.Serving.{IsQuietAt, Serves, session_same, bytes_now}
 
--- ---- which life acts
+-- ---- one more event
 
-over_is_absent : (c : ℕ) (life : Life) → IsOver life → is_present c life ≡ false
-over_is_absent c life over = rw over.gone (and_false (eqb life.connection c))
+pub world-push : (s : Setting) (history : History) (h : Happening) → world s (history ++ h ∷ []) ≡ happened s (world s history) h
+unfolding world
+world-push s history h = fold-append (happened s) (new_world s) history (h ∷ [])
 
-pub all_absent : (c : ℕ) (older : List Life) → AllByRecursion IsOver older → present c older ≡ None
-all_absent c [] h = refl
-all_absent c (life ∷ older) h = cond_false (is_present c life) (Some life) (present c older) (over_is_absent c life h.0) ∙ all_absent c older h.1
+pub stands_as : (s : Setting) (sent : ℕ → ℕ) (machine : Machine) (history : History) (h : Happening) (v : World) → happened s (world s history) h ≡ v → StandsAt s sent v machine → Stands s sent machine (history ++ h ∷ [])
+stands_as s sent machine history h v e at =
+    let P : World → Type 0 = λ w. StandsAt s sent w machine in
+    subst P (sym (world-push s history h ∙ e)) at
 
--- the lives of which one is present: the newest is it
-pub record Newest (c : ℕ) (lives : List Life) (life : Life) : Type 0 where
-  pub older : List Life
-  pub lives_are : lives ≡ life ∷ older
-  pub here : is_present c life ≡ true
-  pub over : AllByRecursion IsOver older
-  pub now : IsNow life
+-- ---- between two events, and while frames are taken
 
-some_is : (x y : Life) → Some x ≡ Some y → x ≡ y
-some_is x y e = cc
+abbrev pub place_in : Option Life → ℕ
+place_in None = 0
+place_in (Some life) = length (arrivals life.bytes)
 
-newest_by : (b : Bool) (c : ℕ) (first : Life) (older : List Life) (life : Life) → is_present c first ≡ b → IsOver first ⊎ IsNow first → AllByRecursion IsOver older → present c (first ∷ older) ≡ Some life → Newest c (first ∷ older) life
-newest_by false c first older life e alone over found =
-    let none = cond_false (is_present c first) (Some first) (present c older) e ∙ all_absent c older over in absurd (cc (found, none))
-newest_by true c first older life e (inl gone) over found = let absent = over_is_absent c first gone in absurd (cc (e, absent))
-newest_by true c first older life e (inr now) over found =
-    let same : first ≡ life = some_is first life (sym (cond_true (is_present c first) (Some first) (present c older) e) ∙ found) in
-    rw (← same) record { older = older; lives_are = refl; here = e; over = over; now = now }
+quiet_now : (o : Option Life) (sent : ℕ) (link : LinkState) → IsLinkOf sent link o → IsQuietAt (place_in o) o
+quiet_now None sent link h = tt
+quiet_now (Some life) sent link h = h.settled.quiet
 
-pub newest : (c : ℕ) (lives : List Life) (life : Life) → IsAlone lives → present c lives ≡ Some life → Newest c lives life
-newest c [] life alone found = absurd cc
-newest c (first ∷ older) life alone found = newest_by (is_present c first) c first older life refl alone.0 alone.1 found
-
--- no other connection has a session
-over_no_session : (b : Bool) (life : Life) → IsOver life → cond b None life.session ≡ None
-over_no_session true life over = refl
-over_no_session false life over = over.session
-
-none_live : (c : ℕ) (older : List Life) → AllByRecursion IsOver older → live_sessions c older ≡ []
-none_live c [] h = refl
-none_live c (life ∷ older) h = rw (over_no_session (is_present c life) life h.0) (none_live c older h.1)
-
-pub alone_live : (c : ℕ) (life : Life) (older : List Life) → is_present c life ≡ true → AllByRecursion IsOver older → live_sessions c (life ∷ older) ≡ []
-alone_live c life older here over = rw here (none_live c older over)
-
-pub acting_first : (act : Part → Part) (c : ℕ) (life : Life) (older : List Life) (units : List Unit) → is_present c life ≡ true
-    → acting act (is_present c) (life ∷ older) units ≡ record { lives = (act (record { life = life; units = units; steps = 0 })).life ∷ older; units = (act (record { life = life; units = units; steps = 0 })).units }
-acting_first act c life older units here = rw here refl
-
--- ---- one piece
-
-closed_idle : (targets : List (List ℕ)) (part : Part) (arrivals : List Arrival) → part.life.is_open ≡ false → fold (arrive targets [] []) part arrivals ≡ part
-closed_idle targets part [] e = refl
-closed_idle targets part (arrival ∷ arrivals) e =
-    ap (λ (p : Part). fold (arrive targets [] []) p arrivals) (cond_false part.life.is_open _ part e) ∙ closed_idle targets part arrivals e
-
-no_mark : (part : Part) → at_end [] part ≡ part
-no_mark part = cond_false (part.life.is_open && false) (close part) part (and_false part.life.is_open)
-
--- a long rest closes the life, if it is open yet
-long_closes_by : (b : Bool) (c : ℕ) (o w : List ℕ) (part : Part) (parts : Parts) → PartStands c o w part parts → part.life.is_open ≡ b → reads parts.phase ≡ b
-    → PartStands c o w (cond b (close part) part) (cond (b && true) (shut parts) parts)
-long_closes_by true c o w part parts h e r = closes c o w part parts h
-long_closes_by false c o w part parts h e r = h
-
-rest_stands : (long : Bool) (targets : List (List ℕ)) (c : ℕ) (o w : List ℕ) (part : Part) (parts : Parts) → PartStands c o w part parts
-    → PartStands c o w (fold (arrive targets [] []) part (cond long (TooLong ∷ []) [])) (shut_if long parts)
-rest_stands true targets c o w part parts h =
-    let r = reads_phase part parts h.phase in
-    rw r (long_closes_by part.life.is_open c o w part parts h refl r)
-rest_stands false targets c o w part parts h = rw (and_false (reads parts.phase)) h
-
--- all that a piece brings, behind the rest of the bytes before it
-pub piece_stands : (targets : List (List ℕ)) (c : ℕ) (o w : List ℕ) (part : Part) (parts : Parts) (bytes piece : List ℕ) → is_long (rest bytes) ≡ false → PartStands c o w part parts
-    → PartStands c o w (at_end [] (fold (arrive targets [] []) part (grown bytes piece))) (take_bytes targets c parts (rest bytes ++ piece))
-unfolding take_bytes
-piece_stands targets c o w part parts bytes piece short h =
-    let more = rest bytes ++ piece in
-    let all = takes_all targets c o w part parts (frames more) h in
-    let ended = rest_stands (is_long (rest more)) targets c o w _ _ all in
-    let split = fold-append (arrive targets [] []) part (map Whole (frames more)) (cond (is_long (rest more)) (TooLong ∷ []) []) in
-    rw (no_mark (fold (arrive targets [] []) part (grown bytes piece)), grown_is bytes piece short, split) ended
-
--- what a link is after it
-pub record Fed (c : ℕ) (o w : List ℕ) (bytes : List ℕ) (part : Part) (link : LinkState) (slots : List Slot) : Type 0 where
-  pub phase : link.phase ≡ phase_of part.life
-  pub half : link.half ≡ cond part.life.is_open (rest bytes) []
-  pub quiet : part.life.is_open ≡ true → IsQuiet part.life
-  pub short : part.life.is_open ≡ true → is_long (rest bytes) ≡ false
-  pub units : part.units ≡ map (unit_for part.life.session) slots
-  pub connection : part.life.connection ≡ c
-  pub gone : part.life.is_gone ≡ false
-  pub closed : part.life.is_open ≡ false → part.life.session ≡ None
-  pub more : List ℕ
-  pub out : out_of part.life ≡ o ++ more
-  pub waiting : link.waiting ≡ w ++ more
-
--- a link that reads
-fed_open : (targets : List (List ℕ)) (c : ℕ) (life : Life) (units : List Unit) (link : LinkState) (slots : List Slot) (bytes piece : List ℕ) → IsLinkOf link bytes life → life.is_open ≡ true → life.connection ≡ c → life.is_gone ≡ false → units ≡ map (unit_for life.session) slots
-    → Fed c (out_of life) link.waiting (bytes ++ piece) (at_end [] (fold (arrive targets [] []) (record { life = life; units = units; steps = 0 }) (grown bytes piece))) (fed_link targets c link slots piece).0 (fed_link targets c link slots piece).1
-fed_open targets c life units link slots bytes piece is reads_ connection gone at =
-    let begin : Part = record { life = life; units = units; steps = 0 } in
-    let half : link.half ≡ rest bytes = is.half ∙ cond_true life.is_open (rest bytes) [] reads_ in
-    let init : PartStands c (out_of life) link.waiting begin (parts_of link slots) = record {
-      phase = is.phase;
-      units = at;
-      quiet = is.quiet;
-      connection = connection;
-      gone = gone;
-      closed = λ e. absurd (cc (e, reads_));
-      more = [];
-      out = sym (append-nil (out_of life));
-      waiting = sym (append-nil link.waiting);
-    } in
-    let after = at_end [] (fold (arrive targets [] []) begin (grown bytes piece)) in
-    let parts = take_bytes targets c (parts_of link slots) (rest bytes ++ piece) in
-    let s = piece_stands targets c (out_of life) link.waiting begin (parts_of link slots) bytes piece (is.short reads_) init in
-    let r = reads_phase after parts s.phase in
-    rw half record {
-      phase = s.phase;
-      half = rw (r, rest_in_pieces bytes piece) refl;
-      quiet = s.quiet;
-      short = λ e. rw (rest_in_pieces bytes piece) (short_rest targets c (parts_of link slots) (rest bytes ++ piece) (r ∙ e));
-      units = s.units;
-      connection = s.connection;
-      gone = s.gone;
-      closed = s.closed;
-      more = s.more;
-      out = s.out;
-      waiting = s.waiting;
+pub serving : (c : ℕ) (s : Setting) (sent : ℕ → ℕ) (w : World) (machine : Machine) → c < connection_limit → StandsAt s sent w machine → Serves c (place_in (present c w)) (bytes_now (present c w)) s sent w machine
+serving c s sent w machine lt h =
+    let link = h.links c lt in
+    record {
+      names = h.names;
+      units = h.units;
+      count = h.count;
+      in_range = lt;
+      here = record { phase = link.phase; answered = link.answered; waiting = link.waiting; quiet = quiet_now (present c w) (sent c) (link_at machine c) link; held = refl };
+      others = λ d below differ. h.links d below;
     }
 
--- one that does not
-fed_closed : (targets : List (List ℕ)) (c : ℕ) (life : Life) (units : List Unit) (link : LinkState) (slots : List Slot) (bytes piece : List ℕ) → IsLinkOf link bytes life → life.is_open ≡ false → life.connection ≡ c → life.is_gone ≡ false → life.session ≡ None → units ≡ map (unit_for life.session) slots
-    → Fed c (out_of life) link.waiting (bytes ++ piece) (at_end [] (fold (arrive targets [] []) (record { life = life; units = units; steps = 0 }) (grown bytes piece))) link slots
-fed_closed targets c life units link slots bytes piece is shut_ connection gone none at =
-    let begin : Part = record { life = life; units = units; steps = 0 } in
-    rw (no_mark (fold (arrive targets [] []) begin (grown bytes piece)), closed_idle targets begin (grown bytes piece) shut_) record {
-      phase = is.phase;
-      half = is.half ∙ cond_false life.is_open (rest bytes) [] shut_ ∙ sym (cond_false life.is_open (rest (bytes ++ piece)) [] shut_);
-      quiet = is.quiet;
-      short = λ e. absurd (cc (e, shut_));
-      units = at;
-      connection = connection;
-      gone = gone;
-      closed = λ e. none;
-      more = [];
-      out = sym (append-nil (out_of life));
-      waiting = sym (append-nil link.waiting);
-    }
-
-fed_by : (b : Bool) (targets : List (List ℕ)) (c : ℕ) (life : Life) (units : List Unit) (link : LinkState) (slots : List Slot) (bytes piece : List ℕ) → IsLinkOf link bytes life → life.is_open ≡ b → reads link.phase ≡ b → is_present c life ≡ true → IsNow life → units ≡ map (unit_for life.session) slots
-    → let p = cond b (fed_link targets c link slots piece) (link, slots) in
-    Fed c (out_of life) link.waiting (bytes ++ piece) (at_end [] (fold (arrive targets [] []) (record { life = life; units = units; steps = 0 }) (grown bytes piece))) p.0 p.1
-fed_by true targets c life units link slots bytes piece is e r here now at = fed_open targets c life units link slots bytes piece is e (eqb-true _ _ (and_true _ _ here).0) now.gone at
-fed_by false targets c life units link slots bytes piece is e r here now at = fed_closed targets c life units link slots bytes piece is e (eqb-true _ _ (and_true _ _ here).0) now.gone (now.session e) at
-
-pub fed_stands : (targets : List (List ℕ)) (c : ℕ) (life : Life) (units : List Unit) (link : LinkState) (slots : List Slot) (bytes piece : List ℕ) → IsLinkOf link bytes life → is_present c life ≡ true → IsNow life → units ≡ map (unit_for life.session) slots
-    → Fed c (out_of life) link.waiting (bytes ++ piece) (at_end [] (fold (arrive targets [] []) (record { life = life; units = units; steps = 0 }) (grown bytes piece))) (piece_for targets c link slots piece).0 (piece_for targets c link slots piece).1
-fed_stands targets c life units link slots bytes piece is here now at =
-    let r : reads link.phase ≡ life.is_open = ap reads is.phase ∙ reads_life life.is_open life.session (stamp life) in
-    rw r (fed_by life.is_open targets c life units link slots bytes piece is refl r here now at)
-
--- ---- all connections
-
--- a link with a life that goes on from the one before
-pub goes_on : (c : ℕ) (bytes : List ℕ) (life : Life) (waiting : List ℕ) (part : Part) (link : LinkState) (slots : List Slot) → (k : ℕ) → k ≤ length (out_of life) → waiting ≡ drop k (out_of life) → Fed c (out_of life) waiting bytes part link slots → IsLinkOf link bytes part.life
-goes_on c bytes life waiting part link slots k le sent_ f = record {
-  phase = f.phase;
-  half = f.half;
-  waiting = (
-    k,
-    rw f.out (omega (arith, length-append (out_of life) f.more)),
-    f.waiting ∙ ap (λ (t : List ℕ). t ++ f.more) sent_ ∙ sym (rw f.out (drop-append-le k (out_of life) f.more le)),
-  );
-  quiet = f.quiet;
-  short = f.short;
+pub stands_from : (c place : ℕ) (bytes : List ℕ) (s : Setting) (sent : ℕ → ℕ) (w : World) (machine : Machine) → Serves c place bytes s sent w machine → IsLinkOf (sent c) (link_at machine c) (present c w) → StandsAt s sent w machine
+stands_from c place bytes s sent w machine h here = record {
+  names = h.names;
+  units = h.units;
+  count = h.count;
+  links = λ d lt. elim (eqb_tells d c) [
+    | inl same ↦ rw same.1 here
+    | inr differ ↦ h.others d lt differ.1
+  ];
 }
 
-not_the : (a b : ℕ) (x : Bool) → a ≢ b → (eqb a b && x) ≡ false
-not_the a b x ne = rw (ne_eqb a b ne) refl
+-- ---- which connections are open
 
-pub absent_other : (d c : ℕ) (life : Life) (older : List Life) → life.connection ≡ c → d ≢ c → AllByRecursion IsOver older → present d (life ∷ older) ≡ None
-absent_other d c life older connection differ over =
-    cond_false (is_present d life) (Some life) (present d older) (not_the life.connection d (not life.is_gone) (λ same. differ (sym same ∙ connection))) ∙ all_absent d older over
+over_is_free : (life : Life) (phase : Phase) → is_over phase ≡ false → is_free (phase_for life phase) ≡ false
+over_is_free life LoggingIn e = refl
+over_is_free life (FullFeature session) e = refl
+over_is_free life Closing e = refl
+over_is_free life Over e = absurd cc
 
--- a World and a machine that agree on one connection and on all others
-pub assembled : (w : World) (machine : Machine) (history : List Event) (c : ℕ) (link : LinkState) (slots : List Slot) → c < connections → length machine.links ≡ connections
-    → LinkStands link (joined c history) (present c w.lives)
-    → ((d : ℕ) → d < connections → d ≢ c → LinkStands (link_at machine d) (joined d history) (present d w.lives))
-    → w.units ≡ map (unit_for (session_now w.lives)) slots → IsAlone w.lives
-    → StandsAt w (record machine { slots = slots; links = set machine.links c link }) history
-assembled w machine history c link slots lt count here others units alone = record {
+pub present_open : (c : ℕ) (w : World) (life : Life) → present c w ≡ Some life → is_free (phase_of (Some life)) ≡ false
+present_open c w life e = over_is_free life life.phase (not_true (is_over life.phase) (and_true (eqb life.connection c) (not (is_over life.phase)) (present_is c w life e)).1)
+
+open_in : (o : Option Life) → is_free (phase_of o) ≡ false → (life : Life) × (o ≡ Some life)
+open_in None e = absurd cc
+open_in (Some life) e = (life, refl)
+
+free_in : (c : ℕ) (w : World) (o : Option Life) → present c w ≡ o → is_free (phase_of o) ≡ true → o ≡ None
+free_in c w None e f = refl
+free_in c w (Some life) e f = let open_ = present_open c w life e in absurd (cc (open_, f))
+
+free_from : (b : Bool) → not b ≡ false → b ≡ true
+free_from true e = refl
+free_from false e = absurd cc
+
+pub is_free_there : (s : Setting) (sent : ℕ → ℕ) (w : World) (machine : Machine) (c : ℕ) → c < connection_limit → StandsAt s sent w machine → is_open_at machine c ≡ false → present c w ≡ None
+is_free_there s sent w machine c lt h e = free_in c w (present c w) refl (ap is_free (sym (h.links c lt).phase) ∙ free_from _ e)
+
+pub is_open_there : (s : Setting) (sent : ℕ → ℕ) (w : World) (machine : Machine) (c : ℕ) → c < connection_limit → StandsAt s sent w machine → is_open_at machine c ≡ true → (life : Life) × (present c w ≡ Some life)
+is_open_there s sent w machine c lt h e = open_in (present c w) (ap is_free (sym (h.links c lt).phase) ∙ not_true _ e)
+
+-- ---- how many bytes were sent
+
+pub sent_here : (sent : ℕ → ℕ) (c n : ℕ) → with_sent sent c n c ≡ n
+sent_here sent c n = cond_true (eqb c c) n (sent c) (eqb_self c)
+
+pub sent_there : (sent : ℕ → ℕ) (c n d : ℕ) → d ≢ c → with_sent sent c n d ≡ sent d
+sent_there sent c n d differ = cond_false (eqb d c) n (sent d) (ne_eqb d c differ)
+
+-- a link changes, and how much of its answers was sent
+pub relinked : (s : Setting) (sent : ℕ → ℕ) (w v : World) (machine : Machine) (c n : ℕ) (units : List Units) (link : LinkState) → c < connection_limit → StandsAt s sent w machine → v.units ≡ units
+    → ((d : ℕ) → d ≢ c → present d v ≡ present d w) → IsLinkOf n link (present c v) → StandsAt s (with_sent sent c n) v (record machine { units = units; links = set machine.links c link })
+relinked s sent w v machine c n units link lt h u other here = record {
+  names = h.names;
+  units = sym u;
+  count = length-set machine.links c link ∙ h.count;
   links = λ d below. elim (eqb_tells d c) [
-    | inl same ↦
-        let there : get_or (set machine.links c link) c free_link ≡ link = get_or-set_same machine.links c link free_link (omega arith) in
-        rw same.1 (rw there here)
-    | inr differ ↦
+    | inl same ↦ (
+        let there : get_or (set machine.links c link) c free_link ≡ link = get_or-set_same machine.links c link free_link (omega (arith, h.count)) in
+        rw same.1 (rw (sent_here sent c n, there) here))
+    | inr differ ↦ (
         let there : get_or (set machine.links c link) d free_link ≡ link_at machine d = get_or-set_other machine.links c d link free_link differ.1 in
-        rw there (others d below differ.1)
+        rw (sent_there sent c n d differ.1, there, other d differ.1) (h.links d below))
   ];
-  units = units;
-  alone = alone;
-  count = length-set machine.links c link ∙ count;
+}
+
+-- ---- the beginning
+
+none_at_first : (s : Setting) (c : ℕ) → present c (new_world s) ≡ None
+unfolding present
+none_at_first s c = refl
+
+free_is : IsLinkOf 0 free_link None
+free_is = record { phase = refl; half = refl; answered = omega arith; waiting = refl; settled = tt }
+
+new_stands_at : (s : Setting) → StandsAt s (λ c. 0) (new_world s) (new_machine s.names s.units)
+new_stands_at s = record {
+  names = refl;
+  units = refl;
+  count = length-replicate connection_limit free_link;
+  links = λ c lt. (let there : get_or (replicate connection_limit free_link) c free_link ≡ free_link = get_or-replicate connection_limit c free_link free_link lt in rw (there, none_at_first s c) free_is);
+}
+
+pub new_stands : (s : Setting) → Stands s (λ c. 0) (new_machine s.names s.units) []
+unfolding world
+new_stands s = new_stands_at s
+
+-- ---- Open
+
+nothing_long : is_long [] ≡ false
+unfolding is_long
+nothing_long = refl
+
+no_answers : (c : ℕ) → out_of (born c) ≡ []
+unfolding out_of
+no_answers c = refl
+
+born_link : (c : ℕ) → IsLinkOf 0 opened_link (Some (born c))
+born_link c = record {
+  phase = refl;
+  half = sym (rest_none [] no_frame);
+  answered = omega arith;
+  waiting = rw (no_answers c) refl;
+  settled = record {
+    quiet = record { requests = refl; came = refl; finished = refl; answers = refl };
+    short = λ e. rw (rest_none [] no_frame) nothing_long;
+  };
+}
+
+pub open_stands : (s : Setting) (sent : ℕ → ℕ) (machine : Machine) (history : History) (c : ℕ) → c < connection_limit → is_open_at machine c ≡ false → Stands s sent machine history → Stands s (with_sent sent c 0) (with_link machine c opened_link) (history ++ plain (Open c) ∷ [])
+open_stands s sent machine history c lt free h =
+    let w = world s history in
+    let v : World = record w { lives = w.lives ++ born c ∷ [] } in
+    let none = is_free_there s sent w machine c lt h free in
+    let born_ : present c v ≡ Some (born c) = present-born c w none in
+    stands_as s (with_sent sent c 0) (with_link machine c opened_link) history (plain (Open c)) v refl
+    (relinked s sent w v machine c 0 machine.units opened_link lt h (sym h.units) (λ d differ. present-born_other c d w differ) (rw born_ (born_link c)))
+
+-- ---- Gone
+
+not_present : (b : Bool) → (b && false) ≡ false
+not_present true = refl
+not_present false = refl
+
+pub gone_stands : (s : Setting) (sent : ℕ → ℕ) (machine : Machine) (history : History) (c : ℕ) → c < connection_limit → Stands s sent machine history → Stands s (with_sent sent c 0) (with_link (closed machine c) c free_link) (history ++ plain (Gone c) ∷ [])
+unfolding closed end
+gone_stands s sent machine history c lt h =
+    let w = world s history in
+    let over : Life → Life = λ life. record life { phase = Over } in
+    let v = end c w in
+    let link = h.links c lt in
+    let session : session_of (present c w) ≡ session_in_phase (link_at machine c).phase = sym (session_same (present c w)) ∙ ap session_in_phase (sym link.phase) in
+    let units : v.units ≡ left (session_in_phase (link_at machine c).phase) machine.units = ap (λ (o : Option Session). left o w.units) session ∙ ap (left (session_in_phase (link_at machine c).phase)) (sym h.units) in
+    let none : present c v ≡ None = present-units c v (changed over c w) refl ∙ present-over over c w (λ life. not_present (eqb life.connection c)) in
+    let twice : set (set machine.links c (shut_link (link_at machine c))) c free_link ≡ set machine.links c free_link = set-set machine.links c (shut_link (link_at machine c)) free_link in
+    stands_as s (with_sent sent c 0) (with_link (closed machine c) c free_link) history (plain (Gone c)) v refl
+    (rw twice (relinked s sent w v machine c 0 (left (session_in_phase (link_at machine c).phase) machine.units) free_link lt h units
+    (λ d differ. present-units d v (changed over c w) refl ∙ present-changed_other over c d w (λ life. refl) differ)
+    (rw none free_is)))
+
+-- ---- the machine, however it is written
+
+pub stands_machine : (s : Setting) (sent : ℕ → ℕ) (history : History) (a b : Machine) → a ≡ b → Stands s sent a history → Stands s sent b history
+stands_machine s sent history a b e h = let P : Machine → Type 0 = λ m. Stands s sent m history in subst P e h
+
+-- only how many bytes were sent on each connection counts, however it is written
+pub stands_sent : (s : Setting) (sent other : ℕ → ℕ) (machine : Machine) (history : History) → ((c : ℕ) → c < connection_limit → sent c ≡ other c) → Stands s sent machine history → Stands s other machine history
+stands_sent s sent other machine history same h = record {
+  names = h.names;
+  units = h.units;
+  count = h.count;
+  links = λ c lt. (let e = same c lt in rw (← e) (h.links c lt));
 }

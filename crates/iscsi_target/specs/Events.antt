@@ -1,13 +1,17 @@
--- An event without where its bytes lie in memory. Nothing marks it: memory did not run out.
-use Rattle.std.specs.Prelude.{List, [], map}
+-- An event without where its bytes lie in memory.
+use Rattle.std.specs.Prelude.{List, map}
 use Rattle.iscsi_target.specs.History as history
 use Rattle.iscsi_target.specs.declared.event.Event.{Event}
 use Rattle.iscsi_target.specs.declared.event.Event.TheVariants as events
 
 abbrev pub event_view : Event → history.Event
 event_view (events.Open c) = history.Open c
-event_view (events.Bytes c piece) = history.Bytes c piece.items []
+event_view (events.Bytes c piece) = history.Bytes c piece.items
 event_view (events.Gone c) = history.Gone c
 
 abbrev pub events_view : List Event → List history.Event
 events_view events = map event_view events
+
+-- no allocation failed in any of them
+abbrev pub plain_history : List Event → history.History
+plain_history events = map history.plain (events_view events)

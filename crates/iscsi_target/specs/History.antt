@@ -1,79 +1,84 @@
 -- What happens to the target: connections open, bring bytes and end, one event after the other.
-use Rattle.std.specs.Prelude.{ℕ, List, [], ◌∷◌, ◌++◌, length, drop, map, filter, fold, Bool, true, ◌&&◌, not, ◌==◌, nat_lt, Option, if◌then◌else◌}
-use Rattle.std.specs.List.{list_any}
+use Rattle.std.specs.Prelude.{ℕ, List, [], ◌∷◌, ◌++◌, length, drop, map, filter, Bool, true, ◌&&◌, not, ◌==◌, nat_lt, if◌then◌else◌}
+use Rattle.std.specs.List.{list_any, range_with_len, enumerate_from}
 use Rattle.iscsi_pdu.specs.Frames.{Frame, frames, rest, is_long}
-
--- Where memory ran out in an event: just before this step of this connection, counted from 0 in the
--- event, or at the event's end, the connection is closed as by a violation.
-pub record Mark : Type 0 where
-  pub connection : ℕ
-  pub step : Option ℕ
 
 pub data Event : Type 0 where
   Open : (connection : ℕ) → Event
-  Bytes : (connection : ℕ) (piece : List ℕ) (marks : List Mark) → Event
+  Bytes : (connection : ℕ) (piece : List ℕ) → Event
   Gone : (connection : ℕ) → Event
 
--- profile: connections are numbered from 0 to 63
-abbrev pub connections : ℕ
-connections = 64
+-- A step of a connection in an event: a frame is judged, or answered where it is a Login request; the
+-- act of taking a request; a command is done and answered; and then the event ends. Each frame has its
+-- place among those of its connection.
+pub data Step : Type 0 where
+  Judging : (place : ℕ) → Step
+  Taking : (place : ℕ) → Step
+  Doing : (place : ℕ) → Step
+  Ending : Step
 
--- ---- which histories the caller may make
+-- an allocation failed: just before this step of this connection, it is closed as by a violation
+pub record Mark : Type 0 where
+  pub connection : ℕ
+  pub step : Step
+
+-- an event, and where allocations failed in it
+pub record Happening : Type 0 where
+  pub event : Event
+  pub marks : List Mark
+
+abbrev pub History : Type 0
+History = List Happening
+
+abbrev pub marked : List Mark → Event → Happening
+marked marks event = record { event = event; marks = marks }
+
+-- no allocation failed
+abbrev pub plain : Event → Happening
+plain event = marked [] event
+
+-- ---- which events may come
+
+-- profile: connections are numbered from 0 to 63
+abbrev pub connection_limit : ℕ
+connection_limit = 64
+
+abbrev pub connections : List ℕ
+connections = range_with_len 0 connection_limit
+
+abbrev pub is_among : ℕ → List ℕ → Bool
+is_among c open_connections = list_any (λ d. d == c) open_connections
 
 -- the connections that are open after an event
-abbrev pub connected_after : List ℕ → Event → List ℕ
-connected_after connected (Open c) = c ∷ connected
-connected_after connected (Bytes c piece marks) = connected
-connected_after connected (Gone c) = filter (λ d. not (d == c)) connected
+abbrev pub open_after : List ℕ → Event → List ℕ
+open_after before (Open c) = c ∷ before
+open_after before (Bytes c piece) = before
+open_after before (Gone c) = filter (λ d. not (d == c)) before
 
--- a connection opens where none is open, and brings bytes and ends where it is open
-abbrev pub is_allowed : List ℕ → Event → Bool
-is_allowed connected (Open c) = nat_lt c connections && length connected == 0
-is_allowed connected (Bytes c piece marks) = list_any (λ d. d == c) connected
-is_allowed connected (Gone c) = list_any (λ d. d == c) connected
+-- a connection opens under a free number, and brings bytes and ends where it is open
+abbrev pub may_come : List ℕ → Event → Bool
+may_come before (Open c) = nat_lt c connection_limit && not (is_among c before)
+may_come before (Bytes c piece) = is_among c before
+may_come before (Gone c) = is_among c before
 
-abbrev pub well_formed_from : List ℕ → List Event → Bool
-well_formed_from connected [] = true
-well_formed_from connected (event ∷ history) = is_allowed connected event && well_formed_from (connected_after connected event) history
+abbrev pub may_follow : List ℕ → List Event → Bool
+may_follow before [] = true
+may_follow before (event ∷ events) = may_come before event && may_follow (open_after before event) events
 
 abbrev pub well_formed : List Event → Bool
-well_formed history = well_formed_from [] history
+well_formed events = may_follow [] events
 
--- ---- what comes of the bytes
+-- ---- what becomes whole
 
--- the bytes of a connection's present life, from those before an event
-abbrev pub joined_with : ℕ → List ℕ → Event → List ℕ
-joined_with c bytes (Open d) = if d == c then [] else bytes
-joined_with c bytes (Bytes d piece marks) = if d == c then bytes ++ piece else bytes
-joined_with c bytes (Gone d) = if d == c then [] else bytes
-
--- the pieces of the connection's present life, joined
-unfoldable pub joined : ℕ → List Event → List ℕ
-joined c history = fold (joined_with c) [] history
-
--- what becomes whole on a connection
+-- a frame, or a header that names too much data
 pub data Arrival : Type 0 where
   Whole : (frame : Frame) → Arrival
   TooLong : Arrival
 
--- a header that names too much data has come, and had not before
-abbrev pub too_long : List ℕ → List ℕ → List Arrival
-too_long before after = if is_long (rest after) && not (is_long (rest before)) then TooLong ∷ [] else []
+-- what a connection's bytes are: their frames, and then TooLong where their rest is long
+unfoldable pub arrivals : List ℕ → List Arrival
+arrivals bytes = map Whole (frames bytes) ++ (if is_long (rest bytes) then TooLong ∷ [] else [])
 
--- the frames by which those of the joined pieces grow, then TooLong where the rest becomes long
-unfoldable pub grown : List ℕ → List ℕ → List Arrival
-grown bytes piece = map Whole (drop (length (frames bytes)) (frames (bytes ++ piece))) ++ too_long bytes (bytes ++ piece)
-
--- what an event brings, after those before it
-abbrev pub arrivals_of : List Event → Event → List (ℕ × Arrival)
-arrivals_of before (Open c) = []
-arrivals_of before (Bytes c piece marks) = map (λ arrival. (c, arrival)) (grown (joined c before) piece)
-arrivals_of before (Gone c) = []
-
-abbrev pub arrivals_after : List Event → List Event → List (ℕ × Arrival)
-arrivals_after before [] = []
-arrivals_after before (event ∷ history) = arrivals_of before event ++ arrivals_after (before ++ event ∷ []) history
-
--- what became whole, in order, each with its connection
-abbrev pub arrivals : List Event → List (ℕ × Arrival)
-arrivals history = arrivals_after [] history
+-- those that a further piece brings, each with its place
+unfoldable pub new_arrivals : List ℕ → List ℕ → List (ℕ × Arrival)
+new_arrivals bytes piece = drop (length (arrivals bytes)) (enumerate_from 0 (arrivals (bytes ++ piece)))

@@ -1,19 +1,14 @@
--- What the target answers and keeps, as bytes and values.
-use Rattle.std.specs.Prelude.{ℕ, List, [], ◌∷◌, ◌++◌}
-use Rattle.std.specs.List.{flat_map}
-use Rattle.iscsi_pdu.specs.Answers.{spelling}
-use Rattle.iscsi_target.specs.History.{Event}
-use Rattle.iscsi_target.specs.World.{Setting, Life, world}
+-- What the target answers, as bytes.
+use Rattle.std.specs.Prelude.{ℕ, List, [], map, Option, Some, None}
+use Rattle.iscsi_target.specs.History.{History}
+use Rattle.iscsi_target.specs.Life.{Life, out_of}
+use Rattle.iscsi_target.specs.World.{Setting, world}
 
--- the answers of a life, each spelled, joined
-abbrev pub out_of : Life → List ℕ
-out_of life = flat_map spelling life.answers
+-- the answers of a connection's present life
+abbrev pub out_now : Option Life → List ℕ
+out_now None = []
+out_now (Some life) = out_of life
 
--- those of each life, of which the newest stands first, in the order in which they began
-abbrev pub outs_of : List Life → List (List ℕ)
-outs_of [] = []
-outs_of (life ∷ older) = outs_of older ++ out_of life ∷ []
-
--- what is answered in each life, one text for each Open in order
-abbrev pub outputs : Setting → List Event → List (List ℕ)
-outputs setting history = outs_of (world setting history).lives
+-- what was answered in each life, one text for each Open in order
+unfoldable pub outputs : Setting → History → List (List ℕ)
+outputs s history = map out_of (world s history).lives

@@ -1,30 +1,81 @@
--- A target that is put through events from its beginning, with all that it answers sent at once.
-use Rattle.std.specs.Prelude.{◌≡◌, ◌<◌, ℕ, List, [], fold, Bool, ◌==◌}
-use Rattle.std.specs.List.{list_any, AllByRecursion}
-use Rattle.std.specs.Global.{Vec}
-use Rattle.iscsi_target.specs.History.{Event, connected_after, connections}
-use Rattle.iscsi_target.specs.Output.{outputs}
+-- A target that is put through a history, and what is kept of each life meanwhile.
+use Rattle.std.specs.Prelude.{◌≡◌, ℕ, ◌<◌, List, [], ◌∷◌, ◌++◌, map, Bool, true, false, ◌==◌, Option, Some, None, if◌then◌else◌, slice_index_or, ⊤}
+use Rattle.std.specs.List.{list_any}
+use Rattle.iscsi_target.specs.History.{Event, Open, Bytes, Gone, History, is_among, connection_limit}
+use Rattle.iscsi_target.specs.Life.{Life, is_over, out_of}
+use Rattle.iscsi_target.specs.World.{Setting, world}
 use Rattle.iscsi_target.specs.Machine.{Machine, link_at, is_open_at}
-use Rattle.iscsi_target.specs.Stands.{Stands, setting_of}
+use Rattle.iscsi_target.specs.Stands.{Stands}
+use Rattle.iscsi_target.specs.declared.run.Row.{Row}
 
--- the connections that are open after the events
-abbrev pub connected : List Event → List ℕ
-connected history = fold connected_after [] history
+-- ---- which connections are open
 
--- the connection is among these
-abbrev pub is_among : ℕ → List ℕ → Bool
-is_among c connections = list_any (λ d. d == c) connections
+-- the test at each number is whether the connection is among these
+abbrev pub IsTable : List Bool → List ℕ → Type 0
+IsTable table open_connections = (c : ℕ) → slice_index_or table c false ≡ is_among c open_connections
 
-pub record Runs (machine : Machine) (sent : List (List ℕ)) (history : List Event) : Type 0 where
-  pub stands : Stands machine history
-  -- nothing waits
-  pub drained : (c : ℕ) → c < connections → (link_at machine c).waiting ≡ []
-  -- what was sent is what was answered
-  pub answered : sent ≡ outputs (setting_of machine) history
-  -- the open connections are those of the history
-  pub below : AllByRecursion (λ c. c < connections) (connected history)
-  pub tracks : (c : ℕ) → c < connections → is_open_at machine c ≡ is_among c (connected history)
+-- an event may come to a target: a free number opens, and an open one brings bytes and ends
+abbrev pub MayCome : Machine → Event → Type 0
+MayCome machine (Open c) = (c < connection_limit) × (is_open_at machine c ≡ false)
+MayCome machine (Bytes c piece) = (c < connection_limit) × (is_open_at machine c ≡ true)
+MayCome machine (Gone c) = (c < connection_limit) × (is_open_at machine c ≡ true)
 
--- the bytes of an output
-abbrev pub bytes_of : Vec ℕ → List ℕ
-bytes_of output = output.items
+-- ---- what is kept of a life
+
+-- its connection until it ends, and what was answered in it from then on
+pub record RowState : Type 0 where
+  pub connection : Option ℕ
+  pub bytes : List ℕ
+
+-- a row without where its bytes lie in memory
+abbrev pub seen : Row → RowState
+seen row = record { connection = row.connection; bytes = row.bytes.items }
+
+abbrev pub open_row : ℕ → RowState
+open_row c = record { connection = Some c; bytes = [] }
+
+abbrev pub over_row : List ℕ → RowState
+over_row bytes = record { connection = None; bytes = bytes }
+
+abbrev pub row_of : Life → RowState
+row_of life = if is_over life.phase then over_row (out_of life) else open_row life.connection
+
+-- what waits on its connection is kept, and it is over
+abbrev pub finished_in : Machine → List ℕ → Option ℕ → RowState
+finished_in machine bytes None = over_row bytes
+finished_in machine bytes (Some c) = over_row (bytes ++ (link_at machine c).waiting)
+
+abbrev pub finished : Machine → RowState → RowState
+finished machine row = finished_in machine row.bytes row.connection
+
+abbrev pub is_on : ℕ → Option ℕ → Bool
+is_on c None = false
+is_on c (Some d) = d == c
+
+-- a connection ends
+abbrev pub ended : Machine → ℕ → RowState → RowState
+ended machine c row = if is_on c row.connection then finished machine row else row
+
+-- ---- between two events
+
+-- a life of this connection is not over
+abbrev pub has : ℕ → List RowState → Bool
+has c rows = list_any (λ row. is_on c row.connection) rows
+
+abbrev pub IsFree : Option ℕ → List RowState → Type 0
+IsFree None rows = ⊤
+IsFree (Some c) rows = has c rows ≡ false
+
+-- no connection has two lives that are not over
+abbrev pub AreDistinct : List RowState → Type 0
+AreDistinct [] = ⊤
+AreDistinct (row ∷ rows) = IsFree row.connection rows × AreDistinct rows
+
+-- a target that was put through a history, and of which nothing was sent
+pub record Runs (s : Setting) (machine : Machine) (rows : List RowState) (open_connections : List ℕ) (history : History) : Type 0 where
+  pub stands : Stands s (λ c. 0) machine history
+  pub kept : rows ≡ map row_of (world s history).lives
+  pub distinct : AreDistinct rows
+  -- the connections that are open
+  pub tracks : (c : ℕ) → has c rows ≡ is_among c open_connections
+  pub below : (c : ℕ) → is_among c open_connections ≡ true → c < connection_limit

@@ -1,119 +1,111 @@
--- When the code stands where the World does.
-use Rattle.std.specs.Prelude.{◌≡◌, ◌<◌, ◌≤◌, ◌⊎◌, ℕ, ◌+◌, List, [], ◌∷◌, ◌++◌, length, drop, map, find, Bool, true, false, ◌==◌, Option, Some, None, if◌then◌else◌, ⊤}
-use Rattle.std.specs.List.{AllByRecursion}
-use Rattle.scsi_sense.specs.declared.code.AdditionalSense.{AdditionalSense}
-use Rattle.scsi_sense.specs.declared.code.AdditionalSense.TheVariants.{PowerOnOrReset}
-use Rattle.iscsi_pdu.specs.Frames.{rest, is_long}
-use Rattle.iscsi_pdu.specs.declared.answer.Stamp.{Stamp}
-use Rattle.iscsi_target.specs.History.{Event, joined, connections}
-use Rattle.iscsi_target.specs.Login.{Session}
-use Rattle.iscsi_target.specs.Units.{Unit, free_unit}
-use Rattle.iscsi_target.specs.World.{Setting, Accepted, Life, World, stamp, is_present, world}
-use Rattle.iscsi_target.specs.Output.{out_of}
-use Rattle.iscsi_target.specs.Machine.{Machine, LinkState, PhaseState, LoggingIn, FullFeature, Closing, free_link, link_at}
-use Rattle.iscsi_target.specs.declared.units.Slot.{Slot}
+-- When the code stands where the World does: what it remembers is a function of the past.
+use Rattle.std.specs.Prelude.{◌≡◌, ◌⊎◌, ℕ, ◌+◌, ◌<◌, ◌≤◌, List, [], ◌∷◌, ◌++◌, length, drop, map, true, false, ◌==◌, Option, Some, None, if◌then◌else◌, ⊤}
+use Rattle.iscsi_pdu.specs.Frames.{frames, rest, is_long}
+use Rattle.iscsi_target.specs.History.{History, Mark, Judging, arrivals, connection_limit}
+use Rattle.iscsi_target.specs.Life.{Life, Phase, LoggingIn, FullFeature, Closing, Over, Accepted, reads, stamp}
+use Rattle.iscsi_target.specs.World.{Setting, World, present, world}
+use Rattle.iscsi_target.specs.Output.{out_now}
+use Rattle.iscsi_target.specs.Machine.{Machine, LinkState, link_at}
+use Rattle.iscsi_target.specs.declared.phase.Phase as remembered
+use Rattle.iscsi_target.specs.declared.phase.Phase.TheVariants as phases
 
--- ---- units
+-- ---- what is remembered of a life
 
-abbrev pub pending : Bool → List AdditionalSense
-pending true = PowerOnOrReset ∷ []
-pending false = []
+-- a session has the sequence numbers of its next answer
+abbrev pub phase_for : Life → Phase → remembered.Phase
+phase_for life LoggingIn = phases.Login
+phase_for life (FullFeature session) = phases.FullFeature session (stamp life)
+phase_for life Closing = phases.Closing
+phase_for life Over = phases.Free
 
--- the unit of the World, where this session is the one that there is
-abbrev pub unit_for : Option Session → Slot → Unit
-unit_for None slot = free_unit slot.place
-unit_for (Some session) slot = record {
-  place = slot.place;
-  attentions = if slot.place.target == session.target then record { nexus = session.nexus; codes = pending slot.power_on } ∷ [] else [];
-}
+abbrev pub phase_of : Option Life → remembered.Phase
+phase_of None = phases.Free
+phase_of (Some life) = phase_for life life.phase
 
--- ---- connections
+-- the bytes that are no whole frame yet, while frames are read
+abbrev pub half_in : Life → List ℕ
+half_in life = if reads life.phase then rest life.bytes else []
 
-abbrev pub phase_for : Option Session → Stamp → PhaseState
-phase_for None numbers = LoggingIn
-phase_for (Some session) numbers = FullFeature (record { nexus = session.nexus; target = session.target; numbers = numbers })
+abbrev pub half_of : Option Life → List ℕ
+half_of None = []
+half_of (Some life) = half_in life
 
--- the phase of a life: a session has the numbers of its next stamp
-abbrev pub phase_of : Life → PhaseState
-phase_of life = if life.is_open then phase_for life.session (stamp life) else Closing
+-- ---- what is true of each life between two events, whatever the history
 
--- the requests are numbered from k on, without a gap
-abbrev pub AreNumbered : ℕ → List Accepted → Type 0
-AreNumbered k [] = ⊤
-AreNumbered k (accepted ∷ others) = (accepted.index ≡ k) × AreNumbered (k + 1) others
+-- requests are numbered from k on without a gap, and came before the frame of this place
+abbrev pub AreNumbered : ℕ → ℕ → List Accepted → Type 0
+AreNumbered k place [] = ⊤
+AreNumbered k place (request ∷ others) = (request.index ≡ k) × (request.place < place) × AreNumbered (k + 1) place others
 
--- before full feature phase nothing was asked or answered
-abbrev pub IsNew : Option Session → Life → Type 0
-IsNew None life = (life.requests ≡ []) × (life.came ≡ []) × (life.finished ≡ []) × (life.answers ≡ [])
-IsNew (Some session) life = ⊤
+-- all that was accepted is finished
+pub record IsFinished (place : ℕ) (life : Life) : Type 0 where
+  pub numbered : AreNumbered 0 place life.came
+  pub finished : life.finished ≡ map (λ request. request.place) life.came
 
--- between two events an open connection has finished all that it accepted
-pub record IsQuiet (life : Life) : Type 0 where
-  pub numbered : AreNumbered 0 life.came
-  pub finished : life.finished ≡ map (λ accepted. accepted.index) life.came
-  pub before : IsNew life.session life
+-- nothing was asked or answered
+pub record IsNew (life : Life) : Type 0 where
+  pub requests : life.requests ≡ []
+  pub came : life.came ≡ []
+  pub finished : life.finished ≡ []
+  pub answers : life.answers ≡ []
 
--- a link is that of a life: its phase, the bytes that are no whole frame, and the answers not yet sent
-pub record IsLinkOf (link : LinkState) (bytes : List ℕ) (life : Life) : Type 0 where
+abbrev pub IsQuiet : ℕ → Life → Phase → Type 0
+IsQuiet place life LoggingIn = IsNew life
+IsQuiet place life (FullFeature session) = IsFinished place life
+IsQuiet place life Closing = ⊤
+IsQuiet place life Over = ⊤
+
+pub record IsSettledLife (life : Life) : Type 0 where
+  pub quiet : IsQuiet (length (arrivals life.bytes)) life life.phase
+  pub short : reads life.phase ≡ true → is_long (rest life.bytes) ≡ false
+
+abbrev pub IsSettled : Option Life → Type 0
+IsSettled None = ⊤
+IsSettled (Some life) = IsSettledLife life
+
+-- ---- all connections
+
+-- What waits on a connection is what its present life was answered, without as many bytes at the front
+-- as were sent.
+pub record IsLinkOf (sent : ℕ) (link : LinkState) (life : Option Life) : Type 0 where
   pub phase : link.phase ≡ phase_of life
-  pub half : link.half ≡ (if life.is_open then rest bytes else [])
-  pub waiting : (k : ℕ) × (k ≤ length (out_of life)) × (link.waiting ≡ drop k (out_of life))
-  pub quiet : life.is_open ≡ true → IsQuiet life
-  pub short : life.is_open ≡ true → is_long (rest bytes) ≡ false
+  pub half : link.half ≡ half_of life
+  pub answered : sent ≤ length (out_now life)
+  pub waiting : link.waiting ≡ drop sent (out_now life)
+  pub settled : IsSettled life
 
-abbrev pub LinkStands : LinkState → List ℕ → Option Life → Type 0
-LinkStands link bytes None = link ≡ free_link
-LinkStands link bytes (Some life) = IsLinkOf link bytes life
-
--- ---- lives
-
-abbrev pub present : ℕ → List Life → Option Life
-present c lives = find (is_present c) lives
-
--- a life whose connection has ended
-pub record IsOver (life : Life) : Type 0 where
-  pub gone : life.is_gone ≡ true
-  pub session : life.session ≡ None
-
--- a life whose connection has not
-pub record IsNow (life : Life) : Type 0 where
-  pub gone : life.is_gone ≡ false
-  pub in_range : life.connection < connections
-  pub session : life.is_open ≡ false → life.session ≡ None
-
--- own, for now: at most the newest life is not over
-abbrev pub IsAlone : List Life → Type 0
-IsAlone [] = ⊤
-IsAlone (life ∷ older) = (IsOver life ⊎ IsNow life) × AllByRecursion IsOver older
-
--- the session that there is
-abbrev pub session_now : List Life → Option Session
-session_now [] = None
-session_now (life ∷ older) = life.session
-
--- ---- all
-
-abbrev pub setting_of : Machine → Setting
-setting_of machine = record { targets = machine.targets; places = map (λ slot. slot.place) machine.slots }
-
--- The code stands where this World does, after this history.
-pub record StandsAt (w : World) (machine : Machine) (history : List Event) : Type 0 where
-  pub links : (c : ℕ) → c < connections → LinkStands (link_at machine c) (joined c history) (present c w.lives)
-  pub units : w.units ≡ map (unit_for (session_now w.lives)) machine.slots
-  pub alone : IsAlone w.lives
-  pub count : length machine.links ≡ connections
+-- The code stands where this World does, if of each connection's present life so many bytes were sent.
+pub record StandsAt (s : Setting) (sent : ℕ → ℕ) (w : World) (machine : Machine) : Type 0 where
+  pub names : machine.names ≡ s.names
+  pub units : machine.units ≡ w.units
+  pub count : length machine.links ≡ connection_limit
+  pub links : (c : ℕ) → c < connection_limit → IsLinkOf (sent c) (link_at machine c) (present c w)
 
 -- The code stands where the World of this history does.
-abbrev pub Stands : Machine → List Event → Type 0
-Stands machine history = StandsAt (world (setting_of machine) history) machine history
+abbrev pub Stands : Setting → (ℕ → ℕ) → Machine → History → Type 0
+Stands s sent machine history = StandsAt s sent (world s history) machine
 
--- the answers of a connection's present life
-abbrev pub out_now : Option Life → List ℕ
-out_now None = []
-out_now (Some life) = out_of life
+-- one connection has another number of bytes sent
+abbrev pub with_sent : (ℕ → ℕ) → ℕ → ℕ → ℕ → ℕ
+with_sent sent c n d = if d == c then n else sent d
 
--- What waits on a connection grows by what its present life is answered.
-pub record GrowsBy (old new : Machine) (before after : List Event) (c : ℕ) : Type 0 where
-  pub more : List ℕ
-  pub answered : out_now (present c (world (setting_of new) after).lives) ≡ out_now (present c (world (setting_of old) before).lives) ++ more
-  pub waiting : (link_at new c).waiting ≡ (link_at old c).waiting ++ more
+-- the first of the marks stands before the judging of the frame of this place
+abbrev pub NamesFirst : ℕ → ℕ → List Mark → Type 0
+NamesFirst c place [] = ⊥
+NamesFirst c place (mark ∷ marks) = (mark.connection ≡ c) × (mark.step ≡ Judging place)
+
+-- how many frames have come, and how many come with a further piece
+abbrev pub frames_before : Option Life → ℕ
+frames_before None = 0
+frames_before (Some life) = length (arrivals life.bytes)
+
+abbrev pub frames_with : Option Life → List ℕ → ℕ
+frames_with None piece = 0
+frames_with (Some life) piece = frames_before (Some life) + length (frames (rest life.bytes ++ piece))
+
+-- An allocation failed in a piece's event: before a frame that the piece brings was judged, or at once,
+-- before the piece was kept.
+pub record IsStarved (c : ℕ) (life : Option Life) (piece : List ℕ) (marks : List Mark) : Type 0 where
+  pub place : ℕ
+  pub first : NamesFirst c place marks
+  pub reached : (place ≡ frames_before life) ⊎ (place < frames_with life piece)

@@ -1,331 +1,225 @@
--- The machine that the target is: plain lists of what came and what was answered, and the units.
-use Rattle.std.specs.Prelude.{ℕ, zero, suc, ◌+◌, ◌-◌, ◌^◌, ◌%◌, List, [], ◌∷◌, ◌++◌, length, fold, filter, map, find, filter_map, Bool, true, false, ◌&&◌, ◌||◌, not, ◌==◌, nat_lt, nat_le, Option, Some, None, is_none, option_map, if◌then◌else◌}
+-- The machine that the target is: plain lists of what came and what was answered, and the units. Each
+-- step is of one connection.
+use Rattle.std.specs.Prelude.{ℕ, ◌+◌, List, [], ◌∷◌, ◌++◌, fold, map, find, Bool, true, false, ◌&&◌, not, ◌==◌, Option, Some, None, slice_index_or, slice_set, if◌then◌else◌}
 use Rattle.std.specs.List.{list_any}
-use Rattle.scsi_sense.specs.Codes.{status_number}
-use Rattle.scsi_sense.specs.Sense.{sense_bytes}
 use Rattle.scsi_sense.specs.Done.{Outcome}
-use Rattle.iscsi_pdu.specs.Header.{opcode_number, is_immediate, is_write, is_read, additional_length, cmd_sn, initiator_task_tag, expected_transfer_length, lun_field, cdb, isid, tsih}
 use Rattle.iscsi_pdu.specs.Frames.{Frame}
-use Rattle.iscsi_pdu.specs.Answers.{Answer, Scsi, Login}
-use Rattle.iscsi_pdu.specs.declared.answer.Stamp.{Stamp}
-use Rattle.iscsi_pdu.specs.declared.answer.Residual.{Residual}
-use Rattle.iscsi_pdu.specs.declared.answer.Residual.TheVariants as residuals
-use Rattle.iscsi_pdu.specs.declared.answer.LoginStatus.TheVariants as status
-use Rattle.iscsi_target.specs.History.{Event, Open, Bytes, Gone, Mark, Arrival, Whole, TooLong, joined, grown}
-use Rattle.iscsi_target.specs.Login.{Session, LoginReply, Refused, Full, login, declared_text}
-use Rattle.iscsi_target.specs.Units.{Unit, free_unit, join, leave, perform, invalid_field}
-use Rattle.iscsi_target.specs.declared.config.LogicalUnit.{LogicalUnit}
+use Rattle.iscsi_pdu.specs.declared.answer.Answer.{Answer}
+use Rattle.iscsi_pdu.specs.declared.login_response.LoginRefusal.{LoginRefusal}
+use Rattle.iscsi_target.specs.History.{Event, Open, Bytes, Gone, Step, Judging, Taking, Doing, Ending, Mark, Happening, History, Arrival, Whole, TooLong, new_arrivals, connections}
+use Rattle.iscsi_target.specs.Units.{Units, join, leave}
+use Rattle.iscsi_target.specs.Login.{Live, login, older}
+use Rattle.iscsi_target.specs.Life.{Life, Phase, LoggingIn, FullFeature, Closing, Over, Accepted, born, reads, is_over, session_in, stamp, index_of, ready}
+use Rattle.iscsi_target.specs.Acts.{is_login, verdict, carried_out, command_answers, refusal_answer, success_answer}
+use Rattle.iscsi_target.specs.declared.session.Session.{Session}
+use Rattle.iscsi_target.specs.declared.session.Verdict.{Verdict}
+use Rattle.iscsi_target.specs.declared.session.Verdict.TheVariants as verdicts
+use Rattle.iscsi_target.specs.declared.login.Reply.{Reply}
+use Rattle.iscsi_target.specs.declared.login.Reply.TheVariants.{Refused, Full}
 
--- what the target is made with: the targets' names, and where units stand
+-- what the target is made with: each target's name, and its units, in order
 pub record Setting : Type 0 where
-  pub targets : List (List ℕ)
-  pub places : List LogicalUnit
-
--- a request that was accepted: its number counted from the session's first, and its frame
-pub record Accepted : Type 0 where
-  pub index : ℕ
-  pub frame : Frame
-
--- a connection from an Open to its Gone
-pub record Life : Type 0 where
-  pub connection : ℕ
-  -- its Login requests
-  pub requests : List Frame
-  -- the session, in full feature phase
-  pub session : Option Session
-  -- the requests accepted in full feature phase, in the order in which they came
-  pub came : List Accepted
-  -- the numbers of those that are finished
-  pub finished : List ℕ
-  -- the stamped answers
-  pub answers : List Answer
-  -- its frames are read
-  pub is_open : Bool
-  -- its Gone came
-  pub is_gone : Bool
+  pub names : List (List ℕ)
+  pub units : List Units
 
 pub record World : Type 0 where
-  -- the newest first
+  -- in the order in which they began
   pub lives : List Life
-  pub units : List Unit
+  -- of each target
+  pub units : List Units
 
--- a life and the units that it acts on, and how many steps it made in this event
-pub record Part : Type 0 where
-  pub life : Life
-  pub units : List Unit
-  pub steps : ℕ
+-- ---- lives
 
-abbrev pub born : ℕ → Life
-born c = record { connection = c; requests = []; session = None; came = []; finished = []; answers = []; is_open = true; is_gone = false }
+-- the life that is not over
+abbrev pub is_present : ℕ → Life → Bool
+is_present c life = life.connection == c && not (is_over life.phase)
 
--- ---- numbers (RFC 7143 §4.2.2)
+unfoldable pub present : ℕ → World → Option Life
+present c w = find (is_present c) w.lives
 
--- the CmdSN of the first Login request
-abbrev pub first_cmd_sn : List Frame → ℕ
-first_cmd_sn [] = 0
-first_cmd_sn (request ∷ others) = cmd_sn request.header
+abbrev pub changed_life : (Life → Life) → ℕ → Life → Life
+changed_life f c life = if is_present c life then f life else life
 
--- one more request, where there is one of that number
-abbrev pub taken_on : Option Accepted → List Accepted → List Accepted
-taken_on None others = []
-taken_on (Some accepted) others = accepted ∷ others
+-- what f makes of a connection's present life
+unfoldable pub changed : (Life → Life) → ℕ → World → World
+changed f c w = record w { lives = map (changed_life f c) w.lives }
 
--- of at most n requests, those numbered from k on, up to the first number that has not come
-abbrev pub taken_from : ℕ → ℕ → List Accepted → List Accepted
-taken_from zero k came = []
-taken_from (suc n) k came = taken_on (find (λ a. a.index == k) came) (taken_from n (suc k) came)
+abbrev pub reads_life : Option Life → Bool
+reads_life None = false
+reads_life (Some life) = reads life.phase
 
--- a request is taken where it and all before it have come
-unfoldable pub taken : Life → List Accepted
-taken life = taken_from (length life.came) 0 life.came
+abbrev pub session_of : Option Life → Option Session
+session_of None = None
+session_of (Some life) = session_in life.phase
 
--- each answer so far bears status and so uses a StatSN
-abbrev pub bears_status : Answer → Bool
-bears_status (Scsi response) = true
-bears_status (Login response) = true
+-- the sessions in full feature phase, by the number of their connection
+unfoldable pub live : World → Live
+live w = map (λ c. session_of (present c w)) connections
 
--- StatSN counts the answers that bear status, ExpCmdSN the requests taken, MaxCmdSN those finished
-unfoldable pub stamp : Life → Stamp
-stamp life = record {
-  stat_sn = length (filter bears_status life.answers) % 2 ^ 32;
-  exp_cmd_sn = (first_cmd_sn life.requests + length (taken life)) % 2 ^ 32;
-  max_cmd_sn = (first_cmd_sn life.requests + 31 + length life.finished) % 2 ^ 32;
-}
+-- ---- units
+
+-- a target's units after f
+unfoldable pub changed_units : (Units → Units) → ℕ → List Units → List Units
+changed_units f target all = slice_set all target (f (slice_index_or all target []))
+
+-- a session that ends leaves its target's units
+abbrev pub left : Option Session → List Units → List Units
+left None all = all
+left (Some session) all = changed_units (leave session.nexus) session.target all
 
 -- ---- the end of a session
 
-abbrev pub left : Option Session → List Unit → List Unit
-left None units = units
-left (Some session) units = leave session.nexus session.target units
+abbrev pub shut : Life → Life
+shut life = record life { phase = Closing }
 
--- A violation, a refused login and the end of a connection: later frames do nothing, and the session
--- leaves its units.
-abbrev pub close : Part → Part
-close part = record part { life = record part.life { is_open = false; session = None }; units = left part.life.session part.units }
+-- A violation, a refused login and an allocation that failed: later frames of the
+-- connection do nothing, and its session ends (profile; RFC 7143 §4.2.6).
+unfoldable pub close : ℕ → World → World
+close c w = record (changed shut c w) { units = left (session_of (present c w)) w.units }
 
--- ---- login (RFC 7143 §6)
-
--- a Login Response with this status; one other than Success has byte 1 zero, and no text
-unfoldable pub login_answer : Stamp → Frame → LoginReply → Answer
-login_answer stamp request (Refused why) = Login (record {
-  transit = false;
-  continued = false;
-  current_stage = 0;
-  next_stage = 0;
-  isid = isid request.header;
-  tsih = tsih request.header;
-  initiator_task_tag = initiator_task_tag request.header;
-  stamp = stamp;
-  status = why;
-  text = [];
-})
-login_answer stamp request (Full session) = Login (record {
-  transit = true;
-  continued = false;
-  current_stage = 1;
-  next_stage = 3;
-  isid = isid request.header;
-  tsih = session.tsih;
-  initiator_task_tag = initiator_task_tag request.header;
-  stamp = stamp;
-  status = status.Success;
-  text = declared_text;
-})
-
--- the life with one more Login request and its answer
-abbrev pub with_login_answer : Frame → LoginReply → Life → Life
-with_login_answer request reply life =
-    let asked = record life { requests = life.requests ++ request ∷ [] } in
-    record asked { answers = asked.answers ++ login_answer (stamp asked) request reply ∷ [] }
-
-abbrev pub after_login : LoginReply → Part → Part
-after_login (Refused why) part = close part
-after_login (Full session) part = record part { life = record part.life { session = Some session }; units = join session.nexus session.target part.units }
-
-abbrev pub log_in : List (List ℕ) → List Session → Frame → Part → Part
-log_in targets live request part =
-    let reply = login targets part.life.connection part.life.requests request live in
-    after_login reply (record part { life = with_login_answer request reply part.life })
-
--- ---- full feature phase
-
--- RFC 7143 §11.2.1.2
-unfoldable pub is_login : Frame → Bool
-is_login frame = opcode_number frame.header == 0x03
-
--- RFC 7143 §11.2.1.8: no command bears this tag
-abbrev pub reserved_tag : ℕ
-reserved_tag = 0xFFFFFFFF
-
--- Own, for now: a SCSI Command with the next number, a tag of its own, and no data to come is
--- accepted, and every other frame is a violation.
-abbrev pub is_accepted : Life → Frame → Bool
-is_accepted life frame =
-    opcode_number frame.header == 0x01 && not (is_immediate frame.header) && cmd_sn frame.header == (stamp life).exp_cmd_sn
-    && not (initiator_task_tag frame.header == reserved_tag) && not (is_write frame.header) && length frame.body == 0
-
-abbrev pub accept : Frame → Life → Life
-accept frame life = record life { came = life.came ++ record { index = length (taken life); frame = frame } ∷ [] }
-
--- the data of a command, and how much of it there is to be (RFC 7143 §11.3.4)
-abbrev pub payload : Accepted → List ℕ
-payload command = command.frame.body
-
-abbrev pub wanted : Accepted → ℕ
-wanted command = if is_write command.frame.header && nat_le (expected_transfer_length command.frame.header) 1048576 then expected_transfer_length command.frame.header else length (payload command)
-
--- a command is complete when its data is there
-abbrev pub is_complete : Accepted → Bool
-is_complete command = length (payload command) == wanted command
-
--- O or U, by how much more or less than the expected length was moved (RFC 7143 §11.4.5). Where data
--- is given to a command that reads nothing, the initiator expects none of it.
-unfoldable pub expected : Frame → Outcome → ℕ
-expected frame done = if nat_lt 0 (length done.given) && (not (is_read frame.header) || is_write frame.header) then 0 else expected_transfer_length frame.header
-
-abbrev pub residual_of : ℕ → ℕ → Residual
-residual_of e moved = if nat_lt e moved then residuals.Overflow (moved - e) else if nat_lt moved e then residuals.Underflow (e - moved) else residuals.None
-
-abbrev pub sense_of : Outcome → Option (List ℕ)
-sense_of done = option_map sense_bytes done.sense
-
-unfoldable pub scsi_answer : Stamp → Frame → Outcome → Answer
-scsi_answer stamp frame done = Scsi (record {
-  initiator_task_tag = initiator_task_tag frame.header;
-  stamp = stamp;
-  status = status_number done.status;
-  residual = residual_of (expected frame done) done.moved;
-  exp_data_sn = 0;
-  sense = sense_of done;
-})
-
--- a command with an additional header, or with R and W, is answered in place of being done
-unfoldable pub cannot_be_done : Frame → Bool
-cannot_be_done frame = nat_lt 0 (additional_length frame.header) || (is_read frame.header && is_write frame.header)
-
-abbrev pub carried_out : List Unit → Session → Frame → List Unit × Outcome
-carried_out units session frame =
-    if cannot_be_done frame then (units, invalid_field)
-    else perform units session.target session.nexus (lun_field frame.header) (cdb frame.header)
-
--- a command is finished before its answer is stamped
-abbrev pub finished_life : Accepted → Outcome → Life → Life
-finished_life command done life =
-    let over = record life { finished = life.finished ++ command.index ∷ [] } in
-    record over { answers = over.answers ++ scsi_answer (stamp over) command.frame done ∷ [] }
-
-abbrev pub finish : Session → Accepted → Part → Part
-finish session command part =
-    let p = carried_out part.units session command.frame in
-    record part { life = finished_life command p.1 part.life; units = p.0 }
-
--- the first of the commands taken that is not finished
-abbrev pub first_unfinished : Life → Option Accepted
-first_unfinished life = find (λ a. not (list_any (λ k. k == a.index) life.finished)) (taken life)
+-- its Gone
+unfoldable pub end : ℕ → World → World
+end c w = record (changed (λ life. record life { phase = Over }) c w) { units = left (session_of (present c w)) w.units }
 
 -- ---- marks
 
-abbrev pub is_step : ℕ → Option ℕ → Bool
-is_step n None = false
-is_step n (Some k) = k == n
+abbrev pub is_step : Step → Step → Bool
+is_step (Judging a) (Judging b) = a == b
+is_step (Taking a) (Taking b) = a == b
+is_step (Doing a) (Doing b) = a == b
+is_step Ending Ending = true
+is_step _ _ = false
 
-abbrev pub is_mark : ℕ → ℕ → Mark → Bool
-is_mark c n mark = mark.connection == c && is_step n mark.step
+unfoldable pub is_marked : List Mark → ℕ → Step → Bool
+is_marked marks c step = list_any (λ mark. mark.connection == c && is_step mark.step step) marks
 
-abbrev pub is_end_mark : ℕ → Mark → Bool
-is_end_mark c mark = mark.connection == c && is_none mark.step
+-- a step of a connection that is not closed, unless an allocation failed just before it
+unfoldable pub take_step : List Mark → ℕ → Step → (World → World) → World → World
+take_step marks c step act w =
+    if not (reads_life (present c w)) then w
+    else if is_marked marks c step then close c w
+    else act w
 
--- a step, unless memory ran out just before it
-abbrev pub step : List Mark → (Part → Part) → Part → Part
-step marks act part =
-    if list_any (is_mark part.life.connection part.steps) marks then close part
-    else act (record part { steps = suc part.steps })
+-- ---- login (RFC 7143 §6.3)
 
--- a step of a life that is closed by then does nothing
-abbrev pub step_if_open : List Mark → (Part → Part) → Part → Part
-step_if_open marks act part = if part.life.is_open then step marks act part else part
+-- one more answer, stamped as it stands
+abbrev pub answered : Answer → Life → Life
+answered answer life = record life { answers = life.answers ++ answer ∷ [] }
 
--- ---- one frame
+abbrev pub asked : Frame → Life → Life
+asked request life = record life { requests = life.requests ++ request ∷ [] }
 
--- Settling: while the first unfinished command is complete, it is done and answered, once.
-abbrev pub settled_with : (Part → Part) → List Mark → Session → Option Accepted → Part → Part
-settled_with more marks session None part = part
-settled_with more marks session (Some command) part =
-    if is_complete command then more (step_if_open marks (finish session command) part) else part
+abbrev pub refused : LoginRefusal → Frame → Life → Life
+refused refusal request life = answered (refusal_answer (stamp life) request refusal) life
 
-abbrev pub settle : ℕ → List Mark → Session → Part → Part
-settle zero marks session part = part
-settle (suc n) marks session part = settled_with (settle n marks session) marks session (first_unfinished part.life) part
+-- full feature phase begins
+abbrev pub begun : Session → Frame → Life → Life
+begun session request life = record (answered (success_answer (life.connection + 1) (stamp life) request) life) { phase = FullFeature session }
 
--- judged; taken; settled. A violation closes the connection.
-abbrev pub judge : Frame → Part → Part
-judge frame part = if is_accepted part.life frame then record part { life = accept frame part.life } else close part
+-- its connection closes, and what waits on it is still sent
+abbrev pub end_older : Option ℕ → World → World
+end_older None w = w
+end_older (Some d) w = changed shut d w
 
--- which requests are taken is read from those that came: the act itself changes no list
-abbrev pub take_ready : Part → Part
-take_ready part = part
+-- An older session of the same nexus with the same target is ended just before the new one begins
+-- (RFC 7143 §6.3.5). The nexus joins the target's units anew.
+abbrev pub replied : Reply → ℕ → Frame → World → World
+replied (Refused refusal) c request w = close c (changed (refused refusal request) c w)
+replied (Full session) c request w =
+    record (changed (begun session request) c (end_older (older session (live w)) w)) { units = changed_units (join session.nexus) session.target w.units }
 
-abbrev pub serve : List Mark → Session → Frame → Part → Part
-serve marks session frame part =
-    let took = step_if_open marks take_ready (step marks (judge frame) part) in
-    settle (length took.life.came) marks session took
+unfoldable pub log_in : Setting → ℕ → Frame → World → World
+log_in s c request w = replied (login s.names (live w) request) c request (changed (asked request) c w)
 
--- a frame of a connection: Login requests before full feature phase, and none in it
-abbrev pub phase : List (List ℕ) → List Session → List Mark → Frame → Part → Option Session → Part
-phase targets live marks frame part None = if is_login frame then step marks (log_in targets live frame) part else close part
-phase targets live marks frame part (Some session) = serve marks session frame part
+-- ---- full feature phase
 
-abbrev pub arrived : List (List ℕ) → List Session → List Mark → Part → Arrival → Part
-arrived targets live marks part TooLong = close part
-arrived targets live marks part (Whole frame) = phase targets live marks frame part part.life.session
+abbrev pub accepted : ℕ → Frame → Life → Life
+accepted place frame life = record life { came = life.came ++ record { place = place; index = index_of life frame; frame = frame } ∷ [] }
 
--- what comes on a closed connection does nothing
-abbrev pub arrive : List (List ℕ) → List Session → List Mark → Part → Arrival → Part
-arrive targets live marks part arrival = if part.life.is_open then arrived targets live marks part arrival else part
+abbrev pub judged : Verdict → ℕ → ℕ → Frame → World → World
+judged verdicts.Accepted c place frame w = changed (accepted place frame) c w
+judged verdicts.Violating c place frame w = close c w
 
--- at the event's end memory may have run out too
-abbrev pub at_end : List Mark → Part → Part
-at_end marks part = if part.life.is_open && list_any (is_end_mark part.life.connection) marks then close part else part
+abbrev pub verdict_for : Option Life → Frame → Verdict
+verdict_for None frame = verdicts.Violating
+verdict_for (Some life) frame = verdict (stamp life).exp_cmd_sn frame
+
+unfoldable pub judge : ℕ → ℕ → Frame → World → World
+judge c place frame w = judged (verdict_for (present c w) frame) c place frame w
+
+-- a request counts as finished before its answers are stamped
+abbrev pub finished : Accepted → Outcome → Life → Life
+finished command done life =
+    let over = record life { finished = life.finished ++ command.place ∷ [] } in
+    record over { answers = over.answers ++ command_answers (stamp over) command.frame done }
+
+abbrev pub done_for : Option Session → ℕ → Accepted → World → World
+done_for None c command w = w
+done_for (Some session) c command w =
+    let p = carried_out (slice_index_or w.units session.target []) session.nexus command.frame in
+    record (changed (finished command p.1) c w) { units = slice_set w.units session.target p.0 }
+
+-- a command is done and answered
+unfoldable pub finish : ℕ → Accepted → World → World
+finish c command w = done_for (session_of (present c w)) c command w
+
+abbrev pub ready_in : Option Life → List Accepted
+ready_in None = []
+ready_in (Some life) = ready life
+
+-- the commands at the front that are complete are done and answered, one after the other
+unfoldable pub settle : List Mark → ℕ → World → World
+settle marks c w = fold (λ v command. take_step marks c (Doing command.place) (finish c command) v) w (ready_in (present c w))
+
+-- A frame is judged, the requests that can be taken are, and the commands that are ready are done. Which
+-- requests are taken is read from those that came: the act of taking changes no list.
+unfoldable pub serve : List Mark → ℕ → ℕ → Frame → World → World
+serve marks c place frame w =
+    let v = take_step marks c (Judging place) (judge c place frame) w in
+    settle marks c (take_step marks c (Taking place) (λ u. u) v)
 
 -- ---- one event
 
--- the connection's present life is the one that is not gone
-abbrev pub is_present : ℕ → Life → Bool
-is_present c life = life.connection == c && not life.is_gone
+-- the first frame is a Login request, or a violation
+abbrev pub enter : Setting → ℕ → Frame → World → World
+enter s c frame w = if is_login frame then log_in s c frame w else close c w
 
--- the session of another connection's life
-abbrev pub other_session : ℕ → Life → Option Session
-other_session c life = if is_present c life then None else life.session
+abbrev pub arrive_in : Setting → List Mark → ℕ → World → ℕ → Arrival → Phase → World
+arrive_in s marks c w place (Whole frame) LoggingIn = take_step marks c (Judging place) (enter s c frame) w
+arrive_in s marks c w place (Whole frame) (FullFeature session) = serve marks c place frame w
+arrive_in s marks c w place (Whole frame) _ = w
+arrive_in s marks c w place TooLong phase = if reads phase then close c w else w
 
--- the live sessions of the other connections
-abbrev pub live_sessions : ℕ → List Life → List Session
-live_sessions c lives = filter_map (other_session c) lives
+abbrev pub arrive_at : Setting → List Mark → ℕ → World → ℕ → Arrival → Option Life → World
+arrive_at s marks c w place arrival None = w
+arrive_at s marks c w place arrival (Some life) = arrive_in s marks c w place arrival life.phase
 
--- what a part does to the World: the first life that passes the test acts
-abbrev pub acting : (Part → Part) → (Life → Bool) → List Life → List Unit → World
-acting act test [] units = record { lives = []; units = units }
-acting act test (life ∷ lives) units =
-    if test life
-    then (let part = act (record { life = life; units = units; steps = 0 }) in record { lives = part.life ∷ lives; units = part.units })
-    else (let w = acting act test lives units in record { lives = life ∷ w.lives; units = w.units })
+-- what becomes whole on a connection, at its place
+unfoldable pub arrive : Setting → List Mark → ℕ → World → ℕ × Arrival → World
+arrive s marks c w arrival = arrive_at s marks c w arrival.0 arrival.1 (present c w)
 
-abbrev pub end : Part → Part
-end part = let closed = close part in record closed { life = record closed.life { is_gone = true } }
+abbrev pub brought : Option Life → List ℕ → List (ℕ × Arrival)
+brought None piece = []
+brought (Some life) piece = new_arrivals life.bytes piece
 
--- the World after an event, of which the events before it are given
-abbrev pub happened : Setting → List Event → World → Event → World
-happened setting before w (Open c) = record w { lives = born c ∷ w.lives }
-happened setting before w (Bytes c piece marks) =
-    acting (λ part. at_end marks (fold (arrive setting.targets (live_sessions c w.lives) marks) part (grown (joined c before) piece))) (is_present c) w.lives w.units
-happened setting before w (Gone c) = acting end (is_present c) w.lives w.units
+abbrev pub longer : List ℕ → Life → Life
+longer piece life = record life { bytes = life.bytes ++ piece }
 
-abbrev pub world_after : Setting → List Event → World → List Event → World
-world_after setting before w [] = w
-world_after setting before w (event ∷ history) = world_after setting (before ++ event ∷ []) (happened setting before w event) history
+-- a piece: what it brings, one after the other, and then the event's end
+unfoldable pub bring : Setting → List Mark → ℕ → List ℕ → World → World
+bring s marks c piece w = take_step marks c Ending (λ v. v) (fold (arrive s marks c) (changed (longer piece) c w) (brought (present c w) piece))
+
+abbrev pub happen : Setting → List Mark → World → Event → World
+happen s marks w (Open c) = record w { lives = w.lives ++ born c ∷ [] }
+happen s marks w (Bytes c piece) = bring s marks c piece w
+happen s marks w (Gone c) = end c w
+
+abbrev pub happened : Setting → World → Happening → World
+happened s w h = happen s h.marks w h.event
 
 -- no life, and the units that the target is made with
 abbrev pub new_world : Setting → World
-new_world setting = record { lives = []; units = map free_unit setting.places }
+new_world s = record { lives = []; units = s.units }
 
-unfoldable pub world : Setting → List Event → World
-world setting history = world_after setting [] (new_world setting) history
+unfoldable pub world : Setting → History → World
+world s history = fold (happened s) (new_world s) history

@@ -1,6 +1,7 @@
 //! The target: every session and every unit behind one state.
 #![tactic(auto)]
 
+mod answers;
 mod config;
 mod event;
 mod fault;
@@ -8,17 +9,16 @@ mod history;
 pub mod laws;
 mod link;
 mod login;
+mod phase;
 mod run;
 mod session;
 mod target;
 mod units;
 
-pub use config::{Config, LogicalUnit};
+pub use config::Config;
 pub use event::Event;
 pub use fault::{Memory, Starved};
 pub use history::well_formed;
 pub use run::Outputs;
 pub use target::Target;
-
-#[cfg(test)]
-mod tests;
+pub use units::{LogicalUnit, Units};

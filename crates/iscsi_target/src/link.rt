@@ -1,124 +1,61 @@
 //! One connection: its bytes, its phase and what waits to be sent.
 
-ghost use Rattle.std.specs.Prelude.{◌≡◌, ◌<◌, List, [], ◌∷◌, true, false, length, map, IfSome, IsOk, OnOk, OnErr, IfOk, string_bytes, if◌then◌else◌};
-ghost use Rattle.iscsi_pdu.specs.Frames.{frame_view};
-ghost use Rattle.scsi_sense.specs.Done.{outcome};
-ghost use Rattle.iscsi_target.specs.Machine.{FullFeature, Closing, reads as reads_in, is_closing as is_closing_in, is_next, attempt as attempt_of, handle, enter as enter_of, take_frame as take_frame_of, fed_link, piece_for, IsSettled, free_link, opened_link};
-ghost use Rattle.iscsi_target.specs.Links.{session_view, phase_view, parts_view, link_view};
+ghost use Rattle.std.specs.Prelude.{◌≡◌, ◌<◌, ◌≤◌, ◌+◌, ◌++◌, ◌∷◌, ℕ, List, [], true, false, length, drop, IsOk, IfOk, IfSome, IfNone, OnOk, OnErr, IfErr};
+ghost use Rattle.std.specs.Result.{IsErrOf};
+ghost use Rattle.iscsi_pdu.specs.Frames.{frames, rest, has_frame, is_long, frame_length, wanted};
+ghost use Rattle.iscsi_target.specs.Units.{Units as UnitStates, join as join_units};
+ghost use Rattle.iscsi_target.specs.Acts.{carried_out};
+ghost use Rattle.iscsi_target.specs.Machine.{LinkState, is_reading, free_link, opened_link, shut_link, refused_link, begun_link, served_in, HasTarget, sent_link};
+ghost use Rattle.iscsi_pdu.specs.declared.stamp.Stamp.{Stamp as StampState};
+ghost use Rattle.iscsi_target.specs.declared.session.Session.{Session as SessionState};
 
+use crate::answers::{LONGEST_RESPONSE, refusal, response, success};
 use crate::fault::Memory;
-use crate::login::{Reply, answer, login};
-use crate::session::{Session, cannot_be_carried_out, count, finish_one, response};
-use crate::units::{Performed, Slot, join, perform, tell};
+use crate::phase::Phase;
+use crate::session::{Session, count, finish_one, first_numbers};
+use crate::units::Units;
 use bytes::BytesMut;
-use iscsi_pdu::{Frame, Framer, Opcode, PduFault, Stamp};
-use scsi_sense::{AdditionalSense, Done, Sense, SenseKey};
+use iscsi_pdu::{Frame, Framer, LoginRefusal, PduFault};
+use scsi_sense::{AdditionalSense, Done, Nexus, Sense, SenseKey};
 use std::alloc::Global;
-
-/// Where a connection is (RFC 7143 §4.2.5).
-#[derive(Debug, Drop)]
-pub(crate) enum Phase {
-    /// Not open.
-    Free,
-    /// Before full feature phase.
-    Login,
-    FullFeature(Session),
-    /// What waits is still sent, and nothing more is read.
-    Closing,
-}
+use std::marker::Model;
 
 /// A connection.
 #[derive(Drop)]
 pub(crate) struct Link {
-    pub framer: Framer,
+    framer: Framer,
     pub phase: Phase,
-    pub waiting: BytesMut,
+    waiting: BytesMut,
 }
 
-/// What stays the same while a connection's frames are taken.
-#[derive(Clone, Copy)]
-pub(crate) struct Setting<'a> {
-    pub alloc: Global,
-    pub targets: &'a [String],
-    pub connection: usize,
+impl Model for Link {
+    ghost use Rattle.std.specs.Prelude.{[], if◌then◌else◌};
+    ghost use Rattle.iscsi_target.specs.Machine.{LinkState, is_reading};
+
+    ghost Value = { LinkState };
+
+    ghost view = { λ l. record { half = if is_reading l.phase then l.framer else []; phase = l.phase; waiting = l.waiting.items } };
 }
 
-/// No command bears this tag (RFC 7143 §11.2.1.8).
-const RESERVED_TAG: u32 = 0xffff_ffff;
-
-impl Phase {
-    /// Frames are read in this phase.
-    pub(crate) fn reads(&self) -> bool
-        ensures { result ≡ reads_in (phase_view self.now) }
-    {
-        match self {
-            Phase::Login | Phase::FullFeature(_) => true,
-            Phase::Free | Phase::Closing => false,
-        }
-    }
-}
-
-/// The command that is expected next, with a tag of its own and no data to come.
-#[tactic(auto, unfolding(crate::specs::Machine::is_next))]
-fn is_expected(session: &Session, frame: &Frame) -> bool
-    ensures { result ≡ is_next (session_view session.now) (frame_view frame.now) }
+/// A command with an additional header, or that both reads and writes, is answered INVALID FIELD IN
+/// CDB in place of being done.
+#[tactic(auto, unfolding(crate::specs::Acts::carried_out))]
+fn carry_out(alloc: Global, units: &mut Units, nexus: &Nexus, frame: &Frame) -> Done
+    ensures units { units.new ≡ (carried_out units.old nexus.now frame.now).0 }
+    ensures done { result ≡ (carried_out units.old nexus.now frame.now).1 }
 {
     let header = &frame.header;
-    header.opcode() == Opcode::ScsiCommand
-        && !header.is_immediate()
-        && header.cmd_sn() == session.numbers.exp_cmd_sn
-        && header.initiator_task_tag() != RESERVED_TAG
-        && !header.is_write()
-        && frame.body.is_empty()
-}
-
-/// What a command ends with, before it has had any effect.
-#[tactic(auto, unfolding(crate::specs::Machine::attempt))]
-fn attempt(alloc: Global, session: &Session, slots: &[Slot], frame: &Frame) -> Performed
-    ensures done { outcome result.done ≡ (attempt_of (session_view session.now) (frame_view frame.now) slots.now).0 }
-    ensures told { result.told ≡ (attempt_of (session_view session.now) (frame_view frame.now) slots.now).1 }
-    ensures bound { IfSome result.told (λ at. at < length slots.now) }
-{
-    if cannot_be_carried_out(frame) {
+    if header.additional_length() > 0 {
         let sense = Sense::new(SenseKey::IllegalRequest, AdditionalSense::InvalidFieldInCdb);
-        return Performed {
-            done: Done::check_condition(alloc, sense),
-            told: None,
-        };
+        return Done::check_condition(alloc, sense);
     }
-    let header = &frame.header;
-    perform(alloc, slots, session.target, header.lun(), header.cdb())
-}
-
-/// A frame in full feature phase: it is judged, and where it is accepted it is done and answered.
-/// The answer is written before anything else changes, so want of memory leaves all as it was.
-/// `false` is a violation.
-#[tactic(auto, unfolding(crate::specs::Machine::handle))]
-fn serve(
-    alloc: Global,
-    session: &mut Session,
-    waiting: &mut BytesMut,
-    slots: &mut [Slot],
-    frame: &Frame,
-) -> Result<bool, Memory>
-    ensures { IfOk result (λ stays. record { phase = if stays then FullFeature (session_view session.new) else Closing; waiting = waiting.new.items; slots = slots.new }
-        ≡ handle (session_view session.old) (frame_view frame.now) (record { phase = FullFeature (session_view session.old); waiting = waiting.old.items; slots = slots.old })) }
-{
-    if !is_expected(session, frame) {
-        return Ok(false);
-    }
-    let performed = attempt(alloc, session, slots, frame);
-    let numbers = finish_one(session.numbers);
-    response(numbers, frame, &performed.done).write(waiting)?;
-    session.numbers = count(numbers);
-    tell(slots, performed.told);
-    Ok(true)
+    units.perform(alloc, nexus, header.lun(), header.cdb())
 }
 
 impl Link {
     /// A connection that is not open. It takes no memory.
     pub(crate) fn free(alloc: Global) -> Link
-        ensures { link_view result ≡ free_link }
+        ensures { result ≡ free_link }
     {
         Link {
             framer: Framer::new(alloc),
@@ -129,7 +66,7 @@ impl Link {
 
     /// A connection that has just been opened. It takes no memory.
     pub(crate) fn opened(alloc: Global) -> Link
-        ensures { link_view result ≡ opened_link }
+        ensures { result ≡ opened_link }
     {
         Link {
             framer: Framer::new(alloc),
@@ -138,116 +75,139 @@ impl Link {
         }
     }
 
-    /// The first frame of a connection: a Login request, which is answered, or a violation.
-    #[tactic(auto, unfolding(crate::specs::Machine::enter))]
-    fn enter(&mut self, setting: Setting, slots: &mut [Slot], frame: &Frame) -> Result<(), Memory>
-        requires { setting.connection < 64 }
-        ensures parts { OnOk result (parts_view self.new slots.new ≡ enter_of (map string_bytes setting.entry.targets.now) setting.entry.connection (frame_view frame.now) (parts_view self.old slots.old)) }
-        ensures framer { self.new.framer ≡ self.old.framer }
+    /// Nothing more is read.
+    pub(crate) fn shut(&mut self)
+        ensures { self.new ≡ shut_link self.old }
     {
-        let first = frame.header.cmd_sn();
-        let numbers = Stamp {
-            stat_sn: 0,
-            exp_cmd_sn: first,
-            max_cmd_sn: first.wrapping_add(31),
-        };
-        let reply = login(setting.alloc, setting.targets, frame)?;
-        let answer = answer(setting.alloc, setting.connection, numbers, frame, &reply)?;
-        answer.write(&mut self.waiting)?;
-        self.phase = match reply {
-            Reply::Refused(_) => Phase::Closing,
-            Reply::Full(nexus, target) => {
-                join(slots, target);
-                Phase::FullFeature(Session {
-                    nexus,
-                    target,
-                    numbers: count(numbers),
-                })
-            }
+        self.phase = Phase::Closing;
+    }
+
+    /// Keeps a further piece of the bytes.
+    pub(crate) fn keep(&mut self, piece: &[u8]) -> Result<(), Memory>
+        requires { is_reading self.old.phase ≡ true }
+        ensures ok { OnOk result (self.new ≡ record self.old { half = self.old.half ++ piece.now }) }
+        ensures err { OnErr result (self.new ≡ self.old) }
+    {
+        // The framer has no other fault here.
+        if self.framer.feed(piece).is_err() {
+            return Err(Memory);
+        }
+        Ok(())
+    }
+
+    /// The first whole frame, taken from the front of the bytes.
+    pub(crate) fn next_frame(&mut self) -> Result<Option<Frame>, PduFault>
+        requires { is_reading self.old.phase ≡ true }
+        ensures given { IfOk result (λ o. IfSome o (λ f. frames self.old.half ≡ f ∷ frames self.new.half)) }
+        ensures rest { IfOk result (λ o. IfSome o (λ _. rest self.new.half ≡ rest self.old.half)) }
+        ensures shorter { IfOk result (λ o. IfSome o (λ _. length self.new.half < length self.old.half)) }
+        ensures same { IfOk result (λ o. IfSome o (λ _. self.new ≡ record self.old { half = self.new.half })) }
+        ensures none { IfOk result (λ o. IfNone o (has_frame self.old.half ≡ false)) }
+        ensures not_long { IfOk result (λ o. IfNone o (is_long self.old.half ≡ false)) }
+        ensures waits { IfOk result (λ o. IfNone o (self.new ≡ self.old)) }
+        ensures too_long { IsErrOf result PduFault.TooLong → is_long self.old.half ≡ true }
+        ensures memory { IsErrOf result PduFault.Memory → has_frame self.old.half ≡ true }
+        ensures err { OnErr result (self.new ≡ self.old) }
+    {
+        self.framer.next()
+    }
+
+    /// A Login request is refused. Where an allocation fails nothing changes.
+    pub(crate) fn refuse(&mut self, request: &Frame, why: LoginRefusal) -> Result<(), Memory>
+        ensures ok { OnOk result (self.new ≡ refused_link why request.now self.old) }
+        ensures err { OnErr result (self.new ≡ self.old) }
+    {
+        let answer = refusal(first_numbers(request), request, why);
+        if answer.write(&mut self.waiting).is_err() {
+            return Err(Memory);
+        }
+        self.phase = Phase::Closing;
+        Ok(())
+    }
+
+    /// Full feature phase begins on connection `c`, and the nexus joins its target's units. Where an
+    /// allocation fails nothing changes.
+    pub(crate) fn begin(
+        &mut self,
+        alloc: Global,
+        c: usize,
+        session: Session,
+        request: &Frame,
+        units: &mut Units,
+    ) -> Result<(), Memory>
+        requires in_range { c < 64 }
+        requires reads { is_reading self.old.phase ≡ true }
+        ensures ok { OnOk result (self.new ≡ begun_link c session request.now self.old) }
+        ensures units { OnOk result (units.new ≡ join_units session.nexus units.old) }
+        ensures err { OnErr result (self.new ≡ self.old) }
+        ensures units_err { OnErr result (units.new ≡ units.old) }
+    {
+        let numbers = first_numbers(request);
+        let answer = success(alloc, c as u16 + 1, numbers, request)?;
+        self.waiting.reserve(answer.length())?;
+        units.join(alloc, &session.nexus)?;
+        // There is room for the answer, so this does not fail.
+        if answer.write(&mut self.waiting).is_err() {
+            return Err(Memory);
+        }
+        self.phase = Phase::FullFeature {
+            session,
+            numbers: count(numbers),
         };
         Ok(())
     }
 
-    /// One frame of the connection, in its phase. Want of memory leaves all as it was.
-    #[tactic(auto, unfolding(crate::specs::Machine::take_frame, crate::specs::World::is_login))]
-    fn take_frame(
+    /// A command of the session is done and answered. The room for its answer is made first, so that
+    /// where an allocation fails nothing changes.
+    pub(crate) fn serve(
         &mut self,
-        setting: Setting,
-        slots: &mut [Slot],
+        alloc: Global,
+        units: &mut [Units],
         frame: &Frame,
     ) -> Result<(), Memory>
-        requires { setting.connection < 64 }
-        ensures parts { OnOk result (parts_view self.new slots.new ≡ take_frame_of (map string_bytes setting.entry.targets.now) setting.entry.connection (parts_view self.old slots.old) (frame_view frame.now)) }
-        ensures framer { self.new.framer ≡ self.old.framer }
+        requires { HasTarget (length units.old) self.old.phase }
+        ensures ok { OnOk result ((self.new, units.new) ≡ served_in self.old units.old frame.now self.old.phase) }
+        ensures err { OnErr result (self.new ≡ self.old) }
+        ensures units_err { OnErr result (units.new ≡ units.old) }
     {
-        match &mut self.phase {
-            Phase::Free | Phase::Closing => Ok(()),
-            Phase::Login => {
-                if frame.header.opcode() == Opcode::Login {
-                    return self.enter(setting, slots, frame);
-                }
-                self.phase = Phase::Closing;
-                Ok(())
-            }
-            Phase::FullFeature(session) => {
-                if !serve(setting.alloc, session, &mut self.waiting, slots, frame)? {
-                    self.phase = Phase::Closing;
-                }
-                Ok(())
-            }
+        let Phase::FullFeature { session, numbers } = &mut self.phase else {
+            return Ok(());
+        };
+        self.waiting.reserve(LONGEST_RESPONSE)?;
+        let target = &mut units[session.target];
+        let done = carry_out(alloc, target, &session.nexus, frame);
+        let over = finish_one(*numbers);
+        // There is room for the answer, so this does not fail.
+        if response(over, frame, &done)
+            .write(&mut self.waiting)
+            .is_err()
+        {
+            return Err(Memory);
         }
-    }
-
-    /// The next piece of an open connection's bytes: each frame that becomes whole is taken, in
-    /// order, until one closes the connection.
-    fn receive(&mut self, setting: Setting, slots: &mut [Slot], piece: &[u8]) -> Result<(), Memory>
-        requires in_range { setting.connection < 64 }
-        requires open { reads_in (phase_view self.old.phase) ≡ true }
-        ensures { OnOk result ((link_view self.new, slots.new) ≡ fed_link (map string_bytes setting.entry.targets.now) setting.entry.connection (link_view self.old) slots.old piece.now) }
-    {
-        self.framer.feed(piece)?;
-        while self.phase.reads() {
-            match self.framer.next() {
-                Ok(Some(frame)) => self.take_frame(setting, slots, &frame)?,
-                Ok(None) => return Ok(()),
-                Err(PduFault::TooLong) => {
-                    self.phase = Phase::Closing;
-                    return Ok(());
-                }
-                Err(PduFault::Memory) => return Err(Memory),
-            }
-        }
+        *numbers = count(over);
         Ok(())
     }
 
-    /// The next piece of a connection's bytes. One that closes reads no more, and so does one for
-    /// which memory ran out: it is closing from then on.
-    pub(crate) fn feed(
-        &mut self,
-        setting: Setting,
-        slots: &mut [Slot],
-        piece: &[u8],
-    ) -> Result<(), Memory>
-        requires in_range { setting.connection < 64 }
-        requires settled { IsSettled (link_view self.old) }
-        ensures ok { OnOk result ((link_view self.new, slots.new) ≡ piece_for (map string_bytes setting.entry.targets.now) setting.entry.connection (link_view self.old) slots.old piece.now) }
-        ensures err { OnErr result ((link_view self.new).phase ≡ Closing) }
-        ensures settled { IsSettled (link_view self.new) }
-        ensures empty { piece.now ≡ [] → IsOk result }
-        ensures idle { reads_in (phase_view self.old.phase) ≡ false → IsOk result }
+    /// The first bytes that wait to be sent, and none only where none wait.
+    pub(crate) fn out(&self) -> &[u8]
+        ensures { result.now ≡ self.now.waiting }
     {
-        if piece.is_empty() {
-            return Ok(());
-        }
-        if !self.phase.reads() {
-            return Ok(());
-        }
-        match self.receive(setting, slots, piece) {
-            Ok(()) => Ok(()),
-            Err(Memory) => {
-                self.phase = Phase::Closing;
-                Err(Memory)
-            }
-        }
+        self.waiting.as_slice()
+    }
+
+    /// So many bytes were sent from the front.
+    pub(crate) fn sent(&mut self, n: usize)
+        requires { n ≤ length self.old.waiting }
+        ensures { self.new ≡ sent_link self.old n }
+    {
+        self.waiting.advance(n);
+    }
+
+    /// How many bytes are missing of the header, or of its frame.
+    pub(crate) fn want(&self) -> usize
+        requires { is_reading self.now.phase ≡ true }
+        ensures { result ≡ wanted self.now.half }
+    {
+        self.framer.want()
     }
 }

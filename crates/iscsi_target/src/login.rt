@@ -1,89 +1,105 @@
-//! The reply to a Login request (RFC 7143 §6, §11.12, §11.13).
+//! The reply to a Login request (RFC 7143 §6.3, §11.12, §11.13).
 
-ghost use Rattle.std.specs.Prelude.{◌≡◌, ◌<◌, ◌≤◌, ℕ, List, [], length, map, position as position_of, bytes_eq, not, ◌||◌, IfOk, string_bytes};
+ghost use Rattle.std.specs.Prelude.{◌≡◌, ◌<◌, ℕ, List, length, map, Some, None, option_map, position as position_of, bytes_eq, IfOk, IfSome, MatchResult, string_bytes};
 ghost use Rattle.std.specs.List.{list_all};
-ghost use Rattle.iscsi_pdu.specs.Frames.{frame_view};
-ghost use Rattle.iscsi_pdu.specs.Answers.{answer_view};
-ghost use Rattle.iscsi_target.specs.Login.{login as login_reply, with_text, to_target as reply_to_target, said as said_by, initiator_name_key, is_login_key, is_normal, Refused, declared_text as text_declared, has_bad_stages, breaks_off, is_not_whole_login};
-ghost use Rattle.iscsi_target.specs.World.{login_answer};
-ghost use Rattle.iscsi_target.specs.Replies.{reply_view};
+ghost use Rattle.iscsi_text.specs.Pairs.{Pair};
+ghost use Rattle.iscsi_target.specs.Login.{Rule, first_of, rules_of_names, rules_of_session, login as login_reply, leads_to_full_feature as leads, said as said_by, is_normal, is_login_key, target_named, is_of as is_session_of, older as older_of, names_session as names_live, initiator_name_key, target_name_key};
+ghost use Rattle.iscsi_target.specs.Machine.{session_in_phase, sessions, TargetBelow};
 
 use crate::fault::Memory;
-use iscsi_pdu::{Answer, Frame, Header, LoginResponse, LoginStatus, Stamp};
-use iscsi_text::{Pairs, TextFault, pairs, text};
+use crate::link::Link;
+use crate::phase::Phase;
+use crate::session::Session;
+use iscsi_pdu::{Frame, Header, LoginRefusal, Stage};
+use iscsi_text::{Pairs, TextFault, pairs};
 use scsi_sense::Nexus;
 use std::alloc::Global;
 
-/// The reply to a connection's first Login request, which at once ends the login.
+/// The reply to a login's only request.
 #[derive(Debug, Drop)]
 pub(crate) enum Reply {
     /// The connection closes.
-    Refused(LoginStatus),
-    /// Full feature phase begins: whose session it is, and its target by position.
-    Full(Nexus, usize),
+    Refused(LoginRefusal),
+    /// Full feature phase begins.
+    Full(Session),
 }
 
-const OPERATIONAL: u8 = 1;
-
-const FULL_FEATURE: u8 = 3;
-/// The longest name (RFC 7143 §4.2.7).
+/// The longest name, in bytes (RFC 7143 §4.2.7.2).
 const LONGEST_NAME: usize = 223;
 
-/// The reply to a login's only request: the first rule that applies refuses it.
-#[tactic(auto, unfolding(crate::specs::Login::login, crate::specs::Login::has_bad_stages, crate::specs::Login::breaks_off, crate::specs::Login::is_not_whole_login))]
-pub(crate) fn login(alloc: Global, targets: &[String], request: &Frame) -> Result<Reply, Memory>
-    ensures { IfOk result (λ reply. (c : ℕ) → reply_view c reply ≡ login_reply (map string_bytes targets.now) c [] (frame_view request.now) []) }
+/// The reply to a Login request: the first rule that holds refuses it.
+#[tactic(auto, unfolding(crate::specs::Login::login, crate::specs::Login::asked_for))]
+pub(crate) fn login(
+    alloc: Global,
+    names: &[String],
+    links: &[Link],
+    request: &Frame,
+) -> Result<Reply, Memory>
+    ensures reply { IfOk result (λ reply. reply ≡ login_reply (map string_bytes names.now) (sessions links.now) request.now) }
+    ensures target { IfOk result (λ reply. TargetBelow (length names.now) reply) }
 {
     let header = &request.header;
     if header.version_min() > 0 {
-        return Ok(Reply::Refused(LoginStatus::UnsupportedVersion));
+        return Ok(Reply::Refused(LoginRefusal::UnsupportedVersion));
     }
-    if !leads_to_full_feature(request) {
-        return Ok(Reply::Refused(LoginStatus::InitiatorError));
+    if !leads_to_full_feature(header) {
+        return Ok(Reply::Refused(LoginRefusal::InitiatorError));
     }
-    match pairs(alloc, request.body.as_slice()) {
-        Ok(said) => named(alloc, targets, header, &said),
-        Err(TextFault::Memory) => Err(Memory),
-        Err(_) => Ok(Reply::Refused(LoginStatus::InitiatorError)),
+    let said = match pairs(alloc, request.body.as_slice()) {
+        Ok(said) => said,
+        Err(TextFault::Memory) => return Err(Memory),
+        Err(_) => return Ok(Reply::Refused(LoginRefusal::InitiatorError)),
+    };
+    let target = match target_of(names, &said) {
+        Ok(target) => target,
+        Err(refusal) => return Ok(Reply::Refused(refusal)),
+    };
+    let initiator_name = String::from_str(alloc, what_is_said(&said, "InitiatorName"))?;
+    let nexus = Nexus {
+        initiator_name,
+        isid: header.isid(),
+    };
+    let session = Session { nexus, target };
+    match refusal_of(&session, header.tsih(), links, &said) {
+        Some(refusal) => Ok(Reply::Refused(refusal)),
+        None => Ok(Reply::Full(session)),
     }
 }
 
 /// The stages are those of a login in one request: from operational negotiation to full feature
 /// phase, at once.
-#[tactic(auto, unfolding(crate::specs::Login::has_bad_stages, crate::specs::Login::breaks_off, crate::specs::Login::is_not_whole_login))]
-fn leads_to_full_feature(request: &Frame) -> bool
-    ensures { not result ≡ (has_bad_stages request.now.header || breaks_off [] (frame_view request.now) || is_not_whole_login request.now.header) }
+#[tactic(auto, unfolding(crate::specs::Login::leads_to_full_feature))]
+fn leads_to_full_feature(header: &Header) -> bool
+    ensures { result ≡ leads header.now }
 {
-    let header = &request.header;
     header.is_transit()
         && !header.is_continued()
-        && header.current_stage() == OPERATIONAL
-        && header.next_stage() == FULL_FEATURE
+        && matches!(header.current_stage(), Some(Stage::OperationalNegotiation))
+        && matches!(header.next_stage(), Some(Stage::FullFeaturePhase))
 }
 
-/// The reply to what the text says of the session: who begins it, of which type, and to which target.
-#[tactic(auto, unfolding(crate::specs::Login::with_text, crate::specs::Login::is_long_name))]
-fn named(alloc: Global, targets: &[String], header: &Header, said: &Pairs) -> Result<Reply, Memory>
-    ensures { IfOk result (λ reply. (c : ℕ) → reply_view c reply ≡ with_text (map string_bytes targets.now) c header.now [] said.now) }
+/// The target that the text names, by its position, or why the names in it are refused.
+fn target_of(names: &[String], said: &Pairs) -> Result<usize, LoginRefusal>
+    ensures rules { MatchResult result (λ _. first_of (rules_of_names (map string_bytes names.now) said.now) ≡ None)
+        (λ refusal. option_map (λ (r : Rule). r.refusal) (first_of (rules_of_names (map string_bytes names.now) said.now)) ≡ Some refusal) }
+    ensures target { IfOk result (λ at. target_named (map string_bytes names.now) (said_by target_name_key said.now) ≡ Some at) }
+    ensures bound { IfOk result (λ at. at < length names.now) }
 {
     let initiator = what_is_said(said, "InitiatorName");
     let target = what_is_said(said, "TargetName");
     if initiator.is_empty() {
-        return Ok(Reply::Refused(LoginStatus::MissingParameter));
+        return Err(LoginRefusal::MissingParameter);
     }
     if !is_normal_session(said) {
-        return Ok(Reply::Refused(LoginStatus::InitiatorError));
+        return Err(LoginRefusal::InitiatorError);
     }
     if target.is_empty() {
-        return Ok(Reply::Refused(LoginStatus::MissingParameter));
+        return Err(LoginRefusal::MissingParameter);
     }
     if initiator.len() > LONGEST_NAME || target.len() > LONGEST_NAME {
-        return Ok(Reply::Refused(LoginStatus::InitiatorError));
+        return Err(LoginRefusal::InitiatorError);
     }
-    match position(targets, target) {
-        None => Ok(Reply::Refused(LoginStatus::TargetNotFound)),
-        Some(at) => to_target(alloc, at, header, initiator, said),
-    }
+    position(names, target).ok_or(LoginRefusal::TargetNotFound)
 }
 
 /// What the text says of a key, or nothing.
@@ -109,35 +125,64 @@ fn is_normal_session(said: &Pairs) -> bool
 }
 
 /// Where the target of this name stands.
-fn position(targets: &[String], name: &str) -> Option<usize>
-    ensures { result ≡ position_of (λ target. bytes_eq (string_bytes target) name.now) targets.now }
+#[tactic(auto, unfolding(crate::specs::Login::target_named))]
+fn position(names: &[String], name: &str) -> Option<usize>
+    ensures value { result ≡ target_named (map string_bytes names.now) name.now }
+    ensures bound { IfSome result (λ at. at < length names.now) }
 {
-    targets.iter().position(|target| target.as_str() == name)
+    names.iter().position(|other| other.as_str() == name)
 }
 
-/// The reply where there is such a target. No session is live, so a TSIH other than 0 names none.
-#[tactic(auto, unfolding(crate::specs::Login::to_target))]
-fn to_target(
-    alloc: Global,
-    target: usize,
-    header: &Header,
-    initiator: &str,
-    said: &Pairs,
-) -> Result<Reply, Memory>
-    requires { initiator.now ≡ said_by initiator_name_key said.now }
-    ensures { IfOk result (λ reply. (c : ℕ) → reply_view c reply ≡ reply_to_target c target header.now [] said.now) }
+/// Why the session that is asked for is refused: a TSIH other than 0 would join a session, and no
+/// other key than those that name the session is negotiated.
+fn refusal_of(session: &Session, tsih: u16, links: &[Link], said: &Pairs) -> Option<LoginRefusal>
+    ensures { result ≡ option_map (λ (r : Rule). r.refusal) (first_of (rules_of_session session.now tsih (sessions links.now) said.now)) }
 {
-    if header.tsih() != 0 {
-        return Ok(Reply::Refused(LoginStatus::SessionDoesNotExist));
+    if names_session(tsih, session, links) {
+        return Some(LoginRefusal::TooManyConnections);
+    }
+    if tsih != 0 {
+        return Some(LoginRefusal::SessionDoesNotExist);
     }
     if !says_no_other_key(said) {
-        return Ok(Reply::Refused(LoginStatus::InitiatorError));
+        return Some(LoginRefusal::InitiatorError);
     }
-    let nexus = Nexus {
-        initiator_name: String::from_str(alloc, initiator)?,
-        isid: header.isid(),
-    };
-    Ok(Reply::Full(nexus, target))
+    None
+}
+
+/// The connection has a session of the same nexus with the same target.
+fn is_of(link: &Link, session: &Session) -> bool
+    ensures { result ≡ is_session_of session.now.nexus session.now.target (session_in_phase link.now.phase) }
+{
+    match &link.phase {
+        Phase::FullFeature { session: other, .. } => {
+            other.nexus.is_same(&session.nexus) && other.target == session.target
+        }
+        _ => false,
+    }
+}
+
+/// The connection of an older session of the same nexus with the same target.
+#[tactic(auto, unfolding(crate::specs::Login::older))]
+pub(crate) fn older(links: &[Link], session: &Session) -> Option<usize>
+    ensures value { result ≡ older_of session.now (sessions links.now) }
+    ensures bound { IfSome result (λ at. at < length links.now) }
+{
+    links.iter().position(|link| is_of(link, session))
+}
+
+/// The TSIH names such a session: that of connection c has TSIH c + 1 (RFC 7143 §11.12.6).
+#[tactic(auto, unfolding(crate::specs::Login::names_session))]
+fn names_session(tsih: u16, session: &Session, links: &[Link]) -> bool
+    ensures { result ≡ names_live tsih session.now (sessions links.now) }
+{
+    if tsih == 0 {
+        return false;
+    }
+    match links.get(usize::from(tsih) - 1) {
+        Some(link) => is_of(link, session),
+        None => false,
+    }
 }
 
 /// Every key is one that names the session.
@@ -159,66 +204,4 @@ fn names_the_session(key: &str) -> bool
     ensures { (value : List ℕ) → result ≡ is_login_key (key.now, value) }
 {
     key == "InitiatorName" || key == "SessionType" || key == "TargetName"
-}
-
-/// The Login Response that refuses a request: byte 1 is zero, and there is no text.
-#[tactic(auto, unfolding(crate::specs::World::login_answer))]
-fn refusal(alloc: Global, numbers: Stamp, request: &Frame, status: LoginStatus) -> Answer
-    ensures { answer_view result ≡ login_answer numbers (frame_view request.now) (Refused status) }
-{
-    let header = &request.header;
-    Answer::LoginResponse(LoginResponse {
-        transit: false,
-        continued: false,
-        current_stage: 0,
-        next_stage: 0,
-        isid: header.isid(),
-        tsih: header.tsih(),
-        initiator_task_tag: header.initiator_task_tag(),
-        stamp: numbers,
-        status,
-        text: Vec::new(alloc),
-    })
-}
-
-/// The Login Response of a reply (RFC 7143 §11.13) on a connection.
-#[tactic(auto, unfolding(crate::specs::World::login_answer))]
-pub(crate) fn answer(
-    alloc: Global,
-    connection: usize,
-    numbers: Stamp,
-    request: &Frame,
-    reply: &Reply,
-) -> Result<Answer, Memory>
-    requires { connection < 64 }
-    ensures { IfOk result (λ answer. answer_view answer ≡ login_answer numbers (frame_view request.now) (reply_view connection reply.now)) }
-{
-    let header = &request.header;
-    match reply {
-        Reply::Refused(status) => Ok(refusal(alloc, numbers, request, *status)),
-        Reply::Full(_, _) => Ok(Answer::LoginResponse(LoginResponse {
-            transit: true,
-            continued: false,
-            current_stage: OPERATIONAL,
-            next_stage: FULL_FEATURE,
-            isid: header.isid(),
-            tsih: connection as u16 + 1,
-            initiator_task_tag: header.initiator_task_tag(),
-            stamp: numbers,
-            status: LoginStatus::Success,
-            text: declared_text(alloc)?,
-        })),
-    }
-}
-
-/// What the target declares when a login succeeds (RFC 7143 §13.9, §13.12).
-#[tactic(auto, unfolding(crate::specs::Login::declared_text))]
-fn declared_text(alloc: Global) -> Result<Vec<u8>, Memory>
-    ensures value { IfOk result (λ text. text.items ≡ text_declared) }
-    ensures short { IfOk result (λ text. length text.items ≤ 262144) }
-{
-    let mut declared = Pairs::new(alloc);
-    declared.push("TargetPortalGroupTag", "1")?;
-    declared.push("MaxRecvDataSegmentLength", "262144")?;
-    Ok(text(alloc, &declared)?)
 }

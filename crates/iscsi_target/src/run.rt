@@ -1,21 +1,30 @@
 //! A target put through a whole history.
 
-ghost use Rattle.std.specs.Prelude.{◌≡◌, ◌<◌, ◌+◌, true, length, map, take, IfOk, OnOk, string_bytes};
-ghost use Rattle.std.specs.List.{slice_get};
-ghost use Rattle.iscsi_target.specs.History.{well_formed as is_well_formed, is_allowed};
-ghost use Rattle.iscsi_target.specs.Events.{events_view, event_view};
+ghost use Rattle.std.specs.Prelude.{◌≡◌, ℕ, List, [], ◌∷◌, ◌++◌, true, length, map, IfOk, OnOk, string_bytes};
+ghost use Rattle.iscsi_target.specs.History.{History, well_formed as is_well_formed, open_after, plain};
+ghost use Rattle.iscsi_target.specs.Events.{event_view, events_view, plain_history};
+ghost use Rattle.iscsi_target.specs.World.{Setting};
 ghost use Rattle.iscsi_target.specs.Output.{outputs as outputs_of};
-ghost use Rattle.iscsi_target.specs.Stands.{Stands, setting_of};
-ghost use Rattle.iscsi_target.specs.Runs.{Runs, connected, bytes_of};
+ghost use Rattle.iscsi_target.specs.Stands.{Stands};
+ghost use Rattle.iscsi_target.specs.Runs.{Runs, MayCome, seen, finished, ended};
 
-use crate::config::{Config, LogicalUnit};
+use crate::config::Config;
 use crate::event::Event;
 use crate::fault::{Memory, Starved};
 use crate::target::Target;
+use crate::units::Units;
 use std::alloc::Global;
 
 /// What was answered in each life of a connection, in the order in which they began.
 pub type Outputs = Vec<Vec<u8>>;
+
+/// What is kept of a life of a connection: the connection until it ends, and from then on the bytes
+/// that it was answered.
+#[derive(Drop)]
+pub(crate) struct Row {
+    connection: Option<usize>,
+    bytes: Vec<u8>,
+}
 
 impl From<Starved> for Memory {
     fn from(_e: Starved) -> Memory {
@@ -23,54 +32,114 @@ impl From<Starved> for Memory {
     }
 }
 
-/// One event, and all that it makes the target answer.
+impl Row {
+    /// Keeps what waits on the connection, where it has not ended before.
+    fn finish(&mut self, target: &Target) -> Result<(), Memory>
+        ensures { OnOk result (seen self.new ≡ finished target.now (seen self.old)) }
+    {
+        if let Some(c) = self.connection {
+            target.copy_out(c, &mut self.bytes)?;
+        }
+        self.connection = None;
+        Ok(())
+    }
+
+    /// A connection ends.
+    fn end(&mut self, target: &Target, c: usize) -> Result<(), Memory>
+        ensures { OnOk result (seen self.new ≡ ended target.now c (seen self.old)) }
+    {
+        if self.connection == Some(c) {
+            self.finish(target)?;
+        }
+        Ok(())
+    }
+}
+
+/// A connection ends: what waits on it is kept.
+fn end(target: &Target, rows: &mut [Row], c: usize) -> Result<(), Memory>
+    ensures { OnOk result (map seen rows.new ≡ map (ended target.now c) (map seen rows.old)) }
+{
+    for row in rows.iter_mut() {
+        row.end(target, c)?;
+    }
+    Ok(())
+}
+
+/// The history ends: what waits on the connections that are still open is kept.
+fn finish(target: &Target, rows: &mut [Row]) -> Result<(), Memory>
+    ensures { OnOk result (map seen rows.new ≡ map (finished target.now) (map seen rows.old)) }
+{
+    for row in rows.iter_mut() {
+        row.finish(target)?;
+    }
+    Ok(())
+}
+
+/// The bytes of each row.
+fn bytes_of(alloc: Global, rows: Vec<Row>) -> Result<Outputs, Memory>
+    ensures { IfOk result (λ outputs. outputs.items ≡ map (λ row. row.bytes) rows.items) }
+{
+    let outputs = rows.into_iter().map(|row| row.bytes).collect(alloc)?;
+    Ok(outputs)
+}
+
+/// What was answered in each life.
+fn outputs(alloc: Global, target: &Target, mut rows: Vec<Row>) -> Result<Outputs, Memory>
+    ensures { IfOk result (λ outputs. map (λ output. output.items) outputs.items ≡ map (λ row. (finished target.now row).bytes) (map seen rows.items)) }
+{
+    finish(target, rows.as_mut_slice())?;
+    bytes_of(alloc, rows)
+}
+
+/// One event that may come.
 fn take_event(
     alloc: Global,
     target: &mut Target,
-    outputs: &mut Vec<Vec<u8>>,
-    events: &[Event],
-    at: usize,
+    rows: &mut Vec<Row>,
+    event: &Event,
 ) -> Result<(), Memory>
-    requires in_range { at < length events.now }
-    requires runs { Runs target.old (map bytes_of outputs.old.items) (events_view (take at events.now)) }
-    requires allowed { is_well_formed (events_view events.now) ≡ true }
-    ensures runs { OnOk result (Runs target.new (map bytes_of outputs.new.items) (events_view (take (at + 1) events.now))) }
-    ensures setting { OnOk result (setting_of target.new ≡ setting_of target.old) }
+    requires { MayCome target.old (event_view event.now) }
+    ensures { OnOk result ((s : Setting) (before : List ℕ) (h : History) → Runs s target.old (map seen rows.old.items) before h
+        → Runs s target.new (map seen rows.new.items) (open_after before (event_view event.now)) (h ++ plain (event_view event.now) ∷ [])) }
 {
-    match &events[at] {
+    match event {
         Event::Open(c) => {
             target.open(*c)?;
-            outputs.push(Vec::new(alloc))?;
+            rows.push(Row {
+                connection: Some(*c),
+                bytes: Vec::new(alloc),
+            })?;
         }
-        Event::Bytes(c, piece) => {
-            target.feed(*c, piece.as_slice())?;
-            let last = outputs.len() - 1;
-            target.drain(*c, &mut outputs[last])?;
+        Event::Bytes(c, piece) => target.feed(*c, piece.as_slice())?,
+        Event::Gone(c) => {
+            end(target, rows.as_mut_slice(), *c)?;
+            target.gone(*c);
         }
-        Event::Gone(c) => target.gone(*c),
     }
     Ok(())
 }
 
 impl Target {
     /// Puts a new target through events that are [`well_formed`](crate::well_formed). Gives what was
-    /// answered in each life of a connection, and the target as it is then.
+    /// answered in each life of a connection, and the target as it is then, of which nothing was
+    /// sent. `Memory`: an allocation failed, also where that would close a connection.
     pub fn run(
         alloc: Global,
         config: Config,
-        units: Vec<LogicalUnit>,
+        units: Vec<Units>,
         events: &[Event],
     ) -> Result<(Outputs, Target), Memory>
-        requires { is_well_formed (events_view events.now) ≡ true }
-        ensures stands { IfOk result (λ r. Stands r.1 (events_view events.now)) }
-        ensures outputs { IfOk result (λ r. map bytes_of r.0.items ≡ outputs_of (setting_of r.1) (events_view events.now)) }
-        ensures setting { IfOk result (λ r. setting_of r.1 ≡ record { targets = map string_bytes config.targets.items; places = units.items }) }
+        requires units { length units.items ≡ length config.targets.items }
+        requires well_formed { is_well_formed (events_view events.now) ≡ true }
+        ensures stands { IfOk result (λ r. Stands (record { names = map string_bytes config.targets.items; units = units.items }) (λ _. 0) r.1 (plain_history events.now)) }
+        ensures outputs { IfOk result (λ r. map (λ output. output.items) r.0.items ≡ outputs_of (record { names = map string_bytes config.targets.items; units = units.items }) (plain_history events.now)) }
     {
         let mut target = Target::new(alloc, config, units)?;
-        let mut outputs = Vec::new(alloc);
-        for at in 0..events.len() {
-            take_event(alloc, &mut target, &mut outputs, events, at)?;
+        let mut rows = Vec::new(alloc);
+        for event in events {
+            take_event(alloc, &mut target, &mut rows, event)?;
         }
+        let outputs = outputs(alloc, &target, rows)?;
         Ok((outputs, target))
     }
 }

@@ -1,15 +1,24 @@
 //! The target: all connections and all units, behind one state.
 
-ghost use Rattle.std.specs.Prelude.{◌≡◌, ◌<◌, ◌≤◌, ◌++◌, ◌∷◌, ℕ, List, [], true, length, map, replicate, IsOk, IfOk, IfErr, OnOk, OnErr, string_bytes};
-ghost use Rattle.iscsi_target.specs.History.{Event, Open, Bytes, Gone};
-ghost use Rattle.iscsi_target.specs.Links.{links_view};
-ghost use Rattle.iscsi_target.specs.Machine.{free_link, new_slot, new_machine, link_at, opened, fed, ended, sent as sent_of, all_free, is_open_at, is_closing, want_of, IsStarved};
-ghost use Rattle.iscsi_target.specs.Stands.{Stands, GrowsBy};
+ghost use Rattle.std.specs.Prelude.{◌≡◌, ◌<◌, ◌≤◌, ◌+◌, ◌++◌, ◌∷◌, ℕ, List, [], true, false, length, map, replicate, IsOk, IfOk, IfErr, IfSome, IfNone, OnOk, OnErr, string_bytes};
+ghost use Rattle.std.specs.Result.{IsErrOf};
+ghost use Rattle.iscsi_pdu.specs.Frames.{has_frame, is_long};
+ghost use Rattle.iscsi_target.specs.History.{Open, Bytes, Gone, Mark, History, plain, marked};
+ghost use Rattle.iscsi_target.specs.World.{Setting, present, world};
+ghost use Rattle.iscsi_target.specs.Machine.{LinkState, free_link, opened_link, sent_link, new_machine, link_at, with_link, closed, answered, logged_in, judged, frame_taken, GivesFrame, is_reading, is_open_at, is_closing, want_of};
+ghost use Rattle.iscsi_target.specs.declared.phase.Phase.TheVariants.{Login};
+ghost use Rattle.iscsi_target.specs.declared.session.Verdict.TheVariants.{Accepted};
+ghost use Rattle.iscsi_target.specs.declared.login.Reply.TheVariants.{Full};
+ghost use Rattle.iscsi_target.specs.Stands.{Stands, IsStarved, with_sent};
 
-use crate::config::{Config, LogicalUnit};
+use crate::config::Config;
 use crate::fault::{Memory, Starved};
-use crate::link::{Link, Phase, Setting};
-use crate::units::Slot;
+use crate::link::Link;
+use crate::login::{Reply, login, older};
+use crate::phase::Phase;
+use crate::session::{Session, Verdict, judge};
+use crate::units::Units;
+use iscsi_pdu::{Frame, Opcode, PduFault};
 use std::alloc::Global;
 use std::marker::Model;
 
@@ -21,34 +30,31 @@ const MOST_WAITING: usize = 1_048_576;
 
 /// An iSCSI target, as RFC 7143 defines it: connections bring bytes, and answers wait on them.
 ///
-/// The caller opens a connection under a number that is free, feeds what comes on it, sends what
-/// waits, and says when it has ended. One connection may be open at a time.
+/// The caller opens a connection under a number below 64 that is free, feeds what comes on it, sends
+/// what waits, and says when it has ended.
 #[derive(Drop)]
 pub struct Target {
     alloc: Global,
     config: Config,
-    slots: Vec<Slot>,
+    units: Vec<Units>,
     links: Vec<Link>,
 }
 
 impl Model for Target {
     ghost use Rattle.std.specs.Prelude.{◌≡◌, map, length, string_bytes};
     ghost use Rattle.std.specs.List.{All};
-    ghost use Rattle.iscsi_target.specs.Machine.{Machine, IsSettled};
+    ghost use Rattle.iscsi_target.specs.Machine.{LinkState, Machine, HasTarget};
 
     ghost Value = { Machine };
 
-    ghost use Rattle.iscsi_target.specs.History.{Event, Open, Bytes, Gone};
-    ghost use Rattle.iscsi_target.specs.Links.{links_view};
+    ghost view = { λ t. record { names = map string_bytes t.config.targets.items; units = t.units.items; links = t.links.items } };
 
-    ghost view = { λ t. record { targets = map string_bytes t.config.targets.items; slots = t.slots.items; links = links_view t.links.items } };
-
-    ghost invariant = { λ t. (length t.links.items ≡ 64) × All IsSettled (links_view t.links.items) };
+    ghost invariant = { λ t. (length t.links.items ≡ 64) × (length t.units.items ≡ length t.config.targets.items) × All (λ (link : LinkState). HasTarget (length t.units.items) link.phase) t.links.items };
 }
 
 /// Every connection, none of them open.
 fn free_links(alloc: Global) -> Result<Vec<Link>, Memory>
-    ensures { IfOk result (λ links. links_view links.items ≡ replicate 64 free_link) }
+    ensures { IfOk result (λ links. links.items ≡ replicate 64 free_link) }
 {
     let mut links = Vec::with_capacity(alloc, CONNECTIONS)?;
     for _ in 0..CONNECTIONS {
@@ -57,84 +63,86 @@ fn free_links(alloc: Global) -> Result<Vec<Link>, Memory>
     Ok(links)
 }
 
-/// The units, with nothing to be told.
-fn new_slots(alloc: Global, units: &[LogicalUnit]) -> Result<Vec<Slot>, Memory>
-    ensures { IfOk result (λ slots. slots.items ≡ map new_slot units.now) }
-{
-    let slots = units
-        .iter()
-        .map(|place| Slot {
-            place: *place,
-            power_on: false,
-        })
-        .collect(alloc)?;
-    Ok(slots)
-}
-
 impl Target {
-    /// A target with these units, and no connection open.
-    pub fn new(alloc: Global, config: Config, units: Vec<LogicalUnit>) -> Result<Target, Memory>
+    /// A target with these units, one list for each target of the configuration in order, and no
+    /// connection open.
+    pub fn new(alloc: Global, config: Config, units: Vec<Units>) -> Result<Target, Memory>
+        requires { length units.items ≡ length config.targets.items }
         ensures made { IfOk result (λ target. target ≡ new_machine (map string_bytes config.targets.items) units.items) }
-        ensures stands { IfOk result (λ target. Stands target []) }
+        ensures stands { IfOk result (λ target. Stands (record { names = map string_bytes config.targets.items; units = units.items }) (λ _. 0) target []) }
     {
-        let slots = new_slots(alloc, units.as_slice())?;
         let links = free_links(alloc)?;
         Ok(Target {
             alloc,
             config,
-            slots,
+            units,
             links,
         })
     }
 
-    /// Opens a connection under a free number. For now no other may be open.
+    /// Opens a connection under a free number. It takes no memory and does not fail.
     pub fn open(&mut self, c: usize) -> Result<(), Starved>
         requires in_range { c < 64 }
-        requires alone { all_free self.old ≡ true }
-        ensures ok { OnOk result (self.new ≡ opened self.old c) }
-        ensures stands { OnOk result ((h : List Event) → Stands self.old h → Stands self.new (h ++ Open c ∷ [])) }
-        ensures refused { OnErr result (self.new ≡ self.old) }
+        requires free { is_open_at self.old c ≡ false }
+        ensures ok { IsOk result }
+        ensures now { self.new ≡ with_link self.old c opened_link }
+        ensures stands { (s : Setting) (sent : ℕ → ℕ) (h : History) → Stands s sent self.old h → Stands s (with_sent sent c 0) self.new (h ++ plain (Open c) ∷ []) }
     {
         self.links[c] = Link::opened(self.alloc);
         Ok(())
     }
 
     /// Takes the next piece of a connection's bytes, of any length: each frame that becomes whole
-    /// is carried out and answered. Bytes on a closing connection are not read. `Starved` is want
-    /// of memory: the connection is then closing for good.
+    /// is carried out and answered. Bytes on a closing connection are not read. `Starved`: an
+    /// allocation failed, and the connection is closing from then on; the others go on.
     pub fn feed(&mut self, c: usize, piece: &[u8]) -> Result<(), Starved>
         requires in_range { c < 64 }
         requires open { is_open_at self.old c ≡ true }
-        ensures ok { OnOk result (self.new ≡ fed self.old c piece.now) }
-        ensures stands { OnOk result ((h : List Event) → Stands self.old h → Stands self.new (h ++ Bytes c piece.now [] ∷ [])) }
+        ensures stands { OnOk result ((s : Setting) (sent : ℕ → ℕ) (h : History) → Stands s sent self.old h → Stands s sent self.new (h ++ plain (Bytes c piece.now) ∷ [])) }
 
-        // What waits on each connection grows by what it is answered.
-        ensures grows { OnOk result ((h : List Event) → Stands self.old h → (d : ℕ) → d < 64 → GrowsBy self.old self.new h (h ++ Bytes c piece.now [] ∷ []) d) }
-
-        ensures empty { piece.now ≡ [] → IsOk result }
-        ensures closing { is_closing (link_at self.old c).phase ≡ true → IsOk result }
+        // An allocation that failed is a mark on the event, and nothing but one is.
+        ensures starved { OnErr result ((s : Setting) (sent : ℕ → ℕ) (h : History) → Stands s sent self.old h
+            → (marks : List Mark) × IsStarved c (present c (world s h)) piece.now marks × Stands s sent self.new (h ++ marked marks (Bytes c piece.now) ∷ [])) }
         ensures names { IfErr result (λ starved. starved.connection ≡ c) }
-        ensures starved { OnErr result (IsStarved self.old self.new c) }
+        ensures closing { OnErr result (is_closing (link_at self.new c).phase ≡ true) }
+        ensures empty { piece.now ≡ [] → IsOk result }
+        ensures idle { is_closing (link_at self.old c).phase ≡ true → IsOk result }
     {
-        let setting = Setting {
-            alloc: self.alloc,
-            targets: self.config.targets.as_slice(),
-            connection: c,
-        };
-        let link = &mut self.links[c];
-        match link.feed(setting, self.slots.as_mut_slice(), piece) {
-            Ok(()) => Ok(()),
-            Err(Memory) => Err(Starved { connection: c }),
+        if piece.is_empty() {
+            return Ok(());
         }
+        if !self.reads(c) {
+            return Ok(());
+        }
+        if let Err(Memory) = self.keep(c, piece) {
+            return Err(self.starve(c));
+        }
+        while self.reads(c) {
+            match self.next_frame(c) {
+                Ok(Some(frame)) => {
+                    if let Err(Memory) = self.take_frame(c, &frame) {
+                        return Err(self.starve(c));
+                    }
+                }
+                Ok(None) => return Ok(()),
+                Err(PduFault::TooLong) => {
+                    self.close(c);
+                    return Ok(());
+                }
+                Err(PduFault::Memory) => return Err(self.starve(c)),
+            }
+        }
+        Ok(())
     }
 
     /// A connection has ended, and its number is free again. What waits on it is dropped.
     pub fn gone(&mut self, c: usize)
         requires in_range { c < 64 }
         requires open { is_open_at self.old c ≡ true }
-        ensures now { self.new ≡ ended self.old c }
-        ensures stands { (h : List Event) → Stands self.old h → Stands self.new (h ++ Gone c ∷ []) }
+        ensures now { self.new ≡ with_link (closed self.old c) c free_link }
+        ensures stands { (s : Setting) (sent : ℕ → ℕ) (h : History) → Stands s sent self.old h → Stands s (with_sent sent c 0) self.new (h ++ plain (Gone c) ∷ []) }
     {
+        self.close(c);
         self.links[c] = Link::free(self.alloc);
     }
 
@@ -145,7 +153,17 @@ impl Target {
         ensures front { (more : List ℕ) × ((link_at self.now c).waiting ≡ result.now ++ more) }
         ensures some { result.now ≡ [] → (link_at self.now c).waiting ≡ [] }
     {
-        self.links[c].waiting.as_slice()
+        self.links[c].out()
+    }
+
+    /// Appends all that waits on a connection: nothing where it is not open.
+    pub(crate) fn copy_out(&self, c: usize, bytes: &mut Vec<u8>) -> Result<(), Memory>
+        ensures { OnOk result (bytes.new.items ≡ bytes.old.items ++ (link_at self.now c).waiting) }
+    {
+        if let Some(link) = self.links.get(c) {
+            bytes.extend_from_slice(link.out())?;
+        }
+        Ok(())
     }
 
     /// So many bytes were sent from the front of what waits on a connection.
@@ -153,33 +171,11 @@ impl Target {
         requires in_range { c < 64 }
         requires open { is_open_at self.old c ≡ true }
         requires waits { n ≤ length (link_at self.old c).waiting }
-        ensures now { self.new ≡ sent_of self.old c n }
-        ensures stands { (h : List Event) → Stands self.old h → Stands self.new h }
+        ensures now { self.new ≡ with_link self.old c (sent_link (link_at self.old c) n) }
+        ensures stands { (s : Setting) (sent : ℕ → ℕ) (h : History) → Stands s sent self.old h → Stands s (with_sent sent c (sent c + n)) self.new h }
     {
         let link = &mut self.links[c];
-        link.waiting.advance(n);
-    }
-
-    /// Takes all that waits on a connection, behind what is there. Want of memory takes nothing.
-    pub(crate) fn drain(&mut self, c: usize, out: &mut Vec<u8>) -> Result<(), Memory>
-        requires in_range { c < 64 }
-        requires open { is_open_at self.old c ≡ true }
-        ensures out { OnOk result (out.new.items ≡ out.old.items ++ (link_at self.old c).waiting) }
-        ensures now { OnOk result (self.new ≡ sent_of self.old c (length (link_at self.old c).waiting)) }
-    {
-        let waits = self.out_len(c);
-        out.extend_from_slice(self.links[c].waiting.as_slice())?;
-        self.sent(c, waits);
-        Ok(())
-    }
-
-    /// How many bytes wait on a connection.
-    fn out_len(&self, c: usize) -> usize
-        requires in_range { c < 64 }
-        requires open { is_open_at self.now c ≡ true }
-        ensures { result ≡ length (link_at self.now c).waiting }
-    {
-        self.links[c].waiting.len()
+        link.sent(n);
     }
 
     /// What waits is still sent, and nothing more is read.
@@ -188,7 +184,7 @@ impl Target {
         requires open { is_open_at self.now c ≡ true }
         ensures { result ≡ is_closing (link_at self.now c).phase }
     {
-        matches!(self.links[c].phase, Phase::Closing)
+        self.links[c].phase.is_closing()
     }
 
     /// The connection was opened and has not ended.
@@ -196,7 +192,7 @@ impl Target {
         requires { c < 64 }
         ensures { result ≡ is_open_at self.now c }
     {
-        !matches!(self.links[c].phase, Phase::Free)
+        !self.links[c].phase.is_free()
     }
 
     /// How many bytes to read next: those missing of a header, or of its frame. 0 where the
@@ -207,9 +203,145 @@ impl Target {
         ensures { result ≡ want_of (link_at self.now c) }
     {
         let link = &self.links[c];
-        if matches!(link.phase, Phase::Closing) || link.waiting.len() > MOST_WAITING {
+        if link.phase.is_closing() || link.out().len() > MOST_WAITING {
             return 0;
         }
-        link.framer.want()
+        link.want()
+    }
+
+    /// The connection's frames are read.
+    fn reads(&self, c: usize) -> bool
+        requires { c < 64 }
+        ensures value { result ≡ is_reading (link_at self.now c).phase }
+        ensures count { length self.now.links ≡ 64 }
+    {
+        self.links[c].phase.reads()
+    }
+
+    /// The connection closes, and its session ends.
+    #[tactic(auto, unfolding(crate::specs::Machine::closed, crate::specs::World::changed_units))]
+    fn close(&mut self, c: usize)
+        requires { c < 64 }
+        ensures { self.new ≡ closed self.old c }
+    {
+        let link = &mut self.links[c];
+        if let Phase::FullFeature { session, .. } = &link.phase {
+            let units = &mut self.units[session.target];
+            units.leave(&session.nexus);
+        }
+        link.shut();
+    }
+
+    /// An allocation failed: the connection closes.
+    fn starve(&mut self, c: usize) -> Starved
+        requires { c < 64 }
+        ensures closed { self.new ≡ closed self.old c }
+        ensures names { result.connection ≡ c }
+    {
+        self.close(c);
+        Starved { connection: c }
+    }
+
+    /// Keeps a further piece of a connection's bytes.
+    fn keep(&mut self, c: usize, piece: &[u8]) -> Result<(), Memory>
+        requires in_range { c < 64 }
+        requires reads { is_reading (link_at self.old c).phase ≡ true }
+        ensures ok { OnOk result (self.new ≡ with_link self.old c (record (link_at self.old c) { half = (link_at self.old c).half ++ piece.now })) }
+        ensures err { OnErr result (self.new ≡ self.old) }
+    {
+        let link = &mut self.links[c];
+        link.keep(piece)
+    }
+
+    /// The first whole frame of a connection, taken from the front of its bytes.
+    fn next_frame(&mut self, c: usize) -> Result<Option<Frame>, PduFault>
+        requires in_range { c < 64 }
+        requires reads { is_reading (link_at self.old c).phase ≡ true }
+        ensures given { IfOk result (λ o. IfSome o (λ f. GivesFrame f (link_at self.old c).half (link_at self.new c).half)) }
+        ensures same { IfOk result (λ o. IfSome o (λ _. self.new ≡ with_link self.old c (record (link_at self.old c) { half = (link_at self.new c).half }))) }
+        ensures none { IfOk result (λ o. IfNone o (has_frame (link_at self.old c).half ≡ false)) }
+        ensures not_long { IfOk result (λ o. IfNone o (is_long (link_at self.old c).half ≡ false)) }
+        ensures waits { IfOk result (λ o. IfNone o (self.new ≡ self.old)) }
+        ensures too_long { IsErrOf result PduFault.TooLong → is_long (link_at self.old c).half ≡ true }
+        ensures memory { IsErrOf result PduFault.Memory → has_frame (link_at self.old c).half ≡ true }
+        ensures err { OnErr result (self.new ≡ self.old) }
+    {
+        let link = &mut self.links[c];
+        link.next_frame()
+    }
+
+    /// One frame of a connection, in its phase. Where an allocation fails nothing changes.
+    #[tactic(auto, unfolding(crate::specs::Machine::frame_taken, crate::specs::Acts::is_login))]
+    fn take_frame(&mut self, c: usize, frame: &Frame) -> Result<(), Memory>
+        requires { c < 64 }
+        ensures ok { OnOk result (self.new ≡ frame_taken self.old c frame.now) }
+        ensures err { OnErr result (self.new ≡ self.old) }
+    {
+        match &self.links[c].phase {
+            Phase::Free | Phase::Closing => Ok(()),
+            Phase::Login => {
+                if frame.header.opcode() == Opcode::Login {
+                    return self.log_in(c, frame);
+                }
+                self.close(c);
+                Ok(())
+            }
+            Phase::FullFeature { numbers, .. } => match judge(numbers.exp_cmd_sn, frame) {
+                Verdict::Accepted => self.serve(c, frame),
+                Verdict::Violating => {
+                    self.close(c);
+                    Ok(())
+                }
+            },
+        }
+    }
+
+    /// A command that is accepted is done and answered. Where an allocation fails nothing changes.
+    fn serve(&mut self, c: usize, frame: &Frame) -> Result<(), Memory>
+        requires { c < 64 }
+        ensures ok { OnOk result (self.new ≡ judged Accepted self.old c frame.now) }
+        ensures err { OnErr result (self.new ≡ self.old) }
+    {
+        let link = &mut self.links[c];
+        link.serve(self.alloc, self.units.as_mut_slice(), frame)
+    }
+
+    /// A Login request is answered. Where an allocation fails nothing changes.
+    #[tactic(auto, unfolding(crate::specs::Machine::logged_in))]
+    fn log_in(&mut self, c: usize, request: &Frame) -> Result<(), Memory>
+        requires in_range { c < 64 }
+        requires logs_in { (link_at self.old c).phase ≡ Login }
+        ensures ok { OnOk result (self.new ≡ logged_in self.old c request.now) }
+        ensures err { OnErr result (self.new ≡ self.old) }
+    {
+        let names = self.config.targets.as_slice();
+        match login(self.alloc, names, self.links.as_slice(), request)? {
+            Reply::Refused(refusal) => {
+                let link = &mut self.links[c];
+                link.refuse(request, refusal)
+            }
+            Reply::Full(session) => self.begin(c, request, session),
+        }
+    }
+
+    /// Full feature phase begins, and an older session of the same nexus with the same target is
+    /// ended. Where an allocation fails nothing changes.
+    #[tactic(auto, unfolding(crate::specs::World::changed_units))]
+    fn begin(&mut self, c: usize, request: &Frame, session: Session) -> Result<(), Memory>
+        requires in_range { c < 64 }
+        requires reads { is_reading (link_at self.old c).phase ≡ true }
+        requires target { session.target < length self.old.units }
+        ensures ok { OnOk result (self.new ≡ answered (Full session) c request.now self.old) }
+        ensures err { OnErr result (self.new ≡ self.old) }
+    {
+        let before = older(self.links.as_slice(), &session);
+        let units = &mut self.units[session.target];
+        let link = &mut self.links[c];
+        link.begin(self.alloc, c, session, request, units)?;
+        if let Some(before) = before {
+            let link = &mut self.links[before];
+            link.shut();
+        }
+        Ok(())
     }
 }

@@ -1,42 +1,100 @@
-use Rattle.std.proofs.Common.{◌<◌, ap, ◌∙◌, arith, length, map, refl}
-use Rattle.std.specs.Prelude.{string_bytes}
-use Rattle.std.proofs.lemmas.List.{with_items_is}
-use Rattle.iscsi_target.specs.Links.{link_view}
-use Rattle.iscsi_target.proofs.Connections.{keeps_links, view_fed, view_starved}
-use Rattle.iscsi_target.specs.Machine.{Machine, fed}
-use Rattle.iscsi_target.proofs.Events.{fed_keeps, fed_grows}
-use Rattle.iscsi_target.proofs.Promises.{on_ok_then, count_links, stands_as, grows_as}
+use Rattle.std.proofs.Common.{◌≡◌, ◌∙◌, ◌<◌, [], length, sym, ap, refl, arith}
+use Rattle.std.proofs.lemmas.Bool.{eqb-true}
+use Rattle.std.proofs.lemmas.List.{nil_from_length}
+use Rattle.iscsi_target.specs.Machine.{LinkState, Machine, link_at, closed, is_reading, GivesFrame}
+use Rattle.iscsi_target.proofs.Standing.{stands_machine}
+use Rattle.iscsi_target.proofs.Bringing.{begins, goes_on, with_half}
+use Rattle.iscsi_target.proofs.Feeding.{ends_whole, ends_closed, ends_long, ends_starved, ends_at_once, ends_idle, ends_empty, starved_machine, progress_from, closing_there, closed_rehalved, taken_is_shorter, some_given, some_frame}
 use Rattle.iscsi_target.proofs.target.Target.feed.Goals as goal
-use Rattle.iscsi_target.proofs.target.Target.feed.Goals.{in-Ok, in-Err}
 
-pub invariant_of-self : goal.invariant_of-self
-invariant_of-self c = keeps_links c.self.inside.links.items c.args.c c.feed.new.self (link_view c.feed.new.self) refl c.feed.ensures.settled c.self.invariant
+pub returns-then-is_empty-clause-stands : goal.returns-then-is_empty-clause-stands
+returns-then-is_empty-clause-stands c = λ s sent h at.
+    (let none : c.args.piece.now ≡ [] = nil_from_length c.args.piece.now (eqb-true _ _ (sym c.is_empty.ensures ∙ c.if-is_empty.true)) in
+    ends_empty c.args.c s sent c.args.self.now h c.args.piece.now c.requires.in_range at c.requires.«open» none)
 
-pub returns-clause-ok : goal.returns-clause-ok
-returns-clause-ok c =
-    let lt : c.args.c < length c.self.inside.links.items = omega (arith, c.self.invariant.0) in
-    let kept = with_items_is c.self.inside.slots c.feed.new.slots (c.feed.auto.slots ∙ c.as_mut_slice.ensures.len) in
-    elim c.match-feed.branch [
-      | in-Ok w ↦ rw w.result-is (view_fed _ (map string_bytes c.as_slice.result.now) c.self.inside.slots.items c.as_mut_slice.result.now c.feed.new.slots _ c.self.inside.links.items c.args.c c.args.piece.now c.index_mut-link.result.now c.feed.new.self c.args.self.now lt c.index_mut-link.ensures.value kept (ap (map string_bytes) c.as_slice.ensures.value) c.as_mut_slice.ensures.value w.in-Ok.ensures.ok c.self.view_is)
-      | in-Err w ↦ rw w.result-is tt
-    ]
+pub returns-then-not-reads-clause-stands : goal.returns-then-not-reads-clause-stands
+returns-then-not-reads-clause-stands c = λ s sent h at.
+    ends_idle c.args.c s sent c.args.self.now h c.args.piece.now c.requires.in_range at c.requires.«open» (sym c.reads.ensures.value ∙ c.if-not-reads.true)
 
-pub returns-clause-starved : goal.returns-clause-starved
-returns-clause-starved c =
-    let lt : c.args.c < length c.self.inside.links.items = omega (arith, c.self.invariant.0) in
-    elim c.match-feed.branch [
-      | in-Ok w ↦ rw w.result-is tt
-      | in-Err w ↦ rw w.result-is (view_starved _ c.self.inside.slots.items _ c.self.inside.links.items c.args.c c.feed.new.self c.args.self.now lt w.in-Err.ensures.err c.self.view_is)
-    ]
+pub returns-in-Err-clause-starved : goal.returns-in-Err-clause-starved
+returns-in-Err-clause-starved c = λ s sent h at.
+    starved_machine c.args.c s sent h c.args.piece.now (closed c.args.self.now c.args.c) c.starve.new.self
+    (ap (λ (m : Machine). closed m c.args.c) (sym c.in-Err.ensures.err) ∙ sym c.starve.ensures.closed)
+    (ends_at_once c.args.c s sent c.args.self.now h c.args.piece.now c.requires.in_range at (sym c.reads.ensures.value ∙ c.if-not-reads.false))
+
+pub returns-in-Err-clause-closing : goal.returns-in-Err-clause-closing
+returns-in-Err-clause-closing c =
+    let same : c.starve.new.self ≡ closed c.args.self.now c.args.c = c.starve.ensures.closed ∙ ap (λ (m : Machine). closed m c.args.c) c.in-Err.ensures.err in
+    rw same (closing_there c.args.self.now c.args.c (let lt = c.requires.in_range in omega (arith, c.reads.ensures.count)))
+
+pub loop-self-init : goal.loop-self-init
+loop-self-init c =
+    let lt : c.args.c < length c.args.self.now.links = (let below = c.requires.in_range in omega (arith, c.reads.ensures.count)) in
+    let half : link_at c.keep.new.self c.args.c ≡ _ = ap (λ (m : Machine). link_at m c.args.c) c.in_default.ensures.ok ∙ with_half c.args.self.now c.args.c _ lt in
+    begins c.args.c c.keep.new.self (ap (λ (l : LinkState). is_reading l.phase) half ∙ (sym c.reads.ensures.value ∙ c.if-not-reads.false))
+
+pub returns-in-Err-take_frame-clause-starved : goal.returns-in-Err-take_frame-clause-starved
+returns-in-Err-take_frame-clause-starved c = λ s sent h at.
+    (let given = rw c.in-Ok-Some.field-0-is at c.in-Ok-Some.ensures.same in
+    let lt : c.args.c < length c.loop-self.self.links = (let below = c.requires.in_range in omega (arith, c.reads-in-loop-self.ensures.count)) in
+    let same : closed c.loop-self.self c.args.c ≡ c.starve-in-Err-take_frame.new.self =
+    sym (closed_rehalved c.loop-self.self c.next_frame.new.self c.args.c _ lt given) ∙ ap (λ (m : Machine). closed m c.args.c) (sym c.in-Err-take_frame.ensures.err) ∙ sym c.starve-in-Err-take_frame.ensures.closed in
+    starved_machine c.args.c s sent h c.args.piece.now (closed c.loop-self.self c.args.c) c.starve-in-Err-take_frame.new.self same
+    (ends_starved c.args.c s sent c.args.self.now c.loop-self.self h c.args.piece.now c.requires.in_range at (sym c.reads.ensures.value ∙ c.if-not-reads.false)
+    (progress_from c.args.c c.keep.new.self _ c.loop-self.self c.in_default.ensures.ok c.loop-self.invariant) (sym c.reads-in-loop-self.ensures.value ∙ c.loop-self-test.true)
+    (some_given c.in-Ok-Some.frame _ _ (rw c.in-Ok-Some.field-0-is at c.in-Ok-Some.ensures.given))))
+
+pub returns-in-Err-take_frame-clause-closing : goal.returns-in-Err-take_frame-clause-closing
+returns-in-Err-take_frame-clause-closing c =
+    let given = rw c.in-Ok-Some.field-0-is at c.in-Ok-Some.ensures.same in
+    let lt : c.args.c < length c.loop-self.self.links = (let below = c.requires.in_range in omega (arith, c.reads-in-loop-self.ensures.count)) in
+    let same : c.starve-in-Err-take_frame.new.self ≡ closed c.loop-self.self c.args.c =
+    c.starve-in-Err-take_frame.ensures.closed ∙ ap (λ (m : Machine). closed m c.args.c) c.in-Err-take_frame.ensures.err ∙ closed_rehalved c.loop-self.self c.next_frame.new.self c.args.c _ lt given in
+    rw same (closing_there c.loop-self.self c.args.c lt)
+
+pub loop-self-preserved : goal.loop-self-preserved
+loop-self-preserved c =
+    let lt : c.args.c < length c.loop-self.self.links = (let below = c.requires.in_range in omega (arith, c.reads-in-loop-self.ensures.count)) in
+    goes_on c.args.c c.keep.new.self c.loop-self.self c.next_frame.new.self c.take_frame.new.self c.in-Ok-Some.frame lt c.loop-self.invariant (sym c.reads-in-loop-self.ensures.value ∙ c.loop-self-test.true)
+    (rw c.in-Ok-Some.field-0-is at c.in-Ok-Some.ensures.given) (rw c.in-Ok-Some.field-0-is at c.in-Ok-Some.ensures.same) c.in_default-take_frame.ensures.ok
+
+pub loop-self-smaller : goal.loop-self-smaller
+loop-self-smaller c =
+    let lt : c.args.c < length c.loop-self.self.links = (let below = c.requires.in_range in omega (arith, c.reads-in-loop-self.ensures.count)) in
+    let given : GivesFrame c.in-Ok-Some.frame _ _ = rw c.in-Ok-Some.field-0-is at c.in-Ok-Some.ensures.given in
+    taken_is_shorter c.args.c c.loop-self.self c.next_frame.new.self c.take_frame.new.self c.in-Ok-Some.frame lt (sym c.reads-in-loop-self.ensures.value ∙ c.loop-self-test.true) given (rw c.in-Ok-Some.field-0-is at c.in-Ok-Some.ensures.same) c.in_default-take_frame.ensures.ok
+
+pub returns-in-Ok-None-clause-stands : goal.returns-in-Ok-None-clause-stands
+returns-in-Ok-None-clause-stands c = λ s sent h at.
+    (let waits : c.next_frame.new.self ≡ c.loop-self.self = rw c.in-Ok-None.field-0-is at c.in-Ok-None.ensures.waits in
+    stands_machine s sent _ c.loop-self.self c.next_frame.new.self (sym waits)
+    (ends_whole c.args.c s sent c.args.self.now c.loop-self.self h c.args.piece.now c.requires.in_range at (sym c.reads.ensures.value ∙ c.if-not-reads.false)
+    (progress_from c.args.c c.keep.new.self _ c.loop-self.self c.in_default.ensures.ok c.loop-self.invariant) (sym c.reads-in-loop-self.ensures.value ∙ c.loop-self-test.true)
+    (rw c.in-Ok-None.field-0-is at c.in-Ok-None.ensures.none) (rw c.in-Ok-None.field-0-is at c.in-Ok-None.ensures.not_long)))
+
+pub returns-in-Err-TooLong-clause-stands : goal.returns-in-Err-TooLong-clause-stands
+returns-in-Err-TooLong-clause-stands c = λ s sent h at.
+    (let told = rw c.in-Err-TooLong.field-0-is at c.in-Err-TooLong.ensures.too_long in
+    let same : closed c.loop-self.self c.args.c ≡ c.close.new.self = ap (λ (m : Machine). closed m c.args.c) (sym c.in-Err-TooLong.ensures.err) ∙ sym c.close.ensures in
+    stands_machine s sent _ (closed c.loop-self.self c.args.c) c.close.new.self same
+    (ends_long c.args.c s sent c.args.self.now c.loop-self.self h c.args.piece.now c.requires.in_range at (sym c.reads.ensures.value ∙ c.if-not-reads.false)
+    (progress_from c.args.c c.keep.new.self _ c.loop-self.self c.in_default.ensures.ok c.loop-self.invariant) (sym c.reads-in-loop-self.ensures.value ∙ c.loop-self-test.true) (told refl)))
+
+pub returns-in-Err-Memory-clause-starved : goal.returns-in-Err-Memory-clause-starved
+returns-in-Err-Memory-clause-starved c = λ s sent h at.
+    (let same : closed c.loop-self.self c.args.c ≡ c.starve-in-Err-Memory.new.self = ap (λ (m : Machine). closed m c.args.c) (sym c.in-Err-Memory.ensures.err) ∙ sym c.starve-in-Err-Memory.ensures.closed in
+    starved_machine c.args.c s sent h c.args.piece.now (closed c.loop-self.self c.args.c) c.starve-in-Err-Memory.new.self same
+    (ends_starved c.args.c s sent c.args.self.now c.loop-self.self h c.args.piece.now c.requires.in_range at (sym c.reads.ensures.value ∙ c.if-not-reads.false)
+    (progress_from c.args.c c.keep.new.self _ c.loop-self.self c.in_default.ensures.ok c.loop-self.invariant) (sym c.reads-in-loop-self.ensures.value ∙ c.loop-self-test.true)
+    (some_frame _ ((rw c.in-Err-Memory.field-0-is at c.in-Err-Memory.ensures.memory) refl))))
+
+pub returns-in-Err-Memory-clause-closing : goal.returns-in-Err-Memory-clause-closing
+returns-in-Err-Memory-clause-closing c =
+    let lt : c.args.c < length c.loop-self.self.links = (let below = c.requires.in_range in omega (arith, c.reads-in-loop-self.ensures.count)) in
+    let same : c.starve-in-Err-Memory.new.self ≡ closed c.loop-self.self c.args.c = c.starve-in-Err-Memory.ensures.closed ∙ ap (λ (m : Machine). closed m c.args.c) c.in-Err-Memory.ensures.err in
+    rw same (closing_there c.loop-self.self c.args.c lt)
 
 pub returns-clause-stands : goal.returns-clause-stands
-returns-clause-stands c =
-    let count = count_links c.self.inside.links.items c.args.self.now c.self.invariant.0 (ap (λ (m : Machine). m.links) c.self.view_is) in
-    on_ok_then c.match-feed.result _ _ (returns-clause-ok c) (λ e h s.
-    stands_as (fed c.args.self.now c.args.c c.args.piece.now) _ _ e (fed_keeps c.args.self.now h c.args.c c.args.piece.now c.requires.in_range count c.requires.open s))
-
-pub returns-clause-grows : goal.returns-clause-grows
-returns-clause-grows c =
-    let count = count_links c.self.inside.links.items c.args.self.now c.self.invariant.0 (ap (λ (m : Machine). m.links) c.self.view_is) in
-    on_ok_then c.match-feed.result _ _ (returns-clause-ok c) (λ e h s d below.
-    grows_as c.args.self.now (fed c.args.self.now c.args.c c.args.piece.now) _ _ _ d e (fed_grows c.args.self.now h c.args.c c.args.piece.now c.requires.in_range count c.requires.open s d below))
+returns-clause-stands c = λ s sent h at.
+    ends_closed c.args.c s sent c.args.self.now c.loop-self.self h c.args.piece.now c.requires.in_range at (sym c.reads.ensures.value ∙ c.if-not-reads.false)
+    (progress_from c.args.c c.keep.new.self _ c.loop-self.self c.in_default.ensures.ok c.loop-self.invariant) (sym c.reads-in-loop-self.ensures.value ∙ c.loop-self-test.false)

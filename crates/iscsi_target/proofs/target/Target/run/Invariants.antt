@@ -1,13 +1,13 @@
-use Rattle.std.proofs.Common.{◌≡◌, map, take}
+use Rattle.std.proofs.Common.{◌≡◌, ℕ, List, true, map, take, drop}
 use Rattle.std.specs.Prelude.{string_bytes}
-use Rattle.iscsi_target.specs.Events.{events_view}
-use Rattle.iscsi_target.specs.Stands.{setting_of}
-use Rattle.iscsi_target.specs.Runs.{Runs, bytes_of}
+use Rattle.iscsi_target.specs.History.{may_follow}
+use Rattle.iscsi_target.specs.Events.{events_view, plain_history}
+use Rattle.iscsi_target.specs.Runs.{seen, Runs}
 use Rattle.iscsi_target.proofs.target.Target.run.Given as goal
 
--- the target has run through the events so far
-abbrev pub invariant-loop-at : goal.invariant-loop-at
-invariant-loop-at l = record {
-  runs : Runs l.target (map bytes_of l.outputs.items) (events_view (take l.at l.events));
-  setting : setting_of l.target ≡ record { targets = map string_bytes l.fn.config.targets.items; places = l.fn.units.items };
-}
+-- the events so far were taken, and the others may follow
+abbrev pub invariant-loop-event : goal.invariant-loop-event
+invariant-loop-event l =
+    (before : List ℕ)
+    × Runs (record { names = map string_bytes l.fn.config.targets.items; units = l.fn.units.items }) l.target (map seen l.rows.items) before (plain_history (take l.event-index l.events))
+    × (may_follow before (events_view (drop l.event-index l.events)) ≡ true)

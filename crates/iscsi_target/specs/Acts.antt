@@ -1,0 +1,91 @@
+-- What a request in full feature phase is judged by, and what a command does and is answered.
+use Rattle.std.specs.Prelude.{ℕ, ◌-◌, List, [], ◌∷◌, length, Bool, ◌&&◌, not, ◌==◌, nat_lt, option_map, if◌then◌else◌}
+use Rattle.scsi_sense.specs.Codes.{status_number}
+use Rattle.scsi_sense.specs.Sense.{sense_bytes, plain_sense}
+use Rattle.scsi_sense.specs.Done.{Outcome, check_condition}
+use Rattle.scsi_sense.specs.Nexus.{NexusName}
+use Rattle.scsi_sense.specs.declared.code.SenseKey.TheVariants.{IllegalRequest}
+use Rattle.scsi_sense.specs.declared.code.AdditionalSense.TheVariants.{InvalidFieldInCdb}
+use Rattle.iscsi_pdu.specs.Header.{opcode_number, is_immediate, additional_length, cmd_sn, initiator_task_tag, lun_field}
+use Rattle.iscsi_pdu.specs.ScsiCommand.{is_write, expected_transfer_length, cdb}
+use Rattle.iscsi_pdu.specs.LoginRequest.{isid, tsih}
+use Rattle.iscsi_pdu.specs.Frames.{Frame}
+use Rattle.iscsi_pdu.specs.declared.answer.Answer.{Answer}
+use Rattle.iscsi_pdu.specs.declared.answer.Answer.TheVariants as answers
+use Rattle.iscsi_pdu.specs.declared.stamp.Stamp.{Stamp}
+use Rattle.iscsi_pdu.specs.declared.scsi_response.Residual.{Residual}
+use Rattle.iscsi_pdu.specs.declared.scsi_response.Residual.TheVariants as residuals
+use Rattle.iscsi_pdu.specs.declared.login_response.LoginReply.TheVariants as logins
+use Rattle.iscsi_pdu.specs.declared.login_response.LoginStep.TheVariants.{Enters}
+use Rattle.iscsi_pdu.specs.declared.login_response.LoginRefusal.{LoginRefusal}
+use Rattle.iscsi_pdu.specs.declared.stage.Stage.TheVariants.{OperationalNegotiation, FullFeaturePhase}
+use Rattle.iscsi_target.specs.Login.{declared_text}
+use Rattle.iscsi_target.specs.Units.{Units, perform}
+use Rattle.iscsi_target.specs.declared.session.Verdict.{Verdict}
+use Rattle.iscsi_target.specs.declared.session.Verdict.TheVariants.{Accepted, Violating}
+
+-- RFC 7143 §11.2.1.2
+unfoldable pub is_login : Frame → Bool
+is_login frame = opcode_number frame.header == 0x03
+
+-- RFC 7143 §11.2.1.8: no command bears this tag
+abbrev pub reserved_tag : ℕ
+reserved_tag = 0xFFFFFFFF
+
+-- Own: a SCSI Command with the next number, a tag of its own, and no data to come is accepted, and
+-- every other frame is a violation.
+unfoldable pub verdict : ℕ → Frame → Verdict
+verdict exp_cmd_sn frame =
+    if opcode_number frame.header == 0x01 && not (is_immediate frame.header) && cmd_sn frame.header == exp_cmd_sn
+    && not (initiator_task_tag frame.header == reserved_tag) && not (is_write frame.header) && length frame.body == 0
+    then Accepted else Violating
+
+-- ---- a command
+
+-- The units after a command, and what its initiator is told. A command with an additional header is
+-- answered 05/2400 in place of being done (own).
+unfoldable pub carried_out : Units → NexusName → Frame → Units × Outcome
+carried_out units nexus frame =
+    if nat_lt 0 (additional_length frame.header) then (units, check_condition (plain_sense IllegalRequest InvalidFieldInCdb))
+    else perform units nexus (lun_field frame.header) (cdb frame.header)
+
+-- O or U, by how much more or less than the expected length was moved (RFC 7143 §11.4.5)
+abbrev pub residual_of : ℕ → ℕ → Residual
+residual_of e moved = if nat_lt e moved then residuals.Overflow (moved - e) else if nat_lt moved e then residuals.Underflow (e - moved) else residuals.None
+
+-- the SCSI Response (RFC 7143 §11.4)
+unfoldable pub scsi_answer : Stamp → Frame → Outcome → Answer
+scsi_answer stamp frame done = answers.ScsiResponse (record {
+  initiator_task_tag = initiator_task_tag frame.header;
+  stamp = stamp;
+  status = status_number done.status;
+  residual = residual_of (expected_transfer_length frame.header) done.moved;
+  exp_data_sn = 0;
+  sense = option_map sense_bytes done.sense;
+})
+
+-- all that a command is answered, in order
+abbrev pub command_answers : Stamp → Frame → Outcome → List Answer
+command_answers stamp frame done = scsi_answer stamp frame done ∷ []
+
+-- ---- a login (RFC 7143 §11.13)
+
+-- a refusal has byte 1 zero, and no text
+unfoldable pub refusal_answer : Stamp → Frame → LoginRefusal → Answer
+refusal_answer stamp request refusal = answers.LoginResponse (record {
+  isid = isid request.header;
+  tsih = tsih request.header;
+  initiator_task_tag = initiator_task_tag request.header;
+  stamp = stamp;
+  reply = logins.Refused refusal;
+})
+
+-- the answer with which full feature phase begins: the session of connection c has TSIH c + 1
+unfoldable pub success_answer : ℕ → Stamp → Frame → Answer
+success_answer handle stamp request = answers.LoginResponse (record {
+  isid = isid request.header;
+  tsih = handle;
+  initiator_task_tag = initiator_task_tag request.header;
+  stamp = stamp;
+  reply = logins.Accepted (record { stage = OperationalNegotiation; step = Enters FullFeaturePhase; text = declared_text });
+})

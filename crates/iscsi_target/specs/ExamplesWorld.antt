@@ -1,0 +1,104 @@
+-- Histories computed from the definitions alone, with the expected bytes written by hand.
+use Rattle.std.specs.Prelude.{◌≡◌, ℕ, List, [], ◌∷◌, ◌++◌, take, drop, true, false, refl}
+use Rattle.iscsi_target.specs.History.{Open, Bytes, Gone, Step, Judging, Taking, Doing, Ending, History, plain, marked}
+use Rattle.iscsi_target.specs.Output.{outputs}
+use Rattle.iscsi_target.specs.ExamplesBytes.{computed, one_target, are_read, login_as, login_request, login_response, logged_in, refused, first_test, second_test, attention, ready_answer}
+
+-- ---- one connection
+
+-- a login and two commands in one piece
+in_one_piece : outputs one_target (plain (Open 0) ∷ plain (Bytes 0 (login_request ++ first_test ++ second_test)) ∷ []) ≡ (logged_in ++ attention ++ ready_answer) ∷ []
+unfolding computed
+in_one_piece = refl
+
+-- the same cut in the middle of a header
+in_two_pieces : outputs one_target (plain (Open 0) ∷ plain (Bytes 0 (login_request ++ take 20 first_test)) ∷ plain (Bytes 0 (drop 20 first_test ++ second_test)) ∷ []) ≡ (logged_in ++ attention ++ ready_answer) ∷ []
+unfolding computed
+in_two_pieces = refl
+
+-- a Login request in full feature phase closes the connection, and the power on is told again in the next life
+abbrev after_a_violation : History
+after_a_violation =
+    plain (Open 0) ∷ plain (Bytes 0 (login_request ++ first_test ++ login_request ++ second_test)) ∷ plain (Gone 0) ∷
+    plain (Open 0) ∷ plain (Bytes 0 (login_request ++ first_test)) ∷ []
+
+told_again : outputs one_target after_a_violation ≡ (logged_in ++ attention) ∷ (logged_in ++ attention) ∷ []
+unfolding computed
+told_again = refl
+
+-- ---- two connections
+
+-- the initiators `a` and `b`, each answered as if alone
+abbrev two_initiators : History
+two_initiators =
+    plain (Open 0) ∷ plain (Open 1) ∷ plain (Bytes 0 login_request) ∷ plain (Bytes 1 (login_as 0x62 0x01 0x00)) ∷
+    plain (Bytes 1 first_test) ∷ plain (Bytes 0 first_test) ∷ plain (Bytes 0 second_test) ∷ plain (Bytes 1 second_test) ∷ []
+
+each_as_if_alone : outputs one_target two_initiators ≡ (logged_in ++ attention ++ ready_answer) ∷ (login_response 0x01 0x02 ++ attention ++ ready_answer) ∷ []
+unfolding computed
+each_as_if_alone = refl
+
+-- `a` logs in again with the same ISID: its older connection closes
+abbrev again : History
+again = plain (Open 0) ∷ plain (Bytes 0 (login_request ++ first_test)) ∷ plain (Open 1) ∷ plain (Bytes 1 (login_request ++ first_test)) ∷ plain (Bytes 0 second_test) ∷ []
+
+the_older_is_ended : outputs one_target again ≡ (logged_in ++ attention) ∷ (login_response 0x01 0x02 ++ attention) ∷ []
+unfolding computed
+the_older_is_ended = refl
+
+the_newer_is_read : are_read one_target again ≡ false ∷ true ∷ []
+unfolding computed
+the_newer_is_read = refl
+
+-- with another ISID both go on
+another_isid : are_read one_target (plain (Open 0) ∷ plain (Bytes 0 login_request) ∷ plain (Open 1) ∷ plain (Bytes 1 (login_as 0x61 0x02 0x00)) ∷ []) ≡ true ∷ true ∷ []
+unfolding computed
+another_isid = refl
+
+-- TSIH 1 is that of the live session, and 9 is that of none
+abbrev joining : ℕ → History
+joining tsih = plain (Open 0) ∷ plain (Bytes 0 login_request) ∷ plain (Open 1) ∷ plain (Bytes 1 (login_as 0x61 0x01 tsih)) ∷ []
+
+too_many_connections : outputs one_target (joining 0x01) ≡ logged_in ∷ refused 0x01 0x06 ∷ []
+unfolding computed
+too_many_connections = refl
+
+session_does_not_exist : outputs one_target (joining 0x09) ≡ logged_in ∷ refused 0x09 0x0a ∷ []
+unfolding computed
+session_does_not_exist = refl
+
+-- ---- an allocation fails on connection 0, in the event that brings its first command, the frame of place 1
+
+abbrev failed_at : Step → History
+failed_at step =
+    plain (Open 0) ∷ plain (Open 1) ∷ plain (Bytes 0 login_request) ∷ marked (record { connection = 0; step = step } ∷ []) (Bytes 0 first_test) ∷
+    plain (Bytes 1 (login_as 0x62 0x01 0x00 ++ first_test)) ∷ []
+
+abbrev unanswered : List (List ℕ)
+unanswered = logged_in ∷ (login_response 0x01 0x02 ++ attention) ∷ []
+
+before_it_is_judged : outputs one_target (failed_at (Judging 1)) ≡ unanswered
+unfolding computed
+before_it_is_judged = refl
+
+before_it_is_taken : outputs one_target (failed_at (Taking 1)) ≡ unanswered
+unfolding computed
+before_it_is_taken = refl
+
+before_it_is_done : outputs one_target (failed_at (Doing 1)) ≡ unanswered
+unfolding computed
+before_it_is_done = refl
+
+-- that connection alone is closed
+it_is_closed : are_read one_target (failed_at (Doing 1)) ≡ false ∷ true ∷ []
+unfolding computed
+it_is_closed = refl
+
+-- at the event's end it has been answered
+at_the_end : outputs one_target (failed_at Ending) ≡ (logged_in ++ attention) ∷ (login_response 0x01 0x02 ++ attention) ∷ []
+unfolding computed
+at_the_end = refl
+
+at_the_end_it_is_closed : are_read one_target (failed_at Ending) ≡ false ∷ true ∷ []
+unfolding computed
+at_the_end_it_is_closed = refl

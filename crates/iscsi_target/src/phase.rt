@@ -1,0 +1,43 @@
+//! Where a connection is.
+
+use crate::session::Session;
+use iscsi_pdu::Stamp;
+
+/// The phase of a connection (RFC 7143 §4.2.4 to §4.2.6).
+#[derive(Debug, Drop)]
+pub(crate) enum Phase {
+    /// Not open.
+    Free,
+    /// Before full feature phase.
+    Login,
+    /// Full feature phase: its session, and the sequence numbers of its next answer.
+    FullFeature { session: Session, numbers: Stamp },
+    /// What waits is still sent, and nothing more is read.
+    Closing,
+}
+
+impl Phase {
+    ghost use Rattle.std.specs.Prelude.{◌≡◌};
+    ghost use Rattle.iscsi_target.specs.Machine.{is_reading, is_free, is_closing};
+
+    /// Frames are read in this phase.
+    pub(crate) fn reads(&self) -> bool
+        ensures { result ≡ is_reading self.now }
+    {
+        matches!(self, Phase::Login | Phase::FullFeature { .. })
+    }
+
+    /// The connection is not open.
+    pub(crate) fn is_free(&self) -> bool
+        ensures { result ≡ is_free self.now }
+    {
+        matches!(self, Phase::Free)
+    }
+
+    /// What waits is still sent, and nothing more is read.
+    pub(crate) fn is_closing(&self) -> bool
+        ensures { result ≡ is_closing self.now }
+    {
+        matches!(self, Phase::Closing)
+    }
+}
