@@ -3,11 +3,11 @@ use Rattle.std.proofs.Common.{◌≡◌, List, ◌++◌, Option, Some, None, is_
 use Rattle.toml.specs.Data.{Data}
 use Rattle.toml.specs.View.{view}
 use Rattle.toml.specs.declared.value.Value.{Value}
-use Rattle.targetd.specs.declared.config.refusal.Refusal.TheVariants.{Refused}
+use Rattle.targetd.specs.declared.config.fault.ConfigFault.TheVariants.{Field}
 use Rattle.targetd.specs.Document.{Gives}
 
 -- the value that a look-up found, or the fault
-pub gives_member : (found : Option (Bor Value)) (read : Option Data) → option_map (λ v. view v.now) found ≡ read → Gives (λ (v : Bor Value). view v.now) (ok_or found Refused) read
+pub gives_member : (found : Option (Bor Value)) (read : Option Data) → option_map (λ v. view v.now) found ≡ read → Gives (λ (v : Bor Value). view v.now) (ok_or found Field) read
 gives_member None read e = sym e
 gives_member (Some v) read e = sym e
 

@@ -1,6 +1,11 @@
-pub mod Links
-pub mod PrintedLinks
-pub mod Replaying
-pub mod Entries
-pub mod Passing
+pub mod Texts
 pub mod Lists
+pub mod Entries
+pub mod Joint
+pub mod Draining
+pub mod Connections
+pub mod Replies
+pub mod LineLemmas
+pub mod Taking
+pub mod Faults
+pub mod Ending

@@ -1,27 +1,63 @@
 -- Tests of units and of targets, by what a clause sees of them.
-use Rattle.std.proofs.Common.{◌≡◌, ℕ, ◌+◌, ◌-◌, ◌<◌, Bool, true, false, ◌||◌, List, [], ◌∷◌, length, take, drop, get_or, refl, ap}
-use Rattle.std.specs.Prelude.{nat_eq, bytes_eq, string_bytes}
+use Rattle.std.proofs.Common.{◌≡◌, ℕ, ◌+◌, ◌-◌, ◌<◌, ◌≤◌, ℤ, Bool, true, false, ◌||◌, ◌&&◌, List, [], ◌∷◌, length, take, drop, get_or, map, refl, sym, ap, ◌∙◌, arith, zero, suc}
+use Rattle.std.specs.Prelude.{bytes_eq, string_bytes}
+use Rattle.std.specs.Ordering.{int_eq}
 use Rattle.std.specs.List.{list_any, list_all}
-use Rattle.std.proofs.lemmas.List.{drop_more, length-drop}
+use Rattle.std.proofs.lemmas.Bool.{le-leb}
+use Rattle.std.proofs.lemmas.List.{drop_more, length-drop, length-map}
 use Rattle.std.proofs.Math.Seq.{take-length}
 use Rattle.std.proofs.lemmas.List.Folds.{list_all-map}
-use Rattle.targetd.specs.Document.{TargetEntry}
-use Rattle.targetd.specs.Limits.{unit_entries, target_entries, target_entry}
-use Rattle.targetd.specs.Config.{is_distinct, luns_of, names_of}
+use Rattle.targetd.specs.Configuration.{UnitEntry, TargetEntry, units_of, unit_view, units_view, target_view, targets_view, configuration_view, names_of}
+use Rattle.iscsi_target.specs.Units.{Units}
+use Rattle.targetd.specs.Limits.{is_lun, unit_keeps, target_keeps, keeps_limits}
+use Rattle.targetd.specs.Distinct.{is_distinct, luns_of}
 use Rattle.targetd.specs.declared.configuration.UnitConfiguration.{UnitConfiguration}
 use Rattle.targetd.specs.declared.configuration.TargetConfiguration.{TargetConfiguration}
+use Rattle.targetd.specs.declared.configuration.Configuration.{Configuration}
 
-pub list_any-luns : (lun : ℕ) (units : List UnitConfiguration) → list_any (λ unit. nat_eq unit.lun lun) units ≡ list_any (λ other. nat_eq other lun) (luns_of (unit_entries units))
+pub list_any-luns : (lun : ℤ) (units : List UnitConfiguration) → list_any (λ unit. int_eq unit.lun lun) units ≡ list_any (λ other. int_eq other lun) (luns_of (units_view units))
 list_any-luns lun [] = refl
-list_any-luns lun (unit ∷ units) = ap (λ (b : Bool). nat_eq unit.lun lun || b) (list_any-luns lun units)
+list_any-luns lun (unit ∷ units) = ap (λ (b : Bool). int_eq unit.lun lun || b) (list_any-luns lun units)
 
-pub list_any-names : (name : List ℕ) (targets : List TargetConfiguration) → list_any (λ target. bytes_eq (string_bytes target.name) name) targets ≡ list_any (λ other. bytes_eq other name) (names_of (target_entries targets))
+pub list_any-names : (name : List ℕ) (targets : List TargetConfiguration) → list_any (λ target. bytes_eq (string_bytes target.name) name) targets ≡ list_any (λ other. bytes_eq other name) (names_of (targets_view targets))
 list_any-names name [] = refl
 list_any-names name (target ∷ targets) = ap (λ (b : Bool). bytes_eq (string_bytes target.name) name || b) (list_any-names name targets)
 
--- a test of each target
-pub tests_targets : (test : TargetEntry → Bool) (targets : List TargetConfiguration) → list_all test (target_entries targets) ≡ list_all (λ target. test (target_entry target)) targets
-tests_targets test targets = list_all-map test target_entry targets
+-- a test of each unit, and of each target
+pub tests_units : (test : UnitEntry → Bool) (units : List UnitConfiguration) → list_all test (units_view units) ≡ list_all (λ unit. test (unit_view unit)) units
+tests_units test units = list_all-map test unit_view units
+
+pub tests_targets : (test : TargetEntry → Bool) (targets : List TargetConfiguration) → list_all test (targets_view targets) ≡ list_all (λ target. test (target_view target)) targets
+tests_targets test targets = list_all-map test target_view targets
+
+-- where its own limits are kept, the units of a target decide, and the targets of a configuration
+pub units_decide : (target : TargetConfiguration) → length (string_bytes target.name) ≤ 223 → length target.units.items ≤ 16
+    → target_keeps (target_view target) ≡ list_all (λ unit. unit_keeps (unit_view unit)) target.units.items
+units_decide target name units = rw (le-leb _ _ name, length-map target.units.items unit_view, le-leb _ _ units) (tests_units unit_keeps target.units.items)
+
+pub targets_decide : (configuration : Configuration) → length (string_bytes configuration.listen) ≤ 253 → length configuration.targets.items ≤ 8
+    → keeps_limits (configuration_view configuration) ≡ list_all (λ target. target_keeps (target_view target)) configuration.targets.items
+targets_decide configuration listen targets = rw (le-leb _ _ listen, length-map configuration.targets.items target_view, le-leb _ _ targets) (tests_targets target_keeps configuration.targets.items)
+
+both : (a b : Bool) → (a && b) ≡ true → (a ≡ true) × (b ≡ true)
+both true b e = (refl, e)
+both false b e = absurd (cc)
+
+-- where all pass, one does
+all_at : {X Y : Type 0} (test : Y → Bool) (view : X → Y) (xs : List X) (i : ℕ) (x : X) → i < length xs → x ≡ get_or xs i x → list_all test (map view xs) ≡ true → test (view x) ≡ true
+all_at test view [] i x lt e all = absurd (omega arith)
+all_at test view (y ∷ ys) zero x lt e all = ap (λ x. test (view x)) e ∙ (both _ _ all).0
+all_at test view (y ∷ ys) (suc i) x lt e all = all_at test view ys i x (omega arith) e (both _ _ all).1
+
+pub unit_at_keeps : (units : List UnitConfiguration) (i : ℕ) (unit : UnitConfiguration) → i < length units → unit ≡ get_or units i unit → list_all unit_keeps (units_view units) ≡ true → is_lun unit.lun ≡ true
+unit_at_keeps units i unit lt e all = (both _ _ (all_at unit_keeps unit_view units i unit lt e all)).0
+
+pub target_at_keeps : (targets : List TargetConfiguration) (i : ℕ) (target : TargetConfiguration) → i < length targets → target ≡ get_or targets i target → list_all target_keeps (targets_view targets) ≡ true
+    → list_all unit_keeps (units_view target.units.items) ≡ true
+target_at_keeps targets i target lt e all = (both _ _ (all_at target_keeps target_view targets i target lt e all)).1
+
+pub targets_kept : (configuration : Configuration) → keeps_limits (configuration_view configuration) ≡ true → list_all target_keeps (targets_view configuration.targets.items) ≡ true
+targets_kept configuration e = (both _ _ e).1
 
 -- what a slice of all behind a place holds
 abbrev behind : {X : Type 0} → ℕ → List X → List X
@@ -31,19 +67,24 @@ behind-drop : {X : Type 0} (i : ℕ) (xs : List X) → behind i xs ≡ drop (i +
 behind-drop i xs = rw (← length-drop (i + 1) xs) (take-length (drop (i + 1) xs))
 
 -- the LUNs from a unit on: one behind it is the same, or those behind it decide
-pub lun_repeats : (units : List UnitConfiguration) (i : ℕ) (unit : UnitConfiguration) → i < length units → unit ≡ get_or units i unit → list_any (λ other. nat_eq other.lun unit.lun) (behind i units) ≡ true
-    → is_distinct nat_eq (luns_of (unit_entries (drop i units))) ≡ false
+pub lun_repeats : (units : List UnitConfiguration) (i : ℕ) (unit : UnitConfiguration) → i < length units → unit ≡ get_or units i unit → list_any (λ other. int_eq other.lun unit.lun) (behind i units) ≡ true
+    → is_distinct int_eq (luns_of (units_view (drop i units))) ≡ false
 lun_repeats units i unit lt e found = rw (drop_more units i unit lt, ← e, ← list_any-luns unit.lun (drop (i + 1) units), rw (behind-drop i units) at found) refl
 
-pub lun_differs : (units : List UnitConfiguration) (i : ℕ) (unit : UnitConfiguration) → i < length units → unit ≡ get_or units i unit → list_any (λ other. nat_eq other.lun unit.lun) (behind i units) ≡ false
-    → is_distinct nat_eq (luns_of (unit_entries (drop i units))) ≡ is_distinct nat_eq (luns_of (unit_entries (drop (i + 1) units)))
+pub lun_differs : (units : List UnitConfiguration) (i : ℕ) (unit : UnitConfiguration) → i < length units → unit ≡ get_or units i unit → list_any (λ other. int_eq other.lun unit.lun) (behind i units) ≡ false
+    → is_distinct int_eq (luns_of (units_view (drop i units))) ≡ is_distinct int_eq (luns_of (units_view (drop (i + 1) units)))
 lun_differs units i unit lt e found = rw (drop_more units i unit lt, ← e, ← list_any-luns unit.lun (drop (i + 1) units), rw (behind-drop i units) at found) refl
 
 -- the same of the names
 pub name_repeats : (targets : List TargetConfiguration) (i : ℕ) (target : TargetConfiguration) → i < length targets → target ≡ get_or targets i target → list_any (λ other. bytes_eq (string_bytes other.name) (string_bytes target.name)) (behind i targets) ≡ true
-    → is_distinct bytes_eq (names_of (target_entries (drop i targets))) ≡ false
+    → is_distinct bytes_eq (names_of (targets_view (drop i targets))) ≡ false
 name_repeats targets i target lt e found = rw (drop_more targets i target lt, ← e, ← list_any-names (string_bytes target.name) (drop (i + 1) targets), rw (behind-drop i targets) at found) refl
 
 pub name_differs : (targets : List TargetConfiguration) (i : ℕ) (target : TargetConfiguration) → i < length targets → target ≡ get_or targets i target → list_any (λ other. bytes_eq (string_bytes other.name) (string_bytes target.name)) (behind i targets) ≡ false
-    → is_distinct bytes_eq (names_of (target_entries (drop i targets))) ≡ is_distinct bytes_eq (names_of (target_entries (drop (i + 1) targets)))
+    → is_distinct bytes_eq (names_of (targets_view (drop i targets))) ≡ is_distinct bytes_eq (names_of (targets_view (drop (i + 1) targets)))
 name_differs targets i target lt e found = rw (drop_more targets i target lt, ← e, ← list_any-names (string_bytes target.name) (drop (i + 1) targets), rw (behind-drop i targets) at found) refl
+
+-- a target is made with units for each of its names
+pub as_many : {A : Type 0} (targets : List TargetEntry) (units : List Units) (bytes : A → List ℕ) (names : List A) → units ≡ map units_of targets → map bytes names ≡ names_of targets → length units ≡ length names
+as_many {A} targets units bytes names e f =
+    ap length e ∙ length-map targets units_of ∙ sym (sym (length-map names bytes) ∙ ap length f ∙ length-map targets (λ target. target.name))

@@ -1,22 +1,18 @@
--- The configuration that a TOML document describes, or the first fault that it has.
-use Rattle.std.specs.Prelude.{ℕ, ℤ, pos, negsuc, List, [], ◌∷◌, map, Bool, true, not, ◌&&◌, nat_eq, bytes_eq, Option, Some, None, Result, Ok, Err, if◌then◌else◌}
-use Rattle.std.specs.List.{list_all, list_any}
+-- The configuration that a text describes, or the first fault that it has.
+use Rattle.std.specs.Prelude.{ℕ, List, length, Bool, not, nat_le, Option, Some, None, Result, Ok, Err, if◌then◌else◌}
+use Rattle.std.specs.List.{list_all}
+use Rattle.std.specs.Str.{is_utf8}
 use Rattle.toml.specs.Parse.{parse_document}
-use Rattle.targetd.specs.Document.{UnitEntry, TargetEntry, Document, document_of}
+use Rattle.targetd.specs.Configuration.{Document}
+use Rattle.targetd.specs.Document.{document_of}
 use Rattle.targetd.specs.Limits.{keeps_limits}
-use Rattle.targetd.specs.declared.config.ConfigFault.{ConfigFault}
-use Rattle.targetd.specs.declared.config.ConfigFault.TheVariants as faults
+use Rattle.targetd.specs.Distinct.{names_each_once, has_lun_zero}
+use Rattle.targetd.specs.declared.config.fault.ConfigFault.{ConfigFault}
+use Rattle.targetd.specs.declared.config.fault.ConfigFault.TheVariants as faults
 use Rattle.targetd.specs.declared.fault.Fault.{Fault}
 use Rattle.targetd.specs.declared.fault.Fault.TheVariants as fault
-use Rattle.targetd.specs.declared.config.refusal.Refusal.{Refusal}
-use Rattle.targetd.specs.declared.config.refusal.Refusal.TheVariants as refusals
 
--- a step's fault, unless memory ran out in it
-abbrev pub fault_of : Refusal → ConfigFault → ConfigFault
-fault_of refusals.Refused own = own
-fault_of refusals.OutOfMemory own = faults.OutOfMemory
-
--- the numbers of the faults
+-- profile: the numbers of the faults
 abbrev pub program_fault : ConfigFault → Fault
 program_fault faults.Unreadable = fault.Configuration 1
 program_fault faults.NotToml = fault.Configuration 2
@@ -26,61 +22,36 @@ program_fault faults.Twice = fault.Configuration 5
 program_fault faults.NoLunZero = fault.Configuration 6
 program_fault faults.OutOfMemory = fault.OutOfMemory
 
--- nothing comes twice
-abbrev pub is_distinct : {X : Type 0} → (X → X → Bool) → List X → Bool
-is_distinct same [] = true
-is_distinct same (x ∷ xs) = not (list_any (λ y. same y x) xs) && is_distinct same xs
-
-abbrev pub natural : ℤ → ℕ
-natural (pos n) = n
-natural (negsuc n) = 0
-
--- the LUNs, which are not below 0
-abbrev pub luns_of : List UnitEntry → List ℕ
-luns_of units = map (λ unit. natural unit.lun) units
-
-abbrev pub names_of : List TargetEntry → List (List ℕ)
-names_of targets = map (λ target. target.name) targets
-
-abbrev pub has_distinct_luns : TargetEntry → Bool
-has_distinct_luns target = is_distinct nat_eq (luns_of target.units)
-
-abbrev pub has_lun_zero : TargetEntry → Bool
-has_lun_zero target = list_any (λ lun. nat_eq lun 0) (luns_of target.units)
-
--- what is wrong with the targets and units together
-unfoldable pub fault_together : Document → Option ConfigFault
-fault_together document =
-    if not (is_distinct bytes_eq (names_of document.targets)) then Some faults.Twice
-    else if not (list_all has_distinct_luns document.targets) then Some faults.Twice
+-- profile: the first thing that is wrong with a configuration whose fields are all there
+unfoldable pub fault_in : Document → Option ConfigFault
+fault_in document =
+    if not (keeps_limits document) then Some faults.Limit
+    else if not (names_each_once document.targets) then Some faults.Twice
     else if not (list_all has_lun_zero document.targets) then Some faults.NoLunZero
     else None
 
-abbrev pub unless_fault : {A : Type 0} → Option ConfigFault → A → Result A ConfigFault
-unless_fault None x = Ok x
-unless_fault (Some why) x = Err why
+abbrev pub unless_fault : Option ConfigFault → Document → Result Document ConfigFault
+unless_fault None document = Ok document
+unless_fault (Some why) document = Err why
 
--- the second step, where the first gave a value, or the first one's fault
-abbrev pub or_fault : {A B : Type 0} → ConfigFault → Option A → (A → Result B ConfigFault) → Result B ConfigFault
+-- the next step, where this one gave a value, or this one's fault
+abbrev pub or_fault : {A : Type 0} → ConfigFault → Option A → (A → Result Document ConfigFault) → Result Document ConfigFault
 or_fault why None f = Err why
 or_fault why (Some x) f = f x
 
--- its fields
-unfoldable pub read_of : List ℕ → Result Document ConfigFault
-read_of text = or_fault faults.NotToml (parse_document text) (λ table. or_fault faults.Field (document_of table) Ok)
-
--- within its limits
-unfoldable pub limited_of : Document → Result Document ConfigFault
-limited_of document = if keeps_limits document then Ok document else Err faults.Limit
-
-infixl 10 ◌>>=◌
-abbrev pub ◌>>=◌ : {A B : Type 0} → Result A ConfigFault → (A → Result B ConfigFault) → Result B ConfigFault
-(Ok x) >>= f = f x
-(Err why) >>= f = Err why
-
--- the configuration, or the first fault that holds
+-- the configuration of a text, or the first fault that holds
 unfoldable pub config_of : List ℕ → Result Document ConfigFault
-config_of text = do
-  fields ← read_of text
-  document ← limited_of fields
-  unless_fault (fault_together document) document
+config_of text =
+    or_fault faults.NotToml (parse_document text)
+    (λ table. or_fault faults.Field (document_of table) (λ document. unless_fault (fault_in document) document))
+
+-- profile: a file of configuration has at most 1 MiB
+abbrev pub is_readable : List ℕ → Bool
+is_readable contents = nat_le (length contents) 1048576
+
+-- the configuration of a file with these contents
+unfoldable pub file_config_of : List ℕ → Result Document ConfigFault
+file_config_of contents =
+    if not (is_readable contents) then Err faults.Unreadable
+    else if not (is_utf8 contents) then Err faults.NotToml
+    else config_of contents

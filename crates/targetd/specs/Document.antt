@@ -1,29 +1,13 @@
 -- What a configuration document says: each field that is needed is there, of its type, and in the range
 -- that belongs to it.
-use Rattle.std.specs.Prelude.{◌≡◌, ℕ, ℤ, pos, negsuc, List, [], ◌∷◌, length, map, Bool, not, ◌&&◌, ◌==◌, nat_le, codes, Option, Some, None, is_some, option_and_then, Result, Ok, Err, if◌then◌else◌, string_bytes, bytes_eq}
+use Rattle.std.specs.Prelude.{◌≡◌, ℕ, ℤ, pos, negsuc, List, [], ◌∷◌, length, Bool, not, ◌&&◌, ◌==◌, nat_le, codes, Option, Some, None, is_some, option_and_then, Result, Ok, Err, if◌then◌else◌, bytes_eq}
 use Rattle.std.specs.List.{list_any}
 use Rattle.toml.specs.Data.{Data, Items, no_items, item, Members, as_str, as_integer, as_array, as_table, get_member}
 use Rattle.targetd.specs.declared.configuration.UnitKind.{UnitKind}
 use Rattle.targetd.specs.declared.configuration.UnitKind.TheVariants as kinds
-use Rattle.targetd.specs.declared.config.refusal.Refusal.{Refusal}
-use Rattle.targetd.specs.declared.config.refusal.Refusal.TheVariants as refusals
-use Rattle.targetd.specs.declared.config.fields.UnitFields.{UnitFields}
-use Rattle.targetd.specs.declared.config.fields.TargetFields.{TargetFields}
-use Rattle.targetd.specs.declared.config.fields.Document.{Document as CodeDocument}
-
--- a logical unit, with its number as it is written
-pub record UnitEntry : Type 0 where
-  pub lun : ℤ
-  pub serial : List ℕ
-  pub kind : UnitKind
-
-pub record TargetEntry : Type 0 where
-  pub name : List ℕ
-  pub units : List UnitEntry
-
-pub record Document : Type 0 where
-  pub listen : List ℕ
-  pub targets : List TargetEntry
+use Rattle.targetd.specs.declared.config.fault.ConfigFault.{ConfigFault}
+use Rattle.targetd.specs.declared.config.fault.ConfigFault.TheVariants as faults
+use Rattle.targetd.specs.Configuration.{UnitEntry, TargetEntry, Document}
 
 -- the second step, where the first gave a value
 infixl 10 ◌>>=◌
@@ -122,29 +106,15 @@ document_of table = do
   targets ← each target_of values
   Some (record { listen = listen; targets = targets })
 
--- ---- the code's values
+-- ---- what a step of the code returns
 
-abbrev pub unit_view : UnitFields → UnitEntry
-unit_view unit = record { lun = unit.lun; serial = string_bytes unit.serial; kind = unit.kind }
+-- why a step of the code gave nothing: reading gives nothing, or an allocation failed
+abbrev pub Refuses : {Y : Type 0} → ConfigFault → Option Y → Type 0
+Refuses faults.Field read = read ≡ None
+Refuses faults.OutOfMemory read = Unit {0}
+Refuses _ read = ⊥
 
-abbrev pub units_view : List UnitFields → List UnitEntry
-units_view units = map unit_view units
-
-abbrev pub target_view : TargetFields → TargetEntry
-target_view target = record { name = string_bytes target.name; units = units_view target.units.items }
-
-abbrev pub targets_view : List TargetFields → List TargetEntry
-targets_view targets = map target_view targets
-
-abbrev pub document_view : CodeDocument → Document
-document_view document = record { listen = string_bytes document.listen; targets = targets_view document.targets.items }
-
--- why a step of the code gave nothing: reading gives nothing, or memory ran out
-abbrev pub Refuses : {Y : Type 0} → Refusal → Option Y → Type 0
-Refuses refusals.Refused read = read ≡ None
-Refuses refusals.OutOfMemory read = Unit {0}
-
--- what a step of the code returned, seen by `view`, is what reading gives, unless memory ran out
-abbrev pub Gives : {X Y : Type 0} → (X → Y) → Result X Refusal → Option Y → Type 0
+-- what a step of the code returned, seen by `view`, is what reading gives, unless an allocation failed
+abbrev pub Gives : {X Y : Type 0} → (X → Y) → Result X ConfigFault → Option Y → Type 0
 Gives view (Ok x) read = read ≡ Some (view x)
-Gives view (Err refusal) read = Refuses refusal read
+Gives view (Err fault) read = Refuses fault read

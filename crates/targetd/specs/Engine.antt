@@ -1,36 +1,61 @@
--- A replay under way: what bytes of the input did to it, whatever was printed before and whatever comes behind.
-use Rattle.std.specs.Prelude.{◌≡◌, ℕ, ◌+◌, List, ◌++◌, true, false, ⊤}
+-- A replay under way: what it has taken of the input, and how a line stops it.
+use Rattle.std.specs.Prelude.{◌≡◌, ℕ, ◌+◌, List, [], ◌++◌, length, Option, None, Some}
+use Rattle.std.specs.List.{slice_split}
+use Rattle.std.specs.Io.KnownBytes.{Appends, Keeps}
+use Rattle.iscsi_target.specs.History.{History}
+use Rattle.iscsi_target.specs.World.{Setting}
+use Rattle.iscsi_target.specs.Machine.{Machine}
 use Rattle.targetd.specs.declared.fault.Fault.{Fault}
 use Rattle.targetd.specs.declared.fault.Fault.TheVariants as faults
 use Rattle.targetd.specs.declared.engine.Engine.{Engine}
-use Rattle.targetd.specs.Replay.{Progress, finished, replayed}
-use Rattle.iscsi_target.specs.Machine.{Machine}
+use Rattle.targetd.specs.Lines.{is_newline, lines, carried_out, Prints, StopsBy}
+use Rattle.targetd.specs.Printed.{HasSentAll}
+use Rattle.targetd.specs.Reply.{reply}
 
-abbrev pub progress_at : Engine → List ℕ → Progress
-progress_at engine text = record { machine = engine.target; text = text; carried_out = engine.number; refused = false }
+-- of the input these bytes were taken: the lines that a newline ends were carried out and printed this text, and the line behind them is pending
+pub record HasTaken (s : Setting) (bytes : List ℕ) (engine : Engine) (text : List ℕ) : Type 0 where
+  pub ended : List (List ℕ)
+  pub cut : (rest : List ℕ) → slice_split is_newline (bytes ++ rest) ≡ ended ++ slice_split is_newline (engine.pending.items ++ rest)
+  pub number : engine.number ≡ length ended
+  -- what has happened
+  pub now : History
+  pub prints : carried_out (reply s) [] ended ≡ Some (text, now)
+  pub stands : HasSentAll s now engine.target
 
--- the bytes took it from old to new, and the text was printed
-abbrev pub Takes : Engine → List ℕ → Engine → List ℕ → Type 0
-Takes old bytes new text = (before rest : List ℕ) → finished (progress_at old before) (old.pending.items ++ (bytes ++ rest)) ≡ finished (progress_at new (before ++ text)) (new.pending.items ++ rest)
+-- bytes that come next take the engine on, and print what their lines print
+abbrev pub Takes : Engine → List ℕ → Engine → Option (List ℕ) → Option (List ℕ) → Type 0
+Takes old piece new w0 w1 = (s : Setting) (bytes before : List ℕ) → HasTaken s bytes old before
+    → (text : List ℕ) × Appends w0 w1 text × HasTaken s (bytes ++ piece) new (before ++ text)
 
--- a replay ends with this line refused
-pub record EndsRefused (progress : Progress) (printed : List ℕ) (number : ℕ) : Type 0 where
-  pub refused : progress.refused ≡ true
-  pub text : progress.text ≡ printed
-  pub line : number ≡ progress.carried_out + 1
+-- at bytes that come next a line ends the replay, whatever stands behind them
+abbrev pub Stops : Engine → List ℕ → Option (List ℕ) → Option (List ℕ) → Fault → Type 0
+Stops old piece w0 w1 fault = (s : Setting) (bytes before : List ℕ) → HasTaken s bytes old before
+    → (text : List ℕ) × Appends w0 w1 text × ((rest : List ℕ) → StopsBy (reply s) fault [] (bytes ++ (piece ++ rest)) (before ++ text))
 
--- the text was printed, and then this line was refused, of which the bytes hold the end
-abbrev pub Refuses : Engine → List ℕ → List ℕ → ℕ → Type 0
-Refuses old bytes text line = (before rest : List ℕ) → EndsRefused (finished (progress_at old before) (old.pending.items ++ (bytes ++ rest))) (before ++ text) line
+-- the input ends here, and all its lines were carried out
+abbrev pub Finishes : Engine → Option (List ℕ) → Option (List ℕ) → Type 0
+Finishes old w0 w1 = (s : Setting) (bytes before : List ℕ) → HasTaken s bytes old before
+    → (text : List ℕ) × Appends w0 w1 text × Prints (reply s) [] (lines bytes) (before ++ text)
 
--- what holds where a line was refused
-abbrev pub IfRefused : Fault → (ℕ → Type 0) → Type 0
-IfRefused (faults.Refused line) P = P line
-IfRefused (faults.Configuration number) P = ⊤
-IfRefused faults.Usage P = ⊤
-IfRefused faults.Stream P = ⊤
-IfRefused faults.OutOfMemory P = ⊤
+-- the input ends here, and its last line ends the replay
+abbrev pub StopsLast : Engine → Option (List ℕ) → Option (List ℕ) → Fault → Type 0
+StopsLast old w0 w1 fault = (s : Setting) (bytes before : List ℕ) → HasTaken s bytes old before
+    → (text : List ℕ) × Appends w0 w1 text × StopsBy (reply s) fault [] bytes (before ++ text)
 
--- the bytes took a replay from its beginning to this state, and the text was printed
-abbrev pub HasRead : Machine → List ℕ → Engine → List ℕ → Type 0
-HasRead machine bytes engine text = (rest : List ℕ) → replayed machine (bytes ++ rest) ≡ finished (progress_at engine text) (engine.pending.items ++ rest)
+-- the pending line was carried out: what it prints was printed, and the target stands behind it
+pub record LineEnds (s : Setting) (h : History) (line : List ℕ) (target : Machine) (w0 w1 : Option (List ℕ)) : Type 0 where
+  pub text : List ℕ
+  pub now : History
+  pub replied : reply s h line ≡ Some (text, now)
+  pub stands : HasSentAll s now target
+  pub printed : Appends w0 w1 text
+
+-- the pending line ends the replay
+abbrev pub LineFails : Setting → History → Engine → Option (List ℕ) → Option (List ℕ) → Fault → Type 0
+LineFails s h old w0 w1 (faults.Refused number) = (reply s h old.pending.items ≡ None) × (number ≡ old.number + 1) × Keeps w0 w1
+LineFails s h old w0 w1 faults.OutOfMemory = Keeps w0 w1
+LineFails s h old w0 w1 faults.Output =
+    (part : List ℕ) × (unprinted : List ℕ) × (now : History) × (reply s h old.pending.items ≡ Some (part ++ unprinted, now)) × Appends w0 w1 part
+LineFails s h old w0 w1 faults.Input = ⊥
+LineFails s h old w0 w1 faults.Usage = ⊥
+LineFails s h old w0 w1 (faults.Configuration number) = ⊥

@@ -1,12 +1,14 @@
 -- The exit statuses.
-use Rattle.std.specs.Prelude.{ℕ}
+use Rattle.std.specs.Prelude.{ℕ, Result, Ok, Err}
 use Rattle.targetd.specs.declared.fault.Fault.{Fault}
 use Rattle.targetd.specs.declared.fault.Fault.TheVariants as faults
 
--- profile: 1 is the configuration, 2 what the caller wrote, 3 what failed around the program
-abbrev pub status_of : Fault → ℕ
-status_of (faults.Configuration number) = 1
-status_of faults.Usage = 2
-status_of (faults.Refused line) = 2
-status_of faults.Stream = 3
-status_of faults.OutOfMemory = 3
+-- profile: 0 is the end of input, 1 the configuration, 2 what the caller wrote, 3 what failed around the program
+abbrev pub status_of : Result (Unit {0}) Fault → ℕ
+status_of (Ok end) = 0
+status_of (Err (faults.Configuration number)) = 1
+status_of (Err faults.Usage) = 2
+status_of (Err (faults.Refused line)) = 2
+status_of (Err faults.Input) = 3
+status_of (Err faults.Output) = 3
+status_of (Err faults.OutOfMemory) = 3

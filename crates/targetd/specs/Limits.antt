@@ -1,15 +1,11 @@
 -- The limits that a configuration keeps.
-use Rattle.std.specs.Prelude.{ℕ, ℤ, pos, negsuc, List, length, map, Bool, false, not, ◌&&◌, ◌==◌, nat_le, Option, Some, None, if◌then◌else◌, string_bytes}
+use Rattle.std.specs.Prelude.{ℕ, ℤ, pos, List, length, Bool, not, ◌&&◌, ◌==◌, nat_le, int_le}
 use Rattle.std.specs.List.{list_all}
-use Rattle.targetd.specs.Document.{UnitEntry, TargetEntry, Document}
-use Rattle.targetd.specs.declared.configuration.UnitConfiguration.{UnitConfiguration}
-use Rattle.targetd.specs.declared.configuration.TargetConfiguration.{TargetConfiguration}
-use Rattle.targetd.specs.declared.configuration.Configuration.{Configuration}
+use Rattle.targetd.specs.Configuration.{UnitEntry, TargetEntry, Document}
 
 -- profile: 0 to 255
 abbrev pub is_lun : ℤ → Bool
-is_lun (pos n) = nat_le n 255
-is_lun (negsuc n) = false
+is_lun lun = int_le (pos 0) lun && int_le lun (pos 255)
 
 abbrev pub is_printable : ℕ → Bool
 is_printable byte = nat_le 0x20 byte && nat_le byte 0x7e
@@ -26,26 +22,5 @@ abbrev pub target_keeps : TargetEntry → Bool
 target_keeps target = nat_le (length target.name) 223 && nat_le (length target.units) 16 && list_all unit_keeps target.units
 
 -- profile: at most 253 bytes, and at most 8 targets
-unfoldable pub keeps_limits : Document → Bool
+abbrev pub keeps_limits : Document → Bool
 keeps_limits document = nat_le (length document.listen) 253 && nat_le (length document.targets) 8 && list_all target_keeps document.targets
-
--- what passes the test
-abbrev pub passed : {Y : Type 0} → (Y → Bool) → Y → Option Y
-passed test y = if test y then Some y else None
-
--- ---- the code's values
-
-abbrev pub unit_entry : UnitConfiguration → UnitEntry
-unit_entry unit = record { lun = pos unit.lun; serial = string_bytes unit.serial; kind = unit.kind }
-
-abbrev pub unit_entries : List UnitConfiguration → List UnitEntry
-unit_entries units = map unit_entry units
-
-abbrev pub target_entry : TargetConfiguration → TargetEntry
-target_entry target = record { name = string_bytes target.name; units = unit_entries target.units.items }
-
-abbrev pub target_entries : List TargetConfiguration → List TargetEntry
-target_entries targets = map target_entry targets
-
-abbrev pub configuration_view : Configuration → Document
-configuration_view configuration = record { listen = string_bytes configuration.listen; targets = target_entries configuration.targets.items }

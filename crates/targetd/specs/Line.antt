@@ -4,7 +4,7 @@ use Rattle.std.specs.Char.{is_ascii_digit}
 use Rattle.std.specs.List.{starts_with, before_first, after_first}
 use Rattle.std.specs.Result.{result_ok}
 use Rattle.hex.specs.Hex.{decode_of, decode_pairs}
-use Rattle.iscsi_target.specs.History.{Event, Open, Bytes, Gone, connections}
+use Rattle.iscsi_target.specs.History.{Event, Open, Bytes, Gone, connection_limit}
 use Rattle.iscsi_target.specs.declared.event.Event.{Event as CodeEvent}
 use Rattle.iscsi_target.specs.declared.event.Event.TheVariants as events
 
@@ -15,7 +15,7 @@ connection_in (events.Bytes c piece) = c
 connection_in (events.Gone c) = c
 
 abbrev pub connection_numbered : ℕ → Option ℕ
-connection_numbered n = if nat_lt n connections then Some n else None
+connection_numbered n = if nat_lt n connection_limit then Some n else None
 
 -- the number of a connection: one decimal digit, or two of which the first is not 0
 unfoldable pub connection_of : List ℕ → Option ℕ
@@ -33,7 +33,7 @@ abbrev pub has_space : List ℕ → Bool
 has_space text = nat_lt (length (before_first is_space text)) (length text)
 
 abbrev pub bytes_on : Option (List ℕ) → ℕ → Option Event
-bytes_on piece c = option_map (λ bytes. Bytes c bytes []) piece
+bytes_on piece c = option_map (λ bytes. Bytes c bytes) piece
 
 -- `C HEX`, of which HEX may be empty
 unfoldable pub bytes_of : List ℕ → Option Event
@@ -68,7 +68,7 @@ unfolding event_of connection_of
 open_07 = refl
 
 -- a piece without bytes ends in the space
-empty_piece : event_of (codes "bytes 7 ") ≡ Some (Bytes 7 [] [])
+empty_piece : event_of (codes "bytes 7 ") ≡ Some (Bytes 7 [])
 unfolding event_of bytes_of connection_of decode_pairs
 empty_piece = refl
 

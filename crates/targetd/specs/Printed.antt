@@ -1,41 +1,70 @@
--- What is printed of the connections after a line, and what is left of them.
-use Rattle.std.specs.Prelude.{◌≡◌, ℕ, ◌+◌, List, [], ◌∷◌, ◌++◌, map, codes, Bool, if◌then◌else◌, refl}
+-- What is printed of the connections after a line.
+use Rattle.std.specs.Prelude.{◌≡◌, ℕ, List, [], ◌∷◌, ◌++◌, length, drop, flat_map, codes, Bool, true, false, Option, Some, None, if◌then◌else◌, refl}
 use Rattle.std.specs.Fmt.{decimal, digits}
 use Rattle.hex.specs.Hex.{encode_lower, encode_with}
-use Rattle.iscsi_target.specs.Machine.{Machine, LinkState, is_free, is_closing, free_link, opened_link, Closing}
+use Rattle.iscsi_target.specs.History.{Gone, History, plain, connections}
+use Rattle.iscsi_target.specs.Life.{Life, Phase, LoggingIn, FullFeature, Closing, Over}
+use Rattle.iscsi_target.specs.World.{Setting, World, present, world}
+use Rattle.iscsi_target.specs.Output.{out_now}
+use Rattle.iscsi_target.specs.Machine.{Machine}
+use Rattle.iscsi_target.specs.Stands.{Stands}
 
--- `C HEX` where bytes wait
+-- `C HEX` where there are bytes
 abbrev pub bytes_line : ℕ → List ℕ → List ℕ
 bytes_line c [] = []
 bytes_line c (byte ∷ bytes) = decimal c ++ codes " " ++ encode_lower (byte ∷ bytes) ++ codes "\n"
 
--- `C closed` where it is closing
+-- `C closed` where it is closed
 abbrev pub closed_line : ℕ → Bool → List ℕ
-closed_line c closing = if closing then decimal c ++ codes " closed\n" else []
+closed_line c closed = if closed then decimal c ++ codes " closed\n" else []
 
-unfoldable pub printed_of : ℕ → LinkState → List ℕ
-printed_of c link = if is_free link.phase then [] else bytes_line c link.waiting ++ closed_line c (is_closing link.phase)
+unfoldable pub lines_of : ℕ → List ℕ → Bool → List ℕ
+lines_of c bytes closed = bytes_line c bytes ++ closed_line c closed
 
--- of each connection from this one on
-abbrev pub printed_from : ℕ → List LinkState → List ℕ
-printed_from c [] = []
-printed_from c (link ∷ links) = printed_of c link ++ printed_from (c + 1) links
+closed_with_bytes : lines_of 5 (0xab ∷ 0x09 ∷ []) true ≡ codes "5 ab09\n5 closed\n"
+unfolding lines_of digits encode_with
+closed_with_bytes = refl
 
-abbrev pub printed : Machine → List ℕ
-printed machine = printed_from 0 machine.links
+-- a connection that is answered nothing and stays open prints nothing
+nothing_answered : lines_of 5 [] false ≡ []
+unfolding lines_of
+nothing_answered = refl
 
--- what waited was sent, and what was closing is gone
-unfoldable pub printed_link : LinkState → LinkState
-printed_link link = if is_free link.phase then link else if is_closing link.phase then free_link else record link { waiting = [] }
+-- ---- what the World answers
 
-abbrev pub after_printing : Machine → Machine
-after_printing machine = record machine { links = map printed_link machine.links }
+abbrev pub is_closing_phase : Phase → Bool
+is_closing_phase LoggingIn = false
+is_closing_phase (FullFeature session) = false
+is_closing_phase Closing = true
+is_closing_phase Over = false
 
-closing_with_bytes : printed_of 5 (record { half = []; phase = Closing; waiting = 0xab ∷ 0x09 ∷ [] }) ≡ codes "5 ab09\n5 closed\n"
-unfolding printed_of digits encode_with
-closing_with_bytes = refl
+-- the target has closed the connection
+abbrev pub is_closed : Option Life → Bool
+is_closed None = false
+is_closed (Some life) = is_closing_phase life.phase
 
--- a connection that waits for bytes prints nothing
-nothing_waits : printed_of 5 opened_link ≡ []
-unfolding printed_of
-nothing_waits = refl
+-- profile: what is closed is gone after it is printed
+abbrev pub gone_of : World → ℕ → History
+gone_of w c = if is_closed (present c w) then plain (Gone c) ∷ [] else []
+
+unfoldable pub after_printing : Setting → History → History
+after_printing s h = h ++ flat_map (gone_of (world s h)) connections
+
+-- how many bytes each connection's present life was answered
+abbrev pub all_sent : World → ℕ → ℕ
+all_sent w c = length (out_now (present c w))
+
+-- The target stands where the World of this history does, and has sent all that it answered.
+abbrev pub HasSentAll : Setting → History → Machine → Type 0
+HasSentAll s h target = Stands s (all_sent (world s h)) target h
+
+-- what a connection was answered behind the bytes that were sent on it
+unfoldable pub unsent : (ℕ → ℕ) → World → ℕ → List ℕ
+unsent sent w c = drop (sent c) (out_now (present c w))
+
+unfoldable pub printed_of : (ℕ → ℕ) → World → ℕ → List ℕ
+printed_of sent w c = lines_of c (unsent sent w c) (is_closed (present c w))
+
+-- profile: what was answered and is not sent yet, and which connections are closed, in rising order
+unfoldable pub printed : (ℕ → ℕ) → World → List ℕ
+printed sent w = flat_map (printed_of sent w) connections

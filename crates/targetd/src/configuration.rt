@@ -1,9 +1,12 @@
 //! What the program is configured to be.
 
-ghost use Rattle.std.specs.Prelude.{◌≡◌, ◌++◌, map, string_bytes, IfOk, OnOk};
-ghost use Rattle.targetd.specs.Configuration.{kind_of, place_of, places_from, name_of};
+ghost use Rattle.std.specs.Prelude.{◌≡◌, true, map, string_bytes, IfOk};
+ghost use Rattle.std.specs.List.{list_all};
+ghost use Rattle.iscsi_target.specs.Units.{free_unit};
+ghost use Rattle.targetd.specs.Configuration.{kind_alone, place_of, units_of, names_of, unit_view, units_view, targets_view, configuration_view};
+ghost use Rattle.targetd.specs.Limits.{is_lun, unit_keeps, keeps_limits};
 
-use iscsi_target::{Config, LogicalUnit};
+use iscsi_target::{Config, LogicalUnit, Memory, Units};
 use scsi_cdb::Kind;
 use std::alloc::{AllocError, Global};
 
@@ -28,7 +31,8 @@ pub struct TargetConfiguration {
 /// A logical unit.
 #[derive(Debug, Drop)]
 pub struct UnitConfiguration {
-    pub lun: u8,
+    /// 0 to 255.
+    pub lun: i64,
     /// 1 to 32 printable ASCII bytes.
     pub serial: String,
     pub kind: UnitKind,
@@ -46,7 +50,7 @@ pub enum UnitKind {
 impl UnitKind {
     /// The kind alone.
     pub fn kind(&self) -> Kind
-        ensures { result ≡ kind_of self.now }
+        ensures { result ≡ kind_alone self.now }
     {
         match self {
             UnitKind::Disk { .. } => Kind::Disk,
@@ -55,41 +59,47 @@ impl UnitKind {
     }
 }
 
-/// Adds the place of each unit of a target.
-fn push_places(
-    places: &mut Vec<LogicalUnit>,
-    target: usize,
-    units: &[UnitConfiguration],
-) -> Result<(), AllocError>
-    ensures { OnOk result (places.new.items ≡ places.old.items ++ map (place_of target) units.now) }
+/// The number and the kind of a unit.
+fn place(unit: &UnitConfiguration) -> LogicalUnit
+    requires { is_lun unit.now.lun ≡ true }
+    ensures { result ≡ place_of (unit_view unit.now) }
 {
-    for unit in units {
-        places.push(LogicalUnit {
-            target,
-            lun: unit.lun,
-            kind: unit.kind.kind(),
-        })?;
+    LogicalUnit {
+        lun: unit.lun as u8,
+        kind: unit.kind.kind(),
     }
-    Ok(())
+}
+
+/// The units that a target is made with.
+fn made(alloc: Global, units: &[UnitConfiguration]) -> Result<Units, Memory>
+    requires { list_all unit_keeps (units_view units.now) ≡ true }
+    ensures { IfOk result (λ made. made ≡ map free_unit (map place_of (units_view units.now))) }
+{
+    let mut places = Vec::new(alloc);
+    for unit in units {
+        places.push(place(unit))?;
+    }
+    Units::new(alloc, places.as_slice())
 }
 
 impl Configuration {
-    /// The place of each unit, target by target.
-    pub fn units(&self, alloc: Global) -> Result<Vec<LogicalUnit>, AllocError>
-        ensures { IfOk result (λ places. places.items ≡ places_from 0 self.now.targets.items) }
+    /// The units of each target, in order.
+    pub fn units(&self, alloc: Global) -> Result<Vec<Units>, Memory>
+        requires { keeps_limits (configuration_view self.now) ≡ true }
+        ensures { IfOk result (λ units. units.items ≡ map units_of (targets_view self.now.targets.items)) }
     {
-        let mut places = Vec::new(alloc);
+        let mut units = Vec::new(alloc);
         let targets = self.targets.as_slice();
-        for (target, configured) in targets.iter().enumerate() {
-            push_places(&mut places, target, configured.units.as_slice())?;
+        for target in targets {
+            units.push(made(alloc, target.units.as_slice())?)?;
         }
-        Ok(places)
+        Ok(units)
     }
 
     /// The portal and the targets' names.
     pub fn into_config(self, alloc: Global) -> Result<Config, AllocError>
         ensures listen { IfOk result (λ config. string_bytes config.listen ≡ string_bytes self.listen) }
-        ensures names { IfOk result (λ config. map string_bytes config.targets.items ≡ map name_of self.targets.items) }
+        ensures names { IfOk result (λ config. map string_bytes config.targets.items ≡ names_of (targets_view self.targets.items)) }
     {
         let mut targets = Vec::new(alloc);
         for target in self.targets {

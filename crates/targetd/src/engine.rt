@@ -1,9 +1,13 @@
 //! A replay under way.
 
-ghost use Rattle.std.specs.Prelude.{◌≡◌, ◌==◌, false, length, All};
+ghost use Rattle.std.specs.Prelude.{◌≡◌, ◌==◌, ◌++◌, ◌∷◌, None, IfSome, false, length, All};
 
+use crate::fault::Fault;
+use crate::printing::print_all;
+use crate::reply::reply;
 use iscsi_target::Target;
 use std::alloc::Global;
+use std::io::Write;
 
 /// How far a replay has come.
 #[derive(Drop)]
@@ -14,6 +18,91 @@ pub struct Engine {
     pub pending: Vec<u8>,
     /// The number of the line before it.
     pub number: u64,
-    ghost connections: { length target.links ≡ 64 },
     ghost one_line: { All (λ byte. (byte == 10) ≡ false) pending.items },
+}
+
+/// The line that the first newline ends, and what stands behind it.
+fn split_line(bytes: &[u8]) -> Option<(&[u8], &[u8])>
+    ensures none { result ≡ None → All (λ byte. (byte == 10) ≡ false) bytes.now }
+    ensures line { IfSome result (λ p. All (λ byte. (byte == 10) ≡ false) p.0.now) }
+    ensures parts { IfSome result (λ p. bytes.now ≡ p.0.now ++ 10 ∷ p.1.now) }
+{
+    let at = bytes.iter().position(|byte| *byte == b'\n')?;
+    Some((&bytes[..at], &bytes[at + 1..]))
+}
+
+impl Engine {
+    ghost use Rattle.std.specs.Prelude.{◌≡◌, ℕ, ◌+◌, ◌^◌, ◌<◌, ◌≤◌, ◌++◌, ◌∷◌, List, [], ◌==◌, false, All, length, OnOk, IfErr, Some};
+    ghost use Rattle.std.specs.Io.KnownBytes.{Appends};
+    ghost use Rattle.iscsi_target.specs.History.{History};
+    ghost use Rattle.iscsi_target.specs.World.{Setting};
+    ghost use Rattle.targetd.specs.Printed.{HasSentAll};
+    ghost use Rattle.targetd.specs.Engine.{Takes, Stops, Finishes, StopsLast, LineEnds, LineFails};
+
+    /// The pending line has ended.
+    fn end_line<W: Write>(&mut self, writer: &mut W) -> Result<(), Fault>
+        requires counts { self.old.number + 1 < 2 ^ 64 }
+        ensures reply { OnOk result ((s : Setting) (h : History) → HasSentAll s h self.old.target → LineEnds s h self.old.pending.items self.new.target (W.contents writer.old) (W.contents writer.new)) }
+        ensures pending { OnOk result (self.new.pending.items ≡ []) }
+        ensures number { OnOk result (self.new.number ≡ self.old.number + 1) }
+        ensures fails { IfErr result (λ fault. (s : Setting) (h : History) → HasSentAll s h self.old.target → LineFails s h self.old (W.contents writer.old) (W.contents writer.new) fault) }
+    {
+        self.number += 1;
+        let Some(text) = reply(self.alloc, &mut self.target, self.pending.as_slice())? else {
+            return Err(Fault::Refused { line: self.number });
+        };
+        self.pending.clear();
+        print_all(text.as_bytes(), writer)
+    }
+
+    /// More bytes of the pending line.
+    fn push(&mut self, bytes: &[u8]) -> Result<(), Fault>
+        requires one_line { All (λ byte. (byte == 10) ≡ false) bytes.now }
+        ensures pending { OnOk result (self.new.pending.items ≡ self.old.pending.items ++ bytes.now) }
+        ensures target { self.new.target ≡ self.old.target }
+        ensures number { self.new.number ≡ self.old.number }
+        ensures memory { IfErr result (λ fault. fault ≡ Fault.OutOfMemory) }
+    {
+        self.pending.extend_from_slice(bytes)?;
+        Ok(())
+    }
+
+    /// The rest of a line, whose newline stands behind it.
+    fn take_line<W: Write>(&mut self, rest: &[u8], writer: &mut W) -> Result<(), Fault>
+        requires counts { self.old.number + 1 < 2 ^ 64 }
+        requires one_line { All (λ byte. (byte == 10) ≡ false) rest.now }
+        ensures takes { OnOk result (Takes self.old (rest.now ++ 10 ∷ []) self.new (W.contents writer.old) (W.contents writer.new)) }
+        ensures number { OnOk result (self.new.number ≡ self.old.number + 1) }
+        ensures stops { IfErr result (λ fault. Stops self.old (rest.now ++ 10 ∷ []) (W.contents writer.old) (W.contents writer.new) fault) }
+    {
+        self.push(rest)?;
+        self.end_line(writer)
+    }
+
+    /// The next bytes of the input.
+    pub fn take<W: Write>(&mut self, piece: &[u8], writer: &mut W) -> Result<(), Fault>
+        requires counts { self.old.number + length piece.now < 2 ^ 64 }
+        ensures takes { OnOk result (Takes self.old piece.now self.new (W.contents writer.old) (W.contents writer.new)) }
+        ensures number { OnOk result (self.new.number ≤ self.old.number + length piece.now) }
+        ensures stops { IfErr result (λ fault. Stops self.old piece.now (W.contents writer.old) (W.contents writer.new) fault) }
+    {
+        let mut rest = piece;
+        while let Some((line, behind)) = split_line(rest) {
+            self.take_line(line, writer)?;
+            rest = behind;
+        }
+        self.push(rest)
+    }
+
+    /// The input has ended. Its last line may lack its newline.
+    pub fn end<W: Write>(&mut self, writer: &mut W) -> Result<(), Fault>
+        requires counts { self.old.number + 1 < 2 ^ 64 }
+        ensures finishes { OnOk result (Finishes self.old (W.contents writer.old) (W.contents writer.new)) }
+        ensures stops { IfErr result (λ fault. StopsLast self.old (W.contents writer.old) (W.contents writer.new) fault) }
+    {
+        if self.pending.is_empty() {
+            return Ok(());
+        }
+        self.end_line(writer)
+    }
 }

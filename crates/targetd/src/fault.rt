@@ -1,12 +1,11 @@
 //! How a run ends that does not reach the end of its input.
 
-ghost use Rattle.std.specs.Prelude.{◌≡◌};
-ghost use Rattle.targetd.specs.Fault.{status_of};
-ghost use Rattle.targetd.specs.declared.fault.Fault.TheVariants.{OutOfMemory, Stream};
+ghost use Rattle.std.specs.Prelude.{◌≡◌, Result};
+ghost use Rattle.targetd.specs.Fault.{status_of as exit_status};
+ghost use Rattle.targetd.specs.declared.fault.Fault.TheVariants.{OutOfMemory};
 
-use iscsi_target::{Memory, Starved};
+use iscsi_target::Memory;
 use std::alloc::{AllocError, AllocFailed};
-use std::io;
 use thiserror::Error;
 
 /// Why the run ended. Its text is its line on standard error.
@@ -21,27 +20,26 @@ pub enum Fault {
     /// A line of the input, counted from 1, is of another form, or breaks a condition.
     #[error("targetd: line {line} refused")]
     Refused { line: u64 },
-    /// Standard input or output failed, or the input had no end.
+    /// Standard input failed, or had no end.
     #[error("targetd: stream fault")]
-    Stream,
-    /// A growth was refused.
+    Input,
+    /// Standard output failed.
+    #[error("targetd: stream fault")]
+    Output,
+    /// An allocation failed.
     #[error("targetd: out of memory")]
     OutOfMemory,
 }
 
-impl Fault {
-    ghost use Rattle.std.specs.Prelude.{◌≡◌};
-    ghost use Rattle.targetd.specs.Fault.{status_of};
-
-    /// The status that the program ends with.
-    pub fn status(&self) -> u8
-        ensures { result ≡ status_of self.now }
-    {
-        match self {
-            Fault::Configuration { .. } => 1,
-            Fault::Usage | Fault::Refused { .. } => 2,
-            Fault::Stream | Fault::OutOfMemory => 3,
-        }
+/// The status that a run ends the program with.
+pub fn status_of(ended: &Result<(), Fault>) -> u8
+    ensures { result ≡ exit_status ended.now }
+{
+    match ended {
+        Ok(()) => 0,
+        Err(Fault::Configuration { .. }) => 1,
+        Err(Fault::Usage | Fault::Refused { .. }) => 2,
+        Err(Fault::Input | Fault::Output | Fault::OutOfMemory) => 3,
     }
 }
 
@@ -66,22 +64,5 @@ impl From<Memory> for Fault {
 
     fn from(_error: Memory) -> Fault {
         Fault::OutOfMemory
-    }
-}
-
-impl From<Starved> for Fault {
-    ghost from_gives = { λ _ fault. fault ≡ OutOfMemory };
-
-    fn from(_error: Starved) -> Fault {
-        Fault::OutOfMemory
-    }
-}
-
-/// Of the streams, only what is printed to passes its error on as it is.
-impl From<io::Error> for Fault {
-    ghost from_gives = { λ _ fault. fault ≡ Stream };
-
-    fn from(_error: io::Error) -> Fault {
-        Fault::Stream
     }
 }

@@ -20,6 +20,7 @@
 //! fault's status.
 #![tactic(auto)]
 
+mod arguments;
 mod config;
 mod configuration;
 mod engine;
@@ -27,20 +28,27 @@ mod fault;
 mod line;
 mod printing;
 mod replay;
+mod reply;
 mod run;
-#[cfg(test)]
-mod tests;
 mod words;
 
+use arguments::arguments;
+use fault::{Fault, status_of};
+use run::run;
+use std::io;
 use std::process::ExitCode;
 
+/// Does what the words of the command line say.
+fn carry_out(rt: &HostRuntime) -> Result<(), Fault> {
+    let words = arguments(rt)?;
+    run(rt, words.as_slice(), &mut rt.reader(), &mut io::writer(rt))
+}
+
 fn main(rt: HostRuntime) -> ExitCode {
-    match run::run(&rt) {
-        Ok(()) => ExitCode::SUCCESS,
-        Err(fault) => {
-            // There is nobody left to tell that standard error failed.
-            let _ = eprintln!(rt; "{fault}");
-            ExitCode::from(fault.status())
-        }
+    let ended = carry_out(&rt);
+    if let Err(fault) = &ended {
+        // There is nobody left to tell that standard error failed.
+        let _ = eprintln!(rt; "{fault}");
     }
+    ExitCode::from(status_of(&ended))
 }

@@ -1,20 +1,27 @@
 //! What is printed after a line: what each open connection is answered, and which are closed.
 
-ghost use Rattle.std.specs.Prelude.{◌≡◌, ◌++◌, ◌<◌, true, length, IfOk, OnOk, string_bytes};
-ghost use Rattle.iscsi_target.specs.Machine.{link_at, is_open_at, with_link, sent};
-ghost use Rattle.targetd.specs.Printed.{bytes_line, closed_line, printed_of, printed_link, printed, after_printing};
+ghost use Rattle.std.specs.Prelude.{◌≡◌, ℕ, List, ◌++◌, ◌<◌, true, length, IfOk, OnOk, OnErr, IfErr, string_bytes};
+ghost use Rattle.std.specs.Io.KnownBytes.{Appends};
+ghost use Rattle.iscsi_target.specs.History.{History};
+ghost use Rattle.iscsi_target.specs.World.{Setting, world};
+ghost use Rattle.iscsi_target.specs.Machine.{link_at, is_open_at};
+ghost use Rattle.iscsi_target.specs.Stands.{Stands, with_sent};
+ghost use Rattle.targetd.specs.Printed.{bytes_line, closed_line, all_sent};
+ghost use Rattle.targetd.specs.Printing.{HasPrintedOne, HasPrintedAll};
 
+use crate::fault::Fault;
 use crate::line::CONNECTIONS;
 use iscsi_target::{Memory, Target};
 use std::alloc::{AllocError, Global};
+use std::io::{ErrorKind, Write};
 
 /// Takes all that waits on a connection, which is then sent.
 fn drain(alloc: Global, target: &mut Target, c: usize) -> Result<Vec<u8>, Memory>
     requires in_range { c < 64 }
     requires open { is_open_at target.old c ≡ true }
     ensures bytes { IfOk result (λ bytes. bytes.items ≡ (link_at target.old c).waiting) }
-    ensures sent { IfOk result (λ bytes. target.new ≡ sent target.old c (length bytes.items)) }
-    ensures connections { length target.new.links ≡ length target.old.links }
+    ensures open { is_open_at target.new c ≡ true }
+    ensures stands { OnOk result ((s : Setting) (sent : ℕ → ℕ) (h : History) → Stands s sent target.old h → Stands s (with_sent sent c (all_sent (world s h) c)) target.new h) }
 {
     let mut bytes = Vec::new(alloc);
     loop {
@@ -56,9 +63,7 @@ fn print_connection(
 ) -> Result<(), Memory>
     requires in_range { c < 64 }
     requires open { is_open_at target.old c ≡ true }
-    ensures text { OnOk result (string_bytes text.new ≡ string_bytes text.old ++ printed_of c (link_at target.old c)) }
-    ensures target { OnOk result (target.new ≡ with_link target.old c (printed_link (link_at target.old c))) }
-    ensures connections { length target.new.links ≡ length target.old.links }
+    ensures { OnOk result ((s : Setting) (sent : ℕ → ℕ) (h : History) → Stands s sent target.old h → HasPrintedOne s sent h c (string_bytes text.old) (string_bytes text.new) target.new) }
 {
     let bytes = drain(alloc, target, c)?;
     print_bytes(alloc, c, bytes.as_slice(), text)?;
@@ -71,10 +76,7 @@ fn print_connection(
 
 /// Prints what has come of a line, connection by connection.
 pub fn print(alloc: Global, target: &mut Target) -> Result<String, Memory>
-    requires connections { length target.old.links ≡ 64 }
-    ensures text { IfOk result (λ text. string_bytes text ≡ printed target.old) }
-    ensures target { OnOk result (target.new ≡ after_printing target.old) }
-    ensures connections { length target.new.links ≡ 64 }
+    ensures { IfOk result (λ text. (s : Setting) (sent : ℕ → ℕ) (h : History) → Stands s sent target.old h → HasPrintedAll s sent h (string_bytes text) target.new) }
 {
     let mut text = String::new(alloc);
     for c in 0..CONNECTIONS {
@@ -83,4 +85,29 @@ pub fn print(alloc: Global, target: &mut Target) -> Result<String, Memory>
         }
     }
     Ok(text)
+}
+
+/// Writes the whole text. Where that fails, what was written is a front of it: `write_all` does not
+/// say so much.
+pub fn print_all<W: Write>(text: &[u8], writer: &mut W) -> Result<(), Fault>
+    ensures whole { OnOk result (Appends (W.contents writer.old) (W.contents writer.new) text.now) }
+    ensures part { OnErr result ((part : List ℕ) × (unprinted : List ℕ) × (text.now ≡ part ++ unprinted) × Appends (W.contents writer.old) (W.contents writer.new) part) }
+    ensures fault { IfErr result (λ fault. fault ≡ Fault.Output) }
+{
+    let mut rest = text;
+    for _ in 0..u64::MAX {
+        if rest.is_empty() {
+            break;
+        }
+        match writer.write(rest) {
+            Ok(0) => return Err(Fault::Output),
+            Ok(count) => rest = &rest[count..],
+            Err(error) if error.kind() == ErrorKind::Interrupted => {}
+            Err(_) => return Err(Fault::Output),
+        }
+    }
+    match writer.flush() {
+        Ok(()) if rest.is_empty() => Ok(()),
+        _ => Err(Fault::Output),
+    }
 }

@@ -1,47 +1,82 @@
 //! A whole run: its words, its configuration, its target, its lines.
 
-use crate::config::{ConfigFault, config};
-use crate::configuration::Configuration;
+ghost use Rattle.std.specs.Prelude.{◌≡◌, ◌≢◌, IfOk, IfErr, IfSome, map, string_bytes, take};
+ghost use Rattle.std.specs.IoError.{error_kind};
+ghost use Rattle.targetd.specs.Config.{file_config_of};
+ghost use Rattle.targetd.specs.Words.{mode_in};
+ghost use Rattle.targetd.specs.Run.{Replays, Runs};
+
+use crate::config::fault::ConfigFault;
+use crate::config::{MOST_BYTES, file_config};
 use crate::fault::Fault;
 use crate::replay::replay;
 use crate::words::{Mode, mode_of};
 use iscsi_target::Target;
-use std::rt::{Env, Files};
-use std::{env, fs, io, str};
+use std::alloc::Global;
+use std::fs::File;
+use std::io;
+use std::io::{ErrorKind, Read, Write};
+use std::rt::Files;
 
-/// The words that the program was called with, its name first.
-fn arguments(rt: &(impl Env + AllocGlobal)) -> Result<Vec<String>, Fault> {
-    match env::args(rt) {
-        Ok(words) => Ok(words.collect(rt.alloc())?),
-        Err(error) if error.kind() == io::ErrorKind::OutOfMemory => Err(Fault::OutOfMemory),
-        Err(_) => Err(Fault::Usage),
+/// What an error of the system at the configuration's file is told as.
+fn unreadable(error: io::Error) -> ConfigFault
+    ensures memory { error_kind error ≡ ErrorKind.OutOfMemory → result ≡ ConfigFault.OutOfMemory }
+    ensures other { error_kind error ≢ ErrorKind.OutOfMemory → result ≡ ConfigFault.Unreadable }
+{
+    match error.kind() {
+        ErrorKind::OutOfMemory => ConfigFault::OutOfMemory,
+        _ => ConfigFault::Unreadable,
     }
 }
 
-/// The bytes of the configuration's file.
-fn contents(rt: &(impl Files + AllocGlobal), path: &str) -> Result<Vec<u8>, Fault> {
-    match fs::read(rt, path) {
-        Ok(bytes) => Ok(bytes),
-        Err(error) if error.kind() == io::ErrorKind::OutOfMemory => Err(Fault::OutOfMemory),
-        Err(_) => Err(Fault::from(ConfigFault::Unreadable)),
+/// What a file holds, up to one byte more than a configuration may have.
+fn contents<F: Read + Drop>(alloc: Global, file: F) -> Result<Vec<u8>, ConfigFault>
+    ensures contents { IfOk result (λ contents. IfSome (F.remaining file) (λ all. contents.items ≡ take 1048577 all)) }
+    ensures fault { IfErr result (λ fault. fault ≢ ConfigFault.OutOfMemory → fault ≡ ConfigFault.Unreadable) }
+{
+    let mut contents = Vec::new(alloc);
+    match file.take(MOST_BYTES as u64 + 1).read_to_end(&mut contents) {
+        Ok(_) => Ok(contents),
+        Err(error) => Err(unreadable(error)),
     }
 }
 
-/// The configuration in a file.
-pub(crate) fn load(rt: &(impl Files + AllocGlobal), path: &str) -> Result<Configuration, Fault> {
-    let bytes = contents(rt, path)?;
-    match str::from_utf8(bytes.as_slice()) {
-        Ok(text) => Ok(config(rt.alloc(), text)?),
-        Err(_) => Err(Fault::from(ConfigFault::NotToml)),
+/// The contents of the configuration's file, up to one byte more than it may have.
+fn load(rt: &(impl Files + AllocGlobal), path: &str) -> Result<Vec<u8>, ConfigFault>
+    ensures { IfErr result (λ fault. fault ≢ ConfigFault.OutOfMemory → fault ≡ ConfigFault.Unreadable) }
+{
+    match File::open(rt, path) {
+        Ok(file) => contents(rt.alloc(), file),
+        Err(error) => Err(unreadable(error)),
     }
 }
 
-/// Does what the words say, from the first to the end of input.
-pub fn run(rt: &(impl Env + Files + Input + Print + AllocGlobal)) -> Result<(), Fault> {
-    let words = arguments(rt)?;
-    let Mode::Replay { config } = mode_of(rt.alloc(), words.as_slice())?;
-    let configuration = load(rt, config)?;
-    let units = configuration.units(rt.alloc())?;
-    let target = Target::new(rt.alloc(), configuration.into_config(rt.alloc())?, units)?;
-    replay(rt.alloc(), target, &mut rt.reader(), &mut io::writer(rt))
+/// Replays the input at the target of the configuration whose file has these contents.
+fn replay_at<R: Read, W: Write>(
+    alloc: Global,
+    contents: &[u8],
+    reader: &mut R,
+    writer: &mut W,
+) -> Result<(), Fault>
+    ensures { Replays (R.remaining reader.old) (R.remaining reader.new) (W.contents writer.old) (W.contents writer.new) (file_config_of contents.now) result }
+{
+    let configuration = file_config(alloc, contents)?;
+    let units = configuration.units(alloc)?;
+    let target = Target::new(alloc, configuration.into_config(alloc)?, units)?;
+    replay(alloc, target, reader, writer)
+}
+
+/// Does what the words say that stand behind the program's name, from the first to the end of the
+/// input.
+pub fn run<R: Read, W: Write>(
+    rt: &(impl Files + AllocGlobal),
+    words: &[String],
+    reader: &mut R,
+    writer: &mut W,
+) -> Result<(), Fault>
+    ensures { Runs (R.remaining reader.old) (R.remaining reader.new) (W.contents writer.old) (W.contents writer.new) (mode_in (map string_bytes words.now)) result }
+{
+    let Mode::Replay { config } = mode_of(words)?;
+    let contents = load(rt, config)?;
+    replay_at(rt.alloc(), contents.as_slice(), reader, writer)
 }

@@ -1,13 +1,10 @@
-//! The words that the program is called with.
+//! The words that the program is called with, behind its name.
 
-ghost use Rattle.std.specs.Prelude.{◌≡◌, ◌≢◌, [], true, Err, IfOk};
-ghost use Rattle.clap.specs.Words.{kind_of};
-ghost use Rattle.targetd.specs.Words.{config_in, fault_at, has_dashes as are_dashes_among};
+ghost use Rattle.std.specs.Prelude.{◌≡◌, None, Some, map, option_map, string_bytes, MatchResult};
+ghost use Rattle.targetd.specs.Words.{is_value as is_value_text, unless_empty, attached_to, config_in, mode_in, mode_view};
+ghost use Rattle.targetd.specs.declared.fault.Fault.TheVariants.{Usage};
 
 use crate::fault::Fault;
-use clap::error::ErrorKind;
-use clap::{Arg, ArgAction, Command};
-use std::alloc::Global;
 
 /// What the program is asked to do.
 #[derive(Clone, Copy, Debug, PartialEq, Eq)]
@@ -16,48 +13,58 @@ pub enum Mode<'a> {
     Replay { config: &'a str },
 }
 
-impl From<clap::Error> for Fault {
-    ghost from_gives = { λ error fault. fault ≡ fault_at (kind_of error) };
+/// A word may be the value of the option before it: it is no option itself. `-` alone is a value.
+fn is_value(word: &str) -> bool
+    ensures { result ≡ is_value_text word.now }
+{
+    word == "-" || !word.starts_with('-')
+}
 
-    fn from(error: clap::Error) -> Fault {
-        match error.kind() {
-            ErrorKind::OutOfMemory => Fault::OutOfMemory,
-            _ => Fault::Usage,
+/// A text that is not empty.
+fn named(text: &str) -> Option<&str>
+    ensures { option_map (λ file. file.now) result ≡ unless_empty text.entry.now }
+{
+    if text.is_empty() { None } else { Some(text) }
+}
+
+/// The value in `--config=VALUE`.
+fn attached(option: &str) -> Option<&str>
+    ensures { option_map (λ file. file.now) result ≡ attached_to option.entry.now }
+{
+    match option.strip_prefix("--config=") {
+        Some(value) => named(value),
+        None => None,
+    }
+}
+
+/// The value of `--config`, where that is all that the words give.
+fn config<'a>(words: &'a [String]) -> Option<&'a str>
+    ensures { option_map (λ file. file.now) result ≡ config_in (map string_bytes words.entry.now) }
+{
+    match words {
+        [option, value] if option.as_str() == "--config" && is_value(value.as_str()) => {
+            named(value.as_str())
         }
+        [option] => attached(option.as_str()),
+        _ => None,
     }
 }
 
-/// One of the words is `--`, which ends the options.
-fn has_dashes(words: &[String]) -> bool
-    ensures { result ≡ are_dashes_among words.now }
+/// The command that the words spell:
+///
+/// ```text
+/// replay --config F        replay --config=F
+/// ```
+///
+/// Other words are a usage fault, a call for help among them.
+pub fn mode_of<'a>(words: &'a [String]) -> Result<Mode<'a>, Fault>
+    ensures { MatchResult result (λ mode. mode_in (map string_bytes words.entry.now) ≡ Some (mode_view mode)) (λ fault. (fault ≡ Usage) × (mode_in (map string_bytes words.entry.now) ≡ None)) }
 {
-    words.iter().any(|word| word.as_str() == "--")
-}
-
-/// The command of the words, of which the first is the program's name. A call for help is a usage
-/// fault too.
-pub fn mode_of<'a>(alloc: Global, words: &'a [String]) -> Result<Mode<'a>, Fault>
-    ensures named { IfOk result (λ mode. config_in mode ≢ []) }
-    ensures dashes { are_dashes_among words.entry.now ≡ true → result ≡ Err Fault.Usage }
-{
-    // Nothing may stand behind the options, so nothing may end them.
-    if has_dashes(words) {
-        return Err(Fault::Usage);
-    }
-    let config = Arg::new(alloc, "config")
-        .long("config")
-        .required(true)
-        .action(ArgAction::Set);
-    let replay = Command::new(alloc, "replay").arg(config)?;
-    let targetd = Command::new(alloc, "targetd")
-        .subcommand_required(true)
-        .subcommand(replay)?;
-    let matches = targetd.try_get_matches_from(words)?;
-    let Some(("replay", options)) = matches.subcommand() else {
-        return Err(Fault::Usage);
-    };
-    match options.get_str("config") {
-        Some(config) if !config.is_empty() => Ok(Mode::Replay { config }),
+    match words {
+        [command, options @ ..] if command.as_str() == "replay" => match config(options) {
+            Some(config) => Ok(Mode::Replay { config }),
+            None => Err(Fault::Usage),
+        },
         _ => Err(Fault::Usage),
     }
 }

@@ -4,34 +4,13 @@
 ghost use Rattle.std.specs.Prelude.{◌≡◌, map, codes, string_bytes};
 ghost use Rattle.toml.specs.Data.{get_member};
 ghost use Rattle.toml.specs.View.{view, items_view, table_view};
-ghost use Rattle.targetd.specs.Document.{Gives, text_at, integer_at, items_at, number_at, name_at, disk_of, tape_of, kind_of, has_member, is_name as is_name_text, unit_in, unit_of, target_of, each, document_of, unit_view, target_view, document_view};
+ghost use Rattle.targetd.specs.Document.{Gives, text_at, integer_at, items_at, number_at, name_at, disk_of, tape_of, kind_of, has_member, is_name as is_name_text, unit_in, unit_of, target_of, each, document_of};
+ghost use Rattle.targetd.specs.Configuration.{unit_view, target_view, configuration_view};
 
-use super::refusal::Refusal;
-use crate::configuration::UnitKind;
+use super::fault::ConfigFault;
+use crate::configuration::{Configuration, TargetConfiguration, UnitConfiguration, UnitKind};
 use std::alloc::Global;
 use toml::{Table, Value};
-
-/// What the document says, before any limit is tested.
-#[derive(Drop)]
-pub struct Document {
-    pub listen: String,
-    pub targets: Vec<TargetFields>,
-}
-
-/// A target of the document.
-#[derive(Drop)]
-pub struct TargetFields {
-    pub name: String,
-    pub units: Vec<UnitFields>,
-}
-
-/// A unit of the document.
-#[derive(Drop)]
-pub struct UnitFields {
-    pub lun: i64,
-    pub serial: String,
-    pub kind: UnitKind,
-}
 
 /// A disk has at most so many blocks.
 const MOST_BLOCKS: u64 = 1_048_576;
@@ -40,10 +19,10 @@ const MOST_BLOCKS: u64 = 1_048_576;
 const MOST_CAPACITY: u64 = 34_359_738_360;
 
 /// The value of a field that is needed.
-fn member<'a>(table: &'a Table, key: &str) -> Result<&'a Value, Refusal>
+fn member<'a>(table: &'a Table, key: &str) -> Result<&'a Value, ConfigFault>
     ensures { Gives (λ v. view v.now) result (get_member key.now (table_view table.now)) }
 {
-    table.get(key).ok_or(Refusal::Refused)
+    table.get(key).ok_or(ConfigFault::Field)
 }
 
 /// The field is there, whatever it is.
@@ -53,35 +32,35 @@ fn has(table: &Table, key: &str) -> bool
     table.get(key).is_some()
 }
 
-fn integer(table: &Table, key: &str) -> Result<i64, Refusal>
+fn integer(table: &Table, key: &str) -> Result<i64, ConfigFault>
     ensures { Gives (λ n. n) result (integer_at (table_view table.now) key.now) }
 {
-    member(table, key)?.as_integer().ok_or(Refusal::Refused)
+    member(table, key)?.as_integer().ok_or(ConfigFault::Field)
 }
 
-fn text<'a>(table: &'a Table, key: &str) -> Result<&'a str, Refusal>
+fn text<'a>(table: &'a Table, key: &str) -> Result<&'a str, ConfigFault>
     ensures { Gives (λ t. t.now) result (text_at (table_view table.now) key.now) }
 {
-    member(table, key)?.as_str().ok_or(Refusal::Refused)
+    member(table, key)?.as_str().ok_or(ConfigFault::Field)
 }
 
-fn array<'a>(table: &'a Table, key: &str) -> Result<&'a [Value], Refusal>
+fn array<'a>(table: &'a Table, key: &str) -> Result<&'a [Value], ConfigFault>
     ensures { Gives (λ vs. items_view vs.now) result (items_at (table_view table.now) key.now) }
 {
     match member(table, key)?.as_array() {
         Some(values) => Ok(values.as_slice()),
-        None => Err(Refusal::Refused),
+        None => Err(ConfigFault::Field),
     }
 }
 
 /// A number from `least` to `most`.
 #[tactic(auto, unfolding(crate::specs::Document::number_at))]
-fn number(table: &Table, key: &str, least: u64, most: u64) -> Result<u64, Refusal>
+fn number(table: &Table, key: &str, least: u64, most: u64) -> Result<u64, ConfigFault>
     ensures { Gives (λ n. n) result (number_at (table_view table.now) key.now least most) }
 {
     match u64::try_from(integer(table, key)?) {
         Ok(number) if least <= number && number <= most => Ok(number),
-        _ => Err(Refusal::Refused),
+        _ => Err(ConfigFault::Field),
     }
 }
 
@@ -94,18 +73,18 @@ fn is_name(text: &str) -> bool
 
 /// A text that may be a name.
 #[tactic(auto, unfolding(crate::specs::Document::name_at))]
-fn name(alloc: Global, table: &Table, key: &str) -> Result<String, Refusal>
+fn name(alloc: Global, table: &Table, key: &str) -> Result<String, ConfigFault>
     ensures { Gives string_bytes result (name_at (table_view table.now) key.now) }
 {
     let name = text(table, key)?;
     if !is_name(name) {
-        return Err(Refusal::Refused);
+        return Err(ConfigFault::Field);
     }
     Ok(String::from_str(alloc, name)?)
 }
 
 #[tactic(auto, unfolding(crate::specs::Document::disk_of))]
-fn disk(table: &Table) -> Result<UnitKind, Refusal>
+fn disk(table: &Table) -> Result<UnitKind, ConfigFault>
     ensures { Gives (λ k. k) result (disk_of (table_view table.now)) }
 {
     let blocks = number(table, "blocks", 1, MOST_BLOCKS)?;
@@ -113,7 +92,7 @@ fn disk(table: &Table) -> Result<UnitKind, Refusal>
 }
 
 #[tactic(auto, unfolding(crate::specs::Document::tape_of))]
-fn tape(table: &Table) -> Result<UnitKind, Refusal>
+fn tape(table: &Table) -> Result<UnitKind, ConfigFault>
     ensures { Gives (λ k. k) result (tape_of (table_view table.now)) }
 {
     let capacity = number(table, "capacity", 1, MOST_CAPACITY)?;
@@ -122,39 +101,39 @@ fn tape(table: &Table) -> Result<UnitKind, Refusal>
 }
 
 #[tactic(auto, unfolding(crate::specs::Document::kind_of))]
-fn kind(table: &Table) -> Result<UnitKind, Refusal>
+fn kind(table: &Table) -> Result<UnitKind, ConfigFault>
     ensures { Gives (λ k. k) result (kind_of (table_view table.now)) }
 {
     match text(table, "kind")? {
         "disk" => disk(table),
         "tape" => tape(table),
-        _ => Err(Refusal::Refused),
+        _ => Err(ConfigFault::Field),
     }
 }
 
 #[tactic(auto, unfolding(crate::specs::Document::unit_in))]
-fn unit_fields(alloc: Global, table: &Table) -> Result<UnitFields, Refusal>
+fn unit_fields(alloc: Global, table: &Table) -> Result<UnitConfiguration, ConfigFault>
     ensures { Gives unit_view result (unit_in (table_view table.now)) }
 {
     let lun = integer(table, "lun")?;
     let serial = String::from_str(alloc, text(table, "serial")?)?;
     let kind = kind(table)?;
-    Ok(UnitFields { lun, serial, kind })
+    Ok(UnitConfiguration { lun, serial, kind })
 }
 
 /// A unit in memory. One in a file is not read yet.
 #[tactic(auto, unfolding(crate::specs::Document::unit_of))]
-fn unit(alloc: Global, value: &Value) -> Result<UnitFields, Refusal>
+fn unit(alloc: Global, value: &Value) -> Result<UnitConfiguration, ConfigFault>
     ensures { Gives unit_view result (unit_of (view value.now)) }
 {
-    let table = value.as_table().ok_or(Refusal::Refused)?;
+    let table = value.as_table().ok_or(ConfigFault::Field)?;
     if has(table, "file") {
-        return Err(Refusal::Refused);
+        return Err(ConfigFault::Field);
     }
     unit_fields(alloc, table)
 }
 
-fn units(alloc: Global, values: &[Value]) -> Result<Vec<UnitFields>, Refusal>
+fn units(alloc: Global, values: &[Value]) -> Result<Vec<UnitConfiguration>, ConfigFault>
     ensures { Gives (λ us. map unit_view us.items) result (each unit_of (items_view values.now)) }
 {
     let mut units = Vec::new(alloc);
@@ -165,16 +144,16 @@ fn units(alloc: Global, values: &[Value]) -> Result<Vec<UnitFields>, Refusal>
 }
 
 #[tactic(auto, unfolding(crate::specs::Document::target_of))]
-fn target(alloc: Global, value: &Value) -> Result<TargetFields, Refusal>
+fn target(alloc: Global, value: &Value) -> Result<TargetConfiguration, ConfigFault>
     ensures { Gives target_view result (target_of (view value.now)) }
 {
-    let table = value.as_table().ok_or(Refusal::Refused)?;
+    let table = value.as_table().ok_or(ConfigFault::Field)?;
     let name = name(alloc, table, "name")?;
     let units = units(alloc, array(table, "unit")?)?;
-    Ok(TargetFields { name, units })
+    Ok(TargetConfiguration { name, units })
 }
 
-fn targets(alloc: Global, values: &[Value]) -> Result<Vec<TargetFields>, Refusal>
+fn targets(alloc: Global, values: &[Value]) -> Result<Vec<TargetConfiguration>, ConfigFault>
     ensures { Gives (λ ts. map target_view ts.items) result (each target_of (items_view values.now)) }
 {
     let mut targets = Vec::new(alloc);
@@ -186,10 +165,10 @@ fn targets(alloc: Global, values: &[Value]) -> Result<Vec<TargetFields>, Refusal
 
 /// The fields of a document.
 #[tactic(auto, unfolding(crate::specs::Document::document_of))]
-pub fn fields(alloc: Global, table: &Table) -> Result<Document, Refusal>
-    ensures { Gives document_view result (document_of (table_view table.now)) }
+pub fn fields(alloc: Global, table: &Table) -> Result<Configuration, ConfigFault>
+    ensures { Gives configuration_view result (document_of (table_view table.now)) }
 {
     let listen = name(alloc, table, "listen")?;
     let targets = targets(alloc, array(table, "target")?)?;
-    Ok(Document { listen, targets })
+    Ok(Configuration { listen, targets })
 }

@@ -2,13 +2,10 @@
 
 ghost use Rattle.std.specs.Prelude.{◌≡◌};
 ghost use Rattle.std.specs.List.{list_all};
-ghost use Rattle.targetd.specs.Document.{Gives, unit_view, units_view, target_view, targets_view, document_view};
-ghost use Rattle.targetd.specs.Limits.{is_printable as is_printable_byte, is_serial as is_serial_text, unit_keeps, target_keeps, keeps_limits, passed, unit_entry, unit_entries, target_entry, target_entries, configuration_view};
+ghost use Rattle.targetd.specs.Configuration.{unit_view, target_view, configuration_view};
+ghost use Rattle.targetd.specs.Limits.{is_printable as is_printable_byte, is_serial as is_serial_text, unit_keeps, target_keeps, keeps_limits as are_limits_kept};
 
-use super::fields::{Document, TargetFields, UnitFields};
-use super::refusal::Refusal;
 use crate::configuration::{Configuration, TargetConfiguration, UnitConfiguration};
-use std::alloc::Global;
 
 const MOST_LISTEN: usize = 253;
 
@@ -17,6 +14,8 @@ const MOST_TARGETS: usize = 8;
 const MOST_NAME: usize = 223;
 
 const MOST_UNITS: usize = 16;
+
+const MOST_LUN: i64 = 255;
 
 const MOST_SERIAL: usize = 32;
 
@@ -34,64 +33,39 @@ fn is_serial(text: &str) -> bool
     !text.is_empty() && text.len() <= MOST_SERIAL && is_printable(text.as_bytes())
 }
 
-fn unit(fields: UnitFields) -> Result<UnitConfiguration, Refusal>
-    ensures { Gives unit_entry result (passed unit_keeps (unit_view fields)) }
+fn unit_keeps_limits(unit: &UnitConfiguration) -> bool
+    ensures { result ≡ unit_keeps (unit_view unit.now) }
 {
-    let Ok(lun) = u8::try_from(fields.lun) else {
-        return Err(Refusal::Refused);
-    };
-    if !is_serial(fields.serial.as_str()) {
-        return Err(Refusal::Refused);
-    }
-    Ok(UnitConfiguration {
-        lun,
-        serial: fields.serial,
-        kind: fields.kind,
-    })
+    0 <= unit.lun && unit.lun <= MOST_LUN && is_serial(unit.serial.as_str())
 }
 
-fn units(alloc: Global, all: Vec<UnitFields>) -> Result<Vec<UnitConfiguration>, Refusal>
-    ensures { Gives (λ units. unit_entries units.items) result (passed (list_all unit_keeps) (units_view all.items)) }
+fn units_keep_limits(units: &[UnitConfiguration]) -> bool
+    ensures { result ≡ list_all (λ unit. unit_keeps (unit_view unit)) units.now }
 {
-    let mut units = Vec::new(alloc);
-    for fields in all {
-        units.push(unit(fields)?)?;
-    }
-    Ok(units)
+    units.iter().all(|unit| unit_keeps_limits(unit))
 }
 
-fn target(alloc: Global, fields: TargetFields) -> Result<TargetConfiguration, Refusal>
-    ensures { Gives target_entry result (passed target_keeps (target_view fields)) }
+fn target_keeps_limits(target: &TargetConfiguration) -> bool
+    ensures { result ≡ target_keeps (target_view target.now) }
 {
-    if fields.name.len() > MOST_NAME || fields.units.len() > MOST_UNITS {
-        return Err(Refusal::Refused);
+    if target.name.len() > MOST_NAME || target.units.len() > MOST_UNITS {
+        return false;
     }
-    Ok(TargetConfiguration {
-        name: fields.name,
-        units: units(alloc, fields.units)?,
-    })
+    units_keep_limits(target.units.as_slice())
 }
 
-fn targets(alloc: Global, all: Vec<TargetFields>) -> Result<Vec<TargetConfiguration>, Refusal>
-    ensures { Gives (λ targets. target_entries targets.items) result (passed (list_all target_keeps) (targets_view all.items)) }
+fn targets_keep_limits(targets: &[TargetConfiguration]) -> bool
+    ensures { result ≡ list_all (λ target. target_keeps (target_view target)) targets.now }
 {
-    let mut targets = Vec::new(alloc);
-    for fields in all {
-        targets.push(target(alloc, fields)?)?;
-    }
-    Ok(targets)
+    targets.iter().all(|target| target_keeps_limits(target))
 }
 
-/// The configuration of a document, where it keeps every limit.
-#[tactic(auto, unfolding(crate::specs::Limits::keeps_limits))]
-pub fn limited(alloc: Global, document: Document) -> Result<Configuration, Refusal>
-    ensures { Gives configuration_view result (passed keeps_limits (document_view document)) }
+/// Every limit is kept.
+pub fn keeps_limits(configuration: &Configuration) -> bool
+    ensures { result ≡ are_limits_kept (configuration_view configuration.now) }
 {
-    if document.listen.len() > MOST_LISTEN || document.targets.len() > MOST_TARGETS {
-        return Err(Refusal::Refused);
+    if configuration.listen.len() > MOST_LISTEN || configuration.targets.len() > MOST_TARGETS {
+        return false;
     }
-    Ok(Configuration {
-        listen: document.listen,
-        targets: targets(alloc, document.targets)?,
-    })
+    targets_keep_limits(configuration.targets.as_slice())
 }

@@ -1,13 +1,16 @@
-use Rattle.std.proofs.Common.{◌≡◌, ◌<◌, ◌++◌, length}
-use Rattle.iscsi_target.specs.Machine.{link_at, sent}
+use Rattle.std.proofs.Common.{◌≡◌, ◌+◌, ◌++◌, true, ℕ, length}
+use Rattle.iscsi_target.specs.History.{History}
+use Rattle.iscsi_target.specs.World.{Setting}
+use Rattle.iscsi_target.specs.Machine.{link_at, is_open_at}
+use Rattle.iscsi_target.specs.Stands.{Stands, with_sent}
 use Rattle.targetd.proofs.printing.drain.Given as goal
 
 -- what was taken, and then what waits, is what waited at first
 abbrev pub invariant-loop-piece : goal.invariant-loop-piece
 invariant-loop-piece l = record {
-  in_range : l.c < length l.fn.target.links;
+  is_open : is_open_at l.target l.c ≡ true;
   bytes : l.bytes.items ++ (link_at l.target l.c).waiting ≡ (link_at l.fn.target l.c).waiting;
-  sent : l.target ≡ sent l.fn.target l.c (length l.bytes.items);
+  stands : (s : Setting) (sent : ℕ → ℕ) (h : History) → Stands s sent l.fn.target h → Stands s (with_sent sent l.c (sent l.c + length l.bytes.items)) l.target h;
 }
 
 abbrev pub decreases-loop-piece : goal.decreases-loop-piece

@@ -1,14 +1,28 @@
-use Rattle.std.proofs.Common.{sym, string_bytes, ◌∙◌}
-use Rattle.targetd.proofs.PrintedLinks.{print_next, pass_next}
+use Rattle.std.proofs.Common.{◌≡◌, sym, string_bytes, arith}
+use Rattle.targetd.proofs.Connections.{gone_below, print_none, print_next, pass_one, print_all}
 use Rattle.targetd.proofs.printing.print.Goals as goal
 use Rattle.targetd.proofs.printing.print.Goals.{then-is_open+in_ok-print_connection, else-is_open}
 
+pub loop-c-init : goal.loop-c-init
+loop-c-init c = rw c.new-text.ensures.bytes (λ s sent h stands. print_none s sent h c.args.target.now stands)
+
 pub loop-c-preserved : goal.loop-c-preserved
-loop-c-preserved c = elim c.if-is_open.branch [
-  | then-is_open+in_ok-print_connection w ↦
-      rw (w.target-is, w.text-is, w.in_ok-print_connection.ensures.target, w.in_ok-print_connection.ensures.text)
-      (print_next c.args.target.now c.loop-c.target (string_bytes c.loop-c.text) c.loop-c.c (rw c.requires.connections c.loop-c-test.true) c.loop-c.invariant)
-  | else-is_open w ↦
-      rw (w.target-is, w.text-is)
-      (pass_next c.args.target.now c.loop-c.target (string_bytes c.loop-c.text) c.loop-c.c (rw c.requires.connections c.loop-c-test.true) (sym c.is_open.ensures ∙ w.if-is_open.false) c.loop-c.invariant)
-]
+loop-c-preserved c = λ s sent h stands.
+    (let at = c.loop-c.c in
+    let so_far = c.loop-c.invariant s sent h stands in
+    elim c.if-is_open.branch [
+      | then-is_open+in_ok-print_connection w ↦
+          rw (w.target-is, w.text-is)
+          (print_next s sent h at (string_bytes c.loop-c.text) (string_bytes w.print_connection.new.text) c.loop-c.target w.print_connection.new.target so_far
+          (w.in_ok-print_connection.ensures s so_far.sent (gone_below s h at) so_far.stands))
+      | else-is_open w ↦
+          rw (w.target-is, w.text-is)
+          (print_next s sent h at (string_bytes c.loop-c.text) (string_bytes c.loop-c.text) c.loop-c.target c.loop-c.target so_far
+          (pass_one s so_far.sent (gone_below s h at) at (string_bytes c.loop-c.text) c.loop-c.target c.loop-c-test.true so_far.stands (sym w.if-is_open.ensures)))
+    ])
+
+pub returns : goal.returns
+returns c = λ s sent h stands.
+    (let all : c.loop-c.c ≡ 64 = omega (arith, c.loop-c-test.false) in
+    let so_far = c.loop-c.invariant s sent h stands in
+    print_all s sent h (string_bytes c.loop-c.text) c.loop-c.target (rw all at so_far))

@@ -1,6 +1,9 @@
-use Rattle.std.proofs.Common.{string_bytes}
-use Rattle.targetd.proofs.PrintedLinks.{HasPrinted}
+use Rattle.std.proofs.Common.{ℕ, string_bytes}
+use Rattle.iscsi_target.specs.History.{History}
+use Rattle.iscsi_target.specs.World.{Setting}
+use Rattle.iscsi_target.specs.Stands.{Stands}
+use Rattle.targetd.proofs.Connections.{HasPrintedBelow}
 use Rattle.targetd.proofs.printing.print.Given as goal
 
 abbrev pub invariant-loop-c : goal.invariant-loop-c
-invariant-loop-c l = HasPrinted l.fn.target l.target (string_bytes l.text) l.c
+invariant-loop-c l = (s : Setting) (sent : ℕ → ℕ) (h : History) → Stands s sent l.fn.target h → HasPrintedBelow s sent h l.c (string_bytes l.text) l.target

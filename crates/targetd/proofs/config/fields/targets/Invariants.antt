@@ -1,6 +1,7 @@
 use Rattle.std.proofs.Common.{◌≡◌, drop, map}
 use Rattle.toml.specs.View.{items_view}
-use Rattle.targetd.specs.Document.{each, target_of, target_view}
+use Rattle.targetd.specs.Document.{each, target_of}
+use Rattle.targetd.specs.Configuration.{target_view}
 use Rattle.targetd.proofs.Entries.{behind}
 use Rattle.targetd.proofs.config.fields.targets.Given as goal
 

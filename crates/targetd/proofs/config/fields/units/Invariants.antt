@@ -1,6 +1,7 @@
 use Rattle.std.proofs.Common.{◌≡◌, drop, map}
 use Rattle.toml.specs.View.{items_view}
-use Rattle.targetd.specs.Document.{each, unit_of, unit_view}
+use Rattle.targetd.specs.Document.{each, unit_of}
+use Rattle.targetd.specs.Configuration.{unit_view}
 use Rattle.targetd.proofs.Entries.{behind}
 use Rattle.targetd.proofs.config.fields.units.Given as goal
 

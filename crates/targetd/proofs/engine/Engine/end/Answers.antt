@@ -1,16 +1,16 @@
-use Rattle.std.proofs.Common.{rules, [], ◌≡◌, length}
-use Rattle.std.proofs.KnownBytes.{Appends-nil}
+use Rattle.std.proofs.Common.{rules, ◌≡◌, length}
 use Rattle.std.proofs.lemmas.List.{nil_from_length}
-use Rattle.targetd.proofs.Replaying.{end_none, end_takes, end_refuses}
+use Rattle.std.proofs.lemmas.Result.{IfErr-weaker}
+use Rattle.targetd.proofs.Taking.{none_finishes, last_line_finishes, last_stops}
 use Rattle.targetd.proofs.engine.Engine.end.Goals as goal
 
-pub returns-then-is_empty-clause-done : goal.returns-then-is_empty-clause-done
-returns-then-is_empty-clause-done g c =
+pub returns-then-is_empty-clause-finishes : goal.returns-then-is_empty-clause-finishes
+returns-then-is_empty-clause-finishes g c =
     let none : length c.args.self.now.pending.items ≡ 0 = search rules in
-    ([], Appends-nil _, end_none c.args.self.now (nil_from_length c.args.self.now.pending.items none))
+    none_finishes c.args.self.now _ (nil_from_length c.args.self.now.pending.items none)
 
-pub returns-clause-done : goal.returns-clause-done
-returns-clause-done g c = end_takes c.end_line.result c.args.self.now c.end_line.new.self _ _ (search rules) c.end_line.ensures.reply c.end_line.ensures.number
+pub returns-clause-finishes : goal.returns-clause-finishes
+returns-clause-finishes g c = last_line_finishes c.end_line.result c.args.self.now c.end_line.new.self _ _ (search rules) c.end_line.ensures.reply
 
-pub returns-clause-refused : goal.returns-clause-refused
-returns-clause-refused g c = end_refuses c.end_line.result c.args.self.now _ _ (search rules) c.end_line.ensures.refused
+pub returns-clause-stops : goal.returns-clause-stops
+returns-clause-stops g c = IfErr-weaker c.end_line.result _ _ (λ fault. last_stops c.args.self.now _ _ fault (search rules)) c.end_line.ensures.fails

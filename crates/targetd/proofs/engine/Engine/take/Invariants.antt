@@ -1,8 +1,11 @@
-use Rattle.std.proofs.Common.{ℕ, ◌+◌, ◌≤◌, List, take}
-use Rattle.std.specs.Io.KnownBytes.{Appends}
+use Rattle.std.proofs.Common.{◌≡◌, ◌+◌, ◌≤◌, ◌++◌, List, ℕ, length}
 use Rattle.targetd.specs.Engine.{Takes}
 use Rattle.targetd.proofs.engine.Engine.take.Given as goal
 
--- what the bytes so far did
-abbrev pub invariant-loop-byte : goal.invariant-loop-byte
-invariant-loop-byte g l = (text : List ℕ) × Appends (g.W.Write.contents l.fn.writer) (g.W.Write.contents l.writer) text × Takes l.fn.self (take l.byte-index l.fn.piece) l.self text × (l.self.number ≤ l.fn.self.number + l.byte-index)
+-- what was taken, and then the rest, is the piece
+abbrev pub invariant-loop-line : goal.invariant-loop-line
+invariant-loop-line g l = (taken : List ℕ) × (l.piece ≡ taken ++ l.rest) × (l.self.number ≤ l.fn.self.number + length taken)
+    × Takes l.fn.self taken l.self (g.W.Write.contents l.fn.writer) (g.W.Write.contents l.writer)
+
+abbrev pub decreases-loop-line : goal.decreases-loop-line
+decreases-loop-line g l = length l.rest

@@ -1,0 +1,43 @@
+//! The words of the command line.
+
+ghost use Rattle.std.specs.Prelude.{◌≡◌, ◌≢◌, IfErr};
+
+use crate::fault::Fault;
+use std::env::{self, FillError};
+use std::io::ErrorKind;
+use std::rt::Env;
+
+/// The environment, with the words of the command line counted from behind the program's name,
+/// which need not be UTF-8.
+struct WithoutName<'a, E>(&'a E);
+
+impl<E> Drop for WithoutName<'_, E> {
+    fn drop(self) {
+        let WithoutName(_) = self;
+    }
+}
+
+impl<E: Env> Env for WithoutName<'_, E> {
+    fn arg(&self, i: usize, buf: &mut [u8]) -> Result<usize, FillError> {
+        self.0.arg(i.saturating_add(1), buf)
+    }
+
+    fn var(&self, name: &str, buf: &mut [u8]) -> Result<usize, FillError> {
+        self.0.var(name, buf)
+    }
+
+    fn var_at(&self, i: usize, buf: &mut [u8]) -> Result<usize, FillError> {
+        self.0.var_at(i, buf)
+    }
+}
+
+/// The words that stand behind the program's name. One that is not UTF-8 is a usage fault.
+pub fn arguments(rt: &(impl Env + AllocGlobal)) -> Result<Vec<String>, Fault>
+    ensures { IfErr result (λ fault. fault ≢ Fault.OutOfMemory → fault ≡ Fault.Usage) }
+{
+    match env::args(&(WithoutName(rt), rt.alloc())) {
+        Ok(words) => Ok(words.collect(rt.alloc())?),
+        Err(error) if error.kind() == ErrorKind::OutOfMemory => Err(Fault::OutOfMemory),
+        Err(_) => Err(Fault::Usage),
+    }
+}
