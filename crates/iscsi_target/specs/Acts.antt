@@ -40,8 +40,6 @@ verdict exp_cmd_sn frame =
     && not (initiator_task_tag frame.header == reserved_tag) && not (is_write frame.header) && length frame.body == 0
     then Accepted else Violating
 
--- ---- a command
-
 -- The units after a command, and what its initiator is told. A command with an additional header is
 -- answered 05/2400 in place of being done (own).
 unfoldable pub carried_out : Units → NexusName → Frame → Units × Outcome
@@ -68,9 +66,7 @@ scsi_answer stamp frame done = answers.ScsiResponse (record {
 abbrev pub command_answers : Stamp → Frame → Outcome → List Answer
 command_answers stamp frame done = scsi_answer stamp frame done ∷ []
 
--- ---- a login (RFC 7143 §11.13)
-
--- a refusal has byte 1 zero, and no text
+-- a refusal has byte 1 zero, and no text (RFC 7143 §11.13)
 unfoldable pub refusal_answer : Stamp → Frame → LoginRefusal → Answer
 refusal_answer stamp request refusal = answers.LoginResponse (record {
   isid = isid request.header;

@@ -1,5 +1,5 @@
 -- What happens to the target: connections open, bring bytes and end, one event after the other.
-use Rattle.std.specs.Prelude.{ℕ, List, [], ◌∷◌, ◌++◌, length, drop, map, filter, Bool, true, ◌&&◌, not, ◌==◌, nat_lt, if◌then◌else◌}
+use Rattle.std.specs.Prelude.{◌≡◌, false, ℕ, List, [], ◌∷◌, ◌++◌, length, drop, map, filter, Bool, true, ◌&&◌, not, ◌==◌, nat_lt, if◌then◌else◌}
 use Rattle.std.specs.List.{list_any, range_with_len, enumerate_from}
 use Rattle.iscsi_pdu.specs.Frames.{Frame, frames, rest, is_long}
 
@@ -82,3 +82,9 @@ arrivals bytes = map Whole (frames bytes) ++ (if is_long (rest bytes) then TooLo
 -- those that a further piece brings, each with its place
 unfoldable pub new_arrivals : List ℕ → List ℕ → List (ℕ × Arrival)
 new_arrivals bytes piece = drop (length (arrivals bytes)) (enumerate_from 0 (arrivals (bytes ++ piece)))
+
+-- However the bytes are cut into pieces, what becomes whole is what the joined bytes hold: while no
+-- header that is too long has come, the arrivals of both pieces are those of the first and those that
+-- the second brings.
+abbrev pub ArrivalsInPieces : Type 0
+ArrivalsInPieces = (bytes piece : List ℕ) → is_long (rest bytes) ≡ false → arrivals (bytes ++ piece) ≡ arrivals bytes ++ map (λ a. a.1) (new_arrivals bytes piece)

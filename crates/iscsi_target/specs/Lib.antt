@@ -18,7 +18,6 @@ pub mod Acts
 pub mod World
 pub mod Output
 pub mod Events
-pub mod Laws
 pub mod Machine
 pub mod Stands
 pub mod Runs

@@ -1,6 +1,6 @@
 -- A connection from an Open to its Gone: plain lists of what came, what was finished and what was
 -- answered, and what is read from them.
-use Rattle.std.specs.Prelude.{ℕ, zero, suc, ◌+◌, ◌-◌, ◌^◌, ◌%◌, List, [], ◌∷◌, length, filter, find, take_while, flat_map, Bool, true, false, not, ◌==◌, Option, Some, None, if◌then◌else◌}
+use Rattle.std.specs.Prelude.{ℕ, zero, suc, ◌+◌, ◌-◌, ◌^◌, ◌%◌, List, [], ◌∷◌, length, filter, find, take_while, flat_map, Bool, true, false, not, ◌==◌, Option, Some, None, option_map, unwrap_or, if◌then◌else◌}
 use Rattle.std.specs.List.{list_any}
 use Rattle.iscsi_pdu.specs.Header.{cmd_sn}
 use Rattle.iscsi_pdu.specs.ScsiCommand.{is_write, expected_transfer_length}
@@ -48,8 +48,7 @@ born c = record { connection = c; bytes = []; phase = LoggingIn; requests = []; 
 abbrev pub reads : Phase → Bool
 reads LoggingIn = true
 reads (FullFeature session) = true
-reads Closing = false
-reads Over = false
+reads _ = false
 
 abbrev pub is_over : Phase → Bool
 is_over Over = true
@@ -66,15 +65,10 @@ abbrev pub first_cmd_sn : List Frame → ℕ
 first_cmd_sn [] = 0
 first_cmd_sn (request ∷ others) = cmd_sn request.header
 
--- one more request, where there is one of that number
-abbrev pub taken_on : Option Accepted → List Accepted → List Accepted
-taken_on None others = []
-taken_on (Some accepted) others = accepted ∷ others
-
 -- of at most n requests, those numbered from k on, up to the first number that has not come
 abbrev pub taken_from : ℕ → ℕ → List Accepted → List Accepted
 taken_from zero k came = []
-taken_from (suc n) k came = taken_on (find (λ a. a.index == k) came) (taken_from n (suc k) came)
+taken_from (suc n) k came = unwrap_or (option_map (λ a. a ∷ taken_from n (suc k) came) (find (λ a. a.index == k) came)) []
 
 -- a request is taken where it and all before it have come
 unfoldable pub taken : Life → List Accepted
@@ -118,8 +112,6 @@ is_unfinished finished command = not (list_any (λ place. place == command.place
 -- the commands at the front of those unfinished that are complete
 unfoldable pub ready : Life → List Accepted
 ready life = take_while is_complete (filter (is_unfinished life.finished) (taken life))
-
--- ---- what it is answered
 
 -- the answers of a life, each spelled, joined
 unfoldable pub out_of : Life → List ℕ

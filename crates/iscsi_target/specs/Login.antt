@@ -1,5 +1,5 @@
 -- The reply to a Login request (RFC 7143 §6.3, §11.12, §11.13): one ordered list of rules.
-use Rattle.std.specs.Prelude.{ℕ, ◌-◌, List, [], ◌∷◌, length, find, Bool, false, ◌&&◌, ◌||◌, not, ◌==◌, nat_lt, Option, Some, None, is_none, unwrap_or, position, slice_get, Result, Ok, Err, is_err, codes, bytes_eq}
+use Rattle.std.specs.Prelude.{ℕ, ◌-◌, List, [], ◌∷◌, length, find, Bool, false, ◌&&◌, ◌||◌, not, ◌==◌, nat_lt, Option, Some, None, is_none, unwrap_or, position, slice_index_or, Result, Ok, Err, is_err, codes, bytes_eq}
 use Rattle.std.specs.List.{list_all}
 use Rattle.iscsi_pdu.specs.LoginRequest.{is_transit, is_continued, current_stage, next_stage, version_min, isid, tsih}
 use Rattle.iscsi_pdu.specs.Stage.{stage_number}
@@ -18,8 +18,6 @@ use Rattle.iscsi_target.specs.declared.login.Reply.TheVariants.{Refused, Full}
 abbrev pub Live : Type 0
 Live = List (Option Session)
 
--- ---- what a request says
-
 -- RFC 7143 §11.12.3
 abbrev pub is_stage : Stage → Option Stage → Bool
 is_stage stage None = false
@@ -29,23 +27,13 @@ is_stage stage (Some other) = stage_number other == stage_number stage
 unfoldable pub leads_to_full_feature : List ℕ → Bool
 leads_to_full_feature header = is_transit header && not (is_continued header) && is_stage OperationalNegotiation (current_stage header) && is_stage FullFeaturePhase (next_stage header)
 
--- RFC 7143 §13.4, §13.5, §13.21
-abbrev pub initiator_name_key : List ℕ
-initiator_name_key = codes "InitiatorName"
-
-abbrev pub target_name_key : List ℕ
-target_name_key = codes "TargetName"
-
-abbrev pub session_type_key : List ℕ
-session_type_key = codes "SessionType"
-
--- what a key says, or nothing
+-- what a key says, or nothing (RFC 7143 §13.4, §13.5, §13.21)
 unfoldable pub said : List ℕ → List Pair → List ℕ
 said key pairs = unwrap_or (value_of key pairs) []
 
 -- RFC 7143 §13.21: Normal where nothing is said; own: no Discovery
 unfoldable pub is_normal : List Pair → Bool
-is_normal pairs = bytes_eq (unwrap_or (value_of session_type_key pairs) (codes "Normal")) (codes "Normal")
+is_normal pairs = bytes_eq (unwrap_or (value_of (codes "SessionType") pairs) (codes "Normal")) (codes "Normal")
 
 -- RFC 7143 §4.2.7.2: a name is up to 223 bytes
 abbrev pub longest_name : ℕ
@@ -53,7 +41,7 @@ longest_name = 223
 
 -- own: no other key is negotiated
 unfoldable pub is_login_key : Pair → Bool
-is_login_key pair = bytes_eq pair.0 initiator_name_key || bytes_eq pair.0 session_type_key || bytes_eq pair.0 target_name_key
+is_login_key pair = bytes_eq pair.0 (codes "InitiatorName") || bytes_eq pair.0 (codes "SessionType") || bytes_eq pair.0 (codes "TargetName")
 
 unfoldable pub target_named : List (List ℕ) → List ℕ → Option ℕ
 target_named names name = position (λ other. bytes_eq other name) names
@@ -69,13 +57,9 @@ is_of nexus target (Some session) = same_nexus session.nexus nexus && session.ta
 unfoldable pub older : Session → Live → Option ℕ
 older session live = position (is_of session.nexus session.target) live
 
-abbrev pub at_connection : Option (Option Session) → Option Session
-at_connection None = None
-at_connection (Some session) = session
-
 -- the TSIH names such a session: that of connection c has TSIH c + 1 (RFC 7143 §11.12.6)
 unfoldable pub names_session : ℕ → Session → Live → Bool
-names_session handle session live = not (handle == 0) && is_of session.nexus session.target (at_connection (slice_get live (handle - 1)))
+names_session handle session live = not (handle == 0) && is_of session.nexus session.target (slice_index_or live (handle - 1) None)
 
 -- ---- the rules
 
@@ -95,8 +79,8 @@ rule holds refusal = record { holds = holds; refusal = refusal }
 -- whose session is asked for, and with which target
 unfoldable pub asked_for : List (List ℕ) → Frame → List Pair → Session
 asked_for names request pairs = record {
-  nexus = record { initiator_name = said initiator_name_key pairs; isid = isid request.header };
-  target = unwrap_or (target_named names (said target_name_key pairs)) 0;
+  nexus = record { initiator_name = said (codes "InitiatorName") pairs; isid = isid request.header };
+  target = unwrap_or (target_named names (said (codes "TargetName") pairs)) 0;
 }
 
 -- of the request itself (RFC 7143 §11.12)
@@ -110,8 +94,8 @@ rules_of_request request =
 -- of the names in it (RFC 7143 §6.1, §13)
 abbrev pub rules_of_names : List (List ℕ) → List Pair → List Rule
 rules_of_names names pairs =
-    let initiator = said initiator_name_key pairs in
-    let target = said target_name_key pairs in
+    let initiator = said (codes "InitiatorName") pairs in
+    let target = said (codes "TargetName") pairs in
     rule (length initiator == 0) MissingParameter
     ∷ rule (not (is_normal pairs)) InitiatorError
     ∷ rule (length target == 0) MissingParameter
@@ -145,8 +129,5 @@ login names live request =
     reply_by session (first_of (rules_of_request request)) (first_of (rules_of_names names pairs)) (first_of (rules_of_session session (tsih request.header) live pairs))
 
 -- RFC 7143 §13.9, §13.12: what the target declares where the login succeeds
-abbrev pub declared_pairs : List Pair
-declared_pairs = (codes "TargetPortalGroupTag", codes "1") ∷ (codes "MaxRecvDataSegmentLength", codes "262144") ∷ []
-
 unfoldable pub declared_text : List ℕ
-declared_text = text_of declared_pairs
+declared_text = text_of ((codes "TargetPortalGroupTag", codes "1") ∷ (codes "MaxRecvDataSegmentLength", codes "262144") ∷ [])

@@ -40,10 +40,9 @@ link_at machine c = slice_index_or machine.links c free_link
 
 -- frames are read in this phase
 abbrev pub is_reading : Phase → Bool
-is_reading Free = false
 is_reading Login = true
 is_reading (FullFeature session numbers) = true
-is_reading Closing = false
+is_reading _ = false
 
 abbrev pub is_free : Phase → Bool
 is_free Free = true

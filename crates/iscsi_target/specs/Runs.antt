@@ -8,8 +8,6 @@ use Rattle.iscsi_target.specs.Machine.{Machine, link_at, is_open_at}
 use Rattle.iscsi_target.specs.Stands.{Stands}
 use Rattle.iscsi_target.specs.declared.run.Row.{Row}
 
--- ---- which connections are open
-
 -- the test at each number is whether the connection is among these
 abbrev pub IsTable : List Bool → List ℕ → Type 0
 IsTable table open_connections = (c : ℕ) → slice_index_or table c false ≡ is_among c open_connections
@@ -19,8 +17,6 @@ abbrev pub MayCome : Machine → Event → Type 0
 MayCome machine (Open c) = (c < connection_limit) × (is_open_at machine c ≡ false)
 MayCome machine (Bytes c piece) = (c < connection_limit) × (is_open_at machine c ≡ true)
 MayCome machine (Gone c) = (c < connection_limit) × (is_open_at machine c ≡ true)
-
--- ---- what is kept of a life
 
 -- its connection until it ends, and what was answered in it from then on
 pub record RowState : Type 0 where
@@ -55,8 +51,6 @@ is_on c (Some d) = d == c
 -- a connection ends
 abbrev pub ended : Machine → ℕ → RowState → RowState
 ended machine c row = if is_on c row.connection then finished machine row else row
-
--- ---- between two events
 
 -- a life of this connection is not over
 abbrev pub has : ℕ → List RowState → Bool

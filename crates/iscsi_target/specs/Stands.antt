@@ -63,8 +63,6 @@ abbrev pub IsSettled : Option Life → Type 0
 IsSettled None = ⊤
 IsSettled (Some life) = IsSettledLife life
 
--- ---- all connections
-
 -- What waits on a connection is what its present life was answered, without as many bytes at the front
 -- as were sent.
 pub record IsLinkOf (sent : ℕ) (link : LinkState) (life : Option Life) : Type 0 where

@@ -56,8 +56,6 @@ session_of (Some life) = session_in life.phase
 unfoldable pub live : World → Live
 live w = map (λ c. session_of (present c w)) connections
 
--- ---- units
-
 -- a target's units after f
 unfoldable pub changed_units : (Units → Units) → ℕ → List Units → List Units
 changed_units f target all = slice_set all target (f (slice_index_or all target []))

@@ -1,4 +1,10 @@
-//! The target: every session and every unit behind one state.
+//! An iSCSI target (RFC 7143) as one value: connections bring bytes, answers wait on them, and logical
+//! units (SAM-5, SPC-4) do the commands.
+//!
+//! For every list of openings, pieces of bytes and closings on up to 64 connections, a [`Target`]
+//! answers what a plainly defined machine answers, the World of `specs/World.antt` (the clauses
+//! `stands`). Where an allocation fails one connection closes between two frames, each frame was done
+//! and answered whole or did nothing, and all others go on (`starved`).
 #![tactic(auto)]
 
 mod answers;

@@ -1,9 +1,9 @@
 //! The reply to a Login request (RFC 7143 §6.3, §11.12, §11.13).
 
-ghost use Rattle.std.specs.Prelude.{◌≡◌, ◌<◌, ℕ, List, length, map, Some, None, option_map, position as position_of, bytes_eq, IfOk, IfSome, MatchResult, string_bytes};
+ghost use Rattle.std.specs.Prelude.{◌≡◌, ◌<◌, ℕ, List, length, map, Some, None, option_map, position as position_of, bytes_eq, codes, IfOk, IfSome, MatchResult, string_bytes};
 ghost use Rattle.std.specs.List.{list_all};
 ghost use Rattle.iscsi_text.specs.Pairs.{Pair};
-ghost use Rattle.iscsi_target.specs.Login.{Rule, first_of, rules_of_names, rules_of_session, login as login_reply, leads_to_full_feature as leads, said as said_by, is_normal, is_login_key, target_named, is_of as is_session_of, older as older_of, names_session as names_live, initiator_name_key, target_name_key};
+ghost use Rattle.iscsi_target.specs.Login.{Rule, first_of, rules_of_names, rules_of_session, login as login_reply, leads_to_full_feature as leads, said as said_by, is_normal, is_login_key, target_named, is_of as is_session_of, older as older_of, names_session as names_live};
 ghost use Rattle.iscsi_target.specs.Machine.{session_in_phase, sessions, TargetBelow};
 
 use crate::fault::Memory;
@@ -82,7 +82,7 @@ fn leads_to_full_feature(header: &Header) -> bool
 fn target_of(names: &[String], said: &Pairs) -> Result<usize, LoginRefusal>
     ensures rules { MatchResult result (λ _. first_of (rules_of_names (map string_bytes names.now) said.now) ≡ None)
         (λ refusal. option_map (λ (r : Rule). r.refusal) (first_of (rules_of_names (map string_bytes names.now) said.now)) ≡ Some refusal) }
-    ensures target { IfOk result (λ at. target_named (map string_bytes names.now) (said_by target_name_key said.now) ≡ Some at) }
+    ensures target { IfOk result (λ at. target_named (map string_bytes names.now) (said_by (codes "TargetName") said.now) ≡ Some at) }
     ensures bound { IfOk result (λ at. at < length names.now) }
 {
     let initiator = what_is_said(said, "InitiatorName");

@@ -1,13 +1,14 @@
 -- What a line of the input does, and what is printed after it: a function of what the target is made with
 -- and of the lines so far.
-use Rattle.std.specs.Prelude.{◌≡◌, ℕ, List, [], ◌∷◌, ◌++◌, Bool, not, Option, None, Some, is_some, option_and_then, if◌then◌else◌}
+use Rattle.std.specs.Prelude.{◌≡◌, ℕ, List, [], ◌∷◌, ◌++◌, Bool, not, Option, None, Some, is_some, option_and_then, if◌then◌else◌, refl}
 use Rattle.std.specs.Str.{is_utf8}
 use Rattle.iscsi_target.specs.History.{Event, Open, Bytes, Gone, History, plain}
+use Rattle.iscsi_target.specs.Life.{out_of}
 use Rattle.iscsi_target.specs.World.{Setting, World, present, world}
-use Rattle.targetd.specs.Line.{event_of}
 use Rattle.iscsi_target.specs.Machine.{Machine}
 use Rattle.iscsi_target.specs.Stands.{Stands}
-use Rattle.targetd.specs.Printed.{all_sent, HasSentAll, unsent, printed, after_printing}
+use Rattle.targetd.specs.Line.{event_of}
+use Rattle.targetd.specs.Printed.{lines_of, all_sent, HasSentAll, unsent, printed_of, printed, after_printing}
 
 -- a connection opens where it is not open, and brings bytes and ends where it is
 abbrev pub is_allowed : World → Event → Bool
@@ -24,6 +25,16 @@ printed_after s before h = (printed (all_sent before) (world s h), after_printin
 
 abbrev pub reply_to : Setting → History → Event → Option (List ℕ × History)
 reply_to s h event = if is_allowed (world s h) event then Some (printed_after s (world s h) (h ++ plain event ∷ [])) else None
+
+-- a connection opens, and nothing is printed
+first_open : (s : Setting) → reply_to s [] (Open 0) ≡ Some ([], plain (Open 0) ∷ [])
+unfolding world present out_of printed printed_of lines_of unsent after_printing
+first_open s = refl
+
+-- a connection that is not open does not end
+first_gone : (s : Setting) → reply_to s [] (Gone 0) ≡ None
+unfolding world present
+first_gone s = refl
 
 -- what is printed after a line, and what has happened then; none where the line is refused
 unfoldable pub reply : Setting → History → List ℕ → Option (List ℕ × History)
