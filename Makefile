@@ -19,7 +19,7 @@ build:
 	@echo "== proving the crates and building targetd (some minutes the first time)"
 	@./tools/build
 
-# The gate: the proofs, the wrong bodies, the cases, failing calls, the pages. About an hour.
+# The gate: the proofs, the wrong bodies, the cases, failing calls, the pages. About 20 minutes.
 test:
 	@./tools/test
 
