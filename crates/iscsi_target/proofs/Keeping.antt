@@ -1,12 +1,17 @@
--- An event of bytes begins and ends no life: what is kept of each stays the same.
-use Rattle.std.proofs.Common.{◌≡◌, ℕ, List, [], ◌∷◌, map, Bool, true, false, cond, not, eqb, Option, Some, None, refl, sym, ap, ◌∙◌}
+-- An event of bytes begins and ends no life, and each goes on from what it was.
+use Rattle.std.proofs.Common.{◌≡◌, ℕ, List, [], ◌∷◌, ◌++◌, map, Bool, true, false, cond, not, eqb, Option, Some, None, refl, sym, ap, ◌∙◌, subst, append_assoc, append-nil}
 use Rattle.std.specs.List.{fold}
+use Rattle.std.specs.Prelude.{flat_map}
+use Rattle.std.proofs.lemmas.Grind.{flat_map-append}
+use Rattle.iscsi_pdu.specs.Answer.{spelling}
 use Rattle.iscsi_pdu.specs.Frames.{Frame}
-use Rattle.iscsi_target.specs.History.{Mark, Step, Judging, Taking, Doing, Ending, Arrival, Whole, TooLong}
+use Rattle.iscsi_pdu.specs.declared.answer.Answer.{Answer}
+use Rattle.iscsi_target.specs.History.{Mark, Step, Judging, Taking, Doing, Ending, Arrival, Whole, TooLong, Bytes, marked}
 use Rattle.iscsi_target.specs.Login.{login, older}
-use Rattle.iscsi_target.specs.Life.{Life, Phase, LoggingIn, FullFeature, Closing, Over, Accepted, is_over, reads}
-use Rattle.iscsi_target.specs.World.{Setting, World, is_present, present, changed_life, changed, reads_life, session_of, live, close, shut, is_marked, take_step, refused, asked, begun, end_older, replied, log_in, accepted, judged, judge, verdict_for, finished, done_for, finish, ready_in, settle, serve, enter, arrive_in, arrive_at, arrive, brought, longer, bring}
+use Rattle.iscsi_target.specs.Life.{Life, Phase, LoggingIn, FullFeature, Closing, Over, Accepted, is_over, reads, out_of}
+use Rattle.iscsi_target.specs.World.{Setting, World, is_present, present, changed_life, changed, reads_life, session_of, live, close, shut, is_marked, take_step, refused, asked, begun, end_older, replied, log_in, accepted, judged, judge, verdict_for, finished, done_for, finish, ready_in, settle, serve, enter, arrive_in, arrive_at, arrive, brought, longer, bring, world}
 use Rattle.iscsi_target.specs.Acts.{is_login}
+use Rattle.iscsi_target.specs.Laws.{GoesOn, LivesGoOn, AnswersStay}
 use Rattle.iscsi_target.specs.Runs.{RowState, open_row, row_of}
 use Rattle.iscsi_target.specs.declared.session.Session.{Session}
 use Rattle.iscsi_target.specs.declared.session.Verdict.{Verdict}
@@ -14,6 +19,7 @@ use Rattle.iscsi_target.specs.declared.session.Verdict.TheVariants as verdicts
 use Rattle.iscsi_target.specs.declared.login.Reply.{Reply}
 use Rattle.iscsi_target.specs.declared.login.Reply.TheVariants.{Refused, Full}
 use Rattle.iscsi_target.proofs.Choices.{cond_true, cond_false, and_true, not_true}
+use Rattle.iscsi_target.proofs.Standing.{world-push}
 
 -- ---- one life
 
@@ -23,113 +29,188 @@ open_is life e = cond_false (is_over life.phase) _ _ e
 abbrev pub rows_in : World → List RowState
 rows_in w = map row_of w.lives
 
--- what f makes of a life that is not over is not over, and stays on its connection
-abbrev pub KeepsOpen : (Life → Life) → Type 0
-KeepsOpen f = (life : Life) → is_over life.phase ≡ false → (is_over (f life).phase ≡ false) × ((f life).connection ≡ life.connection)
-
 pub is_open_here : (c : ℕ) (life : Life) → is_present c life ≡ true → is_over life.phase ≡ false
 is_open_here c life e = not_true (is_over life.phase) (and_true (eqb life.connection c) (not (is_over life.phase)) e).1
 
-life_by : (b : Bool) (f : Life → Life) (c : ℕ) (x : Life) → KeepsOpen f → is_present c x ≡ b → row_of (changed_life f c x) ≡ row_of x
-life_by true f c x keeps e =
+life_same : (x : Life) → GoesOn x x
+life_same x = record { connection = refl; over = refl; still = λ e. refl; answered = ([], sym (append-nil (out_of x))) }
+
+life_then : (x y z : Life) → GoesOn x y → GoesOn y z → GoesOn x z
+life_then x y z a b = record {
+  connection = b.connection ∙ a.connection;
+  over = b.over ∙ a.over;
+  still = λ e. b.still (a.over ∙ e) ∙ a.still e;
+  answered = (a.answered.0 ++ b.answered.0, b.answered.1 ∙ ap (λ (front : List ℕ). front ++ b.answered.0) a.answered.1 ∙ append_assoc (out_of x) a.answered.0 b.answered.0);
+}
+
+-- ---- all lives of a World
+
+lives_same : (lives : List Life) → LivesGoOn lives lives
+lives_same [] = tt
+lives_same (x ∷ lives) = (life_same x, lives_same lives)
+
+lives_then : (xs ys zs : List Life) → LivesGoOn xs ys → LivesGoOn ys zs → LivesGoOn xs zs
+lives_then [] [] zs a b = b
+lives_then [] (y ∷ ys) zs a b = absurd a
+lives_then (x ∷ xs) [] zs a b = absurd a
+lives_then (x ∷ xs) (y ∷ ys) [] a b = absurd b
+lives_then (x ∷ xs) (y ∷ ys) (z ∷ zs) a b = (life_then x y z a.0 b.0, lives_then xs ys zs a.1 b.1)
+
+abbrev GoOn : World → World → Type 0
+GoOn w v = LivesGoOn w.lives v.lives
+
+-- what f makes of a life that is not over is not over, stays on its connection, and was answered no less
+pub record Continues (f : Life → Life) : Type 0 where
+  pub open_ : (life : Life) → is_over life.phase ≡ false → is_over (f life).phase ≡ false
+  pub connection : (life : Life) → (f life).connection ≡ life.connection
+  pub answers : (life : Life) → (more : List Answer) × ((f life).answers ≡ life.answers ++ more)
+
+-- more answers are more bytes
+out-more : (x y : Life) (more : List Answer) → y.answers ≡ x.answers ++ more → (bytes : List ℕ) × (out_of y ≡ out_of x ++ bytes)
+unfolding out_of
+out-more x y more e = (flat_map spelling more, ap (flat_map spelling) e ∙ flat_map-append spelling x.answers more)
+
+life_by : (b : Bool) (f : Life → Life) (c : ℕ) (x : Life) → Continues f → is_present c x ≡ b → GoesOn x (changed_life f c x)
+life_by true f c x goes e =
     let was : is_over x.phase ≡ false = is_open_here c x e in
-    let now = keeps x was in
-    ap row_of (cond_true (is_present c x) (f x) x e) ∙ open_is (f x) now.0 ∙ ap open_row now.1 ∙ sym (open_is x was)
-life_by false f c x keeps e = ap row_of (cond_false (is_present c x) (f x) x e)
+    let now : GoesOn x (f x) = record {
+      connection = goes.connection x;
+      over = goes.open_ x was ∙ sym was;
+      still = λ over. absurd (cc (was, over));
+      answered = out-more x (f x) (goes.answers x).0 (goes.answers x).1;
+    } in
+    subst (GoesOn x) (sym (cond_true (is_present c x) (f x) x e)) now
+life_by false f c x goes e = subst (GoesOn x) (sym (cond_false (is_present c x) (f x) x e)) (life_same x)
 
-lives_kept : (f : Life → Life) (c : ℕ) (lives : List Life) → KeepsOpen f → map row_of (map (changed_life f c) lives) ≡ map row_of lives
-lives_kept f c [] keeps = refl
-lives_kept f c (x ∷ lives) keeps =
-    let here : row_of (changed_life f c x) ≡ row_of x = life_by (is_present c x) f c x keeps refl in
-    ap (λ (r : RowState). r ∷ map row_of (map (changed_life f c) lives)) here ∙ ap (λ (rows : List RowState). row_of x ∷ rows) (lives_kept f c lives keeps)
+lives_changed : (f : Life → Life) (c : ℕ) (lives : List Life) → Continues f → LivesGoOn lives (map (changed_life f c) lives)
+lives_changed f c [] goes = tt
+lives_changed f c (x ∷ lives) goes = (life_by (is_present c x) f c x goes refl, lives_changed f c lives goes)
 
-rows-changed : (f : Life → Life) (c : ℕ) (w : World) → KeepsOpen f → rows_in (changed f c w) ≡ rows_in w
+on-changed : (f : Life → Life) (c : ℕ) (w : World) → Continues f → GoOn w (changed f c w)
 unfolding changed
-rows-changed f c w keeps = lives_kept f c w.lives keeps
+on-changed f c w goes = lives_changed f c w.lives goes
 
-shut_keeps : KeepsOpen shut
-shut_keeps life e = (refl, refl)
+-- nothing more is answered
+silent : (f : Life → Life) → ((life : Life) → is_over life.phase ≡ false → is_over (f life).phase ≡ false) → ((life : Life) → (f life).connection ≡ life.connection) → ((life : Life) → (f life).answers ≡ life.answers) → Continues f
+silent f open_ connection answers = record { open_ = open_; connection = connection; answers = λ life. ([], answers life ∙ sym (append-nil life.answers)) }
+
+shut_continues : Continues shut
+shut_continues = silent shut (λ life e. refl) (λ life. refl) (λ life. refl)
 
 -- ---- the steps
 
-rows-close : (c : ℕ) (w : World) → rows_in (close c w) ≡ rows_in w
+on-then : (w v u : World) → GoOn w v → GoOn v u → GoOn w u
+on-then w v u a b = lives_then w.lives v.lives u.lives a b
+
+on-same : (w : World) → GoOn w w
+on-same w = lives_same w.lives
+
+on-close : (c : ℕ) (w : World) → GoOn w (close c w)
 unfolding close
-rows-close c w = rows-changed shut c w shut_keeps
+on-close c w = on-changed shut c w shut_continues
 
-rows-cond : (b : Bool) (v w : World) (rows : List RowState) → rows_in v ≡ rows → rows_in w ≡ rows → rows_in (cond b v w) ≡ rows
-rows-cond true v w rows d e = d
-rows-cond false v w rows d e = e
+on-cond : (b : Bool) (v u w : World) → GoOn w v → GoOn w u → GoOn w (cond b v u)
+on-cond true v u w d e = d
+on-cond false v u w d e = e
 
-rows-take_step : (marks : List Mark) (c : ℕ) (step : Step) (act : World → World) (w : World) → rows_in (act w) ≡ rows_in w → rows_in (take_step marks c step act w) ≡ rows_in w
+on-take_step : (marks : List Mark) (c : ℕ) (step : Step) (act : World → World) (w : World) → GoOn w (act w) → GoOn w (take_step marks c step act w)
 unfolding take_step
-rows-take_step marks c step act w e = rows-cond (not (reads_life (present c w))) w _ (rows_in w) refl (rows-cond (is_marked marks c step) (close c w) (act w) (rows_in w) (rows-close c w) e)
+on-take_step marks c step act w e = on-cond (not (reads_life (present c w))) w _ w (on-same w) (on-cond (is_marked marks c step) (close c w) (act w) w (on-close c w) e)
 
-rows-end_older : (o : Option ℕ) (w : World) → rows_in (end_older o w) ≡ rows_in w
-rows-end_older None w = refl
-rows-end_older (Some d) w = rows-changed shut d w shut_keeps
+on-end_older : (o : Option ℕ) (w : World) → GoOn w (end_older o w)
+on-end_older None w = on-same w
+on-end_older (Some d) w = on-changed shut d w shut_continues
 
-rows-replied : (reply : Reply) (c : ℕ) (request : Frame) (w : World) → rows_in (replied reply c request w) ≡ rows_in w
-rows-replied (Refused refusal) c request w = rows-close c _ ∙ rows-changed (refused refusal request) c w (λ life e. (e, refl))
-rows-replied (Full session) c request w = rows-changed (begun session request) c (end_older (older session (live w)) w) (λ life e. (refl, refl)) ∙ rows-end_older (older session (live w)) w
+on-replied : (reply : Reply) (c : ℕ) (request : Frame) (w : World) → GoOn w (replied reply c request w)
+on-replied (Refused refusal) c request w =
+    let v = changed (refused refusal request) c w in
+    on-then w v (close c v) (on-changed (refused refusal request) c w (record { open_ = λ life e. e; connection = λ life. refl; answers = λ life. (_, refl) })) (on-close c v)
+on-replied (Full session) c request w =
+    let v = end_older (older session (live w)) w in
+    on-then w v (changed (begun session request) c v) (on-end_older (older session (live w)) w) (on-changed (begun session request) c v (record { open_ = λ life e. refl; connection = λ life. refl; answers = λ life. (_, refl) }))
 
-rows-log_in : (s : Setting) (c : ℕ) (request : Frame) (w : World) → rows_in (log_in s c request w) ≡ rows_in w
+on-log_in : (s : Setting) (c : ℕ) (request : Frame) (w : World) → GoOn w (log_in s c request w)
 unfolding log_in
-rows-log_in s c request w = rows-replied (login s.names (live w) request) c request _ ∙ rows-changed (asked request) c w (λ life e. (e, refl))
+on-log_in s c request w =
+    let v = changed (asked request) c w in
+    on-then w v (log_in s c request w) (on-changed (asked request) c w (silent (asked request) (λ life e. e) (λ life. refl) (λ life. refl))) (on-replied (login s.names (live w) request) c request v)
 
-rows-judged : (verdict : Verdict) (c place : ℕ) (frame : Frame) (w : World) → rows_in (judged verdict c place frame w) ≡ rows_in w
-rows-judged verdicts.Accepted c place frame w = rows-changed (accepted place frame) c w (λ life e. (e, refl))
-rows-judged verdicts.Violating c place frame w = rows-close c w
+on-judged : (verdict : Verdict) (c place : ℕ) (frame : Frame) (w : World) → GoOn w (judged verdict c place frame w)
+on-judged verdicts.Accepted c place frame w = on-changed (accepted place frame) c w (silent (accepted place frame) (λ life e. e) (λ life. refl) (λ life. refl))
+on-judged verdicts.Violating c place frame w = on-close c w
 
-rows-judge : (c place : ℕ) (frame : Frame) (w : World) → rows_in (judge c place frame w) ≡ rows_in w
+on-judge : (c place : ℕ) (frame : Frame) (w : World) → GoOn w (judge c place frame w)
 unfolding judge
-rows-judge c place frame w = rows-judged (verdict_for (present c w) frame) c place frame w
+on-judge c place frame w = on-judged (verdict_for (present c w) frame) c place frame w
 
-rows-done_for : (o : Option Session) (c : ℕ) (command : Accepted) (w : World) → rows_in (done_for o c command w) ≡ rows_in w
-rows-done_for None c command w = refl
-rows-done_for (Some session) c command w = rows-changed (finished command _) c w (λ life e. (e, refl))
+on-done_for : (o : Option Session) (c : ℕ) (command : Accepted) (w : World) → GoOn w (done_for o c command w)
+on-done_for None c command w = on-same w
+on-done_for (Some session) c command w = on-changed (finished command _) c w (record { open_ = λ life e. e; connection = λ life. refl; answers = λ life. (_, refl) })
 
-rows-finish : (c : ℕ) (command : Accepted) (w : World) → rows_in (finish c command w) ≡ rows_in w
+on-finish : (c : ℕ) (command : Accepted) (w : World) → GoOn w (finish c command w)
 unfolding finish
-rows-finish c command w = rows-done_for (session_of (present c w)) c command w
+on-finish c command w = on-done_for (session_of (present c w)) c command w
 
 -- one step after the other
-rows-fold : {X : Type 0} (f : World → X → World) (w : World) (xs : List X) → ((v : World) (x : X) → rows_in (f v x) ≡ rows_in v) → rows_in (fold f w xs) ≡ rows_in w
-rows-fold f w [] keeps = refl
-rows-fold f w (x ∷ xs) keeps = rows-fold f (f w x) xs keeps ∙ keeps w x
+on-fold : {X : Type 0} (f : World → X → World) (w : World) (xs : List X) → ((v : World) (x : X) → GoOn v (f v x)) → GoOn w (fold f w xs)
+on-fold f w [] goes = on-same w
+on-fold f w (x ∷ xs) goes = on-then w (f w x) (fold f (f w x) xs) (goes w x) (on-fold f (f w x) xs goes)
 
-rows-settle : (marks : List Mark) (c : ℕ) (w : World) → rows_in (settle marks c w) ≡ rows_in w
+on-settle : (marks : List Mark) (c : ℕ) (w : World) → GoOn w (settle marks c w)
 unfolding settle
-rows-settle marks c w = rows-fold _ w (ready_in (present c w)) (λ v command. rows-take_step marks c (Doing command.place) (finish c command) v (rows-finish c command v))
+on-settle marks c w = on-fold _ w (ready_in (present c w)) (λ v command. on-take_step marks c (Doing command.place) (finish c command) v (on-finish c command v))
 
-rows-serve : (marks : List Mark) (c place : ℕ) (frame : Frame) (w : World) → rows_in (serve marks c place frame w) ≡ rows_in w
+on-serve : (marks : List Mark) (c place : ℕ) (frame : Frame) (w : World) → GoOn w (serve marks c place frame w)
 unfolding serve
-rows-serve marks c place frame w =
+on-serve marks c place frame w =
     let v = take_step marks c (Judging place) (judge c place frame) w in
-    rows-settle marks c (take_step marks c (Taking place) (λ u. u) v) ∙ rows-take_step marks c (Taking place) (λ u. u) v refl ∙ rows-take_step marks c (Judging place) (judge c place frame) w (rows-judge c place frame w)
+    let u = take_step marks c (Taking place) (λ u. u) v in
+    on-then w v (settle marks c u) (on-take_step marks c (Judging place) (judge c place frame) w (on-judge c place frame w))
+    (on-then v u (settle marks c u) (on-take_step marks c (Taking place) (λ u. u) v (on-same v)) (on-settle marks c u))
 
 -- ---- one event
 
-rows-enter : (s : Setting) (c : ℕ) (frame : Frame) (w : World) → rows_in (enter s c frame w) ≡ rows_in w
-rows-enter s c frame w = rows-cond (is_login frame) (log_in s c frame w) (close c w) (rows_in w) (rows-log_in s c frame w) (rows-close c w)
+on-enter : (s : Setting) (c : ℕ) (frame : Frame) (w : World) → GoOn w (enter s c frame w)
+on-enter s c frame w = on-cond (is_login frame) (log_in s c frame w) (close c w) w (on-log_in s c frame w) (on-close c w)
 
-rows-arrive_in : (s : Setting) (marks : List Mark) (c : ℕ) (w : World) (place : ℕ) (arrival : Arrival) (phase : Phase) → rows_in (arrive_in s marks c w place arrival phase) ≡ rows_in w
-rows-arrive_in s marks c w place (Whole frame) LoggingIn = rows-take_step marks c (Judging place) (enter s c frame) w (rows-enter s c frame w)
-rows-arrive_in s marks c w place (Whole frame) (FullFeature session) = rows-serve marks c place frame w
-rows-arrive_in s marks c w place (Whole frame) Closing = refl
-rows-arrive_in s marks c w place (Whole frame) Over = refl
-rows-arrive_in s marks c w place TooLong phase = rows-cond (reads phase) (close c w) w (rows_in w) (rows-close c w) refl
+on-arrive_in : (s : Setting) (marks : List Mark) (c : ℕ) (w : World) (place : ℕ) (arrival : Arrival) (phase : Phase) → GoOn w (arrive_in s marks c w place arrival phase)
+on-arrive_in s marks c w place (Whole frame) LoggingIn = on-take_step marks c (Judging place) (enter s c frame) w (on-enter s c frame w)
+on-arrive_in s marks c w place (Whole frame) (FullFeature session) = on-serve marks c place frame w
+on-arrive_in s marks c w place (Whole frame) Closing = on-same w
+on-arrive_in s marks c w place (Whole frame) Over = on-same w
+on-arrive_in s marks c w place TooLong phase = on-cond (reads phase) (close c w) w w (on-close c w) (on-same w)
 
-rows-arrive_at : (s : Setting) (marks : List Mark) (c : ℕ) (w : World) (place : ℕ) (arrival : Arrival) (o : Option Life) → rows_in (arrive_at s marks c w place arrival o) ≡ rows_in w
-rows-arrive_at s marks c w place arrival None = refl
-rows-arrive_at s marks c w place arrival (Some life) = rows-arrive_in s marks c w place arrival life.phase
+on-arrive_at : (s : Setting) (marks : List Mark) (c : ℕ) (w : World) (place : ℕ) (arrival : Arrival) (o : Option Life) → GoOn w (arrive_at s marks c w place arrival o)
+on-arrive_at s marks c w place arrival None = on-same w
+on-arrive_at s marks c w place arrival (Some life) = on-arrive_in s marks c w place arrival life.phase
 
-rows-arrive : (s : Setting) (marks : List Mark) (c : ℕ) (w : World) (arrival : ℕ × Arrival) → rows_in (arrive s marks c w arrival) ≡ rows_in w
+on-arrive : (s : Setting) (marks : List Mark) (c : ℕ) (w : World) (arrival : ℕ × Arrival) → GoOn w (arrive s marks c w arrival)
 unfolding arrive
-rows-arrive s marks c w arrival = rows-arrive_at s marks c w arrival.0 arrival.1 (present c w)
+on-arrive s marks c w arrival = on-arrive_at s marks c w arrival.0 arrival.1 (present c w)
+
+on-bring : (s : Setting) (marks : List Mark) (c : ℕ) (piece : List ℕ) (w : World) → GoOn w (bring s marks c piece w)
+unfolding bring
+on-bring s marks c piece w =
+    let v = changed (longer piece) c w in
+    let u = fold (arrive s marks c) v (brought (present c w) piece) in
+    on-then w v (take_step marks c Ending (λ v. v) u) (on-changed (longer piece) c w (silent (longer piece) (λ life e. e) (λ life. refl) (λ life. refl)))
+    (on-then v u (take_step marks c Ending (λ v. v) u) (on-fold (arrive s marks c) v (brought (present c w) piece) (on-arrive s marks c)) (on-take_step marks c Ending (λ v. v) u (on-same u)))
+
+pub answers_stay : AnswersStay
+answers_stay s h marks c piece = subst (λ (v : World). GoOn (world s h) v) (sym (world-push s h (marked marks (Bytes c piece)))) (on-bring s marks c piece (world s h))
+
+-- ---- the rows
+
+row_goes : (b : Bool) (x y : Life) → GoesOn x y → is_over x.phase ≡ b → row_of y ≡ row_of x
+row_goes true x y goes e = ap row_of (goes.still e)
+row_goes false x y goes e = open_is y (goes.over ∙ e) ∙ ap open_row goes.connection ∙ sym (open_is x e)
+
+rows_go : (xs ys : List Life) → LivesGoOn xs ys → map row_of ys ≡ map row_of xs
+rows_go [] [] goes = refl
+rows_go [] (y ∷ ys) goes = absurd goes
+rows_go (x ∷ xs) [] goes = absurd goes
+rows_go (x ∷ xs) (y ∷ ys) goes =
+    ap (λ (r : RowState). r ∷ map row_of ys) (row_goes (is_over x.phase) x y goes.0 refl) ∙ ap (λ (rows : List RowState). row_of x ∷ rows) (rows_go xs ys goes.1)
 
 pub rows-bring : (s : Setting) (marks : List Mark) (c : ℕ) (piece : List ℕ) (w : World) → rows_in (bring s marks c piece w) ≡ rows_in w
-unfolding bring
-rows-bring s marks c piece w =
-    rows-take_step marks c Ending (λ v. v) _ refl
-    ∙ rows-fold (arrive s marks c) (changed (longer piece) c w) (brought (present c w) piece) (rows-arrive s marks c)
-    ∙ rows-changed (longer piece) c w (λ life e. (e, refl))
+rows-bring s marks c piece w = rows_go w.lives (bring s marks c piece w).lives (on-bring s marks c piece w)

@@ -21,5 +21,6 @@ pub mod Events
 pub mod Machine
 pub mod Stands
 pub mod Runs
+pub mod Laws
 pub mod ExamplesBytes
 pub mod ExamplesWorld

@@ -1,9 +1,16 @@
-//! What holds of the definitions. The function does nothing: its contract is the law.
+//! What holds of the definitions. The functions do nothing: their contracts are the laws.
 
 ghost use Rattle.iscsi_target.specs.History.{ArrivalsInPieces};
+ghost use Rattle.iscsi_target.specs.Laws.{AnswersStay};
 
 /// However the bytes of a connection are cut into pieces, the frames that become whole are those of
 /// the joined bytes, in order, and then comes at most one header that names too much data.
 pub fn arrivals_in_pieces()
     ensures { ArrivalsInPieces }
+{}
+
+/// What was answered stays answered: bytes begin and end no life of a connection, and each life is
+/// answered what it was answered before, and perhaps more.
+pub fn answers_stay()
+    ensures { AnswersStay }
 {}

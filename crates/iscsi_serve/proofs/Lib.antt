@@ -1,0 +1,5 @@
+pub mod Rows
+pub mod Steps
+pub mod Moments
+pub mod Goings
+pub mod Turning

@@ -1,0 +1,12 @@
+pub use Rattle.iscsi_target.specs.History
+pub use Rattle.iscsi_target.specs.Life
+pub use Rattle.iscsi_target.specs.World
+pub use Rattle.iscsi_target.specs.Output
+pub use Rattle.iscsi_target.specs.Machine
+pub use Rattle.iscsi_target.specs.Stands
+pub mod Fault
+pub mod Log
+pub mod Told
+pub mod Served
+pub mod Turn
+pub mod Progress

@@ -1,0 +1,30 @@
+-- What the running loop keeps.
+use Rattle.std.specs.Prelude.{◌≡◌, ◌<◌, ℕ, List, [], ◌∷◌, ◌++◌, length, map, ⊤}
+use Rattle.iscsi_target.specs.History.{History, connection_limit}
+use Rattle.iscsi_target.specs.Life.{Life, is_over, out_of}
+use Rattle.iscsi_target.specs.World.{Setting, present, world}
+use Rattle.iscsi_target.specs.Output.{out_now}
+use Rattle.iscsi_target.specs.Machine.{Machine, link_at}
+use Rattle.iscsi_target.specs.Stands.{Stands}
+use Rattle.iscsi_serve.specs.Log.{Entry, Written, events, written, written_on}
+
+-- what was written on a connection is a front of what the World answers in its life
+pub record IsFront (row : Written) (life : Life) : Type 0 where
+  pub connection : row.connection ≡ life.connection
+  pub closed : row.is_closed ≡ is_over life.phase
+  pub front : (more : List ℕ) × (out_of life ≡ row.bytes ++ more)
+
+-- of each life
+abbrev pub AreFronts : List Written → List Life → Type 0
+AreFronts [] [] = ⊤
+AreFronts (row ∷ rows) (life ∷ lives) = IsFront row life × AreFronts rows lives
+AreFronts _ _ = ⊥
+
+-- What the ports told is what has happened to the target: it stands where the World of this history
+-- does, whose events are those of the log, and of each life's answers a front was written, which on an
+-- open connection is all but what waits.
+pub record IsServed (s : Setting) (history : History) (log : List Entry) (target : Machine) : Type 0 where
+  pub events : map (λ h. h.event) history ≡ events log
+  pub stands : Stands s (λ c. length (written_on c log)) target history
+  pub fronts : AreFronts (written log) (world s history).lives
+  pub waits : (c : ℕ) → c < connection_limit → written_on c log ++ (link_at target c).waiting ≡ out_now (present c (world s history))

@@ -1,0 +1,31 @@
+-- A call of the ports as an entry of their log.
+use Rattle.std.specs.Prelude.{ℕ, List, take, Some, None, Result, Ok, Err}
+use Rattle.iscsi_serve.specs.Log as log
+use Rattle.iscsi_serve.specs.Log.{Entry, Carried, Polled, Open, NobodyCame, AcceptFailed}
+use Rattle.iscsi_serve.specs.declared.told.Named.{Named}
+use Rattle.iscsi_serve.specs.declared.told.PortFault.{PortFault}
+use Rattle.iscsi_serve.specs.declared.told.Told.{Told}
+use Rattle.iscsi_serve.specs.declared.told.Told.TheVariants as told
+use Rattle.iscsi_serve.specs.declared.told.Accepted.{Accepted}
+use Rattle.iscsi_serve.specs.declared.told.Accepted.TheVariants as accepted
+
+-- what a call with this buffer told
+abbrev pub carried_by : Told → List ℕ → Carried
+carried_by (told.Bytes n) buffer = log.Bytes (take n buffer)
+carried_by told.End buffer = log.End
+carried_by told.Fault buffer = log.Fault
+
+abbrev pub poll_entry : Result Named PortFault → Entry
+poll_entry (Ok named) = Polled (Some named)
+poll_entry (Err fault) = Polled None
+
+abbrev pub accept_entry : ℕ → Result Accepted PortFault → Entry
+accept_entry c (Ok accepted.Connection) = Open c
+accept_entry c (Ok accepted.Nobody) = NobodyCame
+accept_entry c (Err fault) = AcceptFailed
+
+-- how many bytes a call gave or took
+abbrev pub count_of : Told → ℕ
+count_of (told.Bytes n) = n
+count_of told.End = 0
+count_of told.Fault = 0
