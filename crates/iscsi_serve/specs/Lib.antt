@@ -7,6 +7,7 @@ pub use Rattle.iscsi_target.specs.Stands
 pub mod Fault
 pub mod Log
 pub mod Told
+pub mod Entries
 pub mod Served
 pub mod Turn
 pub mod Progress

@@ -6,7 +6,8 @@ ghost use Rattle.iscsi_serve.specs.Told.{carried_by, count_of, poll_entry, accep
 
 use crate::told::{Accepted, Named, PortFault, Told};
 
-/// A listener and the connections that it accepted, each under a number that the caller chose.
+/// A listener and the connections that it accepted, each under a number that the caller chose: 0 to
+/// 63, and 64 for one that is closed at once.
 ///
 /// `log` is what they told, call by call. It says so where `tells` holds after the call; where it
 /// does not hold, it does not hold again.
@@ -23,23 +24,27 @@ pub trait Ports {
 
     /// Accepts a connection that waits, under this number.
     fn accept(&mut self, c: usize) -> Result<Accepted, PortFault>
+        requires { c ≤ 64 }
         ensures log { tells self.new ≡ true → log self.new ≡ log self.old ++ accept_entry c result ∷ [] }
         ensures back { tells self.new ≡ true → tells self.old ≡ true };
 
     /// Reads what has come on a connection into the front of the buffer.
     fn read(&mut self, c: usize, buffer: &mut [u8]) -> Told
+        requires { c < 64 }
         ensures count { count_of result ≤ length buffer.new }
         ensures log { tells self.new ≡ true → log self.new ≡ log self.old ++ Read c (length buffer.new) (carried_by result buffer.new) ∷ [] }
         ensures back { tells self.new ≡ true → tells self.old ≡ true };
 
     /// Writes a front of these bytes to a connection.
     fn write(&mut self, c: usize, bytes: &[u8]) -> Told
+        requires { c < 64 }
         ensures count { count_of result ≤ length bytes.now }
         ensures log { tells self.new ≡ true → log self.new ≡ log self.old ++ Wrote c (length bytes.now) (carried_by result bytes.now) ∷ [] }
         ensures back { tells self.new ≡ true → tells self.old ≡ true };
 
     /// Closes a connection.
     fn close(&mut self, c: usize)
+        requires { c ≤ 64 }
         ensures log { tells self.new ≡ true → log self.new ≡ log self.old ++ Close c ∷ [] }
         ensures back { tells self.new ≡ true → tells self.old ≡ true };
 }

@@ -48,11 +48,8 @@ fn accept_one<P: Ports>(ports: &mut P, target: &mut Target) -> Result<(), ServeF
         Ok(Accepted::Connection) => {
             if c == CONNECTIONS {
                 ports.close(c);
-            } else {
-                let opened = target.open(c);
-                if let Err(Starved { .. }) = opened {
-                    ports.close(c);
-                }
+            } else if target.open(c).is_err() {
+                ports.close(c);
             }
         }
         Err(PortFault) => return Err(ServeFault::Accept),
@@ -67,8 +64,10 @@ fn feed(target: &mut Target, c: usize, piece: &[u8])
     ensures { (s : Setting) (sent : ℕ → ℕ) (h : History) → Stands s sent target.old h
         → (marks : List Mark) × ((marks ≡ []) ⊎ IsStarved c (present c (world s h)) piece.now marks) × Stands s sent target.new (h ++ marked marks (Bytes c piece.now) ∷ []) }
 {
-    let fed = target.feed(c, piece);
-    if let Err(Starved { .. }) = fed {}
+    match target.feed(c, piece) {
+        Ok(()) => {}
+        Err(Starved { .. }) => {}
+    }
 }
 
 /// How many bytes to read of a connection: none where no read is due.

@@ -13,7 +13,7 @@ pub returns-then-c-eq-CONNECTIONS-clause-ok : goal.returns-then-c-eq-CONNECTIONS
 returns-then-c-eq-CONNECTIONS-clause-ok g c = λ tells s m at.
     too_many s m _ _ _ _ _ c.if-c-eq-CONNECTIONS.true at (c.free_number-c.ensures.value ∙ free_same s m _ _ at) (rw c.in-Ok-Connection.field-0-is at (c.in-Ok-Connection.ensures.log (c.close.ensures.back tells))) (c.close.ensures.log tells)
 
-pub returns-in_default-clause-ok : goal.returns-in_default-clause-ok
-returns-in_default-clause-ok g c = λ tells s m at.
+pub returns-else-is_err-clause-ok : goal.returns-else-is_err-clause-ok
+returns-else-is_err-clause-ok g c = λ tells s m at.
     somebody s m _ _ _ _ _ (omega (arith, c.free_number-c.ensures.range, c.if-c-eq-CONNECTIONS.false)) at (c.free_number-c.ensures.value ∙ free_same s m _ _ at)
-    (c.free_number-c.ensures.free (omega (arith, c.free_number-c.ensures.range, c.if-c-eq-CONNECTIONS.false))) (rw c.in-Ok-Connection.field-0-is at (c.in-Ok-Connection.ensures.log tells)) c.open-opened.ensures.stands
+    (c.free_number-c.ensures.free (omega (arith, c.free_number-c.ensures.range, c.if-c-eq-CONNECTIONS.false))) (rw c.in-Ok-Connection.field-0-is at (c.in-Ok-Connection.ensures.log tells)) c.open.ensures.stands

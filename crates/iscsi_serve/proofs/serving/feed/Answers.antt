@@ -4,5 +4,5 @@ use Rattle.iscsi_serve.proofs.serving.feed.Goals as goal
 pub returns-in-Err : goal.returns-in-Err
 returns-in-Err c = λ s sent h stands. (let starved = c.in-Err.ensures.starved s sent h stands in (starved.0, inr starved.1, starved.2))
 
-pub returns-in_default : goal.returns-in_default
-returns-in_default c = λ s sent h stands. ([], inl refl, c.in_default.ensures.stands s sent h stands)
+pub returns-in-Ok : goal.returns-in-Ok
+returns-in-Ok c = λ s sent h stands. ([], inl refl, c.in-Ok.ensures.stands s sent h stands)
