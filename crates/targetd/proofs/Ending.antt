@@ -1,5 +1,5 @@
 -- How a replay ends, and a run.
-use Rattle.std.proofs.Common.{◌≡◌, ◌≢◌, ℕ, ◌<◌, List, [], ◌++◌, length, take, refl, sym, ap, subst, ◌∙◌, Option, None, Some, append_assoc, append-nil, Result, Ok, Err}
+use Rattle.std.proofs.Common.{Bor, ◌≡◌, ◌≢◌, ℕ, ◌<◌, List, [], ◌++◌, length, take, refl, sym, ap, subst, ◌∙◌, Option, None, Some, append_assoc, append-nil, Result, Ok, Err}
 use Rattle.std.specs.Prelude.{OnOk, IfErr, IsErrAnd, IfSome, option_map}
 use Rattle.std.specs.List.{slice_split}
 use Rattle.std.specs.Io.KnownBytes.{Appends, Consumes, IsAtEnd, ReadConsumes}
@@ -22,6 +22,10 @@ use Rattle.targetd.specs.Printed.{all_sent, HasSentAll}
 use Rattle.targetd.specs.Reply.{reply}
 use Rattle.targetd.specs.Engine.{HasTaken, Stops, Finishes, StopsLast}
 use Rattle.targetd.specs.Replay.{Ends, EndsAtLine, EndsUnread, EndsBy}
+use Rattle.targetd.specs.Serve.{listening_line, HasBegun, Announces, Serves}
+use Rattle.targetd.specs.Fault.{bind_fault}
+use Rattle.iscsi_serve.specs.declared.bind_fault.BindFault.{BindFault}
+use Rattle.iscsi_serve.specs.declared.bind_fault.BindFault.TheVariants as binds
 use Rattle.targetd.specs.Run.{setting_of, configured_by, Replays, Runs}
 use Rattle.targetd.specs.Words.{mode_view}
 use Rattle.targetd.specs.declared.words.Mode.{Mode}
@@ -67,6 +71,7 @@ ends faults.OutOfMemory s r0 r1 w0 w1 input text stop e = e
 ends faults.Output s r0 r1 w0 w1 input text stop e = e
 ends faults.Input s r0 r1 w0 w1 input text stop e = absurd stop
 ends faults.Usage s r0 r1 w0 w1 input text stop e = absurd stop
+ends faults.Socket s r0 r1 w0 w1 input text stop e = absurd stop
 ends (faults.Configuration number) s r0 r1 w0 w1 input text stop e = absurd stop
 
 -- the input ended, and its last line stopped the replay
@@ -140,8 +145,64 @@ pub replay_ends : (result : Result (Unit {0}) Fault) (document : Document) (targ
 replay_ends (Ok x) document target r0 r1 w0 w1 stands done fails = done (setting_of document) stands
 replay_ends (Err fault) document target r0 r1 w0 w1 stands done fails = fails (setting_of document) stands
 
-pub runs : (mode : Mode) (file : Option (List ℕ)) (result : Result (Unit {0}) Fault) (r0 r1 w0 w1 : Option (List ℕ)) → Replays r0 r1 w0 w1 (configured_by file) result → Runs r0 r1 w0 w1 (Some (mode_view mode)) result
-runs (modes.Replay config) file result r0 r1 w0 w1 h = (file, h)
+pub runs_replay : (config : Bor (List ℕ)) (file : Option (List ℕ)) (result : Result (Unit {0}) Fault) (r0 r1 w0 w1 : Option (List ℕ)) → Replays r0 r1 w0 w1 (configured_by file) result → Runs r0 r1 w0 w1 (Some (mode_view (modes.Replay config))) result
+runs_replay config file result r0 r1 w0 w1 h = (file, h)
+
+pub runs_serve : (config : Bor (List ℕ)) (turns : ℕ) (file : Option (List ℕ)) (result : Result (Unit {0}) Fault) (r w0 w1 : Option (List ℕ)) → Serves w0 w1 (configured_by file) result → Runs r r w0 w1 (Some (mode_view (modes.Serve config turns))) result
+runs_serve config turns file result r w0 w1 h = (Keeps-refl r, (file, h))
+
+-- ---- serving
+
+begun_none : (w : Option (List ℕ)) → HasBegun w w
+begun_none w = ([], [], listening_line [], refl, Appends-nil w)
+
+serve_memory : (w : Option (List ℕ)) (configured : Result Document ConfigFault) → Serves w w configured (Err faults.OutOfMemory)
+serve_memory w (Ok document) = begun_none w
+serve_memory w (Err fault) = (Keeps-refl w, λ other. absurd (other refl))
+
+pub serve_memory_ends : (result : Result (Unit {0}) Fault) (w : Option (List ℕ)) (configured : Result Document ConfigFault) → IsErrAnd result (λ fault. fault ≡ faults.OutOfMemory) → Serves w w configured result
+serve_memory_ends (Ok x) w configured is = absurd is
+serve_memory_ends (Err fault) w configured is = subst (λ (fault : Fault). Serves w w configured (Err fault)) (sym is) (serve_memory w configured)
+
+serve_fault : (w : Option (List ℕ)) (configured : Result Document ConfigFault) (fault : ConfigFault) → configured ≡ Err fault → Serves w w configured (Err (program_fault fault))
+serve_fault w configured fault e = rw e (Keeps-refl w, λ _. refl)
+
+serve_or_memory : (w : Option (List ℕ)) (configured : Result Document ConfigFault) (fault : ConfigFault) → (fault ≢ why.OutOfMemory → configured ≡ Err fault) → Serves w w configured (Err (program_fault fault))
+serve_or_memory w configured why.OutOfMemory e = serve_memory w configured
+serve_or_memory w configured why.Unreadable e = serve_fault w configured why.Unreadable (e (λ x. cc))
+serve_or_memory w configured why.NotToml e = serve_fault w configured why.NotToml (e (λ x. cc))
+serve_or_memory w configured why.Field e = serve_fault w configured why.Field (e (λ x. cc))
+serve_or_memory w configured why.Limit e = serve_fault w configured why.Limit (e (λ x. cc))
+serve_or_memory w configured why.Twice e = serve_fault w configured why.Twice (e (λ x. cc))
+serve_or_memory w configured why.NoLunZero e = serve_fault w configured why.NoLunZero (e (λ x. cc))
+
+pub serve_fault_ends : (result : Result (Unit {0}) Fault) (w : Option (List ℕ)) (configured : Result Document ConfigFault) (fault : ConfigFault) → IsErrAnd result (λ seen. seen ≡ program_fault fault)
+    → (fault ≢ why.OutOfMemory → configured ≡ Err fault) → Serves w w configured result
+serve_fault_ends (Ok x) w configured fault is e = absurd is
+serve_fault_ends (Err seen) w configured fault is e = subst (λ (seen : Fault). Serves w w configured (Err seen)) (sym is) (serve_or_memory w configured fault e)
+
+bind_ends : (w : Option (List ℕ)) (error : BindFault) → Announces w w (Err (bind_fault error))
+bind_ends w binds.Socket = begun_none w
+bind_ends w binds.Memory = begun_none w
+
+-- nothing listens
+pub unbound_ends : (result : Result (Unit {0}) Fault) (w : Option (List ℕ)) (error : BindFault) → IsErrAnd result (λ seen. seen ≡ bind_fault error) → Announces w w result
+unbound_ends (Ok x) w error is = absurd is
+unbound_ends (Err seen) w error is = subst (λ (seen : Fault). Announces w w (Err seen)) (sym is) (bind_ends w error)
+
+pub memory_announces : (result : Result (Unit {0}) Fault) (w : Option (List ℕ)) → IsErrAnd result (λ fault. fault ≡ faults.OutOfMemory) → Announces w w result
+memory_announces (Ok x) w is = absurd is
+memory_announces (Err fault) w is = subst (λ (fault : Fault). Announces w w (Err fault)) (sym is) (begun_none w)
+
+pub output_announces : (result : Result (Unit {0}) Fault) (w0 w1 : Option (List ℕ)) (address : List ℕ) (text part unprinted : List ℕ) → IsErrAnd result (λ fault. fault ≡ faults.Output) → text ≡ listening_line address → text ≡ part ++ unprinted → Appends w0 w1 part
+    → Announces w0 w1 result
+output_announces (Ok x) w0 w1 address text part unprinted is e cut printed = absurd is
+output_announces (Err fault) w0 w1 address text part unprinted is e cut printed = subst (λ (fault : Fault). Announces w0 w1 (Err fault)) (sym is) (address, part, unprinted, sym e ∙ cut, printed)
+
+pub socket_announces : (result : Result (Unit {0}) Fault) (w0 w1 : Option (List ℕ)) (address text : List ℕ) → IsErrAnd result (λ fault. fault ≡ faults.Socket) → text ≡ listening_line address → Appends w0 w1 text → Announces w0 w1 result
+socket_announces (Ok x) w0 w1 address text is e printed = absurd is
+socket_announces (Err fault) w0 w1 address text is e printed =
+    subst (λ (fault : Fault). Announces w0 w1 (Err fault)) (sym is) (address, text, [], sym e ∙ sym (append-nil text), printed)
 
 -- ---- a file, up to a limit
 

@@ -9,3 +9,4 @@ pub mod LineLemmas
 pub mod Taking
 pub mod Faults
 pub mod Ending
+pub mod Options

@@ -77,6 +77,7 @@ shown s past old w0 w1 faults.OutOfMemory f = ([], Appends-kept w0 w0 w1 [] (App
 shown s past old w0 w1 faults.Output f = (f.0, f.4)
 shown s past old w0 w1 faults.Input f = absurd f
 shown s past old w0 w1 faults.Usage f = absurd f
+shown s past old w0 w1 faults.Socket f = absurd f
 shown s past old w0 w1 (faults.Configuration number) f = absurd f
 
 -- the pending line is the next one of the input
@@ -108,6 +109,7 @@ stopped old w0 w1 faults.Output s bytes text input h f behind e = (
 )
 stopped old w0 w1 faults.Input s bytes text input h f behind e = absurd f
 stopped old w0 w1 faults.Usage s bytes text input h f behind e = absurd f
+stopped old w0 w1 faults.Socket s bytes text input h f behind e = absurd f
 stopped old w0 w1 (faults.Configuration number) s bytes text input h f behind e = absurd f
 
 -- a newline ends the pending line, and it stops the replay

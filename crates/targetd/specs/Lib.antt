@@ -12,4 +12,5 @@ pub mod Lines
 pub mod Reply
 pub mod Engine
 pub mod Replay
+pub mod Serve
 pub mod Run

@@ -8,8 +8,9 @@ use Rattle.targetd.specs.declared.fault.Fault.{Fault}
 use Rattle.targetd.specs.declared.fault.Fault.TheVariants.{Usage, OutOfMemory}
 use Rattle.targetd.specs.Configuration.{Document, names_of, units_of}
 use Rattle.targetd.specs.Config.{program_fault, file_config_of}
-use Rattle.targetd.specs.Words.{Command, Replay}
+use Rattle.targetd.specs.Words.{Command, Replay, Serve}
 use Rattle.targetd.specs.Replay.{Ends, EndsBy}
+use Rattle.targetd.specs.Serve.{Serves}
 
 -- what the target of a configuration is made with
 abbrev pub setting_of : Document → Setting
@@ -36,3 +37,4 @@ module _ (unread unread_then printed printed_then : Option (List ℕ)) where
   abbrev pub Runs : Option Command → Result (Unit {0}) Fault → Type 0
   Runs None result = IsUntouched × (result ≡ Err Usage)
   Runs (Some (Replay config)) result = (file : Option (List ℕ)) × Replays (configured_by file) result
+  Runs (Some (Serve config turns)) result = Keeps unread unread_then × ((file : Option (List ℕ)) × Serves printed printed_then (configured_by file) result)

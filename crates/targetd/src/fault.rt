@@ -1,9 +1,10 @@
 //! How a run ends that does not reach the end of its input.
 
 ghost use Rattle.std.specs.Prelude.{◌≡◌, Result};
-ghost use Rattle.targetd.specs.Fault.{status_of as exit_status};
-ghost use Rattle.targetd.specs.declared.fault.Fault.TheVariants.{OutOfMemory};
+ghost use Rattle.targetd.specs.Fault.{status_of as exit_status, bind_fault};
+ghost use Rattle.targetd.specs.declared.fault.Fault.TheVariants.{OutOfMemory, Socket};
 
+use iscsi_serve::{BindFault, ServeFault};
 use iscsi_target::Memory;
 use std::alloc::{AllocError, AllocFailed};
 use thiserror::Error;
@@ -20,6 +21,9 @@ pub enum Fault {
     /// A line of the input, counted from 1, is of another form, or breaks a condition.
     #[error("targetd: line {line} refused")]
     Refused { line: u64 },
+    /// The address cannot be listened on, or the sockets failed.
+    #[error("targetd: socket fault")]
+    Socket,
     /// Standard input failed, or had no end.
     #[error("targetd: stream fault")]
     Input,
@@ -39,7 +43,7 @@ pub fn status_of(ended: &Result<(), Fault>) -> u8
         Ok(()) => 0,
         Err(Fault::Configuration { .. }) => 1,
         Err(Fault::Usage | Fault::Refused { .. }) => 2,
-        Err(Fault::Input | Fault::Output | Fault::OutOfMemory) => 3,
+        Err(Fault::Socket | Fault::Input | Fault::Output | Fault::OutOfMemory) => 3,
     }
 }
 
@@ -64,5 +68,24 @@ impl From<Memory> for Fault {
 
     fn from(_error: Memory) -> Fault {
         Fault::OutOfMemory
+    }
+}
+
+impl From<BindFault> for Fault {
+    ghost from_gives = { λ error fault. fault ≡ bind_fault error };
+
+    fn from(error: BindFault) -> Fault {
+        match error {
+            BindFault::Socket => Fault::Socket,
+            BindFault::Memory => Fault::OutOfMemory,
+        }
+    }
+}
+
+impl From<ServeFault> for Fault {
+    ghost from_gives = { λ _ fault. fault ≡ Socket };
+
+    fn from(_error: ServeFault) -> Fault {
+        Fault::Socket
     }
 }

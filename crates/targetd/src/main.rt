@@ -1,6 +1,13 @@
 //! An iSCSI target as a program.
 //!
 //! ```text
+//! targetd serve --config F [--turns N]
+//! ```
+//!
+//! makes the target that the TOML file F describes, listens on its address, prints
+//! `listening on ADDR`, and serves initiators, for N turns or without end.
+//!
+//! ```text
 //! targetd replay --config F
 //! ```
 //!
@@ -30,6 +37,7 @@ mod printing;
 mod replay;
 mod reply;
 mod run;
+mod serve;
 mod words;
 
 use arguments::arguments;

@@ -5,17 +5,21 @@ ghost use Rattle.std.specs.IoError.{error_kind};
 ghost use Rattle.targetd.specs.Config.{file_config_of};
 ghost use Rattle.targetd.specs.Words.{mode_in};
 ghost use Rattle.targetd.specs.Run.{Replays, Runs};
+ghost use Rattle.targetd.specs.Serve.{Serves};
 
 use crate::config::fault::ConfigFault;
 use crate::config::{MOST_BYTES, file_config};
 use crate::fault::Fault;
 use crate::replay::replay;
+use crate::serve::serve;
 use crate::words::{Mode, mode_of};
+use iscsi_serve::MioPorts;
 use iscsi_target::Target;
 use std::alloc::Global;
 use std::fs::File;
 use std::io;
 use std::io::{ErrorKind, Read, Write};
+use std::net::Net;
 use std::rt::Files;
 
 /// What an error of the system at the configuration's file is told as.
@@ -66,17 +70,41 @@ fn replay_at<R: Read, W: Write>(
     replay(alloc, target, reader, writer)
 }
 
+/// Serves at the configuration whose file has these contents, for so many turns.
+fn serve_at<W: Write>(
+    rt: &(impl AllocGlobal + Net),
+    contents: &[u8],
+    count: u64,
+    writer: &mut W,
+) -> Result<(), Fault>
+    ensures { Serves (W.contents writer.old) (W.contents writer.new) (file_config_of contents.now) result }
+{
+    let alloc = rt.alloc();
+    let configuration = file_config(alloc, contents)?;
+    let units = configuration.units(alloc)?;
+    let ports = MioPorts::new(rt, alloc, configuration.listen.as_str(), None)?;
+    let target = Target::new(alloc, configuration.into_config(alloc)?, units)?;
+    serve(alloc, ports, target, count, writer)
+}
+
 /// Does what the words say that stand behind the program's name, from the first to the end of the
 /// input.
 pub fn run<R: Read, W: Write>(
-    rt: &(impl Files + AllocGlobal),
+    rt: &(impl Files + AllocGlobal + Net),
     words: &[String],
     reader: &mut R,
     writer: &mut W,
 ) -> Result<(), Fault>
     ensures { Runs (R.remaining reader.old) (R.remaining reader.new) (W.contents writer.old) (W.contents writer.new) (mode_in (map string_bytes words.now)) result }
 {
-    let Mode::Replay { config } = mode_of(words)?;
-    let contents = load(rt, config)?;
-    replay_at(rt.alloc(), contents.as_slice(), reader, writer)
+    match mode_of(words)? {
+        Mode::Replay { config } => {
+            let contents = load(rt, config)?;
+            replay_at(rt.alloc(), contents.as_slice(), reader, writer)
+        }
+        Mode::Serve { config, turns } => {
+            let contents = load(rt, config)?;
+            serve_at(rt, contents.as_slice(), turns, writer)
+        }
+    }
 }
