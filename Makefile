@@ -1,5 +1,5 @@
 # Pitsagul: each target works from a fresh clone on a machine with the Rattle kit (the command rt).
-.PHONY: demo demo-unproved demo-proved build test clean
+.PHONY: demo demo-unproved demo-proved build test bench clean
 
 # Which demo `make demo` is: unproved takes about a minute, proved proves every crate first.
 DEMO = unproved
@@ -22,6 +22,11 @@ build:
 # The gate: the proofs, the wrong bodies, the cases, failing calls, the pages. About 20 minutes.
 test:
 	@./tools/test
+
+# Requests each second and processor time, beside a plain C program, on this machine.
+bench:
+	@test -x crates/targetd/out/targetd || ./tools/build
+	@./tools/bench
 
 clean:
 	@echo "== removing what was built"

@@ -28,7 +28,6 @@ use Rattle.iscsi_serve.specs.declared.bind_fault.BindFault.{BindFault}
 use Rattle.iscsi_serve.specs.declared.bind_fault.BindFault.TheVariants as binds
 use Rattle.targetd.specs.Run.{setting_of, configured_by, Replays, Runs}
 use Rattle.targetd.specs.Words.{mode_view}
-use Rattle.targetd.specs.declared.words.Mode.{Mode}
 use Rattle.targetd.specs.declared.words.Mode.TheVariants as modes
 use Rattle.targetd.proofs.LineLemmas.{split_last}
 

@@ -1,7 +1,4 @@
-use Rattle.std.proofs.Common.{string_bytes}
-use Rattle.targetd.proofs.Lists.{as_many}
-use Rattle.targetd.proofs.Ending.{serve_fault_ends, serve_memory_ends, unbound_ends}
-use Rattle.targetd.specs.Configuration.{targets_view}
+use Rattle.targetd.proofs.Ending.{serve_memory_ends}
 use Rattle.targetd.proofs.run.serve_at.Goals as goal
 
 pub returns-in_err-into_config : goal.returns-in_err-into_config

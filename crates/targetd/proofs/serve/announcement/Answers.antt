@@ -1,4 +1,3 @@
-use Rattle.std.proofs.Common.{◌≡◌}
 use Rattle.std.specs.Net.Text.{socket_text}
 use Rattle.targetd.proofs.serve.announcement.Goals as goal
 

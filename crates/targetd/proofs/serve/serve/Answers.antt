@@ -1,5 +1,5 @@
-use Rattle.std.proofs.Common.{◌≡◌, ◌∙◌, string_bytes}
-use Rattle.targetd.proofs.Ending.{memory_announces, output_announces, socket_announces}
+use Rattle.std.proofs.Common.{◌∙◌}
+use Rattle.targetd.proofs.Ending.{memory_announces, socket_announces}
 use Rattle.targetd.proofs.serve.serve.Goals as goal
 
 pub returns-in_err-line : goal.returns-in_err-line

@@ -1,4 +1,4 @@
-use Rattle.std.proofs.Common.{◌≡◌, ◌∙◌, sym}
+use Rattle.std.proofs.Common.{◌∙◌, sym}
 use Rattle.targetd.proofs.Options.{attached_some, attached_none}
 use Rattle.targetd.proofs.words.attached.Goals as goal
 

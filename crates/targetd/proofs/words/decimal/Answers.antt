@@ -1,6 +1,4 @@
-use Rattle.std.proofs.Common.{◌≡◌, ◌<◌, ◌∙◌, length, true, sym, refl, ap, Some, Ok, Err, rules}
-use Rattle.std.specs.List.{list_all}
-use Rattle.std.specs.Char.{is_ascii_digit}
+use Rattle.std.proofs.Common.{◌<◌, length, sym, rules}
 use Rattle.targetd.proofs.Options.{parsed_some, parsed_none}
 use Rattle.targetd.proofs.words.decimal.Goals as goal
 
