@@ -1,0 +1,167 @@
+-- The dialogue of a login (RFC 7143 §6.3, §11.12, §11.13): what each request is answered, and what is remembered of it.
+use Rattle.std.specs.Prelude.{ℕ, ◌+◌, ◌^◌, ◌%◌, List, [], ◌∷◌, ◌++◌, length, take, drop, fold, Bool, true, false, ◌&&◌, ◌||◌, not, nat_lt, Option, Some, None, is_none, unwrap_or, option_map, codes, if◌then◌else◌, ⊤, ◌≡◌}
+use Rattle.std.specs.List.{filter_map}
+use Rattle.iscsi_pdu.specs.Header.{initiator_task_tag}
+use Rattle.iscsi_pdu.specs.LoginRequest.{is_transit, is_continued, current_stage, next_stage, isid, tsih}
+use Rattle.iscsi_pdu.specs.Frames.{Frame}
+use Rattle.iscsi_pdu.specs.declared.stamp.Stamp.{Stamp}
+use Rattle.iscsi_pdu.specs.declared.stage.Stage.{Stage}
+use Rattle.iscsi_pdu.specs.declared.stage.Stage.TheVariants.{OperationalNegotiation, FullFeaturePhase}
+use Rattle.iscsi_pdu.specs.declared.answer.Answer.{Answer}
+use Rattle.iscsi_pdu.specs.declared.answer.Answer.TheVariants as answers
+use Rattle.iscsi_pdu.specs.declared.login_response.LoginRefusal.{LoginRefusal}
+use Rattle.iscsi_pdu.specs.declared.login_response.LoginStep.{LoginStep}
+use Rattle.iscsi_pdu.specs.declared.login_response.LoginStep.TheVariants as steps
+use Rattle.iscsi_pdu.specs.declared.login_response.LoginReply.{LoginReply}
+use Rattle.iscsi_pdu.specs.declared.login_response.LoginReply.TheVariants as replies
+use Rattle.iscsi_text.specs.Pairs.{Pair, text_of}
+use Rattle.iscsi_login.specs.Keys.{key_result}
+use Rattle.iscsi_login.specs.Values.{with_pairs}
+use Rattle.iscsi_login.specs.Directory.{Lookup}
+use Rattle.iscsi_login.specs.LoginState.{LoginState, new_login}
+use Rattle.iscsi_login.specs.Rules.{opening_with, stage_with, is_same_stage, is_due, joined, reads_text, pairs_with, asked_for, refusal_of}
+use Rattle.iscsi_login.specs.declared.opening.Opening.{Opening}
+use Rattle.iscsi_login.specs.declared.params.Params.{Params}
+use Rattle.iscsi_login.specs.declared.reply.Reply.{Reply}
+use Rattle.iscsi_login.specs.declared.reply.Reply.TheVariants.{GoOn, Full, Refused}
+use Rattle.iscsi_login.specs.declared.session.Session.{Session}
+
+-- ---- the text of an answer
+
+-- own: the longest piece of an answer's text, in bytes
+abbrev pub longest_piece : ℕ
+longest_piece = 8192
+
+abbrev pub answered_pair : Pair → Option Pair
+answered_pair pair = option_map (λ text. (pair.0, text)) (key_result pair.0 pair.1)
+
+-- RFC 7143 §13.9: told in the first whole answer
+abbrev pub portal_group : Option Session → List Pair
+portal_group None = (codes "TargetPortalGroupTag", codes "1") ∷ []
+portal_group (Some session) = []
+
+-- RFC 7143 §13.12: what the target takes in one PDU, declared in the first whole answer of the operational stage
+abbrev pub declaration : Bool → List Pair
+declaration is_told = if is_told then (codes "MaxRecvDataSegmentLength", codes "262144") ∷ [] else []
+
+-- the stage that a request is in is operational negotiation
+abbrev pub is_operational : List ℕ → Bool
+is_operational header = is_same_stage (current_stage header) (Some OperationalNegotiation)
+
+-- the target declares its segment with this request's answer
+abbrev pub declares : LoginState → List ℕ → Bool
+declares login header = is_operational header && not login.declared
+
+-- the pairs of a whole answer: the results stand in the order of the offers
+unfoldable pub answer_pairs : LoginState → List ℕ → List Pair → List Pair
+answer_pairs login header pairs = portal_group login.session ++ filter_map answered_pair pairs ++ declaration (declares login header)
+
+-- ---- what is remembered
+
+-- a request with C: its text is kept
+abbrev pub kept_with : LoginState → Frame → LoginState
+kept_with login request = record login { kept = joined login request }
+
+-- a whole text is read, and its answer is due
+unfoldable pub heard : List (List ℕ) → LoginState → List ℕ → List Pair → LoginState
+heard names login header pairs = record login {
+  kept = [];
+  earlier = login.earlier ++ pairs;
+  session = Some (unwrap_or login.session (asked_for names header pairs));
+  values = with_pairs login.values pairs;
+  declared = login.declared || is_operational header;
+  due = text_of (answer_pairs login header pairs);
+}
+
+-- what a request brings, before it is answered
+abbrev pub brought : List (List ℕ) → LoginState → Frame → LoginState
+brought names login request =
+    if reads_text login request then heard names login request.header (pairs_with login request)
+    else if is_due login then login
+    else kept_with login request
+
+-- RFC 7143 §11.13.6, §11.13.7: the stage changes with the last piece of an answer, where its request asks for it
+abbrev pub step_of : List ℕ → List ℕ → LoginStep
+step_of header due =
+    if nat_lt longest_piece (length due) then steps.Continued
+    else if is_transit header then steps.Enters (unwrap_or (next_stage header) FullFeaturePhase)
+    else steps.Stays
+
+abbrev pub stage_after : Option Stage → LoginStep → Option Stage
+stage_after stage (steps.Enters next) = Some next
+stage_after stage _ = stage
+
+-- the next piece of the answer is sent
+abbrev pub answered : LoginState → List ℕ → LoginState
+answered login header = record login {
+  opening = Some (opening_with login header);
+  stage = stage_after (stage_with login header) (step_of header login.due);
+  answers = (login.answers + 1) % 2 ^ 32;
+  due = drop longest_piece login.due;
+}
+
+-- what is remembered after a request that is not refused
+unfoldable pub advanced : List (List ℕ) → LoginState → Frame → LoginState
+advanced names login request = answered (brought names login request) request.header
+
+-- what is remembered of the requests of a login
+unfoldable pub remembered : List (List ℕ) → ℕ → List Frame → LoginState
+remembered names handle requests = fold (advanced names) (new_login handle) requests
+
+-- ---- the answer
+
+-- RFC 7143 §4.2.2.1, §4.2.2.2: StatSN counts the answers, ExpCmdSN is the CmdSN of the first request, and 32 commands may be sent (own)
+unfoldable pub login_stamp : LoginState → List ℕ → Stamp
+login_stamp login header =
+    let first = (opening_with login header).cmd_sn in
+    record { stat_sn = login.answers; exp_cmd_sn = first; max_cmd_sn = (first + 31) % 2 ^ 32 }
+
+unfoldable pub login_answer : LoginState → Frame → ℕ → LoginReply → Answer
+login_answer login request handle reply = answers.LoginResponse (record {
+  isid = isid request.header;
+  tsih = handle;
+  initiator_task_tag = initiator_task_tag request.header;
+  stamp = login_stamp login request.header;
+  reply = reply;
+})
+
+-- RFC 7143 §11.13: the next piece of the text that is due
+abbrev pub accepted : List ℕ → List ℕ → LoginReply
+accepted header due = replies.Accepted (record {
+  stage = unwrap_or (current_stage header) OperationalNegotiation;
+  step = step_of header due;
+  text = take longest_piece due;
+})
+
+-- what full feature phase begins with
+unfoldable pub params_of : LoginState → List ℕ → Session → Params
+params_of login header session = record {
+  session = session;
+  connection_id = (opening_with login header).connection_id;
+  first_cmd_sn = (opening_with login header).cmd_sn;
+  values = login.values;
+}
+
+-- the session has its TSIH from the answer on that begins full feature phase
+abbrev pub accepted_by : LoginState → Frame → Option Session → LoginStep → Reply
+accepted_by login request (Some session) (steps.Enters FullFeaturePhase) =
+    Full (login_answer login request login.handle (accepted request.header login.due)) (params_of login request.header session)
+accepted_by login request session step = GoOn (login_answer login request (tsih request.header) (accepted request.header login.due))
+
+-- the answer to what a request brought
+unfoldable pub reply_to : LoginState → Frame → Reply
+reply_to login request = accepted_by login request login.session (step_of request.header login.due)
+
+abbrev pub reply_unless : Option LoginRefusal → Lookup → LoginState → Frame → Reply
+reply_unless (Some refusal) lookup login request = Refused (login_answer login request (tsih request.header) (replies.Refused refusal))
+reply_unless None lookup login request = reply_to (brought lookup.names login request) request
+
+-- The reply to a request, by what is remembered of those before it.
+unfoldable pub reply_of : LoginState → Lookup → Frame → Reply
+reply_of login lookup request = reply_unless (refusal_of login lookup request) lookup login request
+
+-- what is remembered after a reply; full feature phase leaves nothing to remember
+abbrev pub IsAfter : List (List ℕ) → LoginState → Frame → Reply → LoginState → Type 0
+IsAfter names old request (GoOn answer) new = new ≡ advanced names old request
+IsAfter names old request (Refused answer) new = new ≡ old
+IsAfter names old request (Full answer params) new = ⊤
