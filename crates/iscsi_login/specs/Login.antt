@@ -36,25 +36,24 @@ abbrev pub answered_pair : Pair → Option Pair
 answered_pair pair = option_map (λ text. (pair.0, text)) (key_result pair.0 pair.1)
 
 -- RFC 7143 §13.9: told in the first whole answer
-abbrev pub portal_group : Option Session → List Pair
-portal_group None = (codes "TargetPortalGroupTag", codes "1") ∷ []
-portal_group (Some session) = []
+abbrev pub portal_group : Bool → List Pair
+portal_group is_first = if is_first then (codes "TargetPortalGroupTag", codes "1") ∷ [] else []
 
--- RFC 7143 §13.12: what the target takes in one PDU, declared in the first whole answer of the operational stage
+-- RFC 7143 §13.12: what the target takes in one PDU
 abbrev pub declaration : Bool → List Pair
 declaration is_told = if is_told then (codes "MaxRecvDataSegmentLength", codes "262144") ∷ [] else []
+
+-- the pairs of a whole answer: the results stand in the order of the offers
+unfoldable pub answer_pairs : Bool → Bool → List Pair → List Pair
+answer_pairs is_first is_told offers = portal_group is_first ++ filter_map answered_pair offers ++ declaration is_told
 
 -- the stage that a request is in is operational negotiation
 abbrev pub is_operational : List ℕ → Bool
 is_operational header = is_same_stage (current_stage header) (Some OperationalNegotiation)
 
--- the target declares its segment with this request's answer
+-- the target declares its segment in the first whole answer of operational negotiation
 abbrev pub declares : LoginState → List ℕ → Bool
 declares login header = is_operational header && not login.declared
-
--- the pairs of a whole answer: the results stand in the order of the offers
-unfoldable pub answer_pairs : LoginState → List ℕ → List Pair → List Pair
-answer_pairs login header pairs = portal_group login.session ++ filter_map answered_pair pairs ++ declaration (declares login header)
 
 -- ---- what is remembered
 
@@ -70,7 +69,7 @@ heard names login header pairs = record login {
   session = Some (unwrap_or login.session (asked_for names header pairs));
   values = with_pairs login.values pairs;
   declared = login.declared || is_operational header;
-  due = text_of (answer_pairs login header pairs);
+  due = text_of (answer_pairs (is_none login.session) (declares login header) pairs);
 }
 
 -- what a request brings, before it is answered
@@ -152,8 +151,11 @@ accepted_by login request session step = GoOn (login_answer login request (tsih 
 unfoldable pub reply_to : LoginState → Frame → Reply
 reply_to login request = accepted_by login request login.session (step_of request.header login.due)
 
+abbrev pub refused_reply : LoginState → Frame → LoginRefusal → Reply
+refused_reply login request refusal = Refused (login_answer login request (tsih request.header) (replies.Refused refusal))
+
 abbrev pub reply_unless : Option LoginRefusal → Lookup → LoginState → Frame → Reply
-reply_unless (Some refusal) lookup login request = Refused (login_answer login request (tsih request.header) (replies.Refused refusal))
+reply_unless (Some refusal) lookup login request = refused_reply login request refusal
 reply_unless None lookup login request = reply_to (brought lookup.names login request) request
 
 -- The reply to a request, by what is remembered of those before it.
@@ -165,3 +167,9 @@ abbrev pub IsAfter : List (List ℕ) → LoginState → Frame → Reply → Logi
 IsAfter names old request (GoOn answer) new = new ≡ advanced names old request
 IsAfter names old request (Refused answer) new = new ≡ old
 IsAfter names old request (Full answer params) new = ⊤
+
+-- what is remembered once a piece of the answer is sent
+abbrev pub IsAnswered : LoginState → Frame → Reply → LoginState → Type 0
+IsAnswered old request (GoOn answer) new = new ≡ answered old request.header
+IsAnswered old request (Refused answer) new = ⊤
+IsAnswered old request (Full answer params) new = ⊤

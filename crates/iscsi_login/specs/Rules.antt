@@ -1,5 +1,5 @@
 -- Why a Login request is refused (RFC 7143 §6.3, §11.12, §11.13.5): ordered lists of rules, of which the first that holds counts.
-use Rattle.std.specs.Prelude.{ℕ, List, [], ◌∷◌, ◌++◌, length, find, Bool, true, false, ◌&&◌, ◌||◌, not, ◌==◌, nat_lt, Option, Some, None, is_none, unwrap_or, option_map, Result, Ok, Err, is_err, codes, bytes_eq, if◌then◌else◌}
+use Rattle.std.specs.Prelude.{◌≡◌, ⊤, ℕ, List, [], ◌∷◌, ◌++◌, length, find, Bool, true, false, ◌&&◌, ◌||◌, not, ◌==◌, nat_lt, Option, Some, None, is_none, unwrap_or, option_map, Result, Ok, Err, is_err, codes, bytes_eq, if◌then◌else◌}
 use Rattle.std.specs.List.{list_any}
 use Rattle.std.specs.Option.{option_or}
 use Rattle.iscsi_pdu.specs.LoginRequest.{is_transit, is_continued, current_stage, next_stage, version_min, isid, tsih}
@@ -16,6 +16,8 @@ use Rattle.iscsi_login.specs.Values.{is_segment_key}
 use Rattle.iscsi_login.specs.Session.{is_of, target_named}
 use Rattle.iscsi_login.specs.Directory.{Lookup}
 use Rattle.iscsi_login.specs.LoginState.{LoginState, opening_of}
+use Rattle.iscsi_login.specs.declared.fault.Fault.{Fault}
+use Rattle.iscsi_login.specs.declared.fault.Fault.TheVariants as faults
 use Rattle.iscsi_login.specs.declared.opening.Opening.{Opening}
 use Rattle.iscsi_login.specs.declared.session.Session.{Session}
 
@@ -175,3 +177,8 @@ unfoldable pub refusal_of : LoginState → Lookup → Frame → Option LoginRefu
 refusal_of login lookup request =
     option_or (refusal_by (rules_of_request login request))
     (if reads_text login request then text_refusal login lookup request else None)
+
+-- how a refusal is told where an allocation may fail
+abbrev pub Tells : Option LoginRefusal → Fault → Type 0
+Tells said (faults.Refused refusal) = said ≡ Some refusal
+Tells said faults.Memory = ⊤

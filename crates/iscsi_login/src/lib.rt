@@ -17,19 +17,25 @@
 //! - Where an allocation fails the login is as it was.
 #![tactic(auto)]
 
+mod answer;
 mod directory;
 mod fault;
 mod keys;
+mod login;
+mod names;
 mod number;
 mod opening;
 mod params;
 mod reply;
+mod request;
 mod session;
+mod text;
 mod values;
 
 pub use directory::Directory;
 pub use fault::Memory;
 pub use keys::settle_key;
+pub use login::Login;
 pub use params::Params;
 pub use reply::Reply;
 pub use session::Session;
