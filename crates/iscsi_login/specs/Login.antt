@@ -141,15 +141,28 @@ params_of login header session = record {
   values = login.values;
 }
 
--- the session has its TSIH from the answer on that begins full feature phase
-abbrev pub accepted_by : LoginState → Frame → Option Session → LoginStep → Reply
-accepted_by login request (Some session) (steps.Enters FullFeaturePhase) =
-    Full (login_answer login request login.handle (accepted request.header login.due)) (params_of login request.header session)
-accepted_by login request session step = GoOn (login_answer login request (tsih request.header) (accepted request.header login.due))
+-- RFC 7143 §6.3: full feature phase is next
+abbrev pub is_last_step : LoginStep → Bool
+is_last_step (steps.Enters FullFeaturePhase) = true
+is_last_step _ = false
+
+-- RFC 7143 §11.12.6: the session has its TSIH from the answer on that begins full feature phase
+abbrev pub handle_with : LoginState → List ℕ → LoginStep → ℕ
+handle_with login header step = if is_last_step step then login.handle else tsih header
+
+-- the session that begins
+abbrev pub begun_by : LoginState → LoginStep → Option Session
+begun_by login step = if is_last_step step then login.session else None
+
+abbrev pub reply_with : Answer → LoginState → List ℕ → Option Session → Reply
+reply_with answer login header None = GoOn answer
+reply_with answer login header (Some session) = Full answer (params_of login header session)
 
 -- the answer to what a request brought
 unfoldable pub reply_to : LoginState → Frame → Reply
-reply_to login request = accepted_by login request login.session (step_of request.header login.due)
+reply_to login request =
+    let step = step_of request.header login.due in
+    reply_with (login_answer login request (handle_with login request.header step) (accepted request.header login.due)) login request.header (begun_by login step)
 
 abbrev pub refused_reply : LoginState → Frame → LoginRefusal → Reply
 refused_reply login request refusal = Refused (login_answer login request (tsih request.header) (replies.Refused refusal))

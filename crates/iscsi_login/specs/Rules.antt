@@ -76,7 +76,7 @@ rules_of_request login request =
     ∷ rule (is_transit header && not (is_behind (next_stage header) (current_stage header))) InitiatorError
     ∷ rule (is_transit header && is_continued header) InitiatorError
     ∷ rule (not (is_same_stage (current_stage header) (stage_with login header))) InitiatorError
-    ∷ rule (not (bytes_eq (isid header) opening.isid && tsih header == opening.tsih)) InitiatorError
+    ∷ rule (not (bytes_eq (isid header) opening.isid) || not (tsih header == opening.tsih)) InitiatorError
     ∷ rule (is_due login && (is_continued header || nat_lt 0 (length request.body))) InitiatorError
     ∷ rule (is_continued header && nat_lt longest_text (length (joined login request))) InitiatorError
     ∷ []

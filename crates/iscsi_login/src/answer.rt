@@ -11,7 +11,7 @@ use iscsi_text::{Pairs, text};
 use std::alloc::Global;
 
 /// The longest piece of an answer's text, in bytes.
-const LONGEST_PIECE: usize = 8192;
+pub(crate) const LONGEST_PIECE: usize = 8192;
 
 /// Puts a pair behind an answer.
 fn put(answer: &mut Pairs, key: &str, value: &str) -> Result<(), Memory>

@@ -1,22 +1,22 @@
 //! A login under way.
 
-ghost use Rattle.std.specs.Prelude.{◌≡◌, ◌≤◌, ◌<◌, ◌+◌, length, take, None, IfOk, IfErr, OnOk, OnErr, option_map, unwrap_or};
-ghost use Rattle.std.specs.Option.{option_or};
+ghost use Rattle.std.specs.Prelude.{◌≡◌, ◌≤◌, ◌<◌, ◌+◌, length as len, length, min, take, None, IfOk, IfErr, IfNone, OnOk, OnErr};
 ghost use Rattle.iscsi_login.specs.LoginState.{new_login};
 ghost use Rattle.iscsi_login.specs.Rules.{refusal_by, rules_of_request, opening_with as opening_for, stage_with as stage_for, is_due as has_due, text_refusal, pairs_with, Tells};
-ghost use Rattle.iscsi_login.specs.Login.{longest_piece, step_of as step_for, stage_after, heard, answered, IsAfter, IsAnswered, login_stamp, login_answer, reply_of, reply_to, refused_reply};
+ghost use Rattle.iscsi_login.specs.Login.{longest_piece, step_of as step_for, heard, answered, IsAfter, IsAnswered, accepted, begun_by, handle_with, login_stamp, login_answer, reply_of, reply_to, refused_reply};
 
-use crate::answer::{answer_text, first_piece};
+use crate::answer::{LONGEST_PIECE, answer_text, first_piece};
 use crate::directory::Directory;
 use crate::fault::{Fault, Memory};
 use crate::names::asked;
 use crate::opening::Opening;
 use crate::params::Params;
 use crate::reply::Reply;
-use crate::request::{is_behind, is_login_stage, is_operational, is_same_stage};
+use crate::request::{is_behind, is_last_step, is_login_stage, is_operational, is_same_stage, stage_after};
 use crate::session::Session;
 use crate::text::{joined, refusal_of_keys};
 use crate::values::Values;
+use bytes::BytesMut;
 use iscsi_pdu::{
     Answer, Frame, Header, LoginAccepted, LoginRefusal, LoginReply, LoginResponse, LoginStep,
     Stage, Stamp,
@@ -44,12 +44,10 @@ pub struct Login {
     session: Option<Session>,
     values: Values,
     declared: bool,
-    answer: Vec<u8>,
-    sent: usize,
+    due: BytesMut,
 }
 
 impl Model for Login {
-    ghost use Rattle.std.specs.Prelude.{drop};
     ghost use Rattle.iscsi_login.specs.LoginState.{LoginState};
 
     ghost Value = { LoginState };
@@ -64,7 +62,7 @@ impl Model for Login {
         session = l.session;
         values = l.values;
         declared = l.declared;
-        due = drop l.sent l.answer.items;
+        due = l.due.items;
     } };
 }
 
@@ -85,8 +83,7 @@ impl Login {
             session: None,
             values: Values::new(),
             declared: false,
-            answer: Vec::new(alloc),
-            sent: 0,
+            due: BytesMut::new(alloc),
         }
     }
 
@@ -111,7 +108,7 @@ impl Login {
     fn is_due(&self) -> bool
         ensures { result ≡ has_due self.now }
     {
-        self.sent < self.answer.len()
+        !self.due.is_empty()
     }
 
     /// Why the request itself is refused.
@@ -124,14 +121,25 @@ impl Login {
         if header.version_min() > 0 {
             return Some(LoginRefusal::UnsupportedVersion);
         }
-        if !is_login_stage(stage)
-            || header.is_transit() && !is_behind(header.next_stage(), stage)
-            || header.is_transit() && header.is_continued()
-            || !is_same_stage(stage, self.stage_with(header))
-            || !(header.isid() == opening.isid && header.tsih() == opening.tsih)
-            || self.is_due() && (header.is_continued() || !request.body.is_empty())
-            || header.is_continued() && LONGEST_TEXT < self.kept.len() + request.body.len()
-        {
+        if !is_login_stage(stage) {
+            return Some(LoginRefusal::InitiatorError);
+        }
+        if header.is_transit() && !is_behind(header.next_stage(), stage) {
+            return Some(LoginRefusal::InitiatorError);
+        }
+        if header.is_transit() && header.is_continued() {
+            return Some(LoginRefusal::InitiatorError);
+        }
+        if !is_same_stage(stage, self.stage_with(header)) {
+            return Some(LoginRefusal::InitiatorError);
+        }
+        if header.isid() != opening.isid || header.tsih() != opening.tsih {
+            return Some(LoginRefusal::InitiatorError);
+        }
+        if self.is_due() && (header.is_continued() || !request.body.is_empty()) {
+            return Some(LoginRefusal::InitiatorError);
+        }
+        if header.is_continued() && self.kept.len() + request.body.len() > LONGEST_TEXT {
             return Some(LoginRefusal::InitiatorError);
         }
         None
@@ -171,5 +179,94 @@ impl Login {
     {
         let tsih = request.header.tsih();
         Reply::Refused(self.response(request, tsih, LoginReply::Refused(refusal)))
+    }
+
+    /// Where the login goes with the next answer.
+    fn step(&self, header: &Header) -> LoginStep
+        ensures { result ≡ step_for header.now self.now.due }
+    {
+        if self.due.len() > LONGEST_PIECE {
+            return LoginStep::Continued;
+        }
+        if header.is_transit() {
+            return LoginStep::Enters(header.next_stage().unwrap_or(Stage::FullFeaturePhase));
+        }
+        LoginStep::Stays
+    }
+
+    /// The session that begins with the next answer.
+    fn begin(&mut self, step: LoginStep) -> Option<Session>
+        ensures session { result ≡ begun_by self.old step }
+        ensures none { IfNone result (self.new ≡ self.old) }
+    {
+        if is_last_step(step) {
+            return self.session.take();
+        }
+        None
+    }
+
+    /// A piece of this length of what is due is sent.
+    fn go_on(&mut self, header: &Header, length: usize)
+        requires { length ≡ min longest_piece (len self.old.due) }
+        ensures { self.new ≡ answered self.old header.now }
+    {
+        let stage = self.stage_with(header);
+        let step = self.step(header);
+        self.opening = Some(self.opening_with(header));
+        self.stage = stage_after(stage, step);
+        self.answers = self.answers.wrapping_add(1);
+        self.due.advance(length);
+    }
+
+    /// The Login Response that has this piece, the next one of what is due.
+    fn accept(&self, request: &Frame, piece: Vec<u8>) -> Answer
+        requires next { piece.items ≡ take longest_piece self.now.due }
+        requires short { length piece.items ≤ longest_piece }
+        ensures { result ≡ login_answer self.now request.now (handle_with self.now request.now.header (step_for request.now.header self.now.due)) (accepted request.now.header self.now.due) }
+    {
+        let header = &request.header;
+        let step = self.step(header);
+        let tsih = if is_last_step(step) {
+            self.handle
+        } else {
+            header.tsih()
+        };
+        let accepted = LoginAccepted {
+            stage: header.current_stage().unwrap_or(Stage::OperationalNegotiation),
+            step,
+            text: piece,
+        };
+        self.response(request, tsih, LoginReply::Accepted(accepted))
+    }
+
+    /// The answer has this piece of what is due, the next one.
+    #[tactic(auto, unfolding(crate::specs::Login::reply_to, crate::specs::Login::params_of))]
+    fn answer(&mut self, request: &Frame, piece: Vec<u8>) -> Reply
+        requires next { piece.items ≡ take longest_piece self.old.due }
+        requires short { length piece.items ≤ longest_piece }
+        ensures reply { result ≡ reply_to self.old request.now }
+        ensures after { IsAnswered self.old request.now result self.new }
+    {
+        let header = &request.header;
+        let opening = self.opening_with(header);
+        let values = self.values;
+        let length = piece.len();
+        let response = self.accept(request, piece);
+        let step = self.step(header);
+        match self.begin(step) {
+            Some(session) => {
+                let params = Params {
+                    session,
+                    connection_id: opening.connection_id,
+                    first_cmd_sn: opening.cmd_sn,
+                    values,
+                };
+                Reply::Full(response, params)
+            }
+            None => {
+                self.go_on(header, length);
+                Reply::GoOn(response)
+            }
+        }
     }
 }

@@ -2,9 +2,9 @@
 
 ghost use Rattle.std.specs.Prelude.{◌≡◌};
 ghost use Rattle.iscsi_login.specs.Rules.{is_same_stage as is_same, is_login_stage as is_stage_of_login, is_behind as comes_behind};
-ghost use Rattle.iscsi_login.specs.Login.{is_operational as is_operational_of};
+ghost use Rattle.iscsi_login.specs.Login.{is_operational as is_operational_of, is_last_step as is_last, stage_after as stage_behind};
 
-use iscsi_pdu::{Header, Stage};
+use iscsi_pdu::{Header, LoginStep, Stage};
 
 /// Both stages are given, and are the same.
 pub(crate) fn is_same_stage(stage: Option<Stage>, other: Option<Stage>) -> bool
@@ -41,4 +41,21 @@ pub(crate) fn is_operational(header: &Header) -> bool
     ensures { result ≡ is_operational_of header.now }
 {
     is_same_stage(header.current_stage(), Some(Stage::OperationalNegotiation))
+}
+
+/// Full feature phase is next.
+pub(crate) fn is_last_step(step: LoginStep) -> bool
+    ensures { result ≡ is_last step }
+{
+    matches!(step, LoginStep::Enters(Stage::FullFeaturePhase))
+}
+
+/// The stage after a step.
+pub(crate) fn stage_after(stage: Option<Stage>, step: LoginStep) -> Option<Stage>
+    ensures { result ≡ stage_behind stage step }
+{
+    match step {
+        LoginStep::Enters(next) => Some(next),
+        LoginStep::Continued | LoginStep::Stays => stage,
+    }
 }
