@@ -1,6 +1,7 @@
 -- The dialogue of a login (RFC 7143 §6.3, §11.12, §11.13): what each request is answered, and what is remembered of it.
 use Rattle.std.specs.Prelude.{ℕ, ◌+◌, ◌^◌, ◌%◌, List, [], ◌∷◌, ◌++◌, length, take, drop, fold, Bool, true, false, ◌&&◌, ◌||◌, not, nat_lt, Option, Some, None, is_none, unwrap_or, option_map, codes, if◌then◌else◌, ⊤, ◌≡◌}
 use Rattle.std.specs.List.{filter_map}
+use Rattle.std.specs.Option.{option_or}
 use Rattle.iscsi_pdu.specs.Header.{initiator_task_tag}
 use Rattle.iscsi_pdu.specs.LoginRequest.{is_transit, is_continued, current_stage, next_stage, isid, tsih}
 use Rattle.iscsi_pdu.specs.Frames.{Frame}
@@ -19,7 +20,7 @@ use Rattle.iscsi_login.specs.Keys.{key_result}
 use Rattle.iscsi_login.specs.Values.{with_pairs}
 use Rattle.iscsi_login.specs.Directory.{Lookup}
 use Rattle.iscsi_login.specs.LoginState.{LoginState, new_login}
-use Rattle.iscsi_login.specs.Rules.{opening_with, stage_with, is_same_stage, is_due, joined, reads_text, pairs_with, asked_for, refusal_of}
+use Rattle.iscsi_login.specs.Rules.{opening_with, stage_with, is_same_stage, is_due, joined, reads_text, pairs_with, asked_by, refusal_of}
 use Rattle.iscsi_login.specs.declared.opening.Opening.{Opening}
 use Rattle.iscsi_login.specs.declared.params.Params.{Params}
 use Rattle.iscsi_login.specs.declared.reply.Reply.{Reply}
@@ -66,7 +67,7 @@ unfoldable pub heard : List (List ℕ) → LoginState → List ℕ → List Pair
 heard names login header pairs = record login {
   kept = [];
   earlier = login.earlier ++ pairs;
-  session = Some (unwrap_or login.session (asked_for names header pairs));
+  session = option_or login.session (asked_by login.session names header pairs);
   values = with_pairs login.values pairs;
   declared = login.declared || is_operational header;
   due = text_of (answer_pairs (is_none login.session) (declares login header) pairs);

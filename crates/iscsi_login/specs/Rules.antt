@@ -165,12 +165,21 @@ abbrev pub session_refusal : Option Session → Lookup → List ℕ → List Pai
 session_refusal None lookup header pairs = first_refusal lookup header pairs
 session_refusal (Some session) lookup header pairs = None
 
--- of a whole text: its form, the session, its keys
+-- of its form (RFC 7143 §6.1)
+abbrev pub text_fault : LoginState → Frame → Option LoginRefusal
+text_fault login request = if is_err (text_pairs (joined login request)) then Some InitiatorError else None
+
+-- of a whole text: its form, the session that it asks for, its keys
 unfoldable pub text_refusal : LoginState → Lookup → Frame → Option LoginRefusal
 text_refusal login lookup request =
-    if is_err (text_pairs (joined login request)) then Some InitiatorError
-    else option_or (session_refusal login.session lookup request.header (pairs_with login request))
-    (refusal_by (rules_of_keys login.earlier (pairs_with login request)))
+    option_or (text_fault login request)
+    (option_or (session_refusal login.session lookup request.header (pairs_with login request))
+    (refusal_by (rules_of_keys login.earlier (pairs_with login request))))
+
+-- the session that the first whole text asks for
+abbrev pub asked_by : Option Session → List (List ℕ) → List ℕ → List Pair → Option Session
+asked_by None names header pairs = Some (asked_for names header pairs)
+asked_by (Some session) names header pairs = None
 
 -- Why a request is refused, if it is.
 unfoldable pub refusal_of : LoginState → Lookup → Frame → Option LoginRefusal

@@ -2,7 +2,7 @@
 
 ghost use Rattle.std.specs.Prelude.{◌≡◌, ◌≤◌, ◌<◌, ◌+◌, length as len, length, min, take, None, IfOk, IfErr, IfNone, OnOk, OnErr};
 ghost use Rattle.iscsi_login.specs.LoginState.{new_login};
-ghost use Rattle.iscsi_login.specs.Rules.{refusal_by, rules_of_request, opening_with as opening_for, stage_with as stage_for, is_due as has_due, text_refusal, pairs_with, Tells};
+ghost use Rattle.iscsi_login.specs.Rules.{refusal_by, rules_of_request, opening_with as opening_for, stage_with as stage_for, is_due as has_due, text_fault, session_refusal, text_refusal, pairs_with, asked_by, Tells};
 ghost use Rattle.iscsi_login.specs.Login.{longest_piece, step_of as step_for, heard, answered, IsAfter, IsAnswered, accepted, begun_by, handle_with, login_stamp, login_answer, reply_of, reply_to, refused_reply};
 
 use crate::answer::{LONGEST_PIECE, answer_text, first_piece};
@@ -268,5 +268,33 @@ impl Login {
                 Reply::GoOn(response)
             }
         }
+    }
+
+    /// The text that a request completes, read: its pairs, or why it is refused.
+    #[tactic(auto, unfolding(crate::specs::Rules::pairs_with))]
+    fn read(&self, request: &Frame) -> Result<Pairs, Fault>
+        ensures pairs { IfOk result (λ pairs. pairs ≡ pairs_with self.now request.now) }
+        ensures whole { OnOk result (text_fault self.now request.now ≡ None) }
+        ensures refused { IfErr result (Tells (text_fault self.now request.now)) }
+    {
+        let text = joined(self.alloc, self.kept.as_slice(), request.body.as_slice())?;
+        match pairs(self.alloc, text.as_slice()) {
+            Ok(pairs) => Ok(pairs),
+            Err(TextFault::Memory) => Err(Fault::Memory),
+            Err(_) => Err(Fault::Refused(LoginRefusal::InitiatorError)),
+        }
+    }
+
+    /// The session that a whole text asks for, where it is the first.
+    fn ask(&self, request: &Frame, directory: &Directory, pairs: &Pairs) -> Result<Option<Session>, Fault>
+        ensures session { IfOk result (λ asked. asked ≡ asked_by self.now.session directory.now.names request.now.header pairs.now) }
+        ensures accepted { OnOk result (session_refusal self.now.session directory.now request.now.header pairs.now ≡ None) }
+        ensures refused { IfErr result (Tells (session_refusal self.now.session directory.now request.now.header pairs.now)) }
+    {
+        if self.session.is_some() {
+            return Ok(None);
+        }
+        let session = asked(self.alloc, directory, &request.header, pairs)?;
+        Ok(Some(session))
     }
 }
