@@ -185,5 +185,5 @@ IsAfter names old request (Full answer params) new = ⊤
 -- what is remembered once a piece of the answer is sent
 abbrev pub IsAnswered : LoginState → Frame → Reply → LoginState → Type 0
 IsAnswered old request (GoOn answer) new = new ≡ answered old request.header
-IsAnswered old request (Refused answer) new = ⊤
+IsAnswered old request (Refused answer) new = ⊥
 IsAnswered old request (Full answer params) new = ⊤

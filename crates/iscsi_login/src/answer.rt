@@ -7,6 +7,7 @@ ghost use Rattle.iscsi_login.specs.Login.{longest_piece, answered_pair, portal_g
 
 use crate::fault::Memory;
 use crate::keys::settle_key;
+use bytes::BytesMut;
 use iscsi_text::{Pairs, text};
 use std::alloc::Global;
 
@@ -84,4 +85,13 @@ pub(crate) fn first_piece(alloc: Global, due: &[u8]) -> Result<Vec<u8>, Memory>
 {
     let length = LONGEST_PIECE.min(due.len());
     Ok(Vec::from_slice(alloc, &due[..length])?)
+}
+
+/// The text of an answer, from which pieces are taken.
+pub(crate) fn buffer(alloc: Global, text: &[u8]) -> Result<BytesMut, Memory>
+    ensures { IfOk result (λ due. due.items ≡ text.now) }
+{
+    let mut due = BytesMut::new(alloc);
+    due.extend_from_slice(text)?;
+    Ok(due)
 }

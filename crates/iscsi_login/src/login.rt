@@ -1,11 +1,12 @@
 //! A login under way.
 
-ghost use Rattle.std.specs.Prelude.{◌≡◌, ◌≤◌, ◌<◌, ◌+◌, length as len, length, min, take, None, IfOk, IfErr, IfNone, OnOk, OnErr};
+ghost use Rattle.std.specs.Prelude.{◌≡◌, ◌≤◌, ◌<◌, ◌+◌, length as len, length, min, take, ℕ, List, None, is_none, IfOk, IfErr, IfNone, OnOk, OnErr};
+ghost use Rattle.iscsi_text.specs.Pairs.{text_of};
 ghost use Rattle.iscsi_login.specs.LoginState.{new_login};
 ghost use Rattle.iscsi_login.specs.Rules.{refusal_by, rules_of_request, opening_with as opening_for, stage_with as stage_for, is_due as has_due, text_fault, session_refusal, text_refusal, pairs_with, asked_by, Tells};
-ghost use Rattle.iscsi_login.specs.Login.{longest_piece, step_of as step_for, heard, answered, IsAfter, IsAnswered, accepted, begun_by, handle_with, login_stamp, login_answer, reply_of, reply_to, refused_reply};
+ghost use Rattle.iscsi_login.specs.Login.{longest_piece, answer_pairs, declares, kept_with, step_of as step_for, heard, answered, IsAfter, IsAnswered, accepted, begun_by, handle_with, login_stamp, login_answer, reply_of, reply_to, refused_reply};
 
-use crate::answer::{LONGEST_PIECE, answer_text, first_piece};
+use crate::answer::{LONGEST_PIECE, answer_text, buffer, first_piece};
 use crate::directory::Directory;
 use crate::fault::{Fault, Memory};
 use crate::names::asked;
@@ -296,5 +297,100 @@ impl Login {
         }
         let session = asked(self.alloc, directory, &request.header, pairs)?;
         Ok(Some(session))
+    }
+
+    /// The text of the answer to a whole text with these pairs, and its first piece.
+    fn answer_to(&self, header: &Header, pairs: &Pairs) -> Result<(BytesMut, Vec<u8>), Memory>
+        ensures due { IfOk result (λ answer. answer.0.items ≡ text_of (answer_pairs (is_none self.now.session) (declares self.now header.now) pairs.now)) }
+        ensures piece { IfOk result (λ answer. answer.1.items ≡ take longest_piece answer.0.items) }
+        ensures short { IfOk result (λ answer. length answer.1.items ≤ longest_piece) }
+    {
+        let is_told = is_operational(header) && !self.declared;
+        let text = answer_text(self.alloc, self.session.is_none(), is_told, pairs)?;
+        let piece = first_piece(self.alloc, text.as_slice())?;
+        let due = buffer(self.alloc, text.as_slice())?;
+        Ok((due, piece))
+    }
+
+    #[tactic(auto, unfolding(crate::specs::Login::heard))]
+    /// A whole text is remembered by its pairs and the session that it asks for, and its answer is
+    /// due. Where an allocation fails nothing changes.
+    fn remember(
+        &mut self,
+        header: &Header,
+        pairs: Pairs,
+        asked: Option<Session>,
+        due: BytesMut,
+    ) -> Result<(), Memory>
+        requires { due.items ≡ text_of (answer_pairs (is_none self.old.session) (declares self.old header.now) pairs) }
+        ensures ok { OnOk result ((names : List (List ℕ)) → asked ≡ asked_by self.old.session names header.now pairs → self.new ≡ heard names self.old header.now pairs) }
+        ensures due { OnOk result (self.new.due ≡ due.items) }
+        ensures err { OnErr result (self.new ≡ self.old) }
+    {
+        let values = self.values.with_pairs(&pairs);
+        if self.earlier.append(pairs).is_err() {
+            return Err(Memory);
+        }
+        self.kept = Vec::new(self.alloc);
+        self.session = self.session.take().or(asked);
+        self.values = values;
+        self.declared = self.declared || is_operational(header);
+        self.due = due;
+        Ok(())
+    }
+
+    /// A whole text is taken, and its answer is due. Gives the first piece of the answer.
+    #[tactic(auto, unfolding(crate::specs::Rules::text_refusal))]
+    fn hear(&mut self, request: &Frame, directory: &Directory) -> Result<Vec<u8>, Fault>
+        ensures heard { OnOk result (self.new ≡ heard directory.now.names self.old request.now.header (pairs_with self.old request.now)) }
+        ensures piece { IfOk result (λ piece. piece.items ≡ take longest_piece self.new.due) }
+        ensures short { IfOk result (λ piece. length piece.items ≤ longest_piece) }
+        ensures accepted { OnOk result (text_refusal self.old directory.now request.now ≡ None) }
+        ensures refused { IfErr result (Tells (text_refusal self.old directory.now request.now)) }
+        ensures err { OnErr result (self.new ≡ self.old) }
+    {
+        let pairs = self.read(request)?;
+        let asked = self.ask(request, directory, &pairs)?;
+        if let Some(refusal) = refusal_of_keys(&self.earlier, &pairs) {
+            return Err(Fault::Refused(refusal));
+        }
+        let (due, piece) = self.answer_to(&request.header, &pairs)?;
+        self.remember(&request.header, pairs, asked, due)?;
+        Ok(piece)
+    }
+
+    /// The text of a request with C is kept. Where an allocation fails nothing changes.
+    fn keep(&mut self, request: &Frame) -> Result<(), Memory>
+        ensures ok { OnOk result (self.new ≡ kept_with self.old request.now) }
+        ensures err { OnErr result (self.new ≡ self.old) }
+    {
+        self.kept.extend_from_slice(request.body.as_slice())?;
+        Ok(())
+    }
+
+    /// Takes a request, and answers it. Where an allocation fails the login is as it was. After
+    /// [`Reply::Full`] and [`Reply::Refused`] the login is over.
+    #[tactic(auto, unfolding(crate::specs::Rules::refusal_of, crate::specs::Login::reply_of, crate::specs::Login::advanced))]
+    pub fn take(&mut self, request: &Frame, directory: &Directory) -> Result<Reply, Memory>
+        ensures reply { IfOk result (λ reply. reply ≡ reply_of self.old directory.now request.now) }
+        ensures after { IfOk result (λ reply. IsAfter directory.now.names self.old request.now reply self.new) }
+        ensures err { OnErr result (self.new ≡ self.old) }
+    {
+        if let Some(refusal) = self.refusal_of_request(request) {
+            return Ok(self.refuse(request, refusal));
+        }
+        if self.is_due() {
+            let piece = first_piece(self.alloc, self.due.as_slice())?;
+            return Ok(self.answer(request, piece));
+        }
+        if request.header.is_continued() {
+            self.keep(request)?;
+            return Ok(self.answer(request, Vec::new(self.alloc)));
+        }
+        match self.hear(request, directory) {
+            Ok(piece) => Ok(self.answer(request, piece)),
+            Err(Fault::Refused(refusal)) => Ok(self.refuse(request, refusal)),
+            Err(Fault::Memory) => Err(Memory),
+        }
     }
 }
