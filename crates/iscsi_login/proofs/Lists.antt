@@ -1,5 +1,5 @@
 -- Facts about lists that several proofs share.
-use Rattle.std.proofs.Common.{◌≡◌, Bool, true, false, ◌||◌, cond, not, map, sym, ℕ, zero, suc, ◌+◌, List, [], ◌∷◌, drop, take, ◌++◌, Option, Some, None, refl, ap, ◌∙◌, add-one}
+use Rattle.std.proofs.Common.{◌≡◌, Bool, true, false, ◌||◌, cond, not, map, sym, ℕ, zero, suc, ◌+◌, List, [], ◌∷◌, drop, take, ◌++◌, Option, Some, refl, ap, ◌∙◌, add-one}
 use Rattle.std.specs.List.{fold, slice_get, list_any, position, position_or_len, filter_map}
 use Rattle.std.proofs.lemmas.List.Elements.{filter_map-append}
 use Rattle.std.proofs.lemmas.Option.{get_or_from_slice_get, slice_get_within}

@@ -1,10 +1,10 @@
 -- Numerals as the library reads them.
-use Rattle.std.proofs.Common.{◌≡◌, ◌≢◌, ℕ, suc, ◌^◌, ◌<◌, ◌≤◌, Bool, true, false, cond, ◌&&◌, ltb, leb, List, [], ◌∷◌, length, get_or, Option, Some, None, Result, Ok, Err, refl, ap, sym, ◌∙◌, arith}
+use Rattle.std.proofs.Common.{◌≡◌, ◌≢◌, ℕ, suc, ◌^◌, ◌<◌, ◌≤◌, Bool, true, false, cond, ◌&&◌, ltb, List, [], ◌∷◌, length, get_or, Some, None, Result, Ok, Err, refl, ap, sym, ◌∙◌, arith}
 use Rattle.std.specs.Char.{digit_value}
 use Rattle.std.specs.List.{list_all}
 use Rattle.std.specs.Option.{option_and_then}
 use Rattle.std.specs.Result.{OkIff, result_ok}
-use Rattle.std.specs.Str.Parse.{AllDigits, IsNumeral, digits_value, without_leading_plus, ParsesUnsigned}
+use Rattle.std.specs.Str.Parse.{AllDigits, IsNumeral, digits_value, ParsesUnsigned}
 use Rattle.std.proofs.lemmas.Bool.{ltb-true, lt-ltb, le-ltb, le-leb, lt-leb, and_parts}
 use Rattle.std.proofs.lemmas.Str.Parse.{without_leading_plus_none}
 use Rattle.iscsi_login.specs.Number.{is_digit, numeral, within}
@@ -31,8 +31,10 @@ numeral_read {E} radix ds r unsigned reads = by_form (ltb 0 (length ds) && list_
   where
     is_numeral : (ltb 0 (length ds) && list_all (is_digit radix) ds) ≡ true → IsNumeral radix ds
     is_numeral e = let p = and_parts (ltb 0 (length ds)) (list_all (is_digit radix) ds) e in (ltb-true 0 (length ds) p.0, all_digits radix ds p.1)
+
     is_form : IsNumeral radix ds → (ltb 0 (length ds) && list_all (is_digit radix) ds) ≡ true
     is_form h = rw (lt-ltb 0 (length ds) h.0, list_all_digits radix ds h.1) refl
+
     by_form : (t : Bool) → (ltb 0 (length ds) && list_all (is_digit radix) ds) ≡ t → (r : Result ℕ E) → OkIff r (IsNumeral radix ds × (digits_value radix ds < 2 ^ 32)) (digits_value radix ds)
         → result_ok r ≡ option_and_then (within 0 0xFFFFFFFF) (cond t (Some (digits_value radix ds)) None)
     by_form true e (Ok n) reads = ap (λ v. Some v) reads.1 ∙ sym (within_all (digits_value radix ds) reads.0.1)

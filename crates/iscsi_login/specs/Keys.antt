@@ -43,34 +43,34 @@ row key negotiation = record { key = key; negotiation = negotiation }
 -- MaxRecvDataSegmentLength and the names are declared and get no answer; the keys of a target are no offer.
 abbrev pub table : List Row
 table =
-    row (codes "AuthMethod") (kinds.Choice words.None)                          -- §12.1
-    ∷ row (codes "HeaderDigest") (kinds.Choice words.None)                      -- §13.1
-    ∷ row (codes "DataDigest") (kinds.Choice words.None)                        -- §13.1
-    ∷ row (codes "MaxConnections") (kinds.Minimum 1 65535 1)                    -- §13.2
-    ∷ row (codes "SendTargets") (kinds.Always rejected)                         -- §13.3
-    ∷ row (codes "TargetName") kinds.Declared                                   -- §13.4
-    ∷ row (codes "InitiatorName") kinds.Declared                                -- §13.5
-    ∷ row (codes "TargetAlias") (kinds.Always rejected)                         -- §13.6
-    ∷ row (codes "InitiatorAlias") kinds.Declared                               -- §13.7
-    ∷ row (codes "TargetAddress") (kinds.Always rejected)                       -- §13.8
-    ∷ row (codes "TargetPortalGroupTag") (kinds.Always rejected)                -- §13.9
-    ∷ row (codes "InitialR2T") (kinds.Or false)                                 -- §13.10
-    ∷ row (codes "ImmediateData") (kinds.And true)                              -- §13.11
-    ∷ row (codes "MaxRecvDataSegmentLength") kinds.Declared                     -- §13.12
-    ∷ row (codes "MaxBurstLength") (kinds.Minimum 512 16777215 262144)          -- §13.13
-    ∷ row (codes "FirstBurstLength") (kinds.Minimum 512 16777215 65536)         -- §13.14
-    ∷ row (codes "DefaultTime2Wait") (kinds.Maximum 0 3600 2)                   -- §13.15
-    ∷ row (codes "DefaultTime2Retain") (kinds.Minimum 0 3600 20)                -- §13.16
-    ∷ row (codes "MaxOutstandingR2T") (kinds.Minimum 1 65535 1)                 -- §13.17
-    ∷ row (codes "DataPDUInOrder") (kinds.Or true)                              -- §13.18
-    ∷ row (codes "DataSequenceInOrder") (kinds.Or true)                         -- §13.19
-    ∷ row (codes "ErrorRecoveryLevel") (kinds.Minimum 0 2 0)                    -- §13.20
-    ∷ row (codes "SessionType") kinds.Declared                                  -- §13.21
-    ∷ row (codes "TaskReporting") (kinds.Choice words.Rfc3720)                  -- §13.23
-    ∷ row (codes "IFMarker") (kinds.Always (results.Boolean false))             -- §13.25
-    ∷ row (codes "OFMarker") (kinds.Always (results.Boolean false))             -- §13.25
-    ∷ row (codes "IFMarkInt") (kinds.Always rejected)                           -- §13.25
-    ∷ row (codes "OFMarkInt") (kinds.Always rejected)                           -- §13.25
+    row (codes "AuthMethod") (kinds.Choice words.None)  -- §12.1
+    ∷ row (codes "HeaderDigest") (kinds.Choice words.None)  -- §13.1
+    ∷ row (codes "DataDigest") (kinds.Choice words.None)  -- §13.1
+    ∷ row (codes "MaxConnections") (kinds.Minimum 1 65535 1)  -- §13.2
+    ∷ row (codes "SendTargets") (kinds.Always rejected)  -- §13.3
+    ∷ row (codes "TargetName") kinds.Declared  -- §13.4
+    ∷ row (codes "InitiatorName") kinds.Declared  -- §13.5
+    ∷ row (codes "TargetAlias") (kinds.Always rejected)  -- §13.6
+    ∷ row (codes "InitiatorAlias") kinds.Declared  -- §13.7
+    ∷ row (codes "TargetAddress") (kinds.Always rejected)  -- §13.8
+    ∷ row (codes "TargetPortalGroupTag") (kinds.Always rejected)  -- §13.9
+    ∷ row (codes "InitialR2T") (kinds.Or false)  -- §13.10
+    ∷ row (codes "ImmediateData") (kinds.And true)  -- §13.11
+    ∷ row (codes "MaxRecvDataSegmentLength") kinds.Declared  -- §13.12
+    ∷ row (codes "MaxBurstLength") (kinds.Minimum 512 16777215 262144)  -- §13.13
+    ∷ row (codes "FirstBurstLength") (kinds.Minimum 512 16777215 65536)  -- §13.14
+    ∷ row (codes "DefaultTime2Wait") (kinds.Maximum 0 3600 2)  -- §13.15
+    ∷ row (codes "DefaultTime2Retain") (kinds.Minimum 0 3600 20)  -- §13.16
+    ∷ row (codes "MaxOutstandingR2T") (kinds.Minimum 1 65535 1)  -- §13.17
+    ∷ row (codes "DataPDUInOrder") (kinds.Or true)  -- §13.18
+    ∷ row (codes "DataSequenceInOrder") (kinds.Or true)  -- §13.19
+    ∷ row (codes "ErrorRecoveryLevel") (kinds.Minimum 0 2 0)  -- §13.20
+    ∷ row (codes "SessionType") kinds.Declared  -- §13.21
+    ∷ row (codes "TaskReporting") (kinds.Choice words.Rfc3720)  -- §13.23
+    ∷ row (codes "IFMarker") (kinds.Always (results.Boolean false))  -- §13.25
+    ∷ row (codes "OFMarker") (kinds.Always (results.Boolean false))  -- §13.25
+    ∷ row (codes "IFMarkInt") (kinds.Always rejected)  -- §13.25
+    ∷ row (codes "OFMarkInt") (kinds.Always rejected)  -- §13.25
     ∷ []
 
 -- RFC 7143 §6.2: a key that is not known

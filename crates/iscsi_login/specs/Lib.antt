@@ -13,3 +13,5 @@ pub mod Directory
 pub mod LoginState
 pub mod Rules
 pub mod Login
+pub mod ExamplesKeys
+pub mod ExamplesLogin

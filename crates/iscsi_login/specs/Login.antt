@@ -3,7 +3,7 @@ use Rattle.std.specs.Prelude.{ℕ, ◌+◌, ◌^◌, ◌%◌, List, [], ◌∷�
 use Rattle.std.specs.List.{filter_map}
 use Rattle.std.specs.Option.{option_or}
 use Rattle.iscsi_pdu.specs.Header.{initiator_task_tag}
-use Rattle.iscsi_pdu.specs.LoginRequest.{is_transit, is_continued, current_stage, next_stage, isid, tsih}
+use Rattle.iscsi_pdu.specs.LoginRequest.{is_transit, current_stage, next_stage, isid, tsih}
 use Rattle.iscsi_pdu.specs.Frames.{Frame}
 use Rattle.iscsi_pdu.specs.declared.stamp.Stamp.{Stamp}
 use Rattle.iscsi_pdu.specs.declared.stage.Stage.{Stage}
@@ -21,7 +21,6 @@ use Rattle.iscsi_login.specs.Values.{with_pairs}
 use Rattle.iscsi_login.specs.Directory.{Lookup}
 use Rattle.iscsi_login.specs.LoginState.{LoginState, new_login}
 use Rattle.iscsi_login.specs.Rules.{opening_with, stage_with, is_same_stage, is_due, joined, reads_text, pairs_with, asked_by, refusal_of}
-use Rattle.iscsi_login.specs.declared.opening.Opening.{Opening}
 use Rattle.iscsi_login.specs.declared.params.Params.{Params}
 use Rattle.iscsi_login.specs.declared.reply.Reply.{Reply}
 use Rattle.iscsi_login.specs.declared.reply.Reply.TheVariants.{GoOn, Full, Refused}

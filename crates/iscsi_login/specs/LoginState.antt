@@ -1,5 +1,5 @@
 -- What a login remembers of its requests.
-use Rattle.std.specs.Prelude.{ℕ, List, [], Bool, false, Option, Some, None}
+use Rattle.std.specs.Prelude.{ℕ, List, [], Bool, false, Option, None}
 use Rattle.iscsi_pdu.specs.LoginRequest.{isid, tsih, connection_id}
 use Rattle.iscsi_pdu.specs.Header.{cmd_sn}
 use Rattle.iscsi_pdu.specs.declared.stage.Stage.{Stage}

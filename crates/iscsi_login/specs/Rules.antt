@@ -1,5 +1,5 @@
 -- Why a Login request is refused (RFC 7143 §6.3, §11.12, §11.13.5): ordered lists of rules, of which the first that holds counts.
-use Rattle.std.specs.Prelude.{◌≡◌, ⊤, ℕ, List, [], ◌∷◌, ◌++◌, length, find, Bool, true, false, ◌&&◌, ◌||◌, not, ◌==◌, nat_lt, Option, Some, None, is_none, unwrap_or, option_map, Result, Ok, Err, is_err, codes, bytes_eq, if◌then◌else◌}
+use Rattle.std.specs.Prelude.{◌≡◌, ⊤, ℕ, List, [], ◌∷◌, ◌++◌, length, find, Bool, false, ◌&&◌, ◌||◌, not, ◌==◌, nat_lt, Option, Some, None, is_none, unwrap_or, option_map, Result, Ok, Err, is_err, codes, bytes_eq, if◌then◌else◌}
 use Rattle.std.specs.List.{list_any}
 use Rattle.std.specs.Option.{option_or}
 use Rattle.iscsi_pdu.specs.LoginRequest.{is_transit, is_continued, current_stage, next_stage, version_min, isid, tsih}

@@ -1,5 +1,5 @@
 -- The values in force after pairs of a login (RFC 7143 §6.3, §13).
-use Rattle.std.specs.Prelude.{ℕ, List, fold, Bool, true, false, unwrap_or, codes, bytes_eq, if◌then◌else◌}
+use Rattle.std.specs.Prelude.{ℕ, List, fold, Bool, true, unwrap_or, codes, bytes_eq, if◌then◌else◌}
 use Rattle.iscsi_text.specs.Pairs.{Pair}
 use Rattle.iscsi_login.specs.Number.{number_in}
 use Rattle.iscsi_login.specs.Keys.{settled}

@@ -13,7 +13,9 @@ use crate::names::asked;
 use crate::opening::Opening;
 use crate::params::Params;
 use crate::reply::Reply;
-use crate::request::{is_behind, is_last_step, is_login_stage, is_operational, is_same_stage, stage_after};
+use crate::request::{
+    is_behind, is_last_step, is_login_stage, is_operational, is_same_stage, stage_after,
+};
 use crate::session::Session;
 use crate::text::{joined, refusal_of_keys};
 use crate::values::Values;
@@ -54,16 +56,16 @@ impl Model for Login {
     ghost Value = { LoginState };
 
     ghost view = { λ l. record {
-        handle = l.handle;
-        opening = l.opening;
-        stage = l.stage;
-        answers = l.answers;
-        kept = l.kept.items;
-        earlier = l.earlier;
-        session = l.session;
-        values = l.values;
-        declared = l.declared;
-        due = l.due.items;
+      handle = l.handle;
+      opening = l.opening;
+      stage = l.stage;
+      answers = l.answers;
+      kept = l.kept.items;
+      earlier = l.earlier;
+      session = l.session;
+      values = l.values;
+      declared = l.declared;
+      due = l.due.items;
     } };
 }
 
@@ -233,7 +235,9 @@ impl Login {
             header.tsih()
         };
         let accepted = LoginAccepted {
-            stage: header.current_stage().unwrap_or(Stage::OperationalNegotiation),
+            stage: header
+                .current_stage()
+                .unwrap_or(Stage::OperationalNegotiation),
             step,
             text: piece,
         };
@@ -287,7 +291,12 @@ impl Login {
     }
 
     /// The session that a whole text asks for, where it is the first.
-    fn ask(&self, request: &Frame, directory: &Directory, pairs: &Pairs) -> Result<Option<Session>, Fault>
+    fn ask(
+        &self,
+        request: &Frame,
+        directory: &Directory,
+        pairs: &Pairs,
+    ) -> Result<Option<Session>, Fault>
         ensures session { IfOk result (λ asked. asked ≡ asked_by self.now.session directory.now.names request.now.header pairs.now) }
         ensures accepted { OnOk result (session_refusal self.now.session directory.now request.now.header pairs.now ≡ None) }
         ensures refused { IfErr result (Tells (session_refusal self.now.session directory.now request.now.header pairs.now)) }

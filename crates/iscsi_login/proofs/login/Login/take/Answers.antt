@@ -12,9 +12,9 @@ returns-then-is_due-clause-after c =
 pub returns-then-is_continued-clause-after : goal.returns-then-is_continued-clause-after
 returns-then-is_continued-clause-after c =
     after_kept c.args.directory.now.names c.args.self.now c.keep.new.self c.answer-then-is_continued-2.new.self c.args.request.now c.answer-then-is_continued-2.result
-    (sym c.is_due.ensures ∙ c.if-is_due.false) (ap (λ (frame : Frame). is_continued frame.header) (sym c.request.view_is) ∙ sym c.is_continued.ensures ∙ c.if-is_continued.true) (c.in_ok-keep.ensures tt).ok c.answer-then-is_continued-2.ensures.after
+    (sym c.is_due.ensures ∙ c.if-is_due.false) (ap (λ (frame : Frame). is_continued frame.header) (sym c.request.view_is) ∙ sym c.is_continued.ensures ∙ c.if-is_continued.true) c.in_ok-keep.ensures.ok c.answer-then-is_continued-2.ensures.after
 
 pub returns-in-Ok-clause-after : goal.returns-in-Ok-clause-after
 returns-in-Ok-clause-after c =
     after_heard c.args.directory.now.names c.args.self.now c.hear.new.self c.answer-in-Ok.new.self c.args.request.now c.answer-in-Ok.result
-    (sym c.is_due.ensures ∙ c.if-is_due.false) (ap (λ (frame : Frame). is_continued frame.header) (sym c.request.view_is) ∙ sym c.is_continued.ensures ∙ c.if-is_continued.false) (c.in-Ok.ensures tt).heard c.answer-in-Ok.ensures.after
+    (sym c.is_due.ensures ∙ c.if-is_due.false) (ap (λ (frame : Frame). is_continued frame.header) (sym c.request.view_is) ∙ sym c.is_continued.ensures ∙ c.if-is_continued.false) c.in-Ok.ensures.heard c.answer-in-Ok.ensures.after

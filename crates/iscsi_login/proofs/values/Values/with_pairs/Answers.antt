@@ -1,4 +1,3 @@
-use Rattle.std.proofs.Common.{ap, ◌∙◌}
 use Rattle.iscsi_login.specs.Values.{with_pair}
 use Rattle.iscsi_login.proofs.Lists.{fold_at}
 use Rattle.iscsi_login.proofs.values.Values.with_pairs.Goals as goal
