@@ -23,7 +23,6 @@ use Rattle.iscsi_login.specs.Login.{answer_pairs, heard, advanced, remembered, l
 use Rattle.iscsi_login.specs.declared.params.Params.{Params}
 use Rattle.iscsi_login.specs.declared.reply.Reply.{Reply}
 use Rattle.iscsi_login.specs.declared.reply.Reply.TheVariants.{GoOn, Full, Refused}
-use Rattle.iscsi_login.specs.declared.session.Session.{Session}
 use Rattle.iscsi_login.specs.declared.values.Values.{Values}
 
 -- what the examples unfold
@@ -111,11 +110,13 @@ abbrev error : Seen
 error = refused_by refusals.InitiatorError 0
 
 -- what full feature phase begins with for `a` on `t1`
-abbrev begun : Values → Params
-begun values = record {
-  session = record { nexus = record { initiator_name = codes "a"; isid = 0x80 ∷ 0 ∷ 0 ∷ 0 ∷ 0 ∷ 1 ∷ [] }; target = 0 };
+abbrev begun : (count : ℕ) → Values → Params
+begun count values = record {
+  nexus = record { initiator_name = codes "a"; isid = 0x80 ∷ 0 ∷ 0 ∷ 0 ∷ 0 ∷ 1 ∷ [] };
+  target = 0;
   connection_id = 7;
   first_cmd_sn = 9;
+  next_stat_sn = count;
   values = values;
 }
 
@@ -129,14 +130,14 @@ segment = pair (codes "MaxRecvDataSegmentLength=262144")
 
 -- in one request
 at_once : replied [] (request operational_to_full names)
-    ≡ Begun (Text stages.OperationalNegotiation (steps.Enters stages.FullFeaturePhase) 1 (0 ∷ 9 ∷ 40 ∷ []) (tag ++ segment)) (begun default_values)
+    ≡ Begun (Text stages.OperationalNegotiation (steps.Enters stages.FullFeaturePhase) 1 (0 ∷ 9 ∷ 40 ∷ []) (tag ++ segment)) (begun 1 default_values)
 unfolding computed
 at_once = refl
 
 -- with keys: results in the order of the offers; a rejected number leaves the default in force
 with_keys : replied [] (request operational_to_full (names ++ pair (codes "AuthMethod=CHAP,None") ++ pair (codes "IFMarker=No") ++ pair (codes "X-a=b") ++ pair (codes "MaxBurstLength=100")))
     ≡ Begun (Text stages.OperationalNegotiation (steps.Enters stages.FullFeaturePhase) 1 (0 ∷ 9 ∷ 40 ∷ [])
-    (tag ++ pair (codes "AuthMethod=None") ++ pair (codes "IFMarker=No") ++ pair (codes "X-a=NotUnderstood") ++ pair (codes "MaxBurstLength=Reject") ++ segment)) (begun default_values)
+    (tag ++ pair (codes "AuthMethod=None") ++ pair (codes "IFMarker=No") ++ pair (codes "X-a=NotUnderstood") ++ pair (codes "MaxBurstLength=Reject") ++ segment)) (begun 1 default_values)
 unfolding computed
 with_keys = refl
 
@@ -150,13 +151,13 @@ unfolding computed
 security_first = refl
 
 then_operational : replied (first_of_two ∷ []) (request operational_to_full (pair (codes "InitialR2T=No")))
-    ≡ Begun (Text stages.OperationalNegotiation (steps.Enters stages.FullFeaturePhase) 1 (1 ∷ 9 ∷ 40 ∷ []) (pair (codes "InitialR2T=No") ++ segment)) (begun (record default_values { initial_r2t = false }))
+    ≡ Begun (Text stages.OperationalNegotiation (steps.Enters stages.FullFeaturePhase) 1 (1 ∷ 9 ∷ 40 ∷ []) (pair (codes "InitialR2T=No") ++ segment)) (begun 2 (record default_values { initial_r2t = false }))
 unfolding computed
 then_operational = refl
 
 -- from security negotiation at once: the target declares nothing
 security_only : replied [] (request security_to_full names)
-    ≡ Begun (Text stages.SecurityNegotiation (steps.Enters stages.FullFeaturePhase) 1 (0 ∷ 9 ∷ 40 ∷ []) tag) (begun default_values)
+    ≡ Begun (Text stages.SecurityNegotiation (steps.Enters stages.FullFeaturePhase) 1 (0 ∷ 9 ∷ 40 ∷ []) tag) (begun 1 default_values)
 unfolding computed
 security_only = refl
 
@@ -169,7 +170,7 @@ unfolding computed
 stays_first = refl
 
 declared_once : replied (stays ∷ []) (request operational_to_full [])
-    ≡ Begun (Text stages.OperationalNegotiation (steps.Enters stages.FullFeaturePhase) 1 (1 ∷ 9 ∷ 40 ∷ []) []) (begun default_values)
+    ≡ Begun (Text stages.OperationalNegotiation (steps.Enters stages.FullFeaturePhase) 1 (1 ∷ 9 ∷ 40 ∷ []) []) (begun 2 default_values)
 unfolding computed
 declared_once = refl
 
@@ -178,7 +179,7 @@ all_values : replied [] (request operational_to_full (names ++ pair (codes "MaxR
     ++ pair (codes "DefaultTime2Wait=5") ++ pair (codes "DefaultTime2Retain=0") ++ pair (codes "MaxOutstandingR2T=8")))
     ≡ Begun (Text stages.OperationalNegotiation (steps.Enters stages.FullFeaturePhase) 1 (0 ∷ 9 ∷ 40 ∷ []) (tag ++ pair (codes "ImmediateData=No") ++ pair (codes "MaxBurstLength=262144") ++ pair (codes "FirstBurstLength=8192")
     ++ pair (codes "DefaultTime2Wait=5") ++ pair (codes "DefaultTime2Retain=0") ++ pair (codes "MaxOutstandingR2T=1") ++ segment))
-    (begun (record { initial_r2t = true; immediate_data = false; max_recv_data_segment_length = 65536; max_burst_length = 262144; first_burst_length = 8192; default_time2wait = 5; default_time2retain = 0; max_outstanding_r2t = 1 }))
+    (begun 1 (record { initial_r2t = true; immediate_data = false; max_recv_data_segment_length = 65536; max_burst_length = 262144; first_burst_length = 8192; default_time2wait = 5; default_time2retain = 0; max_outstanding_r2t = 1 }))
 unfolding computed
 all_values = refl
 
@@ -193,13 +194,13 @@ unfolding computed
 front_kept = refl
 
 joined_text : replied (front ∷ []) (request operational_to_full (drop 20 names))
-    ≡ Begun (Text stages.OperationalNegotiation (steps.Enters stages.FullFeaturePhase) 1 (1 ∷ 9 ∷ 40 ∷ []) (tag ++ segment)) (begun default_values)
+    ≡ Begun (Text stages.OperationalNegotiation (steps.Enters stages.FullFeaturePhase) 1 (1 ∷ 9 ∷ 40 ∷ []) (tag ++ segment)) (begun 2 default_values)
 unfolding computed
 joined_text = refl
 
 -- a text is not joined across a whole answer
 not_joined : replied (request operational (names ++ pair (codes "X-a=b")) ∷ []) (request operational_to_full (pair (codes "c=d")))
-    ≡ Begun (Text stages.OperationalNegotiation (steps.Enters stages.FullFeaturePhase) 1 (1 ∷ 9 ∷ 40 ∷ []) (pair (codes "c=NotUnderstood"))) (begun default_values)
+    ≡ Begun (Text stages.OperationalNegotiation (steps.Enters stages.FullFeaturePhase) 1 (1 ∷ 9 ∷ 40 ∷ []) (pair (codes "c=NotUnderstood"))) (begun 2 default_values)
 unfolding computed
 not_joined = refl
 
@@ -234,7 +235,7 @@ in_error = refl
 
 -- a length that is an answer is passed over
 segment_answers : replied [] (request operational_to_full (names ++ pair (codes "MaxRecvDataSegmentLength=Irrelevant")))
-    ≡ Begun (Text stages.OperationalNegotiation (steps.Enters stages.FullFeaturePhase) 1 (0 ∷ 9 ∷ 40 ∷ []) (tag ++ segment)) (begun default_values)
+    ≡ Begun (Text stages.OperationalNegotiation (steps.Enters stages.FullFeaturePhase) 1 (0 ∷ 9 ∷ 40 ∷ []) (tag ++ segment)) (begun 1 default_values)
 unfolding computed
 segment_answers = refl
 
@@ -260,23 +261,23 @@ again : map after_keys (pair (codes "InitialR2T=No") ∷ pair (codes "InitialR2T
 unfolding computed
 again = refl
 
-name_again : after_keys names ≡ Begun (Text stages.OperationalNegotiation (steps.Enters stages.FullFeaturePhase) 1 (1 ∷ 9 ∷ 40 ∷ []) []) (begun (record default_values { initial_r2t = false }))
+name_again : after_keys names ≡ Begun (Text stages.OperationalNegotiation (steps.Enters stages.FullFeaturePhase) 1 (1 ∷ 9 ∷ 40 ∷ []) []) (begun 2 (record default_values { initial_r2t = false }))
 unfolding computed
 name_again = refl
 
 -- a TSIH that is not 0
-abbrev joining : Option Session → Seen
+abbrev joining : Option Params → Seen
 joining named = last_reply (record one_target { named = named }) [] (record { header = header_of operational_to_full 0 3 9; body = names })
 
 no_session : joining None ≡ Why refusals.SessionDoesNotExist 3 (0 ∷ 9 ∷ 40 ∷ [])
 unfolding computed
 no_session = refl
 
-same_session : joining (Some (begun default_values).session) ≡ Why refusals.TooManyConnections 3 (0 ∷ 9 ∷ 40 ∷ [])
+same_session : joining (Some (begun 1 default_values)) ≡ Why refusals.TooManyConnections 3 (0 ∷ 9 ∷ 40 ∷ [])
 unfolding computed
 same_session = refl
 
-other_session : joining (Some (record (begun default_values).session { target = 1 })) ≡ Why refusals.SessionDoesNotExist 3 (0 ∷ 9 ∷ 40 ∷ [])
+other_session : joining (Some (record (begun 1 default_values) { target = 1 })) ≡ Why refusals.SessionDoesNotExist 3 (0 ∷ 9 ∷ 40 ∷ [])
 unfolding computed
 other_session = refl
 
@@ -299,7 +300,7 @@ unfolding computed
 piece_left = refl
 
 last_piece : then_asked 8192 (request operational_to_full [])
-    ≡ Begun (Text stages.OperationalNegotiation (steps.Enters stages.FullFeaturePhase) 1 (1 ∷ 9 ∷ 40 ∷ []) (replicate 8192 97)) (begun default_values)
+    ≡ Begun (Text stages.OperationalNegotiation (steps.Enters stages.FullFeaturePhase) 1 (1 ∷ 9 ∷ 40 ∷ []) (replicate 8192 97)) (begun 2 default_values)
 unfolding computed
 last_piece = refl
 

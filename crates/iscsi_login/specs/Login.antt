@@ -1,5 +1,5 @@
 -- The dialogue of a login (RFC 7143 §6.3, §11.12, §11.13): what each request is answered, and what is remembered of it.
-use Rattle.std.specs.Prelude.{ℕ, ◌+◌, ◌^◌, ◌%◌, List, [], ◌∷◌, ◌++◌, length, take, drop, fold, Bool, true, false, ◌&&◌, ◌||◌, not, nat_lt, Option, Some, None, is_none, unwrap_or, option_map, codes, if◌then◌else◌, ⊤, ◌≡◌}
+use Rattle.std.specs.Prelude.{◌<◌, ℕ, ◌+◌, ◌^◌, ◌%◌, List, [], ◌∷◌, ◌++◌, length, take, drop, fold, Bool, true, false, ◌&&◌, ◌||◌, not, nat_lt, Option, Some, None, is_none, unwrap_or, option_map, codes, if◌then◌else◌, ⊤, ◌≡◌}
 use Rattle.std.specs.List.{filter_map}
 use Rattle.std.specs.Option.{option_or}
 use Rattle.iscsi_pdu.specs.Header.{initiator_task_tag}
@@ -19,7 +19,7 @@ use Rattle.iscsi_text.specs.Pairs.{Pair, text_of}
 use Rattle.iscsi_login.specs.Keys.{key_result}
 use Rattle.iscsi_login.specs.Values.{with_pairs}
 use Rattle.iscsi_login.specs.Directory.{Lookup}
-use Rattle.iscsi_login.specs.LoginState.{LoginState, new_login}
+use Rattle.iscsi_login.specs.LoginState.{LoginState, AsksBelow, new_login}
 use Rattle.iscsi_login.specs.Rules.{opening_with, stage_with, is_same_stage, is_due, joined, reads_text, pairs_with, asked_by, refusal_of}
 use Rattle.iscsi_login.specs.declared.params.Params.{Params}
 use Rattle.iscsi_login.specs.declared.reply.Reply.{Reply}
@@ -135,9 +135,11 @@ accepted header due = replies.Accepted (record {
 -- what full feature phase begins with
 unfoldable pub params_of : LoginState → List ℕ → Session → Params
 params_of login header session = record {
-  session = session;
+  nexus = session.nexus;
+  target = session.target;
   connection_id = (opening_with login header).connection_id;
   first_cmd_sn = (opening_with login header).cmd_sn;
+  next_stat_sn = (login.answers + 1) % 2 ^ 32;
   values = login.values;
 }
 
@@ -175,6 +177,10 @@ reply_unless None lookup login request = reply_to (brought lookup.names login re
 unfoldable pub reply_of : LoginState → Lookup → Frame → Reply
 reply_of login lookup request = reply_unless (refusal_of login lookup request) lookup login request
 
+-- The reply to a request behind these others of a login, whose session is given this TSIH.
+abbrev pub login : ℕ → List Frame → Lookup → Frame → Reply
+login handle before lookup request = reply_of (remembered lookup.names handle before) lookup request
+
 -- what is remembered after a reply; full feature phase leaves nothing to remember
 abbrev pub IsAfter : List (List ℕ) → LoginState → Frame → Reply → LoginState → Type 0
 IsAfter names old request (GoOn answer) new = new ≡ advanced names old request
@@ -186,3 +192,9 @@ abbrev pub IsAnswered : LoginState → Frame → Reply → LoginState → Type 0
 IsAnswered old request (GoOn answer) new = new ≡ answered old request.header
 IsAnswered old request (Refused answer) new = ⊥
 IsAnswered old request (Full answer params) new = ⊤
+
+-- the target of a session that begins is one of so many, and so is the one that a login goes on to ask for
+abbrev pub IsBelow : ℕ → Reply → LoginState → Type 0
+IsBelow count (GoOn answer) new = AsksBelow count new.session
+IsBelow count (Refused answer) new = AsksBelow count new.session
+IsBelow count (Full answer params) new = params.target < count

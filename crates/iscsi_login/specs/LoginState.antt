@@ -1,5 +1,5 @@
 -- What a login remembers of its requests.
-use Rattle.std.specs.Prelude.{ℕ, List, [], Bool, false, Option, None}
+use Rattle.std.specs.Prelude.{◌<◌, ⊤, ℕ, List, [], Bool, false, Option, Some, None}
 use Rattle.iscsi_pdu.specs.LoginRequest.{isid, tsih, connection_id}
 use Rattle.iscsi_pdu.specs.Header.{cmd_sn}
 use Rattle.iscsi_pdu.specs.declared.stage.Stage.{Stage}
@@ -45,6 +45,11 @@ new_login handle = record {
   declared = false;
   due = [];
 }
+
+-- the target that is asked for is one of so many
+abbrev pub AsksBelow : ℕ → Option Session → Type 0
+AsksBelow count None = ⊤
+AsksBelow count (Some session) = session.target < count
 
 -- RFC 7143 §11.12.5 to §11.12.8: what the first request sets
 abbrev pub opening_of : List ℕ → Opening

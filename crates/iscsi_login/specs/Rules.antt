@@ -19,6 +19,7 @@ use Rattle.iscsi_login.specs.LoginState.{LoginState, opening_of}
 use Rattle.iscsi_login.specs.declared.fault.Fault.{Fault}
 use Rattle.iscsi_login.specs.declared.fault.Fault.TheVariants as faults
 use Rattle.iscsi_login.specs.declared.opening.Opening.{Opening}
+use Rattle.iscsi_login.specs.declared.params.Params.{Params}
 use Rattle.iscsi_login.specs.declared.session.Session.{Session}
 
 -- where a rule holds the request is refused
@@ -110,7 +111,7 @@ rules_of_names names pairs =
     ∷ []
 
 -- of the session that it asks for: a TSIH other than 0 would join one (RFC 7143 §6.3.1, §11.12.6)
-abbrev pub rules_of_handle : Session → ℕ → Option Session → List Rule
+abbrev pub rules_of_handle : Session → ℕ → Option Params → List Rule
 rules_of_handle session handle named =
     rule (is_of session.nexus session.target named) TooManyConnections
     ∷ rule (not (handle == 0)) SessionDoesNotExist

@@ -2,9 +2,9 @@
 
 ghost use Rattle.std.specs.Prelude.{◌≡◌, ◌≤◌, ◌<◌, ◌+◌, length as len, length, min, take, ℕ, List, None, is_none, IfOk, IfErr, IfNone, OnOk, OnErr};
 ghost use Rattle.iscsi_text.specs.Pairs.{text_of};
-ghost use Rattle.iscsi_login.specs.LoginState.{new_login};
+ghost use Rattle.iscsi_login.specs.LoginState.{AsksBelow, new_login};
 ghost use Rattle.iscsi_login.specs.Rules.{refusal_by, rules_of_request, opening_with as opening_for, stage_with as stage_for, is_due as has_due, text_fault, session_refusal, text_refusal, pairs_with, asked_by, Tells};
-ghost use Rattle.iscsi_login.specs.Login.{longest_piece, answer_pairs, declares, kept_with, step_of as step_for, heard, answered, IsAfter, IsAnswered, accepted, begun_by, handle_with, login_stamp, login_answer, reply_of, reply_to, refused_reply};
+ghost use Rattle.iscsi_login.specs.Login.{longest_piece, answer_pairs, declares, kept_with, step_of as step_for, heard, answered, IsAfter, IsAnswered, IsBelow, accepted, begun_by, handle_with, login_stamp, login_answer, reply_of, reply_to, refused_reply};
 
 use crate::answer::{LONGEST_PIECE, answer_text, buffer, first_piece};
 use crate::directory::Directory;
@@ -200,6 +200,7 @@ impl Login {
     /// The session that begins with the next answer.
     fn begin(&mut self, step: LoginStep) -> Option<Session>
         ensures session { result ≡ begun_by self.old step }
+        ensures target { (count : ℕ) → AsksBelow count self.old.session → AsksBelow count result }
         ensures none { IfNone result (self.new ≡ self.old) }
     {
         if is_last_step(step) {
@@ -251,19 +252,23 @@ impl Login {
         requires short { length piece.items ≤ longest_piece }
         ensures reply { result ≡ reply_to self.old request.now }
         ensures after { IsAnswered self.old request.now result self.new }
+        ensures target { (count : ℕ) → AsksBelow count self.old.session → IsBelow count result self.new }
     {
         let header = &request.header;
         let opening = self.opening_with(header);
         let values = self.values;
+        let next_stat_sn = self.answers.wrapping_add(1);
         let length = piece.len();
         let response = self.accept(request, piece);
         let step = self.step(header);
         match self.begin(step) {
             Some(session) => {
                 let params = Params {
-                    session,
+                    nexus: session.nexus,
+                    target: session.target,
                     connection_id: opening.connection_id,
                     first_cmd_sn: opening.cmd_sn,
+                    next_stat_sn,
                     values,
                 };
                 Reply::Full(response, params)
@@ -298,6 +303,7 @@ impl Login {
         pairs: &Pairs,
     ) -> Result<Option<Session>, Fault>
         ensures session { IfOk result (λ asked. asked ≡ asked_by self.now.session directory.now.names request.now.header pairs.now) }
+        ensures target { IfOk result (AsksBelow (len directory.now.names)) }
         ensures accepted { OnOk result (session_refusal self.now.session directory.now request.now.header pairs.now ≡ None) }
         ensures refused { IfErr result (Tells (session_refusal self.now.session directory.now request.now.header pairs.now)) }
     {
@@ -334,6 +340,7 @@ impl Login {
         requires { due.items ≡ text_of (answer_pairs (is_none self.old.session) (declares self.old header.now) pairs) }
         ensures ok { OnOk result ((names : List (List ℕ)) → asked ≡ asked_by self.old.session names header.now pairs → self.new ≡ heard names self.old header.now pairs) }
         ensures due { OnOk result (self.new.due ≡ due.items) }
+        ensures target { OnOk result ((count : ℕ) → AsksBelow count self.old.session → AsksBelow count asked → AsksBelow count self.new.session) }
         ensures err { OnErr result (self.new ≡ self.old) }
     {
         let values = self.values.with_pairs(&pairs);
@@ -354,6 +361,7 @@ impl Login {
         ensures heard { OnOk result (self.new ≡ heard directory.now.names self.old request.now.header (pairs_with self.old request.now)) }
         ensures piece { IfOk result (λ piece. piece.items ≡ take longest_piece self.new.due) }
         ensures short { IfOk result (λ piece. length piece.items ≤ longest_piece) }
+        ensures target { OnOk result (AsksBelow (len directory.now.names) self.old.session → AsksBelow (len directory.now.names) self.new.session) }
         ensures accepted { OnOk result (text_refusal self.old directory.now request.now ≡ None) }
         ensures refused { IfErr result (Tells (text_refusal self.old directory.now request.now)) }
         ensures err { OnErr result (self.new ≡ self.old) }
@@ -383,6 +391,7 @@ impl Login {
     pub fn take(&mut self, request: &Frame, directory: &Directory) -> Result<Reply, Memory>
         ensures reply { IfOk result (λ reply. reply ≡ reply_of self.old directory.now request.now) }
         ensures after { IfOk result (λ reply. IsAfter directory.now.names self.old request.now reply self.new) }
+        ensures target { IfOk result (λ reply. AsksBelow (len directory.now.names) self.old.session → IsBelow (len directory.now.names) reply self.new) }
         ensures err { OnErr result (self.new ≡ self.old) }
     {
         if let Some(refusal) = self.refusal_of_request(request) {

@@ -1,12 +1,12 @@
 //! The session that the first whole text asks for: its names, and its TSIH.
 
-ghost use Rattle.std.specs.Prelude.{◌≡◌, ◌<◌, length, map, Some, None, codes, IfOk, IfErr, MatchResult, string_bytes};
-ghost use Rattle.std.specs.Option.{option_copied};
+ghost use Rattle.std.specs.Prelude.{◌≡◌, ◌<◌, length, map, Some, None, codes, IfOk, IfErr, IfSome, MatchResult, string_bytes};
 ghost use Rattle.iscsi_login.specs.Session.{is_of as is_session_of, target_named};
 ghost use Rattle.iscsi_login.specs.Rules.{refusal_by, rules_of_names, rules_of_handle, said as said_by, is_normal, asked_for, first_refusal, Tells};
 
 use crate::directory::Directory;
 use crate::fault::Fault;
+use crate::params::Params;
 use crate::session::Session;
 use iscsi_pdu::{Header, LoginRefusal};
 use iscsi_text::Pairs;
@@ -41,7 +41,8 @@ fn is_normal_session(said: &Pairs) -> bool
 /// Where the target of this name stands.
 #[tactic(auto, unfolding(crate::specs::Session::target_named))]
 fn position(names: &[String], name: &str) -> Option<usize>
-    ensures { result ≡ target_named (map string_bytes names.now) name.now }
+    ensures value { result ≡ target_named (map string_bytes names.now) name.now }
+    ensures bound { IfSome result (λ at. at < length names.now) }
 {
     names.iter().position(|other| other.as_str() == name)
 }
@@ -51,6 +52,7 @@ fn target_of(names: &[String], said: &Pairs) -> Result<usize, LoginRefusal>
     ensures rules { MatchResult result (λ _. refusal_by (rules_of_names (map string_bytes names.now) said.now) ≡ None)
         (λ refusal. refusal_by (rules_of_names (map string_bytes names.now) said.now) ≡ Some refusal) }
     ensures target { IfOk result (λ at. target_named (map string_bytes names.now) (said_by (codes "TargetName") said.now) ≡ Some at) }
+    ensures bound { IfOk result (λ at. at < length names.now) }
 {
     let initiator = what_is_said(said, "InitiatorName");
     let target = what_is_said(said, "TargetName");
@@ -71,8 +73,8 @@ fn target_of(names: &[String], said: &Pairs) -> Result<usize, LoginRefusal>
 
 impl Session {
     /// The other is a session of the same nexus with the same target.
-    fn is_same(&self, other: Option<&Session>) -> bool
-        ensures { result ≡ is_session_of self.now.nexus self.now.target (option_copied other.entry) }
+    fn is_same(&self, other: &Option<Params>) -> bool
+        ensures { result ≡ is_session_of self.now.nexus self.now.target other.now }
     {
         match other {
             Some(other) => other.nexus.is_same(&self.nexus) && other.target == self.target,
@@ -82,8 +84,8 @@ impl Session {
 }
 
 /// Why the session that is asked for is refused: a TSIH other than 0 would join a session.
-fn refusal_of_handle(session: &Session, tsih: u16, named: Option<&Session>) -> Option<LoginRefusal>
-    ensures { result ≡ refusal_by (rules_of_handle session.now tsih (option_copied named.entry)) }
+fn refusal_of_handle(session: &Session, tsih: u16, named: &Option<Params>) -> Option<LoginRefusal>
+    ensures { result ≡ refusal_by (rules_of_handle session.now tsih named.now) }
 {
     if session.is_same(named) {
         return Some(LoginRefusal::TooManyConnections);
@@ -103,6 +105,7 @@ pub(crate) fn asked(
     said: &Pairs,
 ) -> Result<Session, Fault>
     ensures session { IfOk result (λ session. session ≡ asked_for directory.now.names header.now said.now) }
+    ensures bound { IfOk result (λ session. session.target < length directory.now.names) }
     ensures accepted { IfOk result (λ _. first_refusal directory.now header.now said.now ≡ None) }
     ensures refused { IfErr result (Tells (first_refusal directory.now header.now said.now)) }
 {
@@ -116,7 +119,7 @@ pub(crate) fn asked(
         isid: header.isid(),
     };
     let session = Session { nexus, target };
-    match refusal_of_handle(&session, header.tsih(), directory.named) {
+    match refusal_of_handle(&session, header.tsih(), &directory.named) {
         Some(refusal) => Err(Fault::Refused(refusal)),
         None => Ok(session),
     }

@@ -1,8 +1,8 @@
-//! Who logs in, and with which target.
+//! The session that a login asks for.
 
 use scsi_sense::Nexus;
 
-/// Whose session it is, and with which target, by its position among the targets.
+/// Whose session is asked for, and with which target, by its position among the targets.
 #[derive(Debug, Drop)]
 pub struct Session {
     pub nexus: Nexus,

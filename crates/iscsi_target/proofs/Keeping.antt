@@ -1,18 +1,19 @@
 -- An event of bytes begins and ends no life: what is kept of each stays the same.
-use Rattle.std.proofs.Common.{◌≡◌, ℕ, List, [], ◌∷◌, map, Bool, true, false, cond, not, eqb, Option, Some, None, refl, sym, ap, ◌∙◌}
+use Rattle.std.proofs.Common.{◌≡◌, ℕ, ◌+◌, List, [], ◌∷◌, map, Bool, true, false, cond, not, eqb, Option, Some, None, refl, sym, ap, ◌∙◌}
 use Rattle.std.specs.List.{fold}
 use Rattle.iscsi_pdu.specs.Frames.{Frame}
 use Rattle.iscsi_target.specs.History.{Mark, Step, Judging, Taking, Doing, Ending, Arrival, Whole, TooLong}
-use Rattle.iscsi_target.specs.Login.{login, older}
+use Rattle.iscsi_login.specs.Session.{older}
+use Rattle.iscsi_login.specs.Login.{login}
 use Rattle.iscsi_target.specs.Life.{Life, Phase, LoggingIn, FullFeature, Closing, Over, Accepted, is_over, reads}
-use Rattle.iscsi_target.specs.World.{Setting, World, is_present, present, changed_life, changed, reads_life, session_of, live, close, shut, is_marked, take_step, refused, asked, begun, end_older, replied, log_in, accepted, judged, judge, verdict_for, finished, done_for, finish, ready_in, settle, serve, enter, arrive_in, arrive_at, arrive, brought, longer, bring}
+use Rattle.iscsi_target.specs.World.{Setting, World, is_present, present, changed_life, changed, reads_life, session_of, live, close, shut, is_marked, take_step, answered, asked, begun, requests_of, lookup_for, end_older, replied, log_in, accepted, judged, judge, verdict_for, finished, done_for, finish, ready_in, settle, serve, enter, arrive_in, arrive_at, arrive, brought, longer, bring}
 use Rattle.iscsi_target.specs.Acts.{is_login}
 use Rattle.iscsi_target.specs.Runs.{RowState, open_row, row_of}
-use Rattle.iscsi_target.specs.declared.session.Session.{Session}
+use Rattle.iscsi_login.specs.declared.params.Params.{Params}
 use Rattle.iscsi_target.specs.declared.session.Verdict.{Verdict}
 use Rattle.iscsi_target.specs.declared.session.Verdict.TheVariants as verdicts
-use Rattle.iscsi_target.specs.declared.login.Reply.{Reply}
-use Rattle.iscsi_target.specs.declared.login.Reply.TheVariants.{Refused, Full}
+use Rattle.iscsi_login.specs.declared.reply.Reply.{Reply}
+use Rattle.iscsi_login.specs.declared.reply.Reply.TheVariants.{GoOn, Full, Refused}
 use Rattle.iscsi_target.proofs.Choices.{cond_true, cond_false, and_true, not_true}
 
 -- ---- one life
@@ -68,13 +69,14 @@ rows-end_older : (o : Option ℕ) (w : World) → rows_in (end_older o w) ≡ ro
 rows-end_older None w = refl
 rows-end_older (Some d) w = rows-changed shut d w shut_keeps
 
-rows-replied : (reply : Reply) (c : ℕ) (request : Frame) (w : World) → rows_in (replied reply c request w) ≡ rows_in w
-rows-replied (Refused refusal) c request w = rows-close c _ ∙ rows-changed (refused refusal request) c w (λ life e. (e, refl))
-rows-replied (Full session) c request w = rows-changed (begun session request) c (end_older (older session (live w)) w) (λ life e. (refl, refl)) ∙ rows-end_older (older session (live w)) w
+rows-replied : (reply : Reply) (c : ℕ) (w : World) → rows_in (replied reply c w) ≡ rows_in w
+rows-replied (GoOn answer) c w = rows-changed (answered answer) c w (λ life e. (e, refl))
+rows-replied (Refused answer) c w = rows-close c _ ∙ rows-changed (answered answer) c w (λ life e. (e, refl))
+rows-replied (Full answer session) c w = rows-changed (begun session answer) c (end_older (older session (live w)) w) (λ life e. (refl, refl)) ∙ rows-end_older (older session (live w)) w
 
 rows-log_in : (s : Setting) (c : ℕ) (request : Frame) (w : World) → rows_in (log_in s c request w) ≡ rows_in w
 unfolding log_in
-rows-log_in s c request w = rows-replied (login s.names (live w) request) c request _ ∙ rows-changed (asked request) c w (λ life e. (e, refl))
+rows-log_in s c request w = rows-replied (login (c + 1) (requests_of (present c w)) (lookup_for s.names (live w) request) request) c _ ∙ rows-changed (asked request) c w (λ life e. (e, refl))
 
 rows-judged : (verdict : Verdict) (c place : ℕ) (frame : Frame) (w : World) → rows_in (judged verdict c place frame w) ≡ rows_in w
 rows-judged verdicts.Accepted c place frame w = rows-changed (accepted place frame) c w (λ life e. (e, refl))
@@ -84,7 +86,7 @@ rows-judge : (c place : ℕ) (frame : Frame) (w : World) → rows_in (judge c pl
 unfolding judge
 rows-judge c place frame w = rows-judged (verdict_for (present c w) frame) c place frame w
 
-rows-done_for : (o : Option Session) (c : ℕ) (command : Accepted) (w : World) → rows_in (done_for o c command w) ≡ rows_in w
+rows-done_for : (o : Option Params) (c : ℕ) (command : Accepted) (w : World) → rows_in (done_for o c command w) ≡ rows_in w
 rows-done_for None c command w = refl
 rows-done_for (Some session) c command w = rows-changed (finished command _) c w (λ life e. (e, refl))
 

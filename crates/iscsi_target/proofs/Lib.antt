@@ -6,6 +6,7 @@ pub mod Arrivals
 pub mod Lives
 pub mod Counting
 pub mod Numbers
+pub mod Requests
 pub mod Serving
 pub mod LoggingIn
 pub mod Acting

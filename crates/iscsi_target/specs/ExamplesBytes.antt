@@ -1,15 +1,14 @@
 -- The bytes of the examples: what the initiator `a` sends and what the target `t1` answers, each written
 -- by hand from RFC 7143 §11 and SPC-4 §4.5.3. A header is three lines of 16 bytes.
 use Rattle.std.specs.Prelude.{ℕ, List, [], ◌∷◌, ◌++◌, map, replicate, Bool, true}
-use Rattle.std.specs.Str.{is_utf8, chars}
 use Rattle.iscsi_pdu.specs.Frames.{frames, rest, has_frame, is_long, first_frame, frame_length}
-use Rattle.iscsi_text.specs.Pairs.{text_pairs, pieces, own_fault}
 use Rattle.scsi_cdb.specs.declared.command.Kind.TheVariants.{Disk, Tape}
 use Rattle.iscsi_target.specs.History.{History, arrivals, new_arrivals}
 use Rattle.iscsi_target.specs.Units.{free_unit, perform, perform_at, told, without_unit, lun_number, join, leave}
-use Rattle.iscsi_target.specs.Login.{login, leads_to_full_feature, said, is_normal, is_login_key, target_named, older, names_session, asked_for, declared_text}
+use Rattle.iscsi_login.specs.ExamplesLogin.{computed as login_computed}
+use Rattle.iscsi_login.specs.Session.{older}
 use Rattle.iscsi_target.specs.Life.{Life, reads, taken, stamp, index_of, ready, out_of}
-use Rattle.iscsi_target.specs.Acts.{is_login, verdict, carried_out, scsi_answer, refusal_answer, success_answer}
+use Rattle.iscsi_target.specs.Acts.{is_login, verdict, carried_out, scsi_answer}
 use Rattle.iscsi_target.specs.World.{Setting, present, changed, live, changed_units, close, end, is_marked, take_step, log_in, judge, finish, settle, serve, arrive, bring, world}
 use Rattle.iscsi_target.specs.Output.{outputs}
 
@@ -28,7 +27,7 @@ are_read s history = map (λ (life : Life). reads life.phase) (world s history).
 
 -- what an example unfolds
 unfoldable pub computed : Bool
-unfolding frames rest has_frame is_long first_frame frame_length text_pairs pieces own_fault is_utf8 chars lib.Utf8.encode arrivals new_arrivals perform perform_at told without_unit lun_number join leave login leads_to_full_feature said is_normal is_login_key target_named older names_session asked_for declared_text taken stamp index_of ready out_of is_login verdict carried_out scsi_answer refusal_answer success_answer present changed live changed_units close end is_marked take_step log_in judge finish settle serve arrive bring world outputs
+unfolding frames rest has_frame is_long first_frame frame_length login_computed arrivals new_arrivals perform perform_at told without_unit lun_number join leave older taken stamp index_of ready out_of is_login verdict carried_out scsi_answer present changed live changed_units close end is_marked take_step log_in judge finish settle serve arrive bring world outputs
 computed = true
 
 -- ---- Login requests (RFC 7143 §11.12)

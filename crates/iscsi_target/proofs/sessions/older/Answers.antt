@@ -1,10 +1,10 @@
 use Rattle.std.proofs.Common.{rules, tests, sym, ◌∙◌}
 use Rattle.std.proofs.lemmas.Iterator.{YieldsList-from_slice}
 use Rattle.std.proofs.lemmas.Iterator.Search.{position_from_yields_List}
-use Rattle.iscsi_target.specs.Login.{is_of, older}
+use Rattle.iscsi_login.specs.Session.{is_of, older}
 use Rattle.iscsi_target.specs.Machine.{session_in_phase}
 use Rattle.iscsi_target.proofs.Lists.{position_of_map}
-use Rattle.iscsi_target.proofs.login.older.Goals as goal
+use Rattle.iscsi_target.proofs.sessions.older.Goals as goal
 
 pub returns-clause-value : goal.returns-clause-value
 unfolding older
