@@ -15,7 +15,7 @@ use Rattle.iscsi_pdu.specs.declared.login_response.LoginStep.{LoginStep}
 use Rattle.iscsi_text.specs.Pairs.{text_pairs, pieces, own_fault}
 use Rattle.iscsi_login.specs.ExamplesKeys.{computed as keys_computed}
 use Rattle.iscsi_login.specs.Session.{target_named}
-use Rattle.iscsi_login.specs.Directory.{Lookup}
+use Rattle.iscsi_login.specs.Lookup.{Lookup}
 use Rattle.iscsi_login.specs.Values.{default_values, with_result, with_pair}
 use Rattle.iscsi_login.specs.LoginState.{LoginState}
 use Rattle.iscsi_login.specs.Rules.{said, is_normal, is_name_key, is_segment_refused, pairs_with, asked_for, first_refusal, text_refusal, refusal_of}

@@ -9,7 +9,7 @@ pub mod Number
 pub mod Keys
 pub mod Values
 pub mod Session
-pub mod Directory
+pub mod Lookup
 pub mod LoginState
 pub mod Rules
 pub mod Login

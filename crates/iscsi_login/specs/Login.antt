@@ -18,7 +18,7 @@ use Rattle.iscsi_pdu.specs.declared.login_response.LoginReply.TheVariants as rep
 use Rattle.iscsi_text.specs.Pairs.{Pair, text_of}
 use Rattle.iscsi_login.specs.Keys.{key_result}
 use Rattle.iscsi_login.specs.Values.{with_pairs}
-use Rattle.iscsi_login.specs.Directory.{Lookup}
+use Rattle.iscsi_login.specs.Lookup.{Lookup}
 use Rattle.iscsi_login.specs.LoginState.{LoginState, AsksBelow, new_login}
 use Rattle.iscsi_login.specs.Rules.{opening_with, stage_with, is_same_stage, is_due, joined, reads_text, pairs_with, asked_by, refusal_of}
 use Rattle.iscsi_login.specs.declared.params.Params.{Params}
@@ -197,4 +197,4 @@ IsAnswered old request (Full answer params) new = ⊤
 abbrev pub IsBelow : ℕ → Reply → LoginState → Type 0
 IsBelow count (GoOn answer) new = AsksBelow count new.session
 IsBelow count (Refused answer) new = AsksBelow count new.session
-IsBelow count (Full answer params) new = params.target < count
+IsBelow count (Full answer params) new = (params.target < count) × AsksBelow count new.session

@@ -14,7 +14,7 @@ use Rattle.iscsi_login.specs.Number.{number_in}
 use Rattle.iscsi_login.specs.Keys.{is_answer}
 use Rattle.iscsi_login.specs.Values.{is_segment_key}
 use Rattle.iscsi_login.specs.Session.{is_of, target_named}
-use Rattle.iscsi_login.specs.Directory.{Lookup}
+use Rattle.iscsi_login.specs.Lookup.{Lookup}
 use Rattle.iscsi_login.specs.LoginState.{LoginState, opening_of}
 use Rattle.iscsi_login.specs.declared.fault.Fault.{Fault}
 use Rattle.iscsi_login.specs.declared.fault.Fault.TheVariants as faults

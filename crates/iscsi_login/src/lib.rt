@@ -18,7 +18,6 @@
 #![tactic(auto)]
 
 mod answer;
-mod directory;
 mod fault;
 mod keys;
 mod login;
@@ -32,7 +31,6 @@ mod session;
 mod text;
 mod values;
 
-pub use directory::Directory;
 pub use fault::Memory;
 pub use keys::settle_key;
 pub use login::Login;

@@ -1,13 +1,13 @@
 //! A login under way.
 
-ghost use Rattle.std.specs.Prelude.{◌≡◌, ◌≤◌, ◌<◌, ◌+◌, length as len, length, min, take, ℕ, List, None, is_none, IfOk, IfErr, IfNone, OnOk, OnErr};
+ghost use Rattle.std.specs.Prelude.{◌≡◌, ◌≤◌, ◌<◌, ◌+◌, length as len, length, map, min, take, string_bytes, ℕ, List, None, is_none, IfOk, IfErr, IfNone, OnOk, OnErr};
 ghost use Rattle.iscsi_text.specs.Pairs.{text_of};
+ghost use Rattle.iscsi_login.specs.Lookup.{lookup_in};
 ghost use Rattle.iscsi_login.specs.LoginState.{AsksBelow, new_login};
 ghost use Rattle.iscsi_login.specs.Rules.{refusal_by, rules_of_request, opening_with as opening_for, stage_with as stage_for, is_due as has_due, text_fault, session_refusal, text_refusal, pairs_with, asked_by, Tells};
 ghost use Rattle.iscsi_login.specs.Login.{longest_piece, answer_pairs, declares, kept_with, step_of as step_for, heard, answered, IsAfter, IsAnswered, IsBelow, accepted, begun_by, handle_with, login_stamp, login_answer, reply_of, reply_to, refused_reply};
 
 use crate::answer::{LONGEST_PIECE, answer_text, buffer, first_piece};
-use crate::directory::Directory;
 use crate::fault::{Fault, Memory};
 use crate::names::asked;
 use crate::opening::Opening;
@@ -201,6 +201,7 @@ impl Login {
     fn begin(&mut self, step: LoginStep) -> Option<Session>
         ensures session { result ≡ begun_by self.old step }
         ensures target { (count : ℕ) → AsksBelow count self.old.session → AsksBelow count result }
+        ensures left { (count : ℕ) → AsksBelow count self.old.session → AsksBelow count self.new.session }
         ensures none { IfNone result (self.new ≡ self.old) }
     {
         if is_last_step(step) {
@@ -299,18 +300,19 @@ impl Login {
     fn ask(
         &self,
         request: &Frame,
-        directory: &Directory,
+        targets: &[String],
+    named: &Option<Params>,
         pairs: &Pairs,
     ) -> Result<Option<Session>, Fault>
-        ensures session { IfOk result (λ asked. asked ≡ asked_by self.now.session directory.now.names request.now.header pairs.now) }
-        ensures target { IfOk result (AsksBelow (len directory.now.names)) }
-        ensures accepted { OnOk result (session_refusal self.now.session directory.now request.now.header pairs.now ≡ None) }
-        ensures refused { IfErr result (Tells (session_refusal self.now.session directory.now request.now.header pairs.now)) }
+        ensures session { IfOk result (λ asked. asked ≡ asked_by self.now.session (map string_bytes targets.now) request.now.header pairs.now) }
+        ensures target { IfOk result (AsksBelow (len targets.now)) }
+        ensures accepted { OnOk result (session_refusal self.now.session (lookup_in targets.now named.now) request.now.header pairs.now ≡ None) }
+        ensures refused { IfErr result (Tells (session_refusal self.now.session (lookup_in targets.now named.now) request.now.header pairs.now)) }
     {
         if self.session.is_some() {
             return Ok(None);
         }
-        let session = asked(self.alloc, directory, &request.header, pairs)?;
+        let session = asked(self.alloc, targets, named, &request.header, pairs)?;
         Ok(Some(session))
     }
 
@@ -357,17 +359,17 @@ impl Login {
 
     /// A whole text is taken, and its answer is due. Gives the first piece of the answer.
     #[tactic(auto, unfolding(crate::specs::Rules::text_refusal))]
-    fn hear(&mut self, request: &Frame, directory: &Directory) -> Result<Vec<u8>, Fault>
-        ensures heard { OnOk result (self.new ≡ heard directory.now.names self.old request.now.header (pairs_with self.old request.now)) }
+    fn hear(&mut self, request: &Frame, targets: &[String], named: &Option<Params>) -> Result<Vec<u8>, Fault>
+        ensures heard { OnOk result (self.new ≡ heard (map string_bytes targets.now) self.old request.now.header (pairs_with self.old request.now)) }
         ensures piece { IfOk result (λ piece. piece.items ≡ take longest_piece self.new.due) }
         ensures short { IfOk result (λ piece. length piece.items ≤ longest_piece) }
-        ensures target { OnOk result (AsksBelow (len directory.now.names) self.old.session → AsksBelow (len directory.now.names) self.new.session) }
-        ensures accepted { OnOk result (text_refusal self.old directory.now request.now ≡ None) }
-        ensures refused { IfErr result (Tells (text_refusal self.old directory.now request.now)) }
+        ensures target { OnOk result (AsksBelow (len targets.now) self.old.session → AsksBelow (len targets.now) self.new.session) }
+        ensures accepted { OnOk result (text_refusal self.old (lookup_in targets.now named.now) request.now ≡ None) }
+        ensures refused { IfErr result (Tells (text_refusal self.old (lookup_in targets.now named.now) request.now)) }
         ensures err { OnErr result (self.new ≡ self.old) }
     {
         let pairs = self.read(request)?;
-        let asked = self.ask(request, directory, &pairs)?;
+        let asked = self.ask(request, targets, named, &pairs)?;
         if let Some(refusal) = refusal_of_keys(&self.earlier, &pairs) {
             return Err(Fault::Refused(refusal));
         }
@@ -385,13 +387,14 @@ impl Login {
         Ok(())
     }
 
-    /// Takes a request, and answers it. Where an allocation fails the login is as it was. After
+    /// Takes a request, and answers it. `targets` are the names of the targets in order, and `named`
+    /// is the session in full feature phase whose TSIH the request bears. Where an allocation fails the login is as it was. After
     /// [`Reply::Full`] and [`Reply::Refused`] the login is over.
     #[tactic(auto, unfolding(crate::specs::Rules::refusal_of, crate::specs::Login::reply_of, crate::specs::Login::advanced))]
-    pub fn take(&mut self, request: &Frame, directory: &Directory) -> Result<Reply, Memory>
-        ensures reply { IfOk result (λ reply. reply ≡ reply_of self.old directory.now request.now) }
-        ensures after { IfOk result (λ reply. IsAfter directory.now.names self.old request.now reply self.new) }
-        ensures target { IfOk result (λ reply. AsksBelow (len directory.now.names) self.old.session → IsBelow (len directory.now.names) reply self.new) }
+    pub fn take(&mut self, request: &Frame, targets: &[String], named: &Option<Params>) -> Result<Reply, Memory>
+        ensures reply { IfOk result (λ reply. reply ≡ reply_of self.old (lookup_in targets.now named.now) request.now) }
+        ensures after { IfOk result (λ reply. IsAfter (map string_bytes targets.now) self.old request.now reply self.new) }
+        ensures target { IfOk result (λ reply. AsksBelow (len targets.now) self.old.session → IsBelow (len targets.now) reply self.new) }
         ensures err { OnErr result (self.new ≡ self.old) }
     {
         if let Some(refusal) = self.refusal_of_request(request) {
@@ -405,7 +408,7 @@ impl Login {
             self.keep(request)?;
             return Ok(self.answer(request, Vec::new(self.alloc)));
         }
-        match self.hear(request, directory) {
+        match self.hear(request, targets, named) {
             Ok(piece) => Ok(self.answer(request, piece)),
             Err(Fault::Refused(refusal)) => Ok(self.refuse(request, refusal)),
             Err(Fault::Memory) => Err(Memory),

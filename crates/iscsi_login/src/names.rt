@@ -1,10 +1,10 @@
 //! The session that the first whole text asks for: its names, and its TSIH.
 
 ghost use Rattle.std.specs.Prelude.{◌≡◌, ◌<◌, length, map, Some, None, codes, IfOk, IfErr, IfSome, MatchResult, string_bytes};
+ghost use Rattle.iscsi_login.specs.Lookup.{lookup_in};
 ghost use Rattle.iscsi_login.specs.Session.{is_of as is_session_of, target_named};
 ghost use Rattle.iscsi_login.specs.Rules.{refusal_by, rules_of_names, rules_of_handle, said as said_by, is_normal, asked_for, first_refusal, Tells};
 
-use crate::directory::Directory;
 use crate::fault::Fault;
 use crate::params::Params;
 use crate::session::Session;
@@ -100,16 +100,17 @@ fn refusal_of_handle(session: &Session, tsih: u16, named: &Option<Params>) -> Op
 #[tactic(auto, unfolding(crate::specs::Rules::asked_for, crate::specs::Rules::first_refusal))]
 pub(crate) fn asked(
     alloc: Global,
-    directory: &Directory,
+    targets: &[String],
+    named: &Option<Params>,
     header: &Header,
     said: &Pairs,
 ) -> Result<Session, Fault>
-    ensures session { IfOk result (λ session. session ≡ asked_for directory.now.names header.now said.now) }
-    ensures bound { IfOk result (λ session. session.target < length directory.now.names) }
-    ensures accepted { IfOk result (λ _. first_refusal directory.now header.now said.now ≡ None) }
-    ensures refused { IfErr result (Tells (first_refusal directory.now header.now said.now)) }
+    ensures session { IfOk result (λ session. session ≡ asked_for (map string_bytes targets.now) header.now said.now) }
+    ensures bound { IfOk result (λ session. session.target < length targets.now) }
+    ensures accepted { IfOk result (λ _. first_refusal (lookup_in targets.now named.now) header.now said.now ≡ None) }
+    ensures refused { IfErr result (Tells (first_refusal (lookup_in targets.now named.now) header.now said.now)) }
 {
-    let target = match target_of(directory.targets, said) {
+    let target = match target_of(targets, said) {
         Ok(target) => target,
         Err(refusal) => return Err(Fault::Refused(refusal)),
     };
@@ -119,7 +120,7 @@ pub(crate) fn asked(
         isid: header.isid(),
     };
     let session = Session { nexus, target };
-    match refusal_of_handle(&session, header.tsih(), &directory.named) {
+    match refusal_of_handle(&session, header.tsih(), named) {
         Some(refusal) => Err(Fault::Refused(refusal)),
         None => Ok(session),
     }

@@ -11,6 +11,7 @@ pub mod Serving
 pub mod LoggingIn
 pub mod Acting
 pub mod Standing
+pub mod Asking
 pub mod Halves
 pub mod Bringing
 pub mod Feeding

@@ -10,7 +10,7 @@ use Rattle.iscsi_pdu.specs.declared.answer.Answer.{Answer}
 use Rattle.iscsi_target.specs.History.{connection_limit}
 use Rattle.iscsi_target.specs.Units.{Units, join}
 use Rattle.iscsi_login.specs.Session.{is_of, older}
-use Rattle.iscsi_login.specs.Directory.{Lookup}
+use Rattle.iscsi_login.specs.Lookup.{Lookup}
 use Rattle.iscsi_login.specs.Login.{login, advanced, remembered, reply_of}
 use Rattle.iscsi_target.specs.Life.{Life, Phase, LoggingIn, FullFeature, Closing, first_cmd_sn, stamp, out_of}
 use Rattle.iscsi_target.specs.World.{Setting, World, is_present, present, changed, session_of, live, left, close, shut, changed_units, answered, asked, begun, end_older, requests_of, lookup_for, replied, log_in}
@@ -157,7 +157,7 @@ has_older c place bytes s sent w machine life session d h e =
     let p = position-Some (is_of session.nexus session.target) (sessions machine.links) d None e in
     let below : d < connection_limit = omega (arith, p.0, length-map machine.links (λ link. session_in_phase link.phase), h.serves.count) in
     let there : get_or (sessions machine.links) d None ≡ session_of (present d w) =
-    get_or-map (λ link. session_in_phase link.phase) machine.links d free_link None (omega (arith, h.serves.count)) ∙ ap session_in_phase (phases c place bytes s sent w machine h.serves d below) ∙ session_same (present d w) in
+    get_or-map (λ link. session_in_phase link.phase) machine.links d free_link None (omega (arith, h.serves.count)) ∙ ap session_in_phase (phases c place bytes s sent w machine h.serves d below) ∙ session_same s.names (present d w) in
     let is : is_of session.nexus session.target (session_of (present d w)) ≡ true = ap (is_of session.nexus session.target) (sym there) ∙ p.1 in
     let other = some_life session (present d w) is in
     record {
@@ -275,4 +275,5 @@ logs_in c place bytes s sent w machine life request h at phase so_far =
     ap (λ (o : Option Life). login (c + 1) (requests_of o) (lookup_for s.names (live w) request) request) at
     ∙ ap (λ (k : ℕ). login (k + 1) life.requests (lookup_for s.names (live w) request) request) (sym on)
     ∙ ap (λ (all : List (Option Params)). reply_of login_ (lookup_for s.names all request) request) (live_before c place bytes s sent w machine life e) in
-    rw (h.names, same) (replies c place bytes s sent w machine life (lookup_for s.names (sessions machine.links) request) request reply e refl)
+    let P : List (List ℕ) → Type 0 = λ names. Serves c (place + 1) bytes s sent (replied (login (c + 1) (requests_of (present c w)) (lookup_for s.names (live w) request) request) c (changed (asked request) c w)) (machine_replied (reply_of login_ (lookup_for names (sessions machine.links) request) request) (advanced names login_ request) c machine) in
+    subst P (sym h.names) (rw same (replies c place bytes s sent w machine life (lookup_for s.names (sessions machine.links) request) request reply e refl))

@@ -6,7 +6,7 @@ use Rattle.iscsi_pdu.specs.Frames.{Frame}
 use Rattle.iscsi_pdu.specs.Header.{cmd_sn}
 use Rattle.iscsi_pdu.specs.declared.answer.Answer.{Answer}
 use Rattle.iscsi_pdu.specs.declared.login_response.LoginRefusal.{LoginRefusal}
-use Rattle.iscsi_login.specs.Directory.{Lookup}
+use Rattle.iscsi_login.specs.Lookup.{Lookup}
 use Rattle.iscsi_login.specs.LoginState.{LoginState, new_login, opening_of}
 use Rattle.iscsi_login.specs.Rules.{opening_with, is_due, reads_text, pairs_with, refusal_of}
 use Rattle.iscsi_login.specs.Login.{kept_with, heard, brought, answered, advanced, remembered, params_of, begun_by, step_of, reply_with, reply_to, reply_unless, reply_of}

@@ -9,7 +9,7 @@ use Rattle.iscsi_pdu.specs.LoginRequest.{tsih}
 use Rattle.iscsi_target.specs.History.{Event, Open, Bytes, Gone, Step, Judging, Taking, Doing, Ending, Mark, Happening, History, Arrival, Whole, TooLong, new_arrivals, connections}
 use Rattle.iscsi_target.specs.Units.{Units, join, leave}
 use Rattle.iscsi_login.specs.Session.{Live, named_by, older}
-use Rattle.iscsi_login.specs.Directory.{Lookup}
+use Rattle.iscsi_login.specs.Lookup.{Lookup}
 use Rattle.iscsi_login.specs.Login.{login}
 use Rattle.iscsi_target.specs.Life.{Life, Phase, LoggingIn, FullFeature, Closing, Over, Accepted, born, reads, is_over, session_in, stamp, index_of, ready}
 use Rattle.iscsi_target.specs.Acts.{is_login, verdict, carried_out, command_answers}

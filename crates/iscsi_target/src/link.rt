@@ -1,11 +1,12 @@
 //! One connection: its bytes, its phase and what waits to be sent.
 
-ghost use Rattle.std.specs.Prelude.{◌≡◌, ◌<◌, ◌≤◌, ◌+◌, ◌++◌, ◌∷◌, ℕ, List, [], true, false, length, drop, IsOk, IfOk, IfSome, IfNone, OnOk, OnErr, IfErr};
+ghost use Rattle.std.specs.Prelude.{◌≡◌, ◌<◌, ◌≤◌, ◌+◌, ◌++◌, ◌∷◌, ℕ, List, [], true, false, None, length, map, string_bytes, drop, IsOk, IfOk, IfSome, IfNone, OnOk, OnErr, IfErr};
 ghost use Rattle.std.specs.Result.{IsErrOf};
 ghost use Rattle.iscsi_pdu.specs.Frames.{frames, rest, has_frame, is_long, frame_length, wanted};
 ghost use Rattle.iscsi_target.specs.Units.{Units as UnitStates, join as join_units};
 ghost use Rattle.iscsi_target.specs.Acts.{carried_out};
 ghost use Rattle.iscsi_pdu.specs.Answer.{spelling};
+ghost use Rattle.iscsi_login.specs.Lookup.{lookup_in};
 ghost use Rattle.iscsi_login.specs.LoginState.{LoginState};
 ghost use Rattle.iscsi_login.specs.Login.{advanced, reply_of};
 ghost use Rattle.iscsi_target.specs.Machine.{LinkState, is_reading, is_logging_in, session_in_phase, free_link, opened_link, shut_link, begun_link, served_in, IsAnswered, HasTarget, sent_link};
@@ -17,7 +18,7 @@ use crate::phase::Phase;
 use crate::session::{count, finish_one, first_numbers};
 use crate::units::Units;
 use bytes::BytesMut;
-use iscsi_login::{Directory, Login, Params, Reply};
+use iscsi_login::{Login, Params, Reply};
 use iscsi_pdu::{Answer, Frame, Framer, PduFault};
 use scsi_sense::{AdditionalSense, Done, Nexus, Sense, SenseKey};
 use std::alloc::Global;
@@ -132,20 +133,21 @@ impl Link {
     pub(crate) fn log_in(
         &mut self,
         request: &Frame,
-        directory: &Directory,
+        targets: &[String],
+        named: &Option<Params>,
     ) -> Result<Option<(Answer, Params)>, Memory>
         requires { is_logging_in self.old.phase ≡ true }
         ensures answered { IfOk result (λ begun. (login : LoginState) → self.old.phase ≡ UnderWay login
-            → IsAnswered (reply_of login directory.now request.now) (advanced directory.now.names login request.now) self.old begun self.new) }
-        ensures target { HasTarget (length directory.now.names) self.old.phase → HasTarget (length directory.now.names) self.new.phase }
-        ensures begun { IfOk result (λ begun. IfSome begun (λ b. HasTarget (length directory.now.names) self.old.phase → b.1.target < length directory.now.names)) }
+            → IsAnswered (reply_of login (lookup_in targets.now named.now) request.now) (advanced (map string_bytes targets.now) login request.now) self.old begun self.new) }
+        ensures target { HasTarget (length targets.now) self.old.phase → HasTarget (length targets.now) self.new.phase }
+        ensures begun { IfOk result (λ begun. IfSome begun (λ b. HasTarget (length targets.now) self.old.phase → b.1.target < length targets.now)) }
         ensures waiting { OnErr result (self.new.waiting ≡ self.old.waiting) }
         ensures session { OnErr result (session_in_phase self.new.phase ≡ None) }
     {
         let Phase::Login(login) = &mut self.phase else {
             return Ok(None);
         };
-        match login.take(request, directory)? {
+        match login.take(request, targets, named)? {
             Reply::GoOn(answer) => {
                 self.send(&answer)?;
                 Ok(None)

@@ -18,7 +18,7 @@ use crate::phase::Phase;
 use crate::session::{Verdict, judge};
 use crate::sessions::{named, older};
 use crate::units::Units;
-use iscsi_login::{Directory, Params};
+use iscsi_login::Params;
 use iscsi_pdu::{Answer, Frame, Opcode, PduFault};
 use std::alloc::Global;
 use std::marker::Model;
@@ -316,12 +316,10 @@ impl Target {
         ensures ok { OnOk result ((login : LoginState) → (link_at self.old c).phase ≡ Login login → self.new ≡ logged_in self.old c login request.now) }
         ensures err { OnErr result (closed self.new c ≡ closed self.old c) }
     {
-        let directory = Directory {
-            named: named(self.links.as_slice(), request.header.tsih())?,
-            targets: self.config.targets.as_slice(),
-        };
+        let named = named(self.links.as_slice(), request.header.tsih())?;
+        let targets = self.config.targets.as_slice();
         let link = &mut self.links[c];
-        match link.log_in(request, &directory)? {
+        match link.log_in(request, targets, &named)? {
             Some((answer, session)) => self.begin(c, session, &answer),
             None => Ok(()),
         }
