@@ -301,7 +301,7 @@ impl Login {
         &self,
         request: &Frame,
         targets: &[String],
-    named: &Option<Params>,
+        named: &Option<Params>,
         pairs: &Pairs,
     ) -> Result<Option<Session>, Fault>
         ensures session { IfOk result (λ asked. asked ≡ asked_by self.now.session (map string_bytes targets.now) request.now.header pairs.now) }
@@ -359,7 +359,12 @@ impl Login {
 
     /// A whole text is taken, and its answer is due. Gives the first piece of the answer.
     #[tactic(auto, unfolding(crate::specs::Rules::text_refusal))]
-    fn hear(&mut self, request: &Frame, targets: &[String], named: &Option<Params>) -> Result<Vec<u8>, Fault>
+    fn hear(
+        &mut self,
+        request: &Frame,
+        targets: &[String],
+        named: &Option<Params>,
+    ) -> Result<Vec<u8>, Fault>
         ensures heard { OnOk result (self.new ≡ heard (map string_bytes targets.now) self.old request.now.header (pairs_with self.old request.now)) }
         ensures piece { IfOk result (λ piece. piece.items ≡ take longest_piece self.new.due) }
         ensures short { IfOk result (λ piece. length piece.items ≤ longest_piece) }
@@ -391,7 +396,12 @@ impl Login {
     /// is the session in full feature phase whose TSIH the request bears. Where an allocation fails the login is as it was. After
     /// [`Reply::Full`] and [`Reply::Refused`] the login is over.
     #[tactic(auto, unfolding(crate::specs::Rules::refusal_of, crate::specs::Login::reply_of, crate::specs::Login::advanced))]
-    pub fn take(&mut self, request: &Frame, targets: &[String], named: &Option<Params>) -> Result<Reply, Memory>
+    pub fn take(
+        &mut self,
+        request: &Frame,
+        targets: &[String],
+        named: &Option<Params>,
+    ) -> Result<Reply, Memory>
         ensures reply { IfOk result (λ reply. reply ≡ reply_of self.old (lookup_in targets.now named.now) request.now) }
         ensures after { IfOk result (λ reply. IsAfter (map string_bytes targets.now) self.old request.now reply self.new) }
         ensures target { IfOk result (λ reply. AsksBelow (len targets.now) self.old.session → IsBelow (len targets.now) reply self.new) }

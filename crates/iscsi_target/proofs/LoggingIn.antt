@@ -15,7 +15,7 @@ use Rattle.iscsi_login.specs.Login.{login, advanced, remembered, reply_of}
 use Rattle.iscsi_target.specs.Life.{Life, Phase, LoggingIn, FullFeature, Closing, first_cmd_sn, stamp, out_of}
 use Rattle.iscsi_target.specs.World.{Setting, World, is_present, present, changed, session_of, live, left, close, shut, changed_units, answered, asked, begun, end_older, requests_of, lookup_for, replied, log_in}
 use Rattle.iscsi_target.specs.Machine.{Machine, link_at, with_link, shut_link, session_in_phase, sessions, free_link, gone_on_link, refused_link, begun_link, shut_older, replied as machine_replied, logged_in, first_numbers}
-use Rattle.iscsi_target.specs.Stands.{phase_of, phase_for, IsQuiet, IsLogin, IsLinkOf}
+use Rattle.iscsi_target.specs.Stands.{phase_for, IsQuiet, IsLogin, IsLinkOf}
 use Rattle.iscsi_login.specs.declared.params.Params.{Params}
 use Rattle.iscsi_login.specs.declared.reply.Reply.{Reply}
 use Rattle.iscsi_login.specs.declared.reply.Reply.TheVariants.{GoOn, Full, Refused}

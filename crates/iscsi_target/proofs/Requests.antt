@@ -1,19 +1,17 @@
 -- What a login remembers of its requests, one request further on.
-use Rattle.std.proofs.Common.{◌≡◌, ℕ, ◌+◌, ◌^◌, ◌%◌, List, [], ◌∷◌, ◌++◌, length, Bool, true, false, cond, Option, Some, None, refl, sym, ap, ◌∙◌, arith}
+use Rattle.std.proofs.Common.{◌≡◌, ℕ, ◌+◌, ◌^◌, ◌%◌, List, [], ◌∷◌, ◌++◌, length, Bool, true, false, cond, Option, Some, None, refl, ap, ◌∙◌, arith}
 use Rattle.std.specs.Prelude.{fold, unwrap_or}
 use Rattle.std.proofs.lemmas.List.Sums.{fold-append}
 use Rattle.iscsi_pdu.specs.Frames.{Frame}
-use Rattle.iscsi_pdu.specs.Header.{cmd_sn}
 use Rattle.iscsi_pdu.specs.declared.answer.Answer.{Answer}
 use Rattle.iscsi_pdu.specs.declared.login_response.LoginRefusal.{LoginRefusal}
 use Rattle.iscsi_login.specs.Lookup.{Lookup}
 use Rattle.iscsi_login.specs.LoginState.{LoginState, new_login, opening_of}
 use Rattle.iscsi_login.specs.Rules.{opening_with, is_due, reads_text, pairs_with, refusal_of}
-use Rattle.iscsi_login.specs.Login.{kept_with, heard, brought, answered, advanced, remembered, params_of, begun_by, step_of, reply_with, reply_to, reply_unless, reply_of}
+use Rattle.iscsi_login.specs.Login.{kept_with, heard, brought, advanced, remembered, params_of, begun_by, step_of, reply_with, reply_to, reply_unless, reply_of}
 use Rattle.iscsi_login.specs.declared.opening.Opening.{Opening}
 use Rattle.iscsi_login.specs.declared.params.Params.{Params}
-use Rattle.iscsi_login.specs.declared.reply.Reply.{Reply}
-use Rattle.iscsi_login.specs.declared.reply.Reply.TheVariants.{GoOn, Full, Refused}
+use Rattle.iscsi_login.specs.declared.reply.Reply.TheVariants.{Full}
 use Rattle.iscsi_login.specs.declared.session.Session.{Session}
 use Rattle.iscsi_target.specs.Life.{first_cmd_sn}
 

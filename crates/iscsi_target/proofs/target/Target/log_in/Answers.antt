@@ -5,14 +5,12 @@ use Rattle.std.proofs.lemmas.Result.{on_ok_weaker, on_err_weaker}
 use Rattle.iscsi_pdu.specs.Frames.{Frame}
 use Rattle.iscsi_pdu.specs.LoginRequest.{tsih}
 use Rattle.iscsi_login.specs.Lookup.{Lookup, lookup_in}
-use Rattle.iscsi_login.specs.LoginState.{LoginState}
-use Rattle.iscsi_login.specs.Login.{advanced, reply_of}
+use Rattle.iscsi_login.specs.Login.{reply_of}
 use Rattle.iscsi_login.specs.Session.{named_by}
 use Rattle.iscsi_login.specs.declared.params.Params.{Params}
-use Rattle.iscsi_login.specs.declared.reply.Reply.{Reply}
 use Rattle.iscsi_target.specs.World.{lookup_for}
 use Rattle.iscsi_target.specs.Machine.{LinkState, Machine, link_at, closed, free_link, HasTarget, is_logging_in, is_reading, logged_in, sessions}
-use Rattle.iscsi_target.proofs.Asking.{login_there, no_session, still_reading, IsWaiting, waits, link_there, closed_alike, begun_alike, begun_by_request, on_err, get_or_any}
+use Rattle.iscsi_target.proofs.Asking.{login_there, no_session, still_reading, waits, link_there, closed_alike, begun_alike, begun_by_request, on_err, get_or_any}
 use Rattle.iscsi_target.proofs.target.Target.log_in.Goals as goal
 
 pub returns-in_err-answer-clause-err : goal.returns-in_err-answer-clause-err
@@ -31,9 +29,11 @@ invariant_of-self-in-Some c =
     let old : c.index_mut-link.result.now ≡ _ = c.index_mut-link.ensures.value ∙ get_or_any c.self.inside.links.items c.args.c _ free_link lt in
     let count : length c.as_slice-targets.result.now ≡ length c.self.inside.units.items = ap length c.as_slice-targets.ensures.value ∙ sym c.self.invariant.1 in
     let was : HasTarget (length c.self.inside.units.items) c.index_mut-link.result.now.phase = subst (λ (l : LinkState). HasTarget (length c.self.inside.units.items) l.phase) (sym old) (c.self.invariant.2 c.args.c free_link lt) in
-    let is : HasTarget (length c.self.inside.units.items) c.log_in.new.self.phase = subst (λ (n : ℕ). HasTarget n c.index_mut-link.result.now.phase → HasTarget n c.log_in.new.self.phase) count c.in_ok-answer.ensures.target was in
-    (length-set c.self.inside.links.items c.args.c c.log_in.new.self ∙ c.self.invariant.0, c.self.invariant.1,
-     All-set (λ (l : LinkState). HasTarget (length c.self.inside.units.items) l.phase) c.self.inside.links.items c.args.c c.log_in.new.self is c.self.invariant.2)
+    let is : HasTarget (length c.self.inside.units.items) c.log_in.new.self.phase = subst (λ (n : ℕ). HasTarget n c.index_mut-link.result.now.phase → HasTarget n c.log_in.new.self.phase) count c.in_ok-answer.ensures.target was in (
+      length-set c.self.inside.links.items c.args.c c.log_in.new.self ∙ c.self.invariant.0,
+      c.self.invariant.1,
+      All-set (λ (l : LinkState). HasTarget (length c.self.inside.units.items) l.phase) c.self.inside.links.items c.args.c c.log_in.new.self is c.self.invariant.2,
+    )
 
 pub begin-requires-clause-reads : goal.begin-requires-clause-reads
 begin-requires-clause-reads c =
