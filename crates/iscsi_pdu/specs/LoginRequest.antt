@@ -38,3 +38,7 @@ isid header = take 6 (drop 8 header)
 -- RFC 7143 §11.12.6
 abbrev pub tsih : List ℕ → ℕ
 tsih header = big_from 14 2 header
+
+-- RFC 7143 §11.12.7: CID
+abbrev pub connection_id : List ℕ → ℕ
+connection_id header = big_from 20 2 header

@@ -13,7 +13,7 @@ pub const TRANSIT: u8 = 0x80;
 pub const CONTINUED: u8 = 0x40;
 
 impl Header {
-    ghost use Rattle.iscsi_pdu.specs.LoginRequest.{is_transit, is_continued, current_stage, next_stage, version_min, isid, tsih};
+    ghost use Rattle.iscsi_pdu.specs.LoginRequest.{is_transit, is_continued, current_stage, next_stage, version_min, isid, tsih, connection_id};
 
     /// The T bit: the initiator is ready for the next stage.
     pub fn is_transit(&self) -> bool
@@ -65,5 +65,12 @@ impl Header {
         ensures { result ≡ tsih self.now }
     {
         BigEndian::read_u16(&self.bytes[14..])
+    }
+
+    /// CID, the initiator's number of the connection in the session.
+    pub fn connection_id(&self) -> u16
+        ensures { result ≡ connection_id self.now }
+    {
+        BigEndian::read_u16(&self.bytes[20..])
     }
 }

@@ -9,13 +9,14 @@ use Rattle.iscsi_pdu.specs.Frames.{Frame}
 use Rattle.iscsi_pdu.specs.Answer.{spelling}
 use Rattle.iscsi_pdu.specs.declared.answer.Answer.{Answer}
 use Rattle.iscsi_pdu.specs.declared.stamp.Stamp.{Stamp}
+use Rattle.iscsi_login.specs.Login.{remembered as remembered_of}
 use Rattle.iscsi_target.specs.History.{Mark, Judging, Taking, Doing, Whole}
 use Rattle.iscsi_target.specs.Life.{Life, Phase, LoggingIn, FullFeature, Closing, Over, Accepted, reads, session_in, stamp, index_of, out_of}
 use Rattle.iscsi_target.specs.Acts.{is_login, reserved_tag, verdict, carried_out, scsi_answer}
 use Rattle.iscsi_target.specs.World.{Setting, World, log_in, is_present, present, changed, reads_life, session_of, close, take_step, accepted, judged, verdict_for, judge, finished, done_for, finish, ready_in, settle, serve, enter, arrive, arrive_at, arrive_in}
 use Rattle.iscsi_target.specs.Machine.{LinkState, Machine, link_at, with_link, closed, logged_in, counted, finished_one, served_in, judged as machine_judged, frame_in, frame_taken}
-use Rattle.iscsi_target.specs.Stands.{phase_of, phase_for, IsQuiet, IsFinished, IsNew}
-use Rattle.iscsi_target.specs.declared.session.Session.{Session}
+use Rattle.iscsi_target.specs.Stands.{phase_of, phase_for, IsQuiet, IsFinished, IsLogin}
+use Rattle.iscsi_login.specs.declared.params.Params.{Params}
 use Rattle.iscsi_target.specs.declared.session.Verdict.{Verdict}
 use Rattle.iscsi_target.specs.declared.session.Verdict.TheVariants as verdicts
 use Rattle.iscsi_target.specs.declared.phase.Phase.TheVariants as remembered
@@ -72,13 +73,13 @@ stands_on : (c : ℕ) (place : ℕ) (frame : Frame) (life : Life) → is_present
 stands_on c place frame life e = e
 
 -- the units are those from before
-unit_world : (c place : ℕ) (frame : Frame) (w : World) (command : Accepted) (session : Session) → done_for (Some session) c command (changed (accepted place frame) c w)
+unit_world : (c place : ℕ) (frame : Frame) (w : World) (command : Accepted) (session : Params) → done_for (Some session) c command (changed (accepted place frame) c w)
     ≡ (let p = carried_out (slice_index_or w.units session.target []) session.nexus command.frame in record (changed (finished command p.1) c (changed (accepted place frame) c w)) { units = slice_set w.units session.target p.0 })
 unfolding changed
 unit_world c place frame w command session = refl
 
 -- it is accepted, taken, done and answered
-does : (marks : List Mark) (c place : ℕ) (bytes : List ℕ) (s : Setting) (sent : ℕ → ℕ) (w : World) (machine : Machine) (life : Life) (session : Session) (frame : Frame) → Serves c place bytes s sent w machine → Unmarked marks c place → present c w ≡ Some life → life.phase ≡ FullFeature session → IsFinished place life
+does : (marks : List Mark) (c place : ℕ) (bytes : List ℕ) (s : Setting) (sent : ℕ → ℕ) (w : World) (machine : Machine) (life : Life) (session : Params) (frame : Frame) → Serves c place bytes s sent w machine → Unmarked marks c place → present c w ≡ Some life → life.phase ≡ FullFeature session → IsFinished place life
     → verdict (stamp life).exp_cmd_sn frame ≡ verdicts.Accepted
     → Serves c (place + 1) bytes s sent (settle marks c (take_step marks c (Taking place) (λ u. u) (changed (accepted place frame) c w)))
     (let p = served_in (link_at machine c) machine.units frame (remembered.FullFeature session (stamp life)) in record (with_link machine c p.0) { units = p.1 })
@@ -96,7 +97,7 @@ does marks c place bytes s sent w machine life session frame h un at phase done 
     let f = finished command p.1 l in
     let v : World = record (changed (finished command p.1) c u) { units = slice_set w.units session.target p.0 } in
     let in_session : session_of (present c u) ≡ Some session = ap session_of at_u ∙ ap session_in phase in
-    let does_ : finish c command u ≡ v = ap (λ (o : Option Session). done_for o c command u) in_session ∙ unit_world c place frame w command session in
+    let does_ : finish c command u ≡ v = ap (λ (o : Option Params). done_for o c command u) in_session ∙ unit_world c place frame w command session in
     let world : settle marks c (take_step marks c (Taking place) (λ x. x) u) ≡ v =
     ap (settle marks c) (step_done marks c (Taking place) (λ x. x) u reads_u un.taking)
     ∙ ap (λ (cs : List Accepted). fold (λ x next_. take_step marks c (Doing next_.place) (finish c next_) x) u cs) all
@@ -104,7 +105,7 @@ does marks c place bytes s sent w machine life session frame h un at phase done 
     let at_v : present c v ≡ Some f = present-units c v (changed (finished command p.1) c u) refl ∙ present-changed (finished command p.1) c u l at_u on in
     let over = record l { finished = l.finished ++ place ∷ [] } in
     let numbers : stamp over ≡ finished_one (stamp life) = finished_numbers place life frame done.numbered next in
-    let here : IsServing place bytes (sent c) (link_at machine c) (Some life) = rw at at h.here in
+    let here : IsServing s.names place bytes (sent c) (link_at machine c) (Some life) = rw at at h.here in
     let answer = scsi_answer (stamp over) frame p.1 in
     let same : answer ≡ scsi_answer (finished_one (stamp life)) frame p.1 = ap (λ (n : Stamp). scsi_answer n frame p.1) numbers in
     let x = spelling (scsi_answer (finished_one (stamp life)) frame p.1) ++ [] in
@@ -115,7 +116,7 @@ does marks c place bytes s sent w machine life session frame h un at phase done 
     rw (world, h.units) (replaced c place (place + 1) bytes s sent w v machine (slice_set w.units session.target p.0) link h refl
     (λ d differ. present-units d v (changed (finished command p.1) c u) refl ∙ present-changed_other (finished command p.1) c d u (λ k. refl) differ ∙ present-changed_other (accepted place frame) c d w (λ k. refl) differ)
     (rw at_v record {
-      phase = ap (remembered.FullFeature session) (sym (stamp-answered over answer ∙ ap counted numbers)) ∙ sym (ap (phase_for f) phase);
+      phase = ap (remembered.FullFeature session) (sym (stamp-answered over answer ∙ ap counted numbers)) ∙ sym (ap (phase_for s.names f) phase);
       answered = rw out (let le = here.answered in omega (arith, length-append (out_of life) x));
       waiting = rw out (says (sent c) (link_at machine c).waiting (out_of life) x here.answered here.waiting);
       quiet = (let all = finished_is place life frame done next in quiet_as (place + 1) f (FullFeature session) life.phase (sym phase) (record { numbered = all.numbered; finished = all.finished }));
@@ -124,7 +125,7 @@ does marks c place bytes s sent w machine life session frame h un at phase done 
 
 -- ---- a frame in full feature phase
 
-judges : (v : Verdict) (marks : List Mark) (c place : ℕ) (bytes : List ℕ) (s : Setting) (sent : ℕ → ℕ) (w : World) (machine : Machine) (life : Life) (session : Session) (frame : Frame) → Serves c place bytes s sent w machine → Unmarked marks c place → present c w ≡ Some life → life.phase ≡ FullFeature session → IsFinished place life
+judges : (v : Verdict) (marks : List Mark) (c place : ℕ) (bytes : List ℕ) (s : Setting) (sent : ℕ → ℕ) (w : World) (machine : Machine) (life : Life) (session : Params) (frame : Frame) → Serves c place bytes s sent w machine → Unmarked marks c place → present c w ≡ Some life → life.phase ≡ FullFeature session → IsFinished place life
     → (link_at machine c).phase ≡ remembered.FullFeature session (stamp life) → verdict (stamp life).exp_cmd_sn frame ≡ v
     → Serves c (place + 1) bytes s sent (settle marks c (take_step marks c (Taking place) (λ u. u) (judged v c place frame w))) (machine_judged v machine c frame)
 judges verdicts.Accepted marks c place bytes s sent w machine life session frame h un at phase done link e = rw link (does marks c place bytes s sent w machine life session frame h un at phase done e)
@@ -132,7 +133,7 @@ judges verdicts.Violating marks c place bytes s sent w machine life session fram
     let idle : reads_life (present c (close c w)) ≡ false = ap reads_life (present-close c w life at) in
     rw (closed_serve marks c place (close c w) idle) (closes c place (place + 1) bytes s sent w machine life h at)
 
-serves : (marks : List Mark) (c place : ℕ) (bytes : List ℕ) (s : Setting) (sent : ℕ → ℕ) (w : World) (machine : Machine) (life : Life) (session : Session) (frame : Frame) → Serves c place bytes s sent w machine → Unmarked marks c place → present c w ≡ Some life → life.phase ≡ FullFeature session → IsFinished place life
+serves : (marks : List Mark) (c place : ℕ) (bytes : List ℕ) (s : Setting) (sent : ℕ → ℕ) (w : World) (machine : Machine) (life : Life) (session : Params) (frame : Frame) → Serves c place bytes s sent w machine → Unmarked marks c place → present c w ≡ Some life → life.phase ≡ FullFeature session → IsFinished place life
     → (link_at machine c).phase ≡ remembered.FullFeature session (stamp life)
     → Serves c (place + 1) bytes s sent (serve marks c place frame w) (machine_judged (verdict (stamp life).exp_cmd_sn frame) machine c frame)
 unfolding serve judge
@@ -144,8 +145,8 @@ serves marks c place bytes s sent w machine life session frame h un at phase don
 
 -- ---- any frame
 
-enters : (b : Bool) (c place : ℕ) (bytes : List ℕ) (s : Setting) (sent : ℕ → ℕ) (w : World) (machine : Machine) (life : Life) (frame : Frame) → Serves c place bytes s sent w machine → present c w ≡ Some life → life.phase ≡ LoggingIn → IsNew life
-    → Serves c (place + 1) bytes s sent (cond b (log_in s c frame w) (close c w)) (cond b (logged_in machine c frame) (closed machine c))
+enters : (b : Bool) (c place : ℕ) (bytes : List ℕ) (s : Setting) (sent : ℕ → ℕ) (w : World) (machine : Machine) (life : Life) (frame : Frame) → Serves c place bytes s sent w machine → present c w ≡ Some life → life.phase ≡ LoggingIn → IsLogin life
+    → Serves c (place + 1) bytes s sent (cond b (log_in s c frame w) (close c w)) (cond b (logged_in machine c (remembered_of s.names (life.connection + 1) life.requests) frame) (closed machine c))
 enters true c place bytes s sent w machine life frame h at phase new = logs_in c place bytes s sent w machine life frame h at phase new
 enters false c place bytes s sent w machine life frame h at phase new = closes c place (place + 1) bytes s sent w machine life h at
 
@@ -171,22 +172,22 @@ stays c place later bytes s sent w machine h r = record {
 }
 
 takes_in : (ph : Phase) (marks : List Mark) (c place : ℕ) (bytes : List ℕ) (s : Setting) (sent : ℕ → ℕ) (w : World) (machine : Machine) (life : Life) (frame : Frame) → Serves c place bytes s sent w machine → Unmarked marks c place → present c w ≡ Some life → life.phase ≡ ph
-    → Serves c (place + 1) bytes s sent (arrive_in s marks c w place (Whole frame) ph) (frame_in machine c frame (phase_for life ph))
+    → Serves c (place + 1) bytes s sent (arrive_in s marks c w place (Whole frame) ph) (frame_in machine c frame (phase_for s.names life ph))
 takes_in LoggingIn marks c place bytes s sent w machine life frame h un at phase =
     let reads_w : reads_life (present c w) ≡ true = ap reads_life at ∙ ap reads phase in
-    let here : IsServing place bytes (sent c) (link_at machine c) (Some life) = rw at at h.here in
-    let new : IsNew life = quiet_as place life life.phase LoggingIn phase here.quiet in
+    let here : IsServing s.names place bytes (sent c) (link_at machine c) (Some life) = rw at at h.here in
+    let new : IsLogin life = quiet_as place life life.phase LoggingIn phase here.quiet in
     rw (step_done marks c (Judging place) (enter s c frame) w reads_w un.judging) (enters (is_login frame) c place bytes s sent w machine life frame h at phase new)
 takes_in (FullFeature session) marks c place bytes s sent w machine life frame h un at phase =
-    let here : IsServing place bytes (sent c) (link_at machine c) (Some life) = rw at at h.here in
+    let here : IsServing s.names place bytes (sent c) (link_at machine c) (Some life) = rw at at h.here in
     let done : IsFinished place life = quiet_as place life life.phase (FullFeature session) phase here.quiet in
-    let link : (link_at machine c).phase ≡ remembered.FullFeature session (stamp life) = here.phase ∙ ap (phase_for life) phase in
+    let link : (link_at machine c).phase ≡ remembered.FullFeature session (stamp life) = here.phase ∙ ap (phase_for s.names life) phase in
     serves marks c place bytes s sent w machine life session frame h un at phase done link
 takes_in Closing marks c place bytes s sent w machine life frame h un at phase = stays c place (place + 1) bytes s sent w machine h (ap reads_life at ∙ ap reads phase)
 takes_in Over marks c place bytes s sent w machine life frame h un at phase = stays c place (place + 1) bytes s sent w machine h (ap reads_life at ∙ ap reads phase)
 
 takes_at : (o : Option Life) (marks : List Mark) (c place : ℕ) (bytes : List ℕ) (s : Setting) (sent : ℕ → ℕ) (w : World) (machine : Machine) (frame : Frame) → Serves c place bytes s sent w machine → Unmarked marks c place → present c w ≡ o
-    → Serves c (place + 1) bytes s sent (arrive_at s marks c w place (Whole frame) o) (frame_in machine c frame (phase_of o))
+    → Serves c (place + 1) bytes s sent (arrive_at s marks c w place (Whole frame) o) (frame_in machine c frame (phase_of s.names o))
 takes_at None marks c place bytes s sent w machine frame h un at = stays c place (place + 1) bytes s sent w machine h (ap reads_life at)
 takes_at (Some life) marks c place bytes s sent w machine frame h un at = takes_in life.phase marks c place bytes s sent w machine life frame h un at refl
 

@@ -22,22 +22,22 @@ use Rattle.iscsi_target.proofs.Bringing.{starved, names_first, unmarked_before, 
 
 -- ---- what reads
 
-reading_in : (life : Life) (phase : Phase) → is_reading (phase_for life phase) ≡ reads phase
-reading_in life LoggingIn = refl
-reading_in life (FullFeature session) = refl
-reading_in life Closing = refl
-reading_in life Over = refl
+reading_in : (names : List (List ℕ)) (life : Life) (phase : Phase) → is_reading (phase_for names life phase) ≡ reads phase
+reading_in names life LoggingIn = refl
+reading_in names life (FullFeature session) = refl
+reading_in names life Closing = refl
+reading_in names life Over = refl
 
-reading_same : (o : Option Life) → is_reading (phase_of o) ≡ reads_life o
-reading_same None = refl
-reading_same (Some life) = reading_in life life.phase
+reading_same : (names : List (List ℕ)) (o : Option Life) → is_reading (phase_of names o) ≡ reads_life o
+reading_same names None = refl
+reading_same names (Some life) = reading_in names life life.phase
 
 some_reads : (o : Option Life) → reads_life o ≡ true → (life : Life) × (o ≡ Some life) × (reads life.phase ≡ true)
 some_reads None e = absurd cc
 some_reads (Some life) e = (life, refl, e)
 
 reads_there : (c place : ℕ) (bytes : List ℕ) (s : Setting) (sent : ℕ → ℕ) (w : World) (machine : Machine) → Serves c place bytes s sent w machine → is_reading (link_at machine c).phase ≡ reads_life (present c w)
-reads_there c place bytes s sent w machine h = ap is_reading h.here.phase ∙ reading_same (present c w)
+reads_there c place bytes s sent w machine h = ap is_reading h.here.phase ∙ reading_same s.names (present c w)
 
 -- a step that no mark names, and that does nothing
 nothing_by : (b : Bool) (c : ℕ) (step : Step) (w : World) → reads_life (present c w) ≡ b → take_step [] c step (λ v. v) w ≡ w
@@ -88,7 +88,7 @@ pub record Fed (c : ℕ) (s : Setting) (sent : ℕ → ℕ) (w : World) (machine
 
 pub fed : (c : ℕ) (s : Setting) (sent : ℕ → ℕ) (w : World) (machine : Machine) → c < connection_limit → StandsAt s sent w machine → is_reading (link_at machine c).phase ≡ true → Fed c s sent w machine
 fed c s sent w machine lt h r =
-    let there = some_reads (present c w) (sym (reading_same (present c w)) ∙ ap is_reading (sym (h.links c lt).phase) ∙ r) in
+    let there = some_reads (present c w) (sym (reading_same s.names (present c w)) ∙ ap is_reading (sym (h.links c lt).phase) ∙ r) in
     record { in_range = lt; stands = h; life = there.0; at = there.1; reads_life = there.2 }
 
 stamp_longer : (life : Life) (piece : List ℕ) → stamp (longer piece life) ≡ stamp life
@@ -99,21 +99,21 @@ out_longer : (life : Life) (piece : List ℕ) → out_of (longer piece life) ≡
 unfolding out_of
 out_longer life piece = refl
 
-phase_longer : (life : Life) (piece : List ℕ) (phase : Phase) → phase_for (longer piece life) phase ≡ phase_for life phase
+phase_longer : (names : List (List ℕ)) (life : Life) (piece : List ℕ) (phase : Phase) → phase_for names (longer piece life) phase ≡ phase_for names life phase
 unfolding stamp taken
-phase_longer life piece LoggingIn = refl
-phase_longer life piece (FullFeature session) = refl
-phase_longer life piece Closing = refl
-phase_longer life piece Over = refl
+phase_longer names life piece LoggingIn = refl
+phase_longer names life piece (FullFeature session) = refl
+phase_longer names life piece Closing = refl
+phase_longer names life piece Over = refl
 
 quiet_longer : (place : ℕ) (life : Life) (piece : List ℕ) (phase : Phase) → IsQuiet place life phase → IsQuiet place (longer piece life) phase
-quiet_longer place life piece LoggingIn h = record { requests = h.requests; came = h.came; finished = h.finished; answers = h.answers }
+quiet_longer place life piece LoggingIn h = record { came = h.came; finished = h.finished; answered = h.answered }
 quiet_longer place life piece (FullFeature session) h = record { numbered = h.numbered; finished = h.finished }
 quiet_longer place life piece Closing h = tt
 quiet_longer place life piece Over h = tt
 
 serves_with : (c place : ℕ) (bytes : List ℕ) (s : Setting) (sent : ℕ → ℕ) (w v : World) (machine : Machine) (link : LinkState) → c < connection_limit → StandsAt s sent w machine → v.units ≡ w.units
-    → ((d : ℕ) → d ≢ c → present d v ≡ present d w) → IsServing place bytes (sent c) link (present c v) → Serves c place bytes s sent v (with_link machine c link)
+    → ((d : ℕ) → d ≢ c → present d v ≡ present d w) → IsServing s.names place bytes (sent c) link (present c v) → Serves c place bytes s sent v (with_link machine c link)
 serves_with c place bytes s sent w v machine link lt h u other here =
     let there : get_or (set machine.links c link) c free_link ≡ link = get_or-set_same machine.links c link free_link (omega (arith, h.count)) in
     record {
@@ -135,11 +135,11 @@ longer_serves c s sent w machine life piece half lt h at =
     let v = changed (longer piece) c w in
     let place = length (arrivals life.bytes) in
     let at_v : present c v ≡ Some (longer piece life) = present-changed (longer piece) c w life at (present_is c w life at) in
-    let link : IsLinkOf (sent c) (link_at machine c) (Some life) = rw at at (h.links c lt) in
+    let link : IsLinkOf s.names (sent c) (link_at machine c) (Some life) = rw at at (h.links c lt) in
     serves_with c place (life.bytes ++ piece) s sent w v machine (record (link_at machine c) { half = half }) lt h refl
     (λ d differ. present-changed_other (longer piece) c d w (λ l. refl) differ)
     (rw at_v record {
-      phase = link.phase ∙ sym (phase_longer life piece life.phase);
+      phase = link.phase ∙ sym (phase_longer s.names life piece life.phase);
       answered = rw (out_longer life piece) link.answered;
       waiting = rw (out_longer life piece) link.waiting;
       quiet = quiet_longer place life piece life.phase link.settled.quiet;
@@ -152,13 +152,13 @@ kept_first machine c piece = with_link machine c (record (link_at machine c) { h
 
 first_half : (c : ℕ) (s : Setting) (sent : ℕ → ℕ) (w : World) (machine : Machine) (piece : List ℕ) → (f : Fed c s sent w machine) → (link_at (kept_first machine c piece) c).half ≡ rest f.life.bytes ++ piece
 first_half c s sent w machine piece f =
-    let link : IsLinkOf (sent c) (link_at machine c) (Some f.life) = rw f.at at (f.stands.links c f.in_range) in
+    let link : IsLinkOf s.names (sent c) (link_at machine c) (Some f.life) = rw f.at at (f.stands.links c f.in_range) in
     ap (λ (l : LinkState). l.half) (with_half machine c ((link_at machine c).half ++ piece) (omega (arith, f.stands.count, f.in_range)))
     ∙ ap (λ (b : List ℕ). b ++ piece) (link.half ∙ cond_true (reads f.life.phase) (rest f.life.bytes) [] f.reads_life)
 
 is_short : (c : ℕ) (s : Setting) (sent : ℕ → ℕ) (w : World) (machine : Machine) → (f : Fed c s sent w machine) → is_long (rest f.life.bytes) ≡ false
 is_short c s sent w machine f =
-    let link : IsLinkOf (sent c) (link_at machine c) (Some f.life) = rw f.at at (f.stands.links c f.in_range) in
+    let link : IsLinkOf s.names (sent c) (link_at machine c) (Some f.life) = rw f.at at (f.stands.links c f.in_range) in
     link.settled.short f.reads_life
 
 -- what is left to arrive behind the frames that were taken
@@ -217,7 +217,7 @@ ends_whole c s sent machine now history piece lt h r p reads_now none short =
     ∙ nothing_by (reads_life (present c v)) c Ending v refl in
     let reads_v : reads_life (present c v) ≡ true = sym (reads_there c _ _ s sent v now serves) ∙ reads_now in
     let there = some_reads (present c v) reads_v in
-    let here : IsServing (place + length p.done) (f.life.bytes ++ piece) (sent c) (link_at now c) (Some there.0) = rw there.1 at serves.here in
+    let here : IsServing s.names (place + length p.done) (f.life.bytes ++ piece) (sent c) (link_at now c) (Some there.0) = rw there.1 at serves.here in
     let behind : rest there.0.bytes ≡ p.more = ap rest here.held ∙ rest_in_pieces f.life.bytes piece ∙ ap rest (sym (first_half c s sent w machine piece f)) ∙ p.behind ∙ rest_none p.more none_ in
     let all : arrivals (f.life.bytes ++ piece) ≡ arrivals f.life.bytes ++ map Whole p.done =
     joined_arrivals f.life.bytes piece (is_short c s sent w machine f)
@@ -346,9 +346,9 @@ ends_idle c s sent machine history piece lt h open_ r =
     let w = world s history in
     let there = is_open_there s sent w machine c lt h open_ in
     let v = changed (longer piece) c w in
-    let link : IsLinkOf (sent c) (link_at machine c) (Some there.0) = rw there.1 at (h.links c lt) in
+    let link : IsLinkOf s.names (sent c) (link_at machine c) (Some there.0) = rw there.1 at (h.links c lt) in
     let at : present c v ≡ Some (longer piece there.0) = present-changed (longer piece) c w there.0 there.1 (present_is c w there.0 there.1) in
-    let idle_ : reads there.0.phase ≡ false = sym (reading_in there.0 there.0.phase) ∙ ap is_reading (sym link.phase) ∙ r in
+    let idle_ : reads there.0.phase ≡ false = sym (reading_in s.names there.0 there.0.phase) ∙ ap is_reading (sym link.phase) ∙ r in
     let reads_v : reads_life (present c v) ≡ false = ap reads_life at ∙ idle_ in
     let serves : Serves c (length (arrivals there.0.bytes)) (there.0.bytes ++ piece) s sent v machine = same_link c _ (there.0.bytes ++ piece) s sent v machine (omega (arith, h.count, lt)) (longer_serves c s sent w machine there.0 piece (link_at machine c).half lt h there.1) in
     let e : bring s [] c piece w ≡ v =

@@ -3,14 +3,18 @@ use Rattle.std.proofs.Common.{◌≡◌, ◌≢◌, ℕ, ◌<◌, List, [], leng
 use Rattle.std.proofs.lemmas.List.{get_or-map, get_or-set_same, get_or-set_other}
 use Rattle.std.proofs.lemmas.List.Quantifiers.{position-Some}
 use Rattle.iscsi_pdu.specs.Frames.{Frame}
-use Rattle.iscsi_target.specs.Login.{is_of, older, login}
+use Rattle.iscsi_login.specs.Session.{is_of, older}
+use Rattle.iscsi_login.specs.LoginState.{LoginState}
+use Rattle.iscsi_login.specs.Login.{advanced, reply_of}
+use Rattle.iscsi_pdu.specs.declared.answer.Answer.{Answer}
+use Rattle.iscsi_target.specs.World.{lookup_for}
 use Rattle.iscsi_target.specs.Acts.{is_login, verdict}
-use Rattle.iscsi_target.specs.Machine.{LinkState, Machine, link_at, shut_link, closed, free_link, is_reading, session_in_phase, sessions, refused_link, begun_link, shut_older, answered, logged_in, served_in, judged, frame_in, frame_taken}
-use Rattle.iscsi_target.specs.declared.session.Session.{Session}
+use Rattle.iscsi_target.specs.Machine.{LinkState, Machine, link_at, shut_link, closed, free_link, is_reading, session_in_phase, sessions, gone_on_link, refused_link, begun_link, shut_older, replied, logged_in, served_in, judged, frame_in, frame_taken}
+use Rattle.iscsi_login.specs.declared.params.Params.{Params}
 use Rattle.iscsi_target.specs.declared.session.Verdict.{Verdict}
 use Rattle.iscsi_target.specs.declared.session.Verdict.TheVariants.{Accepted, Violating}
-use Rattle.iscsi_target.specs.declared.login.Reply.{Reply}
-use Rattle.iscsi_target.specs.declared.login.Reply.TheVariants.{Refused, Full}
+use Rattle.iscsi_login.specs.declared.reply.Reply.{Reply}
+use Rattle.iscsi_login.specs.declared.reply.Reply.TheVariants.{GoOn, Full, Refused}
 use Rattle.iscsi_target.specs.declared.phase.Phase.{Phase}
 use Rattle.iscsi_target.specs.declared.phase.Phase.TheVariants.{Free, Login, FullFeature, Closing}
 
@@ -29,35 +33,40 @@ closed_link_at machine c lt = get_or-set_same machine.links c (shut_link (link_a
 closed_half : (machine : Machine) (c : ℕ) → c < length machine.links → KeepsHalf (link_at machine c).half (link_at (closed machine c) c)
 closed_half machine c lt = rw (closed_link_at machine c lt) (shut_half (link_at machine c).half (link_at machine c))
 
-none_of : (session : Session) (o : Option Session) → is_of session.nexus session.target o ≡ true → o ≡ None → ⊥
+none_of : (session : Params) (o : Option Params) → is_of session.nexus session.target o ≡ true → o ≡ None → ⊥
 none_of session None e n = absurd cc
 none_of session (Some x) e n = absurd cc
 
-other_older : (machine : Machine) (c d : ℕ) (session : Session) → c < length machine.links → (link_at machine c).phase ≡ Login → older session (sessions machine.links) ≡ Some d → d ≢ c
+other_older : (machine : Machine) (c d : ℕ) (session : Params) (login : LoginState) → c < length machine.links → (link_at machine c).phase ≡ Login login → older session (sessions machine.links) ≡ Some d → d ≢ c
 unfolding older
-other_older machine c d session lt logs e same =
+other_older machine c d session login lt logs e same =
     let p = position-Some (is_of session.nexus session.target) (sessions machine.links) d None e in
     let there : get_or (sessions machine.links) d None ≡ None =
     ap (λ (k : ℕ). get_or (sessions machine.links) k None) same ∙ get_or-map (λ link. session_in_phase link.phase) machine.links c free_link None lt ∙ ap session_in_phase logs in
     none_of session (get_or (sessions machine.links) d None) p.1 there
 
-begun_half : (c : ℕ) (o : Option ℕ) (session : Session) (frame : Frame) (machine : Machine) → c < length machine.links → ((d : ℕ) → o ≡ Some d → d ≢ c) → (m : Machine) → m.links ≡ set machine.links c (begun_link c session frame (link_at machine c)) → KeepsHalf (link_at machine c).half (link_at (shut_older o m) c)
-begun_half c None session frame machine lt apart m e =
-    let here : link_at m c ≡ begun_link c session frame (link_at machine c) = ap (λ (l : List LinkState). get_or l c free_link) e ∙ get_or-set_same machine.links c (begun_link c session frame (link_at machine c)) free_link lt in
+begun_half : (c : ℕ) (o : Option ℕ) (session : Params) (answer : Answer) (machine : Machine) → c < length machine.links → ((d : ℕ) → o ≡ Some d → d ≢ c) → (m : Machine) → m.links ≡ set machine.links c (begun_link session answer (link_at machine c)) → KeepsHalf (link_at machine c).half (link_at (shut_older o m) c)
+begun_half c None session answer machine lt apart m e =
+    let here : link_at m c ≡ begun_link session answer (link_at machine c) = ap (λ (l : List LinkState). get_or l c free_link) e ∙ get_or-set_same machine.links c (begun_link session answer (link_at machine c)) free_link lt in
     rw here record { reading = λ r. refl; idle = λ r. absurd cc }
-begun_half c (Some d) session frame machine lt apart m e =
-    let here : link_at m c ≡ begun_link c session frame (link_at machine c) = ap (λ (l : List LinkState). get_or l c free_link) e ∙ get_or-set_same machine.links c (begun_link c session frame (link_at machine c)) free_link lt in
+begun_half c (Some d) session answer machine lt apart m e =
+    let here : link_at m c ≡ begun_link session answer (link_at machine c) = ap (λ (l : List LinkState). get_or l c free_link) e ∙ get_or-set_same machine.links c (begun_link session answer (link_at machine c)) free_link lt in
     let there : get_or (set m.links d (shut_link (link_at m d))) c free_link ≡ link_at m c = get_or-set_other m.links d c (shut_link (link_at m d)) free_link (λ same. apart d refl (sym same)) in
     rw (there, here) record { reading = λ r. refl; idle = λ r. absurd cc }
 
-answered_half : (reply : Reply) (machine : Machine) (c : ℕ) (frame : Frame) → c < length machine.links → (link_at machine c).phase ≡ Login → KeepsHalf (link_at machine c).half (link_at (answered reply c frame machine) c)
-answered_half (Refused why) machine c frame lt logs =
-    let here : get_or (set machine.links c (refused_link why frame (link_at machine c))) c free_link ≡ refused_link why frame (link_at machine c) = get_or-set_same machine.links c (refused_link why frame (link_at machine c)) free_link lt in
+replied_half : (reply : Reply) (after : LoginState) (machine : Machine) (c : ℕ) (login : LoginState) → c < length machine.links → (link_at machine c).phase ≡ Login login → KeepsHalf (link_at machine c).half (link_at (replied reply after c machine) c)
+replied_half (GoOn answer) after machine c login lt logs =
+    let link = gone_on_link after answer (link_at machine c) in
+    let here : get_or (set machine.links c link) c free_link ≡ link = get_or-set_same machine.links c link free_link lt in
+    rw here record { reading = λ r. refl; idle = λ r. absurd cc }
+replied_half (Refused answer) after machine c login lt logs =
+    let link = refused_link answer (link_at machine c) in
+    let here : get_or (set machine.links c link) c free_link ≡ link = get_or-set_same machine.links c link free_link lt in
     rw here record { reading = λ r. absurd cc; idle = λ r. refl }
-answered_half (Full session) machine c frame lt logs =
-    begun_half c (older session (sessions machine.links)) session frame machine lt (λ d e. other_older machine c d session lt logs e) _ refl
+replied_half (Full answer session) after machine c login lt logs =
+    begun_half c (older session (sessions machine.links)) session answer machine lt (λ d e. other_older machine c d session login lt logs e) _ refl
 
-judged_half : (v : Verdict) (machine : Machine) (c : ℕ) (frame : Frame) (session : Session) → c < length machine.links → (numbers : _) → (link_at machine c).phase ≡ FullFeature session numbers → KeepsHalf (link_at machine c).half (link_at (judged v machine c frame) c)
+judged_half : (v : Verdict) (machine : Machine) (c : ℕ) (frame : Frame) (session : Params) → c < length machine.links → (numbers : _) → (link_at machine c).phase ≡ FullFeature session numbers → KeepsHalf (link_at machine c).half (link_at (judged v machine c frame) c)
 judged_half Violating machine c frame session lt numbers full = closed_half machine c lt
 judged_half Accepted machine c frame session lt numbers full =
     let link = (served_in (link_at machine c) machine.units frame (link_at machine c).phase).0 in
@@ -67,10 +76,10 @@ judged_half Accepted machine c frame session lt numbers full =
 frame_half_in : (ph : Phase) (machine : Machine) (c : ℕ) (frame : Frame) → c < length machine.links → (link_at machine c).phase ≡ ph → is_reading ph ≡ true → KeepsHalf (link_at machine c).half (link_at (frame_in machine c frame ph) c)
 unfolding logged_in
 frame_half_in Free machine c frame lt e r = absurd cc
-frame_half_in Login machine c frame lt e r = login_half (is_login frame)
+frame_half_in (Login login) machine c frame lt e r = login_half (is_login frame)
   where
-    login_half : (b : Bool) → KeepsHalf (link_at machine c).half (link_at (cond b (logged_in machine c frame) (closed machine c)) c)
-    login_half true = answered_half (login machine.names (sessions machine.links) frame) machine c frame lt e
+    login_half : (b : Bool) → KeepsHalf (link_at machine c).half (link_at (cond b (logged_in machine c login frame) (closed machine c)) c)
+    login_half true = replied_half (reply_of login (lookup_for machine.names (sessions machine.links) frame) frame) (advanced machine.names login frame) machine c login lt e
     login_half false = closed_half machine c lt
 frame_half_in (FullFeature session numbers) machine c frame lt e r = judged_half (verdict numbers.exp_cmd_sn frame) machine c frame session lt numbers e
 frame_half_in Closing machine c frame lt e r = absurd cc

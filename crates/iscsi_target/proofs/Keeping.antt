@@ -1,5 +1,5 @@
 -- An event of bytes begins and ends no life, and each goes on from what it was.
-use Rattle.std.proofs.Common.{◌≡◌, ℕ, List, [], ◌∷◌, ◌++◌, map, Bool, true, false, cond, not, eqb, Option, Some, None, refl, sym, ap, ◌∙◌, subst, append_assoc, append-nil}
+use Rattle.std.proofs.Common.{◌≡◌, ℕ, ◌+◌, List, [], ◌∷◌, ◌++◌, map, Bool, true, false, cond, not, eqb, Option, Some, None, refl, sym, ap, ◌∙◌, subst, append_assoc, append-nil}
 use Rattle.std.specs.List.{fold}
 use Rattle.std.specs.Prelude.{flat_map}
 use Rattle.std.proofs.lemmas.Grind.{flat_map-append}
@@ -7,17 +7,18 @@ use Rattle.iscsi_pdu.specs.Answer.{spelling}
 use Rattle.iscsi_pdu.specs.Frames.{Frame}
 use Rattle.iscsi_pdu.specs.declared.answer.Answer.{Answer}
 use Rattle.iscsi_target.specs.History.{Mark, Step, Judging, Taking, Doing, Ending, Arrival, Whole, TooLong, Bytes, marked}
-use Rattle.iscsi_target.specs.Login.{login, older}
+use Rattle.iscsi_login.specs.Session.{older}
+use Rattle.iscsi_login.specs.Login.{login}
 use Rattle.iscsi_target.specs.Life.{Life, Phase, LoggingIn, FullFeature, Closing, Over, Accepted, is_over, reads, out_of}
-use Rattle.iscsi_target.specs.World.{Setting, World, is_present, present, changed_life, changed, reads_life, session_of, live, close, shut, is_marked, take_step, refused, asked, begun, end_older, replied, log_in, accepted, judged, judge, verdict_for, finished, done_for, finish, ready_in, settle, serve, enter, arrive_in, arrive_at, arrive, brought, longer, bring, world}
+use Rattle.iscsi_target.specs.World.{Setting, World, is_present, present, changed_life, changed, reads_life, session_of, live, close, shut, is_marked, take_step, answered, asked, begun, requests_of, lookup_for, end_older, replied, log_in, accepted, judged, judge, verdict_for, finished, done_for, finish, ready_in, settle, serve, enter, arrive_in, arrive_at, arrive, brought, longer, bring, world}
 use Rattle.iscsi_target.specs.Acts.{is_login}
 use Rattle.iscsi_target.specs.Laws.{GoesOn, LivesGoOn, AnswersStay}
 use Rattle.iscsi_target.specs.Runs.{RowState, open_row, row_of}
-use Rattle.iscsi_target.specs.declared.session.Session.{Session}
+use Rattle.iscsi_login.specs.declared.params.Params.{Params}
 use Rattle.iscsi_target.specs.declared.session.Verdict.{Verdict}
 use Rattle.iscsi_target.specs.declared.session.Verdict.TheVariants as verdicts
-use Rattle.iscsi_target.specs.declared.login.Reply.{Reply}
-use Rattle.iscsi_target.specs.declared.login.Reply.TheVariants.{Refused, Full}
+use Rattle.iscsi_login.specs.declared.reply.Reply.{Reply}
+use Rattle.iscsi_login.specs.declared.reply.Reply.TheVariants.{GoOn, Full, Refused}
 use Rattle.iscsi_target.proofs.Choices.{cond_true, cond_false, and_true, not_true}
 use Rattle.iscsi_target.proofs.Standing.{world-push}
 
@@ -56,8 +57,8 @@ lives_then (x ∷ xs) [] zs a b = absurd a
 lives_then (x ∷ xs) (y ∷ ys) [] a b = absurd b
 lives_then (x ∷ xs) (y ∷ ys) (z ∷ zs) a b = (life_then x y z a.0 b.0, lives_then xs ys zs a.1 b.1)
 
-abbrev GoOn : World → World → Type 0
-GoOn w v = LivesGoOn w.lives v.lives
+abbrev GoesTo : World → World → Type 0
+GoesTo w v = LivesGoOn w.lives v.lives
 
 -- what f makes of a life that is not over is not over, stays on its connection, and was answered no less
 pub record Continues (f : Life → Life) : Type 0 where
@@ -86,7 +87,7 @@ lives_changed : (f : Life → Life) (c : ℕ) (lives : List Life) → Continues 
 lives_changed f c [] goes = tt
 lives_changed f c (x ∷ lives) goes = (life_by (is_present c x) f c x goes refl, lives_changed f c lives goes)
 
-on-changed : (f : Life → Life) (c : ℕ) (w : World) → Continues f → GoOn w (changed f c w)
+on-changed : (f : Life → Life) (c : ℕ) (w : World) → Continues f → GoesTo w (changed f c w)
 unfolding changed
 on-changed f c w goes = lives_changed f c w.lives goes
 
@@ -99,68 +100,75 @@ shut_continues = silent shut (λ life e. refl) (λ life. refl) (λ life. refl)
 
 -- ---- the steps
 
-on-then : (w v u : World) → GoOn w v → GoOn v u → GoOn w u
+on-then : (w v u : World) → GoesTo w v → GoesTo v u → GoesTo w u
 on-then w v u a b = lives_then w.lives v.lives u.lives a b
 
-on-same : (w : World) → GoOn w w
+on-same : (w : World) → GoesTo w w
 on-same w = lives_same w.lives
 
-on-close : (c : ℕ) (w : World) → GoOn w (close c w)
+on-close : (c : ℕ) (w : World) → GoesTo w (close c w)
 unfolding close
 on-close c w = on-changed shut c w shut_continues
 
-on-cond : (b : Bool) (v u w : World) → GoOn w v → GoOn w u → GoOn w (cond b v u)
+on-cond : (b : Bool) (v u w : World) → GoesTo w v → GoesTo w u → GoesTo w (cond b v u)
 on-cond true v u w d e = d
 on-cond false v u w d e = e
 
-on-take_step : (marks : List Mark) (c : ℕ) (step : Step) (act : World → World) (w : World) → GoOn w (act w) → GoOn w (take_step marks c step act w)
+on-take_step : (marks : List Mark) (c : ℕ) (step : Step) (act : World → World) (w : World) → GoesTo w (act w) → GoesTo w (take_step marks c step act w)
 unfolding take_step
 on-take_step marks c step act w e = on-cond (not (reads_life (present c w))) w _ w (on-same w) (on-cond (is_marked marks c step) (close c w) (act w) w (on-close c w) e)
 
-on-end_older : (o : Option ℕ) (w : World) → GoOn w (end_older o w)
+on-end_older : (o : Option ℕ) (w : World) → GoesTo w (end_older o w)
 on-end_older None w = on-same w
 on-end_older (Some d) w = on-changed shut d w shut_continues
 
-on-replied : (reply : Reply) (c : ℕ) (request : Frame) (w : World) → GoOn w (replied reply c request w)
-on-replied (Refused refusal) c request w =
-    let v = changed (refused refusal request) c w in
-    on-then w v (close c v) (on-changed (refused refusal request) c w (record { open_ = λ life e. e; connection = λ life. refl; answers = λ life. (_, refl) })) (on-close c v)
-on-replied (Full session) c request w =
-    let v = end_older (older session (live w)) w in
-    on-then w v (changed (begun session request) c v) (on-end_older (older session (live w)) w) (on-changed (begun session request) c v (record { open_ = λ life e. refl; connection = λ life. refl; answers = λ life. (_, refl) }))
+-- one more answer
+more_answered : (answer : Answer) → Continues (answered answer)
+more_answered answer = record { open_ = λ life e. e; connection = λ life. refl; answers = λ life. (_, refl) }
 
-on-log_in : (s : Setting) (c : ℕ) (request : Frame) (w : World) → GoOn w (log_in s c request w)
+on-replied : (reply : Reply) (c : ℕ) (w : World) → GoesTo w (replied reply c w)
+on-replied (GoOn answer) c w = on-changed (answered answer) c w (more_answered answer)
+on-replied (Refused answer) c w =
+    let v = changed (answered answer) c w in
+    on-then w v (close c v) (on-changed (answered answer) c w (more_answered answer)) (on-close c v)
+on-replied (Full answer session) c w =
+    let v = end_older (older session (live w)) w in
+    on-then w v (changed (begun session answer) c v) (on-end_older (older session (live w)) w)
+    (on-changed (begun session answer) c v (record { open_ = λ life e. refl; connection = λ life. refl; answers = λ life. (_, refl) }))
+
+on-log_in : (s : Setting) (c : ℕ) (request : Frame) (w : World) → GoesTo w (log_in s c request w)
 unfolding log_in
 on-log_in s c request w =
     let v = changed (asked request) c w in
-    on-then w v (log_in s c request w) (on-changed (asked request) c w (silent (asked request) (λ life e. e) (λ life. refl) (λ life. refl))) (on-replied (login s.names (live w) request) c request v)
+    on-then w v (log_in s c request w) (on-changed (asked request) c w (silent (asked request) (λ life e. e) (λ life. refl) (λ life. refl)))
+    (on-replied (login (c + 1) (requests_of (present c w)) (lookup_for s.names (live w) request) request) c v)
 
-on-judged : (verdict : Verdict) (c place : ℕ) (frame : Frame) (w : World) → GoOn w (judged verdict c place frame w)
+on-judged : (verdict : Verdict) (c place : ℕ) (frame : Frame) (w : World) → GoesTo w (judged verdict c place frame w)
 on-judged verdicts.Accepted c place frame w = on-changed (accepted place frame) c w (silent (accepted place frame) (λ life e. e) (λ life. refl) (λ life. refl))
 on-judged verdicts.Violating c place frame w = on-close c w
 
-on-judge : (c place : ℕ) (frame : Frame) (w : World) → GoOn w (judge c place frame w)
+on-judge : (c place : ℕ) (frame : Frame) (w : World) → GoesTo w (judge c place frame w)
 unfolding judge
 on-judge c place frame w = on-judged (verdict_for (present c w) frame) c place frame w
 
-on-done_for : (o : Option Session) (c : ℕ) (command : Accepted) (w : World) → GoOn w (done_for o c command w)
+on-done_for : (o : Option Params) (c : ℕ) (command : Accepted) (w : World) → GoesTo w (done_for o c command w)
 on-done_for None c command w = on-same w
 on-done_for (Some session) c command w = on-changed (finished command _) c w (record { open_ = λ life e. e; connection = λ life. refl; answers = λ life. (_, refl) })
 
-on-finish : (c : ℕ) (command : Accepted) (w : World) → GoOn w (finish c command w)
+on-finish : (c : ℕ) (command : Accepted) (w : World) → GoesTo w (finish c command w)
 unfolding finish
 on-finish c command w = on-done_for (session_of (present c w)) c command w
 
 -- one step after the other
-on-fold : {X : Type 0} (f : World → X → World) (w : World) (xs : List X) → ((v : World) (x : X) → GoOn v (f v x)) → GoOn w (fold f w xs)
+on-fold : {X : Type 0} (f : World → X → World) (w : World) (xs : List X) → ((v : World) (x : X) → GoesTo v (f v x)) → GoesTo w (fold f w xs)
 on-fold f w [] goes = on-same w
 on-fold f w (x ∷ xs) goes = on-then w (f w x) (fold f (f w x) xs) (goes w x) (on-fold f (f w x) xs goes)
 
-on-settle : (marks : List Mark) (c : ℕ) (w : World) → GoOn w (settle marks c w)
+on-settle : (marks : List Mark) (c : ℕ) (w : World) → GoesTo w (settle marks c w)
 unfolding settle
 on-settle marks c w = on-fold _ w (ready_in (present c w)) (λ v command. on-take_step marks c (Doing command.place) (finish c command) v (on-finish c command v))
 
-on-serve : (marks : List Mark) (c place : ℕ) (frame : Frame) (w : World) → GoOn w (serve marks c place frame w)
+on-serve : (marks : List Mark) (c place : ℕ) (frame : Frame) (w : World) → GoesTo w (serve marks c place frame w)
 unfolding serve
 on-serve marks c place frame w =
     let v = take_step marks c (Judging place) (judge c place frame) w in
@@ -170,25 +178,25 @@ on-serve marks c place frame w =
 
 -- ---- one event
 
-on-enter : (s : Setting) (c : ℕ) (frame : Frame) (w : World) → GoOn w (enter s c frame w)
+on-enter : (s : Setting) (c : ℕ) (frame : Frame) (w : World) → GoesTo w (enter s c frame w)
 on-enter s c frame w = on-cond (is_login frame) (log_in s c frame w) (close c w) w (on-log_in s c frame w) (on-close c w)
 
-on-arrive_in : (s : Setting) (marks : List Mark) (c : ℕ) (w : World) (place : ℕ) (arrival : Arrival) (phase : Phase) → GoOn w (arrive_in s marks c w place arrival phase)
+on-arrive_in : (s : Setting) (marks : List Mark) (c : ℕ) (w : World) (place : ℕ) (arrival : Arrival) (phase : Phase) → GoesTo w (arrive_in s marks c w place arrival phase)
 on-arrive_in s marks c w place (Whole frame) LoggingIn = on-take_step marks c (Judging place) (enter s c frame) w (on-enter s c frame w)
 on-arrive_in s marks c w place (Whole frame) (FullFeature session) = on-serve marks c place frame w
 on-arrive_in s marks c w place (Whole frame) Closing = on-same w
 on-arrive_in s marks c w place (Whole frame) Over = on-same w
 on-arrive_in s marks c w place TooLong phase = on-cond (reads phase) (close c w) w w (on-close c w) (on-same w)
 
-on-arrive_at : (s : Setting) (marks : List Mark) (c : ℕ) (w : World) (place : ℕ) (arrival : Arrival) (o : Option Life) → GoOn w (arrive_at s marks c w place arrival o)
+on-arrive_at : (s : Setting) (marks : List Mark) (c : ℕ) (w : World) (place : ℕ) (arrival : Arrival) (o : Option Life) → GoesTo w (arrive_at s marks c w place arrival o)
 on-arrive_at s marks c w place arrival None = on-same w
 on-arrive_at s marks c w place arrival (Some life) = on-arrive_in s marks c w place arrival life.phase
 
-on-arrive : (s : Setting) (marks : List Mark) (c : ℕ) (w : World) (arrival : ℕ × Arrival) → GoOn w (arrive s marks c w arrival)
+on-arrive : (s : Setting) (marks : List Mark) (c : ℕ) (w : World) (arrival : ℕ × Arrival) → GoesTo w (arrive s marks c w arrival)
 unfolding arrive
 on-arrive s marks c w arrival = on-arrive_at s marks c w arrival.0 arrival.1 (present c w)
 
-on-bring : (s : Setting) (marks : List Mark) (c : ℕ) (piece : List ℕ) (w : World) → GoOn w (bring s marks c piece w)
+on-bring : (s : Setting) (marks : List Mark) (c : ℕ) (piece : List ℕ) (w : World) → GoesTo w (bring s marks c piece w)
 unfolding bring
 on-bring s marks c piece w =
     let v = changed (longer piece) c w in
@@ -197,7 +205,7 @@ on-bring s marks c piece w =
     (on-then v u (take_step marks c Ending (λ v. v) u) (on-fold (arrive s marks c) v (brought (present c w) piece) (on-arrive s marks c)) (on-take_step marks c Ending (λ v. v) u (on-same u)))
 
 pub answers_stay : AnswersStay
-answers_stay s h marks c piece = subst (λ (v : World). GoOn (world s h) v) (sym (world-push s h (marked marks (Bytes c piece)))) (on-bring s marks c piece (world s h))
+answers_stay s h marks c piece = subst (λ (v : World). GoesTo (world s h) v) (sym (world-push s h (marked marks (Bytes c piece)))) (on-bring s marks c piece (world s h))
 
 -- ---- the rows
 

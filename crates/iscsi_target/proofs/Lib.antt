@@ -6,10 +6,12 @@ pub mod Arrivals
 pub mod Lives
 pub mod Counting
 pub mod Numbers
+pub mod Requests
 pub mod Serving
 pub mod LoggingIn
 pub mod Acting
 pub mod Standing
+pub mod Asking
 pub mod Halves
 pub mod Bringing
 pub mod Feeding

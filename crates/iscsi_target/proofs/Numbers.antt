@@ -11,9 +11,10 @@ use Rattle.iscsi_pdu.specs.Answer.{spelling}
 use Rattle.iscsi_pdu.specs.declared.answer.Answer.{Answer}
 use Rattle.iscsi_pdu.specs.declared.answer.Answer.TheVariants as answers
 use Rattle.iscsi_target.specs.Life.{Accepted, Life, taken, stamp, bears_status, first_cmd_sn, index_of, ready, is_complete, is_unfinished, out_of}
-use Rattle.iscsi_target.specs.World.{accepted, answered, asked}
+use Rattle.iscsi_login.specs.declared.params.Params.{Params}
+use Rattle.iscsi_target.specs.World.{accepted, answered}
 use Rattle.iscsi_target.specs.Machine.{next_number, counted, finished_one, first_numbers}
-use Rattle.iscsi_target.specs.Stands.{AreNumbered, IsFinished, IsNew}
+use Rattle.iscsi_target.specs.Stands.{AreNumbered, IsFinished}
 use Rattle.iscsi_target.proofs.Counting.{place_of, AreNumbered-push, taken_all, last_unfinished, eqb_self}
 
 -- one more, modulo 2^32
@@ -99,12 +100,17 @@ finished_is place life frame h e = record {
   finished = ap (λ (f : List ℕ). f ++ place ∷ []) h.finished ∙ sym (map-append place_of life.came (record { place = place; index = index_of life frame; frame = frame } ∷ []));
 }
 
--- ---- the first answer of a login
+-- ---- the first answer in full feature phase
 
-pub stamp-asked : (life : Life) (request : Frame) → IsNew life → stamp (asked request life) ≡ first_numbers request
+bears_all : (answers : List Answer) → length (filter bears_status answers) ≡ length answers
+bears_all [] = refl
+bears_all (answer ∷ answers) = rw (bears answer, bears_all answers) refl
+
+-- its numbers, where the Login requests alone were answered
+pub stamp-first : (life : Life) (session : Params) → life.came ≡ [] → life.finished ≡ [] → length life.answers % 2 ^ 32 ≡ session.next_stat_sn → first_cmd_sn life.requests ≡ session.first_cmd_sn → stamp life ≡ first_numbers session
 unfolding stamp taken first_numbers
-stamp-asked life request h =
-    let exp : (cmd_sn request.header + 0) % 2 ^ 32 ≡ cmd_sn request.header % 2 ^ 32 = omega arith in
-    let max : (cmd_sn request.header + 31 + 0) % 2 ^ 32 ≡ (cmd_sn request.header + 31) % 2 ^ 32 = omega arith in
-    rw (h.requests, h.came, h.finished, h.answers)
-    (ap (λ (e : ℕ). record (first_numbers request) { exp_cmd_sn = e; max_cmd_sn = (cmd_sn request.header + 31 + 0) % 2 ^ 32 }) exp ∙ ap (λ (m : ℕ). record (first_numbers request) { max_cmd_sn = m }) max)
+stamp-first life session came finished stat first =
+    let exp : (session.first_cmd_sn + 0) % 2 ^ 32 ≡ session.first_cmd_sn % 2 ^ 32 = omega arith in
+    let max : (session.first_cmd_sn + 31 + 0) % 2 ^ 32 ≡ (session.first_cmd_sn + 31) % 2 ^ 32 = omega arith in
+    rw (came, finished, bears_all life.answers, stat, first)
+    (ap (λ (e : ℕ). record (first_numbers session) { exp_cmd_sn = e; max_cmd_sn = (session.first_cmd_sn + 31 + 0) % 2 ^ 32 }) exp ∙ ap (λ (m : ℕ). record (first_numbers session) { max_cmd_sn = m }) max)

@@ -119,14 +119,14 @@ finished_outputs s machine rows before history r = ap (map (λ (row : RowState).
 
 -- ---- which events may come
 
-open_in : (c : ℕ) (w : World) (o : Option Life) → present c w ≡ o → not (is_free (phase_of o)) ≡ is_there o
-open_in c w None e = refl
-open_in c w (Some life) e = ap not (present_open c w life e)
+open_in : (names : List (List ℕ)) (c : ℕ) (w : World) (o : Option Life) → present c w ≡ o → not (is_free (phase_of names o)) ≡ is_there o
+open_in names c w None e = refl
+open_in names c w (Some life) e = ap not (present_open names c w life e)
 
 is_open : (s : Setting) (machine : Machine) (rows : List RowState) (before : List ℕ) (history : History) (c : ℕ) → Runs s machine rows before history → c < connection_limit → is_open_at machine c ≡ is_among c before
 is_open s machine rows before history c r lt =
     ap (λ phase. not (is_free phase)) (r.stands.links c lt).phase
-    ∙ open_in c (world s history) (present c (world s history)) refl
+    ∙ open_in s.names c (world s history) (present c (world s history)) refl
     ∙ sym (has_row s machine rows before history r c) ∙ r.tracks c
 
 pub comes : (s : Setting) (machine : Machine) (rows : List RowState) (before : List ℕ) (history : History) (event : Event) → Runs s machine rows before history → may_come before event ≡ true → MayCome machine event

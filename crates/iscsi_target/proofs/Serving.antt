@@ -12,7 +12,7 @@ use Rattle.iscsi_target.specs.World.{Setting, World, is_present, present, change
 use Rattle.iscsi_target.specs.Output.{out_now}
 use Rattle.iscsi_target.specs.Machine.{LinkState, Machine, link_at, shut_link, closed, session_in_phase, sessions, free_link}
 use Rattle.iscsi_target.specs.Stands.{phase_of, phase_for, IsQuiet, IsLinkOf}
-use Rattle.iscsi_target.specs.declared.session.Session.{Session}
+use Rattle.iscsi_login.specs.declared.params.Params.{Params}
 use Rattle.iscsi_target.proofs.Choices.{and_true}
 use Rattle.iscsi_target.proofs.Lives.{present-changed, present-changed_other, present-units, present_is}
 
@@ -27,8 +27,8 @@ bytes_now None = []
 bytes_now (Some life) = life.bytes
 
 -- as IsLinkOf, but of the bytes that are no whole frame yet nothing is said: the next frame has this place
-pub record IsServing (place : ℕ) (bytes : List ℕ) (sent : ℕ) (link : LinkState) (life : Option Life) : Type 0 where
-  pub phase : link.phase ≡ phase_of life
+pub record IsServing (names : List (List ℕ)) (place : ℕ) (bytes : List ℕ) (sent : ℕ) (link : LinkState) (life : Option Life) : Type 0 where
+  pub phase : link.phase ≡ phase_of names life
   pub answered : sent ≤ length (out_now life)
   pub waiting : link.waiting ≡ drop sent (out_now life)
   pub quiet : IsQuietAt place life
@@ -40,44 +40,47 @@ pub record Serves (c place : ℕ) (bytes : List ℕ) (s : Setting) (sent : ℕ �
   pub units : machine.units ≡ w.units
   pub count : length machine.links ≡ connection_limit
   pub in_range : c < connection_limit
-  pub here : IsServing place bytes (sent c) (link_at machine c) (present c w)
-  pub others : (d : ℕ) → d < connection_limit → d ≢ c → IsLinkOf (sent d) (link_at machine d) (present d w)
+  pub here : IsServing s.names place bytes (sent c) (link_at machine c) (present c w)
+  pub others : (d : ℕ) → d < connection_limit → d ≢ c → IsLinkOf s.names (sent d) (link_at machine d) (present d w)
 
 -- ---- what is remembered of a phase
 
-pub session_same_in : (life : Life) (phase : Phase) → session_in_phase (phase_for life phase) ≡ session_in phase
-session_same_in life LoggingIn = refl
-session_same_in life (FullFeature session) = refl
-session_same_in life Closing = refl
-session_same_in life Over = refl
+pub session_same_in : (names : List (List ℕ)) (life : Life) (phase : Phase) → session_in_phase (phase_for names life phase) ≡ session_in phase
+session_same_in names life LoggingIn = refl
+session_same_in names life (FullFeature session) = refl
+session_same_in names life Closing = refl
+session_same_in names life Over = refl
 
-pub session_same : (o : Option Life) → session_in_phase (phase_of o) ≡ session_of o
-session_same None = refl
-session_same (Some life) = session_same_in life life.phase
+pub session_same : (names : List (List ℕ)) (o : Option Life) → session_in_phase (phase_of names o) ≡ session_of o
+session_same names None = refl
+session_same names (Some life) = session_same_in names life life.phase
 
-pub phases : (c place : ℕ) (bytes : List ℕ) (s : Setting) (sent : ℕ → ℕ) (w : World) (machine : Machine) → Serves c place bytes s sent w machine → (d : ℕ) → d < connection_limit → (link_at machine d).phase ≡ phase_of (present d w)
+pub phases : (c place : ℕ) (bytes : List ℕ) (s : Setting) (sent : ℕ → ℕ) (w : World) (machine : Machine) → Serves c place bytes s sent w machine → (d : ℕ) → d < connection_limit → (link_at machine d).phase ≡ phase_of s.names (present d w)
 phases c place bytes s sent w machine h d lt = elim (eqb_tells d c) [
-  | inl same ↦ ap (λ (k : ℕ). (link_at machine k).phase) same.1 ∙ h.here.phase ∙ ap (λ (k : ℕ). phase_of (present k w)) (sym same.1)
+  | inl same ↦ ap (λ (k : ℕ). (link_at machine k).phase) same.1 ∙ h.here.phase ∙ ap (λ (k : ℕ). phase_of s.names (present k w)) (sym same.1)
   | inr differ ↦ (h.others d lt differ.1).phase
 ]
 
 -- the sessions that are remembered are those of the World
-pub live_same : (w : World) (machine : Machine) → length machine.links ≡ connection_limit → ((d : ℕ) → d < connection_limit → (link_at machine d).phase ≡ phase_of (present d w)) → live w ≡ sessions machine.links
+pub live_same : (w : World) (machine : Machine) → length machine.links ≡ connection_limit → ((d : ℕ) → d < connection_limit → session_in_phase (link_at machine d).phase ≡ session_of (present d w)) → live w ≡ sessions machine.links
 unfolding live
 live_same w machine count same =
-    let f : ℕ → Option Session = λ c. session_of (present c w) in
-    let g : LinkState → Option Session = λ link. session_in_phase link.phase in
+    let f : ℕ → Option Params = λ c. session_of (present c w) in
+    let g : LinkState → Option Params = λ link. session_in_phase link.phase in
     let len : length (map f (range_with_len 0 connection_limit)) ≡ length (map g machine.links) = length-map-range_with_len f 0 connection_limit ∙ sym count ∙ sym (length-map machine.links g) in
     ext_get_or None (map f (range_with_len 0 connection_limit)) (map g machine.links) len (λ i lt.
     (let below : i < connection_limit = omega (arith, length-map-range_with_len f 0 connection_limit) in
     get_or-map-range_with_len f 0 connection_limit i i None below (omega arith)
-    ∙ sym (session_same (present i w)) ∙ ap session_in_phase (sym (same i below))
+    ∙ sym (same i below)
     ∙ sym (get_or-map g machine.links i free_link None (omega arith))))
+
+pub sessions_there : (c place : ℕ) (bytes : List ℕ) (s : Setting) (sent : ℕ → ℕ) (w : World) (machine : Machine) → Serves c place bytes s sent w machine → (d : ℕ) → d < connection_limit → session_in_phase (link_at machine d).phase ≡ session_of (present d w)
+sessions_there c place bytes s sent w machine h d lt = ap session_in_phase (phases c place bytes s sent w machine h d lt) ∙ session_same s.names (present d w)
 
 -- ---- one connection changes
 
 pub replaced : (c place later : ℕ) (bytes : List ℕ) (s : Setting) (sent : ℕ → ℕ) (w v : World) (machine : Machine) (units : List Units) (link : LinkState) → Serves c place bytes s sent w machine
-    → v.units ≡ units → ((d : ℕ) → d ≢ c → present d v ≡ present d w) → IsServing later bytes (sent c) link (present c v)
+    → v.units ≡ units → ((d : ℕ) → d ≢ c → present d v ≡ present d w) → IsServing s.names later bytes (sent c) link (present c v)
     → Serves c later bytes s sent v (record machine { units = units; links = set machine.links c link })
 replaced c place later bytes s sent w v machine units link h u other here =
     let there : get_or (set machine.links c link) c free_link ≡ link = get_or-set_same machine.links c link free_link (omega (arith, h.count, h.in_range)) in
@@ -94,7 +97,7 @@ replaced c place later bytes s sent w v machine units link h u other here =
 
 -- another connection changes
 pub replaced_other : (c e place : ℕ) (bytes : List ℕ) (s : Setting) (sent : ℕ → ℕ) (w v : World) (machine : Machine) (link : LinkState) → Serves c place bytes s sent w machine → e ≢ c → e < connection_limit
-    → v.units ≡ w.units → ((d : ℕ) → d ≢ e → present d v ≡ present d w) → IsLinkOf (sent e) link (present e v)
+    → v.units ≡ w.units → ((d : ℕ) → d ≢ e → present d v ≡ present d w) → IsLinkOf s.names (sent e) link (present e v)
     → Serves c place bytes s sent v (record machine { links = set machine.links e link })
 replaced_other c e place bytes s sent w v machine link h differ below u other there =
     let at_c : get_or (set machine.links e link) c free_link ≡ link_at machine c = get_or-set_other machine.links e c link free_link (λ x. differ (sym x)) in
@@ -133,8 +136,8 @@ says n waiting out more le e = ap (λ (t : List ℕ). t ++ more) e ∙ sym (drop
 
 -- ---- a connection closes
 
-pub closed_life : (place : ℕ) (bytes : List ℕ) (sent : ℕ) (link : LinkState) (life : Life) (later : ℕ) → IsServing place bytes sent link (Some life) → IsServing later bytes sent (shut_link link) (Some (shut life))
-closed_life place bytes sent link life later h = record {
+pub closed_life : (names : List (List ℕ)) (place : ℕ) (bytes : List ℕ) (sent : ℕ) (link : LinkState) (life : Life) (later : ℕ) → IsServing names place bytes sent link (Some life) → IsServing names later bytes sent (shut_link link) (Some (shut life))
+closed_life names place bytes sent link life later h = record {
   phase = refl;
   answered = rw (out_phase life Closing) h.answered;
   waiting = rw (out_phase life Closing) h.waiting;
@@ -142,8 +145,8 @@ closed_life place bytes sent link life later h = record {
   held = h.held;
 }
 
-pub closed_link : (sent : ℕ) (link : LinkState) (life : Life) → IsLinkOf sent link (Some life) → IsLinkOf sent (shut_link link) (Some (shut life))
-closed_link sent link life h = record {
+pub closed_link : (names : List (List ℕ)) (sent : ℕ) (link : LinkState) (life : Life) → IsLinkOf names sent link (Some life) → IsLinkOf names sent (shut_link link) (Some (shut life))
+closed_link names sent link life h = record {
   phase = refl;
   half = refl;
   answered = rw (out_phase life Closing) h.answered;
@@ -165,12 +168,12 @@ present-close_other c d w differ = present-units d (close c w) (changed shut c w
 pub closes : (c place later : ℕ) (bytes : List ℕ) (s : Setting) (sent : ℕ → ℕ) (w : World) (machine : Machine) (life : Life) → Serves c place bytes s sent w machine → present c w ≡ Some life → Serves c later bytes s sent (close c w) (closed machine c)
 unfolding close closed
 closes c place later bytes s sent w machine life h e =
-    let here : IsServing place bytes (sent c) (link_at machine c) (Some life) = rw e at h.here in
-    let session : session_of (present c w) ≡ session_in_phase (link_at machine c).phase = sym (session_same (present c w)) ∙ ap session_in_phase (sym h.here.phase) in
-    let units : (close c w).units ≡ left (session_in_phase (link_at machine c).phase) machine.units = ap (λ (o : Option Session). left o w.units) session ∙ ap (left (session_in_phase (link_at machine c).phase)) (sym h.units) in
+    let here : IsServing s.names place bytes (sent c) (link_at machine c) (Some life) = rw e at h.here in
+    let session : session_of (present c w) ≡ session_in_phase (link_at machine c).phase = sym (session_same s.names (present c w)) ∙ ap session_in_phase (sym h.here.phase) in
+    let units : (close c w).units ≡ left (session_in_phase (link_at machine c).phase) machine.units = ap (λ (o : Option Params). left o w.units) session ∙ ap (left (session_in_phase (link_at machine c).phase)) (sym h.units) in
     replaced c place later bytes s sent w (close c w) machine (left (session_in_phase (link_at machine c).phase) machine.units) (shut_link (link_at machine c)) h units
     (λ d differ. present-close_other c d w differ)
-    (rw (present-close c w life e) (closed_life place bytes (sent c) (link_at machine c) life later here))
+    (rw (present-close c w life e) (closed_life s.names place bytes (sent c) (link_at machine c) life later here))
 
 -- ---- steps
 

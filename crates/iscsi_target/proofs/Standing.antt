@@ -6,13 +6,14 @@ use Rattle.std.proofs.lemmas.List.{length-set, set-set, length-replicate, get_or
 use Rattle.std.proofs.lemmas.List.Sums.{fold-append}
 use Rattle.iscsi_pdu.specs.Frames.{is_long}
 use Rattle.iscsi_pdu.proofs.Frames.{no_frame, rest_none}
+use Rattle.iscsi_login.specs.Login.{remembered}
 use Rattle.iscsi_target.specs.History.{Open, Gone, Happening, History, plain, arrivals, connection_limit}
 use Rattle.iscsi_target.specs.Units.{Units}
 use Rattle.iscsi_target.specs.Life.{Life, Phase, LoggingIn, FullFeature, Closing, Over, born, is_over, out_of}
 use Rattle.iscsi_target.specs.World.{Setting, World, present, changed, session_of, left, end, happened, new_world, world}
 use Rattle.iscsi_target.specs.Machine.{LinkState, Machine, link_at, with_link, closed, is_free, is_open_at, free_link, opened_link, shut_link, session_in_phase, new_machine}
 use Rattle.iscsi_target.specs.Stands.{phase_of, phase_for, IsLinkOf, StandsAt, Stands, with_sent}
-use Rattle.iscsi_target.specs.declared.session.Session.{Session}
+use Rattle.iscsi_login.specs.declared.params.Params.{Params}
 use Rattle.iscsi_target.proofs.Choices.{cond_true, cond_false, and_true, not_true}
 use Rattle.iscsi_target.proofs.Counting.{eqb_self}
 use Rattle.iscsi_target.proofs.Lives.{present-over, present-changed_other, present-units, present-born, present-born_other, present_is}
@@ -35,9 +36,9 @@ abbrev pub place_in : Option Life → ℕ
 place_in None = 0
 place_in (Some life) = length (arrivals life.bytes)
 
-quiet_now : (o : Option Life) (sent : ℕ) (link : LinkState) → IsLinkOf sent link o → IsQuietAt (place_in o) o
-quiet_now None sent link h = tt
-quiet_now (Some life) sent link h = h.settled.quiet
+quiet_now : (names : List (List ℕ)) (o : Option Life) (sent : ℕ) (link : LinkState) → IsLinkOf names sent link o → IsQuietAt (place_in o) o
+quiet_now names None sent link h = tt
+quiet_now names (Some life) sent link h = h.settled.quiet
 
 pub serving : (c : ℕ) (s : Setting) (sent : ℕ → ℕ) (w : World) (machine : Machine) → c < connection_limit → StandsAt s sent w machine → Serves c (place_in (present c w)) (bytes_now (present c w)) s sent w machine
 serving c s sent w machine lt h =
@@ -47,11 +48,11 @@ serving c s sent w machine lt h =
       units = h.units;
       count = h.count;
       in_range = lt;
-      here = record { phase = link.phase; answered = link.answered; waiting = link.waiting; quiet = quiet_now (present c w) (sent c) (link_at machine c) link; held = refl };
+      here = record { phase = link.phase; answered = link.answered; waiting = link.waiting; quiet = quiet_now s.names (present c w) (sent c) (link_at machine c) link; held = refl };
       others = λ d below differ. h.links d below;
     }
 
-pub stands_from : (c place : ℕ) (bytes : List ℕ) (s : Setting) (sent : ℕ → ℕ) (w : World) (machine : Machine) → Serves c place bytes s sent w machine → IsLinkOf (sent c) (link_at machine c) (present c w) → StandsAt s sent w machine
+pub stands_from : (c place : ℕ) (bytes : List ℕ) (s : Setting) (sent : ℕ → ℕ) (w : World) (machine : Machine) → Serves c place bytes s sent w machine → IsLinkOf s.names (sent c) (link_at machine c) (present c w) → StandsAt s sent w machine
 stands_from c place bytes s sent w machine h here = record {
   names = h.names;
   units = h.units;
@@ -64,32 +65,32 @@ stands_from c place bytes s sent w machine h here = record {
 
 -- ---- which connections are open
 
-over_is_free : (life : Life) (phase : Phase) → is_over phase ≡ false → is_free (phase_for life phase) ≡ false
-over_is_free life LoggingIn e = refl
-over_is_free life (FullFeature session) e = refl
-over_is_free life Closing e = refl
-over_is_free life Over e = absurd cc
+over_is_free : (names : List (List ℕ)) (life : Life) (phase : Phase) → is_over phase ≡ false → is_free (phase_for names life phase) ≡ false
+over_is_free names life LoggingIn e = refl
+over_is_free names life (FullFeature session) e = refl
+over_is_free names life Closing e = refl
+over_is_free names life Over e = absurd cc
 
-pub present_open : (c : ℕ) (w : World) (life : Life) → present c w ≡ Some life → is_free (phase_of (Some life)) ≡ false
-present_open c w life e = over_is_free life life.phase (not_true (is_over life.phase) (and_true (eqb life.connection c) (not (is_over life.phase)) (present_is c w life e)).1)
+pub present_open : (names : List (List ℕ)) (c : ℕ) (w : World) (life : Life) → present c w ≡ Some life → is_free (phase_of names (Some life)) ≡ false
+present_open names c w life e = over_is_free names life life.phase (not_true (is_over life.phase) (and_true (eqb life.connection c) (not (is_over life.phase)) (present_is c w life e)).1)
 
-open_in : (o : Option Life) → is_free (phase_of o) ≡ false → (life : Life) × (o ≡ Some life)
-open_in None e = absurd cc
-open_in (Some life) e = (life, refl)
+open_in : (names : List (List ℕ)) (o : Option Life) → is_free (phase_of names o) ≡ false → (life : Life) × (o ≡ Some life)
+open_in names None e = absurd cc
+open_in names (Some life) e = (life, refl)
 
-free_in : (c : ℕ) (w : World) (o : Option Life) → present c w ≡ o → is_free (phase_of o) ≡ true → o ≡ None
-free_in c w None e f = refl
-free_in c w (Some life) e f = let open_ = present_open c w life e in absurd (cc (open_, f))
+free_in : (names : List (List ℕ)) (c : ℕ) (w : World) (o : Option Life) → present c w ≡ o → is_free (phase_of names o) ≡ true → o ≡ None
+free_in names c w None e f = refl
+free_in names c w (Some life) e f = let open_ = present_open names c w life e in absurd (cc (open_, f))
 
 free_from : (b : Bool) → not b ≡ false → b ≡ true
 free_from true e = refl
 free_from false e = absurd cc
 
 pub is_free_there : (s : Setting) (sent : ℕ → ℕ) (w : World) (machine : Machine) (c : ℕ) → c < connection_limit → StandsAt s sent w machine → is_open_at machine c ≡ false → present c w ≡ None
-is_free_there s sent w machine c lt h e = free_in c w (present c w) refl (ap is_free (sym (h.links c lt).phase) ∙ free_from _ e)
+is_free_there s sent w machine c lt h e = free_in s.names c w (present c w) refl (ap is_free (sym (h.links c lt).phase) ∙ free_from _ e)
 
 pub is_open_there : (s : Setting) (sent : ℕ → ℕ) (w : World) (machine : Machine) (c : ℕ) → c < connection_limit → StandsAt s sent w machine → is_open_at machine c ≡ true → (life : Life) × (present c w ≡ Some life)
-is_open_there s sent w machine c lt h e = open_in (present c w) (ap is_free (sym (h.links c lt).phase) ∙ not_true _ e)
+is_open_there s sent w machine c lt h e = open_in s.names (present c w) (ap is_free (sym (h.links c lt).phase) ∙ not_true _ e)
 
 -- ---- how many bytes were sent
 
@@ -101,7 +102,7 @@ sent_there sent c n d differ = cond_false (eqb d c) n (sent d) (ne_eqb d c diffe
 
 -- a link changes, and how much of its answers was sent
 pub relinked : (s : Setting) (sent : ℕ → ℕ) (w v : World) (machine : Machine) (c n : ℕ) (units : List Units) (link : LinkState) → c < connection_limit → StandsAt s sent w machine → v.units ≡ units
-    → ((d : ℕ) → d ≢ c → present d v ≡ present d w) → IsLinkOf n link (present c v) → StandsAt s (with_sent sent c n) v (record machine { units = units; links = set machine.links c link })
+    → ((d : ℕ) → d ≢ c → present d v ≡ present d w) → IsLinkOf s.names n link (present c v) → StandsAt s (with_sent sent c n) v (record machine { units = units; links = set machine.links c link })
 relinked s sent w v machine c n units link lt h u other here = record {
   names = h.names;
   units = sym u;
@@ -122,15 +123,15 @@ none_at_first : (s : Setting) (c : ℕ) → present c (new_world s) ≡ None
 unfolding present
 none_at_first s c = refl
 
-free_is : IsLinkOf 0 free_link None
-free_is = record { phase = refl; half = refl; answered = omega arith; waiting = refl; settled = tt }
+free_is : (names : List (List ℕ)) → IsLinkOf names 0 free_link None
+free_is names = record { phase = refl; half = refl; answered = omega arith; waiting = refl; settled = tt }
 
 new_stands_at : (s : Setting) → StandsAt s (λ c. 0) (new_world s) (new_machine s.names s.units)
 new_stands_at s = record {
   names = refl;
   units = refl;
   count = length-replicate connection_limit free_link;
-  links = λ c lt. (let there : get_or (replicate connection_limit free_link) c free_link ≡ free_link = get_or-replicate connection_limit c free_link free_link lt in rw (there, none_at_first s c) free_is);
+  links = λ c lt. (let there : get_or (replicate connection_limit free_link) c free_link ≡ free_link = get_or-replicate connection_limit c free_link free_link lt in rw (there, none_at_first s c) (free_is s.names));
 }
 
 pub new_stands : (s : Setting) → Stands s (λ c. 0) (new_machine s.names s.units) []
@@ -147,26 +148,27 @@ no_answers : (c : ℕ) → out_of (born c) ≡ []
 unfolding out_of
 no_answers c = refl
 
-born_link : (c : ℕ) → IsLinkOf 0 opened_link (Some (born c))
-born_link c = record {
+born_link : (names : List (List ℕ)) (c : ℕ) → IsLinkOf names 0 (opened_link c) (Some (born c))
+unfolding remembered
+born_link names c = record {
   phase = refl;
   half = sym (rest_none [] no_frame);
   answered = omega arith;
   waiting = rw (no_answers c) refl;
   settled = record {
-    quiet = record { requests = refl; came = refl; finished = refl; answers = refl };
+    quiet = record { came = refl; finished = refl; answered = refl };
     short = λ e. rw (rest_none [] no_frame) nothing_long;
   };
 }
 
-pub open_stands : (s : Setting) (sent : ℕ → ℕ) (machine : Machine) (history : History) (c : ℕ) → c < connection_limit → is_open_at machine c ≡ false → Stands s sent machine history → Stands s (with_sent sent c 0) (with_link machine c opened_link) (history ++ plain (Open c) ∷ [])
+pub open_stands : (s : Setting) (sent : ℕ → ℕ) (machine : Machine) (history : History) (c : ℕ) → c < connection_limit → is_open_at machine c ≡ false → Stands s sent machine history → Stands s (with_sent sent c 0) (with_link machine c (opened_link c)) (history ++ plain (Open c) ∷ [])
 open_stands s sent machine history c lt free h =
     let w = world s history in
     let v : World = record w { lives = w.lives ++ born c ∷ [] } in
     let none = is_free_there s sent w machine c lt h free in
     let born_ : present c v ≡ Some (born c) = present-born c w none in
-    stands_as s (with_sent sent c 0) (with_link machine c opened_link) history (plain (Open c)) v refl
-    (relinked s sent w v machine c 0 machine.units opened_link lt h (sym h.units) (λ d differ. present-born_other c d w differ) (rw born_ (born_link c)))
+    stands_as s (with_sent sent c 0) (with_link machine c (opened_link c)) history (plain (Open c)) v refl
+    (relinked s sent w v machine c 0 machine.units (opened_link c) lt h (sym h.units) (λ d differ. present-born_other c d w differ) (rw born_ (born_link s.names c)))
 
 -- ---- Gone
 
@@ -181,14 +183,14 @@ gone_stands s sent machine history c lt h =
     let over : Life → Life = λ life. record life { phase = Over } in
     let v = end c w in
     let link = h.links c lt in
-    let session : session_of (present c w) ≡ session_in_phase (link_at machine c).phase = sym (session_same (present c w)) ∙ ap session_in_phase (sym link.phase) in
-    let units : v.units ≡ left (session_in_phase (link_at machine c).phase) machine.units = ap (λ (o : Option Session). left o w.units) session ∙ ap (left (session_in_phase (link_at machine c).phase)) (sym h.units) in
+    let session : session_of (present c w) ≡ session_in_phase (link_at machine c).phase = sym (session_same s.names (present c w)) ∙ ap session_in_phase (sym link.phase) in
+    let units : v.units ≡ left (session_in_phase (link_at machine c).phase) machine.units = ap (λ (o : Option Params). left o w.units) session ∙ ap (left (session_in_phase (link_at machine c).phase)) (sym h.units) in
     let none : present c v ≡ None = present-units c v (changed over c w) refl ∙ present-over over c w (λ life. not_present (eqb life.connection c)) in
     let twice : set (set machine.links c (shut_link (link_at machine c))) c free_link ≡ set machine.links c free_link = set-set machine.links c (shut_link (link_at machine c)) free_link in
     stands_as s (with_sent sent c 0) (with_link (closed machine c) c free_link) history (plain (Gone c)) v refl
     (rw twice (relinked s sent w v machine c 0 (left (session_in_phase (link_at machine c).phase) machine.units) free_link lt h units
     (λ d differ. present-units d v (changed over c w) refl ∙ present-changed_other over c d w (λ life. refl) differ)
-    (rw none free_is)))
+    (rw none (free_is s.names))))
 
 -- ---- the machine, however it is written
 

@@ -8,18 +8,12 @@ use Rattle.scsi_sense.specs.declared.code.SenseKey.TheVariants.{IllegalRequest}
 use Rattle.scsi_sense.specs.declared.code.AdditionalSense.TheVariants.{InvalidFieldInCdb}
 use Rattle.iscsi_pdu.specs.Header.{opcode_number, is_immediate, additional_length, cmd_sn, initiator_task_tag, lun_field}
 use Rattle.iscsi_pdu.specs.ScsiCommand.{is_write, expected_transfer_length, cdb}
-use Rattle.iscsi_pdu.specs.LoginRequest.{isid, tsih}
 use Rattle.iscsi_pdu.specs.Frames.{Frame}
 use Rattle.iscsi_pdu.specs.declared.answer.Answer.{Answer}
 use Rattle.iscsi_pdu.specs.declared.answer.Answer.TheVariants as answers
 use Rattle.iscsi_pdu.specs.declared.stamp.Stamp.{Stamp}
 use Rattle.iscsi_pdu.specs.declared.scsi_response.Residual.{Residual}
 use Rattle.iscsi_pdu.specs.declared.scsi_response.Residual.TheVariants as residuals
-use Rattle.iscsi_pdu.specs.declared.login_response.LoginReply.TheVariants as logins
-use Rattle.iscsi_pdu.specs.declared.login_response.LoginStep.TheVariants.{Enters}
-use Rattle.iscsi_pdu.specs.declared.login_response.LoginRefusal.{LoginRefusal}
-use Rattle.iscsi_pdu.specs.declared.stage.Stage.TheVariants.{OperationalNegotiation, FullFeaturePhase}
-use Rattle.iscsi_target.specs.Login.{declared_text}
 use Rattle.iscsi_target.specs.Units.{Units, perform}
 use Rattle.iscsi_target.specs.declared.session.Verdict.{Verdict}
 use Rattle.iscsi_target.specs.declared.session.Verdict.TheVariants.{Accepted, Violating}
@@ -65,23 +59,3 @@ scsi_answer stamp frame done = answers.ScsiResponse (record {
 -- all that a command is answered, in order
 abbrev pub command_answers : Stamp → Frame → Outcome → List Answer
 command_answers stamp frame done = scsi_answer stamp frame done ∷ []
-
--- a refusal has byte 1 zero, and no text (RFC 7143 §11.13)
-unfoldable pub refusal_answer : Stamp → Frame → LoginRefusal → Answer
-refusal_answer stamp request refusal = answers.LoginResponse (record {
-  isid = isid request.header;
-  tsih = tsih request.header;
-  initiator_task_tag = initiator_task_tag request.header;
-  stamp = stamp;
-  reply = logins.Refused refusal;
-})
-
--- the answer with which full feature phase begins: the session of connection c has TSIH c + 1
-unfoldable pub success_answer : ℕ → Stamp → Frame → Answer
-success_answer handle stamp request = answers.LoginResponse (record {
-  isid = isid request.header;
-  tsih = handle;
-  initiator_task_tag = initiator_task_tag request.header;
-  stamp = stamp;
-  reply = logins.Accepted (record { stage = OperationalNegotiation; step = Enters FullFeaturePhase; text = declared_text });
-})

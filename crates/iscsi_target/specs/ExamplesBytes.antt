@@ -1,15 +1,14 @@
 -- The bytes of the examples: what the initiator `a` sends and what the target `t1` answers, each written
 -- by hand from RFC 7143 §11 and SPC-4 §4.5.3. A header is three lines of 16 bytes.
-use Rattle.std.specs.Prelude.{ℕ, List, [], ◌∷◌, ◌++◌, map, replicate, Bool, true}
-use Rattle.std.specs.Str.{is_utf8, chars}
+use Rattle.std.specs.Prelude.{ℕ, List, [], ◌∷◌, ◌++◌, take, drop, map, replicate, Bool, true}
 use Rattle.iscsi_pdu.specs.Frames.{frames, rest, has_frame, is_long, first_frame, frame_length}
-use Rattle.iscsi_text.specs.Pairs.{text_pairs, pieces, own_fault}
 use Rattle.scsi_cdb.specs.declared.command.Kind.TheVariants.{Disk, Tape}
 use Rattle.iscsi_target.specs.History.{History, arrivals, new_arrivals}
 use Rattle.iscsi_target.specs.Units.{free_unit, perform, perform_at, told, without_unit, lun_number, join, leave}
-use Rattle.iscsi_target.specs.Login.{login, leads_to_full_feature, said, is_normal, is_login_key, target_named, older, names_session, asked_for, declared_text}
+use Rattle.iscsi_login.specs.ExamplesLogin.{computed as login_computed}
+use Rattle.iscsi_login.specs.Session.{older}
 use Rattle.iscsi_target.specs.Life.{Life, reads, taken, stamp, index_of, ready, out_of}
-use Rattle.iscsi_target.specs.Acts.{is_login, verdict, carried_out, scsi_answer, refusal_answer, success_answer}
+use Rattle.iscsi_target.specs.Acts.{is_login, verdict, carried_out, scsi_answer}
 use Rattle.iscsi_target.specs.World.{Setting, present, changed, live, changed_units, close, end, is_marked, take_step, log_in, judge, finish, settle, serve, arrive, bring, world}
 use Rattle.iscsi_target.specs.Output.{outputs}
 
@@ -28,7 +27,7 @@ are_read s history = map (λ (life : Life). reads life.phase) (world s history).
 
 -- what an example unfolds
 unfoldable pub computed : Bool
-unfolding frames rest has_frame is_long first_frame frame_length text_pairs pieces own_fault is_utf8 chars lib.Utf8.encode arrivals new_arrivals perform perform_at told without_unit lun_number join leave login leads_to_full_feature said is_normal is_login_key target_named older names_session asked_for declared_text taken stamp index_of ready out_of is_login verdict carried_out scsi_answer refusal_answer success_answer present changed live changed_units close end is_marked take_step log_in judge finish settle serve arrive bring world outputs
+unfolding frames rest has_frame is_long first_frame frame_length login_computed arrivals new_arrivals perform perform_at told without_unit lun_number join leave older taken stamp index_of ready out_of is_login verdict carried_out scsi_answer present changed live changed_units close end is_marked take_step log_in judge finish settle serve arrive bring world outputs
 computed = true
 
 -- ---- Login requests (RFC 7143 §11.12)
@@ -83,6 +82,44 @@ refused tsih detail =
     0x00 ∷ 0x00 ∷ 0x00 ∷ 0x01 ∷ 0x00 ∷ 0x00 ∷ 0x00 ∷ 0x00 ∷ 0x00 ∷ 0x00 ∷ 0x00 ∷ 0x00 ∷ 0x00 ∷ 0x00 ∷ 0x00 ∷ 0x7b ∷
     0x00 ∷ 0x00 ∷ 0x00 ∷ 0x9a ∷ 0x02 ∷ detail ∷ 0x00 ∷ 0x00 ∷ 0x00 ∷ 0x00 ∷ 0x00 ∷ 0x00 ∷ 0x00 ∷ 0x00 ∷ 0x00 ∷ 0x00 ∷ []
 
+-- ---- a login in two requests
+
+-- I and Login; T, CSG 0, NSG 1; Version-max, Version-min; TotalAHSLength; DataSegmentLength 30; ISID and
+-- TSIH. Tag 1; CID 1; CmdSN 123; ExpStatSN. InitiatorName=a (16 bytes), TargetName=t1 (14 bytes), 2 bytes
+-- of padding.
+abbrev pub first_request : List ℕ
+first_request =
+    0x43 ∷ 0x81 ∷ 0x00 ∷ 0x00 ∷ 0x00 ∷ 0x00 ∷ 0x00 ∷ 0x1e ∷ 0x80 ∷ 0x00 ∷ 0x00 ∷ 0x00 ∷ 0x00 ∷ 0x01 ∷ 0x00 ∷ 0x00 ∷
+    0x00 ∷ 0x00 ∷ 0x00 ∷ 0x01 ∷ 0x00 ∷ 0x01 ∷ 0x00 ∷ 0x00 ∷ 0x00 ∷ 0x00 ∷ 0x00 ∷ 0x7b ∷ replicate 20 0x00
+    ++ 0x49 ∷ 0x6e ∷ 0x69 ∷ 0x74 ∷ 0x69 ∷ 0x61 ∷ 0x74 ∷ 0x6f ∷ 0x72 ∷ 0x4e ∷ 0x61 ∷ 0x6d ∷ 0x65 ∷ 0x3d ∷ 0x61 ∷ 0x00 ∷
+    0x54 ∷ 0x61 ∷ 0x72 ∷ 0x67 ∷ 0x65 ∷ 0x74 ∷ 0x4e ∷ 0x61 ∷ 0x6d ∷ 0x65 ∷ 0x3d ∷ 0x74 ∷ 0x31 ∷ 0x00 ∷ 0x00 ∷ 0x00 ∷ []
+
+-- I and Login; T, CSG 1, NSG 3; no data segment; ISID and TSIH. Tag 1; CID 1; CmdSN 123; ExpStatSN 1.
+abbrev pub second_request : List ℕ
+second_request =
+    0x43 ∷ 0x87 ∷ 0x00 ∷ 0x00 ∷ 0x00 ∷ 0x00 ∷ 0x00 ∷ 0x00 ∷ 0x80 ∷ 0x00 ∷ 0x00 ∷ 0x00 ∷ 0x00 ∷ 0x01 ∷ 0x00 ∷ 0x00 ∷
+    0x00 ∷ 0x00 ∷ 0x00 ∷ 0x01 ∷ 0x00 ∷ 0x01 ∷ 0x00 ∷ 0x00 ∷ 0x00 ∷ 0x00 ∷ 0x00 ∷ 0x7b ∷ 0x00 ∷ 0x00 ∷ 0x00 ∷ 0x01 ∷ replicate 16 0x00
+
+-- Login Response; T, CSG 0, NSG 1; both versions; TotalAHSLength; DataSegmentLength 23; ISID; TSIH 0. Tag 1;
+-- reserved; StatSN 0; ExpCmdSN 123. MaxCmdSN 154; status 0; reserved. Then TargetPortalGroupTag=1, padded.
+abbrev pub first_answer : List ℕ
+first_answer =
+    0x23 ∷ 0x81 ∷ 0x00 ∷ 0x00 ∷ 0x00 ∷ 0x00 ∷ 0x00 ∷ 0x17 ∷ 0x80 ∷ 0x00 ∷ 0x00 ∷ 0x00 ∷ 0x00 ∷ 0x01 ∷ 0x00 ∷ 0x00 ∷
+    0x00 ∷ 0x00 ∷ 0x00 ∷ 0x01 ∷ 0x00 ∷ 0x00 ∷ 0x00 ∷ 0x00 ∷ 0x00 ∷ 0x00 ∷ 0x00 ∷ 0x00 ∷ 0x00 ∷ 0x00 ∷ 0x00 ∷ 0x7b ∷
+    0x00 ∷ 0x00 ∷ 0x00 ∷ 0x9a ∷ replicate 12 0x00
+    ++ 0x54 ∷ 0x61 ∷ 0x72 ∷ 0x67 ∷ 0x65 ∷ 0x74 ∷ 0x50 ∷ 0x6f ∷ 0x72 ∷ 0x74 ∷ 0x61 ∷ 0x6c ∷ 0x47 ∷ 0x72 ∷ 0x6f ∷ 0x75 ∷
+    0x70 ∷ 0x54 ∷ 0x61 ∷ 0x67 ∷ 0x3d ∷ 0x31 ∷ 0x00 ∷ 0x00 ∷ []
+
+-- Login Response; T, CSG 1, NSG 3; both versions; TotalAHSLength; DataSegmentLength 32; ISID; TSIH 1. Tag 1;
+-- reserved; StatSN 1; ExpCmdSN 123. MaxCmdSN 154; status 0; reserved. Then MaxRecvDataSegmentLength=262144.
+abbrev pub second_answer : List ℕ
+second_answer =
+    0x23 ∷ 0x87 ∷ 0x00 ∷ 0x00 ∷ 0x00 ∷ 0x00 ∷ 0x00 ∷ 0x20 ∷ 0x80 ∷ 0x00 ∷ 0x00 ∷ 0x00 ∷ 0x00 ∷ 0x01 ∷ 0x00 ∷ 0x01 ∷
+    0x00 ∷ 0x00 ∷ 0x00 ∷ 0x01 ∷ 0x00 ∷ 0x00 ∷ 0x00 ∷ 0x00 ∷ 0x00 ∷ 0x00 ∷ 0x00 ∷ 0x01 ∷ 0x00 ∷ 0x00 ∷ 0x00 ∷ 0x7b ∷
+    0x00 ∷ 0x00 ∷ 0x00 ∷ 0x9a ∷ replicate 12 0x00
+    ++ 0x4d ∷ 0x61 ∷ 0x78 ∷ 0x52 ∷ 0x65 ∷ 0x63 ∷ 0x76 ∷ 0x44 ∷ 0x61 ∷ 0x74 ∷ 0x61 ∷ 0x53 ∷ 0x65 ∷ 0x67 ∷ 0x6d ∷ 0x65 ∷
+    0x6e ∷ 0x74 ∷ 0x4c ∷ 0x65 ∷ 0x6e ∷ 0x67 ∷ 0x74 ∷ 0x68 ∷ 0x3d ∷ 0x32 ∷ 0x36 ∷ 0x32 ∷ 0x31 ∷ 0x34 ∷ 0x34 ∷ 0x00 ∷ []
+
 -- ---- SCSI Commands (RFC 7143 §11.3)
 
 -- SCSI Command; F, SIMPLE; reserved; TotalAHSLength; DataSegmentLength 0; LUN 0. Tag, of one byte here;
@@ -119,3 +156,7 @@ ready_answer =
     0x21 ∷ 0x80 ∷ replicate 14 0x00
     ++ 0x00 ∷ 0x00 ∷ 0x00 ∷ 0x03 ∷ 0x00 ∷ 0x00 ∷ 0x00 ∷ 0x00 ∷ 0x00 ∷ 0x00 ∷ 0x00 ∷ 0x02 ∷ 0x00 ∷ 0x00 ∷ 0x00 ∷ 0x7d ∷
     0x00 ∷ 0x00 ∷ 0x00 ∷ 0x9c ∷ replicate 12 0x00
+
+-- the same as the third answer of a connection: StatSN 2
+abbrev pub attention_third : List ℕ
+attention_third = take 27 attention ++ 0x02 ∷ drop 28 attention

@@ -2,7 +2,7 @@
 use Rattle.std.specs.Prelude.{◌≡◌, ℕ, List, [], ◌∷◌, ◌++◌, take, drop, true, false, refl}
 use Rattle.iscsi_target.specs.History.{Open, Bytes, Gone, Step, Judging, Taking, Doing, Ending, History, plain, marked}
 use Rattle.iscsi_target.specs.Output.{outputs}
-use Rattle.iscsi_target.specs.ExamplesBytes.{computed, one_target, are_read, login_as, login_request, login_response, logged_in, refused, first_test, second_test, attention, ready_answer}
+use Rattle.iscsi_target.specs.ExamplesBytes.{computed, one_target, are_read, login_as, login_request, login_response, logged_in, refused, first_request, second_request, first_answer, second_answer, first_test, second_test, attention, attention_third, ready_answer}
 
 -- ---- one connection
 
@@ -15,6 +15,11 @@ in_one_piece = refl
 in_two_pieces : outputs one_target (plain (Open 0) ∷ plain (Bytes 0 (login_request ++ take 20 first_test)) ∷ plain (Bytes 0 (drop 20 first_test ++ second_test)) ∷ []) ≡ (logged_in ++ attention ++ ready_answer) ∷ []
 unfolding computed
 in_two_pieces = refl
+
+-- a login in two requests, and a command
+in_two_requests : outputs one_target (plain (Open 0) ∷ plain (Bytes 0 first_request) ∷ plain (Bytes 0 (second_request ++ first_test)) ∷ []) ≡ (first_answer ++ second_answer ++ attention_third) ∷ []
+unfolding computed
+in_two_requests = refl
 
 -- a Login request in full feature phase closes the connection, and the power on is told again in the next life
 abbrev after_a_violation : History
@@ -88,6 +93,11 @@ before_it_is_taken = refl
 before_it_is_done : outputs one_target (failed_at (Doing 1)) ≡ unanswered
 unfolding computed
 before_it_is_done = refl
+
+-- an allocation fails before the second of two Login requests is answered: it closes the connection
+before_it_is_answered : outputs one_target (plain (Open 0) ∷ plain (Bytes 0 first_request) ∷ marked (record { connection = 0; step = Judging 1 } ∷ []) (Bytes 0 (second_request ++ first_test)) ∷ []) ≡ first_answer ∷ []
+unfolding computed
+before_it_is_answered = refl
 
 -- that connection alone is closed
 it_is_closed : are_read one_target (failed_at (Doing 1)) ≡ false ∷ true ∷ []

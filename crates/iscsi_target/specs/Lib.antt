@@ -12,7 +12,6 @@ pub use Rattle.scsi_sense.specs.Nexus
 pub use Rattle.scsi_cdb.specs.Command
 pub mod History
 pub mod Units
-pub mod Login
 pub mod Life
 pub mod Acts
 pub mod World

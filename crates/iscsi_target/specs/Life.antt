@@ -9,12 +9,12 @@ use Rattle.iscsi_pdu.specs.Answer.{spelling}
 use Rattle.iscsi_pdu.specs.declared.answer.Answer.{Answer}
 use Rattle.iscsi_pdu.specs.declared.answer.Answer.TheVariants as answers
 use Rattle.iscsi_pdu.specs.declared.stamp.Stamp.{Stamp}
-use Rattle.iscsi_target.specs.declared.session.Session.{Session}
+use Rattle.iscsi_login.specs.declared.params.Params.{Params}
 
 -- where a connection is (RFC 7143 §4.2.4 to §4.2.6)
 pub data Phase : Type 0 where
   LoggingIn : Phase
-  FullFeature : (session : Session) → Phase
+  FullFeature : (session : Params) → Phase
   -- its frames are not read any more, and its session has ended
   Closing : Phase
   -- its Gone came
@@ -54,7 +54,7 @@ abbrev pub is_over : Phase → Bool
 is_over Over = true
 is_over _ = false
 
-abbrev pub session_in : Phase → Option Session
+abbrev pub session_in : Phase → Option Params
 session_in (FullFeature session) = Some session
 session_in _ = None
 

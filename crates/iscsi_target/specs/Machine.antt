@@ -1,22 +1,23 @@
 -- What a clause sees of the target: for each connection the bytes that are no whole frame yet, its phase
 -- and what waits to be sent, and the units of each target.
 use Rattle.std.specs.Prelude.{◌≡◌, ℕ, ◌+◌, ◌-◌, ◌^◌, ◌%◌, ◌<◌, List, [], ◌∷◌, ◌++◌, length, drop, map, flat_map, replicate, Bool, true, false, ◌||◌, not, nat_lt, Option, Some, None, slice_index_or, slice_set, if◌then◌else◌, ⊤}
-use Rattle.iscsi_pdu.specs.Header.{cmd_sn}
 use Rattle.iscsi_pdu.specs.Frames.{Frame, frames, rest, wanted}
 use Rattle.iscsi_pdu.specs.Answer.{spelling}
 use Rattle.iscsi_pdu.specs.declared.stamp.Stamp.{Stamp}
-use Rattle.iscsi_pdu.specs.declared.login_response.LoginRefusal.{LoginRefusal}
+use Rattle.iscsi_pdu.specs.declared.answer.Answer.{Answer}
 use Rattle.iscsi_target.specs.History.{connection_limit}
 use Rattle.iscsi_target.specs.Units.{Units, join}
-use Rattle.iscsi_target.specs.Login.{Live, login, older}
+use Rattle.iscsi_login.specs.Session.{Live, older}
+use Rattle.iscsi_login.specs.LoginState.{LoginState, AsksBelow, new_login}
+use Rattle.iscsi_login.specs.Login.{advanced, reply_of}
 use Rattle.iscsi_target.specs.Life.{window}
-use Rattle.iscsi_target.specs.Acts.{is_login, verdict, carried_out, command_answers, refusal_answer, success_answer}
-use Rattle.iscsi_target.specs.World.{left, changed_units}
-use Rattle.iscsi_target.specs.declared.session.Session.{Session}
+use Rattle.iscsi_target.specs.Acts.{is_login, verdict, carried_out, command_answers}
+use Rattle.iscsi_target.specs.World.{left, changed_units, lookup_for}
+use Rattle.iscsi_login.specs.declared.params.Params.{Params}
 use Rattle.iscsi_target.specs.declared.session.Verdict.{Verdict}
 use Rattle.iscsi_target.specs.declared.session.Verdict.TheVariants as verdicts
-use Rattle.iscsi_target.specs.declared.login.Reply.{Reply}
-use Rattle.iscsi_target.specs.declared.login.Reply.TheVariants.{Refused, Full}
+use Rattle.iscsi_login.specs.declared.reply.Reply.{Reply}
+use Rattle.iscsi_login.specs.declared.reply.Reply.TheVariants.{GoOn, Full, Refused}
 use Rattle.iscsi_target.specs.declared.phase.Phase.{Phase}
 use Rattle.iscsi_target.specs.declared.phase.Phase.TheVariants.{Free, Login, FullFeature, Closing}
 
@@ -40,7 +41,7 @@ link_at machine c = slice_index_or machine.links c free_link
 
 -- frames are read in this phase
 abbrev pub is_reading : Phase → Bool
-is_reading Login = true
+is_reading (Login login) = true
 is_reading (FullFeature session numbers) = true
 is_reading _ = false
 
@@ -51,6 +52,11 @@ is_free _ = false
 abbrev pub is_closing : Phase → Bool
 is_closing Closing = true
 is_closing _ = false
+
+-- a login is under way
+abbrev pub is_logging_in : Phase → Bool
+is_logging_in (Login login) = true
+is_logging_in _ = false
 
 -- the connection was opened and its Gone has not come
 abbrev pub is_open_at : Machine → ℕ → Bool
@@ -65,7 +71,7 @@ abbrev pub want_of : LinkState → ℕ
 want_of link = if is_closing link.phase || nat_lt most_waiting (length link.waiting) then 0 else wanted link.half
 
 -- the session in full feature phase
-abbrev pub session_in_phase : Phase → Option Session
+abbrev pub session_in_phase : Phase → Option Params
 session_in_phase (FullFeature session numbers) = Some session
 session_in_phase _ = None
 
@@ -78,9 +84,9 @@ sessions links = map (λ link. session_in_phase link.phase) links
 abbrev pub next_number : ℕ → ℕ
 next_number n = (n + 1) % 2 ^ 32
 
--- those of a Login request's answer
-unfoldable pub first_numbers : Frame → Stamp
-first_numbers request = record { stat_sn = 0; exp_cmd_sn = cmd_sn request.header % 2 ^ 32; max_cmd_sn = (cmd_sn request.header + (window - 1)) % 2 ^ 32 }
+-- those of the first answer in full feature phase
+unfoldable pub first_numbers : Params → Stamp
+first_numbers session = record { stat_sn = session.next_stat_sn; exp_cmd_sn = session.first_cmd_sn % 2 ^ 32; max_cmd_sn = (session.first_cmd_sn + (window - 1)) % 2 ^ 32 }
 
 -- one more answer that bears status was sent
 unfoldable pub counted : Stamp → Stamp
@@ -92,24 +98,25 @@ finished_one numbers = record numbers { exp_cmd_sn = next_number numbers.exp_cmd
 
 -- ---- what a call, or a frame, does to what is remembered
 
-abbrev pub opened_link : LinkState
-opened_link = record { half = []; phase = Login; waiting = [] }
+abbrev pub opened_link : ℕ → LinkState
+opened_link c = record { half = []; phase = Login (new_login (c + 1)); waiting = [] }
 
 -- nothing more is read
 abbrev pub shut_link : LinkState → LinkState
 shut_link link = record { half = []; phase = Closing; waiting = link.waiting }
 
-abbrev pub refused_link : LoginRefusal → Frame → LinkState → LinkState
-refused_link refusal request link = record { half = []; phase = Closing; waiting = link.waiting ++ spelling (refusal_answer (first_numbers request) request refusal) }
+-- a login is answered, and goes on
+abbrev pub gone_on_link : LoginState → Answer → LinkState → LinkState
+gone_on_link login answer link = record link { phase = Login login; waiting = link.waiting ++ spelling answer }
 
-abbrev pub begun_link : ℕ → Session → Frame → LinkState → LinkState
-begun_link c session request link = record link {
-  phase = FullFeature session (counted (first_numbers request));
-  waiting = link.waiting ++ spelling (success_answer (c + 1) (first_numbers request) request);
-}
+abbrev pub refused_link : Answer → LinkState → LinkState
+refused_link answer link = record { half = []; phase = Closing; waiting = link.waiting ++ spelling answer }
+
+abbrev pub begun_link : Params → Answer → LinkState → LinkState
+begun_link session answer link = record link { phase = FullFeature session (first_numbers session); waiting = link.waiting ++ spelling answer }
 
 -- a command is done and answered
-abbrev pub served : Session → Stamp → Frame → LinkState → List Units → LinkState × List Units
+abbrev pub served : Params → Stamp → Frame → LinkState → List Units → LinkState × List Units
 served session numbers frame link all =
     let p = carried_out (slice_index_or all session.target []) session.nexus frame in
     let over = finished_one numbers in
@@ -130,13 +137,26 @@ abbrev pub shut_older : Option ℕ → Machine → Machine
 shut_older None machine = machine
 shut_older (Some d) machine = with_link machine d (shut_link (link_at machine d))
 
-abbrev pub answered : Reply → ℕ → Frame → Machine → Machine
-answered (Refused refusal) c request machine = with_link machine c (refused_link refusal request (link_at machine c))
-answered (Full session) c request machine =
-    shut_older (older session (sessions machine.links)) (record (with_link machine c (begun_link c session request (link_at machine c))) { units = changed_units (join session.nexus) session.target machine.units })
+-- full feature phase begins
+abbrev pub begun : Params → Answer → ℕ → Machine → Machine
+begun session answer c machine =
+    shut_older (older session (sessions machine.links)) (record (with_link machine c (begun_link session answer (link_at machine c))) { units = changed_units (join session.nexus) session.target machine.units })
 
-unfoldable pub logged_in : Machine → ℕ → Frame → Machine
-logged_in machine c request = answered (login machine.names (sessions machine.links) request) c request machine
+abbrev pub replied : Reply → LoginState → ℕ → Machine → Machine
+replied (GoOn answer) login c machine = with_link machine c (gone_on_link login answer (link_at machine c))
+replied (Refused answer) login c machine = with_link machine c (refused_link answer (link_at machine c))
+replied (Full answer session) login c machine = begun session answer c machine
+
+-- a Login request, where this is remembered of those before it
+unfoldable pub logged_in : Machine → ℕ → LoginState → Frame → Machine
+logged_in machine c login request =
+    replied (reply_of login (lookup_for machine.names (sessions machine.links) request) request) (advanced machine.names login request) c machine
+
+-- a Login request was taken: it was answered, or what begins full feature phase is still to be sent
+abbrev pub IsAnswered : Reply → LoginState → LinkState → Option (Answer × Params) → LinkState → Type 0
+IsAnswered (GoOn answer) login old begun new = (begun ≡ None) × (new ≡ gone_on_link login answer old)
+IsAnswered (Refused answer) login old begun new = (begun ≡ None) × (new ≡ refused_link answer old)
+IsAnswered (Full answer session) login old begun new = (begun ≡ Some (answer, session)) × (new ≡ record old { phase = new.phase }) × (is_logging_in new.phase ≡ true)
 
 abbrev pub judged : Verdict → Machine → ℕ → Frame → Machine
 judged verdicts.Violating machine c frame = closed machine c
@@ -145,7 +165,7 @@ judged verdicts.Accepted machine c frame =
 
 abbrev pub frame_in : Machine → ℕ → Frame → Phase → Machine
 frame_in machine c frame Free = machine
-frame_in machine c frame Login = if is_login frame then logged_in machine c frame else closed machine c
+frame_in machine c frame (Login login) = if is_login frame then logged_in machine c login frame else closed machine c
 frame_in machine c frame (FullFeature session numbers) = judged (verdict numbers.exp_cmd_sn frame) machine c frame
 frame_in machine c frame Closing = machine
 
@@ -159,14 +179,11 @@ pub record GivesFrame (frame : Frame) (before after : List ℕ) : Type 0 where
   pub behind : rest after ≡ rest before
   pub shorter : length after < length before
 
--- its session's target is one of so many
+-- the target that its session or its login is with is one of so many
 abbrev pub HasTarget : ℕ → Phase → Type 0
 HasTarget count (FullFeature session numbers) = session.target < count
+HasTarget count (Login login) = AsksBelow count login.session
 HasTarget count _ = ⊤
-
-abbrev pub TargetBelow : ℕ → Reply → Type 0
-TargetBelow count (Refused refusal) = ⊤
-TargetBelow count (Full session) = session.target < count
 
 abbrev pub new_machine : List (List ℕ) → List Units → Machine
 new_machine names units = record { names = names; units = units; links = replicate connection_limit free_link }

@@ -1,26 +1,28 @@
 -- When the code stands where the World does: what it remembers is a function of the past.
 use Rattle.std.specs.Prelude.{◌≡◌, ◌⊎◌, ℕ, ◌+◌, ◌<◌, ◌≤◌, List, [], ◌∷◌, ◌++◌, length, drop, map, true, false, ◌==◌, Option, Some, None, if◌then◌else◌, ⊤}
 use Rattle.iscsi_pdu.specs.Frames.{frames, rest, is_long}
+use Rattle.iscsi_login.specs.Login.{remembered}
 use Rattle.iscsi_target.specs.History.{History, Mark, Judging, arrivals, connection_limit}
 use Rattle.iscsi_target.specs.Life.{Life, Phase, LoggingIn, FullFeature, Closing, Over, Accepted, reads, stamp}
 use Rattle.iscsi_target.specs.World.{Setting, World, present, world}
 use Rattle.iscsi_target.specs.Output.{out_now}
 use Rattle.iscsi_target.specs.Machine.{Machine, LinkState, link_at}
-use Rattle.iscsi_target.specs.declared.phase.Phase as remembered
+use Rattle.iscsi_target.specs.declared.phase.Phase as code
 use Rattle.iscsi_target.specs.declared.phase.Phase.TheVariants as phases
 
 -- ---- what is remembered of a life
 
--- a session has the sequence numbers of its next answer
-abbrev pub phase_for : Life → Phase → remembered.Phase
-phase_for life LoggingIn = phases.Login
-phase_for life (FullFeature session) = phases.FullFeature session (stamp life)
-phase_for life Closing = phases.Closing
-phase_for life Over = phases.Free
+-- of a login, with these targets, what is remembered of its requests; a session has the sequence
+-- numbers of its next answer
+abbrev pub phase_for : List (List ℕ) → Life → Phase → code.Phase
+phase_for names life LoggingIn = phases.Login (remembered names (life.connection + 1) life.requests)
+phase_for names life (FullFeature session) = phases.FullFeature session (stamp life)
+phase_for names life Closing = phases.Closing
+phase_for names life Over = phases.Free
 
-abbrev pub phase_of : Option Life → remembered.Phase
-phase_of None = phases.Free
-phase_of (Some life) = phase_for life life.phase
+abbrev pub phase_of : List (List ℕ) → Option Life → code.Phase
+phase_of names None = phases.Free
+phase_of names (Some life) = phase_for names life life.phase
 
 -- the bytes that are no whole frame yet, while frames are read
 abbrev pub half_in : Life → List ℕ
@@ -42,15 +44,14 @@ pub record IsFinished (place : ℕ) (life : Life) : Type 0 where
   pub numbered : AreNumbered 0 place life.came
   pub finished : life.finished ≡ map (λ request. request.place) life.came
 
--- nothing was asked or answered
-pub record IsNew (life : Life) : Type 0 where
-  pub requests : life.requests ≡ []
+-- each Login request was answered, and nothing else came
+pub record IsLogin (life : Life) : Type 0 where
   pub came : life.came ≡ []
   pub finished : life.finished ≡ []
-  pub answers : life.answers ≡ []
+  pub answered : length life.answers ≡ length life.requests
 
 abbrev pub IsQuiet : ℕ → Life → Phase → Type 0
-IsQuiet place life LoggingIn = IsNew life
+IsQuiet place life LoggingIn = IsLogin life
 IsQuiet place life (FullFeature session) = IsFinished place life
 IsQuiet place life Closing = ⊤
 IsQuiet place life Over = ⊤
@@ -65,8 +66,8 @@ IsSettled (Some life) = IsSettledLife life
 
 -- What waits on a connection is what its present life was answered, without as many bytes at the front
 -- as were sent.
-pub record IsLinkOf (sent : ℕ) (link : LinkState) (life : Option Life) : Type 0 where
-  pub phase : link.phase ≡ phase_of life
+pub record IsLinkOf (names : List (List ℕ)) (sent : ℕ) (link : LinkState) (life : Option Life) : Type 0 where
+  pub phase : link.phase ≡ phase_of names life
   pub half : link.half ≡ half_of life
   pub answered : sent ≤ length (out_now life)
   pub waiting : link.waiting ≡ drop sent (out_now life)
@@ -77,7 +78,7 @@ pub record StandsAt (s : Setting) (sent : ℕ → ℕ) (w : World) (machine : Ma
   pub names : machine.names ≡ s.names
   pub units : machine.units ≡ w.units
   pub count : length machine.links ≡ connection_limit
-  pub links : (c : ℕ) → c < connection_limit → IsLinkOf (sent c) (link_at machine c) (present c w)
+  pub links : (c : ℕ) → c < connection_limit → IsLinkOf s.names (sent c) (link_at machine c) (present c w)
 
 -- The code stands where the World of this history does.
 abbrev pub Stands : Setting → (ℕ → ℕ) → Machine → History → Type 0

@@ -5,17 +5,19 @@ use Rattle.std.specs.List.{list_any}
 use Rattle.scsi_sense.specs.Done.{Outcome}
 use Rattle.iscsi_pdu.specs.Frames.{Frame}
 use Rattle.iscsi_pdu.specs.declared.answer.Answer.{Answer}
-use Rattle.iscsi_pdu.specs.declared.login_response.LoginRefusal.{LoginRefusal}
+use Rattle.iscsi_pdu.specs.LoginRequest.{tsih}
 use Rattle.iscsi_target.specs.History.{Event, Open, Bytes, Gone, Step, Judging, Taking, Doing, Ending, Mark, Happening, History, Arrival, Whole, TooLong, new_arrivals, connections}
 use Rattle.iscsi_target.specs.Units.{Units, join, leave}
-use Rattle.iscsi_target.specs.Login.{Live, login, older}
+use Rattle.iscsi_login.specs.Session.{Live, named_by, older}
+use Rattle.iscsi_login.specs.Lookup.{Lookup}
+use Rattle.iscsi_login.specs.Login.{login}
 use Rattle.iscsi_target.specs.Life.{Life, Phase, LoggingIn, FullFeature, Closing, Over, Accepted, born, reads, is_over, session_in, stamp, index_of, ready}
-use Rattle.iscsi_target.specs.Acts.{is_login, verdict, carried_out, command_answers, refusal_answer, success_answer}
-use Rattle.iscsi_target.specs.declared.session.Session.{Session}
+use Rattle.iscsi_target.specs.Acts.{is_login, verdict, carried_out, command_answers}
+use Rattle.iscsi_login.specs.declared.params.Params.{Params}
 use Rattle.iscsi_target.specs.declared.session.Verdict.{Verdict}
 use Rattle.iscsi_target.specs.declared.session.Verdict.TheVariants as verdicts
-use Rattle.iscsi_target.specs.declared.login.Reply.{Reply}
-use Rattle.iscsi_target.specs.declared.login.Reply.TheVariants.{Refused, Full}
+use Rattle.iscsi_login.specs.declared.reply.Reply.{Reply}
+use Rattle.iscsi_login.specs.declared.reply.Reply.TheVariants.{GoOn, Full, Refused}
 
 -- what the target is made with: each target's name, and its units, in order
 pub record Setting : Type 0 where
@@ -48,7 +50,7 @@ abbrev pub reads_life : Option Life → Bool
 reads_life None = false
 reads_life (Some life) = reads life.phase
 
-abbrev pub session_of : Option Life → Option Session
+abbrev pub session_of : Option Life → Option Params
 session_of None = None
 session_of (Some life) = session_in life.phase
 
@@ -61,7 +63,7 @@ unfoldable pub changed_units : (Units → Units) → ℕ → List Units → List
 changed_units f target all = slice_set all target (f (slice_index_or all target []))
 
 -- a session that ends leaves its target's units
-abbrev pub left : Option Session → List Units → List Units
+abbrev pub left : Option Params → List Units → List Units
 left None all = all
 left (Some session) all = changed_units (leave session.nexus) session.target all
 
@@ -100,19 +102,16 @@ take_step marks c step act w =
 
 -- ---- login (RFC 7143 §6.3)
 
--- one more answer, stamped as it stands
+-- one more answer
 abbrev pub answered : Answer → Life → Life
 answered answer life = record life { answers = life.answers ++ answer ∷ [] }
 
 abbrev pub asked : Frame → Life → Life
 asked request life = record life { requests = life.requests ++ request ∷ [] }
 
-abbrev pub refused : LoginRefusal → Frame → Life → Life
-refused refusal request life = answered (refusal_answer (stamp life) request refusal) life
-
 -- full feature phase begins
-abbrev pub begun : Session → Frame → Life → Life
-begun session request life = record (answered (success_answer (life.connection + 1) (stamp life) request) life) { phase = FullFeature session }
+abbrev pub begun : Params → Answer → Life → Life
+begun session answer life = record (answered answer life) { phase = FullFeature session }
 
 -- its connection closes, and what waits on it is still sent
 abbrev pub end_older : Option ℕ → World → World
@@ -121,13 +120,23 @@ end_older (Some d) w = changed shut d w
 
 -- An older session of the same nexus with the same target is ended just before the new one begins
 -- (RFC 7143 §6.3.5). The nexus joins the target's units anew.
-abbrev pub replied : Reply → ℕ → Frame → World → World
-replied (Refused refusal) c request w = close c (changed (refused refusal request) c w)
-replied (Full session) c request w =
-    record (changed (begun session request) c (end_older (older session (live w)) w)) { units = changed_units (join session.nexus) session.target w.units }
+abbrev pub replied : Reply → ℕ → World → World
+replied (GoOn answer) c w = changed (answered answer) c w
+replied (Refused answer) c w = close c (changed (answered answer) c w)
+replied (Full answer session) c w =
+    record (changed (begun session answer) c (end_older (older session (live w)) w)) { units = changed_units (join session.nexus) session.target w.units }
 
+abbrev pub requests_of : Option Life → List Frame
+requests_of None = []
+requests_of (Some life) = life.requests
+
+-- what a Login request is judged by beside those before it: the targets, and the session whose TSIH it bears
+abbrev pub lookup_for : List (List ℕ) → Live → Frame → Lookup
+lookup_for names live request = record { names = names; named = named_by (tsih request.header) live }
+
+-- The reply to a request is read from all Login requests of the life; the session of connection c has TSIH c + 1.
 unfoldable pub log_in : Setting → ℕ → Frame → World → World
-log_in s c request w = replied (login s.names (live w) request) c request (changed (asked request) c w)
+log_in s c request w = replied (login (c + 1) (requests_of (present c w)) (lookup_for s.names (live w) request) request) c (changed (asked request) c w)
 
 -- ---- full feature phase
 
@@ -151,7 +160,7 @@ finished command done life =
     let over = record life { finished = life.finished ++ command.place ∷ [] } in
     record over { answers = over.answers ++ command_answers (stamp over) command.frame done }
 
-abbrev pub done_for : Option Session → ℕ → Accepted → World → World
+abbrev pub done_for : Option Params → ℕ → Accepted → World → World
 done_for None c command w = w
 done_for (Some session) c command w =
     let p = carried_out (slice_index_or w.units session.target []) session.nexus command.frame in

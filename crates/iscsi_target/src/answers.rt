@@ -1,18 +1,12 @@
-//! What a command and a Login request are answered.
+//! What a command is answered.
 
-ghost use Rattle.std.specs.Prelude.{◌≡◌, ◌<◌, ◌≤◌, ◌+◌, ◌^◌, length, IfOk, option_map};
+ghost use Rattle.std.specs.Prelude.{◌≡◌, ◌≤◌, length, option_map};
 ghost use Rattle.scsi_sense.specs.Sense.{sense_bytes};
 ghost use Rattle.iscsi_pdu.specs.Answer.{spelling};
-ghost use Rattle.iscsi_target.specs.Acts.{scsi_answer, residual_of, refusal_answer, success_answer};
-ghost use Rattle.iscsi_target.specs.Login.{declared_text as text_declared};
+ghost use Rattle.iscsi_target.specs.Acts.{scsi_answer, residual_of};
 
-use crate::fault::Memory;
-use iscsi_pdu::{
-    Answer, Frame, LoginAccepted, LoginRefusal, LoginReply, LoginResponse, LoginStep, Residual,
-    ScsiResponse, Stage, Stamp,
-};
+use iscsi_pdu::{Answer, Frame, Residual, ScsiResponse, Stamp};
 use scsi_sense::Done;
-use std::alloc::Global;
 
 /// The longest SCSI Response, in bytes: its header, and sense data with its length.
 pub(crate) const LONGEST_RESPONSE: usize = 68;
@@ -54,56 +48,4 @@ pub(crate) fn response(numbers: Stamp, frame: &Frame, done: &Done) -> Answer
         exp_data_sn: 0,
         sense: sense_data(done),
     })
-}
-
-/// The Login Response that refuses a request: byte 1 is zero, and there is no text. It takes no
-/// memory.
-#[tactic(auto, unfolding(crate::specs::Acts::refusal_answer))]
-pub(crate) fn refusal(numbers: Stamp, request: &Frame, refusal: LoginRefusal) -> Answer
-    ensures { result ≡ refusal_answer numbers request.now refusal }
-{
-    let header = &request.header;
-    Answer::LoginResponse(LoginResponse {
-        isid: header.isid(),
-        tsih: header.tsih(),
-        initiator_task_tag: header.initiator_task_tag(),
-        stamp: numbers,
-        reply: LoginReply::Refused(refusal),
-    })
-}
-
-/// The Login Response with which full feature phase begins (RFC 7143 §11.13), and the TSIH of the
-/// session.
-#[tactic(auto, unfolding(crate::specs::Acts::success_answer))]
-pub(crate) fn success(
-    alloc: Global,
-    tsih: u16,
-    numbers: Stamp,
-    request: &Frame,
-) -> Result<Answer, Memory>
-    ensures { IfOk result (λ answer. answer ≡ success_answer tsih numbers request.now) }
-{
-    let header = &request.header;
-    Ok(Answer::LoginResponse(LoginResponse {
-        isid: header.isid(),
-        tsih,
-        initiator_task_tag: header.initiator_task_tag(),
-        stamp: numbers,
-        reply: LoginReply::Accepted(LoginAccepted {
-            stage: Stage::OperationalNegotiation,
-            step: LoginStep::Enters(Stage::FullFeaturePhase),
-            text: declared_text(alloc)?,
-        }),
-    }))
-}
-
-/// What the target declares when a login succeeds (RFC 7143 §13.9, §13.12).
-const DECLARED: &[u8; 55] = b"TargetPortalGroupTag=1\0MaxRecvDataSegmentLength=262144\0";
-
-/// The same, as the text of an answer.
-fn declared_text(alloc: Global) -> Result<Vec<u8>, Memory>
-    ensures value { IfOk result (λ text. text.items ≡ text_declared) }
-    ensures short { IfOk result (λ text. length text.items ≤ 262144) }
-{
-    Ok(Vec::from_slice(alloc, DECLARED)?)
 }

@@ -24,6 +24,12 @@ impl From<AllocError> for Memory {
     }
 }
 
+impl From<iscsi_login::Memory> for Memory {
+    fn from(_e: iscsi_login::Memory) -> Memory {
+        Memory
+    }
+}
+
 impl<T: Drop> From<AllocFailed<T>> for Memory {
     fn from(_e: AllocFailed<T>) -> Memory {
         Memory

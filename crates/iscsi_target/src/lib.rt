@@ -14,10 +14,10 @@ mod fault;
 mod history;
 pub mod laws;
 mod link;
-mod login;
 mod phase;
 mod run;
 mod session;
+mod sessions;
 mod target;
 mod units;
 

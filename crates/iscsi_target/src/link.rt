@@ -1,21 +1,25 @@
 //! One connection: its bytes, its phase and what waits to be sent.
 
-ghost use Rattle.std.specs.Prelude.{◌≡◌, ◌<◌, ◌≤◌, ◌+◌, ◌++◌, ◌∷◌, ℕ, List, [], true, false, length, drop, IsOk, IfOk, IfSome, IfNone, OnOk, OnErr, IfErr};
+ghost use Rattle.std.specs.Prelude.{◌≡◌, ◌<◌, ◌≤◌, ◌+◌, ◌++◌, ◌∷◌, ℕ, List, [], true, false, None, length, map, string_bytes, drop, IsOk, IfOk, IfSome, IfNone, OnOk, OnErr, IfErr};
 ghost use Rattle.std.specs.Result.{IsErrOf};
 ghost use Rattle.iscsi_pdu.specs.Frames.{frames, rest, has_frame, is_long, frame_length, wanted};
 ghost use Rattle.iscsi_target.specs.Units.{Units as UnitStates, join as join_units};
 ghost use Rattle.iscsi_target.specs.Acts.{carried_out};
-ghost use Rattle.iscsi_target.specs.Machine.{LinkState, is_reading, free_link, opened_link, shut_link, refused_link, begun_link, served_in, HasTarget, sent_link};
-ghost use Rattle.iscsi_pdu.specs.declared.stamp.Stamp.{Stamp as StampState};
-ghost use Rattle.iscsi_target.specs.declared.session.Session.{Session as SessionState};
+ghost use Rattle.iscsi_pdu.specs.Answer.{spelling};
+ghost use Rattle.iscsi_login.specs.Lookup.{lookup_in};
+ghost use Rattle.iscsi_login.specs.LoginState.{LoginState};
+ghost use Rattle.iscsi_login.specs.Login.{advanced, reply_of};
+ghost use Rattle.iscsi_target.specs.Machine.{LinkState, is_reading, is_logging_in, session_in_phase, free_link, opened_link, shut_link, begun_link, served_in, IsAnswered, HasTarget, sent_link};
+ghost use Rattle.iscsi_target.specs.declared.phase.Phase.TheVariants.{Login as UnderWay};
 
-use crate::answers::{LONGEST_RESPONSE, refusal, response, success};
+use crate::answers::{LONGEST_RESPONSE, response};
 use crate::fault::Memory;
 use crate::phase::Phase;
-use crate::session::{Session, count, finish_one, first_numbers};
+use crate::session::{count, finish_one, first_numbers};
 use crate::units::Units;
 use bytes::BytesMut;
-use iscsi_pdu::{Frame, Framer, LoginRefusal, PduFault};
+use iscsi_login::{Login, Params, Reply};
+use iscsi_pdu::{Answer, Frame, Framer, PduFault};
 use scsi_sense::{AdditionalSense, Done, Nexus, Sense, SenseKey};
 use std::alloc::Global;
 use std::marker::Model;
@@ -65,12 +69,13 @@ impl Link {
     }
 
     /// A connection that has just been opened. It takes no memory.
-    pub(crate) fn opened(alloc: Global) -> Link
-        ensures { result ≡ opened_link }
+    pub(crate) fn opened(alloc: Global, c: usize) -> Link
+        requires { c < 64 }
+        ensures { result ≡ opened_link c }
     {
         Link {
             framer: Framer::new(alloc),
-            phase: Phase::Login,
+            phase: Phase::Login(Login::new(alloc, c)),
             waiting: BytesMut::new(alloc),
         }
     }
@@ -112,48 +117,73 @@ impl Link {
         self.framer.next()
     }
 
-    /// A Login request is refused. Where an allocation fails nothing changes.
-    pub(crate) fn refuse(&mut self, request: &Frame, why: LoginRefusal) -> Result<(), Memory>
-        ensures ok { OnOk result (self.new ≡ refused_link why request.now self.old) }
+    /// An answer waits to be sent. Where an allocation fails nothing changes.
+    fn send(&mut self, answer: &Answer) -> Result<(), Memory>
+        ensures ok { OnOk result (self.new ≡ record self.old { waiting = self.old.waiting ++ spelling answer.now }) }
         ensures err { OnErr result (self.new ≡ self.old) }
     {
-        let answer = refusal(first_numbers(request), request, why);
         if answer.write(&mut self.waiting).is_err() {
             return Err(Memory);
         }
-        self.phase = Phase::Closing;
         Ok(())
     }
 
-    /// Full feature phase begins on connection `c`, and the nexus joins its target's units. Where an
+    /// A Login request is taken, where a login is under way. It is answered here, but for the answer
+    /// with which full feature phase begins, which is given with its session.
+    pub(crate) fn log_in(
+        &mut self,
+        request: &Frame,
+        targets: &[String],
+        named: &Option<Params>,
+    ) -> Result<Option<(Answer, Params)>, Memory>
+        requires { is_logging_in self.old.phase ≡ true }
+        ensures answered { IfOk result (λ begun. (login : LoginState) → self.old.phase ≡ UnderWay login
+            → IsAnswered (reply_of login (lookup_in targets.now named.now) request.now) (advanced (map string_bytes targets.now) login request.now) self.old begun self.new) }
+        ensures target { HasTarget (length targets.now) self.old.phase → HasTarget (length targets.now) self.new.phase }
+        ensures begun { IfOk result (λ begun. IfSome begun (λ b. HasTarget (length targets.now) self.old.phase → b.1.target < length targets.now)) }
+        ensures waiting { OnErr result (self.new.waiting ≡ self.old.waiting) }
+        ensures session { OnErr result (session_in_phase self.new.phase ≡ None) }
+    {
+        let Phase::Login(login) = &mut self.phase else {
+            return Ok(None);
+        };
+        match login.take(request, targets, named)? {
+            Reply::GoOn(answer) => {
+                self.send(&answer)?;
+                Ok(None)
+            }
+            Reply::Refused(answer) => {
+                self.send(&answer)?;
+                self.phase = Phase::Closing;
+                Ok(None)
+            }
+            Reply::Full(answer, session) => Ok(Some((answer, session))),
+        }
+    }
+
+    /// Full feature phase begins with this answer, and the nexus joins its target's units. Where an
     /// allocation fails nothing changes.
     pub(crate) fn begin(
         &mut self,
         alloc: Global,
-        c: usize,
-        session: Session,
-        request: &Frame,
+        session: Params,
+        answer: &Answer,
         units: &mut Units,
     ) -> Result<(), Memory>
-        requires in_range { c < 64 }
-        requires reads { is_reading self.old.phase ≡ true }
-        ensures ok { OnOk result (self.new ≡ begun_link c session request.now self.old) }
+        requires { is_reading self.old.phase ≡ true }
+        ensures ok { OnOk result (self.new ≡ begun_link session answer.now self.old) }
         ensures units { OnOk result (units.new ≡ join_units session.nexus units.old) }
         ensures err { OnErr result (self.new ≡ self.old) }
         ensures units_err { OnErr result (units.new ≡ units.old) }
     {
-        let numbers = first_numbers(request);
-        let answer = success(alloc, c as u16 + 1, numbers, request)?;
         self.waiting.reserve(answer.length())?;
         units.join(alloc, &session.nexus)?;
         // There is room for the answer, so this does not fail.
         if answer.write(&mut self.waiting).is_err() {
             return Err(Memory);
         }
-        self.phase = Phase::FullFeature {
-            session,
-            numbers: count(numbers),
-        };
+        let numbers = first_numbers(&session);
+        self.phase = Phase::FullFeature { session, numbers };
         Ok(())
     }
 

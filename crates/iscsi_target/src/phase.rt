@@ -1,17 +1,17 @@
 //! Where a connection is.
 
-use crate::session::Session;
+use iscsi_login::{Login, Params};
 use iscsi_pdu::Stamp;
 
 /// The phase of a connection (RFC 7143 §4.2.4 to §4.2.6).
-#[derive(Debug, Drop)]
+#[derive(Drop)]
 pub(crate) enum Phase {
     /// Not open.
     Free,
-    /// Before full feature phase.
-    Login,
+    /// Before full feature phase: the login so far.
+    Login(Login),
     /// Full feature phase: its session, and the sequence numbers of its next answer.
-    FullFeature { session: Session, numbers: Stamp },
+    FullFeature { session: Params, numbers: Stamp },
     /// What waits is still sent, and nothing more is read.
     Closing,
 }
@@ -24,7 +24,7 @@ impl Phase {
     pub(crate) fn reads(&self) -> bool
         ensures { result ≡ is_reading self.now }
     {
-        matches!(self, Phase::Login | Phase::FullFeature { .. })
+        matches!(self, Phase::Login(_) | Phase::FullFeature { .. })
     }
 
     /// The connection is not open.

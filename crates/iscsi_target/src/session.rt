@@ -1,19 +1,11 @@
-//! A session in full feature phase: whose it is, what its frames are judged by, and how its sequence
-//! numbers move.
+//! A session in full feature phase: what its frames are judged by, and how its sequence numbers move.
 
 ghost use Rattle.std.specs.Prelude.{◌≡◌};
 ghost use Rattle.iscsi_target.specs.Acts.{verdict};
 ghost use Rattle.iscsi_target.specs.Machine.{finished_one, counted, first_numbers};
 
+use iscsi_login::Params;
 use iscsi_pdu::{Frame, Opcode, Stamp};
-use scsi_sense::Nexus;
-
-/// Whose session it is, and with which target, by its position in the configuration.
-#[derive(Debug, Drop)]
-pub(crate) struct Session {
-    pub nexus: Nexus,
-    pub target: usize,
-}
 
 /// What a frame in full feature phase is judged to be.
 #[derive(Clone, Copy, Debug, PartialEq, Eq)]
@@ -50,16 +42,15 @@ pub(crate) fn judge(exp_cmd_sn: u32, frame: &Frame) -> Verdict
     Verdict::Violating
 }
 
-/// The sequence numbers of the answer to the first Login request (RFC 7143 §11.12.8).
+/// The sequence numbers of the first answer in full feature phase (RFC 7143 §4.2.2).
 #[tactic(auto, unfolding(crate::specs::Machine::first_numbers))]
-pub(crate) fn first_numbers(request: &Frame) -> Stamp
-    ensures { result ≡ first_numbers request.now }
+pub(crate) fn first_numbers(session: &Params) -> Stamp
+    ensures { result ≡ first_numbers session.now }
 {
-    let first = request.header.cmd_sn();
     Stamp {
-        stat_sn: 0,
-        exp_cmd_sn: first,
-        max_cmd_sn: first.wrapping_add(WINDOW_AHEAD),
+        stat_sn: session.next_stat_sn,
+        exp_cmd_sn: session.first_cmd_sn,
+        max_cmd_sn: session.first_cmd_sn.wrapping_add(WINDOW_AHEAD),
     }
 }
 

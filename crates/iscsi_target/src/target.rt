@@ -5,20 +5,21 @@ ghost use Rattle.std.specs.Result.{IsErrOf};
 ghost use Rattle.iscsi_pdu.specs.Frames.{has_frame, is_long};
 ghost use Rattle.iscsi_target.specs.History.{Open, Bytes, Gone, Mark, History, plain, marked};
 ghost use Rattle.iscsi_target.specs.World.{Setting, present, world};
-ghost use Rattle.iscsi_target.specs.Machine.{LinkState, free_link, opened_link, sent_link, new_machine, link_at, with_link, closed, answered, logged_in, judged, frame_taken, GivesFrame, is_reading, is_open_at, is_closing, want_of};
+ghost use Rattle.iscsi_target.specs.Machine.{LinkState, free_link, opened_link, sent_link, new_machine, link_at, with_link, closed, begun, logged_in, is_logging_in, judged, frame_taken, GivesFrame, is_reading, is_open_at, is_closing, want_of};
 ghost use Rattle.iscsi_target.specs.declared.phase.Phase.TheVariants.{Login};
 ghost use Rattle.iscsi_target.specs.declared.session.Verdict.TheVariants.{Accepted};
-ghost use Rattle.iscsi_target.specs.declared.login.Reply.TheVariants.{Full};
+ghost use Rattle.iscsi_login.specs.LoginState.{LoginState};
 ghost use Rattle.iscsi_target.specs.Stands.{Stands, IsStarved, with_sent};
 
 use crate::config::Config;
 use crate::fault::{Memory, Starved};
 use crate::link::Link;
-use crate::login::{Reply, login, older};
 use crate::phase::Phase;
-use crate::session::{Session, Verdict, judge};
+use crate::session::{Verdict, judge};
+use crate::sessions::{named, older};
 use crate::units::Units;
-use iscsi_pdu::{Frame, Opcode, PduFault};
+use iscsi_login::Params;
+use iscsi_pdu::{Answer, Frame, Opcode, PduFault};
 use std::alloc::Global;
 use std::marker::Model;
 
@@ -85,10 +86,10 @@ impl Target {
         requires in_range { c < 64 }
         requires free { is_open_at self.old c ≡ false }
         ensures ok { IsOk result }
-        ensures now { self.new ≡ with_link self.old c opened_link }
+        ensures now { self.new ≡ with_link self.old c (opened_link c) }
         ensures stands { (s : Setting) (sent : ℕ → ℕ) (h : History) → Stands s sent self.old h → Stands s (with_sent sent c 0) self.new (h ++ plain (Open c) ∷ []) }
     {
-        self.links[c] = Link::opened(self.alloc);
+        self.links[c] = Link::opened(self.alloc, c);
         Ok(())
     }
 
@@ -270,16 +271,17 @@ impl Target {
         link.next_frame()
     }
 
-    /// One frame of a connection, in its phase. Where an allocation fails nothing changes.
+    /// One frame of a connection, in its phase. Where an allocation fails the connection is to be
+    /// closed, and nothing else changes.
     #[tactic(auto, unfolding(crate::specs::Machine::frame_taken, crate::specs::Acts::is_login))]
     fn take_frame(&mut self, c: usize, frame: &Frame) -> Result<(), Memory>
         requires { c < 64 }
         ensures ok { OnOk result (self.new ≡ frame_taken self.old c frame.now) }
-        ensures err { OnErr result (self.new ≡ self.old) }
+        ensures err { OnErr result (closed self.new c ≡ closed self.old c) }
     {
         match &self.links[c].phase {
             Phase::Free | Phase::Closing => Ok(()),
-            Phase::Login => {
+            Phase::Login(_) => {
                 if frame.header.opcode() == Opcode::Login {
                     return self.log_in(c, frame);
                 }
@@ -306,38 +308,37 @@ impl Target {
         link.serve(self.alloc, self.units.as_mut_slice(), frame)
     }
 
-    /// A Login request is answered. Where an allocation fails nothing changes.
+    /// A Login request is answered. Where an allocation fails the connection is to be closed.
     #[tactic(auto, unfolding(crate::specs::Machine::logged_in))]
     fn log_in(&mut self, c: usize, request: &Frame) -> Result<(), Memory>
         requires in_range { c < 64 }
-        requires logs_in { (link_at self.old c).phase ≡ Login }
-        ensures ok { OnOk result (self.new ≡ logged_in self.old c request.now) }
-        ensures err { OnErr result (self.new ≡ self.old) }
+        requires logs_in { is_logging_in (link_at self.old c).phase ≡ true }
+        ensures ok { OnOk result ((login : LoginState) → (link_at self.old c).phase ≡ Login login → self.new ≡ logged_in self.old c login request.now) }
+        ensures err { OnErr result (closed self.new c ≡ closed self.old c) }
     {
-        let names = self.config.targets.as_slice();
-        match login(self.alloc, names, self.links.as_slice(), request)? {
-            Reply::Refused(refusal) => {
-                let link = &mut self.links[c];
-                link.refuse(request, refusal)
-            }
-            Reply::Full(session) => self.begin(c, request, session),
+        let named = named(self.links.as_slice(), request.header.tsih())?;
+        let targets = self.config.targets.as_slice();
+        let link = &mut self.links[c];
+        match link.log_in(request, targets, &named)? {
+            Some((answer, session)) => self.begin(c, session, &answer),
+            None => Ok(()),
         }
     }
 
     /// Full feature phase begins, and an older session of the same nexus with the same target is
     /// ended. Where an allocation fails nothing changes.
     #[tactic(auto, unfolding(crate::specs::World::changed_units))]
-    fn begin(&mut self, c: usize, request: &Frame, session: Session) -> Result<(), Memory>
+    fn begin(&mut self, c: usize, session: Params, answer: &Answer) -> Result<(), Memory>
         requires in_range { c < 64 }
         requires reads { is_reading (link_at self.old c).phase ≡ true }
         requires target { session.target < length self.old.units }
-        ensures ok { OnOk result (self.new ≡ answered (Full session) c request.now self.old) }
+        ensures ok { OnOk result (self.new ≡ begun session answer.now c self.old) }
         ensures err { OnErr result (self.new ≡ self.old) }
     {
         let before = older(self.links.as_slice(), &session);
         let units = &mut self.units[session.target];
         let link = &mut self.links[c];
-        link.begin(self.alloc, c, session, request, units)?;
+        link.begin(self.alloc, session, answer, units)?;
         if let Some(before) = before {
             let link = &mut self.links[before];
             link.shut();

@@ -75,6 +75,16 @@ impl Pairs {
         Ok(())
     }
 
+    /// Puts pairs behind these. The one fault is out of memory, which leaves the pairs as they were.
+    pub fn append(&mut self, mut more: Pairs) -> Result<(), TextFault>
+        ensures added { OnOk result (self.new ≡ self.old ++ more) }
+        ensures unchanged { OnErr result (self.new ≡ self.old) }
+        ensures memory { IsOkUnless result TextFault.Memory }
+    {
+        self.list.append(&mut more.list)?;
+        Ok(())
+    }
+
     /// The key and the value at a place.
     pub fn pair(&self, at: usize) -> (&str, &str)
         requires { at < length self.now }

@@ -1,5 +1,5 @@
 -- What the target says of a connection, and what the World says of it.
-use Rattle.std.proofs.Common.{◌≡◌, ◌≢◌, ℕ, ◌+◌, ◌<◌, Bool, true, false, ◌&&◌, eqb, [], ◌∷◌, ◌++◌, length, refl, sym, ap, ◌∙◌, Option, None, Some, is_some, arith}
+use Rattle.std.proofs.Common.{◌≡◌, ◌≢◌, ℕ, ◌+◌, ◌<◌, Bool, true, false, ◌&&◌, eqb, List, [], ◌∷◌, ◌++◌, length, refl, sym, ap, ◌∙◌, Option, None, Some, is_some, arith}
 use Rattle.std.proofs.lemmas.List.{length-drop}
 use Rattle.iscsi_target.specs.History.{History, Gone, plain, connection_limit}
 use Rattle.iscsi_target.specs.Life.{Life, Phase, LoggingIn, FullFeature, Closing, Over}
@@ -20,18 +20,18 @@ open_by s sent w machine c false lt h e = sym (ap is_some (is_free_there s sent 
 pub open_same : (s : Setting) (sent : ℕ → ℕ) (w : World) (machine : Machine) (c : ℕ) → c < connection_limit → StandsAt s sent w machine → is_open_at machine c ≡ is_some (present c w)
 open_same s sent w machine c lt h = open_by s sent w machine c (is_open_at machine c) lt h refl
 
-closing_in : (life : Life) (phase : Phase) → is_closing (phase_for life phase) ≡ is_closing_phase phase
-closing_in life LoggingIn = refl
-closing_in life (FullFeature session) = refl
-closing_in life Closing = refl
-closing_in life Over = refl
+closing_in : (names : List (List ℕ)) (life : Life) (phase : Phase) → is_closing (phase_for names life phase) ≡ is_closing_phase phase
+closing_in names life LoggingIn = refl
+closing_in names life (FullFeature session) = refl
+closing_in names life Closing = refl
+closing_in names life Over = refl
 
-closing_of : (o : Option Life) → is_closing (phase_of o) ≡ is_closed o
-closing_of None = refl
-closing_of (Some life) = closing_in life life.phase
+closing_of : (names : List (List ℕ)) (o : Option Life) → is_closing (phase_of names o) ≡ is_closed o
+closing_of names None = refl
+closing_of names (Some life) = closing_in names life life.phase
 
 pub closing_same : (s : Setting) (sent : ℕ → ℕ) (w : World) (machine : Machine) (c : ℕ) → c < connection_limit → StandsAt s sent w machine → is_closing (link_at machine c).phase ≡ is_closed (present c w)
-closing_same s sent w machine c lt h = ap is_closing (h.links c lt).phase ∙ closing_of (present c w)
+closing_same s sent w machine c lt h = ap is_closing (h.links c lt).phase ∙ closing_of s.names (present c w)
 
 pub waiting_same : (s : Setting) (sent : ℕ → ℕ) (w : World) (machine : Machine) (c : ℕ) → c < connection_limit → StandsAt s sent w machine → (link_at machine c).waiting ≡ unsent sent w c
 unfolding unsent

@@ -38,7 +38,7 @@ returns-in-Err-take_frame-clause-starved c = λ s sent h at.
     (let given = rw c.in-Ok-Some.field-0-is at c.in-Ok-Some.ensures.same in
     let lt : c.args.c < length c.loop-self.self.links = (let below = c.requires.in_range in omega (arith, c.reads-in-loop-self.ensures.count)) in
     let same : closed c.loop-self.self c.args.c ≡ c.starve-in-Err-take_frame.new.self =
-    sym (closed_rehalved c.loop-self.self c.next_frame.new.self c.args.c _ lt given) ∙ ap (λ (m : Machine). closed m c.args.c) (sym c.in-Err-take_frame.ensures.err) ∙ sym c.starve-in-Err-take_frame.ensures.closed in
+    sym (closed_rehalved c.loop-self.self c.next_frame.new.self c.args.c _ lt given) ∙ sym c.in-Err-take_frame.ensures.err ∙ sym c.starve-in-Err-take_frame.ensures.closed in
     starved_machine c.args.c s sent h c.args.piece.now (closed c.loop-self.self c.args.c) c.starve-in-Err-take_frame.new.self same
     (ends_starved c.args.c s sent c.args.self.now c.loop-self.self h c.args.piece.now c.requires.in_range at (sym c.reads.ensures.value ∙ c.if-not-reads.false)
     (progress_from c.args.c c.keep.new.self _ c.loop-self.self c.in_default.ensures.ok c.loop-self.invariant) (sym c.reads-in-loop-self.ensures.value ∙ c.loop-self-test.true)
@@ -49,7 +49,7 @@ returns-in-Err-take_frame-clause-closing c =
     let given = rw c.in-Ok-Some.field-0-is at c.in-Ok-Some.ensures.same in
     let lt : c.args.c < length c.loop-self.self.links = (let below = c.requires.in_range in omega (arith, c.reads-in-loop-self.ensures.count)) in
     let same : c.starve-in-Err-take_frame.new.self ≡ closed c.loop-self.self c.args.c =
-    c.starve-in-Err-take_frame.ensures.closed ∙ ap (λ (m : Machine). closed m c.args.c) c.in-Err-take_frame.ensures.err ∙ closed_rehalved c.loop-self.self c.next_frame.new.self c.args.c _ lt given in
+    c.starve-in-Err-take_frame.ensures.closed ∙ c.in-Err-take_frame.ensures.err ∙ closed_rehalved c.loop-self.self c.next_frame.new.self c.args.c _ lt given in
     rw same (closing_there c.loop-self.self c.args.c lt)
 
 pub loop-self-preserved : goal.loop-self-preserved

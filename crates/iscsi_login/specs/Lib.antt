@@ -1,0 +1,17 @@
+pub use Rattle.iscsi_pdu.specs.Header
+pub use Rattle.iscsi_pdu.specs.Stage
+pub use Rattle.iscsi_pdu.specs.LoginRequest
+pub use Rattle.iscsi_pdu.specs.Frames
+pub use Rattle.iscsi_pdu.specs.Answer
+pub use Rattle.iscsi_text.specs.Pairs
+pub use Rattle.scsi_sense.specs.Nexus
+pub mod Number
+pub mod Keys
+pub mod Values
+pub mod Session
+pub mod Lookup
+pub mod LoginState
+pub mod Rules
+pub mod Login
+pub mod ExamplesKeys
+pub mod ExamplesLogin

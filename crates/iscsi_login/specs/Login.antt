@@ -1,0 +1,200 @@
+-- The dialogue of a login (RFC 7143 §6.3, §11.12, §11.13): what each request is answered, and what is remembered of it.
+use Rattle.std.specs.Prelude.{◌<◌, ℕ, ◌+◌, ◌^◌, ◌%◌, List, [], ◌∷◌, ◌++◌, length, take, drop, fold, Bool, true, false, ◌&&◌, ◌||◌, not, nat_lt, Option, Some, None, is_none, unwrap_or, option_map, codes, if◌then◌else◌, ⊤, ◌≡◌}
+use Rattle.std.specs.List.{filter_map}
+use Rattle.std.specs.Option.{option_or}
+use Rattle.iscsi_pdu.specs.Header.{initiator_task_tag}
+use Rattle.iscsi_pdu.specs.LoginRequest.{is_transit, current_stage, next_stage, isid, tsih}
+use Rattle.iscsi_pdu.specs.Frames.{Frame}
+use Rattle.iscsi_pdu.specs.declared.stamp.Stamp.{Stamp}
+use Rattle.iscsi_pdu.specs.declared.stage.Stage.{Stage}
+use Rattle.iscsi_pdu.specs.declared.stage.Stage.TheVariants.{OperationalNegotiation, FullFeaturePhase}
+use Rattle.iscsi_pdu.specs.declared.answer.Answer.{Answer}
+use Rattle.iscsi_pdu.specs.declared.answer.Answer.TheVariants as answers
+use Rattle.iscsi_pdu.specs.declared.login_response.LoginRefusal.{LoginRefusal}
+use Rattle.iscsi_pdu.specs.declared.login_response.LoginStep.{LoginStep}
+use Rattle.iscsi_pdu.specs.declared.login_response.LoginStep.TheVariants as steps
+use Rattle.iscsi_pdu.specs.declared.login_response.LoginReply.{LoginReply}
+use Rattle.iscsi_pdu.specs.declared.login_response.LoginReply.TheVariants as replies
+use Rattle.iscsi_text.specs.Pairs.{Pair, text_of}
+use Rattle.iscsi_login.specs.Keys.{key_result}
+use Rattle.iscsi_login.specs.Values.{with_pairs}
+use Rattle.iscsi_login.specs.Lookup.{Lookup}
+use Rattle.iscsi_login.specs.LoginState.{LoginState, AsksBelow, new_login}
+use Rattle.iscsi_login.specs.Rules.{opening_with, stage_with, is_same_stage, is_due, joined, reads_text, pairs_with, asked_by, refusal_of}
+use Rattle.iscsi_login.specs.declared.params.Params.{Params}
+use Rattle.iscsi_login.specs.declared.reply.Reply.{Reply}
+use Rattle.iscsi_login.specs.declared.reply.Reply.TheVariants.{GoOn, Full, Refused}
+use Rattle.iscsi_login.specs.declared.session.Session.{Session}
+
+-- ---- the text of an answer
+
+-- own: the longest piece of an answer's text, in bytes
+abbrev pub longest_piece : ℕ
+longest_piece = 8192
+
+abbrev pub answered_pair : Pair → Option Pair
+answered_pair pair = option_map (λ text. (pair.0, text)) (key_result pair.0 pair.1)
+
+-- RFC 7143 §13.9: told in the first whole answer
+abbrev pub portal_group : Bool → List Pair
+portal_group is_first = if is_first then (codes "TargetPortalGroupTag", codes "1") ∷ [] else []
+
+-- RFC 7143 §13.12: what the target takes in one PDU
+abbrev pub declaration : Bool → List Pair
+declaration is_told = if is_told then (codes "MaxRecvDataSegmentLength", codes "262144") ∷ [] else []
+
+-- the pairs of a whole answer: the results stand in the order of the offers
+unfoldable pub answer_pairs : Bool → Bool → List Pair → List Pair
+answer_pairs is_first is_told offers = portal_group is_first ++ filter_map answered_pair offers ++ declaration is_told
+
+-- the stage that a request is in is operational negotiation
+abbrev pub is_operational : List ℕ → Bool
+is_operational header = is_same_stage (current_stage header) (Some OperationalNegotiation)
+
+-- the target declares its segment in the first whole answer of operational negotiation
+abbrev pub declares : LoginState → List ℕ → Bool
+declares login header = is_operational header && not login.declared
+
+-- ---- what is remembered
+
+-- a request with C: its text is kept
+abbrev pub kept_with : LoginState → Frame → LoginState
+kept_with login request = record login { kept = joined login request }
+
+-- a whole text is read, and its answer is due
+unfoldable pub heard : List (List ℕ) → LoginState → List ℕ → List Pair → LoginState
+heard names login header pairs = record login {
+  kept = [];
+  earlier = login.earlier ++ pairs;
+  session = option_or login.session (asked_by login.session names header pairs);
+  values = with_pairs login.values pairs;
+  declared = login.declared || is_operational header;
+  due = text_of (answer_pairs (is_none login.session) (declares login header) pairs);
+}
+
+-- what a request brings, before it is answered
+abbrev pub brought : List (List ℕ) → LoginState → Frame → LoginState
+brought names login request =
+    if reads_text login request then heard names login request.header (pairs_with login request)
+    else if is_due login then login
+    else kept_with login request
+
+-- RFC 7143 §11.13.6, §11.13.7: the stage changes with the last piece of an answer, where its request asks for it
+abbrev pub step_of : List ℕ → List ℕ → LoginStep
+step_of header due =
+    if nat_lt longest_piece (length due) then steps.Continued
+    else if is_transit header then steps.Enters (unwrap_or (next_stage header) FullFeaturePhase)
+    else steps.Stays
+
+abbrev pub stage_after : Option Stage → LoginStep → Option Stage
+stage_after stage (steps.Enters next) = Some next
+stage_after stage _ = stage
+
+-- the next piece of the answer is sent
+abbrev pub answered : LoginState → List ℕ → LoginState
+answered login header = record login {
+  opening = Some (opening_with login header);
+  stage = stage_after (stage_with login header) (step_of header login.due);
+  answers = (login.answers + 1) % 2 ^ 32;
+  due = drop longest_piece login.due;
+}
+
+-- what is remembered after a request that is not refused
+unfoldable pub advanced : List (List ℕ) → LoginState → Frame → LoginState
+advanced names login request = answered (brought names login request) request.header
+
+-- what is remembered of the requests of a login
+unfoldable pub remembered : List (List ℕ) → ℕ → List Frame → LoginState
+remembered names handle requests = fold (advanced names) (new_login handle) requests
+
+-- ---- the answer
+
+-- RFC 7143 §4.2.2.1, §4.2.2.2: StatSN counts the answers, ExpCmdSN is the CmdSN of the first request, and 32 commands may be sent (own)
+unfoldable pub login_stamp : LoginState → List ℕ → Stamp
+login_stamp login header =
+    let first = (opening_with login header).cmd_sn in
+    record { stat_sn = login.answers; exp_cmd_sn = first; max_cmd_sn = (first + 31) % 2 ^ 32 }
+
+unfoldable pub login_answer : LoginState → Frame → ℕ → LoginReply → Answer
+login_answer login request handle reply = answers.LoginResponse (record {
+  isid = isid request.header;
+  tsih = handle;
+  initiator_task_tag = initiator_task_tag request.header;
+  stamp = login_stamp login request.header;
+  reply = reply;
+})
+
+-- RFC 7143 §11.13: the next piece of the text that is due
+abbrev pub accepted : List ℕ → List ℕ → LoginReply
+accepted header due = replies.Accepted (record {
+  stage = unwrap_or (current_stage header) OperationalNegotiation;
+  step = step_of header due;
+  text = take longest_piece due;
+})
+
+-- what full feature phase begins with
+unfoldable pub params_of : LoginState → List ℕ → Session → Params
+params_of login header session = record {
+  nexus = session.nexus;
+  target = session.target;
+  connection_id = (opening_with login header).connection_id;
+  first_cmd_sn = (opening_with login header).cmd_sn;
+  next_stat_sn = (login.answers + 1) % 2 ^ 32;
+  values = login.values;
+}
+
+-- RFC 7143 §6.3: full feature phase is next
+abbrev pub is_last_step : LoginStep → Bool
+is_last_step (steps.Enters FullFeaturePhase) = true
+is_last_step _ = false
+
+-- RFC 7143 §11.12.6: the session has its TSIH from the answer on that begins full feature phase
+abbrev pub handle_with : LoginState → List ℕ → LoginStep → ℕ
+handle_with login header step = if is_last_step step then login.handle else tsih header
+
+-- the session that begins
+abbrev pub begun_by : LoginState → LoginStep → Option Session
+begun_by login step = if is_last_step step then login.session else None
+
+abbrev pub reply_with : Answer → LoginState → List ℕ → Option Session → Reply
+reply_with answer login header None = GoOn answer
+reply_with answer login header (Some session) = Full answer (params_of login header session)
+
+-- the answer to what a request brought
+unfoldable pub reply_to : LoginState → Frame → Reply
+reply_to login request =
+    let step = step_of request.header login.due in
+    reply_with (login_answer login request (handle_with login request.header step) (accepted request.header login.due)) login request.header (begun_by login step)
+
+abbrev pub refused_reply : LoginState → Frame → LoginRefusal → Reply
+refused_reply login request refusal = Refused (login_answer login request (tsih request.header) (replies.Refused refusal))
+
+abbrev pub reply_unless : Option LoginRefusal → Lookup → LoginState → Frame → Reply
+reply_unless (Some refusal) lookup login request = refused_reply login request refusal
+reply_unless None lookup login request = reply_to (brought lookup.names login request) request
+
+-- The reply to a request, by what is remembered of those before it.
+unfoldable pub reply_of : LoginState → Lookup → Frame → Reply
+reply_of login lookup request = reply_unless (refusal_of login lookup request) lookup login request
+
+-- The reply to a request behind these others of a login, whose session is given this TSIH.
+abbrev pub login : ℕ → List Frame → Lookup → Frame → Reply
+login handle before lookup request = reply_of (remembered lookup.names handle before) lookup request
+
+-- what is remembered after a reply; full feature phase leaves nothing to remember
+abbrev pub IsAfter : List (List ℕ) → LoginState → Frame → Reply → LoginState → Type 0
+IsAfter names old request (GoOn answer) new = new ≡ advanced names old request
+IsAfter names old request (Refused answer) new = new ≡ old
+IsAfter names old request (Full answer params) new = ⊤
+
+-- what is remembered once a piece of the answer is sent
+abbrev pub IsAnswered : LoginState → Frame → Reply → LoginState → Type 0
+IsAnswered old request (GoOn answer) new = new ≡ answered old request.header
+IsAnswered old request (Refused answer) new = ⊥
+IsAnswered old request (Full answer params) new = ⊤
+
+-- the target of a session that begins is one of so many, and so is the one that a login goes on to ask for
+abbrev pub IsBelow : ℕ → Reply → LoginState → Type 0
+IsBelow count (GoOn answer) new = AsksBelow count new.session
+IsBelow count (Refused answer) new = AsksBelow count new.session
+IsBelow count (Full answer params) new = (params.target < count) × AsksBelow count new.session

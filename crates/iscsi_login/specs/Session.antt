@@ -1,0 +1,25 @@
+-- Sessions in full feature phase, and targets by name.
+use Rattle.std.specs.Prelude.{ℕ, ◌-◌, List, Bool, false, ◌&&◌, ◌==◌, Option, Some, None, bytes_eq, position, slice_index_or, if◌then◌else◌}
+use Rattle.scsi_sense.specs.Nexus.{NexusName, same_nexus}
+use Rattle.iscsi_login.specs.declared.params.Params.{Params}
+
+-- the sessions in full feature phase, by the number of their connection
+abbrev pub Live : Type 0
+Live = List (Option Params)
+
+-- own: the session of connection c has TSIH c + 1, and TSIH 0 names none (RFC 7143 §11.12.6)
+abbrev pub named_by : ℕ → Live → Option Params
+named_by handle live = if handle == 0 then None else slice_index_or live (handle - 1) None
+
+-- a session of this nexus with this target
+abbrev pub is_of : NexusName → ℕ → Option Params → Bool
+is_of nexus target None = false
+is_of nexus target (Some session) = same_nexus session.nexus nexus && session.target == target
+
+-- the connection of an older session of the same nexus with the same target
+unfoldable pub older : Params → Live → Option ℕ
+older session live = position (is_of session.nexus session.target) live
+
+-- where the target of this name stands
+unfoldable pub target_named : List (List ℕ) → List ℕ → Option ℕ
+target_named names name = position (λ other. bytes_eq other name) names

@@ -1,0 +1,50 @@
+//! Out of memory, and why a request is not heard.
+
+ghost use Rattle.std.specs.Prelude.{◌≡◌};
+ghost use Rattle.iscsi_login.specs.declared.fault.Fault.TheVariants as faults;
+
+use iscsi_pdu::LoginRefusal;
+use std::alloc::{AllocError, AllocFailed};
+use thiserror::Error;
+
+/// An allocation failed.
+#[derive(Clone, Copy, Debug, PartialEq, Eq, Error)]
+#[error("out of memory")]
+pub struct Memory;
+
+impl From<AllocError> for Memory {
+    fn from(_error: AllocError) -> Memory {
+        Memory
+    }
+}
+
+impl<T: Drop> From<AllocFailed<T>> for Memory {
+    fn from(_error: AllocFailed<T>) -> Memory {
+        Memory
+    }
+}
+
+/// Why a text is not taken.
+#[derive(Clone, Copy, Debug, PartialEq, Eq)]
+pub(crate) enum Fault {
+    /// The login is refused.
+    Refused(LoginRefusal),
+    /// An allocation failed.
+    Memory,
+}
+
+impl From<Memory> for Fault {
+    ghost from_gives = { λ _ fault. fault ≡ faults.Memory };
+
+    fn from(_error: Memory) -> Fault {
+        Fault::Memory
+    }
+}
+
+impl From<AllocError> for Fault {
+    ghost from_gives = { λ _ fault. fault ≡ faults.Memory };
+
+    fn from(_error: AllocError) -> Fault {
+        Fault::Memory
+    }
+}

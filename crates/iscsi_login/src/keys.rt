@@ -1,0 +1,207 @@
+//! What an offer of a key comes to (RFC 7143 §6.2, §12, §13).
+
+ghost use Rattle.std.specs.Prelude.{◌≡◌, IfOk, decimal, option_map, string_bytes};
+ghost use Rattle.iscsi_login.specs.Keys.{word_text, boolean_text, result_text, negotiation_of, is_listed as is_listed_word, boolean_of, result_by, is_answer as is_answer_value, settled as settled_of, key_result};
+
+use crate::fault::Memory;
+use crate::number::number_in;
+use itoa::Buffer;
+use std::alloc::Global;
+
+/// A word that is answered.
+#[derive(Clone, Copy, Debug, PartialEq, Eq)]
+pub enum Word {
+    None,
+    Rfc3720,
+    Reject,
+    NotUnderstood,
+}
+
+/// What an offer comes to.
+#[derive(Clone, Copy, Debug, PartialEq, Eq)]
+pub enum KeyResult {
+    /// The key is a declaration, or the value an answer.
+    NoAnswer,
+    /// Yes or No, which is in force.
+    Boolean(bool),
+    /// A number, which is in force.
+    Number(u32),
+    /// A word.
+    Word(Word),
+}
+
+/// How a key is negotiated (RFC 7143 §6.2), and the value of this target.
+#[derive(Clone, Copy, Debug, PartialEq, Eq)]
+pub enum Negotiation {
+    /// A list of values, of which this one is chosen.
+    Choice(Word),
+    /// Yes or No: Yes where one of the two says so.
+    Or(bool),
+    /// Yes or No: Yes where both say so.
+    And(bool),
+    /// A number within limits: the smaller of the two.
+    Minimum(u32, u32, u32),
+    /// A number within limits: the greater of the two.
+    Maximum(u32, u32, u32),
+    /// This, whatever is offered.
+    Always(KeyResult),
+    /// The initiator's word alone.
+    Declared,
+}
+
+const REJECTED: KeyResult = KeyResult::Word(Word::Reject);
+
+impl Word {
+    /// The word as it is sent.
+    pub(crate) fn text(self) -> &'static str
+        ensures { result.now ≡ word_text self }
+    {
+        match self {
+            Word::None => "None",
+            Word::Rfc3720 => "RFC3720",
+            Word::Reject => "Reject",
+            Word::NotUnderstood => "NotUnderstood",
+        }
+    }
+}
+
+/// A boolean value as it is sent.
+fn boolean_word(value: bool) -> &'static str
+    ensures { result.now ≡ boolean_text value }
+{
+    if value { "Yes" } else { "No" }
+}
+
+/// How a key is negotiated, in the order of RFC 7143 §12.1 and §13.
+#[tactic(auto, unfolding(crate::specs::Keys::negotiation_of))]
+fn negotiation_for(key: &str) -> Negotiation
+    ensures { result ≡ negotiation_of key.now }
+{
+    match key {
+        "AuthMethod" => Negotiation::Choice(Word::None),
+        "HeaderDigest" => Negotiation::Choice(Word::None),
+        "DataDigest" => Negotiation::Choice(Word::None),
+        "MaxConnections" => Negotiation::Minimum(1, 65535, 1),
+        "SendTargets" => Negotiation::Always(REJECTED),
+        "TargetName" => Negotiation::Declared,
+        "InitiatorName" => Negotiation::Declared,
+        "TargetAlias" => Negotiation::Always(REJECTED),
+        "InitiatorAlias" => Negotiation::Declared,
+        "TargetAddress" => Negotiation::Always(REJECTED),
+        "TargetPortalGroupTag" => Negotiation::Always(REJECTED),
+        "InitialR2T" => Negotiation::Or(false),
+        "ImmediateData" => Negotiation::And(true),
+        "MaxRecvDataSegmentLength" => Negotiation::Declared,
+        "MaxBurstLength" => Negotiation::Minimum(512, 16_777_215, 262_144),
+        "FirstBurstLength" => Negotiation::Minimum(512, 16_777_215, 65_536),
+        "DefaultTime2Wait" => Negotiation::Maximum(0, 3600, 2),
+        "DefaultTime2Retain" => Negotiation::Minimum(0, 3600, 20),
+        "MaxOutstandingR2T" => Negotiation::Minimum(1, 65535, 1),
+        "DataPDUInOrder" => Negotiation::Or(true),
+        "DataSequenceInOrder" => Negotiation::Or(true),
+        "ErrorRecoveryLevel" => Negotiation::Minimum(0, 2, 0),
+        "SessionType" => Negotiation::Declared,
+        "TaskReporting" => Negotiation::Choice(Word::Rfc3720),
+        "IFMarker" => Negotiation::Always(KeyResult::Boolean(false)),
+        "OFMarker" => Negotiation::Always(KeyResult::Boolean(false)),
+        "IFMarkInt" => Negotiation::Always(REJECTED),
+        "OFMarkInt" => Negotiation::Always(REJECTED),
+        _ => Negotiation::Always(KeyResult::Word(Word::NotUnderstood)),
+    }
+}
+
+/// The word is in the list, which commas separate.
+#[tactic(auto, unfolding(crate::specs::Keys::is_listed))]
+fn is_listed(word: &str, offer: &str) -> bool
+    ensures { result ≡ is_listed_word word.now offer.now }
+{
+    offer.split(',').any(|listed| word == listed)
+}
+
+/// Yes or No.
+#[tactic(auto, unfolding(crate::specs::Keys::boolean_of))]
+fn boolean(offer: &str) -> Option<bool>
+    ensures { result ≡ boolean_of offer.now }
+{
+    match offer {
+        "Yes" => Some(true),
+        "No" => Some(false),
+        _ => None,
+    }
+}
+
+/// The value answers an offer, and is none.
+#[tactic(auto, unfolding(crate::specs::Keys::is_answer))]
+pub(crate) fn is_answer(value: &str) -> bool
+    ensures { result ≡ is_answer_value value.now }
+{
+    value == "NotUnderstood" || value == "Irrelevant" || value == "Reject"
+}
+
+impl Negotiation {
+    /// The result of an offer. One that is out of form or range is rejected.
+    #[tactic(auto, unfolding(crate::specs::Keys::result_by))]
+    fn result(self, offer: &str) -> KeyResult
+        ensures { result ≡ result_by self offer.now }
+    {
+        match self {
+            Negotiation::Choice(word) => {
+                if is_listed(word.text(), offer) {
+                    return KeyResult::Word(word);
+                }
+                REJECTED
+            }
+            Negotiation::Or(own) => match boolean(offer) {
+                Some(value) => KeyResult::Boolean(value || own),
+                None => REJECTED,
+            },
+            Negotiation::And(own) => match boolean(offer) {
+                Some(value) => KeyResult::Boolean(value && own),
+                None => REJECTED,
+            },
+            Negotiation::Minimum(low, high, own) => match number_in(offer, low, high) {
+                Some(value) => KeyResult::Number(own.min(value)),
+                None => REJECTED,
+            },
+            Negotiation::Maximum(low, high, own) => match number_in(offer, low, high) {
+                Some(value) => KeyResult::Number(own.max(value)),
+                None => REJECTED,
+            },
+            Negotiation::Always(result) => result,
+            Negotiation::Declared => KeyResult::NoAnswer,
+        }
+    }
+}
+
+/// What an offer comes to. A value that is an answer is passed over.
+#[tactic(auto, unfolding(crate::specs::Keys::settled))]
+pub(crate) fn settled(key: &str, offer: &str) -> KeyResult
+    ensures { result ≡ settled_of key.now offer.now }
+{
+    if is_answer(offer) {
+        return KeyResult::NoAnswer;
+    }
+    negotiation_for(key).result(offer)
+}
+
+/// A number as it is sent, in decimal.
+fn number_text(alloc: Global, value: u32) -> Result<String, Memory>
+    ensures { IfOk result (λ text. string_bytes text ≡ decimal value) }
+{
+    let mut buffer = Buffer::new();
+    Ok(String::from_str(alloc, buffer.format(value))?)
+}
+
+/// What an offer of a key is answered, if anything.
+#[tactic(auto, unfolding(crate::specs::Keys::key_result))]
+pub fn settle_key(alloc: Global, key: &str, offer: &str) -> Result<Option<String>, Memory>
+    ensures { IfOk result (λ answer. option_map string_bytes answer ≡ key_result key.now offer.now) }
+{
+    let answer = match settled(key, offer) {
+        KeyResult::NoAnswer => return Ok(None),
+        KeyResult::Boolean(value) => String::from_str(alloc, boolean_word(value))?,
+        KeyResult::Number(value) => number_text(alloc, value)?,
+        KeyResult::Word(word) => String::from_str(alloc, word.text())?,
+    };
+    Ok(Some(answer))
+}

@@ -1,0 +1,40 @@
+//! The login phase of iSCSI (RFC 7143 §6.3, §11.12, §11.13), as a target sees it: the dialogue of
+//! Login Requests and Login Responses by which an initiator names itself and a target, and both
+//! settle by which values the session works.
+//!
+//! ```text
+//!   Login Request ──> Login::take ──> Reply::GoOn(answer)           the login goes on
+//!                                     Reply::Full(answer, params)   full feature phase begins
+//!                                     Reply::Refused(answer)        the connection is to be closed
+//! ```
+//!
+//! Promised, and proved:
+//!
+//! - [`Login::take`] answers what `reply_of` (`specs/Login.antt`) says of all requests of the login
+//!   so far: the first rule that is broken refuses a request, and else the answer has the results
+//!   of its keys in order, in pieces where they are long.
+//! - [`settle_key`] answers an offer by the table of keys in `specs/Keys.antt`.
+//! - Where an allocation fails the login is as it was.
+#![tactic(auto)]
+
+mod answer;
+mod fault;
+mod keys;
+mod login;
+mod names;
+mod number;
+mod opening;
+mod params;
+mod reply;
+mod request;
+mod session;
+mod text;
+mod values;
+
+pub use fault::Memory;
+pub use keys::settle_key;
+pub use login::Login;
+pub use params::Params;
+pub use reply::Reply;
+pub use session::Session;
+pub use values::Values;

@@ -1,0 +1,175 @@
+//! A login under way.
+
+ghost use Rattle.std.specs.Prelude.{◌≡◌, ◌<◌, ◌+◌, length, map, string_bytes, IfOk, OnErr};
+ghost use Rattle.iscsi_login.specs.Lookup.{lookup_in};
+ghost use Rattle.iscsi_login.specs.LoginState.{AsksBelow, new_login};
+ghost use Rattle.iscsi_login.specs.Rules.{refusal_by, rules_of_request, opening_with as opening_for, stage_with as stage_for, is_due as has_due};
+ghost use Rattle.iscsi_login.specs.Login.{IsAfter, IsBelow, reply_of};
+
+mod answering;
+mod hearing;
+
+use crate::answer::first_piece;
+use crate::fault::{Fault, Memory};
+use crate::opening::Opening;
+use crate::params::Params;
+use crate::reply::Reply;
+use crate::request::{is_behind, is_login_stage, is_same_stage};
+use crate::session::Session;
+use crate::values::Values;
+use bytes::BytesMut;
+use iscsi_pdu::{Frame, Header, LoginRefusal, Stage};
+use iscsi_text::Pairs;
+use std::alloc::Global;
+use std::marker::Model;
+
+/// The longest text of a login that is kept, in bytes.
+const LONGEST_TEXT: usize = 65536;
+
+/// A login under way. Clauses see it as what it remembers of its requests.
+#[derive(Drop)]
+pub struct Login {
+    alloc: Global,
+    handle: u16,
+    opening: Option<Opening>,
+    stage: Option<Stage>,
+    answers: u32,
+    kept: Vec<u8>,
+    earlier: Pairs,
+    session: Option<Session>,
+    values: Values,
+    declared: bool,
+    due: BytesMut,
+}
+
+impl Model for Login {
+    ghost use Rattle.iscsi_login.specs.LoginState.{LoginState};
+
+    ghost Value = { LoginState };
+
+    ghost view = { λ l. record {
+      handle = l.handle;
+      opening = l.opening;
+      stage = l.stage;
+      answers = l.answers;
+      kept = l.kept.items;
+      earlier = l.earlier;
+      session = l.session;
+      values = l.values;
+      declared = l.declared;
+      due = l.due.items;
+    } };
+}
+
+impl Login {
+    /// A login on connection `c`, before its first request. Its session will have TSIH `c + 1`.
+    pub fn new(alloc: Global, c: usize) -> Login
+        requires { c < 65535 }
+        ensures { result ≡ new_login (c + 1) }
+    {
+        Login {
+            alloc,
+            handle: c as u16 + 1,
+            opening: None,
+            stage: None,
+            answers: 0,
+            kept: Vec::new(alloc),
+            earlier: Pairs::new(alloc),
+            session: None,
+            values: Values::new(),
+            declared: false,
+            due: BytesMut::new(alloc),
+        }
+    }
+
+    /// What the first request set, or sets.
+    fn opening_with(&self, header: &Header) -> Opening
+        ensures { result ≡ opening_for self.now header.now }
+    {
+        match self.opening {
+            Some(opening) => opening,
+            None => Opening::of(header),
+        }
+    }
+
+    /// The stage that the login is in, or begins in.
+    fn stage_with(&self, header: &Header) -> Option<Stage>
+        ensures { result ≡ stage_for self.now header.now }
+    {
+        self.stage.or(header.current_stage())
+    }
+
+    /// A piece of the last answer is still to be sent.
+    fn is_due(&self) -> bool
+        ensures { result ≡ has_due self.now }
+    {
+        !self.due.is_empty()
+    }
+
+    /// Why the request itself is refused.
+    fn refusal_of_request(&self, request: &Frame) -> Option<LoginRefusal>
+        ensures { result ≡ refusal_by (rules_of_request self.now request.now) }
+    {
+        let header = &request.header;
+        let opening = self.opening_with(header);
+        let stage = header.current_stage();
+        if header.version_min() > 0 {
+            return Some(LoginRefusal::UnsupportedVersion);
+        }
+        if !is_login_stage(stage) {
+            return Some(LoginRefusal::InitiatorError);
+        }
+        if header.is_transit() && !is_behind(header.next_stage(), stage) {
+            return Some(LoginRefusal::InitiatorError);
+        }
+        if header.is_transit() && header.is_continued() {
+            return Some(LoginRefusal::InitiatorError);
+        }
+        if !is_same_stage(stage, self.stage_with(header)) {
+            return Some(LoginRefusal::InitiatorError);
+        }
+        if header.isid() != opening.isid || header.tsih() != opening.tsih {
+            return Some(LoginRefusal::InitiatorError);
+        }
+        if self.is_due() && (header.is_continued() || !request.body.is_empty()) {
+            return Some(LoginRefusal::InitiatorError);
+        }
+        if header.is_continued() && self.kept.len() + request.body.len() > LONGEST_TEXT {
+            return Some(LoginRefusal::InitiatorError);
+        }
+        None
+    }
+
+    /// Takes a request, and answers it. `targets` are the names of the targets in order, and `named`
+    /// is the session in full feature phase whose TSIH the request bears. Where an allocation fails
+    /// the login is as it was. After [`Reply::Full`] and [`Reply::Refused`] it is over.
+    #[tactic(auto, unfolding(crate::specs::Rules::refusal_of, crate::specs::Login::reply_of, crate::specs::Login::advanced))]
+    pub fn take(
+        &mut self,
+        request: &Frame,
+        targets: &[String],
+        named: &Option<Params>,
+    ) -> Result<Reply, Memory>
+        ensures reply { IfOk result (λ reply. reply ≡ reply_of self.old (lookup_in targets.now named.now) request.now) }
+        ensures after { IfOk result (λ reply. IsAfter (map string_bytes targets.now) self.old request.now reply self.new) }
+        ensures target { IfOk result (λ reply. AsksBelow (length targets.now) self.old.session → IsBelow (length targets.now) reply self.new) }
+        ensures err { OnErr result (self.new ≡ self.old) }
+    {
+        if let Some(refusal) = self.refusal_of_request(request) {
+            return Ok(self.refuse(request, refusal));
+        }
+        if self.is_due() {
+            let piece = first_piece(self.alloc, self.due.as_slice())?;
+            return Ok(self.answer(request, piece));
+        }
+        if request.header.is_continued() {
+            self.keep(request)?;
+            return Ok(self.answer(request, Vec::new(self.alloc)));
+        }
+        match self.hear(request, targets, named) {
+            Ok(piece) => Ok(self.answer(request, piece)),
+            Err(Fault::Refused(refusal)) => Ok(self.refuse(request, refusal)),
+            Err(Fault::Memory) => Err(Memory),
+        }
+    }
+}

@@ -1,0 +1,154 @@
+//! How a login is answered.
+
+ghost use Rattle.std.specs.Prelude.{◌≡◌, ◌≤◌, ℕ, length, min, take, IfNone};
+ghost use Rattle.iscsi_login.specs.LoginState.{AsksBelow};
+ghost use Rattle.iscsi_login.specs.Login.{longest_piece, step_of, answered, IsAnswered, IsBelow, accepted, begun_by, handle_with, login_stamp, login_answer, reply_to, refused_reply};
+
+use crate::answer::LONGEST_PIECE;
+use crate::login::Login;
+use crate::params::Params;
+use crate::reply::Reply;
+use crate::request::{is_last_step, stage_after};
+use crate::session::Session;
+use iscsi_pdu::{
+    Answer, Frame, Header, LoginAccepted, LoginRefusal, LoginReply, LoginResponse, LoginStep,
+    Stage, Stamp,
+};
+
+/// So many commands beside the first may be sent, one less than the window (RFC 7143 §4.2.2.1).
+const WINDOW_AHEAD: u32 = 31;
+
+impl Login {
+    /// The sequence numbers of the next answer.
+    #[tactic(auto, unfolding(crate::specs::Login::login_stamp))]
+    fn stamp(&self, header: &Header) -> Stamp
+        ensures { result ≡ login_stamp self.now header.now }
+    {
+        let first = self.opening_with(header).cmd_sn;
+        Stamp {
+            stat_sn: self.answers,
+            exp_cmd_sn: first,
+            max_cmd_sn: first.wrapping_add(WINDOW_AHEAD),
+        }
+    }
+
+    /// The Login Response with this reply.
+    #[tactic(auto, unfolding(crate::specs::Login::login_answer))]
+    fn response(&self, request: &Frame, tsih: u16, reply: LoginReply) -> Answer
+        ensures { result ≡ login_answer self.now request.now tsih reply }
+    {
+        let header = &request.header;
+        Answer::LoginResponse(LoginResponse {
+            isid: header.isid(),
+            tsih,
+            initiator_task_tag: header.initiator_task_tag(),
+            stamp: self.stamp(header),
+            reply,
+        })
+    }
+
+    /// The request is refused.
+    pub(super) fn refuse(&self, request: &Frame, refusal: LoginRefusal) -> Reply
+        ensures { result ≡ refused_reply self.now request.now refusal }
+    {
+        let tsih = request.header.tsih();
+        Reply::Refused(self.response(request, tsih, LoginReply::Refused(refusal)))
+    }
+
+    /// Where the login goes with the next answer.
+    fn step(&self, header: &Header) -> LoginStep
+        ensures { result ≡ step_of header.now self.now.due }
+    {
+        if self.due.len() > LONGEST_PIECE {
+            return LoginStep::Continued;
+        }
+        if header.is_transit() {
+            return LoginStep::Enters(header.next_stage().unwrap_or(Stage::FullFeaturePhase));
+        }
+        LoginStep::Stays
+    }
+
+    /// The session that begins with the next answer.
+    fn begin(&mut self, step: LoginStep) -> Option<Session>
+        ensures session { result ≡ begun_by self.old step }
+        ensures target { (count : ℕ) → AsksBelow count self.old.session → AsksBelow count result }
+        ensures left { (count : ℕ) → AsksBelow count self.old.session → AsksBelow count self.new.session }
+        ensures none { IfNone result (self.new ≡ self.old) }
+    {
+        if is_last_step(step) {
+            return self.session.take();
+        }
+        None
+    }
+
+    /// So many bytes of what is due are sent, one piece.
+    fn go_on(&mut self, header: &Header, sent: usize)
+        requires { sent ≡ min longest_piece (length self.old.due) }
+        ensures { self.new ≡ answered self.old header.now }
+    {
+        let stage = self.stage_with(header);
+        let step = self.step(header);
+        self.opening = Some(self.opening_with(header));
+        self.stage = stage_after(stage, step);
+        self.answers = self.answers.wrapping_add(1);
+        self.due.advance(sent);
+    }
+
+    /// The Login Response that has this piece, the next one of what is due.
+    fn accept(&self, request: &Frame, piece: Vec<u8>) -> Answer
+        requires next { piece.items ≡ take longest_piece self.now.due }
+        requires short { length piece.items ≤ longest_piece }
+        ensures { result ≡ login_answer self.now request.now (handle_with self.now request.now.header (step_of request.now.header self.now.due)) (accepted request.now.header self.now.due) }
+    {
+        let header = &request.header;
+        let step = self.step(header);
+        let tsih = if is_last_step(step) {
+            self.handle
+        } else {
+            header.tsih()
+        };
+        let accepted = LoginAccepted {
+            stage: header
+                .current_stage()
+                .unwrap_or(Stage::OperationalNegotiation),
+            step,
+            text: piece,
+        };
+        self.response(request, tsih, LoginReply::Accepted(accepted))
+    }
+
+    /// The answer has this piece of what is due, the next one.
+    #[tactic(auto, unfolding(crate::specs::Login::reply_to, crate::specs::Login::params_of))]
+    pub(super) fn answer(&mut self, request: &Frame, piece: Vec<u8>) -> Reply
+        requires next { piece.items ≡ take longest_piece self.old.due }
+        requires short { length piece.items ≤ longest_piece }
+        ensures reply { result ≡ reply_to self.old request.now }
+        ensures after { IsAnswered self.old request.now result self.new }
+        ensures target { (count : ℕ) → AsksBelow count self.old.session → IsBelow count result self.new }
+    {
+        let header = &request.header;
+        let opening = self.opening_with(header);
+        let values = self.values;
+        let next_stat_sn = self.answers.wrapping_add(1);
+        let sent = piece.len();
+        let response = self.accept(request, piece);
+        let step = self.step(header);
+        match self.begin(step) {
+            Some(session) => {
+                let params = Params {
+                    nexus: session.nexus,
+                    target: session.target,
+                    connection_id: opening.connection_id,
+                    first_cmd_sn: opening.cmd_sn,
+                    next_stat_sn,
+                    values,
+                };
+                Reply::Full(response, params)
+            }
+            None => {
+                self.go_on(header, sent);
+                Reply::GoOn(response)
+            }
+        }
+    }
+}

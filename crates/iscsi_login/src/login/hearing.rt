@@ -1,0 +1,133 @@
+//! How a login takes the text of its requests.
+
+ghost use Rattle.std.specs.Prelude.{◌≡◌, ◌≤◌, ℕ, List, length, map, take, string_bytes, None, is_none, IfOk, IfErr, OnOk, OnErr};
+ghost use Rattle.iscsi_text.specs.Pairs.{text_of};
+ghost use Rattle.iscsi_login.specs.Lookup.{lookup_in};
+ghost use Rattle.iscsi_login.specs.LoginState.{AsksBelow};
+ghost use Rattle.iscsi_login.specs.Rules.{text_fault, session_refusal, text_refusal, pairs_with, asked_by, Tells};
+ghost use Rattle.iscsi_login.specs.Login.{longest_piece, answer_pairs, declares, kept_with, heard};
+
+use crate::answer::{answer_text, buffer, first_piece};
+use crate::fault::{Fault, Memory};
+use crate::login::Login;
+use crate::names::asked;
+use crate::params::Params;
+use crate::request::is_operational;
+use crate::session::Session;
+use crate::text::{joined, refusal_of_keys};
+use bytes::BytesMut;
+use iscsi_pdu::{Frame, Header, LoginRefusal};
+use iscsi_text::{Pairs, TextFault, pairs};
+
+impl Login {
+    /// The text that a request completes, read: its pairs, or why it is refused.
+    #[tactic(auto, unfolding(crate::specs::Rules::pairs_with))]
+    fn read(&self, request: &Frame) -> Result<Pairs, Fault>
+        ensures pairs { IfOk result (λ pairs. pairs ≡ pairs_with self.now request.now) }
+        ensures whole { OnOk result (text_fault self.now request.now ≡ None) }
+        ensures refused { IfErr result (Tells (text_fault self.now request.now)) }
+    {
+        let text = joined(self.alloc, self.kept.as_slice(), request.body.as_slice())?;
+        match pairs(self.alloc, text.as_slice()) {
+            Ok(pairs) => Ok(pairs),
+            Err(TextFault::Memory) => Err(Fault::Memory),
+            Err(_) => Err(Fault::Refused(LoginRefusal::InitiatorError)),
+        }
+    }
+
+    /// The session that a whole text asks for, where it is the first.
+    fn ask(
+        &self,
+        request: &Frame,
+        targets: &[String],
+        named: &Option<Params>,
+        pairs: &Pairs,
+    ) -> Result<Option<Session>, Fault>
+        ensures session { IfOk result (λ asked. asked ≡ asked_by self.now.session (map string_bytes targets.now) request.now.header pairs.now) }
+        ensures target { IfOk result (AsksBelow (length targets.now)) }
+        ensures accepted { OnOk result (session_refusal self.now.session (lookup_in targets.now named.now) request.now.header pairs.now ≡ None) }
+        ensures refused { IfErr result (Tells (session_refusal self.now.session (lookup_in targets.now named.now) request.now.header pairs.now)) }
+    {
+        if self.session.is_some() {
+            return Ok(None);
+        }
+        let session = asked(self.alloc, targets, named, &request.header, pairs)?;
+        Ok(Some(session))
+    }
+
+    /// The text of the answer to a whole text with these pairs, and its first piece.
+    fn answer_to(&self, header: &Header, pairs: &Pairs) -> Result<(BytesMut, Vec<u8>), Memory>
+        ensures due { IfOk result (λ answer. answer.0.items ≡ text_of (answer_pairs (is_none self.now.session) (declares self.now header.now) pairs.now)) }
+        ensures piece { IfOk result (λ answer. answer.1.items ≡ take longest_piece answer.0.items) }
+        ensures short { IfOk result (λ answer. length answer.1.items ≤ longest_piece) }
+    {
+        let is_told = is_operational(header) && !self.declared;
+        let text = answer_text(self.alloc, self.session.is_none(), is_told, pairs)?;
+        let piece = first_piece(self.alloc, text.as_slice())?;
+        let due = buffer(self.alloc, text.as_slice())?;
+        Ok((due, piece))
+    }
+
+    /// A whole text is remembered by its pairs and the session that it asks for, and its answer is
+    /// due. Where an allocation fails nothing changes.
+    #[tactic(auto, unfolding(crate::specs::Login::heard))]
+    fn remember(
+        &mut self,
+        header: &Header,
+        pairs: Pairs,
+        asked: Option<Session>,
+        due: BytesMut,
+    ) -> Result<(), Memory>
+        requires { due.items ≡ text_of (answer_pairs (is_none self.old.session) (declares self.old header.now) pairs) }
+        ensures ok { OnOk result ((names : List (List ℕ)) → asked ≡ asked_by self.old.session names header.now pairs → self.new ≡ heard names self.old header.now pairs) }
+        ensures due { OnOk result (self.new.due ≡ due.items) }
+        ensures target { OnOk result ((count : ℕ) → AsksBelow count self.old.session → AsksBelow count asked → AsksBelow count self.new.session) }
+        ensures err { OnErr result (self.new ≡ self.old) }
+    {
+        let values = self.values.with_pairs(&pairs);
+        if self.earlier.append(pairs).is_err() {
+            return Err(Memory);
+        }
+        self.kept = Vec::new(self.alloc);
+        self.session = self.session.take().or(asked);
+        self.values = values;
+        self.declared = self.declared || is_operational(header);
+        self.due = due;
+        Ok(())
+    }
+
+    /// A whole text is taken, and its answer is due. Gives the first piece of the answer.
+    #[tactic(auto, unfolding(crate::specs::Rules::text_refusal))]
+    pub(super) fn hear(
+        &mut self,
+        request: &Frame,
+        targets: &[String],
+        named: &Option<Params>,
+    ) -> Result<Vec<u8>, Fault>
+        ensures heard { OnOk result (self.new ≡ heard (map string_bytes targets.now) self.old request.now.header (pairs_with self.old request.now)) }
+        ensures piece { IfOk result (λ piece. piece.items ≡ take longest_piece self.new.due) }
+        ensures short { IfOk result (λ piece. length piece.items ≤ longest_piece) }
+        ensures target { OnOk result (AsksBelow (length targets.now) self.old.session → AsksBelow (length targets.now) self.new.session) }
+        ensures accepted { OnOk result (text_refusal self.old (lookup_in targets.now named.now) request.now ≡ None) }
+        ensures refused { IfErr result (Tells (text_refusal self.old (lookup_in targets.now named.now) request.now)) }
+        ensures err { OnErr result (self.new ≡ self.old) }
+    {
+        let pairs = self.read(request)?;
+        let asked = self.ask(request, targets, named, &pairs)?;
+        if let Some(refusal) = refusal_of_keys(&self.earlier, &pairs) {
+            return Err(Fault::Refused(refusal));
+        }
+        let (due, piece) = self.answer_to(&request.header, &pairs)?;
+        self.remember(&request.header, pairs, asked, due)?;
+        Ok(piece)
+    }
+
+    /// The text of a request with C is kept. Where an allocation fails nothing changes.
+    pub(super) fn keep(&mut self, request: &Frame) -> Result<(), Memory>
+        ensures ok { OnOk result (self.new ≡ kept_with self.old request.now) }
+        ensures err { OnErr result (self.new ≡ self.old) }
+    {
+        self.kept.extend_from_slice(request.body.as_slice())?;
+        Ok(())
+    }
+}

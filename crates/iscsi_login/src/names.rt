@@ -1,0 +1,127 @@
+//! The session that the first whole text asks for: its names, and its TSIH.
+
+ghost use Rattle.std.specs.Prelude.{◌≡◌, ◌<◌, length, map, Some, None, codes, IfOk, IfErr, IfSome, MatchResult, string_bytes};
+ghost use Rattle.iscsi_login.specs.Lookup.{lookup_in};
+ghost use Rattle.iscsi_login.specs.Session.{is_of as is_session_of, target_named};
+ghost use Rattle.iscsi_login.specs.Rules.{refusal_by, rules_of_names, rules_of_handle, said as said_by, is_normal, asked_for, first_refusal, Tells};
+
+use crate::fault::Fault;
+use crate::params::Params;
+use crate::session::Session;
+use iscsi_pdu::{Header, LoginRefusal};
+use iscsi_text::Pairs;
+use scsi_sense::Nexus;
+use std::alloc::Global;
+
+/// The longest name, in bytes (RFC 7143 §4.2.7.2).
+const LONGEST_NAME: usize = 223;
+
+/// What the text says of a key, or nothing.
+#[tactic(auto, unfolding(crate::specs::Rules::said))]
+fn what_is_said<'a>(said: &'a Pairs, key: &str) -> &'a str
+    ensures { result.now ≡ said_by key.now said.now }
+{
+    match said.get(key) {
+        Some(value) => value,
+        None => "",
+    }
+}
+
+/// The session is a Normal one, as it is where the text does not say.
+#[tactic(auto, unfolding(crate::specs::Rules::is_normal))]
+fn is_normal_session(said: &Pairs) -> bool
+    ensures { result ≡ is_normal said.now }
+{
+    match said.get("SessionType") {
+        Some(value) => value == "Normal",
+        None => true,
+    }
+}
+
+/// Where the target of this name stands.
+#[tactic(auto, unfolding(crate::specs::Session::target_named))]
+fn position(names: &[String], name: &str) -> Option<usize>
+    ensures value { result ≡ target_named (map string_bytes names.now) name.now }
+    ensures bound { IfSome result (λ at. at < length names.now) }
+{
+    names.iter().position(|other| other.as_str() == name)
+}
+
+/// The target that the text names, by its position, or why the names in it are refused.
+fn target_of(names: &[String], said: &Pairs) -> Result<usize, LoginRefusal>
+    ensures rules { MatchResult result (λ _. refusal_by (rules_of_names (map string_bytes names.now) said.now) ≡ None)
+        (λ refusal. refusal_by (rules_of_names (map string_bytes names.now) said.now) ≡ Some refusal) }
+    ensures target { IfOk result (λ at. target_named (map string_bytes names.now) (said_by (codes "TargetName") said.now) ≡ Some at) }
+    ensures bound { IfOk result (λ at. at < length names.now) }
+{
+    let initiator = what_is_said(said, "InitiatorName");
+    let target = what_is_said(said, "TargetName");
+    if initiator.is_empty() {
+        return Err(LoginRefusal::MissingParameter);
+    }
+    if !is_normal_session(said) {
+        return Err(LoginRefusal::InitiatorError);
+    }
+    if target.is_empty() {
+        return Err(LoginRefusal::MissingParameter);
+    }
+    if initiator.len() > LONGEST_NAME || target.len() > LONGEST_NAME {
+        return Err(LoginRefusal::InitiatorError);
+    }
+    position(names, target).ok_or(LoginRefusal::TargetNotFound)
+}
+
+impl Session {
+    /// The other is a session of the same nexus with the same target.
+    fn is_same(&self, other: &Option<Params>) -> bool
+        ensures { result ≡ is_session_of self.now.nexus self.now.target other.now }
+    {
+        match other {
+            Some(other) => other.nexus.is_same(&self.nexus) && other.target == self.target,
+            None => false,
+        }
+    }
+}
+
+/// Why the session that is asked for is refused: a TSIH other than 0 would join a session.
+fn refusal_of_handle(session: &Session, tsih: u16, named: &Option<Params>) -> Option<LoginRefusal>
+    ensures { result ≡ refusal_by (rules_of_handle session.now tsih named.now) }
+{
+    if session.is_same(named) {
+        return Some(LoginRefusal::TooManyConnections);
+    }
+    if tsih != 0 {
+        return Some(LoginRefusal::SessionDoesNotExist);
+    }
+    None
+}
+
+/// The session that the first whole text asks for.
+#[tactic(auto, unfolding(crate::specs::Rules::asked_for, crate::specs::Rules::first_refusal))]
+pub(crate) fn asked(
+    alloc: Global,
+    targets: &[String],
+    named: &Option<Params>,
+    header: &Header,
+    said: &Pairs,
+) -> Result<Session, Fault>
+    ensures session { IfOk result (λ session. session ≡ asked_for (map string_bytes targets.now) header.now said.now) }
+    ensures bound { IfOk result (λ session. session.target < length targets.now) }
+    ensures accepted { IfOk result (λ _. first_refusal (lookup_in targets.now named.now) header.now said.now ≡ None) }
+    ensures refused { IfErr result (Tells (first_refusal (lookup_in targets.now named.now) header.now said.now)) }
+{
+    let target = match target_of(targets, said) {
+        Ok(target) => target,
+        Err(refusal) => return Err(Fault::Refused(refusal)),
+    };
+    let initiator_name = String::from_str(alloc, what_is_said(said, "InitiatorName"))?;
+    let nexus = Nexus {
+        initiator_name,
+        isid: header.isid(),
+    };
+    let session = Session { nexus, target };
+    match refusal_of_handle(&session, header.tsih(), named) {
+        Some(refusal) => Err(Fault::Refused(refusal)),
+        None => Ok(session),
+    }
+}

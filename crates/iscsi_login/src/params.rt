@@ -1,0 +1,37 @@
+//! What full feature phase begins with.
+
+ghost use Rattle.std.specs.Prelude.{◌≡◌};
+
+use crate::values::Values;
+use scsi_sense::Nexus;
+use std::alloc::AllocError;
+
+/// What a login has come to: whose session it is, with which target, and the values in force.
+#[derive(Debug, Drop)]
+pub struct Params {
+    pub nexus: Nexus,
+    /// The target, by its position among the targets.
+    pub target: usize,
+    /// CID of the first request (RFC 7143 §11.12.7)
+    pub connection_id: u16,
+    /// CmdSN of the first request, which the first command of the session has (RFC 7143 §11.12.8)
+    pub first_cmd_sn: u32,
+    /// StatSN of the next answer, behind those of the login (RFC 7143 §4.2.2.2)
+    pub next_stat_sn: u32,
+    pub values: Values,
+}
+
+impl Clone for Params {
+    ghost is_clone = { λ params copy. copy ≡ params };
+
+    fn clone(&self) -> Result<Params, AllocError> {
+        Ok(Params {
+            nexus: self.nexus.clone()?,
+            target: self.target,
+            connection_id: self.connection_id,
+            first_cmd_sn: self.first_cmd_sn,
+            next_stat_sn: self.next_stat_sn,
+            values: self.values,
+        })
+    }
+}

@@ -1,0 +1,15 @@
+//! What a Login request is answered.
+
+use crate::params::Params;
+use iscsi_pdu::Answer;
+
+/// The reply to a Login request.
+#[derive(Debug, Drop)]
+pub enum Reply {
+    /// The login goes on with another request.
+    GoOn(Answer),
+    /// Full feature phase begins.
+    Full(Answer, Params),
+    /// The login is over, and the connection is to be closed.
+    Refused(Answer),
+}

@@ -1,0 +1,104 @@
+-- A Login request at one connection of the code, before its answer is sent.
+use Rattle.std.specs.Result.{OnErr}
+use Rattle.std.proofs.Common.{◌≡◌, ℕ, zero, suc, ◌<◌, List, [], ◌∷◌, Result, Ok, Err, arith, length, set, get_or, true, Option, Some, None, refl, sym, ap, ◌∙◌}
+use Rattle.std.proofs.lemmas.List.{length-map, get_or-map, get_or-set_same, map-set, set-set, set-get_or}
+use Rattle.iscsi_pdu.specs.Frames.{Frame}
+use Rattle.iscsi_pdu.specs.declared.answer.Answer.{Answer}
+use Rattle.iscsi_login.specs.LoginState.{LoginState}
+use Rattle.iscsi_login.specs.Session.{older}
+use Rattle.iscsi_login.specs.Login.{reply_of}
+use Rattle.iscsi_login.specs.declared.params.Params.{Params}
+use Rattle.iscsi_login.specs.declared.reply.Reply.{Reply}
+use Rattle.iscsi_login.specs.declared.reply.Reply.TheVariants.{GoOn, Full, Refused}
+use Rattle.iscsi_target.specs.Units.{Units, join}
+use Rattle.iscsi_target.specs.World.{left, changed_units, lookup_for}
+use Rattle.iscsi_target.specs.Machine.{LinkState, Machine, link_at, with_link, closed, begun, begun_link, shut_link, shut_older, logged_in, is_logging_in, is_reading, session_in_phase, sessions, free_link, IsAnswered}
+use Rattle.iscsi_target.specs.declared.phase.Phase.{Phase}
+use Rattle.iscsi_target.specs.declared.phase.Phase.TheVariants.{Free, Login, FullFeature, Closing}
+
+-- ---- phases
+
+pub login_there : (phase : Phase) → is_logging_in phase ≡ true → (login : LoginState) × (phase ≡ Login login)
+login_there Free e = absurd cc
+login_there (Login login) e = (login, refl)
+login_there (FullFeature session numbers) e = absurd cc
+login_there Closing e = absurd cc
+
+pub no_session : (phase : Phase) → is_logging_in phase ≡ true → session_in_phase phase ≡ None
+no_session Free e = absurd cc
+no_session (Login login) e = refl
+no_session (FullFeature session numbers) e = absurd cc
+no_session Closing e = absurd cc
+
+pub still_reading : (phase : Phase) → is_logging_in phase ≡ true → is_reading phase ≡ true
+still_reading Free e = absurd cc
+still_reading (Login login) e = refl
+still_reading (FullFeature session numbers) e = absurd cc
+still_reading Closing e = absurd cc
+
+-- ---- a connection whose session has still to begin
+
+pub record IsWaiting (reply : Reply) (old : LinkState) (answer : Answer) (session : Params) (new : LinkState) : Type 0 where
+  pub reply_is : reply ≡ Full answer session
+  pub same : new ≡ record old { phase = new.phase }
+  pub logging_in : is_logging_in new.phase ≡ true
+
+some_is : {X : Type 0} (x y : X) → Some x ≡ Some y → x ≡ y
+some_is x y e = cc
+
+pub waits : (reply : Reply) (after : LoginState) (old new : LinkState) (answer : Answer) (session : Params) → IsAnswered reply after old (Some (answer, session)) new → IsWaiting reply old answer session new
+waits (GoOn a) after old new answer session h = let no = h.0 in absurd cc
+waits (Refused a) after old new answer session h = let no = h.0 in absurd cc
+waits (Full a s) after old new answer session h = record { reply_is = ap (λ (p : Answer × Params). Full p.0 p.1) (some_is (a, s) (answer, session) (sym h.0)); same = h.1; logging_in = h.2 }
+
+-- ---- the machine with that connection
+
+pub link_there : (machine : Machine) (c : ℕ) (link : LinkState) → c < length machine.links → link_at (with_link machine c link) c ≡ link
+link_there machine c link lt = get_or-set_same machine.links c link free_link lt
+
+-- closing it is closing the connection as it was
+pub closed_alike : (machine : Machine) (c : ℕ) (link : LinkState) → c < length machine.links → link.waiting ≡ (link_at machine c).waiting → session_in_phase link.phase ≡ None → is_logging_in (link_at machine c).phase ≡ true → closed (with_link machine c link) c ≡ closed machine c
+unfolding closed
+closed_alike machine c link lt waiting none logs =
+    let there = link_there machine c link lt in
+    let was = no_session (link_at machine c).phase logs in
+    let links : set (set machine.links c link) c (shut_link (link_at (with_link machine c link) c)) ≡ set machine.links c (shut_link (link_at machine c)) =
+    ap (λ (l : LinkState). set (set machine.links c link) c (shut_link l)) there ∙ set-set machine.links c link (shut_link link) ∙ ap (λ (w : List ℕ). set machine.links c (record { half = (shut_link link).half; phase = Closing; waiting = w })) waiting in
+    let units : left (session_in_phase (link_at (with_link machine c link) c).phase) machine.units ≡ left (session_in_phase (link_at machine c).phase) machine.units =
+    ap (λ (l : LinkState). left (session_in_phase l.phase) machine.units) there ∙ ap (λ (o : Option Params). left o machine.units) (none ∙ sym was) in
+    ap (λ (ls : List LinkState). record { names = machine.names; units = left (session_in_phase (link_at (with_link machine c link) c).phase) machine.units; links = ls }) links
+    ∙ ap (λ (us : List Units). record { names = machine.names; units = us; links = set machine.links c (shut_link (link_at machine c)) }) units
+
+set_own : {X : Type 0} (xs : List X) (i : ℕ) (x d : X) → get_or xs i d ≡ x → i < length xs → set xs i x ≡ xs
+set_own xs i x d e lt = rw (← e) (set-get_or xs i d)
+
+-- its session begins as on the connection as it was
+pub begun_alike : (machine : Machine) (c : ℕ) (link : LinkState) (session : Params) (answer : Answer) → c < length machine.links → link ≡ record (link_at machine c) { phase = link.phase } → is_logging_in link.phase ≡ true → is_logging_in (link_at machine c).phase ≡ true
+    → begun session answer c (with_link machine c link) ≡ begun session answer c machine
+begun_alike machine c link session answer lt same now was =
+    let there = link_there machine c link lt in
+    let units = changed_units (join session.nexus) session.target machine.units in
+    let live : sessions (set machine.links c link) ≡ sessions machine.links =
+    map-set (λ (l : LinkState). session_in_phase l.phase) machine.links c link ∙ ap (λ (o : Option Params). set (sessions machine.links) c o) (no_session link.phase now)
+    ∙ set_own (sessions machine.links) c None None (get_or-map (λ (l : LinkState). session_in_phase l.phase) machine.links c free_link None lt ∙ no_session (link_at machine c).phase was) (rw length-map lt) in
+    let begins : begun_link session answer (link_at (with_link machine c link) c) ≡ begun_link session answer (link_at machine c) = ap (begun_link session answer) (there ∙ same) in
+    let links : set (set machine.links c link) c (begun_link session answer (link_at (with_link machine c link) c)) ≡ set machine.links c (begun_link session answer (link_at machine c)) =
+    set-set machine.links c link _ ∙ ap (set machine.links c) begins in
+    ap (λ (ls : List LinkState). shut_older (older session (sessions (set machine.links c link))) (record { names = machine.names; units = units; links = ls })) links
+    ∙ ap (λ (all : List (Option Params)). shut_older (older session all) (record { names = machine.names; units = units; links = set machine.links c (begun_link session answer (link_at machine c)) })) live
+
+-- the answer to a Login request, where full feature phase begins
+pub begun_by_request : (machine : Machine) (c : ℕ) (login : LoginState) (request : Frame) (session : Params) (answer : Answer) → reply_of login (lookup_for machine.names (sessions machine.links) request) request ≡ Full answer session → begun session answer c machine ≡ logged_in machine c login request
+unfolding logged_in
+begun_by_request machine c login request session answer e = rw e refl
+
+-- ---- results
+
+pub on_err : {X E P : Type 0} (r : Result X E) → P → OnErr r P
+on_err (Ok x) p = tt
+on_err (Err e) p = p
+
+pub get_or_any : {X : Type 0} (xs : List X) (i : ℕ) (d e : X) → i < length xs → get_or xs i d ≡ get_or xs i e
+get_or_any [] i d e lt = absurd (omega arith)
+get_or_any (x ∷ xs) zero d e lt = refl
+get_or_any (x ∷ xs) (suc i) d e lt = get_or_any xs i d e (omega arith)
