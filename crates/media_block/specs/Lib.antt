@@ -1,0 +1,4 @@
+pub mod Blocks
+pub mod Fault
+pub mod Laws
+pub mod Examples
