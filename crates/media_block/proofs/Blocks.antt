@@ -1,5 +1,5 @@
 -- Blocks of a content: how many there are, those before a place, from a place on, and in a range.
-use Rattle.std.proofs.Common.{◌≡◌, ℕ, zero, suc, ◌+◌, ◌-◌, ◌*◌, ◌<◌, ◌≤◌, min, max, List, [], ◌∷◌, ◌++◌, length, take, drop, refl, ap, sym, ◌∙◌, arith, rules}
+use Rattle.std.proofs.Common.{◌≡◌, ℕ, zero, suc, ◌+◌, ◌-◌, ◌*◌, ◌≤◌, List, ◌∷◌, ◌++◌, length, take, drop, refl, ap, sym, ◌∙◌, arith}
 use Rattle.std.specs.List.{concat}
 use Rattle.std.proofs.Math.Seq.{take-add}
 use Rattle.std.proofs.lemmas.List.{take-take, drop-take, drop-drop, take-append-drop, take_at, drop_at, length-take-le}
@@ -89,7 +89,7 @@ blocks_of-replaced first count n bytes old new within long whole is =
     let as_long : length front ≡ block_length * first = length-take-le (block_length * first) old (omega arith) in
     let parts : n ≡ first + (count + rest) = omega arith in
     let cut : blocks_of n new ≡ blocks_of first front ++ (blocks_of count bytes ++ blocks_of rest behind) =
-      ap (λ (m : ℕ). blocks_of m new) parts ∙ rw (is, blocks_of-append first (count + rest) front (bytes ++ behind) as_long, blocks_of-append count rest bytes behind whole) refl in
+    ap (λ (m : ℕ). blocks_of m new) parts ∙ rw (is, blocks_of-append first (count + rest) front (bytes ++ behind) as_long, blocks_of-append count rest bytes behind whole) refl in
     let before : take first (blocks_of n old) ≡ blocks_of first front = take-blocks_of first n old (omega arith) ∙ sym (blocks_of-take first first old (omega arith)) in
     cut ∙ rw (length-blocks_of count bytes, before, drop-range first count n old within) refl
 

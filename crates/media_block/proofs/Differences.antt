@@ -1,8 +1,8 @@
 -- Where the data of blocks differs from bytes.
-use Rattle.std.proofs.Common.{◌≡◌, ℕ, zero, suc, ◌+◌, ◌-◌, ◌*◌, ◌<◌, ◌≤◌, Bool, true, false, nat_eq, List, [], ◌∷◌, ◌++◌, length, take, drop, slice_range, Option, Some, None, option_map, refl, ap, sym, ◌∙◌, arith, rules}
+use Rattle.std.proofs.Common.{◌≡◌, ℕ, ◌+◌, ◌-◌, ◌*◌, ◌<◌, List, [], ◌∷◌, ◌++◌, length, take, drop, slice_range, Some, None, option_map, refl, ap, sym, ◌∙◌, arith}
 use Rattle.std.specs.List.{concat}
 use Rattle.std.proofs.Math.Seq.{take-add}
-use Rattle.std.proofs.lemmas.List.{append_assoc, append-nil, drop-drop, take-append-drop, length-append, length-take-le}
+use Rattle.std.proofs.lemmas.List.{append_assoc, drop-drop, take-append-drop, length-append, length-take-le}
 use Rattle.media_block.specs.Blocks.{block_length, data_of, first_difference}
 
 concat-append : (xs ys : List (List ℕ)) → concat (xs ++ ys) ≡ concat xs ++ concat ys
@@ -61,13 +61,13 @@ found-difference blocks first count k at bytes held below long long_front same i
     let rest = drop (block_length * k + block_length) bytes in
     let behind = data_of blocks (first + k + 1) (count - k - 1) in
     let parts : data_of blocks first count ≡ data_of blocks first k ++ (data_of blocks (first + k) 1 ++ behind) =
-      let counts : count ≡ k + (1 + (count - k - 1)) = omega arith in
-      ap (data_of blocks first) counts ∙ data_of-add blocks first k (1 + (count - k - 1)) ∙ ap (λ (xs : List ℕ). data_of blocks first k ++ xs) (data_of-add blocks (first + k) 1 (count - k - 1)) in
+    let counts : count ≡ k + (1 + (count - k - 1)) = omega arith in
+    ap (data_of blocks first) counts ∙ data_of-add blocks first k (1 + (count - k - 1)) ∙ ap (λ (xs : List ℕ). data_of blocks first k ++ xs) (data_of-add blocks (first + k) 1 (count - k - 1)) in
     let as_long : length (data_of blocks first k) ≡ length (take (block_length * k) bytes) = long_front ∙ sym (length-take-le (block_length * k) bytes (omega arith)) in
     let here : first_difference (data_of blocks (first + k) 1 ++ behind) (part ++ rest) ≡ Some at =
-      first_difference-front (data_of blocks (first + k) 1) part behind rest at (rw is at (sym differ)) in
+    first_difference-front (data_of blocks (first + k) 1) part behind rest at (rw is at (sym differ)) in
     let shifted : first_difference (data_of blocks first k ++ (data_of blocks (first + k) 1 ++ behind)) (take (block_length * k) bytes ++ (part ++ rest)) ≡ Some (at + length (data_of blocks first k)) =
-      first_difference-behind (data_of blocks first k) (take (block_length * k) bytes) (data_of blocks (first + k) 1 ++ behind) (part ++ rest) as_long same ∙ rw here refl in
+    first_difference-behind (data_of blocks first k) (take (block_length * k) bytes) (data_of blocks (first + k) 1 ++ behind) (part ++ rest) as_long same ∙ rw here refl in
     let place : block_length * k + at ≡ at + length (data_of blocks first k) = omega (arith, long_front) in
     ap (λ (n : ℕ). Some n) place ∙ sym (rw (← parts, bytes-parts bytes k) at shifted)
 

@@ -1,5 +1,5 @@
 -- One block written to place after place.
-use Rattle.std.proofs.Common.{◌≡◌, ℕ, ◌+◌, ◌-◌, ◌<◌, ◌≤◌, List, [], ◌∷◌, ◌++◌, length, take, drop, replicate, refl, ap, sym, ◌∙◌, arith, rules}
+use Rattle.std.proofs.Common.{◌≡◌, ℕ, ◌+◌, ◌-◌, ◌<◌, ◌≤◌, List, [], ◌∷◌, ◌++◌, length, take, drop, replicate, refl, ap, sym, ◌∙◌, arith}
 use Rattle.std.proofs.lemmas.List.{append_assoc, take_all, take_at, drop_at, take-take, drop-drop, length-append, length-take-le, length-replicate, replicate_more}
 use Rattle.media_block.specs.Blocks.{block_length, blocks_of, replaced, KeepsOthers}
 
@@ -23,7 +23,7 @@ behind-same first k m block blocks within =
     let front = length-take-le first blocks (omega arith) in
     let long : length (take first blocks ++ replicate k block) ≡ first + k = simp (length-append, length-replicate, front) refl in
     let rest : drop (first + k) (replaced first (replicate k block) blocks) ≡ drop (first + k) blocks =
-      rw (length-replicate k block, ← append_assoc (take first blocks) (replicate k block) (drop (first + k) blocks)) (drop_at (take first blocks ++ replicate k block) (drop (first + k) blocks) (first + k) long) in
+    rw (length-replicate k block, ← append_assoc (take first blocks) (replicate k block) (drop (first + k) blocks)) (drop_at (take first blocks ++ replicate k block) (drop (first + k) blocks) (first + k) long) in
     sym (drop-drop m (first + k) (replaced first (replicate k block) blocks)) ∙ ap (drop m) rest ∙ drop-drop m (first + k) blocks
 
 -- one place more

@@ -1,7 +1,7 @@
 -- What calls on a store do to the blocks of its content.
-use Rattle.std.proofs.Common.{◌≡◌, ℕ, ◌+◌, ◌-◌, ◌*◌, ◌<◌, ◌≤◌, min, nat_lt, true, false, List, [], ◌∷◌, ◌++◌, length, take, drop, slice_range, refl, ap, sym, ◌∙◌, arith, rules, Result, Ok, Err, OnOk, OnErr}
-use Rattle.std.proofs.lemmas.List.{append-nil, take-append-drop, length-append, length-take, length-drop, length-replicate}
-use Rattle.media_store.specs.Content.{overlaid, resized, written, KeepsOutside}
+use Rattle.std.proofs.Common.{◌≡◌, ℕ, ◌+◌, ◌-◌, ◌*◌, ◌≤◌, min, nat_lt, true, List, [], ◌∷◌, ◌++◌, length, take, drop, slice_range, refl, ap, sym, ◌∙◌, arith, rules, Result, Ok, Err, OnOk, OnErr}
+use Rattle.std.proofs.lemmas.List.{append-nil, take-append-drop, length-append, length-take, length-drop}
+use Rattle.media_store.specs.Content.{written, KeepsOutside}
 use Rattle.media_block.specs.Blocks.{block_length, blocks_of, data_of, replaced, KeepsOthers}
 use Rattle.media_block.proofs.Blocks.{data_of-blocks_of, blocks_of-replaced, KeepsOthers-blocks_of}
 

@@ -1,4 +1,4 @@
-use Rattle.std.proofs.Common.{◌≡◌, ℕ, ◌+◌, drop, option_map}
+use Rattle.std.proofs.Common.{◌≡◌, ◌+◌, drop, option_map}
 use Rattle.media_block.specs.Blocks.{first_difference}
 use Rattle.media_block.proofs.difference.difference.Given as goal
 

@@ -1,6 +1,6 @@
-use Rattle.std.proofs.Common.{◌≡◌, ℕ, ◌+◌, ◌-◌, ◌*◌, ◌<◌, ◌≤◌, ◌/◌, ◌%◌, length, take, drop, arith, rules, ◌∙◌}
+use Rattle.std.proofs.Common.{◌≡◌, ◌+◌, ◌-◌, ◌*◌, ◌/◌, ◌%◌, length, arith, rules, ◌∙◌}
 use Rattle.std.proofs.lemmas.List.{take_all}
-use Rattle.media_block.specs.Blocks.{block_length, blocks_of}
+use Rattle.media_block.specs.Blocks.{block_length}
 use Rattle.media_block.proofs.Blocks.{length-blocks_of, concat-blocks_of, data_of-blocks_of}
 use Rattle.media_block.proofs.laws.blocks_are_the_content.Goals as goal
 

@@ -1,5 +1,4 @@
-use Rattle.std.proofs.Common.{◌≡◌, ◌==◌, ◌+◌, ◌<◌, ◌≤◌, length, replicate, false, arith, rules, if◌then◌else◌, IsTrue, ◌∙◌, sym}
-use Rattle.media_block.specs.Blocks.{replaced, KeepsOthers}
+use Rattle.std.proofs.Common.{◌≡◌, ◌==◌, ◌+◌, ◌<◌, length, false, arith, rules, ◌∙◌}
 use Rattle.media_block.proofs.Blocks.{length-blocks_of}
 use Rattle.media_block.proofs.Results.{on_err_always}
 use Rattle.media_block.proofs.Same.{same-more, same-torn}
@@ -14,9 +13,9 @@ overflow_add-first g c =
 pub returns-in_err-write-clause-torn : goal.returns-in_err-write-clause-torn
 returns-in_err-write-clause-torn g c =
     on_err_always c.from_residual.result (λ honest.
-        let now = rw (← c.loop-number.invariant.honest) at honest in
-        let kept = c.in_err-write.ensures.torn now in
-        same-torn c.args.first c.args.count c.loop-number.number c.args.block.now c.args.self.now.blocks c.write.new.self.blocks c.requires.range c.loop-number-test.true (rw (c.loop-number.invariant.blocks honest) at kept))
+    let now = rw (← c.loop-number.invariant.honest) at honest in
+    let kept = c.in_err-write.ensures.torn now in
+    same-torn c.args.first c.args.count c.loop-number.number c.args.block.now c.args.self.now.blocks c.write.new.self.blocks c.requires.range c.loop-number-test.true (rw (c.loop-number.invariant.blocks honest) at kept))
 
 pub loop-number-preserved : goal.loop-number-preserved
 loop-number-preserved g c =
@@ -30,5 +29,5 @@ loop-number-preserved g c =
       synced = rw some c.in_ok-write.ensures.synced;
       blocks = λ honest.
           let now = rw (← c.loop-number.invariant.honest) at honest in
-          c.in_ok-write.ensures.written now ∙ rw (c.loop-number.invariant.blocks honest) (same-more c.args.first number c.args.block.now c.args.self.now.blocks below c.requires.whole);
+          rw (c.in_ok-write.ensures.written now, c.loop-number.invariant.blocks honest) (same-more c.args.first number c.args.block.now c.args.self.now.blocks below c.requires.whole);
     }

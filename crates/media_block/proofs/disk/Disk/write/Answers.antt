@@ -1,4 +1,4 @@
-use Rattle.std.proofs.Common.{◌≡◌, ℕ, ◌+◌, ◌*◌, ◌≤◌, length, arith, rules, refl, sym, ◌∙◌}
+use Rattle.std.proofs.Common.{◌+◌, ◌*◌, ◌≤◌, length, arith, sym, ◌∙◌}
 use Rattle.std.proofs.lemmas.Result.{on_ok_weaker, on_err_weaker}
 use Rattle.media_block.specs.Blocks.{block_length, blocks_of}
 use Rattle.media_block.proofs.Blocks.{length-blocks_of}
@@ -19,8 +19,7 @@ pub invariant_of-self : goal.invariant_of-self
 invariant_of-self g c =
     let content = g.S.Store.content c.self.inside.store in
     let count_is = length-blocks_of c.self.inside.block_count content in
-    let range = rw (← c.self.view_is) at c.requires.range in
-    (
+    let range = rw (← c.self.view_is) at c.requires.range in (
       c.self.invariant.0,
       λ honest.
           let was_honest = rw c.write_at.ensures.honest at honest in
