@@ -86,9 +86,13 @@ told_in unit (Some at) = told_at unit at (slice_get unit.joined at)
 unfoldable pub told : NexusName → Unit → Unit × Option AdditionalSense
 told nexus unit = told_in unit (place_of nexus unit.joined)
 
--- SAM-5 "Unit attention condition": a pending attention is told in place of TEST UNIT READY, which is GOOD
+-- SPC-4 "TEST UNIT READY command"
+abbrev pub effect : Unit → Unit × Outcome
+effect unit = (unit, good)
+
+-- SAM-5 "Unit attention condition": a pending attention is told in place of the command
 abbrev pub attended : Unit → Option AdditionalSense → Unit × Outcome
-attended unit None = (unit, good)
+attended unit None = effect unit
 attended unit (Some code) = (unit, check_condition (plain_sense UnitAttention code))
 
 -- a unit has no medium yet, and does no other operation

@@ -1,7 +1,8 @@
 //! The calls on a disk.
 
 ghost use Rattle.std.specs.Prelude.{◌≡◌, ◌+◌, ◌*◌, ◌≤◌, ◌==◌, length, replicate, true, false, is_ok, if◌then◌else◌, IsTrue, IsOk, IfOk, IfErr, OnOk, OnErr};
-ghost use Rattle.media_store.specs.Failures.{counted, risen};
+ghost use Rattle.media_store.specs.Failures.{counted};
+ghost use Rattle.media_block.specs.Fault.{failures_after};
 ghost use Rattle.media_block.specs.Blocks.{block_length, blocks_of, is_disk, disk_of, data_of, replaced, first_difference, KeepsOthers};
 
 use crate::difference::difference;
@@ -40,8 +41,10 @@ impl<S: Store> Disk<S> {
         ensures honest { IfOk result (λ disk. disk.honest ≡ S.Store.honest store) }
         ensures length { IfErr result (λ refused. refused.fault ≡ DiskOpenFault.Length
             → IsTrue (S.Store.honest store) → is_disk (S.Store.content store) ≡ false) }
-        ensures device { IfErr result (λ refused. refused.fault ≡ DiskOpenFault.Device
-            → S.Store.failures refused.store ≡ risen (S.Store.failures store)) }
+        ensures counted { IfErr result (λ refused. S.Store.failures refused.store ≡ failures_after refused.fault (S.Store.failures store)) }
+        ensures given_back { IfErr result (λ refused. IsTrue (S.Store.honest store) → S.Store.content refused.store ≡ S.Store.content store) }
+        ensures synced_back { IfErr result (λ refused. S.Store.synced refused.store ≡ S.Store.synced store) }
+        ensures honest_back { IfErr result (λ refused. S.Store.honest refused.store ≡ S.Store.honest store) }
     {
         let Ok(length) = store.len() else {
             return Err(NotOpened {
