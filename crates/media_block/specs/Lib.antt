@@ -1,3 +1,4 @@
+pub use Rattle.media_store.specs.Failures
 pub mod Blocks
 pub mod Fault
 pub mod Laws

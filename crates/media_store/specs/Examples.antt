@@ -1,6 +1,7 @@
 -- Contents of a store after calls, computed.
-use Rattle.std.specs.Prelude.{◌≡◌, [], ◌∷◌, refl}
+use Rattle.std.specs.Prelude.{◌≡◌, ◌-◌, ◌^◌, [], ◌∷◌, refl}
 use Rattle.media_store.specs.Content.{resized, written}
+use Rattle.media_store.specs.Failures.{risen}
 
 -- within the content, over its end, and behind it
 written_within : written 1 (8 ∷ 9 ∷ []) (1 ∷ 2 ∷ 3 ∷ 4 ∷ []) ≡ 1 ∷ 8 ∷ 9 ∷ 4 ∷ []
@@ -21,3 +22,7 @@ cut = refl
 
 filled_up : resized 4 (1 ∷ 2 ∷ []) ≡ 1 ∷ 2 ∷ 0 ∷ 0 ∷ []
 filled_up = refl
+
+-- a count rises by one, and stays at its greatest value
+counts : (risen 7 ≡ 8) × (risen (2 ^ 64 - 1) ≡ 2 ^ 64 - 1)
+counts = (refl, refl)
