@@ -1,6 +1,6 @@
 //! The calls on a disk.
 
-ghost use Rattle.std.specs.Prelude.{◌≡◌, ◌+◌, ◌*◌, ◌≤◌, ◌==◌, length, replicate, true, false, is_ok, if◌then◌else◌, IsTrue, IsOk, IfOk, IfErr, OnOk, OnErr};
+ghost use Rattle.std.specs.Prelude.{◌≡◌, ◌+◌, ◌*◌, ◌<◌, ◌≤◌, ◌==◌, length, replicate, true, false, is_ok, if◌then◌else◌, IsTrue, IsOk, IfOk, IfErr, OnOk, OnErr};
 ghost use Rattle.media_store.specs.Failures.{counted};
 ghost use Rattle.media_block.specs.Fault.{failures_after};
 ghost use Rattle.media_block.specs.Blocks.{block_length, blocks_of, is_disk, disk_of, data_of, replaced, first_difference, KeepsOthers};
@@ -28,7 +28,7 @@ impl<S: Store> Model for Disk<S> {
 
     ghost view = { λ disk. record { blocks = blocks_of disk.block_count (S.Store.content disk.store); synced = S.Store.synced disk.store; failures = S.Store.failures disk.store; honest = S.Store.honest disk.store } };
 
-    ghost invariant = { λ disk. (block_length * disk.block_count < 2 ^ 64) × (IsTrue (S.Store.honest disk.store) → length (S.Store.content disk.store) ≡ block_length * disk.block_count) };
+    ghost invariant = { λ disk. (block_length * disk.block_count < 2 ^ 64) × (IsTrue (S.Store.honest disk.store) → length (S.Store.content disk.store) ≡ block_length * disk.block_count) × (0 < disk.block_count) };
 }
 
 impl<S: Store> Disk<S> {
@@ -64,9 +64,10 @@ impl<S: Store> Disk<S> {
         })
     }
 
-    /// How many blocks there are.
+    /// How many blocks there are: one at least.
     pub fn block_count(&self) -> u64
-        ensures { result ≡ length self.now.blocks }
+        ensures count { result ≡ length self.now.blocks }
+        ensures some { 0 < result }
     {
         self.block_count
     }

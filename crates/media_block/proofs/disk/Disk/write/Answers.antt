@@ -26,6 +26,7 @@ invariant_of-self g c =
           let long = c.self.invariant.1 was_honest in
           let within : block_length * c.args.first + length c.args.bytes.now ≤ length content = omega (arith, count_is, range, long, c.requires.whole) in
           length-kept c.write_at.result (block_length * c.args.first) c.args.bytes.now content (g.S.Store.content c.write_at.new.self) within c.write_at.ensures.written c.write_at.ensures.torn was_honest ∙ long,
+      c.self.invariant.2,
     )
 
 pub returns-clause-written : goal.returns-clause-written
