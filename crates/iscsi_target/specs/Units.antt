@@ -7,9 +7,9 @@ use Rattle.scsi_sense.specs.declared.sense.Sense.{Sense}
 use Rattle.scsi_sense.specs.declared.code.SenseKey.TheVariants.{IllegalRequest, UnitAttention}
 use Rattle.scsi_sense.specs.declared.code.AdditionalSense.{AdditionalSense}
 use Rattle.scsi_sense.specs.declared.code.AdditionalSense.TheVariants.{LogicalUnitNotSupported, PowerOnOrReset}
-use Rattle.scsi_cdb.specs.Command.{command_of, invalid_operation_code}
-use Rattle.scsi_cdb.specs.declared.command.Command.{Command}
-use Rattle.scsi_cdb.specs.declared.command.Command.TheVariants.{TestUnitReady}
+use Rattle.scsi_cdb.specs.Operation.{operation_of, invalid_operation_code}
+use Rattle.scsi_cdb.specs.declared.operation.Operation.{Operation}
+use Rattle.scsi_cdb.specs.declared.operation.Operation.TheVariants.{TestUnitReady}
 use Rattle.scsi_cdb.specs.declared.command.Kind.{Kind}
 use Rattle.iscsi_target.specs.declared.units.LogicalUnit.{LogicalUnit}
 use Rattle.iscsi_target.specs.declared.units.Joined.{Joined}
@@ -70,10 +70,6 @@ leave nexus units = map (left_unit nexus) units
 
 -- ---- one command
 
--- the command's own equation
-abbrev pub effect : Command → Unit → Unit × Outcome
-effect TestUnitReady unit = (unit, good)
-
 abbrev pub told_joined : Joined → List AdditionalSense → Joined × Option AdditionalSense
 told_joined j [] = (j, None)
 told_joined j (code ∷ codes) = (record j { attentions = codes }, Some code)
@@ -90,18 +86,23 @@ told_in unit (Some at) = told_at unit at (slice_get unit.joined at)
 unfoldable pub told : NexusName → Unit → Unit × Option AdditionalSense
 told nexus unit = told_in unit (place_of nexus unit.joined)
 
--- SAM-5 "Unit attention condition": a pending attention is told in place of the command
-abbrev pub attended : Command → Unit → Option AdditionalSense → Unit × Outcome
-attended command unit None = effect command unit
-attended command unit (Some code) = (unit, check_condition (plain_sense UnitAttention code))
+-- SPC-4 "TEST UNIT READY command"
+abbrev pub effect : Unit → Unit × Outcome
+effect unit = (unit, good)
 
-abbrev pub read_by_unit : NexusName → Unit → Result Command Sense → Unit × Outcome
-read_by_unit nexus unit (Err sense) = (unit, check_condition sense)
-read_by_unit nexus unit (Ok command) = let p = told nexus unit in attended command p.0 p.1
+-- SAM-5 "Unit attention condition": a pending attention is told in place of the command
+abbrev pub attended : Unit → Option AdditionalSense → Unit × Outcome
+attended unit None = effect unit
+attended unit (Some code) = (unit, check_condition (plain_sense UnitAttention code))
+
+-- a unit has no medium yet, and does no other operation
+abbrev pub read_by_unit : NexusName → Unit → Result Operation Sense → Unit × Outcome
+read_by_unit nexus unit (Ok TestUnitReady) = let p = told nexus unit in attended p.0 p.1
+read_by_unit nexus unit other = (unit, check_condition invalid_operation_code)
 
 -- a command to a unit: the operation code is judged first, then the attentions (own, after SPC-4)
 unfoldable pub perform_at : NexusName → List ℕ → Unit → Unit × Outcome
-perform_at nexus cdb unit = read_by_unit nexus unit (command_of cdb unit.kind)
+perform_at nexus cdb unit = read_by_unit nexus unit (operation_of cdb unit.kind)
 
 -- INQUIRY and REQUEST SENSE go on where there is no unit (SPC-4 "INQUIRY command", "REQUEST SENSE command")
 abbrev pub goes_on_without_unit : List ℕ → Bool

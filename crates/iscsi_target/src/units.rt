@@ -6,7 +6,7 @@ ghost use Rattle.scsi_sense.specs.Nexus.{NexusName, same_nexus};
 ghost use Rattle.iscsi_target.specs.Units.{unit_view, HasRoom, free_unit, newly_joined, joined_at, joined_unit, left_unit, join, leave, place_of, told, told_joined, perform_at, perform as performed, unit_of, lun_number as number_of_lun, without_unit as sense_without_unit};
 
 use crate::fault::Memory;
-use scsi_cdb::{Cdb, Command, Kind};
+use scsi_cdb::{Cdb, Kind, Operation};
 use scsi_sense::{AdditionalSense, Attentions, Done, Nexus, Sense, SenseKey};
 use std::alloc::{AllocError, Global};
 use std::marker::Model;
@@ -158,16 +158,14 @@ impl Unit {
         ensures unit { unit_view self.new ≡ (perform_at nexus.now cdb (unit_view self.old)).0 }
         ensures done { result ≡ (perform_at nexus.now cdb (unit_view self.old)).1 }
     {
-        let command = match Cdb::read(cdb, self.kind) {
-            Ok(command) => command,
-            Err(sense) => return Done::check_condition(alloc, sense),
+        let Ok(Operation::TestUnitReady) = Cdb::operation(cdb, self.kind) else {
+            let code = AdditionalSense::InvalidCommandOperationCode;
+            return Done::check_condition(alloc, Sense::new(SenseKey::IllegalRequest, code));
         };
         if let Some(code) = self.tell(nexus) {
             return Done::check_condition(alloc, Sense::new(SenseKey::UnitAttention, code));
         }
-        match command {
-            Command::TestUnitReady => Done::good(alloc),
-        }
+        Done::good(alloc)
     }
 }
 

@@ -1,43 +1,45 @@
--- What a command descriptor block spells: byte 0 is the operation code (SPC-4 "Operation code").
-use Rattle.std.specs.Prelude.{ℕ, List, [], ◌∷◌, Bool, true, ◌&&◌, ◌==◌, if◌then◌else◌, Result, Ok, Err, slice_index}
+-- What a command descriptor block spells: the fields of each operation.
+use Rattle.std.specs.Prelude.{ℕ, List, Bool, ◌&&◌, ◌==◌, nat_le, if◌then◌else◌, Result, Ok, Err, slice_index, bit_and}
+use Rattle.byteorder.specs.Endian.{big_from}
 use Rattle.scsi_sense.specs.Sense.{plain_sense}
 use Rattle.scsi_sense.specs.declared.sense.Sense.{Sense}
 use Rattle.scsi_sense.specs.declared.code.SenseKey.TheVariants.{IllegalRequest}
-use Rattle.scsi_sense.specs.declared.code.AdditionalSense.TheVariants.{InvalidCommandOperationCode}
+use Rattle.scsi_sense.specs.declared.code.AdditionalSense.TheVariants.{InvalidFieldInCdb}
+use Rattle.scsi_cdb.specs.Operation.{operation_of}
 use Rattle.scsi_cdb.specs.declared.command.Command.{Command}
-use Rattle.scsi_cdb.specs.declared.command.Command.TheVariants.{TestUnitReady}
+use Rattle.scsi_cdb.specs.declared.command.Command.TheVariants.{TestUnitReady, Read, ReadCapacity10, ReadCapacity16}
 use Rattle.scsi_cdb.specs.declared.command.Kind.{Kind}
-use Rattle.scsi_cdb.specs.declared.command.Kind.TheVariants.{Disk, Tape}
+use Rattle.scsi_cdb.specs.declared.operation.Operation.{Operation}
+use Rattle.scsi_cdb.specs.declared.operation.Operation.TheVariants as operation
 
--- 05/2000
-abbrev pub invalid_operation_code : Sense
-invalid_operation_code = plain_sense IllegalRequest InvalidCommandOperationCode
+-- 05/2400
+abbrev pub invalid_field : Sense
+invalid_field = plain_sense IllegalRequest InvalidFieldInCdb
 
--- a row of the table of operation codes: the code, the kinds of unit that have it, and the command that it stands for
-pub record Row : Type 0 where
-  pub code : ℕ
-  pub disk : Bool
-  pub tape : Bool
-  pub command : List ℕ → Result Command Sense
+-- the command where its fields are taken
+abbrev pub command_if : Bool → Command → Result Command Sense
+command_if is_taken command = if is_taken then Ok command else Err invalid_field
 
-abbrev pub row : ℕ → Bool → Bool → (List ℕ → Result Command Sense) → Row
-row code disk tape command = record { code = code; disk = disk; tape = tape; command = command }
+-- profile: the most blocks of one READ
+abbrev pub most_blocks : ℕ
+most_blocks = 2048
 
--- SPC-4, SBC-3 and SSC-4, each in "Commands": by code, then whether a disk has it and a tape has it
-abbrev pub operation_codes : List Row
-operation_codes =
-    row 0x00 true true (λ cdb. Ok TestUnitReady)
-    ∷ []
+-- SBC-3 "READ (10) command": RDPROTECT, bits 7 to 5 of byte 1, is 0, since there is no protection information
+abbrev pub read_if : ℕ → ℕ → ℕ → Result Command Sense
+read_if byte_1 first blocks = command_if (bit_and byte_1 0xe0 == 0 && nat_le blocks most_blocks) (Read first blocks)
 
--- whether the row is for this kind of unit
-abbrev pub is_for : Kind → Row → Bool
-is_for Disk row = row.disk
-is_for Tape row = row.tape
+-- SBC-3 "Commands for direct access block devices", SPC-4 "TEST UNIT READY command": the fields of each operation
+abbrev pub fields_of : Operation → List ℕ → Result Command Sense
+fields_of operation.TestUnitReady cdb = Ok TestUnitReady
+fields_of operation.Read10 cdb = read_if (slice_index cdb 1) (big_from 2 4 cdb) (big_from 7 2 cdb)
+fields_of operation.Read16 cdb = read_if (slice_index cdb 1) (big_from 2 8 cdb) (big_from 10 4 cdb)
+fields_of operation.ReadCapacity10 cdb = Ok ReadCapacity10
+fields_of operation.ServiceActionIn16 cdb = command_if (bit_and (slice_index cdb 1) 0x1f == 0x10) (ReadCapacity16 (big_from 10 4 cdb))
 
--- the command of the first row for this code and kind
-abbrev pub command_in : List Row → List ℕ → Kind → Result Command Sense
-command_in [] cdb kind = Err invalid_operation_code
-command_in (row ∷ rows) cdb kind = if slice_index cdb 0 == row.code && is_for kind row then row.command cdb else command_in rows cdb kind
+abbrev pub command_for : Result Operation Sense → List ℕ → Result Command Sense
+command_for (Err sense) cdb = Err sense
+command_for (Ok operation) cdb = fields_of operation cdb
 
+-- the command that the bytes spell for a unit of this kind
 abbrev pub command_of : List ℕ → Kind → Result Command Sense
-command_of cdb kind = command_in operation_codes cdb kind
+command_of cdb kind = command_for (operation_of cdb kind) cdb

@@ -1,4 +1,5 @@
 pub use Rattle.scsi_sense.specs.Codes
 pub use Rattle.scsi_sense.specs.Sense
+pub mod Operation
 pub mod Command
 pub mod ExamplesCommand

@@ -15,4 +15,13 @@ pub enum Command {
     /// Asks whether the unit can take medium commands now (SPC-4 "TEST UNIT READY
     /// command").
     TestUnitReady,
+    /// Asks for the data of so many logical blocks from the first one on, of 2048 at most (SBC-3
+    /// "READ (10) command", "READ (16) command"). FUA is not kept: each read is of the medium.
+    Read { first: u64, blocks: u32 },
+    /// Asks for the last logical block address in four bytes, and the length of a block (SBC-3 "READ
+    /// CAPACITY (10) command").
+    ReadCapacity10,
+    /// Asks for the same with the address in eight bytes, of which so many bytes are wanted (SBC-3
+    /// "READ CAPACITY (16) command").
+    ReadCapacity16 { allocation_length: u32 },
 }

@@ -1,0 +1,3 @@
+pub mod DataIn
+pub mod Laws
+pub mod Examples

@@ -1,0 +1,5 @@
+pub mod Blocks
+pub mod Writes
+pub mod Same
+pub mod Differences
+pub mod Results

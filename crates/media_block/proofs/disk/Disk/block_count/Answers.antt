@@ -1,0 +1,6 @@
+use Rattle.std.proofs.Common.{sym}
+use Rattle.media_block.proofs.Blocks.{length-blocks_of}
+use Rattle.media_block.proofs.disk.Disk.block_count.Goals as goal
+
+pub returns-clause-count : goal.returns-clause-count
+returns-clause-count g c = rw (← c.self.view_is) (sym (length-blocks_of c.self.inside.block_count (g.S.Store.content c.self.inside.store)))

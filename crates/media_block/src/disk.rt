@@ -1,0 +1,174 @@
+//! The calls on a disk.
+
+ghost use Rattle.std.specs.Prelude.{◌≡◌, ◌+◌, ◌*◌, ◌<◌, ◌≤◌, ◌==◌, length, replicate, true, false, is_ok, if◌then◌else◌, IsTrue, IsOk, IfOk, IfErr, OnOk, OnErr};
+ghost use Rattle.media_store.specs.Failures.{counted};
+ghost use Rattle.media_block.specs.Fault.{failures_after};
+ghost use Rattle.media_block.specs.Blocks.{block_length, blocks_of, is_disk, disk_of, data_of, replaced, first_difference, KeepsOthers};
+
+use crate::difference::difference;
+use crate::fault::{DiskOpenFault, NotOpened};
+use media_store::{Store, StoreFault};
+use std::marker::Model;
+
+/// The bytes of a block.
+pub const BLOCK_LENGTH: usize = 512;
+
+/// Logical blocks of 512 bytes over a store. Places and lengths are in blocks.
+#[derive(Drop)]
+pub struct Disk<S: Store> {
+    store: S,
+    block_count: u64,
+}
+
+impl<S: Store> Model for Disk<S> {
+    ghost use Rattle.std.specs.Prelude.{◌≡◌, ◌*◌, ◌<◌, ◌^◌, IsTrue, length};
+    ghost use Rattle.media_block.specs.Blocks.{DiskState, blocks_of, block_length};
+
+    ghost Value = { DiskState };
+
+    ghost view = { λ disk. record { blocks = blocks_of disk.block_count (S.Store.content disk.store); synced = S.Store.synced disk.store; failures = S.Store.failures disk.store; honest = S.Store.honest disk.store } };
+
+    ghost invariant = { λ disk. (block_length * disk.block_count < 2 ^ 64) × (IsTrue (S.Store.honest disk.store) → length (S.Store.content disk.store) ≡ block_length * disk.block_count) × (0 < disk.block_count) };
+}
+
+impl<S: Store> Disk<S> {
+    /// Opens a store as a disk, or gives it back.
+    pub fn open(mut store: S) -> Result<Disk<S>, NotOpened<S>>
+        ensures blocks { IfOk result (λ disk. IsTrue (S.Store.honest store) → disk.blocks ≡ disk_of (S.Store.content store)) }
+        ensures disk { OnOk result (IsTrue (S.Store.honest store) → is_disk (S.Store.content store) ≡ true) }
+        ensures synced { IfOk result (λ disk. disk.synced ≡ S.Store.synced store) }
+        ensures failures { IfOk result (λ disk. disk.failures ≡ S.Store.failures store) }
+        ensures honest { IfOk result (λ disk. disk.honest ≡ S.Store.honest store) }
+        ensures length { IfErr result (λ refused. refused.fault ≡ DiskOpenFault.Length
+            → IsTrue (S.Store.honest store) → is_disk (S.Store.content store) ≡ false) }
+        ensures counted { IfErr result (λ refused. S.Store.failures refused.store ≡ failures_after refused.fault (S.Store.failures store)) }
+        ensures given_back { IfErr result (λ refused. IsTrue (S.Store.honest store) → S.Store.content refused.store ≡ S.Store.content store) }
+        ensures synced_back { IfErr result (λ refused. S.Store.synced refused.store ≡ S.Store.synced store) }
+        ensures honest_back { IfErr result (λ refused. S.Store.honest refused.store ≡ S.Store.honest store) }
+    {
+        let Ok(length) = store.len() else {
+            return Err(NotOpened {
+                fault: DiskOpenFault::Device,
+                store,
+            });
+        };
+        if length == 0 || length % BLOCK_LENGTH as u64 != 0 {
+            return Err(NotOpened {
+                fault: DiskOpenFault::Length,
+                store,
+            });
+        }
+        Ok(Disk {
+            store,
+            block_count: length / BLOCK_LENGTH as u64,
+        })
+    }
+
+    /// How many blocks there are: one at least.
+    pub fn block_count(&self) -> u64
+        ensures count { result ≡ length self.now.blocks }
+        ensures some { 0 < result }
+    {
+        self.block_count
+    }
+
+    /// Reads blocks into a buffer of their length.
+    pub fn read(&mut self, first: u64, count: u64, bytes: &mut [u8]) -> Result<(), StoreFault>
+        requires range { first + count ≤ length self.old.blocks }
+        requires room { length bytes.old ≡ block_length * count }
+        ensures read { OnOk result (IsTrue self.old.honest → bytes.new ≡ data_of self.old.blocks first count) }
+        ensures none { count ≡ 0 → IsOk result }
+        ensures blocks { IsTrue self.old.honest → self.new.blocks ≡ self.old.blocks }
+        ensures length { length self.new.blocks ≡ length self.old.blocks }
+        ensures synced { self.new.synced ≡ self.old.synced }
+        ensures failures { self.new.failures ≡ counted result self.old.failures }
+        ensures honest { self.new.honest ≡ self.old.honest }
+    {
+        if count == 0 {
+            return Ok(());
+        }
+        self.store.read_at(BLOCK_LENGTH as u64 * first, bytes)
+    }
+
+    /// Writes blocks. Where it fails, any bytes may stand in these blocks.
+    pub fn write(&mut self, first: u64, count: u64, bytes: &[u8]) -> Result<(), StoreFault>
+        requires range { first + count ≤ length self.old.blocks }
+        requires whole { length bytes.now ≡ block_length * count }
+        ensures written { OnOk result (IsTrue self.old.honest
+            → self.new.blocks ≡ replaced first (blocks_of count bytes.now) self.old.blocks) }
+        ensures torn { OnErr result (IsTrue self.old.honest → KeepsOthers first count self.old.blocks self.new.blocks) }
+        ensures none { count ≡ 0 → IsOk result }
+        ensures length { length self.new.blocks ≡ length self.old.blocks }
+        ensures synced { self.new.synced ≡ (if count == 0 then self.old.synced else false) }
+        ensures failures { self.new.failures ≡ counted result self.old.failures }
+        ensures honest { self.new.honest ≡ self.old.honest }
+    {
+        if count == 0 {
+            return Ok(());
+        }
+        self.store.write_at(BLOCK_LENGTH as u64 * first, bytes)
+    }
+
+    /// The least index at which bytes differ from those of blocks.
+    pub fn compare(
+        &mut self,
+        first: u64,
+        count: u64,
+        bytes: &[u8],
+    ) -> Result<Option<usize>, StoreFault>
+        requires range { first + count ≤ length self.old.blocks }
+        requires whole { length bytes.now ≡ block_length * count }
+        ensures compared { IfOk result (λ at. IsTrue self.old.honest
+            → at ≡ first_difference (data_of self.old.blocks first count) bytes.now) }
+        ensures none { count ≡ 0 → IsOk result }
+        ensures blocks { IsTrue self.old.honest → self.new.blocks ≡ self.old.blocks }
+        ensures length { length self.new.blocks ≡ length self.old.blocks }
+        ensures synced { self.new.synced ≡ self.old.synced }
+        ensures failures { self.new.failures ≡ counted result self.old.failures }
+        ensures honest { self.new.honest ≡ self.old.honest }
+    {
+        // So the place of each block fits a u64.
+        let _ = &self.block_count;
+        let mut held = [0; BLOCK_LENGTH];
+        for number in 0..count {
+            self.read(first + number, 1, &mut held)?;
+            let start = BLOCK_LENGTH * number as usize;
+            if let Some(at) = difference(&held, &bytes[start..start + BLOCK_LENGTH]) {
+                return Ok(Some(start + at));
+            }
+        }
+        Ok(None)
+    }
+
+    /// Writes the same block to so many places. Where it fails, any bytes may stand in these blocks.
+    pub fn same(&mut self, first: u64, count: u64, block: &[u8]) -> Result<(), StoreFault>
+        requires range { first + count ≤ length self.old.blocks }
+        requires whole { length block.now ≡ block_length }
+        ensures written { OnOk result (IsTrue self.old.honest
+            → self.new.blocks ≡ replaced first (replicate count block.now) self.old.blocks) }
+        ensures torn { OnErr result (IsTrue self.old.honest → KeepsOthers first count self.old.blocks self.new.blocks) }
+        ensures none { count ≡ 0 → IsOk result }
+        ensures length { length self.new.blocks ≡ length self.old.blocks }
+        ensures synced { self.new.synced ≡ (if count == 0 then self.old.synced else false) }
+        ensures failures { self.new.failures ≡ counted result self.old.failures }
+        ensures honest { self.new.honest ≡ self.old.honest }
+    {
+        // So the place of each block fits a u64.
+        let _ = &self.block_count;
+        for number in 0..count {
+            self.write(first + number, 1, block)?;
+        }
+        Ok(())
+    }
+
+    /// Waits until what was written is on the medium.
+    pub fn sync(&mut self) -> Result<(), StoreFault>
+        ensures synced { self.new.synced ≡ (if is_ok result then true else self.old.synced) }
+        ensures blocks { IsTrue self.old.honest → self.new.blocks ≡ self.old.blocks }
+        ensures length { length self.new.blocks ≡ length self.old.blocks }
+        ensures failures { self.new.failures ≡ counted result self.old.failures }
+        ensures honest { self.new.honest ≡ self.old.honest }
+    {
+        self.store.sync()
+    }
+}
