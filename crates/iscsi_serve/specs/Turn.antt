@@ -36,7 +36,7 @@ happened entry h m = record { history = m.history ++ h ∷ []; before = m.before
 unfoldable pub link_in : Setting → Moment → ℕ → LinkState
 link_in s m c =
     let life = present c (world s m.history) in
-    record { half = half_of life; phase = phase_of life; waiting = drop (length (written_on c (log_of m))) (out_now life) }
+    record { half = half_of life; phase = phase_of s.names life; waiting = drop (length (written_on c (log_of m))) (out_now life) }
 
 abbrev pub is_open : LinkState → Bool
 is_open link = not (is_free link.phase)
