@@ -11,3 +11,4 @@ pub mod Entries
 pub mod Served
 pub mod Turn
 pub mod Progress
+pub mod ExamplesLog

@@ -1,4 +1,10 @@
-//! The loop that carries bytes between an iSCSI target and its connections.
+//! The loop that carries bytes between an iSCSI target and its connections, on one thread.
+//!
+//! A [`turn`] asks the [`Ports`] whom to serve, accepts, reads, writes and closes what is due, and
+//! [`turns`] makes many. Whatever the ports tell, what was written on a connection is what the
+//! machine of `iscsi_target` answers there, without what still waits (the clauses `served`).
+//!
+//! [`MioPorts`] are the system's sockets; [`MemPorts`] follow a script and keep a log, for tests.
 #![tactic(auto)]
 
 mod bind_fault;
