@@ -1,7 +1,7 @@
 //! What no clause says: that connections are served side by side, with ample memory, over scripts and
 //! over a socket.
 
-use crate::{Carried, Entry, MemPorts, MioPorts, Script, ServeFault, Step, turns};
+use crate::{Carried, Entry, MemPorts, MioPorts, Script, Step, turn, turns};
 use iscsi_target::{Config, LogicalUnit, Memory, Target, Units};
 use scsi_cdb::Kind;
 use std::alloc::{AllocError, Global};
@@ -202,7 +202,9 @@ fn serves_a_socket_on_one_thread(rt: HostRuntime) -> Result<(), Fail> {
     let mut client = TcpStream::connect(&rt, ports.address()?)?;
     client.set_read_timeout(Some(Duration::from_secs(10)))?;
     client.write_all(&REQUESTS)?;
-    turns(&mut ports, &mut target, 100)?;
+    for _ in 0..100 {
+        turn(&mut ports, &mut target)?;
+    }
     let mut bytes = [0; 220];
     client.read_exact(&mut bytes)?;
     assert_eq!(rt; &bytes[..], &ANSWERS[..]);
