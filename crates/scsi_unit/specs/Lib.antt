@@ -1,0 +1,14 @@
+pub use Rattle.media_store.specs.Failures
+pub use Rattle.media_block.specs.Blocks
+pub use Rattle.scsi_sense.specs.Codes
+pub use Rattle.scsi_sense.specs.Sense
+pub use Rattle.scsi_sense.specs.Done
+pub use Rattle.scsi_sense.specs.Nexus
+pub use Rattle.scsi_cdb.specs.Operation
+pub use Rattle.scsi_cdb.specs.Command
+pub mod Medium
+pub mod Commands
+pub mod Joined
+pub mod Unit
+pub mod Units
+pub mod Examples

@@ -1,0 +1,139 @@
+//! The logical units of one target.
+
+ghost use Rattle.std.specs.Prelude.{All, ◌≡◌, ◌<◌, ◌≤◌, ◌+◌, ◌++◌, ◌∷◌, ℕ, List, [], length, map, replicate, IfSome, IfOk, OnOk, OnErr, slice_set};
+ghost use Rattle.scsi_sense.specs.Nexus.{NexusName};
+ghost use Rattle.scsi_unit.specs.Unit.{unit_view, HasRoom, joined_unit, left_unit, lun_number as number_of_lun};
+ghost use Rattle.scsi_unit.specs.Units.{join, leave, perform as performed, unit_of, AreHonest, NoUnitFailed, AreAnswered};
+
+use crate::fault::Memory;
+use crate::logical_unit::{LogicalUnit, lun_number, without_unit};
+use crate::unit::Unit;
+use media_store::Store;
+use scsi_sense::{Done, Nexus};
+use std::alloc::Global;
+use std::marker::Model;
+
+/// The logical units of one target.
+#[derive(Drop)]
+pub struct Units<S: Store> {
+    units: Vec<LogicalUnit<S>>,
+    alloc: Global,
+}
+
+impl<S: Store> Model for Units<S> {
+    ghost use Rattle.std.specs.Prelude.{List, map};
+    ghost use Rattle.scsi_unit.specs.Unit.{UnitState, unit_view};
+
+    ghost Value = { List UnitState };
+
+    ghost view = { λ u. map unit_view u.units.items };
+}
+
+/// So many copies of a nexus.
+fn copies(alloc: Global, nexus: &Nexus, count: usize) -> Result<Vec<Nexus>, Memory>
+    ensures { IfOk result (λ names. names.items ≡ replicate count nexus.now) }
+{
+    let mut names = Vec::with_capacity(alloc, count)?;
+    for _ in 0..count {
+        names.push(nexus.clone()?)?;
+    }
+    Ok(names)
+}
+
+/// Room for one more nexus at each unit.
+fn reserve<S: Store>(units: &mut [LogicalUnit<S>]) -> Result<(), Memory>
+    ensures same { map unit_view units.new ≡ map unit_view units.old }
+    ensures room { OnOk result (All HasRoom units.new) }
+{
+    for at in 0..units.len() {
+        let unit = &mut units[at];
+        unit.make_room()?;
+    }
+    Ok(())
+}
+
+/// A copy of the nexus joins each unit, where there is room for it.
+fn admit<S: Store>(units: &mut [LogicalUnit<S>], mut names: Vec<Nexus>)
+    requires { All HasRoom units.old }
+    ensures { (nexus : NexusName) → names.items ≡ replicate (length units.old) nexus
+        → map unit_view units.new ≡ map (joined_unit nexus) (map unit_view units.old) }
+{
+    for at in 0..units.len() {
+        if let Some(nexus) = names.pop() {
+            let unit = &mut units[at];
+            unit.join(nexus);
+        }
+    }
+}
+
+impl<S: Store + Drop> Units<S> {
+    /// These units.
+    pub fn new(alloc: Global, units: Vec<Unit<S>>) -> Result<Units<S>, Memory>
+        ensures { IfOk result (λ made. made ≡ units.items) }
+    {
+        let mut made = Vec::with_capacity(alloc, units.len())?;
+        for unit in units {
+            made.push(unit.into_unit())?;
+        }
+        Ok(Units { units: made, alloc })
+    }
+}
+
+impl<S: Store> Units<S> {
+    /// A nexus joins: it has the power-on attention on each unit, and no other, also where it was
+    /// joined before. Where an allocation fails nothing changes.
+    #[tactic(auto, unfolding(crate::specs::Units::join))]
+    pub fn join(&mut self, nexus: &Nexus) -> Result<(), Memory>
+        ensures ok { OnOk result (self.new ≡ join nexus.now self.old) }
+        ensures err { OnErr result (self.new ≡ self.old) }
+    {
+        let names = copies(self.alloc, nexus, self.units.len())?;
+        reserve(self.units.as_mut_slice())?;
+        admit(self.units.as_mut_slice(), names);
+        Ok(())
+    }
+
+    /// A nexus leaves, with its attentions.
+    #[tactic(auto, unfolding(crate::specs::Units::leave))]
+    pub fn leave(&mut self, nexus: &Nexus)
+        ensures { self.new ≡ leave nexus.now self.old }
+    {
+        for unit in self.units.iter_mut() {
+            unit.leave(nexus);
+        }
+    }
+
+    /// Where the unit stands that a LUN names.
+    #[tactic(auto, unfolding(crate::specs::Unit::lun_number))]
+    fn position(&self, lun: [u8; 8]) -> Option<usize>
+        ensures value { result ≡ unit_of self.now (number_of_lun lun) }
+        ensures bound { IfSome result (λ at. at < length self.now) }
+    {
+        let number = lun_number(lun)?;
+        self.units.iter().position(|unit| unit.lun == number)
+    }
+
+    /// A command to the unit that the LUN names. No command that is read so far takes data. Where an
+    /// allocation fails nothing changes.
+    #[tactic(auto, unfolding(crate::specs::Units::perform))]
+    pub fn perform(
+        &mut self,
+        nexus: &Nexus,
+        lun: [u8; 8],
+        cdb: [u8; 16],
+        _data: &[u8],
+    ) -> Result<Done, Memory>
+        ensures exact { IfOk result (λ done. AreHonest self.old → NoUnitFailed self.old self.new
+            → (self.new, done) ≡ performed self.old nexus.now lun cdb) }
+        ensures answered { IfOk result (AreAnswered nexus.now cdb (unit_of self.old (number_of_lun lun)) self.old self.new) }
+        ensures err { OnErr result (self.new ≡ self.old) }
+    {
+        match self.position(lun) {
+            None => Ok(Done::check_condition(self.alloc, without_unit(cdb))),
+            Some(at) => {
+                let unit = &mut self.units[at];
+                unit.perform(self.alloc, nexus, cdb)
+            }
+        }
+    }
+}
