@@ -19,7 +19,7 @@ build:
 	@echo "== proving the crates and building targetd (some minutes the first time)"
 	@./tools/build
 
-# The gate: the proofs, the wrong bodies, the cases, failing calls, the pages. About 20 minutes.
+# The gate: the proofs, the wrong bodies, the cases, sockets, failing calls, the pages. About 40 minutes.
 test:
 	@./tools/test
 
