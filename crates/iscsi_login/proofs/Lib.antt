@@ -1,3 +1,5 @@
 pub mod Numbers
 pub mod Lists
 pub mod After
+pub mod Ranges
+pub mod Replying

@@ -2,8 +2,7 @@
 use Rattle.std.specs.Prelude.{◌≡◌, ℕ, List, [], ◌∷◌, ◌++◌, take, drop, map, replicate, Bool, true, false, Option, Some, None, codes, refl}
 use Rattle.std.specs.Str.{is_utf8, chars}
 use Rattle.iscsi_pdu.specs.Frames.{Frame}
-use Rattle.iscsi_pdu.specs.declared.answer.Answer.{Answer}
-use Rattle.iscsi_pdu.specs.declared.answer.Answer.TheVariants as answers
+use Rattle.iscsi_pdu.specs.declared.login_response.LoginResponse.{LoginResponse}
 use Rattle.iscsi_pdu.specs.declared.stage.Stage.TheVariants as stages
 use Rattle.iscsi_pdu.specs.declared.login_response.LoginRefusal.{LoginRefusal}
 use Rattle.iscsi_pdu.specs.declared.login_response.LoginRefusal.TheVariants as refusals
@@ -18,8 +17,8 @@ use Rattle.iscsi_login.specs.Session.{target_named}
 use Rattle.iscsi_login.specs.Lookup.{Lookup}
 use Rattle.iscsi_login.specs.Values.{default_values, with_result, with_pair}
 use Rattle.iscsi_login.specs.LoginState.{LoginState}
-use Rattle.iscsi_login.specs.Rules.{said, is_normal, is_name_key, is_segment_refused, pairs_with, asked_for, first_refusal, text_refusal, refusal_of}
-use Rattle.iscsi_login.specs.Login.{answer_pairs, heard, advanced, remembered, login_stamp, login_answer, params_of, reply_to, reply_of}
+use Rattle.iscsi_login.specs.Rules.{said, is_normal, is_name_key, is_segment_refused, pairs_with, asked_for, first_refusal, text_refusal, is_other_session, interrupts, is_too_long, request_refusal, refusal_of}
+use Rattle.iscsi_login.specs.Login.{answer_pairs, heard, advanced, remembered, login_stamp, login_response, params_of, reply_to, reply_of}
 use Rattle.iscsi_login.specs.declared.params.Params.{Params}
 use Rattle.iscsi_login.specs.declared.reply.Reply.{Reply}
 use Rattle.iscsi_login.specs.declared.reply.Reply.TheVariants.{GoOn, Full, Refused}
@@ -27,7 +26,7 @@ use Rattle.iscsi_login.specs.declared.values.Values.{Values}
 
 -- what the examples unfold
 unfoldable pub computed : Bool
-unfolding keys_computed is_utf8 chars lib.Utf8.encode text_pairs pieces own_fault target_named with_result with_pair said is_normal is_name_key is_segment_refused pairs_with asked_for first_refusal text_refusal refusal_of answer_pairs heard advanced remembered login_stamp login_answer params_of reply_to reply_of
+unfolding keys_computed is_utf8 chars lib.Utf8.encode text_pairs pieces own_fault target_named with_result with_pair said is_normal is_name_key is_segment_refused pairs_with asked_for first_refusal text_refusal is_other_session interrupts is_too_long request_refusal refusal_of answer_pairs heard advanced remembered login_stamp login_response params_of reply_to reply_of
 computed = true
 
 -- ---- requests (RFC 7143 §11.12)
@@ -81,20 +80,18 @@ pub data Seen : Type 0 where
   Text : (stage : Stage) (step : LoginStep) (tsih : ℕ) (numbers : List ℕ) (text : List ℕ) → Seen
   Why : (refusal : LoginRefusal) (tsih : ℕ) (numbers : List ℕ) → Seen
   Begun : (seen : Seen) (params : Params) → Seen
-  Other : Seen
 
 abbrev seen_reply : ℕ → List ℕ → LoginReply → Seen
 seen_reply tsih numbers (replies.Accepted accepted) = Text accepted.stage accepted.step tsih numbers accepted.text
 seen_reply tsih numbers (replies.Refused refusal) = Why refusal tsih numbers
 
-abbrev seen_answer : Answer → Seen
-seen_answer (answers.LoginResponse response) = seen_reply response.tsih (response.stamp.stat_sn ∷ response.stamp.exp_cmd_sn ∷ response.stamp.max_cmd_sn ∷ []) response.reply
-seen_answer other = Other
+abbrev seen_response : LoginResponse → Seen
+seen_response response = seen_reply response.tsih (response.stamp.stat_sn ∷ response.stamp.exp_cmd_sn ∷ response.stamp.max_cmd_sn ∷ []) response.reply
 
 abbrev seen : Reply → Seen
-seen (GoOn answer) = seen_answer answer
-seen (Refused answer) = seen_answer answer
-seen (Full answer params) = Begun (seen_answer answer) params
+seen (GoOn response) = seen_response response
+seen (Refused response) = seen_response response
+seen (Full response params) = Begun (seen_response response) params
 
 -- the reply to the last of a login's requests on connection 0
 abbrev pub last_reply : Lookup → List Frame → Frame → Seen

@@ -39,10 +39,12 @@ pub record Row : Type 0 where
 abbrev pub row : List ℕ → Negotiation → Row
 row key negotiation = record { key = key; negotiation = negotiation }
 
--- The keys of RFC 7143 §12.1 and §13, in its order, with their result functions and ranges, and the value of this target (own).
+-- The keys of RFC 7143 §12.1 and §13, in its order and in three parts, with their result functions and ranges, and the value of this target (own).
 -- MaxRecvDataSegmentLength and the names are declared and get no answer; the keys of a target are no offer.
-abbrev pub table : List Row
-table =
+
+-- security, connections, and who takes part
+abbrev pub name_keys : List Row
+name_keys =
     row (codes "AuthMethod") (kinds.Choice words.None)  -- §12.1
     ∷ row (codes "HeaderDigest") (kinds.Choice words.None)  -- §13.1
     ∷ row (codes "DataDigest") (kinds.Choice words.None)  -- §13.1
@@ -54,7 +56,12 @@ table =
     ∷ row (codes "InitiatorAlias") kinds.Declared  -- §13.7
     ∷ row (codes "TargetAddress") (kinds.Always rejected)  -- §13.8
     ∷ row (codes "TargetPortalGroupTag") (kinds.Always rejected)  -- §13.9
-    ∷ row (codes "InitialR2T") (kinds.Or false)  -- §13.10
+    ∷ []
+
+-- how data moves
+abbrev pub transfer_keys : List Row
+transfer_keys =
+    row (codes "InitialR2T") (kinds.Or false)  -- §13.10
     ∷ row (codes "ImmediateData") (kinds.And true)  -- §13.11
     ∷ row (codes "MaxRecvDataSegmentLength") kinds.Declared  -- §13.12
     ∷ row (codes "MaxBurstLength") (kinds.Minimum 512 16777215 262144)  -- §13.13
@@ -64,7 +71,12 @@ table =
     ∷ row (codes "MaxOutstandingR2T") (kinds.Minimum 1 65535 1)  -- §13.17
     ∷ row (codes "DataPDUInOrder") (kinds.Or true)  -- §13.18
     ∷ row (codes "DataSequenceInOrder") (kinds.Or true)  -- §13.19
-    ∷ row (codes "ErrorRecoveryLevel") (kinds.Minimum 0 2 0)  -- §13.20
+    ∷ []
+
+-- what else a session has
+abbrev pub session_keys : List Row
+session_keys =
+    row (codes "ErrorRecoveryLevel") (kinds.Minimum 0 2 0)  -- §13.20
     ∷ row (codes "SessionType") kinds.Declared  -- §13.21
     ∷ row (codes "TaskReporting") (kinds.Choice words.Rfc3720)  -- §13.23
     ∷ row (codes "IFMarker") (kinds.Always (results.Boolean false))  -- §13.25
@@ -73,13 +85,24 @@ table =
     ∷ row (codes "OFMarkInt") (kinds.Always rejected)  -- §13.25
     ∷ []
 
+-- the row of a key, or what stands for one that has none
+abbrev pub negotiation_in : List Row → List ℕ → Negotiation → Negotiation
+negotiation_in [] key other = other
+negotiation_in (row ∷ rows) key other = if bytes_eq key row.key then row.negotiation else negotiation_in rows key other
+
 -- RFC 7143 §6.2: a key that is not known
-abbrev pub negotiation_in : List Row → List ℕ → Negotiation
-negotiation_in [] key = kinds.Always (results.Word words.NotUnderstood)
-negotiation_in (row ∷ rows) key = if bytes_eq key row.key then row.negotiation else negotiation_in rows key
+abbrev pub not_understood : Negotiation
+not_understood = kinds.Always (results.Word words.NotUnderstood)
+
+-- how a key is negotiated, by the three parts
+unfoldable pub session_negotiation : List ℕ → Negotiation
+session_negotiation key = negotiation_in session_keys key not_understood
+
+unfoldable pub transfer_negotiation : List ℕ → Negotiation
+transfer_negotiation key = negotiation_in transfer_keys key (session_negotiation key)
 
 unfoldable pub negotiation_of : List ℕ → Negotiation
-negotiation_of key = negotiation_in table key
+negotiation_of key = negotiation_in name_keys key (transfer_negotiation key)
 
 -- RFC 7143 §6.2.1: a word of a list of values, which commas separate
 unfoldable pub is_listed : List ℕ → List ℕ → Bool

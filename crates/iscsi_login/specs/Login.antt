@@ -8,8 +8,7 @@ use Rattle.iscsi_pdu.specs.Frames.{Frame}
 use Rattle.iscsi_pdu.specs.declared.stamp.Stamp.{Stamp}
 use Rattle.iscsi_pdu.specs.declared.stage.Stage.{Stage}
 use Rattle.iscsi_pdu.specs.declared.stage.Stage.TheVariants.{OperationalNegotiation, FullFeaturePhase}
-use Rattle.iscsi_pdu.specs.declared.answer.Answer.{Answer}
-use Rattle.iscsi_pdu.specs.declared.answer.Answer.TheVariants as answers
+use Rattle.iscsi_pdu.specs.declared.login_response.LoginResponse.{LoginResponse}
 use Rattle.iscsi_pdu.specs.declared.login_response.LoginRefusal.{LoginRefusal}
 use Rattle.iscsi_pdu.specs.declared.login_response.LoginStep.{LoginStep}
 use Rattle.iscsi_pdu.specs.declared.login_response.LoginStep.TheVariants as steps
@@ -17,7 +16,8 @@ use Rattle.iscsi_pdu.specs.declared.login_response.LoginReply.{LoginReply}
 use Rattle.iscsi_pdu.specs.declared.login_response.LoginReply.TheVariants as replies
 use Rattle.iscsi_text.specs.Pairs.{Pair, text_of}
 use Rattle.iscsi_login.specs.Keys.{key_result}
-use Rattle.iscsi_login.specs.Values.{with_pairs}
+use Rattle.iscsi_login.specs.Values.{AreInRange, with_pairs}
+use Rattle.iscsi_login.specs.declared.values.Values.{Values}
 use Rattle.iscsi_login.specs.Lookup.{Lookup}
 use Rattle.iscsi_login.specs.LoginState.{LoginState, AsksBelow, new_login}
 use Rattle.iscsi_login.specs.Rules.{opening_with, stage_with, is_same_stage, is_due, joined, reads_text, pairs_with, asked_by, refusal_of}
@@ -115,14 +115,14 @@ login_stamp login header =
     let first = (opening_with login header).cmd_sn in
     record { stat_sn = login.answers; exp_cmd_sn = first; max_cmd_sn = (first + 31) % 2 ^ 32 }
 
-unfoldable pub login_answer : LoginState → Frame → ℕ → LoginReply → Answer
-login_answer login request handle reply = answers.LoginResponse (record {
+unfoldable pub login_response : LoginState → Frame → ℕ → LoginReply → LoginResponse
+login_response login request handle reply = record {
   isid = isid request.header;
   tsih = handle;
   initiator_task_tag = initiator_task_tag request.header;
   stamp = login_stamp login request.header;
   reply = reply;
-})
+}
 
 -- RFC 7143 §11.13: the next piece of the text that is due
 abbrev pub accepted : List ℕ → List ℕ → LoginReply
@@ -156,18 +156,18 @@ handle_with login header step = if is_last_step step then login.handle else tsih
 abbrev pub begun_by : LoginState → LoginStep → Option Session
 begun_by login step = if is_last_step step then login.session else None
 
-abbrev pub reply_with : Answer → LoginState → List ℕ → Option Session → Reply
-reply_with answer login header None = GoOn answer
-reply_with answer login header (Some session) = Full answer (params_of login header session)
+abbrev pub reply_with : LoginResponse → LoginState → List ℕ → Option Session → Reply
+reply_with response login header None = GoOn response
+reply_with response login header (Some session) = Full response (params_of login header session)
 
 -- the answer to what a request brought
 unfoldable pub reply_to : LoginState → Frame → Reply
 reply_to login request =
     let step = step_of request.header login.due in
-    reply_with (login_answer login request (handle_with login request.header step) (accepted request.header login.due)) login request.header (begun_by login step)
+    reply_with (login_response login request (handle_with login request.header step) (accepted request.header login.due)) login request.header (begun_by login step)
 
 abbrev pub refused_reply : LoginState → Frame → LoginRefusal → Reply
-refused_reply login request refusal = Refused (login_answer login request (tsih request.header) (replies.Refused refusal))
+refused_reply login request refusal = Refused (login_response login request (tsih request.header) (replies.Refused refusal))
 
 abbrev pub reply_unless : Option LoginRefusal → Lookup → LoginState → Frame → Reply
 reply_unless (Some refusal) lookup login request = refused_reply login request refusal
@@ -183,18 +183,28 @@ login handle before lookup request = reply_of (remembered lookup.names handle be
 
 -- what is remembered after a reply; full feature phase leaves nothing to remember
 abbrev pub IsAfter : List (List ℕ) → LoginState → Frame → Reply → LoginState → Type 0
-IsAfter names old request (GoOn answer) new = new ≡ advanced names old request
-IsAfter names old request (Refused answer) new = new ≡ old
-IsAfter names old request (Full answer params) new = ⊤
+IsAfter names old request (GoOn response) new = new ≡ advanced names old request
+IsAfter names old request (Refused response) new = new ≡ old
+IsAfter names old request (Full response params) new = ⊤
 
 -- what is remembered once a piece of the answer is sent
 abbrev pub IsAnswered : LoginState → Frame → Reply → LoginState → Type 0
-IsAnswered old request (GoOn answer) new = new ≡ answered old request.header
-IsAnswered old request (Refused answer) new = ⊥
-IsAnswered old request (Full answer params) new = ⊤
+IsAnswered old request (GoOn response) new = new ≡ answered old request.header
+IsAnswered old request (Refused response) new = ⊥
+IsAnswered old request (Full response params) new = ⊤
 
 -- the target of a session that begins is one of so many, and so is the one that a login goes on to ask for
 abbrev pub IsBelow : ℕ → Reply → LoginState → Type 0
-IsBelow count (GoOn answer) new = AsksBelow count new.session
-IsBelow count (Refused answer) new = AsksBelow count new.session
-IsBelow count (Full answer params) new = (params.target < count) × AsksBelow count new.session
+IsBelow count (GoOn response) new = AsksBelow count new.session
+IsBelow count (Refused response) new = AsksBelow count new.session
+IsBelow count (Full response params) new = (params.target < count) × AsksBelow count new.session
+
+-- the session that begins has these values
+abbrev pub BeginsWith : Values → Reply → Type 0
+BeginsWith values (Full response params) = params.values ≡ values
+BeginsWith values _ = ⊤
+
+-- the values of the session that begins are in range
+abbrev pub BeginsInRange : Reply → Type 0
+BeginsInRange (Full response params) = AreInRange params.values
+BeginsInRange _ = ⊤

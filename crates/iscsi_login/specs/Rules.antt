@@ -65,22 +65,39 @@ is_due login = nat_lt 0 (length login.due)
 abbrev pub joined : LoginState → Frame → List ℕ
 joined login request = login.kept ++ request.body
 
+-- RFC 7143 §11.12.5, §11.12.6: the ISID and the TSIH are those of the first request
+unfoldable pub is_other_session : LoginState → List ℕ → Bool
+is_other_session login header =
+    let opening = opening_with login header in
+    not (bytes_eq (isid header) opening.isid) || not (tsih header == opening.tsih)
+
+-- RFC 7143 §6.2: while a piece of an answer is due nothing is said
+unfoldable pub interrupts : LoginState → Frame → Bool
+interrupts login request = is_due login && (is_continued request.header || nat_lt 0 (length request.body))
+
+-- own: so much text is kept at most
+unfoldable pub is_too_long : LoginState → Frame → Bool
+is_too_long login request = is_continued request.header && nat_lt longest_text (length (joined login request))
+
 -- ---- the rules
 
 -- of the request itself (RFC 7143 §11.12)
 abbrev pub rules_of_request : LoginState → Frame → List Rule
 rules_of_request login request =
     let header = request.header in
-    let opening = opening_with login header in
     rule (nat_lt 0 (version_min header)) UnsupportedVersion
     ∷ rule (not (is_login_stage (current_stage header))) InitiatorError
     ∷ rule (is_transit header && not (is_behind (next_stage header) (current_stage header))) InitiatorError
     ∷ rule (is_transit header && is_continued header) InitiatorError
     ∷ rule (not (is_same_stage (current_stage header) (stage_with login header))) InitiatorError
-    ∷ rule (not (bytes_eq (isid header) opening.isid) || not (tsih header == opening.tsih)) InitiatorError
-    ∷ rule (is_due login && (is_continued header || nat_lt 0 (length request.body))) InitiatorError
-    ∷ rule (is_continued header && nat_lt longest_text (length (joined login request))) InitiatorError
+    ∷ rule (is_other_session login header) InitiatorError
+    ∷ rule (interrupts login request) InitiatorError
+    ∷ rule (is_too_long login request) InitiatorError
     ∷ []
+
+-- why it is refused
+unfoldable pub request_refusal : LoginState → Frame → Option LoginRefusal
+request_refusal login request = refusal_by (rules_of_request login request)
 
 -- a whole text is read where no more of it comes, and no piece of the last answer is due
 abbrev pub reads_text : LoginState → Frame → Bool
@@ -185,7 +202,7 @@ asked_by (Some session) names header pairs = None
 -- Why a request is refused, if it is.
 unfoldable pub refusal_of : LoginState → Lookup → Frame → Option LoginRefusal
 refusal_of login lookup request =
-    option_or (refusal_by (rules_of_request login request))
+    option_or (request_refusal login request)
     (if reads_text login request then text_refusal login lookup request else None)
 
 -- how a refusal is told where an allocation may fail

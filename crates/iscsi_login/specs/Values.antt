@@ -1,5 +1,5 @@
 -- The values in force after pairs of a login (RFC 7143 §6.3, §13).
-use Rattle.std.specs.Prelude.{ℕ, List, fold, Bool, true, unwrap_or, codes, bytes_eq, if◌then◌else◌}
+use Rattle.std.specs.Prelude.{ℕ, ◌≤◌, List, fold, Bool, true, unwrap_or, codes, bytes_eq, if◌then◌else◌}
 use Rattle.iscsi_text.specs.Pairs.{Pair}
 use Rattle.iscsi_login.specs.Number.{number_in}
 use Rattle.iscsi_login.specs.Keys.{settled}
@@ -57,3 +57,9 @@ with_pair values pair =
 -- and after several
 abbrev pub with_pairs : Values → List Pair → Values
 with_pairs values pairs = fold with_pair values pairs
+
+-- RFC 7143 §13.12, §13.13: no length that data is cut by is below 512, and a burst is no longer than this target's own value
+pub record AreInRange (values : Values) : Type 0 where
+  pub segment : 512 ≤ values.max_recv_data_segment_length
+  pub burst : 512 ≤ values.max_burst_length
+  pub longest_burst : values.max_burst_length ≤ 262144

@@ -25,7 +25,7 @@ impl<T: Drop> From<AllocFailed<T>> for Memory {
 }
 
 /// Why a text is not taken.
-#[derive(Clone, Copy, Debug, PartialEq, Eq)]
+#[derive(Clone, Copy)]
 pub(crate) enum Fault {
     /// The login is refused.
     Refused(LoginRefusal),

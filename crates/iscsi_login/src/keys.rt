@@ -1,7 +1,7 @@
 //! What an offer of a key comes to (RFC 7143 §6.2, §12, §13).
 
 ghost use Rattle.std.specs.Prelude.{◌≡◌, IfOk, decimal, option_map, string_bytes};
-ghost use Rattle.iscsi_login.specs.Keys.{word_text, boolean_text, result_text, negotiation_of, is_listed as is_listed_word, boolean_of, result_by, is_answer as is_answer_value, settled as settled_of, key_result};
+ghost use Rattle.iscsi_login.specs.Keys.{word_text, boolean_text, result_text, negotiation_of, transfer_negotiation as transfer_negotiation_of, session_negotiation as session_negotiation_of, is_listed as is_listed_word, boolean_of, result_by, is_answer as is_answer_value, settled as settled_of, key_result};
 
 use crate::fault::Memory;
 use crate::number::number_in;
@@ -9,7 +9,7 @@ use itoa::Buffer;
 use std::alloc::Global;
 
 /// A word that is answered.
-#[derive(Clone, Copy, Debug, PartialEq, Eq)]
+#[derive(Clone, Copy)]
 pub enum Word {
     None,
     Rfc3720,
@@ -18,7 +18,7 @@ pub enum Word {
 }
 
 /// What an offer comes to.
-#[derive(Clone, Copy, Debug, PartialEq, Eq)]
+#[derive(Clone, Copy)]
 pub enum KeyResult {
     /// The key is a declaration, or the value an answer.
     NoAnswer,
@@ -31,7 +31,7 @@ pub enum KeyResult {
 }
 
 /// How a key is negotiated (RFC 7143 §6.2), and the value of this target.
-#[derive(Clone, Copy, Debug, PartialEq, Eq)]
+#[derive(Clone, Copy)]
 pub enum Negotiation {
     /// A list of values, of which this one is chosen.
     Choice(Word),
@@ -72,7 +72,7 @@ fn boolean_word(value: bool) -> &'static str
     if value { "Yes" } else { "No" }
 }
 
-/// How a key is negotiated, in the order of RFC 7143 §12.1 and §13.
+/// How a key is negotiated: those of RFC 7143 §12.1 to §13.9, in its order.
 #[tactic(auto, unfolding(crate::specs::Keys::negotiation_of))]
 fn negotiation_for(key: &str) -> Negotiation
     ensures { result ≡ negotiation_of key.now }
@@ -89,6 +89,16 @@ fn negotiation_for(key: &str) -> Negotiation
         "InitiatorAlias" => Negotiation::Declared,
         "TargetAddress" => Negotiation::Always(REJECTED),
         "TargetPortalGroupTag" => Negotiation::Always(REJECTED),
+        _ => transfer_negotiation(key),
+    }
+}
+
+/// Those of RFC 7143 §13.10 to §13.19.
+#[tactic(auto, unfolding(crate::specs::Keys::transfer_negotiation))]
+fn transfer_negotiation(key: &str) -> Negotiation
+    ensures { result ≡ transfer_negotiation_of key.now }
+{
+    match key {
         "InitialR2T" => Negotiation::Or(false),
         "ImmediateData" => Negotiation::And(true),
         "MaxRecvDataSegmentLength" => Negotiation::Declared,
@@ -99,6 +109,16 @@ fn negotiation_for(key: &str) -> Negotiation
         "MaxOutstandingR2T" => Negotiation::Minimum(1, 65535, 1),
         "DataPDUInOrder" => Negotiation::Or(true),
         "DataSequenceInOrder" => Negotiation::Or(true),
+        _ => session_negotiation(key),
+    }
+}
+
+/// Those of RFC 7143 §13.20 to §13.25, and a key that is not known.
+#[tactic(auto, unfolding(crate::specs::Keys::session_negotiation))]
+fn session_negotiation(key: &str) -> Negotiation
+    ensures { result ≡ session_negotiation_of key.now }
+{
+    match key {
         "ErrorRecoveryLevel" => Negotiation::Minimum(0, 2, 0),
         "SessionType" => Negotiation::Declared,
         "TaskReporting" => Negotiation::Choice(Word::Rfc3720),

@@ -3,8 +3,9 @@
 ghost use Rattle.std.specs.Prelude.{◌≡◌, ◌<◌, ◌+◌, length, map, string_bytes, IfOk, OnErr};
 ghost use Rattle.iscsi_login.specs.Lookup.{lookup_in};
 ghost use Rattle.iscsi_login.specs.LoginState.{AsksBelow, new_login};
-ghost use Rattle.iscsi_login.specs.Rules.{refusal_by, rules_of_request, opening_with as opening_for, stage_with as stage_for, is_due as has_due};
-ghost use Rattle.iscsi_login.specs.Login.{IsAfter, IsBelow, reply_of};
+ghost use Rattle.iscsi_login.specs.Values.{AreInRange};
+ghost use Rattle.iscsi_login.specs.Rules.{is_other_session as is_other, interrupts, is_too_long as has_too_much, request_refusal, opening_with as opening_for, stage_with as stage_for, is_due as has_due};
+ghost use Rattle.iscsi_login.specs.Login.{IsAfter, IsBelow, BeginsInRange, reply_of};
 
 mod answering;
 mod hearing;
@@ -106,12 +107,37 @@ impl Login {
         !self.due.is_empty()
     }
 
+    /// The request is of another session than the first one.
+    #[tactic(auto, unfolding(crate::specs::Rules::is_other_session))]
+    fn is_other_session(&self, header: &Header) -> bool
+        ensures { result ≡ is_other self.now header.now }
+    {
+        let opening = self.opening_with(header);
+        header.isid() != opening.isid || header.tsih() != opening.tsih
+    }
+
+    /// The request says something while a piece of the last answer is due.
+    #[tactic(auto, unfolding(crate::specs::Rules::interrupts))]
+    fn is_interrupted_by(&self, request: &Frame) -> bool
+        ensures { result ≡ interrupts self.now request.now }
+    {
+        self.is_due() && (request.header.is_continued() || !request.body.is_empty())
+    }
+
+    /// The text that goes on is too long to be kept.
+    #[tactic(auto, unfolding(crate::specs::Rules::is_too_long))]
+    fn is_too_long(&self, request: &Frame) -> bool
+        ensures { result ≡ has_too_much self.now request.now }
+    {
+        request.header.is_continued() && self.kept.len() + request.body.len() > LONGEST_TEXT
+    }
+
     /// Why the request itself is refused.
+    #[tactic(auto, unfolding(crate::specs::Rules::request_refusal))]
     fn refusal_of_request(&self, request: &Frame) -> Option<LoginRefusal>
-        ensures { result ≡ refusal_by (rules_of_request self.now request.now) }
+        ensures { result ≡ request_refusal self.now request.now }
     {
         let header = &request.header;
-        let opening = self.opening_with(header);
         let stage = header.current_stage();
         if header.version_min() > 0 {
             return Some(LoginRefusal::UnsupportedVersion);
@@ -128,13 +154,13 @@ impl Login {
         if !is_same_stage(stage, self.stage_with(header)) {
             return Some(LoginRefusal::InitiatorError);
         }
-        if header.isid() != opening.isid || header.tsih() != opening.tsih {
+        if self.is_other_session(header) {
             return Some(LoginRefusal::InitiatorError);
         }
-        if self.is_due() && (header.is_continued() || !request.body.is_empty()) {
+        if self.is_interrupted_by(request) {
             return Some(LoginRefusal::InitiatorError);
         }
-        if header.is_continued() && self.kept.len() + request.body.len() > LONGEST_TEXT {
+        if self.is_too_long(request) {
             return Some(LoginRefusal::InitiatorError);
         }
         None
@@ -143,7 +169,6 @@ impl Login {
     /// Takes a request, and answers it. `targets` are the names of the targets in order, and `named`
     /// is the session in full feature phase whose TSIH the request bears. Where an allocation fails
     /// the login is as it was. After [`Reply::Full`] and [`Reply::Refused`] it is over.
-    #[tactic(auto, unfolding(crate::specs::Rules::refusal_of, crate::specs::Login::reply_of, crate::specs::Login::advanced))]
     pub fn take(
         &mut self,
         request: &Frame,
@@ -153,6 +178,7 @@ impl Login {
         ensures reply { IfOk result (λ reply. reply ≡ reply_of self.old (lookup_in targets.now named.now) request.now) }
         ensures after { IfOk result (λ reply. IsAfter (map string_bytes targets.now) self.old request.now reply self.new) }
         ensures target { IfOk result (λ reply. AsksBelow (length targets.now) self.old.session → IsBelow (length targets.now) reply self.new) }
+        ensures values { IfOk result (λ reply. AreInRange self.old.values → AreInRange self.new.values × BeginsInRange reply) }
         ensures err { OnErr result (self.new ≡ self.old) }
     {
         if let Some(refusal) = self.refusal_of_request(request) {

@@ -6,7 +6,7 @@ ghost use Rattle.iscsi_login.specs.LoginState.{opening_of};
 use iscsi_pdu::Header;
 
 /// What the first request sets (RFC 7143 §11.12.5 to §11.12.8).
-#[derive(Clone, Copy, Debug, PartialEq, Eq)]
+#[derive(Clone, Copy)]
 pub struct Opening {
     pub isid: [u8; 6],
     pub tsih: u16,

@@ -1,15 +1,15 @@
 //! What a Login request is answered.
 
 use crate::params::Params;
-use iscsi_pdu::Answer;
+use iscsi_pdu::LoginResponse;
 
 /// The reply to a Login request.
 #[derive(Debug, Drop)]
 pub enum Reply {
     /// The login goes on with another request.
-    GoOn(Answer),
+    GoOn(LoginResponse),
     /// Full feature phase begins.
-    Full(Answer, Params),
+    Full(LoginResponse, Params),
     /// The login is over, and the connection is to be closed.
-    Refused(Answer),
+    Refused(LoginResponse),
 }

@@ -1,5 +1,5 @@
--- The bytes of answers to a login, to a refused login and to commands, computed.
-use Rattle.std.specs.Prelude.{◌≡◌, ℕ, List, [], ◌∷◌, ◌++◌, Some, None, codes, refl}
+-- The bytes of answers to a login, to a refused login and to commands, and of their data, computed.
+use Rattle.std.specs.Prelude.{◌≡◌, ℕ, List, [], ◌∷◌, ◌++◌, Some, None, true, codes, refl}
 use Rattle.iscsi_pdu.specs.declared.answer.Answer.TheVariants as answers
 use Rattle.iscsi_pdu.specs.declared.login_response.LoginRefusal.TheVariants as refusals
 use Rattle.iscsi_pdu.specs.declared.login_response.LoginReply.TheVariants as replies
@@ -101,3 +101,22 @@ underflow_spelled : spelling (answers.ScsiResponse (record {
     0x00 ∷ 0x00 ∷ 0x00 ∷ 0x03 ∷ 0x00 ∷ 0x00 ∷ 0x00 ∷ 0x00 ∷ 0x00 ∷ 0x00 ∷ 0x00 ∷ 0x02 ∷ 0x00 ∷ 0x00 ∷ 0x00 ∷ 0x7d ∷
     0x00 ∷ 0x00 ∷ 0x00 ∷ 0x9c ∷ 0x00 ∷ 0x00 ∷ 0x00 ∷ 0x07 ∷ 0x00 ∷ 0x00 ∷ 0x00 ∷ 0x00 ∷ 0x00 ∷ 0x00 ∷ 0x01 ∷ 0x02 ∷ []
 underflow_spelled = refl
+
+-- the second of a command's pieces, six bytes from the 4096th on, the last of its burst; two pad bytes
+abbrev data_in : List ℕ
+data_in =
+    0x25 ∷ 0x80 ∷ 0x00 ∷ 0x00 ∷ 0x00 ∷ 0x00 ∷ 0x00 ∷ 0x06 ∷ 0x00 ∷ 0x00 ∷ 0x00 ∷ 0x00 ∷ 0x00 ∷ 0x00 ∷ 0x00 ∷ 0x00 ∷
+    0x00 ∷ 0x00 ∷ 0x00 ∷ 0x04 ∷ 0xff ∷ 0xff ∷ 0xff ∷ 0xff ∷ 0x00 ∷ 0x00 ∷ 0x00 ∷ 0x00 ∷ 0x00 ∷ 0x00 ∷ 0x00 ∷ 0x7e ∷
+    0x00 ∷ 0x00 ∷ 0x00 ∷ 0x9d ∷ 0x00 ∷ 0x00 ∷ 0x00 ∷ 0x01 ∷ 0x00 ∷ 0x00 ∷ 0x10 ∷ 0x00 ∷ 0x00 ∷ 0x00 ∷ 0x00 ∷ 0x00 ∷
+    0x61 ∷ 0x62 ∷ 0x63 ∷ 0x64 ∷ 0x65 ∷ 0x66 ∷ 0x00 ∷ 0x00 ∷ []
+
+data_in_spelled : spelling (answers.DataIn (record {
+  is_final = true;
+  initiator_task_tag = 4;
+  exp_cmd_sn = 126;
+  max_cmd_sn = 157;
+  data_sn = 1;
+  buffer_offset = 4096;
+  body = codes "abcdef";
+})) ≡ data_in
+data_in_spelled = refl

@@ -10,6 +10,7 @@ pub mod Stamp
 pub mod ScsiResponse
 pub mod AcceptedLogin
 pub mod LoginResponse
+pub mod DataIn
 pub mod Answer
 pub mod ExamplesHeader
 pub mod ExamplesFrames

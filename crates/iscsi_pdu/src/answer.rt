@@ -2,6 +2,7 @@
 
 ghost use Rattle.std.specs.Prelude.{◌≡◌, ◌+◌, ◌<◌, ◌≤◌, ◌++◌, length, IfErr, OnOk, OnErr};
 
+use crate::data_in::DataIn;
 use crate::fault::PduFault;
 use crate::login_response::LoginResponse;
 use crate::scsi_response::{ScsiResponse, sense_segment};
@@ -10,14 +11,16 @@ use bytes::BytesMut;
 
 /// What the target sends.
 #[derive(Debug, Drop)]
-pub enum Answer {
+pub enum Answer<'a> {
     /// 21h SCSI Response
     ScsiResponse(ScsiResponse),
     /// 23h Login Response
     LoginResponse(LoginResponse),
+    /// 25h SCSI Data-In
+    DataIn(DataIn<'a>),
 }
 
-impl Answer {
+impl<'a> Answer<'a> {
     ghost use Rattle.iscsi_pdu.specs.Answer.{spelling};
     ghost use Rattle.iscsi_pdu.specs.Header.{header_length};
     ghost use Rattle.iscsi_pdu.specs.Segment.{most_data};
@@ -30,6 +33,7 @@ impl Answer {
         match self {
             Answer::ScsiResponse(response) => response.length(),
             Answer::LoginResponse(response) => response.length(),
+            Answer::DataIn(piece) => piece.length(),
         }
     }
 
@@ -52,6 +56,7 @@ impl Answer {
             Answer::LoginResponse(response) => {
                 put(out, &response.header(), response.reply.text())
             }
+            Answer::DataIn(piece) => put(out, &piece.header(), piece.segment()),
         }
     }
 }

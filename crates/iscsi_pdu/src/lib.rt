@@ -19,6 +19,7 @@
 #![tactic(auto)]
 
 mod answer;
+mod data_in;
 mod fault;
 mod frame;
 mod framer;
@@ -33,6 +34,7 @@ mod stage;
 mod stamp;
 
 pub use answer::Answer;
+pub use data_in::DataIn;
 pub use fault::PduFault;
 pub use frame::Frame;
 pub use framer::Framer;

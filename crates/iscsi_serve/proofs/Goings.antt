@@ -86,14 +86,11 @@ free_write s m log target c lt at e = no_write s m log target c lt at (ap (λ (b
 pub empty_write : (s : Setting) (m : Moment) (log : List Entry) (target : Machine) (c : ℕ) → c < connection_limit → IsAt s m log target → (link_at target c).waiting ≡ [] → Writes s c m m
 empty_write s m log target c lt at e = no_write s m log target c lt at (ap (λ (waiting : List ℕ). is_open_at target c && nat_lt 0 (length waiting)) e ∙ and_false (is_open_at target c))
 
-due_write : (s : Setting) (m : Moment) (log : List Entry) (target : Machine) (c : ℕ) (offered more : List ℕ) → c < connection_limit → IsAt s m log target → is_open_at target c ≡ true → (link_at target c).waiting ≡ offered ++ more → 0 < length offered
+due_write : (s : Setting) (m : Moment) (log : List Entry) (target : Machine) (c : ℕ) (offered : List ℕ) → c < connection_limit → IsAt s m log target → is_open_at target c ≡ true → (link_at target c).waiting ≡ offered → 0 < length offered
     → is_written (link_in s m c) ≡ true
-due_write s m log target c offered more lt at is_open_ waiting some =
+due_write s m log target c offered lt at is_open_ waiting some =
     link_is is_written s m log target c true lt at
-    (ap (λ (b : Bool). b && nat_lt 0 (length (link_at target c).waiting)) is_open_ ∙ ap (λ (waiting : List ℕ). nat_lt 0 (length waiting)) waiting ∙ some_behind offered more some)
-  where
-    some_behind : (offered more : List ℕ) → 0 < length offered → nat_lt 0 (length (offered ++ more)) ≡ true
-    some_behind offered more some = lt-ltb 0 (length (offered ++ more)) (omega (arith, some, length-append offered more))
+    (ap (λ (b : Bool). b && nat_lt 0 (length (link_at target c).waiting)) is_open_ ∙ ap (λ (waiting : List ℕ). nat_lt 0 (length waiting)) waiting ∙ lt-ltb 0 (length offered) some)
 
 nothing_more : (xs : List ℕ) → xs ≡ xs ++ []
 nothing_more xs = sym (append-nil xs)
@@ -101,40 +98,44 @@ nothing_more xs = sym (append-nil xs)
 take_front : (n : ℕ) (xs : List ℕ) → (more : List ℕ) × (xs ≡ take n xs ++ more)
 take_front n xs = (drop n xs, sym (take-append-drop n xs))
 
+-- all that waits was offered, and this is what came of it
+has_written : (s : Setting) (m : Moment) (log : List Entry) (target : Machine) (c : ℕ) (offered unwritten : List ℕ) (carried : Carried) → c < connection_limit → IsAt s m log target → is_open_at target c ≡ true
+    → (link_at target c).waiting ≡ offered → 0 < length offered → offered ≡ piece_in carried ++ unwritten → Writes s c m (told (Wrote c (length offered) carried) m)
+has_written s m log target c offered unwritten carried lt at open_ waiting some front =
+    let n : Moment = told (Wrote c (length offered) carried) m in
+    let does : HasWritten c (link_in s m c).waiting m n =
+    subst (λ (bytes : List ℕ). HasWritten c bytes m n) (sym (link_is (λ link. link.waiting) s m log target c offered lt at waiting)) (carried, unwritten, front, refl) in
+    where_due (is_written (link_in s m c)) (HasWritten c (link_in s m c).waiting m n) (n ≡ m) (due_write s m log target c offered lt at open_ waiting some) does
+
 -- bytes were written
-pub write_some : (s : Setting) (m : Moment) (log after : List Entry) (target then_ : Machine) (ended : List Bool) (c n : ℕ) (offered more : List ℕ) → c < connection_limit → IsAt s m log target → AreEnded ended m.turn → is_open_at target c ≡ true
-    → (link_at target c).waiting ≡ offered ++ more → 0 < length offered → n ≤ length offered → after ≡ log ++ Wrote c (length offered) (Bytes (take n offered)) ∷ []
+pub write_some : (s : Setting) (m : Moment) (log after : List Entry) (target then_ : Machine) (ended : List Bool) (c n : ℕ) (offered : List ℕ) → c < connection_limit → IsAt s m log target → AreEnded ended m.turn → is_open_at target c ≡ true
+    → (link_at target c).waiting ≡ offered → 0 < length offered → n ≤ length offered → after ≡ log ++ Wrote c (length offered) (Bytes (take n offered)) ∷ []
     → ((s : Setting) (sent : ℕ → ℕ) (h : History) → Stands s sent target h → Stands s (with_sent sent c (sent c + n)) then_ h) → Gone (λ s. Writes s c) s m after then_ ended
-write_some s m log after target then_ ended c n offered more lt at are open_ waiting some le e stands =
+write_some s m log after target then_ ended c n offered lt at are open_ waiting some le e stands =
     let piece = take n offered in
     let entry : Entry = Wrote c (length offered) (Bytes piece) in
     let front = take_front n offered in
     let there = is_open_there s (sent_by (log_of m)) (world s m.history) target c lt at.served.stands open_ in
     let count : n ≡ length piece = sym (length-take-le n offered le) in
-    let whole : (link_at target c).waiting ≡ piece ++ (front.0 ++ more) = waiting ∙ ap (λ (bytes : List ℕ). bytes ++ more) front.1 ∙ append_assoc piece front.0 more in
     let now : IsServed s m.history (log_of m ++ entry ∷ []) then_ =
-    wrote_served s m.history (log_of m) target then_ c (length offered) piece (front.0 ++ more) there.0 lt there.1 whole at.served
+    wrote_served s m.history (log_of m) target then_ c (length offered) piece front.0 there.0 lt there.1 (waiting ∙ front.1) at.served
     (subst (λ (n : ℕ). Stands s (with_sent (sent_by (log_of m)) c (sent_by (log_of m) c + n)) then_ m.history) count (stands s (sent_by (log_of m)) m.history at.served.stands)) in
     let n_at : IsAt s (told entry m) after then_ = record {
       logged = entry_logged m log after entry at.logged e;
       served = subst (λ (log : List Entry). IsServed s m.history log then_) (append_assoc m.before m.turn (entry ∷ [])) now;
     } in
-    let does : HasWritten c (link_in s m c).waiting m (told entry m) =
-    (offered, more, link_is (λ link. link.waiting) s m log target c (offered ++ more) lt at waiting, some, (Bytes piece, front.0, front.1, refl)) in
-    (told entry m, n_at, ended_same ended m.turn entry (λ d. and_false (eqb c d)) are, where_due (is_written (link_in s m c)) (HasWritten c (link_in s m c).waiting m (told entry m)) (told entry m ≡ m) (due_write s m log target c offered more lt at open_ waiting some) does)
+    (told entry m, n_at, ended_same ended m.turn entry (λ d. and_false (eqb c d)) are, has_written s m log target c offered front.0 (Bytes piece) lt at open_ waiting some front.1)
 
 -- the write told an end or a fault
-pub write_failed : (s : Setting) (m : Moment) (log after : List Entry) (target : Machine) (ended : List Bool) (c : ℕ) (carried : Carried) (offered more : List ℕ) → c < connection_limit → IsAt s m log target → AreEnded ended m.turn → length ended ≡ 64 → is_open_at target c ≡ true
-    → (link_at target c).waiting ≡ offered ++ more → 0 < length offered → is_end carried ≡ true → piece_in carried ≡ [] → ((rows : List Written) → written_after rows (Wrote c (length offered) carried) ≡ rows)
+pub write_failed : (s : Setting) (m : Moment) (log after : List Entry) (target : Machine) (ended : List Bool) (c : ℕ) (carried : Carried) (offered : List ℕ) → c < connection_limit → IsAt s m log target → AreEnded ended m.turn → length ended ≡ 64 → is_open_at target c ≡ true
+    → (link_at target c).waiting ≡ offered → 0 < length offered → is_end carried ≡ true → piece_in carried ≡ [] → ((rows : List Written) → written_after rows (Wrote c (length offered) carried) ≡ rows)
     → after ≡ log ++ Wrote c (length offered) carried ∷ [] → Gone (λ s. Writes s c) s m after target (set ended c true)
-write_failed s m log after target ended c carried offered more lt at are len open_ waiting some over none silent e =
-    let entry : Entry = Wrote c (length offered) carried in
-    let does : HasWritten c (link_in s m c).waiting m (told entry m) =
-    (offered, more, link_is (λ link. link.waiting) s m log target c (offered ++ more) lt at waiting, some, (carried, offered, ap (λ (piece : List ℕ). piece ++ offered) (sym none), refl)) in (
+write_failed s m log after target ended c carried offered lt at are len open_ waiting some over none silent e =
+    let entry : Entry = Wrote c (length offered) carried in (
       told entry m,
       quiet s m log after target entry refl silent at e,
       ended_now ended m.turn entry c len lt (λ d. and_so (eqb c d) (is_end carried) over) are,
-      where_due (is_written (link_in s m c)) (HasWritten c (link_in s m c).waiting m (told entry m)) (told entry m ≡ m) (due_write s m log target c offered more lt at open_ waiting some) does,
+      has_written s m log target c offered offered carried lt at open_ waiting some (ap (λ (piece : List ℕ). piece ++ offered) (sym none)),
     )
 
 -- ---- reads

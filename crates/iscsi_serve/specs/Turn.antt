@@ -91,11 +91,10 @@ Reads s named c m n = IfElse (is_read named c (link_in s m c)) (HasRead s c (roo
 abbrev pub is_written : LinkState → Bool
 is_written link = is_open link && nat_lt 0 (length link.waiting)
 
--- a front of what waits was offered, and a front of that was written
+-- all that waits was offered, and a front of it was written
 abbrev pub HasWritten : ℕ → List ℕ → Moment → Moment → Type 0
 HasWritten c waiting m n =
-    (offered : List ℕ) × (unoffered : List ℕ) × (waiting ≡ offered ++ unoffered) × (0 < length offered)
-    × ((carried : Carried) × (unwritten : List ℕ) × (offered ≡ piece_in carried ++ unwritten) × (n ≡ told (Wrote c (length offered) carried) m))
+    (carried : Carried) × (unwritten : List ℕ) × (waiting ≡ piece_in carried ++ unwritten) × (n ≡ told (Wrote c (length waiting) carried) m)
 
 -- one write where it is due, and otherwise none
 abbrev pub Writes : Setting → ℕ → Moment → Moment → Type 0

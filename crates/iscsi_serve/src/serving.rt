@@ -4,7 +4,7 @@ ghost use Rattle.std.specs.Prelude.{◌≡◌, ◌⊎◌, ◌<◌, ◌≤◌, �
 ghost use Rattle.iscsi_target.specs.History.{History, Mark, Bytes, marked, connections};
 ghost use Rattle.iscsi_target.specs.World.{Setting, present, world};
 ghost use Rattle.iscsi_target.specs.Stands.{Stands, IsStarved};
-ghost use Rattle.iscsi_target.specs.Machine.{link_at, is_open_at, is_closing};
+ghost use Rattle.iscsi_target.specs.Machine.{IsSound, link_at, is_open_at, is_closing};
 ghost use Rattle.iscsi_serve.specs.Log.{AcceptFailed};
 ghost use Rattle.iscsi_serve.specs.Served.{IsServed};
 ghost use Rattle.iscsi_serve.specs.Turn.{Moment, log_of, beginning, told, HasAccepted, is_read, Accepts, Reads, Writes, Closes, Along, Carries, EndsTurn, EndsTurns};
@@ -15,12 +15,13 @@ use crate::fault::ServeFault;
 use crate::ports::Ports;
 use crate::told::{Accepted, CONNECTIONS, Named, PortFault, Told};
 use iscsi_target::{Starved, Target};
+use media_store::Store;
 
 /// A read has room for as many bytes at most.
 const MOST_READ: usize = 65_536;
 
 /// The lowest number that is free, or 64.
-fn free_number(target: &Target) -> usize
+fn free_number<S: Store>(target: &Target<S>) -> usize
     ensures value { result ≡ unwrap_or (find (λ c. not (is_open_at target.now c)) connections) 64 }
     ensures free { result < 64 → is_open_at target.now result ≡ false }
     ensures range { result ≤ 64 }
@@ -34,13 +35,14 @@ fn free_number(target: &Target) -> usize
 }
 
 /// Accepts a connection that waits, and closes it at once where no number is free for it.
-fn accept_one<P: Ports>(ports: &mut P, target: &mut Target) -> Result<(), ServeFault>
-    ensures ok { OnOk result (P.tells ports.new ≡ true → (s : Setting) (m : Moment) → IsAt s m (P.log ports.old) target.old
+fn accept_one<P: Ports, S: Store>(ports: &mut P, target: &mut Target<S>) -> Result<(), ServeFault>
+    ensures ok { OnOk result (P.tells ports.new ≡ true → IsSound target.new → (s : Setting) (m : Moment) → IsAt s m (P.log ports.old) target.old
         → (n : Moment) × IsAt s n (P.log ports.new) target.new × HasAccepted s m n) }
     ensures err { IfErr result (λ fault. fault ≡ ServeFault.Accept) }
-    ensures failed { IfErr result (λ _. P.tells ports.new ≡ true → (s : Setting) (m : Moment) → IsAt s m (P.log ports.old) target.old
+    ensures failed { IfErr result (λ _. P.tells ports.new ≡ true → IsSound target.new → (s : Setting) (m : Moment) → IsAt s m (P.log ports.old) target.old
         → IsAt s (told AcceptFailed m) (P.log ports.new) target.new) }
     ensures back { P.tells ports.new ≡ true → P.tells ports.old ≡ true }
+    ensures sound { IsSound target.new → IsSound target.old }
 {
     let c = free_number(target);
     match ports.accept(c) {
@@ -58,11 +60,12 @@ fn accept_one<P: Ports>(ports: &mut P, target: &mut Target) -> Result<(), ServeF
 }
 
 /// Feeds a connection. Where an allocation fails it is closing from then on, and the others go on.
-fn feed(target: &mut Target, c: usize, piece: &[u8])
+fn feed<S: Store>(target: &mut Target<S>, c: usize, piece: &[u8])
     requires in_range { c < 64 }
     requires open { is_open_at target.old c ≡ true }
-    ensures { (s : Setting) (sent : ℕ → ℕ) (h : History) → Stands s sent target.old h
+    ensures stands { IsSound target.new → (s : Setting) (sent : ℕ → ℕ) (h : History) → Stands s sent target.old h
         → (marks : List Mark) × ((marks ≡ []) ⊎ IsStarved c (present c (world s h)) piece.now marks) × Stands s sent target.new (h ++ marked marks (Bytes c piece.now) ∷ []) }
+    ensures sound { IsSound target.new → IsSound target.old }
 {
     match target.feed(c, piece) {
         Ok(()) => {}
@@ -71,7 +74,7 @@ fn feed(target: &mut Target, c: usize, piece: &[u8])
 }
 
 /// How many bytes to read of a connection: none where no read is due.
-fn room_for(target: &Target, named: &Named, c: usize) -> usize
+fn room_for<S: Store>(target: &Target<S>, named: &Named, c: usize) -> usize
     requires { c < 64 }
     ensures none { result ≡ 0 → is_read named.now c (link_at target.now c) ≡ false }
     ensures due { 0 < result → IsDue named.now c result target.now }
@@ -84,17 +87,18 @@ fn room_for(target: &Target, named: &Named, c: usize) -> usize
 }
 
 /// Reads a piece of a connection and feeds it.
-fn read_piece<P: Ports>(
+fn read_piece<P: Ports, S: Store>(
     ports: &mut P,
-    target: &mut Target,
+    target: &mut Target<S>,
     piece: &mut [u8],
     ended: &mut [bool; CONNECTIONS],
     c: usize,
 )
     requires in_range { c < 64 }
     requires open { is_open_at target.old c ≡ true }
-    ensures goes { P.tells ports.new ≡ true → (named : Named) → IsDue named c (length piece.old) target.old → Goes (λ s. Reads s named c) (P.log ports.old) (P.log ports.new) target.old target.new ended.old ended.new }
+    ensures goes { P.tells ports.new ≡ true → IsSound target.new → (named : Named) → IsDue named c (length piece.old) target.old → Goes (λ s. Reads s named c) (P.log ports.old) (P.log ports.new) target.old target.new ended.old ended.new }
     ensures back { P.tells ports.new ≡ true → P.tells ports.old ≡ true }
+    ensures sound { IsSound target.new → IsSound target.old }
 {
     match ports.read(c, piece) {
         Told::Bytes(0) => {}
@@ -104,17 +108,18 @@ fn read_piece<P: Ports>(
 }
 
 /// Reads what is due on a connection.
-fn read_one<P: Ports>(
+fn read_one<P: Ports, S: Store>(
     ports: &mut P,
-    target: &mut Target,
+    target: &mut Target<S>,
     named: &Named,
     buffer: &mut [u8; MOST_READ],
     ended: &mut [bool; CONNECTIONS],
     c: usize,
 )
     requires { c < 64 }
-    ensures goes { P.tells ports.new ≡ true → Goes (λ s. Reads s named.now c) (P.log ports.old) (P.log ports.new) target.old target.new ended.old ended.new }
+    ensures goes { P.tells ports.new ≡ true → IsSound target.new → Goes (λ s. Reads s named.now c) (P.log ports.old) (P.log ports.new) target.old target.new ended.old ended.new }
     ensures back { P.tells ports.new ≡ true → P.tells ports.old ≡ true }
+    ensures sound { IsSound target.new → IsSound target.old }
 {
     let room = room_for(target, named, c);
     if room > 0 {
@@ -123,15 +128,16 @@ fn read_one<P: Ports>(
 }
 
 /// Writes what waits on a connection, as far as it is taken.
-fn write_one<P: Ports>(
+fn write_one<P: Ports, S: Store>(
     ports: &mut P,
-    target: &mut Target,
+    target: &mut Target<S>,
     ended: &mut [bool; CONNECTIONS],
     c: usize,
 )
     requires { c < 64 }
-    ensures goes { P.tells ports.new ≡ true → Goes (λ s. Writes s c) (P.log ports.old) (P.log ports.new) target.old target.new ended.old ended.new }
+    ensures goes { P.tells ports.new ≡ true → IsSound target.new → Goes (λ s. Writes s c) (P.log ports.old) (P.log ports.new) target.old target.new ended.old ended.new }
     ensures back { P.tells ports.new ≡ true → P.tells ports.old ≡ true }
+    ensures sound { IsSound target.new → IsSound target.old }
 {
     if !target.is_open(c) {
         return;
@@ -147,7 +153,7 @@ fn write_one<P: Ports>(
 }
 
 /// The connection has ended, or the target has closed it and nothing waits on it.
-fn is_done(target: &Target, ended: &[bool; CONNECTIONS], c: usize) -> bool
+fn is_done<S: Store>(target: &Target<S>, ended: &[bool; CONNECTIONS], c: usize) -> bool
     requires in_range { c < 64 }
     requires open { is_open_at target.now c ≡ true }
     ensures { result ≡ (slice_index_or ended.now c false || is_closing (link_at target.now c).phase && length (link_at target.now c).waiting == 0) }
@@ -156,10 +162,16 @@ fn is_done(target: &Target, ended: &[bool; CONNECTIONS], c: usize) -> bool
 }
 
 /// Closes a connection that has ended, or that the target has closed and on which nothing waits.
-fn close_one<P: Ports>(ports: &mut P, target: &mut Target, ended: &[bool; CONNECTIONS], c: usize)
+fn close_one<P: Ports, S: Store>(
+    ports: &mut P,
+    target: &mut Target<S>,
+    ended: &[bool; CONNECTIONS],
+    c: usize,
+)
     requires { c < 64 }
-    ensures goes { P.tells ports.new ≡ true → Goes (λ s. Closes s c) (P.log ports.old) (P.log ports.new) target.old target.new ended.now ended.now }
+    ensures goes { P.tells ports.new ≡ true → IsSound target.new → Goes (λ s. Closes s c) (P.log ports.old) (P.log ports.new) target.old target.new ended.now ended.now }
     ensures back { P.tells ports.new ≡ true → P.tells ports.old ≡ true }
+    ensures sound { IsSound target.new → IsSound target.old }
 {
     if !target.is_open(c) {
         return;
@@ -171,15 +183,16 @@ fn close_one<P: Ports>(ports: &mut P, target: &mut Target, ended: &[bool; CONNEC
 }
 
 /// All reads that are due.
-fn read_all<P: Ports>(
+fn read_all<P: Ports, S: Store>(
     ports: &mut P,
-    target: &mut Target,
+    target: &mut Target<S>,
     named: &Named,
     buffer: &mut [u8; MOST_READ],
     ended: &mut [bool; CONNECTIONS],
 )
-    ensures goes { P.tells ports.new ≡ true → Goes (λ s. Along (Reads s named.now) connections) (P.log ports.old) (P.log ports.new) target.old target.new ended.old ended.new }
+    ensures goes { P.tells ports.new ≡ true → IsSound target.new → Goes (λ s. Along (Reads s named.now) connections) (P.log ports.old) (P.log ports.new) target.old target.new ended.old ended.new }
     ensures back { P.tells ports.new ≡ true → P.tells ports.old ≡ true }
+    ensures sound { IsSound target.new → IsSound target.old }
 {
     for c in 0..CONNECTIONS {
         read_one(ports, target, named, buffer, ended, c);
@@ -187,9 +200,14 @@ fn read_all<P: Ports>(
 }
 
 /// All writes that are due.
-fn write_all<P: Ports>(ports: &mut P, target: &mut Target, ended: &mut [bool; CONNECTIONS])
-    ensures goes { P.tells ports.new ≡ true → Goes (λ s. Along (Writes s) connections) (P.log ports.old) (P.log ports.new) target.old target.new ended.old ended.new }
+fn write_all<P: Ports, S: Store>(
+    ports: &mut P,
+    target: &mut Target<S>,
+    ended: &mut [bool; CONNECTIONS],
+)
+    ensures goes { P.tells ports.new ≡ true → IsSound target.new → Goes (λ s. Along (Writes s) connections) (P.log ports.old) (P.log ports.new) target.old target.new ended.old ended.new }
     ensures back { P.tells ports.new ≡ true → P.tells ports.old ≡ true }
+    ensures sound { IsSound target.new → IsSound target.old }
 {
     for c in 0..CONNECTIONS {
         write_one(ports, target, ended, c);
@@ -197,9 +215,10 @@ fn write_all<P: Ports>(ports: &mut P, target: &mut Target, ended: &mut [bool; CO
 }
 
 /// All closes that are due.
-fn close_all<P: Ports>(ports: &mut P, target: &mut Target, ended: &[bool; CONNECTIONS])
-    ensures goes { P.tells ports.new ≡ true → Goes (λ s. Along (Closes s) connections) (P.log ports.old) (P.log ports.new) target.old target.new ended.now ended.now }
+fn close_all<P: Ports, S: Store>(ports: &mut P, target: &mut Target<S>, ended: &[bool; CONNECTIONS])
+    ensures goes { P.tells ports.new ≡ true → IsSound target.new → Goes (λ s. Along (Closes s) connections) (P.log ports.old) (P.log ports.new) target.old target.new ended.now ended.now }
     ensures back { P.tells ports.new ≡ true → P.tells ports.old ≡ true }
+    ensures sound { IsSound target.new → IsSound target.old }
 {
     for c in 0..CONNECTIONS {
         close_one(ports, target, ended, c);
@@ -207,17 +226,18 @@ fn close_all<P: Ports>(ports: &mut P, target: &mut Target, ended: &[bool; CONNEC
 }
 
 /// Accepts one connection where the listener was named.
-fn accept_named<P: Ports>(
+fn accept_named<P: Ports, S: Store>(
     ports: &mut P,
-    target: &mut Target,
+    target: &mut Target<S>,
     named: &Named,
 ) -> Result<(), ServeFault>
-    ensures ok { OnOk result (P.tells ports.new ≡ true → (s : Setting) (m : Moment) → IsAt s m (P.log ports.old) target.old
+    ensures ok { OnOk result (P.tells ports.new ≡ true → IsSound target.new → (s : Setting) (m : Moment) → IsAt s m (P.log ports.old) target.old
         → (n : Moment) × IsAt s n (P.log ports.new) target.new × Accepts s named.now m n) }
     ensures err { IfErr result (λ fault. (fault ≡ ServeFault.Accept) × (named.now.listener ≡ true)) }
-    ensures failed { IfErr result (λ _. P.tells ports.new ≡ true → (s : Setting) (m : Moment) → IsAt s m (P.log ports.old) target.old
+    ensures failed { IfErr result (λ _. P.tells ports.new ≡ true → IsSound target.new → (s : Setting) (m : Moment) → IsAt s m (P.log ports.old) target.old
         → IsAt s (told AcceptFailed m) (P.log ports.new) target.new) }
     ensures back { P.tells ports.new ≡ true → P.tells ports.old ≡ true }
+    ensures sound { IsSound target.new → IsSound target.old }
 {
     if !named.listener {
         return Ok(());
@@ -226,10 +246,16 @@ fn accept_named<P: Ports>(
 }
 
 /// All reads, writes and closes that are due, in this order.
-fn carry<P: Ports>(ports: &mut P, target: &mut Target, named: &Named, buffer: &mut [u8; MOST_READ])
-    ensures carries { P.tells ports.new ≡ true → (s : Setting) (m : Moment) → IsAt s m (P.log ports.old) target.old → HasNoEnd m.turn
+fn carry<P: Ports, S: Store>(
+    ports: &mut P,
+    target: &mut Target<S>,
+    named: &Named,
+    buffer: &mut [u8; MOST_READ],
+)
+    ensures carries { P.tells ports.new ≡ true → IsSound target.new → (s : Setting) (m : Moment) → IsAt s m (P.log ports.old) target.old → HasNoEnd m.turn
         → (n : Moment) × IsAt s n (P.log ports.new) target.new × Carries s named.now m n }
     ensures back { P.tells ports.new ≡ true → P.tells ports.old ≡ true }
+    ensures sound { IsSound target.new → IsSound target.old }
 {
     let mut ended = [false; CONNECTIONS];
     read_all(ports, target, named, buffer, &mut ended);
@@ -238,14 +264,15 @@ fn carry<P: Ports>(ports: &mut P, target: &mut Target, named: &Named, buffer: &m
 }
 
 /// A turn that reads into this buffer.
-fn turn_with<P: Ports>(
+fn turn_with<P: Ports, S: Store>(
     ports: &mut P,
-    target: &mut Target,
+    target: &mut Target<S>,
     buffer: &mut [u8; MOST_READ],
 ) -> Result<(), ServeFault>
-    ensures served { P.tells ports.new ≡ true → (s : Setting) (h : History) → IsServed s h (P.log ports.old) target.old
+    ensures served { P.tells ports.new ≡ true → IsSound target.new → (s : Setting) (h : History) → IsServed s h (P.log ports.old) target.old
         → (m : Moment) × (P.log ports.new ≡ log_of m) × IsServed s m.history (log_of m) target.new × EndsTurn s (beginning h (P.log ports.old)) result m }
     ensures back { P.tells ports.new ≡ true → P.tells ports.old ≡ true }
+    ensures sound { IsSound target.new → IsSound target.old }
 {
     let named = match ports.poll() {
         Ok(named) => named,
@@ -266,20 +293,26 @@ fn turn_with<P: Ports>(
 ///
 /// A fault comes only where the poll or the accept failed. A failed allocation closes one connection
 /// and is no fault.
-pub fn turn<P: Ports>(ports: &mut P, target: &mut Target) -> Result<(), ServeFault>
-    ensures served { P.tells ports.new ≡ true → (s : Setting) (h : History) → IsServed s h (P.log ports.old) target.old
+pub fn turn<P: Ports, S: Store>(ports: &mut P, target: &mut Target<S>) -> Result<(), ServeFault>
+    ensures served { P.tells ports.new ≡ true → IsSound target.new → (s : Setting) (h : History) → IsServed s h (P.log ports.old) target.old
         → (m : Moment) × (P.log ports.new ≡ log_of m) × IsServed s m.history (log_of m) target.new × EndsTurn s (beginning h (P.log ports.old)) result m }
     ensures back { P.tells ports.new ≡ true → P.tells ports.old ≡ true }
+    ensures sound { IsSound target.new → IsSound target.old }
 {
     let mut buffer = [0; MOST_READ];
     turn_with(ports, target, &mut buffer)
 }
 
 /// So many turns, or those up to the first fault.
-pub fn turns<P: Ports>(ports: &mut P, target: &mut Target, count: u64) -> Result<(), ServeFault>
-    ensures served { P.tells ports.new ≡ true → (s : Setting) (h : History) → IsServed s h (P.log ports.old) target.old
+pub fn turns<P: Ports, S: Store>(
+    ports: &mut P,
+    target: &mut Target<S>,
+    count: u64,
+) -> Result<(), ServeFault>
+    ensures served { P.tells ports.new ≡ true → IsSound target.new → (s : Setting) (h : History) → IsServed s h (P.log ports.old) target.old
         → (m : Moment) × (P.log ports.new ≡ log_of m) × IsServed s m.history (log_of m) target.new × EndsTurns s count (beginning h (P.log ports.old)) result m }
     ensures back { P.tells ports.new ≡ true → P.tells ports.old ≡ true }
+    ensures sound { IsSound target.new → IsSound target.old }
 {
     let mut buffer = [0; MOST_READ];
     for _ in 0..count {

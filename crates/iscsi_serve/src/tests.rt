@@ -2,14 +2,16 @@
 //! over a socket.
 
 use crate::{Carried, Entry, MemPorts, MioPorts, Script, Step, turn, turns};
-use iscsi_target::{Config, LogicalUnit, Memory, Target, Units};
-use scsi_cdb::Kind;
-use std::alloc::{AllocError, Global};
+use iscsi_target::{Config, Target, Unit, Units};
+use media_block::{BLOCK_LENGTH, Disk, NotOpened};
+use media_store::MemStore;
+use std::alloc::{AllocError, AllocFailed, Global};
 use std::collections::VecDeque;
 use std::io::{Read, Write};
 use std::net::TcpStream;
 use std::test::Fail;
 use std::time::Duration;
+use thiserror::Error;
 
 /// A login of the initiator `a` to the target `t1`, and two TEST UNIT READYs.
 const REQUESTS: [u8; 176] = [
@@ -50,21 +52,59 @@ const ANSWERS: [u8; 220] = [
 /// Where the TSIH, which is the number of the connection and one, ends in the answer to the login.
 const TSIH: usize = 15;
 
-/// A target `t1` with a disk.
-fn target(alloc: Global) -> Result<Target, Memory> {
+/// Why there is no target.
+#[derive(Clone, Copy, Debug, Error)]
+enum NoTarget {
+    #[error("out of memory")]
+    Memory,
+    #[error("the disk was not opened")]
+    Disk,
+}
+
+impl From<AllocError> for NoTarget {
+    fn from(_e: AllocError) -> NoTarget {
+        NoTarget::Memory
+    }
+}
+
+impl<T: Drop> From<AllocFailed<T>> for NoTarget {
+    fn from(_e: AllocFailed<T>) -> NoTarget {
+        NoTarget::Memory
+    }
+}
+
+impl From<scsi_unit::Memory> for NoTarget {
+    fn from(_e: scsi_unit::Memory) -> NoTarget {
+        NoTarget::Memory
+    }
+}
+
+impl From<iscsi_target::Memory> for NoTarget {
+    fn from(_e: iscsi_target::Memory) -> NoTarget {
+        NoTarget::Memory
+    }
+}
+
+impl From<NotOpened<MemStore>> for NoTarget {
+    fn from(_e: NotOpened<MemStore>) -> NoTarget {
+        NoTarget::Disk
+    }
+}
+
+/// A target `t1` with a disk of one block.
+fn target(alloc: Global) -> Result<Target<MemStore>, NoTarget> {
     let mut targets = Vec::new(alloc);
     targets.push(String::from_str(alloc, "t1")?)?;
-    let disk = LogicalUnit {
-        lun: 0,
-        kind: Kind::Disk,
-    };
+    let store = MemStore::new(alloc, BLOCK_LENGTH, BLOCK_LENGTH)?;
+    let mut disks = Vec::new(alloc);
+    disks.push(Unit::disk(alloc, 0, String::from_str(alloc, "D0")?, Disk::open(store)?))?;
     let mut units = Vec::new(alloc);
-    units.push(Units::new(alloc, &[disk])?)?;
+    units.push(Units::new(alloc, disks)?)?;
     let config = Config {
         listen: String::new(alloc),
         targets,
     };
-    Target::new(alloc, config, units)
+    Ok(Target::new(alloc, config, units)?)
 }
 
 /// An initiator of this name whose calls go as they can, but for these.

@@ -1,18 +1,17 @@
 -- A frame does to the World what it does to the code.
 use Rattle.std.proofs.Common.{◌≡◌, ℕ, ◌+◌, List, [], ◌∷◌, ◌++◌, length, Bool, true, false, cond, not, ◌&&◌, eqb, Option, Some, None, refl, sym, ap, ◌∙◌, subst, arith}
-use Rattle.std.specs.Prelude.{fold, slice_index_or, slice_set}
+use Rattle.std.specs.Prelude.{fold, flat_map, slice_index_or, slice_set}
 use Rattle.std.proofs.lemmas.Bool.{eqb-true}
-use Rattle.std.proofs.lemmas.List.{append-nil, length-append}
+use Rattle.std.proofs.lemmas.List.{length-append}
 use Rattle.iscsi_pdu.specs.Header.{opcode_number, is_immediate, cmd_sn, initiator_task_tag}
 use Rattle.iscsi_pdu.specs.ScsiCommand.{is_write}
 use Rattle.iscsi_pdu.specs.Frames.{Frame}
 use Rattle.iscsi_pdu.specs.Answer.{spelling}
-use Rattle.iscsi_pdu.specs.declared.answer.Answer.{Answer}
 use Rattle.iscsi_pdu.specs.declared.stamp.Stamp.{Stamp}
 use Rattle.iscsi_login.specs.Login.{remembered as remembered_of}
 use Rattle.iscsi_target.specs.History.{Mark, Judging, Taking, Doing, Whole}
 use Rattle.iscsi_target.specs.Life.{Life, Phase, LoggingIn, FullFeature, Closing, Over, Accepted, reads, session_in, stamp, index_of, out_of}
-use Rattle.iscsi_target.specs.Acts.{is_login, reserved_tag, verdict, carried_out, scsi_answer}
+use Rattle.iscsi_target.specs.Acts.{is_login, reserved_tag, verdict, carried_out, command_answers}
 use Rattle.iscsi_target.specs.World.{Setting, World, log_in, is_present, present, changed, reads_life, session_of, close, take_step, accepted, judged, verdict_for, judge, finished, done_for, finish, ready_in, settle, serve, enter, arrive, arrive_at, arrive_in}
 use Rattle.iscsi_target.specs.Machine.{LinkState, Machine, link_at, with_link, closed, logged_in, counted, finished_one, served_in, judged as machine_judged, frame_in, frame_taken}
 use Rattle.iscsi_target.specs.Stands.{phase_of, phase_for, IsQuiet, IsFinished, IsLogin}
@@ -22,7 +21,7 @@ use Rattle.iscsi_target.specs.declared.session.Verdict.TheVariants as verdicts
 use Rattle.iscsi_target.specs.declared.phase.Phase.TheVariants as remembered
 use Rattle.iscsi_target.proofs.Choices.{and_true, not_true}
 use Rattle.iscsi_target.proofs.Lives.{present-changed, present-changed_other, present-units, present_is}
-use Rattle.iscsi_target.proofs.Numbers.{stamp-answered, out-answered, index_next, ready_one, complete_unwritten, finished_numbers, finished_is}
+use Rattle.iscsi_target.proofs.Numbers.{stamp-answered, out-answered_all, one_bears, index_next, ready_one, complete_unwritten, finished_numbers, finished_is}
 use Rattle.iscsi_target.proofs.Serving.{Serves, IsServing, IsQuietAt, replaced, closes, present-close, says, step_done, step_idle, Unmarked}
 use Rattle.iscsi_target.proofs.LoggingIn.{logs_in}
 
@@ -74,7 +73,7 @@ stands_on c place frame life e = e
 
 -- the units are those from before
 unit_world : (c place : ℕ) (frame : Frame) (w : World) (command : Accepted) (session : Params) → done_for (Some session) c command (changed (accepted place frame) c w)
-    ≡ (let p = carried_out (slice_index_or w.units session.target []) session.nexus command.frame in record (changed (finished command p.1) c (changed (accepted place frame) c w)) { units = slice_set w.units session.target p.0 })
+    ≡ (let p = carried_out (slice_index_or w.units session.target []) session.nexus command.frame in record (changed (finished session.values command p.1) c (changed (accepted place frame) c w)) { units = slice_set w.units session.target p.0 })
 unfolding changed
 unit_world c place frame w command session = refl
 
@@ -94,29 +93,28 @@ does marks c place bytes s sent w machine life session frame h un at phase done 
     let next = index_next life frame (expected_number _ frame ok) in
     let all : ready_in (present c u) ≡ command ∷ [] = ap ready_in at_u ∙ ready_one place life frame done next (complete_unwritten place (index_of life frame) frame (writes_nothing _ frame ok)) in
     let p = carried_out (slice_index_or w.units session.target []) session.nexus frame in
-    let f = finished command p.1 l in
-    let v : World = record (changed (finished command p.1) c u) { units = slice_set w.units session.target p.0 } in
+    let f = finished session.values command p.1 l in
+    let v : World = record (changed (finished session.values command p.1) c u) { units = slice_set w.units session.target p.0 } in
     let in_session : session_of (present c u) ≡ Some session = ap session_of at_u ∙ ap session_in phase in
     let does_ : finish c command u ≡ v = ap (λ (o : Option Params). done_for o c command u) in_session ∙ unit_world c place frame w command session in
     let world : settle marks c (take_step marks c (Taking place) (λ x. x) u) ≡ v =
     ap (settle marks c) (step_done marks c (Taking place) (λ x. x) u reads_u un.taking)
     ∙ ap (λ (cs : List Accepted). fold (λ x next_. take_step marks c (Doing next_.place) (finish c next_) x) u cs) all
     ∙ step_done marks c (Doing place) (finish c command) u reads_u un.doing ∙ does_ in
-    let at_v : present c v ≡ Some f = present-units c v (changed (finished command p.1) c u) refl ∙ present-changed (finished command p.1) c u l at_u on in
+    let at_v : present c v ≡ Some f = present-units c v (changed (finished session.values command p.1) c u) refl ∙ present-changed (finished session.values command p.1) c u l at_u on in
     let over = record l { finished = l.finished ++ place ∷ [] } in
     let numbers : stamp over ≡ finished_one (stamp life) = finished_numbers place life frame done.numbered next in
     let here : IsServing s.names place bytes (sent c) (link_at machine c) (Some life) = rw at at h.here in
-    let answer = scsi_answer (stamp over) frame p.1 in
-    let same : answer ≡ scsi_answer (finished_one (stamp life)) frame p.1 = ap (λ (n : Stamp). scsi_answer n frame p.1) numbers in
-    let x = spelling (scsi_answer (finished_one (stamp life)) frame p.1) ++ [] in
+    let more = command_answers (stamp over) session.values frame p.1 in
+    let x = flat_map spelling (command_answers (finished_one (stamp life)) session.values frame p.1) in
     let out : out_of f ≡ out_of life ++ x =
-    out-answered over answer ∙ ap (λ (o : List ℕ). o ++ spelling answer) (out_finished l (l.finished ++ place ∷ []) ∙ out_accepted place frame life)
-    ∙ ap (λ (a : Answer). out_of life ++ spelling a) same ∙ ap (λ (t : List ℕ). out_of life ++ t) (sym (append-nil (spelling (scsi_answer (finished_one (stamp life)) frame p.1)))) in
+    out-answered_all over more ∙ ap (λ (o : List ℕ). o ++ flat_map spelling more) (out_finished l (l.finished ++ place ∷ []) ∙ out_accepted place frame life)
+    ∙ ap (λ (n : Stamp). out_of life ++ flat_map spelling (command_answers n session.values frame p.1)) numbers in
     let link : LinkState = record (link_at machine c) { phase = remembered.FullFeature session (counted (finished_one (stamp life))); waiting = (link_at machine c).waiting ++ x } in
     rw (world, h.units) (replaced c place (place + 1) bytes s sent w v machine (slice_set w.units session.target p.0) link h refl
-    (λ d differ. present-units d v (changed (finished command p.1) c u) refl ∙ present-changed_other (finished command p.1) c d u (λ k. refl) differ ∙ present-changed_other (accepted place frame) c d w (λ k. refl) differ)
+    (λ d differ. present-units d v (changed (finished session.values command p.1) c u) refl ∙ present-changed_other (finished session.values command p.1) c d u (λ k. refl) differ ∙ present-changed_other (accepted place frame) c d w (λ k. refl) differ)
     (rw at_v record {
-      phase = ap (remembered.FullFeature session) (sym (stamp-answered over answer ∙ ap counted numbers)) ∙ sym (ap (phase_for s.names f) phase);
+      phase = ap (remembered.FullFeature session) (sym (stamp-answered over more (one_bears (stamp over) session.values frame p.1) ∙ ap counted numbers)) ∙ sym (ap (phase_for s.names f) phase);
       answered = rw out (let le = here.answered in omega (arith, length-append (out_of life) x));
       waiting = rw out (says (sent c) (link_at machine c).waiting (out_of life) x here.answered here.waiting);
       quiet = (let all = finished_is place life frame done next in quiet_as (place + 1) f (FullFeature session) life.phase (sym phase) (record { numbered = all.numbered; finished = all.finished }));

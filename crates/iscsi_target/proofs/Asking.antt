@@ -4,13 +4,15 @@ use Rattle.std.proofs.Common.{◌≡◌, ℕ, zero, suc, ◌<◌, List, [], ◌�
 use Rattle.std.proofs.lemmas.List.{length-map, get_or-map, get_or-set_same, map-set, set-set, set-get_or}
 use Rattle.iscsi_pdu.specs.Frames.{Frame}
 use Rattle.iscsi_pdu.specs.declared.answer.Answer.{Answer}
+use Rattle.iscsi_pdu.specs.declared.answer.Answer.TheVariants as answers
+use Rattle.iscsi_pdu.specs.declared.login_response.LoginResponse.{LoginResponse}
 use Rattle.iscsi_login.specs.LoginState.{LoginState}
 use Rattle.iscsi_login.specs.Session.{older}
 use Rattle.iscsi_login.specs.Login.{reply_of}
 use Rattle.iscsi_login.specs.declared.params.Params.{Params}
 use Rattle.iscsi_login.specs.declared.reply.Reply.{Reply}
 use Rattle.iscsi_login.specs.declared.reply.Reply.TheVariants.{GoOn, Full, Refused}
-use Rattle.iscsi_target.specs.Units.{Units, join}
+use Rattle.scsi_unit.specs.Units.{UnitStates, join}
 use Rattle.iscsi_target.specs.World.{left, changed_units, lookup_for}
 use Rattle.iscsi_target.specs.Machine.{LinkState, Machine, link_at, with_link, closed, begun, begun_link, shut_link, shut_older, logged_in, is_logging_in, is_reading, session_in_phase, sessions, free_link, IsAnswered}
 use Rattle.iscsi_target.specs.declared.phase.Phase.{Phase}
@@ -38,18 +40,18 @@ still_reading Closing e = absurd cc
 
 -- ---- a connection whose session has still to begin
 
-pub record IsWaiting (reply : Reply) (old : LinkState) (answer : Answer) (session : Params) (new : LinkState) : Type 0 where
-  pub reply_is : reply ≡ Full answer session
+pub record IsWaiting (reply : Reply) (old : LinkState) (response : LoginResponse) (session : Params) (new : LinkState) : Type 0 where
+  pub reply_is : reply ≡ Full response session
   pub same : new ≡ record old { phase = new.phase }
   pub logging_in : is_logging_in new.phase ≡ true
 
 some_is : {X : Type 0} (x y : X) → Some x ≡ Some y → x ≡ y
 some_is x y e = cc
 
-pub waits : (reply : Reply) (after : LoginState) (old new : LinkState) (answer : Answer) (session : Params) → IsAnswered reply after old (Some (answer, session)) new → IsWaiting reply old answer session new
-waits (GoOn a) after old new answer session h = let no = h.0 in absurd cc
-waits (Refused a) after old new answer session h = let no = h.0 in absurd cc
-waits (Full a s) after old new answer session h = record { reply_is = ap (λ (p : Answer × Params). Full p.0 p.1) (some_is (a, s) (answer, session) (sym h.0)); same = h.1; logging_in = h.2 }
+pub waits : (reply : Reply) (after : LoginState) (old new : LinkState) (response : LoginResponse) (session : Params) → IsAnswered reply after old (Some (response, session)) new → IsWaiting reply old response session new
+waits (GoOn r) after old new response session h = let no = h.0 in absurd cc
+waits (Refused r) after old new response session h = let no = h.0 in absurd cc
+waits (Full r s) after old new response session h = record { reply_is = ap (λ (p : LoginResponse × Params). Full p.0 p.1) (some_is (r, s) (response, session) (sym h.0)); same = h.1; logging_in = h.2 }
 
 -- ---- the machine with that connection
 
@@ -67,7 +69,7 @@ closed_alike machine c link lt waiting none logs =
     let units : left (session_in_phase (link_at (with_link machine c link) c).phase) machine.units ≡ left (session_in_phase (link_at machine c).phase) machine.units =
     ap (λ (l : LinkState). left (session_in_phase l.phase) machine.units) there ∙ ap (λ (o : Option Params). left o machine.units) (none ∙ sym was) in
     ap (λ (ls : List LinkState). record { names = machine.names; units = left (session_in_phase (link_at (with_link machine c link) c).phase) machine.units; links = ls }) links
-    ∙ ap (λ (us : List Units). record { names = machine.names; units = us; links = set machine.links c (shut_link (link_at machine c)) }) units
+    ∙ ap (λ (us : List UnitStates). record { names = machine.names; units = us; links = set machine.links c (shut_link (link_at machine c)) }) units
 
 set_own : {X : Type 0} (xs : List X) (i : ℕ) (x d : X) → get_or xs i d ≡ x → i < length xs → set xs i x ≡ xs
 set_own xs i x d e lt = rw (← e) (set-get_or xs i d)
@@ -88,9 +90,9 @@ begun_alike machine c link session answer lt same now was =
     ∙ ap (λ (all : List (Option Params)). shut_older (older session all) (record { names = machine.names; units = units; links = set machine.links c (begun_link session answer (link_at machine c)) })) live
 
 -- the answer to a Login request, where full feature phase begins
-pub begun_by_request : (machine : Machine) (c : ℕ) (login : LoginState) (request : Frame) (session : Params) (answer : Answer) → reply_of login (lookup_for machine.names (sessions machine.links) request) request ≡ Full answer session → begun session answer c machine ≡ logged_in machine c login request
+pub begun_by_request : (machine : Machine) (c : ℕ) (login : LoginState) (request : Frame) (session : Params) (response : LoginResponse) → reply_of login (lookup_for machine.names (sessions machine.links) request) request ≡ Full response session → begun session (answers.LoginResponse response) c machine ≡ logged_in machine c login request
 unfolding logged_in
-begun_by_request machine c login request session answer e = rw e refl
+begun_by_request machine c login request session response e = rw e refl
 
 -- ---- results
 

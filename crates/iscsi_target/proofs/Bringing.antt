@@ -8,7 +8,7 @@ use Rattle.iscsi_pdu.specs.Frames.{Frame, frames, rest}
 use Rattle.iscsi_target.specs.History.{Mark, Judging, Taking, Ending, Arrival, Whole, TooLong}
 use Rattle.iscsi_target.specs.Life.{Life, Phase, LoggingIn, FullFeature, Closing, Over, reads, taken}
 use Rattle.iscsi_target.specs.World.{Setting, World, present, reads_life, close, is_marked, take_step, judge, ready_in, settle, serve, enter, arrive, arrive_at, arrive_in}
-use Rattle.iscsi_target.specs.Machine.{LinkState, Machine, link_at, with_link, is_reading, free_link, GivesFrame, frame_taken}
+use Rattle.iscsi_target.specs.Machine.{LinkState, Machine, link_at, with_link, IsSound, IsAlike, is_open_at, is_reading, free_link, GivesFrame, frame_taken}
 use Rattle.iscsi_target.specs.Stands.{NamesFirst}
 use Rattle.iscsi_target.proofs.Choices.{cond_true, cond_false}
 use Rattle.iscsi_target.proofs.Arrivals.{fold-places}
@@ -16,6 +16,8 @@ use Rattle.iscsi_target.proofs.Counting.{eqb_self}
 use Rattle.iscsi_target.proofs.Serving.{Serves, replaced, present-close, step_idle, step_marked, Unmarked}
 use Rattle.iscsi_target.proofs.Halves.{KeepsHalf, frame_half}
 use Rattle.iscsi_target.proofs.Acting.{takes, idle_settle}
+use Rattle.iscsi_target.proofs.Sound.{sound_as}
+use Rattle.iscsi_target.proofs.Opening.{open_alike, half_opens, frame_opens}
 
 -- ---- marks
 
@@ -121,8 +123,10 @@ pub record Progress (c : ℕ) (first machine : Machine) : Type 0 where
   pub front : frames (link_at first c).half ≡ done ++ frames more
   pub behind : rest (link_at first c).half ≡ rest more
   pub kept : KeepsHalf more (link_at machine c)
-  -- the code is where the World is after them, if no mark names one of them
-  pub stands : (s : Setting) (sent : ℕ → ℕ) (w : World) (place : ℕ) (bytes : List ℕ) (marks : List Mark) → ((q : ℕ) → q < place + length done → Unmarked marks c q) → Serves c place bytes s sent w first
+  pub back : IsSound machine → IsSound first
+  pub opens : (d : ℕ) → is_open_at machine d ≡ is_open_at first d
+  -- the code is where the World is after them, if no mark names one of them and the target is sound
+  pub stands : IsSound machine → (s : Setting) (sent : ℕ → ℕ) (w : World) (place : ℕ) (bytes : List ℕ) (marks : List Mark) → ((q : ℕ) → q < place + length done → Unmarked marks c q) → Serves c place bytes s sent w first
       → Serves c (place + length done) bytes s sent (fold (arrive s marks c) w (enumerate_from place (map Whole done))) machine
 
 reads_not : (link : LinkState) → is_reading link.phase ≡ true → is_reading link.phase ≡ false → link.half ≡ []
@@ -138,7 +142,9 @@ begins c machine r = record {
   front = refl;
   behind = refl;
   kept = record { reading = λ e. refl; idle = λ i. reads_not (link_at machine c) r i };
-  stands = λ s sent w place bytes marks un h. rw (no_more place) h;
+  back = λ sound. sound;
+  opens = λ d. refl;
+  stands = λ sound s sent w place bytes marks un h. rw (no_more place) h;
 }
 
 pub with_half : (machine : Machine) (c : ℕ) (half : List ℕ) → c < length machine.links → link_at (with_link machine c (record (link_at machine c) { half = half })) c ≡ record (link_at machine c) { half = half }
@@ -163,9 +169,21 @@ fold_further s marks c place w done frame =
 subst_machine : (c place : ℕ) (bytes : List ℕ) (s : Setting) (sent : ℕ → ℕ) (w : World) (a b : Machine) → a ≡ b → Serves c place bytes s sent w a → Serves c place bytes s sent w b
 subst_machine c place bytes s sent w a b e h = let P : Machine → Type 0 = λ m. Serves c place bytes s sent w m in subst P e h
 
+-- what taking a frame makes of a machine: where it is sound then, what the definition says
+pub record Takes (c : ℕ) (frame : Frame) (given after : Machine) : Type 0 where
+  pub same : IsSound after → after ≡ frame_taken given c frame
+  pub back : IsSound after → IsSound given
+  pub links : (d : ℕ) → IsAlike (link_at after d) (link_at (frame_taken given c frame) d)
+
+pub alike_half : (half : List ℕ) (a b : LinkState) → IsAlike a b → KeepsHalf half b → KeepsHalf half a
+alike_half half a b alike keeps = record {
+  reading = λ r. alike.half ∙ keeps.reading (ap is_reading (sym alike.phase) ∙ r);
+  idle = λ i. alike.half ∙ keeps.idle (ap is_reading (sym alike.phase) ∙ i);
+}
+
 -- one more frame
 pub goes_on : (c : ℕ) (first machine given after : Machine) (frame : Frame) → c < length machine.links → Progress c first machine → is_reading (link_at machine c).phase ≡ true
-    → GivesFrame frame (link_at machine c).half (link_at given c).half → given ≡ with_link machine c (record (link_at machine c) { half = (link_at given c).half }) → after ≡ frame_taken given c frame → Progress c first after
+    → GivesFrame frame (link_at machine c).half (link_at given c).half → given ≡ with_link machine c (record (link_at machine c) { half = (link_at given c).half }) → Takes c frame given after → Progress c first after
 goes_on c first machine given after frame lt p r gives is taken =
     let here : (link_at machine c).half ≡ p.more = p.kept.reading r in
     let given_link : link_at given c ≡ record (link_at machine c) { half = (link_at given c).half } = ap (λ (m : Machine). link_at m c) is ∙ get_or-set_same machine.links c (record (link_at machine c) { half = (link_at given c).half }) free_link lt in
@@ -176,12 +194,16 @@ goes_on c first machine given after frame lt p r gives is taken =
       more = (link_at given c).half;
       front = p.front ∙ ap (λ (l : List Frame). p.done ++ l) (ap frames (sym here) ∙ gives.first) ∙ sym (append_assoc p.done (frame ∷ []) (frames (link_at given c).half));
       behind = p.behind ∙ ap rest (sym here) ∙ sym gives.behind;
-      kept = rw taken (frame_half given c frame (omega (arith, count)) given_reads);
-      stands = λ s sent w place bytes marks un h.
-          (let before = p.stands s sent w place bytes marks (λ q below. un q (omega (arith, one_further p.done frame))) h in
+      kept = alike_half (link_at given c).half (link_at after c) (link_at (frame_taken given c frame) c) (taken.links c) (frame_half given c frame (omega (arith, count)) given_reads);
+      back = λ sound. p.back (sound_as given _ is (taken.back sound));
+      opens = λ d. open_alike after (frame_taken given c frame) d (taken.links d) ∙ frame_opens given c frame (omega (arith, count)) given_reads d
+          ∙ ap (λ (m : Machine). is_open_at m d) is ∙ half_opens machine c (link_at given c).half lt d ∙ p.opens d;
+      stands = λ sound s sent w place bytes marks un h.
+          (let same = taken.same sound in
+          let before = p.stands (sound_as given _ is (taken.back sound)) s sent w place bytes marks (λ q below. un q (omega (arith, one_further p.done frame))) h in
           let v = fold (arrive s marks c) w (enumerate_from place (map Whole p.done)) in
           let again : Serves c (place + length p.done) bytes s sent v given = subst_machine c (place + length p.done) bytes s sent v _ given (sym is) (rehalved c (place + length p.done) bytes s sent v machine (link_at given c).half before) in
           let next = takes marks c (place + length p.done) bytes s sent v given frame again (un (place + length p.done) (omega (arith, one_further p.done frame))) in
           let at : place + length p.done + 1 ≡ place + length (p.done ++ frame ∷ []) = omega (arith, one_further p.done frame) in
-          rw (fold_further s marks c place w p.done frame, taken, ← at) next);
+          rw (fold_further s marks c place w p.done frame, same, ← at) next);
     }

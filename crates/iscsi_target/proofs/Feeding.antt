@@ -10,7 +10,7 @@ use Rattle.iscsi_pdu.proofs.Cuts.{rest_in_pieces, long_is_no_frame}
 use Rattle.iscsi_target.specs.History.{Bytes, Mark, Step, Ending, History, marked, plain, Arrival, Whole, TooLong, arrivals, new_arrivals, connection_limit}
 use Rattle.iscsi_target.specs.Life.{Life, Phase, LoggingIn, FullFeature, Closing, Over, reads, stamp, taken, out_of}
 use Rattle.iscsi_target.specs.World.{Setting, World, left, present, changed, reads_life, close, is_marked, take_step, arrive, arrive_at, brought, longer, bring, world}
-use Rattle.iscsi_target.specs.Machine.{LinkState, Machine, link_at, with_link, shut_link, session_in_phase, closed, is_reading, is_closing, is_open_at, free_link, GivesFrame, frame_taken}
+use Rattle.iscsi_target.specs.Machine.{LinkState, Machine, link_at, with_link, shut_link, session_in_phase, closed, IsSound, IsAlike, is_reading, is_closing, is_open_at, free_link, GivesFrame, frame_taken}
 use Rattle.iscsi_target.specs.Stands.{phase_of, phase_for, half_of, IsQuiet, IsSettled, IsLinkOf, StandsAt, Stands, IsStarved, frames_with}
 use Rattle.iscsi_target.proofs.Choices.{cond_true, cond_false}
 use Rattle.iscsi_target.proofs.Arrivals.{long_end, fold-places, joined_arrivals, new_is}
@@ -18,7 +18,9 @@ use Rattle.iscsi_target.proofs.Lives.{present-changed, present-changed_other, pr
 use Rattle.iscsi_target.proofs.Serving.{IsServing, Serves, closes, present-close, step_done, step_idle, Unmarked}
 use Rattle.iscsi_target.proofs.Standing.{stands_as, stands_from, is_open_there}
 use Rattle.iscsi_target.proofs.Halves.{KeepsHalf, closed_link_at, frame_half}
-use Rattle.iscsi_target.proofs.Bringing.{starved, names_first, unmarked_before, unmarked_plain, idle, idle_all, starved_rest, Progress, with_half}
+use Rattle.iscsi_target.proofs.Sound.{sound_as}
+use Rattle.iscsi_target.proofs.Opening.{half_opens}
+use Rattle.iscsi_target.proofs.Bringing.{alike_half, starved, names_first, unmarked_before, unmarked_plain, idle, idle_all, starved_rest, Progress, with_half}
 
 -- ---- what reads
 
@@ -191,23 +193,23 @@ brings c s sent w machine now piece marks f p =
 
 -- where the code is once the frames so far are taken, if no mark names one of them
 serves_so_far : (c : ℕ) (s : Setting) (sent : ℕ → ℕ) (w : World) (machine now : Machine) (piece : List ℕ) (marks : List Mark) → (f : Fed c s sent w machine) → (p : Progress c (kept_first machine c piece) now)
-    → ((q : ℕ) → q < length (arrivals f.life.bytes) + length p.done → Unmarked marks c q)
+    → IsSound now → ((q : ℕ) → q < length (arrivals f.life.bytes) + length p.done → Unmarked marks c q)
     → Serves c (length (arrivals f.life.bytes) + length p.done) (f.life.bytes ++ piece) s sent (so_far s marks c (length (arrivals f.life.bytes)) (changed (longer piece) c w) p.done) now
-serves_so_far c s sent w machine now piece marks f p un =
-    p.stands s sent (changed (longer piece) c w) (length (arrivals f.life.bytes)) (f.life.bytes ++ piece) marks un
+serves_so_far c s sent w machine now piece marks f p sound un =
+    p.stands sound s sent (changed (longer piece) c w) (length (arrivals f.life.bytes)) (f.life.bytes ++ piece) marks un
     (longer_serves c s sent w machine f.life piece ((link_at machine c).half ++ piece) f.in_range f.stands f.at)
 
 -- ---- the ways in which it ends
 
 -- all that was whole was taken, and the connection still reads
 pub ends_whole : (c : ℕ) (s : Setting) (sent : ℕ → ℕ) (machine now : Machine) (history : History) (piece : List ℕ) → c < connection_limit → Stands s sent machine history → is_reading (link_at machine c).phase ≡ true
-    → Progress c (kept_first machine c piece) now → is_reading (link_at now c).phase ≡ true → has_frame (link_at now c).half ≡ false → is_long (link_at now c).half ≡ false → Stands s sent now (history ++ plain (Bytes c piece) ∷ [])
-ends_whole c s sent machine now history piece lt h r p reads_now none short =
+    → Progress c (kept_first machine c piece) now → IsSound now → is_reading (link_at now c).phase ≡ true → has_frame (link_at now c).half ≡ false → is_long (link_at now c).half ≡ false → Stands s sent now (history ++ plain (Bytes c piece) ∷ [])
+ends_whole c s sent machine now history piece lt h r p sound reads_now none short =
     let w = world s history in
     let f = fed c s sent w machine lt h r in
     let place = length (arrivals f.life.bytes) in
     let v = so_far s [] c place (changed (longer piece) c w) p.done in
-    let serves = serves_so_far c s sent w machine now piece [] f p (λ q below. unmarked_plain c q) in
+    let serves = serves_so_far c s sent w machine now piece [] f p sound (λ q below. unmarked_plain c q) in
     let half : (link_at now c).half ≡ p.more = p.kept.reading reads_now in
     let none_ : has_frame p.more ≡ false = ap has_frame (sym half) ∙ none in
     let short_ : is_long (rest p.more) ≡ false = ap is_long (rest_none p.more none_ ∙ sym half) ∙ short in
@@ -233,13 +235,13 @@ ends_whole c s sent machine now history piece lt h r p reads_now none short =
 
 -- one of the frames closed the connection
 pub ends_closed : (c : ℕ) (s : Setting) (sent : ℕ → ℕ) (machine now : Machine) (history : History) (piece : List ℕ) → c < connection_limit → Stands s sent machine history → is_reading (link_at machine c).phase ≡ true
-    → Progress c (kept_first machine c piece) now → is_reading (link_at now c).phase ≡ false → Stands s sent now (history ++ plain (Bytes c piece) ∷ [])
-ends_closed c s sent machine now history piece lt h r p closed_now =
+    → Progress c (kept_first machine c piece) now → IsSound now → is_reading (link_at now c).phase ≡ false → Stands s sent now (history ++ plain (Bytes c piece) ∷ [])
+ends_closed c s sent machine now history piece lt h r p sound closed_now =
     let w = world s history in
     let f = fed c s sent w machine lt h r in
     let place = length (arrivals f.life.bytes) in
     let v = so_far s [] c place (changed (longer piece) c w) p.done in
-    let serves = serves_so_far c s sent w machine now piece [] f p (λ q below. unmarked_plain c q) in
+    let serves = serves_so_far c s sent w machine now piece [] f p sound (λ q below. unmarked_plain c q) in
     let reads_v : reads_life (present c v) ≡ false = sym (reads_there c _ _ s sent v now serves) ∙ closed_now in
     let e : bring s [] c piece w ≡ v = brings c s sent w machine now piece [] f p
     ∙ ap (take_step [] c Ending (λ u. u)) (idle_all s [] c (place + length p.done) v (left_over p.more (is_long (rest p.more))) reads_v)
@@ -252,13 +254,13 @@ too_long s c place w life e r = ap (arrive_at s [] c w place TooLong) e ∙ cond
 
 -- a header that names too much data closes it
 pub ends_long : (c : ℕ) (s : Setting) (sent : ℕ → ℕ) (machine now : Machine) (history : History) (piece : List ℕ) → c < connection_limit → Stands s sent machine history → is_reading (link_at machine c).phase ≡ true
-    → Progress c (kept_first machine c piece) now → is_reading (link_at now c).phase ≡ true → is_long (link_at now c).half ≡ true → Stands s sent (closed now c) (history ++ plain (Bytes c piece) ∷ [])
-ends_long c s sent machine now history piece lt h r p reads_now long =
+    → Progress c (kept_first machine c piece) now → IsSound now → is_reading (link_at now c).phase ≡ true → is_long (link_at now c).half ≡ true → Stands s sent (closed now c) (history ++ plain (Bytes c piece) ∷ [])
+ends_long c s sent machine now history piece lt h r p sound reads_now long =
     let w = world s history in
     let f = fed c s sent w machine lt h r in
     let place = length (arrivals f.life.bytes) in
     let v = so_far s [] c place (changed (longer piece) c w) p.done in
-    let serves = serves_so_far c s sent w machine now piece [] f p (λ q below. unmarked_plain c q) in
+    let serves = serves_so_far c s sent w machine now piece [] f p sound (λ q below. unmarked_plain c q) in
     let half : (link_at now c).half ≡ p.more = p.kept.reading reads_now in
     let long_ : is_long p.more ≡ true = ap is_long (sym half) ∙ long in
     let none_ : has_frame p.more ≡ false = long_is_no_frame p.more long_ in
@@ -274,16 +276,16 @@ ends_long c s sent machine now history piece lt h r p reads_now long =
 
 -- an allocation failed before the next frame was judged
 pub ends_starved : (c : ℕ) (s : Setting) (sent : ℕ → ℕ) (machine now : Machine) (history : History) (piece : List ℕ) → c < connection_limit → Stands s sent machine history → is_reading (link_at machine c).phase ≡ true
-    → Progress c (kept_first machine c piece) now → is_reading (link_at now c).phase ≡ true → 0 < length (frames (link_at now c).half)
+    → Progress c (kept_first machine c piece) now → IsSound now → is_reading (link_at now c).phase ≡ true → 0 < length (frames (link_at now c).half)
     → (marks : List Mark) × IsStarved c (present c (world s history)) piece marks × Stands s sent (closed now c) (history ++ marked marks (Bytes c piece) ∷ [])
-ends_starved c s sent machine now history piece lt h r p reads_now next =
+ends_starved c s sent machine now history piece lt h r p sound reads_now next =
     let w = world s history in
     let f = fed c s sent w machine lt h r in
     let place = length (arrivals f.life.bytes) in
     let q = place + length p.done in
     let marks = starved c q in
     let v = so_far s marks c place (changed (longer piece) c w) p.done in
-    let serves = serves_so_far c s sent w machine now piece marks f p (λ k below. unmarked_before c k q (λ same. let lt_ : k < q = below in omega arith)) in
+    let serves = serves_so_far c s sent w machine now piece marks f p sound (λ k below. unmarked_before c k q (λ same. let lt_ : k < q = below in omega arith)) in
     let there = some_reads (present c v) (sym (reads_there c _ _ s sent v now serves) ∙ reads_now) in
     let e : bring s marks c piece w ≡ close c v = brings c s sent w machine now piece marks f p ∙ starved_rest s c q v there.0 (left_over p.more (is_long (rest p.more))) there.1 there.2 in
     let count : length (frames (rest f.life.bytes ++ piece)) ≡ length p.done + length (frames p.more) =
@@ -405,11 +407,11 @@ shorter_by false after given c n r k lt = let same = ap (λ (h : List ℕ). leng
 
 -- a frame that is taken leaves fewer bytes
 pub taken_is_shorter : (c : ℕ) (machine given after : Machine) (frame : Frame) → c < length machine.links → is_reading (link_at machine c).phase ≡ true → GivesFrame frame (link_at machine c).half (link_at given c).half
-    → given ≡ with_link machine c (record (link_at machine c) { half = (link_at given c).half }) → after ≡ frame_taken given c frame → length (link_at after c).half < length (link_at machine c).half
-taken_is_shorter c machine given after frame lt r gives is taken =
+    → given ≡ with_link machine c (record (link_at machine c) { half = (link_at given c).half }) → IsAlike (link_at after c) (link_at (frame_taken given c frame) c) → length (link_at after c).half < length (link_at machine c).half
+taken_is_shorter c machine given after frame lt r gives is alike =
     let given_link = ap (λ (m : Machine). link_at m c) is ∙ with_half machine c (link_at given c).half lt in
     let count : length given.links ≡ length machine.links = ap (λ (m : Machine). length m.links) is ∙ length-set machine.links c _ in
-    let k : KeepsHalf (link_at given c).half (link_at after c) = rw taken (frame_half given c frame (omega (arith, count)) (ap (λ (l : LinkState). is_reading l.phase) given_link ∙ r)) in
+    let k : KeepsHalf (link_at given c).half (link_at after c) = alike_half _ (link_at after c) _ alike (frame_half given c frame (omega (arith, count)) (ap (λ (l : LinkState). is_reading l.phase) given_link ∙ r)) in
     shorter_by (is_reading (link_at after c).phase) after given c (length (link_at machine c).half) refl k gives.shorter
 
 -- a frame that is given is one of the bytes
@@ -418,3 +420,12 @@ some_given frame before after g = let count = ap (λ (l : List Frame). length l)
 
 pub some_frame : (bytes : List ℕ) → has_frame bytes ≡ true → 0 < length (frames bytes)
 some_frame bytes e = let count = ap (λ (l : List Frame). length l) (frames_step bytes e) in omega arith
+
+-- ---- sound, and open, before and after
+
+-- from the machine that kept the piece
+pub first_sound : (c : ℕ) (machine kept now : Machine) (piece : List ℕ) → kept ≡ kept_first machine c piece → Progress c kept now → IsSound now → IsSound machine
+first_sound c machine kept now piece same p sound = sound_as kept (kept_first machine c piece) same (p.back sound)
+
+pub first_opens : (c : ℕ) (machine kept now : Machine) (piece : List ℕ) → c < length machine.links → kept ≡ kept_first machine c piece → Progress c kept now → (d : ℕ) → is_open_at now d ≡ is_open_at machine d
+first_opens c machine kept now piece lt same p d = p.opens d ∙ ap (λ (m : Machine). is_open_at m d) same ∙ half_opens machine c ((link_at machine c).half ++ piece) lt d

@@ -7,6 +7,7 @@ use Rattle.iscsi_login.specs.Session.{is_of, older}
 use Rattle.iscsi_login.specs.LoginState.{LoginState}
 use Rattle.iscsi_login.specs.Login.{advanced, reply_of}
 use Rattle.iscsi_pdu.specs.declared.answer.Answer.{Answer}
+use Rattle.iscsi_pdu.specs.declared.answer.Answer.TheVariants as answers
 use Rattle.iscsi_target.specs.World.{lookup_for}
 use Rattle.iscsi_target.specs.Acts.{is_login, verdict}
 use Rattle.iscsi_target.specs.Machine.{LinkState, Machine, link_at, shut_link, closed, free_link, is_reading, session_in_phase, sessions, gone_on_link, refused_link, begun_link, shut_older, replied, logged_in, served_in, judged, frame_in, frame_taken}
@@ -55,16 +56,16 @@ begun_half c (Some d) session answer machine lt apart m e =
     rw (there, here) record { reading = λ r. refl; idle = λ r. absurd cc }
 
 replied_half : (reply : Reply) (after : LoginState) (machine : Machine) (c : ℕ) (login : LoginState) → c < length machine.links → (link_at machine c).phase ≡ Login login → KeepsHalf (link_at machine c).half (link_at (replied reply after c machine) c)
-replied_half (GoOn answer) after machine c login lt logs =
-    let link = gone_on_link after answer (link_at machine c) in
+replied_half (GoOn response) after machine c login lt logs =
+    let link = gone_on_link after (answers.LoginResponse response) (link_at machine c) in
     let here : get_or (set machine.links c link) c free_link ≡ link = get_or-set_same machine.links c link free_link lt in
     rw here record { reading = λ r. refl; idle = λ r. absurd cc }
-replied_half (Refused answer) after machine c login lt logs =
-    let link = refused_link answer (link_at machine c) in
+replied_half (Refused response) after machine c login lt logs =
+    let link = refused_link (answers.LoginResponse response) (link_at machine c) in
     let here : get_or (set machine.links c link) c free_link ≡ link = get_or-set_same machine.links c link free_link lt in
     rw here record { reading = λ r. absurd cc; idle = λ r. refl }
-replied_half (Full answer session) after machine c login lt logs =
-    begun_half c (older session (sessions machine.links)) session answer machine lt (λ d e. other_older machine c d session login lt logs e) _ refl
+replied_half (Full response session) after machine c login lt logs =
+    begun_half c (older session (sessions machine.links)) session (answers.LoginResponse response) machine lt (λ d e. other_older machine c d session login lt logs e) _ refl
 
 judged_half : (v : Verdict) (machine : Machine) (c : ℕ) (frame : Frame) (session : Params) → c < length machine.links → (numbers : _) → (link_at machine c).phase ≡ FullFeature session numbers → KeepsHalf (link_at machine c).half (link_at (judged v machine c frame) c)
 judged_half Violating machine c frame session lt numbers full = closed_half machine c lt

@@ -6,6 +6,7 @@ use Rattle.std.proofs.lemmas.Grind.{flat_map-append}
 use Rattle.iscsi_pdu.specs.Answer.{spelling}
 use Rattle.iscsi_pdu.specs.Frames.{Frame}
 use Rattle.iscsi_pdu.specs.declared.answer.Answer.{Answer}
+use Rattle.iscsi_pdu.specs.declared.answer.Answer.TheVariants as answers
 use Rattle.iscsi_target.specs.History.{Mark, Step, Judging, Taking, Doing, Ending, Arrival, Whole, TooLong, Bytes, marked}
 use Rattle.iscsi_login.specs.Session.{older}
 use Rattle.iscsi_login.specs.Login.{login}
@@ -127,11 +128,13 @@ more_answered : (answer : Answer) → Continues (answered answer)
 more_answered answer = record { open_ = λ life e. e; connection = λ life. refl; answers = λ life. (_, refl) }
 
 on-replied : (reply : Reply) (c : ℕ) (w : World) → GoesTo w (replied reply c w)
-on-replied (GoOn answer) c w = on-changed (answered answer) c w (more_answered answer)
-on-replied (Refused answer) c w =
+on-replied (GoOn response) c w = let answer : Answer = answers.LoginResponse response in on-changed (answered answer) c w (more_answered answer)
+on-replied (Refused response) c w =
+    let answer : Answer = answers.LoginResponse response in
     let v = changed (answered answer) c w in
     on-then w v (close c v) (on-changed (answered answer) c w (more_answered answer)) (on-close c v)
-on-replied (Full answer session) c w =
+on-replied (Full response session) c w =
+    let answer : Answer = answers.LoginResponse response in
     let v = end_older (older session (live w)) w in
     on-then w v (changed (begun session answer) c v) (on-end_older (older session (live w)) w)
     (on-changed (begun session answer) c v (record { open_ = λ life e. refl; connection = λ life. refl; answers = λ life. (_, refl) }))
@@ -153,7 +156,7 @@ on-judge c place frame w = on-judged (verdict_for (present c w) frame) c place f
 
 on-done_for : (o : Option Params) (c : ℕ) (command : Accepted) (w : World) → GoesTo w (done_for o c command w)
 on-done_for None c command w = on-same w
-on-done_for (Some session) c command w = on-changed (finished command _) c w (record { open_ = λ life e. e; connection = λ life. refl; answers = λ life. (_, refl) })
+on-done_for (Some session) c command w = on-changed (finished session.values command _) c w (record { open_ = λ life e. e; connection = λ life. refl; answers = λ life. (_, refl) })
 
 on-finish : (c : ℕ) (command : Accepted) (w : World) → GoesTo w (finish c command w)
 unfolding finish

@@ -1,9 +1,10 @@
 pub mod Choices
 pub mod Lists
-pub mod Rooms
-pub mod Performed
 pub mod Arrivals
 pub mod Lives
+pub mod Sound
+pub mod Room
+pub mod Served
 pub mod Counting
 pub mod Numbers
 pub mod Requests
@@ -13,9 +14,11 @@ pub mod Acting
 pub mod Standing
 pub mod Asking
 pub mod Halves
+pub mod Opening
 pub mod Bringing
 pub mod Feeding
 pub mod Tables
 pub mod Keeping
 pub mod Running
 pub mod Rows
+pub mod Tracking

@@ -1,18 +1,20 @@
 -- A Login request does to the World what it does to the code.
-use Rattle.std.proofs.Common.{◌≡◌, ◌≢◌, ℕ, ◌+◌, ◌^◌, ◌%◌, ◌<◌, List, [], ◌∷◌, ◌++◌, length, get_or, Bool, true, ◌&&◌, eqb, Option, Some, None, refl, sym, ap, ◌∙◌, subst, arith, inl, inr}
+use Rattle.std.proofs.Common.{filter, cond, ◌≡◌, ◌≢◌, ℕ, ◌+◌, ◌^◌, ◌%◌, ◌<◌, List, [], ◌∷◌, ◌++◌, length, get_or, Bool, true, ◌&&◌, eqb, Option, Some, None, refl, sym, ap, ◌∙◌, subst, arith, inl, inr}
 use Rattle.std.proofs.lemmas.Bool.{eqb-true, eq-eqb}
 use Rattle.std.proofs.lemmas.Bool.Decides.{eqb_tells}
 use Rattle.std.proofs.lemmas.List.{length-append, length-map, get_or-map, get_or-set_other}
 use Rattle.std.proofs.lemmas.List.Quantifiers.{position-Some}
+use Rattle.std.proofs.lemmas.List.Elements.{filter-append}
 use Rattle.iscsi_pdu.specs.Frames.{Frame}
 use Rattle.iscsi_pdu.specs.Answer.{spelling}
 use Rattle.iscsi_pdu.specs.declared.answer.Answer.{Answer}
+use Rattle.iscsi_pdu.specs.declared.answer.Answer.TheVariants as answers
 use Rattle.iscsi_target.specs.History.{connection_limit}
-use Rattle.iscsi_target.specs.Units.{Units, join}
+use Rattle.scsi_unit.specs.Units.{UnitStates, join}
 use Rattle.iscsi_login.specs.Session.{is_of, older}
 use Rattle.iscsi_login.specs.Lookup.{Lookup}
 use Rattle.iscsi_login.specs.Login.{login, advanced, remembered, reply_of}
-use Rattle.iscsi_target.specs.Life.{Life, Phase, LoggingIn, FullFeature, Closing, first_cmd_sn, stamp, out_of}
+use Rattle.iscsi_target.specs.Life.{bears_status, Life, Phase, LoggingIn, FullFeature, Closing, first_cmd_sn, stamp, out_of}
 use Rattle.iscsi_target.specs.World.{Setting, World, is_present, present, changed, session_of, live, left, close, shut, changed_units, answered, asked, begun, end_older, requests_of, lookup_for, replied, log_in}
 use Rattle.iscsi_target.specs.Machine.{Machine, link_at, with_link, shut_link, session_in_phase, sessions, free_link, gone_on_link, refused_link, begun_link, shut_older, replied as machine_replied, logged_in, first_numbers}
 use Rattle.iscsi_target.specs.Stands.{phase_for, IsQuiet, IsLogin, IsLinkOf}
@@ -102,18 +104,23 @@ quiet_login place life phase e h = let P : Phase → Type 0 = λ ph. IsQuiet pla
 out_same : (life : Life) (request : Frame) (answer : Answer) → out_of (answered answer (asked request life)) ≡ out_of life ++ spelling answer
 out_same life request answer = out-answered (asked request life) answer ∙ ap (λ (o : List ℕ). o ++ spelling answer) (out_asked life request)
 
-one_more : (life : Life) (request : Frame) (answer : Answer) → IsLogin life → IsLogin (answered answer (asked request life))
-one_more life request answer h = record {
+status_more : (life : Life) (answer : Answer) → bears_status answer ≡ true → length (filter bears_status (life.answers ++ answer ∷ [])) ≡ length (filter bears_status life.answers) + 1
+status_more life answer bears =
+    ap length (filter-append bears_status life.answers (answer ∷ [])) ∙ length-append (filter bears_status life.answers) (filter bears_status (answer ∷ []))
+    ∙ ap (λ (b : Bool). length (filter bears_status life.answers) + length (cond b (answer ∷ []) [])) bears
+
+one_more : (life : Life) (request : Frame) (answer : Answer) → bears_status answer ≡ true → IsLogin life → IsLogin (answered answer (asked request life))
+one_more life request answer bears h = record {
   came = h.came;
   finished = h.finished;
-  answered = length-append life.answers (answer ∷ []) ∙ ap (λ (n : ℕ). n + 1) h.answered ∙ sym (length-append life.requests (request ∷ []));
+  answered = status_more life answer bears ∙ ap (λ (n : ℕ). n + 1) h.answered ∙ sym (length-append life.requests (request ∷ []));
 }
 
-goes_on : (c place : ℕ) (bytes : List ℕ) (s : Setting) (sent : ℕ → ℕ) (w : World) (machine : Machine) (life : Life) (request : Frame) (answer : Answer) → Entering c place bytes s sent w machine life
+goes_on : (c place : ℕ) (bytes : List ℕ) (s : Setting) (sent : ℕ → ℕ) (w : World) (machine : Machine) (life : Life) (request : Frame) (answer : Answer) → bears_status answer ≡ true → Entering c place bytes s sent w machine life
     → Serves c (place + 1) bytes s sent (changed (answered answer) c (changed (asked request) c w))
     (with_link machine c (gone_on_link (advanced s.names (remembered s.names (life.connection + 1) life.requests) request) answer (link_at machine c)))
 unfolding changed
-goes_on c place bytes s sent w machine life request answer h =
+goes_on c place bytes s sent w machine life request answer bears h =
     let u = changed (asked request) c w in
     let l = asked request life in
     let at_u = present_asked c place bytes s sent w machine life request h in
@@ -130,7 +137,7 @@ goes_on c place bytes s sent w machine life request answer h =
       phase = ap phases_of.Login (sym (remembered-push s.names (life.connection + 1) life.requests request)) ∙ sym (ap (phase_for s.names m) h.phase);
       answered = rw out (let le = here.answered in omega (arith, length-append (out_of life) x));
       waiting = rw out (says (sent c) (link_at machine c).waiting (out_of life) x here.answered here.waiting);
-      quiet = quiet_login (place + 1) m life.phase h.phase (one_more life request answer h.asked_so);
+      quiet = quiet_login (place + 1) m life.phase h.phase (one_more life request answer bears h.asked_so);
       held = here.held;
     })
 
@@ -168,17 +175,17 @@ has_older c place bytes s sent w machine life session d h e =
     }
 
 -- the numbers of the session's first answer
-first_stamp : (life : Life) (request : Frame) (answer : Answer) (session : Params) → IsLogin life → HasNumbers ((length life.requests + 1) % 2 ^ 32) (first_cmd_sn (life.requests ++ request ∷ [])) session → stamp (begun session answer (asked request life)) ≡ first_numbers session
-first_stamp life request answer session h numbers =
-    let count : length (life.answers ++ answer ∷ []) ≡ length life.requests + 1 = length-append life.answers (answer ∷ []) ∙ ap (λ (n : ℕ). n + 1) h.answered in
+first_stamp : (life : Life) (request : Frame) (answer : Answer) (session : Params) → bears_status answer ≡ true → IsLogin life → HasNumbers ((length life.requests + 1) % 2 ^ 32) (first_cmd_sn (life.requests ++ request ∷ [])) session → stamp (begun session answer (asked request life)) ≡ first_numbers session
+first_stamp life request answer session bears h numbers =
+    let count : length (filter bears_status (life.answers ++ answer ∷ [])) ≡ length life.requests + 1 = status_more life answer bears ∙ ap (λ (n : ℕ). n + 1) h.answered in
     stamp-first (begun session answer (asked request life)) session h.came h.finished (ap (λ (n : ℕ). n % 2 ^ 32) count ∙ sym numbers.stat) (sym numbers.first_is)
 
 -- the connection itself, before the older one is ended
-begins_here : (c place : ℕ) (bytes : List ℕ) (s : Setting) (sent : ℕ → ℕ) (w : World) (machine : Machine) (life : Life) (request : Frame) (answer : Answer) (session : Params) → Entering c place bytes s sent w machine life
+begins_here : (c place : ℕ) (bytes : List ℕ) (s : Setting) (sent : ℕ → ℕ) (w : World) (machine : Machine) (life : Life) (request : Frame) (answer : Answer) (session : Params) → bears_status answer ≡ true → Entering c place bytes s sent w machine life
     → HasNumbers ((length life.requests + 1) % 2 ^ 32) (first_cmd_sn (life.requests ++ request ∷ [])) session
     → Serves c (place + 1) bytes s sent (record (changed (begun session answer) c (changed (asked request) c w)) { units = changed_units (join session.nexus) session.target w.units })
     (record (with_link machine c (begun_link session answer (link_at machine c))) { units = changed_units (join session.nexus) session.target machine.units })
-begins_here c place bytes s sent w machine life request answer session h numbers =
+begins_here c place bytes s sent w machine life request answer session bears h numbers =
     let u = changed (asked request) c w in
     let l = asked request life in
     let at_u = present_asked c place bytes s sent w machine life request h in
@@ -191,10 +198,10 @@ begins_here c place bytes s sent w machine life request answer session h numbers
     let x = spelling answer in
     let out : out_of b ≡ out_of life ++ x = out_more life request answer (FullFeature session) in
     replaced c place (place + 1) bytes s sent w v machine (changed_units (join session.nexus) session.target machine.units) (begun_link session answer (link_at machine c)) h.serves
-    (ap (λ (us : List Units). changed_units (join session.nexus) session.target us) (sym h.serves.units))
+    (ap (λ (us : List UnitStates). changed_units (join session.nexus) session.target us) (sym h.serves.units))
     (λ d differ. present-units d v (changed (begun session answer) c u) refl ∙ present-changed_other (begun session answer) c d u (λ k. refl) differ ∙ present-changed_other (asked request) c d w (λ k. refl) differ)
     (rw at record {
-      phase = ap (phases_of.FullFeature session) (sym (first_stamp life request answer session h.asked_so numbers));
+      phase = ap (phases_of.FullFeature session) (sym (first_stamp life request answer session bears h.asked_so numbers));
       answered = rw out (let le = here.answered in omega (arith, length-append (out_of life) x));
       waiting = rw out (says (sent c) (link_at machine c).waiting (out_of life) x here.answered here.waiting);
       quiet = rw (h.asked_so.came, h.asked_so.finished) record { numbered = tt; finished = refl };
@@ -205,18 +212,18 @@ units_changed : (d : ℕ) (w : World) → (changed shut d w).units ≡ w.units
 unfolding changed
 units_changed d w = refl
 
-begins_with : (c place : ℕ) (bytes : List ℕ) (s : Setting) (sent : ℕ → ℕ) (w : World) (machine : Machine) (life : Life) (request : Frame) (answer : Answer) (session : Params) (o : Option ℕ) → Entering c place bytes s sent w machine life → HasNumbers ((length life.requests + 1) % 2 ^ 32) (first_cmd_sn (life.requests ++ request ∷ [])) session → older session (sessions machine.links) ≡ o
+begins_with : (c place : ℕ) (bytes : List ℕ) (s : Setting) (sent : ℕ → ℕ) (w : World) (machine : Machine) (life : Life) (request : Frame) (answer : Answer) (session : Params) (o : Option ℕ) → bears_status answer ≡ true → Entering c place bytes s sent w machine life → HasNumbers ((length life.requests + 1) % 2 ^ 32) (first_cmd_sn (life.requests ++ request ∷ [])) session → older session (sessions machine.links) ≡ o
     → Serves c (place + 1) bytes s sent (record (changed (begun session answer) c (end_older o (changed (asked request) c w))) { units = changed_units (join session.nexus) session.target w.units })
     (shut_older o (record (with_link machine c (begun_link session answer (link_at machine c))) { units = changed_units (join session.nexus) session.target machine.units }))
-begins_with c place bytes s sent w machine life request answer session None h numbers e = begins_here c place bytes s sent w machine life request answer session h numbers
-begins_with c place bytes s sent w machine life request answer session (Some d) h numbers e =
+begins_with c place bytes s sent w machine life request answer session None bears h numbers e = begins_here c place bytes s sent w machine life request answer session bears h numbers
+begins_with c place bytes s sent w machine life request answer session (Some d) bears h numbers e =
     let older_ = has_older c place bytes s sent w machine life session d h e in
     let u = changed (asked request) c w in
     let first : World = record (changed (begun session answer) c u) { units = changed_units (join session.nexus) session.target w.units } in
     let v = changed shut d first in
     let last : World = record (changed (begun session answer) c (changed shut d u)) { units = changed_units (join session.nexus) session.target w.units } in
     let m = record (with_link machine c (begun_link session answer (link_at machine c))) { units = changed_units (join session.nexus) session.target machine.units } in
-    let begun_ = begins_here c place bytes s sent w machine life request answer session h numbers in
+    let begun_ = begins_here c place bytes s sent w machine life request answer session bears h numbers in
     let link_d : link_at m d ≡ link_at machine d = get_or-set_other machine.links c d (begun_link session answer (link_at machine c)) free_link older_.apart in
     let first_d : present d first ≡ Some older_.other = present-units d first (changed (begun session answer) c u) refl ∙ present-changed_other (begun session answer) c d u (λ k. refl) older_.apart ∙ present-changed_other (asked request) c d w (λ k. refl) older_.apart ∙ older_.at in
     let v_d : present d v ≡ Some (shut older_.other) = present-changed shut d first older_.other first_d (shut_present d older_.other (present_is d w older_.other older_.at)) in
@@ -256,11 +263,12 @@ replies : (c place : ℕ) (bytes : List ℕ) (s : Setting) (sent : ℕ → ℕ) 
     → reply_of (remembered s.names (life.connection + 1) life.requests) lookup request ≡ reply
     → Serves c (place + 1) bytes s sent (replied reply c (changed (asked request) c w)) (machine_replied reply (advanced s.names (remembered s.names (life.connection + 1) life.requests) request) c machine)
 unfolding changed
-replies c place bytes s sent w machine life lookup request (GoOn answer) h e = goes_on c place bytes s sent w machine life request answer h
-replies c place bytes s sent w machine life lookup request (Refused answer) h e = refuses c place bytes s sent w machine life request answer h
-replies c place bytes s sent w machine life lookup request (Full answer session) h e =
-    let numbers = begun_numbers s.names (life.connection + 1) life.requests lookup request answer session e in
-    rw (live_asked c place bytes s sent w machine life request h, units_asked c w request) (begins_with c place bytes s sent w machine life request answer session (older session (sessions machine.links)) h numbers refl)
+replies c place bytes s sent w machine life lookup request (GoOn response) h e = goes_on c place bytes s sent w machine life request (answers.LoginResponse response) refl h
+replies c place bytes s sent w machine life lookup request (Refused response) h e = refuses c place bytes s sent w machine life request (answers.LoginResponse response) h
+replies c place bytes s sent w machine life lookup request (Full response session) h e =
+    let answer : Answer = answers.LoginResponse response in
+    let numbers = begun_numbers s.names (life.connection + 1) life.requests lookup request response session e in
+    rw (live_asked c place bytes s sent w machine life request h, units_asked c w request) (begins_with c place bytes s sent w machine life request answer session (older session (sessions machine.links)) refl h numbers refl)
 
 -- a Login request
 pub logs_in : (c place : ℕ) (bytes : List ℕ) (s : Setting) (sent : ℕ → ℕ) (w : World) (machine : Machine) (life : Life) (request : Frame) → Serves c place bytes s sent w machine → present c w ≡ Some life → life.phase ≡ LoggingIn → IsLogin life

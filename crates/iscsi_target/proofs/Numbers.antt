@@ -1,6 +1,6 @@
 -- The numbers of a life and what is ready in it, one request or one answer further on.
-use Rattle.std.proofs.Common.{◌≡◌, ℕ, ◌+◌, ◌-◌, ◌^◌, ◌%◌, List, [], ◌∷◌, ◌++◌, length, Bool, true, false, cond, refl, sym, ap, ◌∙◌, arith}
-use Rattle.std.specs.Prelude.{filter, take_while, flat_map}
+use Rattle.std.proofs.Common.{◌≡◌, ℕ, ◌+◌, ◌-◌, ◌^◌, ◌%◌, List, [], ◌∷◌, ◌++◌, length, true, false, refl, sym, ap, ◌∙◌, arith}
+use Rattle.std.specs.Prelude.{filter, map, take_while, flat_map}
 use Rattle.std.proofs.lemmas.List.{append-nil, length-append, map-append}
 use Rattle.std.proofs.lemmas.List.Elements.{filter-append}
 use Rattle.std.proofs.lemmas.Grind.{flat_map-append}
@@ -9,10 +9,15 @@ use Rattle.iscsi_pdu.specs.Header.{cmd_sn}
 use Rattle.iscsi_pdu.specs.ScsiCommand.{is_write}
 use Rattle.iscsi_pdu.specs.Answer.{spelling}
 use Rattle.iscsi_pdu.specs.declared.answer.Answer.{Answer}
-use Rattle.iscsi_pdu.specs.declared.answer.Answer.TheVariants as answers
 use Rattle.iscsi_target.specs.Life.{Accepted, Life, taken, stamp, bears_status, first_cmd_sn, index_of, ready, is_complete, is_unfinished, out_of}
 use Rattle.iscsi_login.specs.declared.params.Params.{Params}
 use Rattle.iscsi_target.specs.World.{accepted, answered}
+use Rattle.iscsi_target.specs.Acts.{data_sent, sent_pieces, data_in, data_answers, scsi_answer, command_answers}
+use Rattle.iscsi_transfer.specs.declared.data_in.Piece.{Piece}
+use Rattle.iscsi_pdu.specs.declared.stamp.Stamp.{Stamp}
+use Rattle.scsi_sense.specs.Done.{Outcome}
+use Rattle.iscsi_login.specs.declared.values.Values.{Values}
+use Rattle.std.specs.List.{enumerate_from}
 use Rattle.iscsi_target.specs.Machine.{next_number, counted, finished_one, first_numbers}
 use Rattle.iscsi_target.specs.Stands.{AreNumbered, IsFinished}
 use Rattle.iscsi_target.proofs.Counting.{place_of, AreNumbered-push, taken_all, last_unfinished, eqb_self}
@@ -21,20 +26,41 @@ use Rattle.iscsi_target.proofs.Counting.{place_of, AreNumbered-push, taken_all, 
 pub next_mod : (n : ℕ) → next_number (n % 2 ^ 32) ≡ (n + 1) % 2 ^ 32
 next_mod n = omega arith
 
--- each answer bears status
-bears : (answer : Answer) → bears_status answer ≡ true
-bears (answers.ScsiResponse response) = refl
-bears (answers.LoginResponse response) = refl
+-- ---- more answers
 
--- ---- one more answer
+-- so many of them bear status
+abbrev pub bearing : List Answer → ℕ
+bearing all = length (filter bears_status all)
 
-pub stamp-answered : (life : Life) (answer : Answer) → stamp (answered answer life) ≡ counted (stamp life)
+bearing-append : (xs ys : List Answer) → bearing (xs ++ ys) ≡ bearing xs + bearing ys
+bearing-append xs ys = ap length (filter-append bears_status xs ys) ∙ length-append (filter bears_status xs) (filter bears_status ys)
+
+abbrev pub answered_all : List Answer → Life → Life
+answered_all more life = record life { answers = life.answers ++ more }
+
+pub stamp-answered : (life : Life) (more : List Answer) → bearing more ≡ 1 → stamp (answered_all more life) ≡ counted (stamp life)
 unfolding stamp counted taken
-stamp-answered life answer =
-    let n = length (filter bears_status life.answers) in
-    let more : length (filter bears_status (life.answers ++ answer ∷ [])) ≡ n + 1 =
-    ap length (filter-append bears_status life.answers (answer ∷ [])) ∙ length-append (filter bears_status life.answers) (filter bears_status (answer ∷ [])) ∙ ap (λ (b : Bool). n + length (cond b (answer ∷ []) [])) (bears answer) in
-    ap (λ (k : ℕ). record (stamp life) { stat_sn = k }) (ap (λ (k : ℕ). k % 2 ^ 32) more ∙ sym (next_mod n))
+stamp-answered life more one =
+    let n = bearing life.answers in
+    let next : bearing (life.answers ++ more) ≡ n + 1 = bearing-append life.answers more ∙ ap (λ (k : ℕ). n + k) one in
+    ap (λ (k : ℕ). record (stamp life) { stat_sn = k }) (ap (λ (k : ℕ). k % 2 ^ 32) next ∙ sym (next_mod n))
+
+pub out-answered_all : (life : Life) (more : List Answer) → out_of (answered_all more life) ≡ out_of life ++ flat_map spelling more
+unfolding out_of
+out-answered_all life more = flat_map-append spelling life.answers more
+
+-- a Data-In bears none
+none_bear : (numbers : Stamp) (frame : Frame) (sent : List ℕ) (k : ℕ) (pieces : List Piece) → bearing (map (data_in numbers frame sent) (enumerate_from k pieces)) ≡ 0
+none_bear numbers frame sent k [] = refl
+none_bear numbers frame sent k (piece ∷ pieces) = none_bear numbers frame sent (k + 1) pieces
+
+-- the answers of a command bear one status
+pub one_bears : (numbers : Stamp) (values : Values) (frame : Frame) (done : Outcome) → bearing (command_answers numbers values frame done) ≡ 1
+unfolding data_answers scsi_answer
+one_bears numbers values frame done =
+    let sent = data_sent frame done in
+    bearing-append (data_answers numbers values frame sent) (scsi_answer numbers frame done (length (sent_pieces values sent)) ∷ [])
+    ∙ ap (λ (k : ℕ). k + 1) (none_bear numbers frame sent 0 (sent_pieces values sent))
 
 pub out-answered : (life : Life) (answer : Answer) → out_of (answered answer life) ≡ out_of life ++ spelling answer
 unfolding out_of
@@ -102,15 +128,11 @@ finished_is place life frame h e = record {
 
 -- ---- the first answer in full feature phase
 
-bears_all : (answers : List Answer) → length (filter bears_status answers) ≡ length answers
-bears_all [] = refl
-bears_all (answer ∷ answers) = rw (bears answer, bears_all answers) refl
-
 -- its numbers, where the Login requests alone were answered
-pub stamp-first : (life : Life) (session : Params) → life.came ≡ [] → life.finished ≡ [] → length life.answers % 2 ^ 32 ≡ session.next_stat_sn → first_cmd_sn life.requests ≡ session.first_cmd_sn → stamp life ≡ first_numbers session
+pub stamp-first : (life : Life) (session : Params) → life.came ≡ [] → life.finished ≡ [] → bearing life.answers % 2 ^ 32 ≡ session.next_stat_sn → first_cmd_sn life.requests ≡ session.first_cmd_sn → stamp life ≡ first_numbers session
 unfolding stamp taken first_numbers
 stamp-first life session came finished stat first =
     let exp : (session.first_cmd_sn + 0) % 2 ^ 32 ≡ session.first_cmd_sn % 2 ^ 32 = omega arith in
     let max : (session.first_cmd_sn + 31 + 0) % 2 ^ 32 ≡ (session.first_cmd_sn + 31) % 2 ^ 32 = omega arith in
-    rw (came, finished, bears_all life.answers, stat, first)
+    rw (came, finished, stat, first)
     (ap (λ (e : ℕ). record (first_numbers session) { exp_cmd_sn = e; max_cmd_sn = (session.first_cmd_sn + 31 + 0) % 2 ^ 32 }) exp ∙ ap (λ (m : ℕ). record (first_numbers session) { max_cmd_sn = m }) max)

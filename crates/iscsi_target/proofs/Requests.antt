@@ -3,7 +3,7 @@ use Rattle.std.proofs.Common.{◌≡◌, ℕ, ◌+◌, ◌^◌, ◌%◌, List, [
 use Rattle.std.specs.Prelude.{fold, unwrap_or}
 use Rattle.std.proofs.lemmas.List.Sums.{fold-append}
 use Rattle.iscsi_pdu.specs.Frames.{Frame}
-use Rattle.iscsi_pdu.specs.declared.answer.Answer.{Answer}
+use Rattle.iscsi_pdu.specs.declared.login_response.LoginResponse.{LoginResponse}
 use Rattle.iscsi_pdu.specs.declared.login_response.LoginRefusal.{LoginRefusal}
 use Rattle.iscsi_login.specs.Lookup.{Lookup}
 use Rattle.iscsi_login.specs.LoginState.{LoginState, new_login, opening_of}
@@ -82,33 +82,33 @@ params_numbers : (login : LoginState) (header : List ℕ) (session : Session) �
 unfolding params_of
 params_numbers login header session = record { stat = refl; first_is = refl }
 
-with_numbers : (o : Option Session) (a answer : Answer) (login : LoginState) (header : List ℕ) (session : Params) → reply_with a login header o ≡ Full answer session → HasNumbers ((login.answers + 1) % 2 ^ 32) (opening_with login header).cmd_sn session
-with_numbers None a answer login header session e = absurd cc
-with_numbers (Some asked) a answer login header session e =
+with_numbers : (o : Option Session) (a response : LoginResponse) (login : LoginState) (header : List ℕ) (session : Params) → reply_with a login header o ≡ Full response session → HasNumbers ((login.answers + 1) % 2 ^ 32) (opening_with login header).cmd_sn session
+with_numbers None a response login header session e = absurd cc
+with_numbers (Some asked) a response login header session e =
     let same : params_of login header asked ≡ session = cc in
     rw (← same) (params_numbers login header asked)
 
-to_numbers : (login : LoginState) (request : Frame) (answer : Answer) (session : Params) → reply_to login request ≡ Full answer session → HasNumbers ((login.answers + 1) % 2 ^ 32) (opening_with login request.header).cmd_sn session
+to_numbers : (login : LoginState) (request : Frame) (response : LoginResponse) (session : Params) → reply_to login request ≡ Full response session → HasNumbers ((login.answers + 1) % 2 ^ 32) (opening_with login request.header).cmd_sn session
 unfolding reply_to
-to_numbers login request answer session e = with_numbers (begun_by login (step_of request.header login.due)) _ answer login request.header session e
+to_numbers login request response session e = with_numbers (begun_by login (step_of request.header login.due)) _ response login request.header session e
 
-unless_numbers : (o : Option LoginRefusal) (login : LoginState) (lookup : Lookup) (request : Frame) (answer : Answer) (session : Params) → reply_unless o lookup login request ≡ Full answer session
+unless_numbers : (o : Option LoginRefusal) (login : LoginState) (lookup : Lookup) (request : Frame) (response : LoginResponse) (session : Params) → reply_unless o lookup login request ≡ Full response session
     → HasNumbers ((login.answers + 1) % 2 ^ 32) (opening_with login request.header).cmd_sn session
-unless_numbers (Some refusal) login lookup request answer session e = absurd cc
-unless_numbers None login lookup request answer session e =
+unless_numbers (Some refusal) login lookup request response session e = absurd cc
+unless_numbers None login lookup request response session e =
     let same = brought_same lookup.names login request in
-    let numbers = to_numbers (brought lookup.names login request) request answer session e in
+    let numbers = to_numbers (brought lookup.names login request) request response session e in
     record {
       stat = numbers.stat ∙ ap (λ (n : ℕ). (n + 1) % 2 ^ 32) same.answers;
       first_is = numbers.first_is ∙ ap (λ (o : Option Opening). (unwrap_or o (opening_of request.header)).cmd_sn) same.opening;
     }
 
-pub begun_numbers : (names : List (List ℕ)) (handle : ℕ) (requests : List Frame) (lookup : Lookup) (request : Frame) (answer : Answer) (session : Params) → reply_of (remembered names handle requests) lookup request ≡ Full answer session
+pub begun_numbers : (names : List (List ℕ)) (handle : ℕ) (requests : List Frame) (lookup : Lookup) (request : Frame) (response : LoginResponse) (session : Params) → reply_of (remembered names handle requests) lookup request ≡ Full response session
     → HasNumbers ((length requests + 1) % 2 ^ 32) (first_cmd_sn (requests ++ request ∷ [])) session
 unfolding reply_of
-begun_numbers names handle requests lookup request answer session e =
+begun_numbers names handle requests lookup request response session e =
     let login = remembered names handle requests in
-    let numbers = unless_numbers (refusal_of login lookup request) login lookup request answer session e in
+    let numbers = unless_numbers (refusal_of login lookup request) login lookup request response session e in
     let next : ((length requests % 2 ^ 32) + 1) % 2 ^ 32 ≡ (length requests + 1) % 2 ^ 32 = omega arith in
     record {
       stat = numbers.stat ∙ ap (λ (n : ℕ). (n + 1) % 2 ^ 32) (answers_counted names handle requests) ∙ next;

@@ -1,19 +1,19 @@
 -- What is kept of each life of a history, from one event to the next.
 use Rattle.std.proofs.Common.{◌≡◌, ◌≢◌, ℕ, ◌<◌, List, [], ◌∷◌, ◌++◌, map, Bool, true, false, cond, not, ◌&&◌, ◌||◌, eqb, Option, Some, None, refl, sym, ap, ◌∙◌, subst, inl, inr}
-use Rattle.std.specs.Prelude.{find, nat_lt}
+use Rattle.std.specs.Prelude.{find}
 use Rattle.std.specs.List.{AllByRecursion}
-use Rattle.std.proofs.lemmas.Bool.{ne_eqb, eqb-true, ltb-true}
+use Rattle.std.proofs.lemmas.Bool.{ne_eqb, eqb-true}
 use Rattle.std.proofs.lemmas.Bool.Decides.{eqb_tells}
 use Rattle.std.proofs.lemmas.List.{map-append}
 use Rattle.std.proofs.lemmas.List.Folds.{list_any-append}
-use Rattle.iscsi_target.specs.History.{Event, Open, Bytes, Gone, History, plain, is_among, may_come, open_after, connection_limit}
+use Rattle.iscsi_target.specs.History.{Open, Bytes, Gone, History, plain, is_among, open_after, connection_limit}
 use Rattle.iscsi_target.specs.Life.{Life, Over, is_over, born, out_of}
 use Rattle.iscsi_target.specs.World.{Setting, World, is_present, present, changed_life, changed, end, world}
 use Rattle.iscsi_target.specs.Output.{out_now, outputs}
 use Rattle.iscsi_target.specs.Machine.{Machine, link_at, is_free, is_open_at}
 use Rattle.iscsi_target.specs.Stands.{phase_of, Stands, with_sent}
 use Rattle.iscsi_target.specs.Runs.{MayCome, RowState, open_row, over_row, row_of, finished_in, finished, is_on, ended, has, IsFree, AreDistinct, Runs}
-use Rattle.iscsi_target.proofs.Choices.{cond_true, cond_false, and_true, and_false, not_true}
+use Rattle.iscsi_target.proofs.Choices.{cond_true, cond_false, and_true, and_false}
 use Rattle.iscsi_target.proofs.Counting.{eqb_self}
 use Rattle.iscsi_target.proofs.Standing.{world-push, present_open, stands_sent}
 use Rattle.iscsi_target.proofs.Tables.{among-gone, among-gone_other}
@@ -129,14 +129,6 @@ is_open s machine rows before history c r lt =
     ∙ open_in s.names c (world s history) (present c (world s history)) refl
     ∙ sym (has_row s machine rows before history r c) ∙ r.tracks c
 
-pub comes : (s : Setting) (machine : Machine) (rows : List RowState) (before : List ℕ) (history : History) (event : Event) → Runs s machine rows before history → may_come before event ≡ true → MayCome machine event
-comes s machine rows before history (Open c) r e =
-    let both = and_true (nat_lt c connection_limit) (not (is_among c before)) e in
-    let lt : c < connection_limit = ltb-true c connection_limit both.0 in
-    (lt, is_open s machine rows before history c r lt ∙ not_true _ both.1)
-comes s machine rows before history (Bytes c piece) r e = (r.below c e, is_open s machine rows before history c r (r.below c e) ∙ e)
-comes s machine rows before history (Gone c) r e = (r.below c e, is_open s machine rows before history c r (r.below c e) ∙ e)
-
 -- ---- the beginning
 
 pub new_runs : (s : Setting) (machine : Machine) → Stands s (λ k. 0) machine [] → Runs s machine [] [] []
@@ -180,7 +172,7 @@ or_swap true false = refl
 or_swap false true = refl
 or_swap false false = refl
 
-below_more : (c : ℕ) (before : List ℕ) → c < connection_limit → ((d : ℕ) → is_among d before ≡ true → d < connection_limit) → (d : ℕ) → is_among d (c ∷ before) ≡ true → d < connection_limit
+pub below_more : (c : ℕ) (before : List ℕ) → c < connection_limit → ((d : ℕ) → is_among d before ≡ true → d < connection_limit) → (d : ℕ) → is_among d (c ∷ before) ≡ true → d < connection_limit
 below_more c before lt below d e = elim (eqb_tells c d) [
   | inl same ↦ subst (λ (k : ℕ). k < connection_limit) same.1 lt
   | inr differ ↦ below d (rw differ.0 at e)

@@ -6,7 +6,7 @@ use Rattle.std.proofs.lemmas.Bool.Decides.{eqb_tells}
 use Rattle.std.proofs.lemmas.List.{length-map, length-set, get_or-map, get_or-set_same, get_or-set_other, drop-append-le, ext_get_or}
 use Rattle.std.proofs.lemmas.List.FromFn.{get_or-map-range_with_len, length-map-range_with_len}
 use Rattle.iscsi_target.specs.History.{Mark, Step, Judging, Taking, Doing, connection_limit}
-use Rattle.iscsi_target.specs.Units.{Units}
+use Rattle.scsi_unit.specs.Units.{UnitStates}
 use Rattle.iscsi_target.specs.Life.{Life, Phase, LoggingIn, FullFeature, Closing, Over, session_in, out_of}
 use Rattle.iscsi_target.specs.World.{Setting, World, is_present, present, changed, reads_life, session_of, live, left, close, shut, is_marked, take_step}
 use Rattle.iscsi_target.specs.Output.{out_now}
@@ -79,7 +79,7 @@ sessions_there c place bytes s sent w machine h d lt = ap session_in_phase (phas
 
 -- ---- one connection changes
 
-pub replaced : (c place later : ℕ) (bytes : List ℕ) (s : Setting) (sent : ℕ → ℕ) (w v : World) (machine : Machine) (units : List Units) (link : LinkState) → Serves c place bytes s sent w machine
+pub replaced : (c place later : ℕ) (bytes : List ℕ) (s : Setting) (sent : ℕ → ℕ) (w v : World) (machine : Machine) (units : List UnitStates) (link : LinkState) → Serves c place bytes s sent w machine
     → v.units ≡ units → ((d : ℕ) → d ≢ c → present d v ≡ present d w) → IsServing s.names later bytes (sent c) link (present c v)
     → Serves c later bytes s sent v (record machine { units = units; links = set machine.links c link })
 replaced c place later bytes s sent w v machine units link h u other here =

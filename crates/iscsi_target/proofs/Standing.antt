@@ -8,7 +8,7 @@ use Rattle.iscsi_pdu.specs.Frames.{is_long}
 use Rattle.iscsi_pdu.proofs.Frames.{no_frame, rest_none}
 use Rattle.iscsi_login.specs.Login.{remembered}
 use Rattle.iscsi_target.specs.History.{Open, Gone, Happening, History, plain, arrivals, connection_limit}
-use Rattle.iscsi_target.specs.Units.{Units}
+use Rattle.scsi_unit.specs.Units.{UnitStates}
 use Rattle.iscsi_target.specs.Life.{Life, Phase, LoggingIn, FullFeature, Closing, Over, born, is_over, out_of}
 use Rattle.iscsi_target.specs.World.{Setting, World, present, changed, session_of, left, end, happened, new_world, world}
 use Rattle.iscsi_target.specs.Machine.{LinkState, Machine, link_at, with_link, closed, is_free, is_open_at, free_link, opened_link, shut_link, session_in_phase, new_machine}
@@ -101,7 +101,7 @@ pub sent_there : (sent : ℕ → ℕ) (c n d : ℕ) → d ≢ c → with_sent se
 sent_there sent c n d differ = cond_false (eqb d c) n (sent d) (ne_eqb d c differ)
 
 -- a link changes, and how much of its answers was sent
-pub relinked : (s : Setting) (sent : ℕ → ℕ) (w v : World) (machine : Machine) (c n : ℕ) (units : List Units) (link : LinkState) → c < connection_limit → StandsAt s sent w machine → v.units ≡ units
+pub relinked : (s : Setting) (sent : ℕ → ℕ) (w v : World) (machine : Machine) (c n : ℕ) (units : List UnitStates) (link : LinkState) → c < connection_limit → StandsAt s sent w machine → v.units ≡ units
     → ((d : ℕ) → d ≢ c → present d v ≡ present d w) → IsLinkOf s.names n link (present c v) → StandsAt s (with_sent sent c n) v (record machine { units = units; links = set machine.links c link })
 relinked s sent w v machine c n units link lt h u other here = record {
   names = h.names;

@@ -1,24 +1,31 @@
 -- The bytes of the examples: what the initiator `a` sends and what the target `t1` answers, each written
 -- by hand from RFC 7143 §11 and SPC-4 §4.5.3. A header is three lines of 16 bytes.
-use Rattle.std.specs.Prelude.{ℕ, List, [], ◌∷◌, ◌++◌, take, drop, map, replicate, Bool, true}
+use Rattle.std.specs.Prelude.{ℕ, List, [], ◌∷◌, ◌++◌, take, drop, map, replicate, Bool, true, false}
 use Rattle.iscsi_pdu.specs.Frames.{frames, rest, has_frame, is_long, first_frame, frame_length}
-use Rattle.scsi_cdb.specs.declared.command.Kind.TheVariants.{Disk, Tape}
 use Rattle.iscsi_target.specs.History.{History, arrivals, new_arrivals}
-use Rattle.iscsi_target.specs.Units.{free_unit, perform, perform_at, told, without_unit, lun_number, join, leave}
+use Rattle.scsi_unit.specs.Identity.{without_unit}
+use Rattle.scsi_unit.specs.Joined.{told, told_before}
+use Rattle.scsi_unit.specs.Medium.{MediumState, Disk, Tape}
+use Rattle.scsi_unit.specs.Unit.{free_unit, commanded, perform_at, lun_number}
+use Rattle.scsi_unit.specs.Units.{perform, join, leave}
 use Rattle.iscsi_login.specs.ExamplesLogin.{computed as login_computed}
 use Rattle.iscsi_login.specs.Session.{older}
 use Rattle.iscsi_target.specs.Life.{Life, reads, taken, stamp, index_of, ready, out_of}
-use Rattle.iscsi_target.specs.Acts.{is_login, verdict, carried_out, scsi_answer}
+use Rattle.iscsi_target.specs.Acts.{is_login, verdict, carried_out, data_answers, scsi_answer}
 use Rattle.iscsi_target.specs.World.{Setting, present, changed, live, changed_units, close, end, is_marked, take_step, log_in, judge, finish, settle, serve, arrive, bring, world}
 use Rattle.iscsi_target.specs.Output.{outputs}
 
 -- ---- what the target is made with
 
+-- a disk of 4096 zero blocks
+abbrev pub zero_disk : MediumState
+zero_disk = Disk (record { blocks = replicate 4096 (replicate 512 0); synced = false; failures = 0; honest = true })
+
 -- the target `t1` with LUN 0, a disk, and LUN 1, a tape
 abbrev pub one_target : Setting
 one_target = record {
   names = (0x74 ∷ 0x31 ∷ []) ∷ [];
-  units = (free_unit (record { lun = 0; kind = Disk }) ∷ free_unit (record { lun = 1; kind = Tape }) ∷ []) ∷ [];
+  units = (free_unit 0 [] zero_disk ∷ free_unit 1 [] Tape ∷ []) ∷ [];
 }
 
 -- whether frames of each life are read, in the order in which they began
@@ -27,7 +34,7 @@ are_read s history = map (λ (life : Life). reads life.phase) (world s history).
 
 -- what an example unfolds
 unfoldable pub computed : Bool
-unfolding frames rest has_frame is_long first_frame frame_length login_computed arrivals new_arrivals perform perform_at told without_unit lun_number join leave older taken stamp index_of ready out_of is_login verdict carried_out scsi_answer present changed live changed_units close end is_marked take_step log_in judge finish settle serve arrive bring world outputs
+unfolding frames rest has_frame is_long first_frame frame_length login_computed arrivals new_arrivals perform perform_at commanded told told_before without_unit lun_number join leave older taken stamp index_of ready out_of is_login verdict carried_out data_answers scsi_answer present changed live changed_units close end is_marked take_step log_in judge finish settle serve arrive bring world outputs
 computed = true
 
 -- ---- Login requests (RFC 7143 §11.12)

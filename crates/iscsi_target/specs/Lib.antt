@@ -10,9 +10,14 @@ pub use Rattle.scsi_sense.specs.Sense
 pub use Rattle.scsi_sense.specs.Done
 pub use Rattle.scsi_sense.specs.Nexus
 pub use Rattle.scsi_cdb.specs.Command
+pub use Rattle.iscsi_transfer.specs.DataIn
+pub use Rattle.media_block.specs.Blocks
+pub use Rattle.scsi_unit.specs.Medium
+pub use Rattle.scsi_unit.specs.Unit
+pub use Rattle.scsi_unit.specs.Units
 pub mod History
-pub mod Units
 pub mod Life
+pub mod Room
 pub mod Acts
 pub mod World
 pub mod Output
@@ -23,3 +28,4 @@ pub mod Runs
 pub mod Laws
 pub mod ExamplesBytes
 pub mod ExamplesWorld
+pub mod ExamplesData

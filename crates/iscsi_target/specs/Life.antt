@@ -78,10 +78,11 @@ taken life = taken_from (length life.came) 0 life.came
 abbrev pub window : ℕ
 window = 32
 
--- each answer so far bears status and so uses a StatSN
+-- an answer that bears status uses a StatSN; a Data-In does not
 abbrev pub bears_status : Answer → Bool
 bears_status (answers.ScsiResponse response) = true
 bears_status (answers.LoginResponse response) = true
+bears_status (answers.DataIn piece) = false
 
 -- StatSN counts the answers that bear status, ExpCmdSN the requests taken, MaxCmdSN those finished
 unfoldable pub stamp : Life → Stamp

@@ -1,15 +1,18 @@
 -- What a clause sees of the target: for each connection the bytes that are no whole frame yet, its phase
 -- and what waits to be sent, and the units of each target.
-use Rattle.std.specs.Prelude.{◌≡◌, ℕ, ◌+◌, ◌-◌, ◌^◌, ◌%◌, ◌<◌, List, [], ◌∷◌, ◌++◌, length, drop, map, flat_map, replicate, Bool, true, false, ◌||◌, not, nat_lt, Option, Some, None, slice_index_or, slice_set, if◌then◌else◌, ⊤}
+use Rattle.std.specs.Prelude.{◌≡◌, All, ℕ, ◌+◌, ◌-◌, ◌^◌, ◌%◌, ◌<◌, List, [], ◌∷◌, ◌++◌, length, drop, map, flat_map, replicate, Bool, true, false, ◌||◌, not, nat_lt, Option, Some, None, slice_index_or, slice_set, if◌then◌else◌, ⊤}
 use Rattle.iscsi_pdu.specs.Frames.{Frame, frames, rest, wanted}
 use Rattle.iscsi_pdu.specs.Answer.{spelling}
 use Rattle.iscsi_pdu.specs.declared.stamp.Stamp.{Stamp}
 use Rattle.iscsi_pdu.specs.declared.answer.Answer.{Answer}
+use Rattle.iscsi_pdu.specs.declared.answer.Answer.TheVariants as answers
+use Rattle.iscsi_pdu.specs.declared.login_response.LoginResponse.{LoginResponse}
 use Rattle.iscsi_target.specs.History.{connection_limit}
-use Rattle.iscsi_target.specs.Units.{Units, join}
+use Rattle.scsi_unit.specs.Units.{UnitStates, AreSound, join}
 use Rattle.iscsi_login.specs.Session.{Live, older}
 use Rattle.iscsi_login.specs.LoginState.{LoginState, AsksBelow, new_login}
 use Rattle.iscsi_login.specs.Login.{advanced, reply_of}
+use Rattle.iscsi_login.specs.Values.{AreInRange}
 use Rattle.iscsi_target.specs.Life.{window}
 use Rattle.iscsi_target.specs.Acts.{is_login, verdict, carried_out, command_answers}
 use Rattle.iscsi_target.specs.World.{left, changed_units, lookup_for}
@@ -30,8 +33,16 @@ pub record LinkState : Type 0 where
 
 pub record Machine : Type 0 where
   pub names : List (List ℕ)
-  pub units : List Units
+  pub units : List UnitStates
   pub links : List LinkState
+
+-- The store of each unit gives back what was written, and no call of it has failed (own). What is said of
+-- media, and of what is read from them, holds where this does.
+abbrev pub IsSound : Machine → Type 0
+IsSound machine = All AreSound machine.units
+
+abbrev pub WhereSound : Machine → Type 0 → Type 0
+WhereSound machine P = IsSound machine → P
 
 abbrev pub free_link : LinkState
 free_link = record { half = []; phase = Free; waiting = [] }
@@ -116,13 +127,13 @@ abbrev pub begun_link : Params → Answer → LinkState → LinkState
 begun_link session answer link = record link { phase = FullFeature session (first_numbers session); waiting = link.waiting ++ spelling answer }
 
 -- a command is done and answered
-abbrev pub served : Params → Stamp → Frame → LinkState → List Units → LinkState × List Units
+abbrev pub served : Params → Stamp → Frame → LinkState → List UnitStates → LinkState × List UnitStates
 served session numbers frame link all =
     let p = carried_out (slice_index_or all session.target []) session.nexus frame in
     let over = finished_one numbers in
-    (record link { phase = FullFeature session (counted over); waiting = link.waiting ++ flat_map spelling (command_answers over frame p.1) }, slice_set all session.target p.0)
+    (record link { phase = FullFeature session (counted over); waiting = link.waiting ++ flat_map spelling (command_answers over session.values frame p.1) }, slice_set all session.target p.0)
 
-abbrev pub served_in : LinkState → List Units → Frame → Phase → LinkState × List Units
+abbrev pub served_in : LinkState → List UnitStates → Frame → Phase → LinkState × List UnitStates
 served_in link all frame (FullFeature session numbers) = served session numbers frame link all
 served_in link all frame _ = (link, all)
 
@@ -143,9 +154,9 @@ begun session answer c machine =
     shut_older (older session (sessions machine.links)) (record (with_link machine c (begun_link session answer (link_at machine c))) { units = changed_units (join session.nexus) session.target machine.units })
 
 abbrev pub replied : Reply → LoginState → ℕ → Machine → Machine
-replied (GoOn answer) login c machine = with_link machine c (gone_on_link login answer (link_at machine c))
-replied (Refused answer) login c machine = with_link machine c (refused_link answer (link_at machine c))
-replied (Full answer session) login c machine = begun session answer c machine
+replied (GoOn response) login c machine = with_link machine c (gone_on_link login (answers.LoginResponse response) (link_at machine c))
+replied (Refused response) login c machine = with_link machine c (refused_link (answers.LoginResponse response) (link_at machine c))
+replied (Full response session) login c machine = begun session (answers.LoginResponse response) c machine
 
 -- a Login request, where this is remembered of those before it
 unfoldable pub logged_in : Machine → ℕ → LoginState → Frame → Machine
@@ -153,10 +164,10 @@ logged_in machine c login request =
     replied (reply_of login (lookup_for machine.names (sessions machine.links) request) request) (advanced machine.names login request) c machine
 
 -- a Login request was taken: it was answered, or what begins full feature phase is still to be sent
-abbrev pub IsAnswered : Reply → LoginState → LinkState → Option (Answer × Params) → LinkState → Type 0
-IsAnswered (GoOn answer) login old begun new = (begun ≡ None) × (new ≡ gone_on_link login answer old)
-IsAnswered (Refused answer) login old begun new = (begun ≡ None) × (new ≡ refused_link answer old)
-IsAnswered (Full answer session) login old begun new = (begun ≡ Some (answer, session)) × (new ≡ record old { phase = new.phase }) × (is_logging_in new.phase ≡ true)
+abbrev pub IsAnswered : Reply → LoginState → LinkState → Option (LoginResponse × Params) → LinkState → Type 0
+IsAnswered (GoOn response) login old begun new = (begun ≡ None) × (new ≡ gone_on_link login (answers.LoginResponse response) old)
+IsAnswered (Refused response) login old begun new = (begun ≡ None) × (new ≡ refused_link (answers.LoginResponse response) old)
+IsAnswered (Full response session) login old begun new = (begun ≡ Some (response, session)) × (new ≡ record old { phase = new.phase }) × (is_logging_in new.phase ≡ true)
 
 abbrev pub judged : Verdict → Machine → ℕ → Frame → Machine
 judged verdicts.Violating machine c frame = closed machine c
@@ -179,13 +190,23 @@ pub record GivesFrame (frame : Frame) (before after : List ℕ) : Type 0 where
   pub behind : rest after ≡ rest before
   pub shorter : length after < length before
 
--- the target that its session or its login is with is one of so many
-abbrev pub HasTarget : ℕ → Phase → Type 0
-HasTarget count (FullFeature session numbers) = session.target < count
-HasTarget count (Login login) = AsksBelow count login.session
-HasTarget count _ = ⊤
+-- the target that its session or its login is with is one of so many, and its values are in range
+abbrev pub IsWithin : ℕ → Phase → Type 0
+IsWithin count (FullFeature session numbers) = (session.target < count) × AreInRange session.values
+IsWithin count (Login login) = AsksBelow count login.session × AreInRange login.values
+IsWithin count _ = ⊤
 
-abbrev pub new_machine : List (List ℕ) → List Units → Machine
+-- the phase after a command
+abbrev pub served_phase : Phase → Phase
+served_phase (FullFeature session numbers) = FullFeature session (counted (finished_one numbers))
+served_phase phase = phase
+
+-- a connection keeps the same bytes in the same phase
+pub record IsAlike (a b : LinkState) : Type 0 where
+  pub half : a.half ≡ b.half
+  pub phase : a.phase ≡ b.phase
+
+abbrev pub new_machine : List (List ℕ) → List UnitStates → Machine
 new_machine names units = record { names = names; units = units; links = replicate connection_limit free_link }
 
 abbrev pub sent_link : LinkState → ℕ → LinkState

@@ -1,8 +1,10 @@
--- What the target answers, as bytes.
-use Rattle.std.specs.Prelude.{ℕ, List, [], map, Option, Some, None}
+-- What the target answers, as bytes, and what its units keep.
+use Rattle.std.specs.Prelude.{ℕ, List, [], map, Option, Some, None, slice_index_or}
 use Rattle.iscsi_target.specs.History.{History}
 use Rattle.iscsi_target.specs.Life.{Life, out_of}
 use Rattle.iscsi_target.specs.World.{Setting, world}
+use Rattle.scsi_unit.specs.Medium.{MediumState}
+use Rattle.scsi_unit.specs.Units.{UnitStates}
 
 -- the answers of a connection's present life
 abbrev pub out_now : Option Life → List ℕ
@@ -12,3 +14,10 @@ out_now (Some life) = out_of life
 -- what was answered in each life, one text for each Open in order
 unfoldable pub outputs : Setting → History → List (List ℕ)
 outputs s history = map out_of (world s history).lives
+
+-- the media of a target's units, in order
+abbrev pub media_in : List UnitStates → ℕ → List MediumState
+media_in units target = map (λ unit. unit.medium) (slice_index_or units target [])
+
+abbrev pub media : Setting → History → ℕ → List MediumState
+media s history target = media_in (world s history).units target

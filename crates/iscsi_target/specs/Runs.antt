@@ -18,6 +18,11 @@ MayCome machine (Open c) = (c < connection_limit) × (is_open_at machine c ≡ f
 MayCome machine (Bytes c piece) = (c < connection_limit) × (is_open_at machine c ≡ true)
 MayCome machine (Gone c) = (c < connection_limit) × (is_open_at machine c ≡ true)
 
+-- these connections are open, and no other
+pub record AreOpen (machine : Machine) (open_connections : List ℕ) : Type 0 where
+  pub tracks : (c : ℕ) → is_open_at machine c ≡ is_among c open_connections
+  pub below : (c : ℕ) → is_among c open_connections ≡ true → c < connection_limit
+
 -- its connection until it ends, and what was answered in it from then on
 pub record RowState : Type 0 where
   pub connection : Option ℕ

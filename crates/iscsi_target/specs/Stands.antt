@@ -1,9 +1,9 @@
 -- When the code stands where the World does: what it remembers is a function of the past.
-use Rattle.std.specs.Prelude.{◌≡◌, ◌⊎◌, ℕ, ◌+◌, ◌<◌, ◌≤◌, List, [], ◌∷◌, ◌++◌, length, drop, map, true, false, ◌==◌, Option, Some, None, if◌then◌else◌, ⊤}
+use Rattle.std.specs.Prelude.{◌≡◌, ◌⊎◌, ℕ, ◌+◌, ◌<◌, ◌≤◌, List, [], ◌∷◌, ◌++◌, length, drop, map, filter, true, false, ◌==◌, Option, Some, None, if◌then◌else◌, ⊤}
 use Rattle.iscsi_pdu.specs.Frames.{frames, rest, is_long}
 use Rattle.iscsi_login.specs.Login.{remembered}
 use Rattle.iscsi_target.specs.History.{History, Mark, Judging, arrivals, connection_limit}
-use Rattle.iscsi_target.specs.Life.{Life, Phase, LoggingIn, FullFeature, Closing, Over, Accepted, reads, stamp}
+use Rattle.iscsi_target.specs.Life.{Life, Phase, LoggingIn, FullFeature, Closing, Over, Accepted, reads, bears_status, stamp}
 use Rattle.iscsi_target.specs.World.{Setting, World, present, world}
 use Rattle.iscsi_target.specs.Output.{out_now}
 use Rattle.iscsi_target.specs.Machine.{Machine, LinkState, link_at}
@@ -44,11 +44,11 @@ pub record IsFinished (place : ℕ) (life : Life) : Type 0 where
   pub numbered : AreNumbered 0 place life.came
   pub finished : life.finished ≡ map (λ request. request.place) life.came
 
--- each Login request was answered, and nothing else came
+-- each Login request was answered with status, and nothing else came
 pub record IsLogin (life : Life) : Type 0 where
   pub came : life.came ≡ []
   pub finished : life.finished ≡ []
-  pub answered : length life.answers ≡ length life.requests
+  pub answered : length (filter bears_status life.answers) ≡ length life.requests
 
 abbrev pub IsQuiet : ℕ → Life → Phase → Type 0
 IsQuiet place life LoggingIn = IsLogin life

@@ -5,15 +5,17 @@ use Rattle.std.specs.List.{list_any}
 use Rattle.scsi_sense.specs.Done.{Outcome}
 use Rattle.iscsi_pdu.specs.Frames.{Frame}
 use Rattle.iscsi_pdu.specs.declared.answer.Answer.{Answer}
+use Rattle.iscsi_pdu.specs.declared.answer.Answer.TheVariants as answers
 use Rattle.iscsi_pdu.specs.LoginRequest.{tsih}
 use Rattle.iscsi_target.specs.History.{Event, Open, Bytes, Gone, Step, Judging, Taking, Doing, Ending, Mark, Happening, History, Arrival, Whole, TooLong, new_arrivals, connections}
-use Rattle.iscsi_target.specs.Units.{Units, join, leave}
+use Rattle.scsi_unit.specs.Units.{UnitStates, join, leave}
 use Rattle.iscsi_login.specs.Session.{Live, named_by, older}
 use Rattle.iscsi_login.specs.Lookup.{Lookup}
 use Rattle.iscsi_login.specs.Login.{login}
 use Rattle.iscsi_target.specs.Life.{Life, Phase, LoggingIn, FullFeature, Closing, Over, Accepted, born, reads, is_over, session_in, stamp, index_of, ready}
 use Rattle.iscsi_target.specs.Acts.{is_login, verdict, carried_out, command_answers}
 use Rattle.iscsi_login.specs.declared.params.Params.{Params}
+use Rattle.iscsi_login.specs.declared.values.Values.{Values}
 use Rattle.iscsi_target.specs.declared.session.Verdict.{Verdict}
 use Rattle.iscsi_target.specs.declared.session.Verdict.TheVariants as verdicts
 use Rattle.iscsi_login.specs.declared.reply.Reply.{Reply}
@@ -22,13 +24,13 @@ use Rattle.iscsi_login.specs.declared.reply.Reply.TheVariants.{GoOn, Full, Refus
 -- what the target is made with: each target's name, and its units, in order
 pub record Setting : Type 0 where
   pub names : List (List ℕ)
-  pub units : List Units
+  pub units : List UnitStates
 
 pub record World : Type 0 where
   -- in the order in which they began
   pub lives : List Life
   -- of each target
-  pub units : List Units
+  pub units : List UnitStates
 
 -- ---- lives
 
@@ -59,11 +61,11 @@ unfoldable pub live : World → Live
 live w = map (λ c. session_of (present c w)) connections
 
 -- a target's units after f
-unfoldable pub changed_units : (Units → Units) → ℕ → List Units → List Units
+unfoldable pub changed_units : (UnitStates → UnitStates) → ℕ → List UnitStates → List UnitStates
 changed_units f target all = slice_set all target (f (slice_index_or all target []))
 
 -- a session that ends leaves its target's units
-abbrev pub left : Option Params → List Units → List Units
+abbrev pub left : Option Params → List UnitStates → List UnitStates
 left None all = all
 left (Some session) all = changed_units (leave session.nexus) session.target all
 
@@ -121,10 +123,10 @@ end_older (Some d) w = changed shut d w
 -- An older session of the same nexus with the same target is ended just before the new one begins
 -- (RFC 7143 §6.3.5). The nexus joins the target's units anew.
 abbrev pub replied : Reply → ℕ → World → World
-replied (GoOn answer) c w = changed (answered answer) c w
-replied (Refused answer) c w = close c (changed (answered answer) c w)
-replied (Full answer session) c w =
-    record (changed (begun session answer) c (end_older (older session (live w)) w)) { units = changed_units (join session.nexus) session.target w.units }
+replied (GoOn response) c w = changed (answered (answers.LoginResponse response)) c w
+replied (Refused response) c w = close c (changed (answered (answers.LoginResponse response)) c w)
+replied (Full response session) c w =
+    record (changed (begun session (answers.LoginResponse response)) c (end_older (older session (live w)) w)) { units = changed_units (join session.nexus) session.target w.units }
 
 abbrev pub requests_of : Option Life → List Frame
 requests_of None = []
@@ -155,16 +157,16 @@ unfoldable pub judge : ℕ → ℕ → Frame → World → World
 judge c place frame w = judged (verdict_for (present c w) frame) c place frame w
 
 -- a request counts as finished before its answers are stamped
-abbrev pub finished : Accepted → Outcome → Life → Life
-finished command done life =
+abbrev pub finished : Values → Accepted → Outcome → Life → Life
+finished values command done life =
     let over = record life { finished = life.finished ++ command.place ∷ [] } in
-    record over { answers = over.answers ++ command_answers (stamp over) command.frame done }
+    record over { answers = over.answers ++ command_answers (stamp over) values command.frame done }
 
 abbrev pub done_for : Option Params → ℕ → Accepted → World → World
 done_for None c command w = w
 done_for (Some session) c command w =
     let p = carried_out (slice_index_or w.units session.target []) session.nexus command.frame in
-    record (changed (finished command p.1) c w) { units = slice_set w.units session.target p.0 }
+    record (changed (finished session.values command p.1) c w) { units = slice_set w.units session.target p.0 }
 
 -- a command is done and answered
 unfoldable pub finish : ℕ → Accepted → World → World

@@ -3,7 +3,8 @@
 //!
 //! For every list of openings, pieces of bytes and closings on up to 64 connections, a [`Target`]
 //! answers what a plainly defined machine answers, the World of `specs/World.antt` (the clauses
-//! `stands`). Where an allocation fails one connection closes between two frames, each frame was done
+//! `stands`), as long as the stores of its units are honest and no call of one has failed. Where an
+//! allocation fails one connection closes between two frames, each frame was done
 //! and answered whole or did nothing, and all others go on (`starved`).
 #![tactic(auto)]
 
@@ -19,12 +20,11 @@ mod run;
 mod session;
 mod sessions;
 mod target;
-mod units;
 
 pub use config::Config;
 pub use event::Event;
 pub use fault::{Memory, Starved};
 pub use history::well_formed;
 pub use run::Outputs;
+pub use scsi_unit::{Unit, Units};
 pub use target::Target;
-pub use units::{LogicalUnit, Units};

@@ -1,26 +1,29 @@
 //! One connection: its bytes, its phase and what waits to be sent.
 
-ghost use Rattle.std.specs.Prelude.{◌≡◌, ◌<◌, ◌≤◌, ◌+◌, ◌++◌, ◌∷◌, ℕ, List, [], true, false, None, length, map, string_bytes, drop, IsOk, IfOk, IfSome, IfNone, OnOk, OnErr, IfErr};
+ghost use Rattle.std.specs.Prelude.{All, ◌≡◌, ◌<◌, ◌≤◌, ◌+◌, ◌++◌, ◌∷◌, ℕ, List, [], true, false, None, length, map, string_bytes, drop, IsOk, IfOk, IfSome, IfNone, OnOk, OnErr, IfErr};
 ghost use Rattle.std.specs.Result.{IsErrOf};
 ghost use Rattle.iscsi_pdu.specs.Frames.{frames, rest, has_frame, is_long, frame_length, wanted};
-ghost use Rattle.iscsi_target.specs.Units.{Units as UnitStates, join as join_units};
+ghost use Rattle.scsi_unit.specs.Commands.{most_given};
+ghost use Rattle.scsi_unit.specs.Units.{AreSound, join as join_units};
+ghost use Rattle.iscsi_login.specs.Values.{AreInRange};
 ghost use Rattle.iscsi_target.specs.Acts.{carried_out};
 ghost use Rattle.iscsi_pdu.specs.Answer.{spelling};
 ghost use Rattle.iscsi_login.specs.Lookup.{lookup_in};
 ghost use Rattle.iscsi_login.specs.LoginState.{LoginState};
 ghost use Rattle.iscsi_login.specs.Login.{advanced, reply_of};
-ghost use Rattle.iscsi_target.specs.Machine.{LinkState, is_reading, is_logging_in, session_in_phase, free_link, opened_link, shut_link, begun_link, served_in, IsAnswered, HasTarget, sent_link};
+ghost use Rattle.iscsi_target.specs.Machine.{LinkState, is_reading, is_logging_in, session_in_phase, free_link, opened_link, shut_link, begun_link, served_in, served_phase, IsAnswered, IsWithin, sent_link};
 ghost use Rattle.iscsi_target.specs.declared.phase.Phase.TheVariants.{Login as UnderWay};
 
-use crate::answers::{LONGEST_RESPONSE, response};
+use crate::answers::{most_pieces, put_answers, room_for};
 use crate::fault::Memory;
 use crate::phase::Phase;
 use crate::session::{count, finish_one, first_numbers};
-use crate::units::Units;
 use bytes::BytesMut;
 use iscsi_login::{Login, Params, Reply};
-use iscsi_pdu::{Answer, Frame, Framer, PduFault};
+use iscsi_pdu::{Answer, Frame, Framer, LoginResponse, PduFault};
+use media_store::Store;
 use scsi_sense::{AdditionalSense, Done, Nexus, Sense, SenseKey};
+use scsi_unit::Units;
 use std::alloc::Global;
 use std::marker::Model;
 
@@ -41,19 +44,27 @@ impl Model for Link {
     ghost view = { λ l. record { half = if is_reading l.phase then l.framer else []; phase = l.phase; waiting = l.waiting.items } };
 }
 
-/// A command with an additional header, or that both reads and writes, is answered INVALID FIELD IN
-/// CDB in place of being done.
+/// A command with an additional header is answered INVALID FIELD IN CDB in place of being done. Where
+/// an allocation fails nothing changes.
 #[tactic(auto, unfolding(crate::specs::Acts::carried_out))]
-fn carry_out(alloc: Global, units: &mut Units, nexus: &Nexus, frame: &Frame) -> Done
-    ensures units { units.new ≡ (carried_out units.old nexus.now frame.now).0 }
-    ensures done { result ≡ (carried_out units.old nexus.now frame.now).1 }
+fn carry_out<S: Store>(
+    alloc: Global,
+    units: &mut Units<S>,
+    nexus: &Nexus,
+    frame: &Frame,
+) -> Result<Done, Memory>
+    ensures done { IfOk result (λ done. AreSound units.new → (units.new, done) ≡ carried_out units.old nexus.now frame.now) }
+    ensures back { AreSound units.new → AreSound units.old }
+    ensures given { IfOk result (λ done. length done.given ≤ most_given) }
+    ensures err { OnErr result (units.new ≡ units.old) }
 {
     let header = &frame.header;
     if header.additional_length() > 0 {
         let sense = Sense::new(SenseKey::IllegalRequest, AdditionalSense::InvalidFieldInCdb);
-        return Done::check_condition(alloc, sense);
+        return Ok(Done::check_condition(alloc, sense));
     }
-    units.perform(alloc, nexus, header.lun(), header.cdb())
+    let done = units.perform(nexus, header.lun(), header.cdb(), frame.body.as_slice())?;
+    Ok(done)
 }
 
 impl Link {
@@ -135,12 +146,13 @@ impl Link {
         request: &Frame,
         targets: &[String],
         named: &Option<Params>,
-    ) -> Result<Option<(Answer, Params)>, Memory>
+    ) -> Result<Option<(LoginResponse, Params)>, Memory>
         requires { is_logging_in self.old.phase ≡ true }
         ensures answered { IfOk result (λ begun. (login : LoginState) → self.old.phase ≡ UnderWay login
             → IsAnswered (reply_of login (lookup_in targets.now named.now) request.now) (advanced (map string_bytes targets.now) login request.now) self.old begun self.new) }
-        ensures target { HasTarget (length targets.now) self.old.phase → HasTarget (length targets.now) self.new.phase }
-        ensures begun { IfOk result (λ begun. IfSome begun (λ b. HasTarget (length targets.now) self.old.phase → b.1.target < length targets.now)) }
+        ensures target { IsWithin (length targets.now) self.old.phase → IsWithin (length targets.now) self.new.phase }
+        ensures begun { IfOk result (λ begun. IfSome begun (λ b. IsWithin (length targets.now) self.old.phase → b.1.target < length targets.now)) }
+        ensures values { IfOk result (λ begun. IfSome begun (λ b. IsWithin (length targets.now) self.old.phase → AreInRange b.1.values)) }
         ensures waiting { OnErr result (self.new.waiting ≡ self.old.waiting) }
         ensures session { OnErr result (session_in_phase self.new.phase ≡ None) }
     {
@@ -148,27 +160,26 @@ impl Link {
             return Ok(None);
         };
         match login.take(request, targets, named)? {
-            Reply::GoOn(answer) => {
-                self.send(&answer)?;
+            Reply::GoOn(response) => {
+                self.send(&Answer::LoginResponse(response))?;
                 Ok(None)
             }
-            Reply::Refused(answer) => {
-                self.send(&answer)?;
+            Reply::Refused(response) => {
+                self.send(&Answer::LoginResponse(response))?;
                 self.phase = Phase::Closing;
                 Ok(None)
             }
-            Reply::Full(answer, session) => Ok(Some((answer, session))),
+            Reply::Full(response, session) => Ok(Some((response, session))),
         }
     }
 
     /// Full feature phase begins with this answer, and the nexus joins its target's units. Where an
     /// allocation fails nothing changes.
-    pub(crate) fn begin(
+    pub(crate) fn begin<S: Store>(
         &mut self,
-        alloc: Global,
         session: Params,
         answer: &Answer,
-        units: &mut Units,
+        units: &mut Units<S>,
     ) -> Result<(), Memory>
         requires { is_reading self.old.phase ≡ true }
         ensures ok { OnOk result (self.new ≡ begun_link session answer.now self.old) }
@@ -177,7 +188,7 @@ impl Link {
         ensures units_err { OnErr result (units.new ≡ units.old) }
     {
         self.waiting.reserve(answer.length())?;
-        units.join(alloc, &session.nexus)?;
+        units.join(&session.nexus)?;
         // There is room for the answer, so this does not fail.
         if answer.write(&mut self.waiting).is_err() {
             return Err(Memory);
@@ -187,38 +198,44 @@ impl Link {
         Ok(())
     }
 
-    /// A command of the session is done and answered. The room for its answer is made first, so that
-    /// where an allocation fails nothing changes.
-    pub(crate) fn serve(
+    /// A command is done on its target's units, and answered. All room is made before the units act, so
+    /// that where an allocation fails nothing changes.
+    pub(crate) fn serve<S: Store>(
         &mut self,
         alloc: Global,
-        units: &mut [Units],
+        units: &mut [Units<S>],
         frame: &Frame,
     ) -> Result<(), Memory>
-        requires { HasTarget (length units.old) self.old.phase }
-        ensures ok { OnOk result ((self.new, units.new) ≡ served_in self.old units.old frame.now self.old.phase) }
+        requires { IsWithin (length units.old) self.old.phase }
+        ensures ok { OnOk result (All AreSound units.new → (self.new, units.new) ≡ served_in self.old units.old frame.now self.old.phase) }
+        ensures back { All AreSound units.new → All AreSound units.old }
+        ensures link { OnOk result (self.new ≡ record self.old { phase = served_phase self.old.phase; waiting = self.new.waiting }) }
+        ensures within { IsWithin (length units.old) self.new.phase }
         ensures err { OnErr result (self.new ≡ self.old) }
         ensures units_err { OnErr result (units.new ≡ units.old) }
     {
         let Phase::FullFeature { session, numbers } = &mut self.phase else {
             return Ok(());
         };
-        self.waiting.reserve(LONGEST_RESPONSE)?;
+        self.waiting.reserve(room_for(&session.values, frame))?;
+        let pieces = Vec::with_capacity(alloc, most_pieces(&session.values, frame))?;
         let target = &mut units[session.target];
-        let done = carry_out(alloc, target, &session.nexus, frame);
+        let done = carry_out(alloc, target, &session.nexus, frame)?;
+        // There is room for the answers, so nothing fails any more.
         let over = finish_one(*numbers);
-        // There is room for the answer, so this does not fail.
-        if response(over, frame, &done)
-            .write(&mut self.waiting)
-            .is_err()
-        {
-            return Err(Memory);
-        }
+        put_answers(
+            &mut self.waiting,
+            pieces,
+            over,
+            &session.values,
+            frame,
+            &done,
+        );
         *numbers = count(over);
         Ok(())
     }
 
-    /// The first bytes that wait to be sent, and none only where none wait.
+    /// All that waits to be sent.
     pub(crate) fn out(&self) -> &[u8]
         ensures { result.now ≡ self.now.waiting }
     {

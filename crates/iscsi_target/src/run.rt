@@ -4,15 +4,17 @@ ghost use Rattle.std.specs.Prelude.{◌≡◌, ℕ, List, [], ◌∷◌, ◌++�
 ghost use Rattle.iscsi_target.specs.History.{History, well_formed as is_well_formed, open_after, plain};
 ghost use Rattle.iscsi_target.specs.Events.{event_view, events_view, plain_history};
 ghost use Rattle.iscsi_target.specs.World.{Setting};
-ghost use Rattle.iscsi_target.specs.Output.{outputs as outputs_of};
+ghost use Rattle.iscsi_target.specs.Output.{outputs as outputs_of, media_in, media};
 ghost use Rattle.iscsi_target.specs.Stands.{Stands};
-ghost use Rattle.iscsi_target.specs.Runs.{Runs, MayCome, seen, finished, ended};
+ghost use Rattle.iscsi_target.specs.Runs.{Runs, MayCome, AreOpen, seen, finished, ended};
+ghost use Rattle.iscsi_target.specs.Machine.{WhereSound};
 
 use crate::config::Config;
 use crate::event::Event;
 use crate::fault::{Memory, Starved};
 use crate::target::Target;
-use crate::units::Units;
+use media_store::Store;
+use scsi_unit::Units;
 use std::alloc::Global;
 
 /// What was answered in each life of a connection, in the order in which they began.
@@ -34,7 +36,7 @@ impl From<Starved> for Memory {
 
 impl Row {
     /// Keeps what waits on the connection, where it has not ended before.
-    fn finish(&mut self, target: &Target) -> Result<(), Memory>
+    fn finish<S: Store>(&mut self, target: &Target<S>) -> Result<(), Memory>
         ensures { OnOk result (seen self.new ≡ finished target.now (seen self.old)) }
     {
         if let Some(c) = self.connection {
@@ -45,7 +47,7 @@ impl Row {
     }
 
     /// A connection ends.
-    fn end(&mut self, target: &Target, c: usize) -> Result<(), Memory>
+    fn end<S: Store>(&mut self, target: &Target<S>, c: usize) -> Result<(), Memory>
         ensures { OnOk result (seen self.new ≡ ended target.now c (seen self.old)) }
     {
         if self.connection == Some(c) {
@@ -56,7 +58,7 @@ impl Row {
 }
 
 /// A connection ends: what waits on it is kept.
-fn end(target: &Target, rows: &mut [Row], c: usize) -> Result<(), Memory>
+fn end<S: Store>(target: &Target<S>, rows: &mut [Row], c: usize) -> Result<(), Memory>
     ensures { OnOk result (map seen rows.new ≡ map (ended target.now c) (map seen rows.old)) }
 {
     for row in rows.iter_mut() {
@@ -66,7 +68,7 @@ fn end(target: &Target, rows: &mut [Row], c: usize) -> Result<(), Memory>
 }
 
 /// The history ends: what waits on the connections that are still open is kept.
-fn finish(target: &Target, rows: &mut [Row]) -> Result<(), Memory>
+fn finish<S: Store>(target: &Target<S>, rows: &mut [Row]) -> Result<(), Memory>
     ensures { OnOk result (map seen rows.new ≡ map (finished target.now) (map seen rows.old)) }
 {
     for row in rows.iter_mut() {
@@ -84,7 +86,11 @@ fn bytes_of(alloc: Global, rows: Vec<Row>) -> Result<Outputs, Memory>
 }
 
 /// What was answered in each life.
-fn outputs(alloc: Global, target: &Target, mut rows: Vec<Row>) -> Result<Outputs, Memory>
+fn outputs<S: Store>(
+    alloc: Global,
+    target: &Target<S>,
+    mut rows: Vec<Row>,
+) -> Result<Outputs, Memory>
     ensures { IfOk result (λ outputs. map (λ output. output.items) outputs.items ≡ map (λ row. (finished target.now row).bytes) (map seen rows.items)) }
 {
     finish(target, rows.as_mut_slice())?;
@@ -92,15 +98,16 @@ fn outputs(alloc: Global, target: &Target, mut rows: Vec<Row>) -> Result<Outputs
 }
 
 /// One event that may come.
-fn take_event(
+fn take_event<S: Store>(
     alloc: Global,
-    target: &mut Target,
+    target: &mut Target<S>,
     rows: &mut Vec<Row>,
     event: &Event,
 ) -> Result<(), Memory>
     requires { MayCome target.old (event_view event.now) }
-    ensures { OnOk result ((s : Setting) (before : List ℕ) (h : History) → Runs s target.old (map seen rows.old.items) before h
-        → Runs s target.new (map seen rows.new.items) (open_after before (event_view event.now)) (h ++ plain (event_view event.now) ∷ [])) }
+    ensures runs { OnOk result ((s : Setting) (before : List ℕ) (h : History) → WhereSound target.old (Runs s target.old (map seen rows.old.items) before h)
+        → WhereSound target.new (Runs s target.new (map seen rows.new.items) (open_after before (event_view event.now)) (h ++ plain (event_view event.now) ∷ []))) }
+    ensures open { OnOk result ((before : List ℕ) → AreOpen target.old before → AreOpen target.new (open_after before (event_view event.now))) }
 {
     match event {
         Event::Open(c) => {
@@ -119,20 +126,21 @@ fn take_event(
     Ok(())
 }
 
-impl Target {
+impl<S: Store + Drop> Target<S> {
     /// Puts a new target through events that are [`well_formed`](crate::well_formed). Gives what was
     /// answered in each life of a connection, and the target as it is then, of which nothing was
-    /// sent. `Memory`: an allocation failed, also where that would close a connection.
+    /// sent: its media are those of the World. `Memory`: an allocation failed, also where that would close a connection.
     pub fn run(
         alloc: Global,
         config: Config,
-        units: Vec<Units>,
+        units: Vec<Units<S>>,
         events: &[Event],
-    ) -> Result<(Outputs, Target), Memory>
+    ) -> Result<(Outputs, Target<S>), Memory>
         requires units { length units.items ≡ length config.targets.items }
         requires well_formed { is_well_formed (events_view events.now) ≡ true }
-        ensures stands { IfOk result (λ r. Stands (record { names = map string_bytes config.targets.items; units = units.items }) (λ _. 0) r.1 (plain_history events.now)) }
-        ensures outputs { IfOk result (λ r. map (λ output. output.items) r.0.items ≡ outputs_of (record { names = map string_bytes config.targets.items; units = units.items }) (plain_history events.now)) }
+        ensures stands { IfOk result (λ r. WhereSound r.1 (Stands (record { names = map string_bytes config.targets.items; units = units.items }) (λ _. 0) r.1 (plain_history events.now))) }
+        ensures outputs { IfOk result (λ r. WhereSound r.1 (map (λ output. output.items) r.0.items ≡ outputs_of (record { names = map string_bytes config.targets.items; units = units.items }) (plain_history events.now))) }
+        ensures media { IfOk result (λ r. WhereSound r.1 ((number : ℕ) → media_in r.1.units number ≡ media (record { names = map string_bytes config.targets.items; units = units.items }) (plain_history events.now) number)) }
     {
         let mut target = Target::new(alloc, config, units)?;
         let mut rows = Vec::new(alloc);

@@ -5,10 +5,11 @@ ghost use Rattle.std.specs.Result.{IsErrOf};
 ghost use Rattle.iscsi_pdu.specs.Frames.{has_frame, is_long};
 ghost use Rattle.iscsi_target.specs.History.{Open, Bytes, Gone, Mark, History, plain, marked};
 ghost use Rattle.iscsi_target.specs.World.{Setting, present, world};
-ghost use Rattle.iscsi_target.specs.Machine.{LinkState, free_link, opened_link, sent_link, new_machine, link_at, with_link, closed, begun, logged_in, is_logging_in, judged, frame_taken, GivesFrame, is_reading, is_open_at, is_closing, want_of};
+ghost use Rattle.iscsi_target.specs.Machine.{LinkState, IsSound, WhereSound, IsAlike, free_link, opened_link, sent_link, new_machine, link_at, with_link, closed, begun, logged_in, is_logging_in, judged, frame_taken, GivesFrame, is_reading, is_open_at, is_closing, want_of};
 ghost use Rattle.iscsi_target.specs.declared.phase.Phase.TheVariants.{Login};
 ghost use Rattle.iscsi_target.specs.declared.session.Verdict.TheVariants.{Accepted};
 ghost use Rattle.iscsi_login.specs.LoginState.{LoginState};
+ghost use Rattle.iscsi_login.specs.Values.{AreInRange};
 ghost use Rattle.iscsi_target.specs.Stands.{Stands, IsStarved, with_sent};
 
 use crate::config::Config;
@@ -17,9 +18,10 @@ use crate::link::Link;
 use crate::phase::Phase;
 use crate::session::{Verdict, judge};
 use crate::sessions::{named, older};
-use crate::units::Units;
 use iscsi_login::Params;
 use iscsi_pdu::{Answer, Frame, Opcode, PduFault};
+use media_store::Store;
+use scsi_unit::Units;
 use std::alloc::Global;
 use std::marker::Model;
 
@@ -33,24 +35,27 @@ const MOST_WAITING: usize = 1_048_576;
 ///
 /// The caller opens a connection under a number below 64 that is free, feeds what comes on it, sends
 /// what waits, and says when it has ended.
+///
+/// What is promised of answers and units holds where the stores of all units are honest and no call of
+/// one has failed (`WhereSound`): a target that is sound after a call was so before it.
 #[derive(Drop)]
-pub struct Target {
+pub struct Target<S: Store> {
     alloc: Global,
     config: Config,
-    units: Vec<Units>,
+    units: Vec<Units<S>>,
     links: Vec<Link>,
 }
 
-impl Model for Target {
+impl<S: Store> Model for Target<S> {
     ghost use Rattle.std.specs.Prelude.{◌≡◌, map, length, string_bytes};
     ghost use Rattle.std.specs.List.{All};
-    ghost use Rattle.iscsi_target.specs.Machine.{LinkState, Machine, HasTarget};
+    ghost use Rattle.iscsi_target.specs.Machine.{LinkState, Machine, IsWithin};
 
     ghost Value = { Machine };
 
     ghost view = { λ t. record { names = map string_bytes t.config.targets.items; units = t.units.items; links = t.links.items } };
 
-    ghost invariant = { λ t. (length t.links.items ≡ 64) × (length t.units.items ≡ length t.config.targets.items) × All (λ (link : LinkState). HasTarget (length t.units.items) link.phase) t.links.items };
+    ghost invariant = { λ t. (length t.links.items ≡ 64) × (length t.units.items ≡ length t.config.targets.items) × All (λ (link : LinkState). IsWithin (length t.units.items) link.phase) t.links.items };
 }
 
 /// Every connection, none of them open.
@@ -64,10 +69,10 @@ fn free_links(alloc: Global) -> Result<Vec<Link>, Memory>
     Ok(links)
 }
 
-impl Target {
+impl<S: Store + Drop> Target<S> {
     /// A target with these units, one list for each target of the configuration in order, and no
     /// connection open.
-    pub fn new(alloc: Global, config: Config, units: Vec<Units>) -> Result<Target, Memory>
+    pub fn new(alloc: Global, config: Config, units: Vec<Units<S>>) -> Result<Target<S>, Memory>
         requires { length units.items ≡ length config.targets.items }
         ensures made { IfOk result (λ target. target ≡ new_machine (map string_bytes config.targets.items) units.items) }
         ensures stands { IfOk result (λ target. Stands (record { names = map string_bytes config.targets.items; units = units.items }) (λ _. 0) target []) }
@@ -80,14 +85,19 @@ impl Target {
             links,
         })
     }
+}
 
+impl<S: Store> Target<S> {
     /// Opens a connection under a free number. It takes no memory and does not fail.
     pub fn open(&mut self, c: usize) -> Result<(), Starved>
         requires in_range { c < 64 }
         requires free { is_open_at self.old c ≡ false }
         ensures ok { IsOk result }
         ensures now { self.new ≡ with_link self.old c (opened_link c) }
-        ensures stands { (s : Setting) (sent : ℕ → ℕ) (h : History) → Stands s sent self.old h → Stands s (with_sent sent c 0) self.new (h ++ plain (Open c) ∷ []) }
+        ensures count { length self.old.links ≡ 64 }
+        ensures sound { IsSound self.new → IsSound self.old }
+        ensures stands { (s : Setting) (sent : ℕ → ℕ) (h : History) → WhereSound self.old (Stands s sent self.old h)
+            → WhereSound self.new (Stands s (with_sent sent c 0) self.new (h ++ plain (Open c) ∷ [])) }
     {
         self.links[c] = Link::opened(self.alloc, c);
         Ok(())
@@ -99,11 +109,14 @@ impl Target {
     pub fn feed(&mut self, c: usize, piece: &[u8]) -> Result<(), Starved>
         requires in_range { c < 64 }
         requires open { is_open_at self.old c ≡ true }
-        ensures stands { OnOk result ((s : Setting) (sent : ℕ → ℕ) (h : History) → Stands s sent self.old h → Stands s sent self.new (h ++ plain (Bytes c piece.now) ∷ [])) }
+        ensures stands { OnOk result ((s : Setting) (sent : ℕ → ℕ) (h : History) → WhereSound self.old (Stands s sent self.old h)
+            → WhereSound self.new (Stands s sent self.new (h ++ plain (Bytes c piece.now) ∷ []))) }
 
         // An allocation that failed is a mark on the event, and nothing but one is.
-        ensures starved { OnErr result ((s : Setting) (sent : ℕ → ℕ) (h : History) → Stands s sent self.old h
-            → (marks : List Mark) × IsStarved c (present c (world s h)) piece.now marks × Stands s sent self.new (h ++ marked marks (Bytes c piece.now) ∷ [])) }
+        ensures starved { OnErr result ((s : Setting) (sent : ℕ → ℕ) (h : History) → WhereSound self.old (Stands s sent self.old h)
+            → WhereSound self.new ((marks : List Mark) × IsStarved c (present c (world s h)) piece.now marks × Stands s sent self.new (h ++ marked marks (Bytes c piece.now) ∷ []))) }
+        ensures sound { IsSound self.new → IsSound self.old }
+        ensures open { (d : ℕ) → is_open_at self.new d ≡ is_open_at self.old d }
         ensures names { IfErr result (λ starved. starved.connection ≡ c) }
         ensures closing { OnErr result (is_closing (link_at self.new c).phase ≡ true) }
         ensures empty { piece.now ≡ [] → IsOk result }
@@ -141,18 +154,20 @@ impl Target {
         requires in_range { c < 64 }
         requires open { is_open_at self.old c ≡ true }
         ensures now { self.new ≡ with_link (closed self.old c) c free_link }
-        ensures stands { (s : Setting) (sent : ℕ → ℕ) (h : History) → Stands s sent self.old h → Stands s (with_sent sent c 0) self.new (h ++ plain (Gone c) ∷ []) }
+        ensures count { length self.old.links ≡ 64 }
+        ensures sound { IsSound self.new → IsSound self.old }
+        ensures stands { (s : Setting) (sent : ℕ → ℕ) (h : History) → WhereSound self.old (Stands s sent self.old h)
+            → WhereSound self.new (Stands s (with_sent sent c 0) self.new (h ++ plain (Gone c) ∷ [])) }
     {
         self.close(c);
         self.links[c] = Link::free(self.alloc);
     }
 
-    /// What waits to be sent on a connection: bytes from its front, and none only where none wait.
+    /// All that waits to be sent on a connection.
     pub fn out(&self, c: usize) -> &[u8]
         requires in_range { c < 64 }
         requires open { is_open_at self.now c ≡ true }
-        ensures front { (more : List ℕ) × ((link_at self.now c).waiting ≡ result.now ++ more) }
-        ensures some { result.now ≡ [] → (link_at self.now c).waiting ≡ [] }
+        ensures { result.now ≡ (link_at self.now c).waiting }
     {
         self.links[c].out()
     }
@@ -173,7 +188,9 @@ impl Target {
         requires open { is_open_at self.old c ≡ true }
         requires waits { n ≤ length (link_at self.old c).waiting }
         ensures now { self.new ≡ with_link self.old c (sent_link (link_at self.old c) n) }
-        ensures stands { (s : Setting) (sent : ℕ → ℕ) (h : History) → Stands s sent self.old h → Stands s (with_sent sent c (sent c + n)) self.new h }
+        ensures sound { IsSound self.new → IsSound self.old }
+        ensures stands { (s : Setting) (sent : ℕ → ℕ) (h : History) → WhereSound self.old (Stands s sent self.old h)
+            → WhereSound self.new (Stands s (with_sent sent c (sent c + n)) self.new h) }
     {
         let link = &mut self.links[c];
         link.sent(n);
@@ -276,7 +293,9 @@ impl Target {
     #[tactic(auto, unfolding(crate::specs::Machine::frame_taken, crate::specs::Acts::is_login))]
     fn take_frame(&mut self, c: usize, frame: &Frame) -> Result<(), Memory>
         requires { c < 64 }
-        ensures ok { OnOk result (self.new ≡ frame_taken self.old c frame.now) }
+        ensures ok { OnOk result (IsSound self.new → self.new ≡ frame_taken self.old c frame.now) }
+        ensures sound { OnOk result (IsSound self.new → IsSound self.old) }
+        ensures links { OnOk result ((d : ℕ) → IsAlike (link_at self.new d) (link_at (frame_taken self.old c frame.now) d)) }
         ensures err { OnErr result (closed self.new c ≡ closed self.old c) }
     {
         match &self.links[c].phase {
@@ -301,7 +320,9 @@ impl Target {
     /// A command that is accepted is done and answered. Where an allocation fails nothing changes.
     fn serve(&mut self, c: usize, frame: &Frame) -> Result<(), Memory>
         requires { c < 64 }
-        ensures ok { OnOk result (self.new ≡ judged Accepted self.old c frame.now) }
+        ensures ok { OnOk result (IsSound self.new → self.new ≡ judged Accepted self.old c frame.now) }
+        ensures sound { IsSound self.new → IsSound self.old }
+        ensures links { OnOk result ((d : ℕ) → IsAlike (link_at self.new d) (link_at (judged Accepted self.old c frame.now) d)) }
         ensures err { OnErr result (self.new ≡ self.old) }
     {
         let link = &mut self.links[c];
@@ -320,7 +341,7 @@ impl Target {
         let targets = self.config.targets.as_slice();
         let link = &mut self.links[c];
         match link.log_in(request, targets, &named)? {
-            Some((answer, session)) => self.begin(c, session, &answer),
+            Some((response, session)) => self.begin(c, session, &Answer::LoginResponse(response)),
             None => Ok(()),
         }
     }
@@ -332,13 +353,14 @@ impl Target {
         requires in_range { c < 64 }
         requires reads { is_reading (link_at self.old c).phase ≡ true }
         requires target { session.target < length self.old.units }
+        requires values { AreInRange session.values }
         ensures ok { OnOk result (self.new ≡ begun session answer.now c self.old) }
         ensures err { OnErr result (self.new ≡ self.old) }
     {
         let before = older(self.links.as_slice(), &session);
         let units = &mut self.units[session.target];
         let link = &mut self.links[c];
-        link.begin(self.alloc, session, answer, units)?;
+        link.begin(session, answer, units)?;
         if let Some(before) = before {
             let link = &mut self.links[before];
             link.shut();

@@ -1,5 +1,5 @@
 -- The data of a command in pieces, one for each SCSI Data-In (RFC 7143 §11.7).
-use Rattle.std.specs.Prelude.{ℕ, ◌+◌, ◌-◌, ◌*◌, min, ◌==◌, List, map}
+use Rattle.std.specs.Prelude.{ℕ, ◌+◌, ◌-◌, ◌*◌, ◌/◌, ◌%◌, min, ◌==◌, List, map}
 use Rattle.std.specs.Int.{div_ceil}
 use Rattle.std.specs.List.{flat_map, range_with_len, slice_range}
 use Rattle.iscsi_transfer.specs.declared.data_in.Piece.{Piece}
@@ -31,6 +31,10 @@ pieces_in start end segment = map (piece_in start end segment) (range_with_len 0
 abbrev pub pieces_of : ℕ → ℕ → ℕ → List Piece
 pieces_of length burst segment =
     flat_map (λ b. pieces_in (burst_start burst b) (burst_end length burst b) segment) (range_with_len 0 (div_ceil length burst))
+
+-- how many pieces these are: those of each whole burst, and those of what is left of the data
+abbrev pub piece_count : ℕ → ℕ → ℕ → ℕ
+piece_count length burst segment = length / burst * div_ceil burst segment + div_ceil (length % burst) segment
 
 -- the bytes of a piece of data
 abbrev pub part_of : List ℕ → Piece → List ℕ

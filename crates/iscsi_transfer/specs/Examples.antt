@@ -1,6 +1,6 @@
 -- Data in pieces, computed.
 use Rattle.std.specs.Prelude.{◌≡◌, [], ◌∷◌, true, false, codes, map, refl}
-use Rattle.iscsi_transfer.specs.DataIn.{pieces_of, part_of}
+use Rattle.iscsi_transfer.specs.DataIn.{pieces_of, piece_count, part_of}
 
 -- 20 blocks of 512 bytes, MaxBurstLength 8192, MaxRecvDataSegmentLength 4096
 twenty_blocks : pieces_of 10240 8192 4096 ≡ record { offset = 0; length = 4096; is_final = false } ∷ record { offset = 4096; length = 4096; is_final = true } ∷ record { offset = 8192; length = 2048; is_final = true } ∷ []
@@ -16,3 +16,7 @@ long_segment = refl
 
 no_data : pieces_of 0 4 8 ≡ []
 no_data = refl
+
+-- as many as stand above
+counts : (piece_count 10240 8192 4096 ≡ 3) × (piece_count 11 5 3 ≡ 5) × (piece_count 6 4 8 ≡ 2) × (piece_count 0 4 8 ≡ 0)
+counts = (refl, refl, refl, refl)

@@ -7,7 +7,7 @@ use Rattle.scsi_sense.specs.declared.code.AdditionalSense.TheVariants.{InvalidCo
 use Rattle.scsi_cdb.specs.declared.command.Kind.{Kind}
 use Rattle.scsi_cdb.specs.declared.command.Kind.TheVariants.{Disk, Tape}
 use Rattle.scsi_cdb.specs.declared.operation.Operation.{Operation}
-use Rattle.scsi_cdb.specs.declared.operation.Operation.TheVariants.{TestUnitReady, Read10, Read16, ReadCapacity10, ServiceActionIn16}
+use Rattle.scsi_cdb.specs.declared.operation.Operation.TheVariants.{TestUnitReady, RequestSense, Inquiry, ModeSelect6, ModeSelect10, ModeSense6, ModeSense10, ReportLuns, Read10, Read16, ReadCapacity10, ServiceActionIn16}
 
 -- 05/2000
 abbrev pub invalid_operation_code : Sense
@@ -27,6 +27,13 @@ row code disk tape operation = record { code = code; disk = disk; tape = tape; o
 abbrev pub operation_codes : List Row
 operation_codes =
     row 0x00 true true TestUnitReady
+    ∷ row 0x03 true true RequestSense
+    ∷ row 0x12 true true Inquiry
+    ∷ row 0x15 true true ModeSelect6
+    ∷ row 0x55 true true ModeSelect10
+    ∷ row 0x1a true true ModeSense6
+    ∷ row 0x5a true true ModeSense10
+    ∷ row 0xa0 true true ReportLuns
     ∷ row 0x28 true false Read10
     ∷ row 0x88 true false Read16
     ∷ row 0x25 true false ReadCapacity10

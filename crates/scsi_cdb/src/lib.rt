@@ -12,6 +12,13 @@
 //! ```text
 //! code  disk  tape
 //! 00h   yes   yes   TEST UNIT READY
+//! 03h   yes   yes   REQUEST SENSE
+//! 12h   yes   yes   INQUIRY
+//! 15h   yes   yes   MODE SELECT (6)
+//! 55h   yes   yes   MODE SELECT (10)
+//! 1Ah   yes   yes   MODE SENSE (6)
+//! 5Ah   yes   yes   MODE SENSE (10)
+//! A0h   yes   yes   REPORT LUNS
 //! 28h   yes         READ (10)
 //! 88h   yes         READ (16)
 //! 25h   yes         READ CAPACITY (10)
@@ -21,8 +28,13 @@
 
 mod cdb;
 mod command;
+mod fields;
+mod mode;
 mod operation;
+mod report_luns;
 
 pub use cdb::Cdb;
 pub use command::{Command, Kind};
+pub use mode::{ModeSelectFields, ModeSenseFields, PageControl, ParameterHeader};
 pub use operation::Operation;
+pub use report_luns::SelectReport;

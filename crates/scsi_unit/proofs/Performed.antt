@@ -1,19 +1,37 @@
 -- What comes of a command, when it was refused and when its medium answered.
-use Rattle.std.proofs.Common.{◌≡◌, ℕ, List, Bool, true, false, Option, Some, None, Result, Ok, Err, IsTrue, refl, sym, ap, ◌∙◌}
+use Rattle.std.proofs.Common.{◌≡◌, ℕ, ◌==◌, List, [], ◌∷◌, Bool, true, false, Option, Some, None, Result, Ok, Err, IfOk, OnOk, IsTrue, ◌⊎◌, inl, inr, refl, sym, ap, subst, ◌∙◌}
+use Rattle.std.specs.Prelude.{slice_index}
+use Rattle.std.proofs.lemmas.Bool.{leb-true, and_parts}
 use Rattle.media_store.specs.Failures.{NoneFailed}
 use Rattle.scsi_sense.specs.Done.{Outcome, check_condition}
 use Rattle.scsi_sense.specs.Nexus.{NexusName}
 use Rattle.scsi_sense.specs.declared.sense.Sense.{Sense}
 use Rattle.scsi_sense.specs.declared.code.AdditionalSense.{AdditionalSense}
 use Rattle.scsi_cdb.specs.Operation.{operation_of}
-use Rattle.scsi_cdb.specs.Command.{fields_of, command_if, invalid_field}
+use Rattle.scsi_cdb.specs.Command.{fields_of, command_if, inquiry_with, mode_sense_with, report_luns_with, invalid_field, saving_not_supported}
+use Rattle.scsi_cdb.specs.declared.command.Kind.{Kind}
 use Rattle.scsi_cdb.specs.declared.command.Command.{Command}
+use Rattle.scsi_cdb.specs.declared.command.Command.TheVariants as command
+use Rattle.scsi_cdb.specs.declared.mode.PageControl.{PageControl}
+use Rattle.scsi_cdb.specs.declared.mode.ParameterHeader.{ParameterHeader}
+use Rattle.scsi_cdb.specs.declared.mode.ModeSenseFields.{ModeSenseFields}
+use Rattle.scsi_cdb.specs.declared.mode.ModeSelectFields.{ModeSelectFields}
+use Rattle.scsi_cdb.specs.declared.report_luns.SelectReport.{SelectReport}
 use Rattle.scsi_cdb.specs.declared.operation.Operation.{Operation}
-use Rattle.scsi_cdb.specs.declared.operation.Operation.TheVariants.{TestUnitReady, Read10, Read16, ReadCapacity10, ServiceActionIn16}
+use Rattle.scsi_cdb.specs.declared.operation.Operation.TheVariants.{TestUnitReady, RequestSense, Inquiry, ModeSelect6, ModeSelect10, ModeSense6, ModeSense10, ReportLuns, Read10, Read16, ReadCapacity10, ServiceActionIn16}
+use Rattle.scsi_inquiry.specs.VpdPages.{page_of}
+use Rattle.scsi_inquiry.specs.declared.vpd_page.VpdPage.{VpdPage}
+use Rattle.scsi_mode.specs.ModeData.{mode_data}
+use Rattle.scsi_mode.specs.ParameterList.{fault_sense, selected}
+use Rattle.scsi_mode.specs.declared.list_fault.ListFault.{ListFault}
+use Rattle.scsi_mode.specs.declared.list_fault.ListFault.TheVariants.{EndsEarly, InvalidField}
 use Rattle.scsi_unit.specs.Medium.{MediumState, Disk, Tape, IsSameMedium, kind_of, failures_of, honest_of}
-use Rattle.scsi_unit.specs.Commands.{command_outcome, is_read_fault, IsAnswered}
-use Rattle.scsi_unit.specs.Joined.{told}
-use Rattle.scsi_unit.specs.Unit.{UnitState, attended, operated, perform_at, goes_on_without_unit, without_unit, names_unit, perform, IsPerformed}
+use Rattle.media_block.specs.Blocks.{DiskState}
+use Rattle.scsi_unit.specs.Commands.{disk_outcome, command_outcome, unrecovered_read, is_read_fault, failures_told, IsShort, IsAnswered}
+use Rattle.scsi_unit.specs.Identity.{told_serial, page_outcome, inquiry_outcome, luns_outcome, sense_outcome, pending_sense, outcome_without_unit, without_unit}
+use Rattle.scsi_unit.specs.Modes.{mode_sense_outcome}
+use Rattle.scsi_unit.specs.Joined.{told, told_before}
+use Rattle.scsi_unit.specs.Unit.{UnitState, parameters_of_unit, mode_selected, commanded, commanded_if, attended, operated, perform_at, names_unit, perform, IsPerformed}
 use Rattle.scsi_unit.specs.declared.joined.Joined.{Joined}
 
 pub IsSameMedium-refl : (medium : MediumState) → IsSameMedium medium medium
@@ -27,70 +45,262 @@ medium_same (Disk old) Tape same honest count = absurd same
 medium_same Tape (Disk new) same honest count = absurd same
 medium_same Tape Tape same honest count = refl
 
--- a field is refused with INVALID FIELD IN CDB
-command_refused : (is_taken : Bool) (command : Command) (sense : Sense) → command_if is_taken command ≡ Err sense → sense ≡ invalid_field
+-- a command whose field is refused tells no fault of the medium
+command_refused : (is_taken : Bool) (command : Command) (sense : Sense) → command_if is_taken command ≡ Err sense → is_read_fault (check_condition sense) ≡ false
 command_refused true command sense refused = cc
-command_refused false command sense refused = cc
+command_refused false command sense refused = let same : sense ≡ invalid_field = cc in rw same refl
 
-fields_refused : (operation : Operation) (cdb : List ℕ) (sense : Sense) → fields_of operation cdb ≡ Err sense → sense ≡ invalid_field
+inquiry_refused : (page : Option ℕ) (cdb : List ℕ) (sense : Sense) → inquiry_with page cdb ≡ Err sense → is_read_fault (check_condition sense) ≡ false
+inquiry_refused None cdb sense refused = command_refused _ _ sense refused
+inquiry_refused (Some page) cdb sense refused = cc
+
+mode_sense_refused : (control : Option PageControl) (cdb : List ℕ) (header : ParameterHeader) (n : ℕ) (sense : Sense) → mode_sense_with control cdb header n ≡ Err sense → is_read_fault (check_condition sense) ≡ false
+mode_sense_refused None cdb header n sense refused = let same : sense ≡ saving_not_supported = cc in rw same refl
+mode_sense_refused (Some control) cdb header n sense refused = command_refused _ _ sense refused
+
+report_luns_refused : (select : Option SelectReport) (cdb : List ℕ) (sense : Sense) → report_luns_with select cdb ≡ Err sense → is_read_fault (check_condition sense) ≡ false
+report_luns_refused None cdb sense refused = let same : sense ≡ invalid_field = cc in rw same refl
+report_luns_refused (Some select) cdb sense refused = cc
+
+fields_refused : (operation : Operation) (cdb : List ℕ) (sense : Sense) → fields_of operation cdb ≡ Err sense → is_read_fault (check_condition sense) ≡ false
 fields_refused TestUnitReady cdb sense refused = cc
+fields_refused RequestSense cdb sense refused = command_refused _ _ sense refused
+fields_refused Inquiry cdb sense refused = inquiry_refused _ cdb sense refused
+fields_refused ModeSelect6 cdb sense refused = command_refused _ _ sense refused
+fields_refused ModeSelect10 cdb sense refused = command_refused _ _ sense refused
+fields_refused ModeSense6 cdb sense refused = mode_sense_refused _ cdb _ _ sense refused
+fields_refused ModeSense10 cdb sense refused = mode_sense_refused _ cdb _ _ sense refused
+fields_refused ReportLuns cdb sense refused = report_luns_refused _ cdb sense refused
 fields_refused Read10 cdb sense refused = command_refused _ _ sense refused
 fields_refused Read16 cdb sense refused = command_refused _ _ sense refused
 fields_refused ReadCapacity10 cdb sense refused = cc
 fields_refused ServiceActionIn16 cdb sense refused = command_refused _ _ sense refused
 
--- a command that is refused with no fault of the medium
-refused_there : (unit : UnitState) (sense : Sense) → is_read_fault (check_condition sense) ≡ false → IsPerformed (unit, check_condition sense) unit unit (check_condition sense)
-refused_there unit sense no_fault =
+-- a READ whose fields are taken asks for no more blocks than one may
+command_taken : (is_taken : Bool) (given command : Command) → command_if is_taken given ≡ Ok command → (is_taken ≡ true → IsShort given) → IsShort command
+command_taken true given command taken short = let same : given ≡ command = cc in subst IsShort same (short refl)
+command_taken false given command taken short = cc
+
+inquiry_taken : (page : Option ℕ) (cdb : List ℕ) (command : Command) → inquiry_with page cdb ≡ Ok command → IsShort command
+inquiry_taken None cdb command taken = command_taken _ _ command taken (λ _. tt)
+inquiry_taken (Some page) cdb command taken = command_taken true _ command taken (λ _. tt)
+
+mode_sense_taken : (control : Option PageControl) (cdb : List ℕ) (header : ParameterHeader) (n : ℕ) (command : Command) → mode_sense_with control cdb header n ≡ Ok command → IsShort command
+mode_sense_taken None cdb header n command taken = cc
+mode_sense_taken (Some control) cdb header n command taken = command_taken _ _ command taken (λ _. tt)
+
+report_luns_taken : (select : Option SelectReport) (cdb : List ℕ) (command : Command) → report_luns_with select cdb ≡ Ok command → IsShort command
+report_luns_taken None cdb command taken = cc
+report_luns_taken (Some select) cdb command taken = command_taken true _ command taken (λ _. tt)
+
+pub fields_taken : (operation : Operation) (cdb : List ℕ) (command : Command) → fields_of operation cdb ≡ Ok command → IsShort command
+fields_taken TestUnitReady cdb command taken = command_taken true _ command taken (λ _. tt)
+fields_taken RequestSense cdb command taken = command_taken _ _ command taken (λ _. tt)
+fields_taken Inquiry cdb command taken = inquiry_taken _ cdb command taken
+fields_taken ModeSelect6 cdb command taken = command_taken _ _ command taken (λ _. tt)
+fields_taken ModeSelect10 cdb command taken = command_taken _ _ command taken (λ _. tt)
+fields_taken ModeSense6 cdb command taken = mode_sense_taken _ cdb _ _ command taken
+fields_taken ModeSense10 cdb command taken = mode_sense_taken _ cdb _ _ command taken
+fields_taken ReportLuns cdb command taken = report_luns_taken _ cdb command taken
+fields_taken Read10 cdb command taken = command_taken _ _ command taken (λ both. leb-true _ _ (and_parts _ _ both).1)
+fields_taken Read16 cdb command taken = command_taken _ _ command taken (λ both. leb-true _ _ (and_parts _ _ both).1)
+fields_taken ReadCapacity10 cdb command taken = command_taken true _ command taken (λ _. tt)
+fields_taken ServiceActionIn16 cdb command taken = command_taken _ _ command taken (λ _. tt)
+
+-- a command that does what it should, and does not ask the medium
+pub as_told : (should : UnitState × Outcome) (old new : UnitState) (done : Outcome) → should.0.medium ≡ old.medium → new ≡ should.0 → done ≡ should.1 → is_read_fault done ≡ false
+    → IsPerformed should old new done
+as_told should old new done kept unit answer no_fault =
+    let medium : new.medium ≡ should.0.medium = ap (λ (u : UnitState). u.medium) unit in
+    let same : new.medium ≡ old.medium = medium ∙ kept in
     record {
-      unit = refl;
-      medium = IsSameMedium-refl unit.medium;
-      answer = λ honest none. refl;
-      counted = rw no_fault refl;
+      unit = unit ∙ ap (λ (m : MediumState). record (should.0) { medium = m }) (sym medium);
+      medium = subst (λ (m : MediumState). IsSameMedium (should.0.medium) m) (sym medium) (IsSameMedium-refl (should.0.medium));
+      answer = λ honest none. answer;
+      counted = ap failures_of same ∙ rw no_fault refl;
       fault = λ fault. cc (fault, no_fault);
     }
 
+-- it changes nothing
+pub as_told_there : {E : Type 0} (r : Result Outcome E) (unit : UnitState) (outcome : Outcome) → is_read_fault outcome ≡ false
+    → IfOk r (λ done. done ≡ outcome) → IfOk r (IsPerformed (unit, outcome) unit unit)
+as_told_there (Ok done) unit outcome no_fault answer = as_told (unit, outcome) unit unit done refl refl answer (ap is_read_fault answer ∙ no_fault)
+as_told_there (Err e) unit outcome no_fault answer = answer
+
+-- it changes more than its medium
+pub as_told_changed : {E : Type 0} (r : Result Outcome E) (should : UnitState × Outcome) (old new : UnitState) → should.0.medium ≡ old.medium → is_read_fault (should.1) ≡ false
+    → OnOk r (new ≡ should.0) → IfOk r (λ done. done ≡ should.1) → IfOk r (IsPerformed should old new)
+as_told_changed (Ok done) should old new kept no_fault unit answer = as_told should old new done kept unit answer (ap is_read_fault answer ∙ no_fault)
+as_told_changed (Err e) should old new kept no_fault unit answer = answer
+
+-- ---- INQUIRY, REPORT LUNS, REQUEST SENSE and MODE SENSE tell no fault of the medium
+
+page_unread : (kind : Kind) (serial : List ℕ) (n : ℕ) (page : Option VpdPage) → is_read_fault (page_outcome kind serial n page) ≡ false
+page_unread kind serial n None = refl
+page_unread kind serial n (Some page) = refl
+
+pub inquiry_unread : (kind : Kind) (serial : List ℕ) (page : Option ℕ) (n : ℕ) → is_read_fault (inquiry_outcome kind serial page n) ≡ false
+unfolding inquiry_outcome
+inquiry_unread kind serial None n = refl
+inquiry_unread kind serial (Some code) n = page_unread kind (told_serial serial) n (page_of code kind)
+
+pub luns_unread : (numbers : List ℕ) (select : SelectReport) (n : ℕ) → is_read_fault (luns_outcome numbers select n) ≡ false
+unfolding luns_outcome
+luns_unread numbers select n = refl
+
+pub sense_unread : (sense : Sense) (n : ℕ) → is_read_fault (sense_outcome sense n) ≡ false
+unfolding sense_outcome
+sense_unread sense n = refl
+
+pub mode_sense_unread : (n : ℕ) (bytes : Option (List ℕ)) → is_read_fault (mode_sense_outcome n bytes) ≡ false
+unfolding mode_sense_outcome
+mode_sense_unread n None = refl
+mode_sense_unread n (Some bytes) = refl
+
+fault_unread : (fault : ListFault) → is_read_fault (check_condition (fault_sense fault)) ≡ false
+fault_unread EndsEarly = refl
+fault_unread InvalidField = refl
+
+selected_unread : (nexus : NexusName) (unit : UnitState) (n : ℕ) (selected : Result Bool ListFault) → is_read_fault (mode_selected nexus unit n selected).1 ≡ false
+selected_unread nexus unit n (Ok write_protect) = refl
+selected_unread nexus unit n (Err fault) = fault_unread fault
+
+selected_keeps : (nexus : NexusName) (unit : UnitState) (n : ℕ) (selected : Result Bool ListFault) → (mode_selected nexus unit n selected).0.medium ≡ unit.medium
+selected_keeps nexus unit n (Ok write_protect) = refl
+selected_keeps nexus unit n (Err fault) = refl
+
+-- MODE SELECT
+as_selected : (nexus : NexusName) (old new : UnitState) (n : ℕ) (selected : Result Bool ListFault) (done : Outcome) → (new, done) ≡ mode_selected nexus old n selected
+    → IsPerformed (mode_selected nexus old n selected) old new done
+as_selected nexus old new n selected done same =
+    let unit : new ≡ (mode_selected nexus old n selected).0 = ap (λ (p : UnitState × Outcome). p.0) same in
+    let answer : done ≡ (mode_selected nexus old n selected).1 = ap (λ (p : UnitState × Outcome). p.1) same in
+    as_told _ old new done (selected_keeps nexus old n selected) unit answer (ap is_read_fault answer ∙ selected_unread nexus old n selected)
+
+-- ---- what the unit itself does
+
+pub request_sensed : {E : Type 0} (r : Result Outcome E) (nexus : NexusName) (bytes : List ℕ) (old new : UnitState) (n : ℕ)
+    → OnOk r (new ≡ record old { joined = (told nexus old.joined).0 }) → IfOk r (λ done. done ≡ sense_outcome (pending_sense (told nexus old.joined).1) n)
+    → IfOk r (IsPerformed (commanded nexus bytes old (command.RequestSense n)) old new)
+unfolding commanded
+request_sensed r nexus bytes old new n unit answer =
+    as_told_changed r (record old { joined = (told nexus old.joined).0 }, sense_outcome (pending_sense (told nexus old.joined).1) n) old new refl (sense_unread (pending_sense (told nexus old.joined).1) n) unit answer
+
+pub inquired : {E : Type 0} (r : Result Outcome E) (nexus : NexusName) (bytes : List ℕ) (unit : UnitState) (page : Option ℕ) (n : ℕ)
+    → IfOk r (λ done. done ≡ inquiry_outcome (kind_of unit.medium) unit.serial page n) → IfOk r (IsPerformed (commanded nexus bytes unit (command.Inquiry page n)) unit unit)
+unfolding commanded
+inquired r nexus bytes unit page n answer = as_told_there r unit (inquiry_outcome (kind_of unit.medium) unit.serial page n) (inquiry_unread (kind_of unit.medium) unit.serial page n) answer
+
+pub own_lun_reported : {E : Type 0} (r : Result Outcome E) (nexus : NexusName) (bytes : List ℕ) (unit : UnitState) (select : SelectReport) (n : ℕ)
+    → IfOk r (λ done. done ≡ luns_outcome (unit.lun ∷ []) select n) → IfOk r (IsPerformed (commanded nexus bytes unit (command.ReportLuns select n)) unit unit)
+unfolding commanded
+own_lun_reported r nexus bytes unit select n answer = as_told_there r unit (luns_outcome (unit.lun ∷ []) select n) (luns_unread (unit.lun ∷ []) select n) answer
+
+pub mode_sensed : {E : Type 0} (r : Result Outcome E) (nexus : NexusName) (bytes : List ℕ) (unit : UnitState) (fields : ModeSenseFields)
+    → IfOk r (λ done. done ≡ mode_sense_outcome fields.allocation_length (mode_data fields (parameters_of_unit unit))) → IfOk r (IsPerformed (commanded nexus bytes unit (command.ModeSense fields)) unit unit)
+unfolding commanded
+mode_sensed r nexus bytes unit fields answer =
+    as_told_there r unit (mode_sense_outcome fields.allocation_length (mode_data fields (parameters_of_unit unit))) (mode_sense_unread fields.allocation_length (mode_data fields (parameters_of_unit unit))) answer
+
+pub mode_set : (nexus : NexusName) (bytes : List ℕ) (old new : UnitState) (fields : ModeSelectFields) (done : Outcome)
+    → (new, done) ≡ mode_selected nexus old fields.list_length (selected (parameters_of_unit old) fields bytes) → IsPerformed (commanded nexus bytes old (command.ModeSelect fields)) old new done
+unfolding commanded
+mode_set nexus bytes old new fields done same = as_selected nexus old new fields.list_length (selected (parameters_of_unit old) fields bytes) done same
+
+-- ---- what the medium does
+
+pub disk_answered : {E : Type 0} (r : Result Outcome E) (command : Command) (old new : DiskState)
+    → IfOk r (λ done. IsTrue old.honest → NoneFailed old.failures new.failures → done ≡ disk_outcome old.blocks command)
+    → IfOk r (λ done. new.failures ≡ failures_told done old.failures) → IfOk r (λ done. IsTrue (is_read_fault done) → done ≡ check_condition unrecovered_read)
+    → IfOk r (IsAnswered command (Disk old) (Disk new))
+disk_answered (Ok done) command old new answer counted fault = record { answer = answer; counted = counted; fault = fault }
+disk_answered (Err e) command old new answer counted fault = answer
+
+-- a command that is for the medium
+abbrev IsToMedium : Command → Type 0
+IsToMedium asked =
+    (asked ≡ command.TestUnitReady) ⊎ (((first : ℕ) × (blocks : ℕ) × (asked ≡ command.Read first blocks))
+    ⊎ ((asked ≡ command.ReadCapacity10) ⊎ ((allocation_length : ℕ) × (asked ≡ command.ReadCapacity16 allocation_length))))
+
+pub to_medium : (nexus : NexusName) (bytes : List ℕ) (unit : UnitState) (asked : Command) → IsToMedium asked → commanded nexus bytes unit asked ≡ (unit, command_outcome unit.medium asked)
+unfolding commanded
+to_medium nexus bytes unit asked (inl is) = rw is refl
+to_medium nexus bytes unit asked (inr (inl is)) = rw is.2 refl
+to_medium nexus bytes unit asked (inr (inr (inl is))) = rw is refl
+to_medium nexus bytes unit asked (inr (inr (inr is))) = rw is.1 refl
+
 -- a field of the command was refused
-pub field_refused : (nexus : NexusName) (cdb : List ℕ) (unit : UnitState) (operation : Operation) (sense : Sense)
-    → operation_of cdb (kind_of unit.medium) ≡ Ok operation → (told nexus unit.joined).1 ≡ None → fields_of operation cdb ≡ Err sense
-    → IsPerformed (perform_at nexus cdb unit) unit unit (check_condition sense)
+pub field_refused : (nexus : NexusName) (cdb bytes : List ℕ) (unit : UnitState) (operation : Operation) (sense : Sense)
+    → operation_of cdb (kind_of unit.medium) ≡ Ok operation → (told_before operation nexus unit.joined).1 ≡ None → fields_of operation cdb ≡ Err sense
+    → IsPerformed (perform_at nexus cdb bytes unit) unit unit (check_condition sense)
 unfolding perform_at
-field_refused nexus cdb unit operation sense named none refused =
-    let code : sense ≡ invalid_field = fields_refused operation cdb sense refused in
-    let no_fault : is_read_fault (check_condition sense) ≡ false = rw code refl in
-    rw (named, none, refused) (refused_there unit sense no_fault)
+field_refused nexus cdb bytes unit operation sense named none refused =
+    rw (named, none, refused) (as_told (unit, check_condition sense) unit unit (check_condition sense) refl refl refl (fields_refused operation cdb sense refused))
 
 -- the medium answered
-pub medium_answered : (nexus : NexusName) (cdb : List ℕ) (old new : UnitState) (operation : Operation) (command : Command) (done : Outcome)
-    → operation_of cdb (kind_of old.medium) ≡ Ok operation → (told nexus old.joined).1 ≡ None → fields_of operation cdb ≡ Ok command
-    → new ≡ record old { medium = new.medium } → IsSameMedium old.medium new.medium → IsAnswered command old.medium new.medium done
-    → IsPerformed (perform_at nexus cdb old) old new done
+pub medium_answered : {E : Type 0} (r : Result Outcome E) (old new : UnitState) (command : Command) → new ≡ record old { medium = new.medium } → IsSameMedium old.medium new.medium
+    → IfOk r (IsAnswered command old.medium new.medium) → IfOk r (IsPerformed (old, command_outcome old.medium command) old new)
+medium_answered (Ok done) old new command same medium answered = record { unit = same; medium = medium; answer = answered.answer; counted = answered.counted; fault = answered.fault }
+medium_answered (Err e) old new command same medium answered = answered
+
+-- the command was done by the unit
+pub command_performed : (nexus : NexusName) (cdb bytes : List ℕ) (unit old new : UnitState) (operation : Operation) (command : Command) (done : Outcome)
+    → operation_of cdb (kind_of unit.medium) ≡ Ok operation → (told_before operation nexus unit.joined).1 ≡ None → fields_of operation cdb ≡ Ok command
+    → old ≡ unit → IsPerformed (commanded nexus bytes old command) old new done → IsPerformed (perform_at nexus cdb bytes unit) unit new done
 unfolding perform_at
-medium_answered nexus cdb old new operation command done named none taken same medium answered =
-    let should : perform_at nexus cdb old ≡ (old, command_outcome old.medium command) = rw (named, none, taken) refl in
-    rw should (record { unit = same; medium = medium; answer = answered.answer; counted = answered.counted; fault = answered.fault })
+command_performed nexus cdb bytes unit old new operation command done named none taken same performed =
+    rw (named, none, taken) (subst (λ (u : UnitState). IsPerformed (commanded nexus bytes u command) u new done) same performed)
+
+-- ---- where there is no unit
+
+outcome_unread : (fields : Result Command Sense) → ((sense : Sense) → fields ≡ Err sense → is_read_fault (check_condition sense) ≡ false) → is_read_fault (outcome_without_unit fields) ≡ false
+unfolding sense_outcome
+outcome_unread (Err sense) refused = refused sense refl
+outcome_unread (Ok (command.Inquiry None n)) refused = refl
+outcome_unread (Ok (command.Inquiry (Some code) n)) refused = refl
+outcome_unread (Ok (command.RequestSense n)) refused = refl
+outcome_unread (Ok command) refused = refl
+
+pub without_unit_unread : (cdb : List ℕ) → is_read_fault (without_unit cdb) ≡ false
+unfolding without_unit
+without_unit_unread cdb = by_code (slice_index cdb 0 == 0x12) (slice_index cdb 0 == 0x03) refl refl
+  where
+    by_code : (inquiry request : Bool) → slice_index cdb 0 == 0x12 ≡ inquiry → slice_index cdb 0 == 0x03 ≡ request → is_read_fault (without_unit cdb) ≡ false
+    by_code true request is asked = rw is (outcome_unread (fields_of Inquiry cdb) (fields_refused Inquiry cdb))
+    by_code false true is asked = rw (is, asked) (outcome_unread (fields_of RequestSense cdb) (fields_refused RequestSense cdb))
+    by_code false false is asked = rw (is, asked) refl
 
 -- the LUN does not name the unit
-pub lun_refused : (nexus : NexusName) (lun cdb : List ℕ) (unit : UnitState) → names_unit lun unit ≡ false
-    → IsPerformed (perform nexus lun cdb unit) unit unit (check_condition (without_unit cdb))
-unfolding perform without_unit
-lun_refused nexus lun cdb unit other =
-    let no_fault : (b : Bool) → b ≡ goes_on_without_unit cdb → is_read_fault (check_condition (without_unit cdb)) ≡ false = elim [ true ↦ λ e. rw (← e) refl | false ↦ λ e. rw (← e) refl ] in
-    rw other (refused_there unit (without_unit cdb) (no_fault (goes_on_without_unit cdb) refl))
+pub lun_refused : (nexus : NexusName) (lun cdb bytes : List ℕ) (unit : UnitState) (done : Outcome) → names_unit lun unit ≡ false → done ≡ without_unit cdb
+    → IsPerformed (perform nexus lun cdb bytes unit) unit unit done
+unfolding perform
+lun_refused nexus lun cdb bytes unit done other answer =
+    rw other (as_told (unit, without_unit cdb) unit unit done refl refl answer (ap is_read_fault answer ∙ without_unit_unread cdb))
 
--- no command changes a medium that does not fail
-attended_keeps : (operation : Operation) (cdb : List ℕ) (unit : UnitState) (joined : List Joined) (attention : Option AdditionalSense)
-    → (attended operation cdb unit joined attention).0.medium ≡ unit.medium
-attended_keeps operation cdb unit joined None = refl
-attended_keeps operation cdb unit joined (Some code) = refl
+-- ---- no command changes a medium that does not fail
 
-operated_keeps : (nexus : NexusName) (cdb : List ℕ) (unit : UnitState) (read : Result Operation Sense) → (operated nexus cdb unit read).0.medium ≡ unit.medium
-operated_keeps nexus cdb unit (Err sense) = refl
-operated_keeps nexus cdb unit (Ok operation) = attended_keeps operation cdb unit (told nexus unit.joined).0 (told nexus unit.joined).1
+commanded_keeps : (nexus : NexusName) (bytes : List ℕ) (unit : UnitState) (command : Command) → (commanded nexus bytes unit command).0.medium ≡ unit.medium
+unfolding commanded
+commanded_keeps nexus bytes unit (command.RequestSense n) = refl
+commanded_keeps nexus bytes unit (command.ModeSelect fields) = selected_keeps nexus unit fields.list_length (selected (parameters_of_unit unit) fields bytes)
+commanded_keeps nexus bytes unit command = refl
 
-pub perform_at_keeps : (nexus : NexusName) (cdb : List ℕ) (unit : UnitState) → (perform_at nexus cdb unit).0.medium ≡ unit.medium
+commanded_if_keeps : (nexus : NexusName) (bytes : List ℕ) (unit : UnitState) (fields : Result Command Sense) → (commanded_if nexus bytes unit fields).0.medium ≡ unit.medium
+commanded_if_keeps nexus bytes unit (Err sense) = refl
+commanded_if_keeps nexus bytes unit (Ok command) = commanded_keeps nexus bytes unit command
+
+attended_keeps : (nexus : NexusName) (operation : Operation) (cdb bytes : List ℕ) (unit : UnitState) (joined : List Joined) (attention : Option AdditionalSense)
+    → (attended nexus operation cdb bytes unit joined attention).0.medium ≡ unit.medium
+attended_keeps nexus operation cdb bytes unit joined None = commanded_if_keeps nexus bytes unit (fields_of operation cdb)
+attended_keeps nexus operation cdb bytes unit joined (Some code) = refl
+
+operated_keeps : (nexus : NexusName) (cdb bytes : List ℕ) (unit : UnitState) (read : Result Operation Sense) → (operated nexus cdb bytes unit read).0.medium ≡ unit.medium
+operated_keeps nexus cdb bytes unit (Err sense) = refl
+operated_keeps nexus cdb bytes unit (Ok operation) = attended_keeps nexus operation cdb bytes unit (told_before operation nexus unit.joined).0 (told_before operation nexus unit.joined).1
+
+pub perform_at_keeps : (nexus : NexusName) (cdb bytes : List ℕ) (unit : UnitState) → (perform_at nexus cdb bytes unit).0.medium ≡ unit.medium
 unfolding perform_at
-perform_at_keeps nexus cdb unit = operated_keeps nexus cdb unit (operation_of cdb (kind_of unit.medium))
+perform_at_keeps nexus cdb bytes unit = operated_keeps nexus cdb bytes unit (operation_of cdb (kind_of unit.medium))
 
 -- what should come of a command does, where the store is honest and no call of it failed
 pub as_it_should : (should : UnitState × Outcome) (old new : UnitState) (done : Outcome) → should.0.medium ≡ old.medium → IsPerformed should old new done
@@ -102,13 +312,13 @@ as_it_should should old new done kept performed honest none =
     let unit : new ≡ should.0 = performed.unit ∙ ap (λ (m : MediumState). record (should.0) { medium = m }) medium in
     rw (unit, performed.answer honest none) refl
 
-lun_taken : (nexus : NexusName) (lun cdb : List ℕ) (unit : UnitState) → names_unit lun unit ≡ true → perform nexus lun cdb unit ≡ perform_at nexus cdb unit
+lun_taken : (nexus : NexusName) (lun cdb bytes : List ℕ) (unit : UnitState) → names_unit lun unit ≡ true → perform nexus lun cdb bytes unit ≡ perform_at nexus cdb bytes unit
 unfolding perform
-lun_taken nexus lun cdb unit named = rw named refl
+lun_taken nexus lun cdb bytes unit named = rw named refl
 
 -- the unit did the command that the LUN sent to it
-pub unit_performed : (nexus : NexusName) (lun cdb : List ℕ) (old new : UnitState) (done : Outcome) → names_unit lun old ≡ true
-    → IsPerformed (perform_at nexus cdb old) old new done
-    → IsTrue (honest_of old.medium) → NoneFailed (failures_of old.medium) (failures_of new.medium) → (new, done) ≡ perform nexus lun cdb old
-unit_performed nexus lun cdb old new done named performed honest none =
-    as_it_should (perform_at nexus cdb old) old new done (perform_at_keeps nexus cdb old) performed honest none ∙ sym (lun_taken nexus lun cdb old named)
+pub unit_performed : (nexus : NexusName) (lun cdb bytes : List ℕ) (old new : UnitState) (done : Outcome) → names_unit lun old ≡ true
+    → IsPerformed (perform_at nexus cdb bytes old) old new done
+    → IsTrue (honest_of old.medium) → NoneFailed (failures_of old.medium) (failures_of new.medium) → (new, done) ≡ perform nexus lun cdb bytes old
+unit_performed nexus lun cdb bytes old new done named performed honest none =
+    as_it_should (perform_at nexus cdb bytes old) old new done (perform_at_keeps nexus cdb bytes old) performed honest none ∙ sym (lun_taken nexus lun cdb bytes old named)

@@ -40,14 +40,15 @@ capacity_10 block_count = to_be_bytes w32 (min (block_count - 1) (2 ^ 32 - 1)) +
 abbrev pub capacity_16 : ℕ → List ℕ
 capacity_16 block_count = to_be_bytes w64 (block_count - 1) ++ (to_be_bytes w32 block_length ++ replicate 20 0)
 
--- SBC-3 "Commands for direct access block devices"
+-- SBC-3 "Commands for direct access block devices": those to the medium
 abbrev pub disk_outcome : List (List ℕ) → Command → Outcome
 disk_outcome blocks TestUnitReady = good
 disk_outcome blocks (Read first count) = read_outcome blocks first count
 disk_outcome blocks ReadCapacity10 = good_with (capacity_10 (length blocks))
 disk_outcome blocks (ReadCapacity16 allocation_length) = good_with (take allocation_length (capacity_16 (length blocks)))
+disk_outcome blocks command = check_condition invalid_operation_code
 
--- SSC-4 "Commands for sequential-access devices": a loaded tape is ready, and has no command of a disk
+-- SSC-4 "Commands for sequential-access devices": those to the medium: a loaded tape is ready, and has no command of a disk
 abbrev pub tape_outcome : Command → Outcome
 tape_outcome TestUnitReady = good
 tape_outcome command = check_condition invalid_operation_code
@@ -73,6 +74,10 @@ is_read_fault done = is_read_sense done.sense
 -- own: the count of failures behind a command: it rises exactly where a fault of the medium is told
 abbrev pub failures_told : Outcome → ℕ → ℕ
 failures_told done count = if is_read_fault done then risen count else count
+
+-- profile: a command gives no more data than this, in bytes
+abbrev pub most_given : ℕ
+most_given = 1048576
 
 -- own: what a medium may answer to a command: it does what is asked, or its store fails and this is told
 pub record IsAnswered (command : Command) (old new : MediumState) (done : Outcome) : Type 0 where

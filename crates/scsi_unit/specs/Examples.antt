@@ -1,16 +1,23 @@
 -- Commands to a disk of 4096 blocks and to a tape, computed.
-use Rattle.std.specs.Prelude.{◌≡◌, ◌^◌, List, ℕ, [], ◌∷◌, true, false, replicate, refl}
-use Rattle.scsi_sense.specs.Sense.{plain_sense}
+use Rattle.std.specs.Prelude.{◌≡◌, ◌^◌, List, ℕ, [], ◌∷◌, ◌++◌, true, false, replicate, refl}
+use Rattle.scsi_sense.specs.Sense.{plain_sense, sense_bytes}
 use Rattle.scsi_sense.specs.Done.{good, check_condition}
 use Rattle.scsi_sense.specs.Nexus.{NexusName}
-use Rattle.scsi_sense.specs.declared.code.SenseKey.TheVariants.{UnitAttention, IllegalRequest}
-use Rattle.scsi_sense.specs.declared.code.AdditionalSense.TheVariants.{PowerOnOrReset, LogicalUnitNotSupported}
+use Rattle.scsi_sense.specs.declared.code.SenseKey.TheVariants.{NoSense, UnitAttention, IllegalRequest}
+use Rattle.scsi_sense.specs.declared.code.AdditionalSense.TheVariants.{NoAdditionalSenseInformation, PowerOnOrReset, LogicalUnitNotSupported, ParameterListLengthError, ModeParametersChanged}
 use Rattle.scsi_cdb.specs.Operation.{invalid_operation_code}
 use Rattle.scsi_cdb.specs.Command.{invalid_field}
+use Rattle.scsi_cdb.specs.declared.command.Kind.TheVariants as kind
+use Rattle.scsi_inquiry.specs.Standard.{standard_data}
+use Rattle.scsi_inquiry.specs.Luns.{rising}
+use Rattle.scsi_inquiry.specs.declared.peripheral.Peripheral.TheVariants as peripheral
+use Rattle.scsi_mode.specs.ParameterList.{is_page, swp_after, has_page, after_pages, after_header, after_list, selected}
 use Rattle.scsi_unit.specs.Medium.{MediumState, Disk, Tape}
 use Rattle.scsi_unit.specs.Commands.{good_with, out_of_range, capacity_10, capacity_16}
-use Rattle.scsi_unit.specs.Joined.{told, newly_joined}
-use Rattle.scsi_unit.specs.Unit.{UnitState, perform_at, lun_number, without_unit}
+use Rattle.scsi_unit.specs.Joined.{told, told_before, raised_for_others, newly_joined}
+use Rattle.scsi_unit.specs.Identity.{inquiry_outcome, luns_outcome, sense_outcome, without_unit, reported_luns}
+use Rattle.scsi_unit.specs.Modes.{mode_sense_outcome, list_taken}
+use Rattle.scsi_unit.specs.Unit.{UnitState, commanded, perform_at, lun_number}
 use Rattle.scsi_unit.specs.Units.{perform}
 use Rattle.scsi_unit.specs.declared.joined.Joined.{Joined}
 
@@ -31,7 +38,7 @@ abbrev disk : MediumState
 disk = Disk (record { blocks = replicate 4096 (replicate 2 0x61); synced = false; failures = 0; honest = true })
 
 abbrev unit_with : MediumState → List Joined → UnitState
-unit_with medium joined = record { lun = 0; serial = []; medium = medium; joined = joined }
+unit_with medium joined = record { lun = 0; serial = []; medium = medium; write_protect = false; joined = joined }
 
 abbrev a_was_told : Joined
 a_was_told = record { nexus = a; attentions = [] }
@@ -40,10 +47,10 @@ abbrev test_unit_ready : List ℕ
 test_unit_ready = replicate 16 0
 
 -- the power-on attention is told once, and to each nexus
-told_once : (perform_at a test_unit_ready (unit_with disk (newly_joined a ∷ newly_joined b ∷ []))
+told_once : (perform_at a test_unit_ready [] (unit_with disk (newly_joined a ∷ newly_joined b ∷ []))
     ≡ (unit_with disk (a_was_told ∷ newly_joined b ∷ []), check_condition (plain_sense UnitAttention PowerOnOrReset)))
-    × (perform_at a test_unit_ready (unit_with disk (a_was_told ∷ newly_joined b ∷ [])) ≡ (unit_with disk (a_was_told ∷ newly_joined b ∷ []), good))
-unfolding perform_at told
+    × (perform_at a test_unit_ready [] (unit_with disk (a_was_told ∷ newly_joined b ∷ [])) ≡ (unit_with disk (a_was_told ∷ newly_joined b ∷ []), good))
+unfolding perform_at told_before told commanded
 told_once = (refl, refl)
 
 -- READ (10) from a logical block address of so many blocks
@@ -51,21 +58,92 @@ abbrev read_10 : ℕ → ℕ → ℕ → ℕ → List ℕ
 read_10 address_high address_low blocks_high blocks_low = 0x28 ∷ 0 ∷ 0 ∷ 0 ∷ address_high ∷ address_low ∷ 0 ∷ blocks_high ∷ blocks_low ∷ replicate 7 0
 
 -- 4095 of 2 blocks is past the end, of 2049 too long, which counts first; 4096 of 0 is none; 4095 of 1 is the last
-reads : ((perform_at a (read_10 0x0f 0xff 0 2) (unit_with disk (a_was_told ∷ []))).1 ≡ check_condition out_of_range)
-    × ((perform_at a (read_10 0x0f 0xff 0x08 0x01) (unit_with disk (a_was_told ∷ []))).1 ≡ check_condition invalid_field)
-    × ((perform_at a (read_10 0x10 0 0 0) (unit_with disk (a_was_told ∷ []))).1 ≡ good_with [])
-    × ((perform_at a (read_10 0x10 0 0 1) (unit_with disk (a_was_told ∷ []))).1 ≡ check_condition out_of_range)
-    × ((perform_at a (read_10 0x0f 0xff 0 1) (unit_with disk (a_was_told ∷ []))).1 ≡ good_with (replicate 2 0x61))
-unfolding perform_at told
+reads : ((perform_at a (read_10 0x0f 0xff 0 2) [] (unit_with disk (a_was_told ∷ []))).1 ≡ check_condition out_of_range)
+    × ((perform_at a (read_10 0x0f 0xff 0x08 0x01) [] (unit_with disk (a_was_told ∷ []))).1 ≡ check_condition invalid_field)
+    × ((perform_at a (read_10 0x10 0 0 0) [] (unit_with disk (a_was_told ∷ []))).1 ≡ good_with [])
+    × ((perform_at a (read_10 0x10 0 0 1) [] (unit_with disk (a_was_told ∷ []))).1 ≡ check_condition out_of_range)
+    × ((perform_at a (read_10 0x0f 0xff 0 1) [] (unit_with disk (a_was_told ∷ []))).1 ≡ good_with (replicate 2 0x61))
+unfolding perform_at told_before told commanded
 reads = (refl, refl, refl, refl, refl)
 
 -- a tape is ready; it has no READ (10) of disks, which is told before the attention is
-tapes : ((perform_at a test_unit_ready (unit_with Tape (a_was_told ∷ []))).1 ≡ good)
-    × (perform_at a (read_10 0 0 0 1) (unit_with Tape (newly_joined a ∷ [])) ≡ (unit_with Tape (newly_joined a ∷ []), check_condition invalid_operation_code))
-unfolding perform_at told
+tapes : ((perform_at a test_unit_ready [] (unit_with Tape (a_was_told ∷ []))).1 ≡ good)
+    × (perform_at a (read_10 0 0 0 1) [] (unit_with Tape (newly_joined a ∷ [])) ≡ (unit_with Tape (newly_joined a ∷ []), check_condition invalid_operation_code))
+unfolding perform_at told_before told commanded
 tapes = (refl, refl)
 
 -- LUN 1 where there is unit 0 alone: 05/2500
-no_unit : perform (unit_with disk [] ∷ []) a (0 ∷ 1 ∷ replicate 6 0) test_unit_ready ≡ (unit_with disk [] ∷ [], check_condition (plain_sense IllegalRequest LogicalUnitNotSupported))
+no_unit : perform (unit_with disk [] ∷ []) a (0 ∷ 1 ∷ replicate 6 0) test_unit_ready [] ≡ (unit_with disk [] ∷ [], check_condition (plain_sense IllegalRequest LogicalUnitNotSupported))
 unfolding perform lun_number without_unit
 no_unit = refl
+
+-- INQUIRY of 36 bytes, to a unit and where there is none; the attention stays to be told
+abbrev inquiry : List ℕ
+inquiry = 0x12 ∷ 0 ∷ 0 ∷ 0 ∷ 36 ∷ replicate 11 0
+
+inquired : (perform_at a inquiry [] (unit_with disk (newly_joined a ∷ [])) ≡ (unit_with disk (newly_joined a ∷ []), good_with (standard_data (peripheral.Unit kind.Disk))))
+    × (perform (unit_with disk [] ∷ []) a (0 ∷ 1 ∷ replicate 6 0) inquiry [] ≡ (unit_with disk [] ∷ [], good_with (standard_data peripheral.NoUnit)))
+unfolding perform perform_at told_before commanded inquiry_outcome lun_number without_unit
+inquired = (refl, refl)
+
+-- cut to an allocation length of 5; page B0h of a tape, and a page where there is no unit, are no pages
+inquired_in_part : ((perform_at a (0x12 ∷ 0 ∷ 0 ∷ 0 ∷ 5 ∷ replicate 11 0) [] (unit_with disk [])).1 ≡ good_with (0 ∷ 0 ∷ 6 ∷ 2 ∷ 0x1f ∷ []))
+    × ((perform_at a (0x12 ∷ 1 ∷ 0xb0 ∷ 0 ∷ 64 ∷ replicate 11 0) [] (unit_with Tape [])).1 ≡ check_condition invalid_field)
+    × ((perform (unit_with disk [] ∷ []) a (0 ∷ 1 ∷ replicate 6 0) (0x12 ∷ 1 ∷ 0 ∷ 0 ∷ 64 ∷ replicate 11 0) []).1 ≡ check_condition invalid_field)
+unfolding perform perform_at told_before commanded inquiry_outcome lun_number without_unit
+inquired_in_part = (refl, refl, refl)
+
+-- REQUEST SENSE gives the attention and takes it away; then there is nothing to tell; where there is no unit it gives 05/2500
+abbrev request_sense : List ℕ
+request_sense = 0x03 ∷ 0 ∷ 0 ∷ 0 ∷ 18 ∷ replicate 11 0
+
+requested : (perform_at a request_sense [] (unit_with disk (newly_joined a ∷ [])) ≡ (unit_with disk (a_was_told ∷ []), good_with (sense_bytes (plain_sense UnitAttention PowerOnOrReset))))
+    × (perform_at a request_sense [] (unit_with disk (a_was_told ∷ [])) ≡ (unit_with disk (a_was_told ∷ []), good_with (sense_bytes (plain_sense NoSense NoAdditionalSenseInformation))))
+    × (perform (unit_with disk [] ∷ []) a (0 ∷ 1 ∷ replicate 6 0) request_sense [] ≡ (unit_with disk [] ∷ [], good_with (sense_bytes (plain_sense IllegalRequest LogicalUnitNotSupported))))
+unfolding perform perform_at told told_before commanded sense_outcome lun_number without_unit
+requested = (refl, refl, refl)
+
+-- of allocation length 0 it still takes the attention away
+requested_none : perform_at a (0x03 ∷ replicate 15 0) [] (unit_with disk (newly_joined a ∷ [])) ≡ (unit_with disk (a_was_told ∷ []), good_with [])
+unfolding perform_at told told_before commanded sense_outcome
+requested_none = refl
+
+-- REPORT LUNS of LUN 1 and LUN 0, in rising order, sent to either, and where there is no unit
+abbrev two_units : List UnitState
+two_units = record (unit_with Tape (newly_joined a ∷ [])) { lun = 1 } ∷ unit_with disk [] ∷ []
+
+abbrev report_luns : List ℕ
+report_luns = 0xa0 ∷ replicate 8 0 ++ 255 ∷ replicate 6 0
+
+reported : (perform two_units a (0 ∷ 1 ∷ replicate 6 0) report_luns [] ≡ (two_units, good_with (0 ∷ 0 ∷ 0 ∷ 16 ∷ replicate 12 0 ++ 0 ∷ 1 ∷ replicate 6 0)))
+    × ((perform two_units a (replicate 8 0) report_luns []).1 ≡ good_with (0 ∷ 0 ∷ 0 ∷ 16 ∷ replicate 12 0 ++ 0 ∷ 1 ∷ replicate 6 0))
+    × ((perform two_units a (0 ∷ 2 ∷ replicate 6 0) report_luns []).1 ≡ check_condition (plain_sense IllegalRequest LogicalUnitNotSupported))
+unfolding perform lun_number luns_outcome rising reported_luns without_unit
+reported = (refl, refl, refl)
+
+-- MODE SELECT (6) of 16 bytes that sets SWP: the other nexus is to be told, the one that set it is not; the same list again tells nobody
+abbrev sets_swp : List ℕ
+sets_swp = 0 ∷ 0 ∷ 0 ∷ 0 ∷ 0x0a ∷ 0x0a ∷ 0 ∷ 0 ∷ 0x08 ∷ replicate 7 0
+
+abbrev mode_select : List ℕ
+mode_select = 0x15 ∷ 0x10 ∷ 0 ∷ 0 ∷ 16 ∷ replicate 11 0
+
+abbrev b_is_to_be_told : List Joined
+b_is_to_be_told = a_was_told ∷ record { nexus = b; attentions = ModeParametersChanged ∷ [] } ∷ []
+
+mode_selects : (perform_at a mode_select sets_swp (unit_with disk (a_was_told ∷ record { nexus = b; attentions = [] } ∷ [])) ≡ (record (unit_with disk b_is_to_be_told) { write_protect = true }, list_taken 16))
+    × (perform_at a mode_select sets_swp (record (unit_with disk b_is_to_be_told) { write_protect = true }) ≡ (record (unit_with disk b_is_to_be_told) { write_protect = true }, list_taken 16))
+    × (perform_at b test_unit_ready [] (unit_with disk b_is_to_be_told) ≡ (unit_with disk (a_was_told ∷ record { nexus = b; attentions = [] } ∷ []), check_condition (plain_sense UnitAttention ModeParametersChanged)))
+unfolding perform_at told told_before commanded raised_for_others selected after_list after_header after_pages has_page swp_after is_page
+mode_selects = (refl, refl, refl)
+
+-- data shorter than the list: 05/1A00, and nothing changes
+mode_select_refused : perform_at a mode_select (0 ∷ 0 ∷ 0 ∷ 0 ∷ []) (unit_with disk (a_was_told ∷ [])) ≡ (unit_with disk (a_was_told ∷ []), check_condition (plain_sense IllegalRequest ParameterListLengthError))
+unfolding perform_at told told_before commanded selected
+mode_select_refused = refl
+
+-- MODE SENSE (6) of page 0Ah without descriptor, of which 5 bytes are wanted; and of a page that a tape does not have
+mode_senses : ((perform_at a (0x1a ∷ 0x08 ∷ 0x0a ∷ 0 ∷ 5 ∷ replicate 11 0) [] (unit_with disk (a_was_told ∷ []))).1 ≡ good_with (0x0f ∷ 0 ∷ 0x10 ∷ 0 ∷ 0x0a ∷ []))
+    × ((perform_at a (0x1a ∷ 0x08 ∷ 0x08 ∷ 0 ∷ 5 ∷ replicate 11 0) [] (unit_with Tape (a_was_told ∷ []))).1 ≡ check_condition invalid_field)
+unfolding perform_at told told_before commanded mode_sense_outcome
+mode_senses = (refl, refl)

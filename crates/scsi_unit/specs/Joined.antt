@@ -1,8 +1,11 @@
 -- Who is joined to a unit, and the unit attentions that each has still to be told.
-use Rattle.std.specs.Prelude.{ℕ, List, [], ◌∷◌, ◌++◌, remove, position, Option, Some, None, slice_get, slice_set}
+use Rattle.std.specs.Prelude.{ℕ, List, [], ◌∷◌, ◌++◌, map, remove, position, Option, Some, None, slice_get, slice_set, if◌then◌else◌}
 use Rattle.scsi_sense.specs.Nexus.{NexusName, same_nexus}
+use Rattle.scsi_sense.specs.Attentions.{raised}
 use Rattle.scsi_sense.specs.declared.code.AdditionalSense.{AdditionalSense}
 use Rattle.scsi_sense.specs.declared.code.AdditionalSense.TheVariants.{PowerOnOrReset}
+use Rattle.scsi_cdb.specs.declared.operation.Operation.{Operation}
+use Rattle.scsi_cdb.specs.declared.operation.Operation.TheVariants.{RequestSense, Inquiry, ReportLuns}
 use Rattle.scsi_unit.specs.declared.joined.Joined.{Joined}
 
 -- where a nexus stands among those that are joined
@@ -44,3 +47,19 @@ told_in joined (Some at) = told_at joined at (slice_get joined at)
 -- SAM-5 "Unit attention condition": the first that a nexus has still to be told, which is then taken away
 unfoldable pub told : NexusName → List Joined → List Joined × Option AdditionalSense
 told nexus joined = told_in joined (place_of nexus joined)
+
+-- SPC-4 "INQUIRY command", "REPORT LUNS command", "REQUEST SENSE command": these are done, and any other command has the first attention
+-- told in its place
+unfoldable pub told_before : Operation → NexusName → List Joined → List Joined × Option AdditionalSense
+told_before RequestSense nexus joined = (joined, None)
+told_before Inquiry nexus joined = (joined, None)
+told_before ReportLuns nexus joined = (joined, None)
+told_before operation nexus joined = told nexus joined
+
+-- one that is joined, where another than this nexus is to be told of a condition
+abbrev pub raised_unless : NexusName → AdditionalSense → Joined → Joined
+raised_unless nexus code j = if same_nexus j.nexus nexus then j else record j { attentions = raised code j.attentions }
+
+-- SAM-5 "Unit attention condition": all but the nexus whose command caused it are to be told
+unfoldable pub raised_for_others : NexusName → AdditionalSense → List Joined → List Joined
+raised_for_others nexus code joined = map (raised_unless nexus code) joined

@@ -1,11 +1,12 @@
-//! The commands of disks and tapes.
+//! The commands to the media of disks and tapes.
 
 ghost use Rattle.std.specs.Prelude.{◌≡◌, ◌^◌, ◌<◌, ◌≤◌, length, take, true, IsTrue, IfOk, OnErr};
 ghost use Rattle.media_store.specs.Failures.{NoneFailed};
 ghost use Rattle.scsi_sense.specs.Done.{check_condition};
+ghost use Rattle.scsi_cdb.specs.Operation.{invalid_operation_code};
 ghost use Rattle.scsi_cdb.specs.Command.{most_blocks};
 ghost use Rattle.scsi_unit.specs.Medium.{IsSameDisk};
-ghost use Rattle.scsi_unit.specs.Commands.{good_with, unrecovered_read, read_outcome, capacity_10 as capacity_10_data, capacity_16 as capacity_16_data, disk_outcome, tape_outcome, IsShort, is_read_fault, failures_told};
+ghost use Rattle.scsi_unit.specs.Commands.{good_with, unrecovered_read, read_outcome, capacity_10 as capacity_10_data, capacity_16 as capacity_16_data, disk_outcome, tape_outcome, IsShort, is_read_fault, failures_told, most_given};
 
 use crate::fault::Memory;
 use media_block::{BLOCK_LENGTH, Disk};
@@ -33,7 +34,7 @@ fn done_with(given: Vec<u8>) -> Done
 
 /// GOOD with data, of which no more bytes are given than the allocation length (SPC-4 "Allocation
 /// length").
-fn done_with_cut(mut given: Vec<u8>, allocation_length: u32) -> Done
+pub(crate) fn done_with_cut(mut given: Vec<u8>, allocation_length: u32) -> Done
     requires { length given.items < 2 ^ 32 }
     ensures { result ≡ good_with (take allocation_length given.items) }
 {
@@ -79,6 +80,7 @@ fn read<S: Store>(
     ensures disk { IsSameDisk disk.old disk.new }
     ensures counted { IfOk result (λ done. disk.new.failures ≡ failures_told done disk.old.failures) }
     ensures fault { IfOk result (λ done. IsTrue (is_read_fault done) → done ≡ check_condition unrecovered_read) }
+    ensures given { IfOk result (λ done. length done.given ≤ most_given) }
     ensures err { OnErr result (disk.new ≡ disk.old) }
 {
     let count = u64::from(blocks);
@@ -107,6 +109,7 @@ pub(crate) fn to_disk<S: Store>(
     ensures disk { IsSameDisk disk.old disk.new }
     ensures counted { IfOk result (λ done. disk.new.failures ≡ failures_told done disk.old.failures) }
     ensures fault { IfOk result (λ done. IsTrue (is_read_fault done) → done ≡ check_condition unrecovered_read) }
+    ensures given { IfOk result (λ done. length done.given ≤ most_given) }
     ensures err { OnErr result (disk.new ≡ disk.old) }
 {
     match command {
@@ -117,6 +120,7 @@ pub(crate) fn to_disk<S: Store>(
             let bytes = capacity_16(alloc, disk.block_count())?;
             Ok(done_with_cut(bytes, allocation_length))
         }
+        _ => Ok(no_operation(alloc)),
     }
 }
 
@@ -126,9 +130,14 @@ pub(crate) fn to_tape(alloc: Global, command: Command) -> Done
 {
     match command {
         Command::TestUnitReady => Done::good(alloc),
-        _ => {
-            let code = AdditionalSense::InvalidCommandOperationCode;
-            Done::check_condition(alloc, Sense::new(SenseKey::IllegalRequest, code))
-        }
+        _ => no_operation(alloc),
     }
+}
+
+/// INVALID COMMAND OPERATION CODE.
+fn no_operation(alloc: Global) -> Done
+    ensures { result ≡ check_condition invalid_operation_code }
+{
+    let code = AdditionalSense::InvalidCommandOperationCode;
+    Done::check_condition(alloc, Sense::new(SenseKey::IllegalRequest, code))
 }

@@ -1,8 +1,9 @@
 //! Who is joined to a unit.
 
 ghost use Rattle.std.specs.Prelude.{◌≡◌, ◌<◌, length, None, IfSome, vec_len, vec_capacity};
-ghost use Rattle.scsi_unit.specs.Joined.{place_of, newly_joined, with_nexus, without_nexus, told};
+ghost use Rattle.scsi_unit.specs.Joined.{place_of, newly_joined, with_nexus, without_nexus, told, told_before, raised_unless, raised_for_others};
 
+use scsi_cdb::Operation;
 use scsi_sense::{AdditionalSense, Attentions, Nexus};
 
 /// A nexus that is joined to a unit, and the unit attentions that it has still to be told, in order
@@ -62,4 +63,53 @@ pub(crate) fn tell(joined: &mut [Joined], nexus: &Nexus) -> Option<AdditionalSen
     let entry = &mut joined[at];
     entry.attentions.clear_first();
     Some(code)
+}
+
+/// The first attention that the nexus has still to be told, which stays.
+#[tactic(auto, unfolding(crate::specs::Joined::told))]
+pub(crate) fn pending(joined: &[Joined], nexus: &Nexus) -> Option<AdditionalSense>
+    ensures { result ≡ (told nexus.now joined.now).1 }
+{
+    let at = position(joined, nexus)?;
+    joined[at].attentions.first()
+}
+
+/// The attention that is told in place of this operation, which is then taken away: INQUIRY, REPORT LUNS
+/// and REQUEST SENSE are done whatever there is to be told.
+#[tactic(auto, unfolding(crate::specs::Joined::told_before))]
+pub(crate) fn tell_before(
+    joined: &mut [Joined],
+    nexus: &Nexus,
+    operation: Operation,
+) -> Option<AdditionalSense>
+    ensures joined { joined.new ≡ (told_before operation nexus.now joined.old).0 }
+    ensures attention { result ≡ (told_before operation nexus.now joined.old).1 }
+    ensures none { result ≡ None → joined.new ≡ joined.old }
+{
+    match operation {
+        Operation::Inquiry | Operation::ReportLuns | Operation::RequestSense => None,
+        _ => tell(joined, nexus),
+    }
+}
+
+impl Joined {
+    /// The attention is to be told, unless it is this nexus.
+    fn raise_unless(&mut self, nexus: &Nexus, code: AdditionalSense)
+        ensures { self.new ≡ raised_unless nexus.now code self.old }
+    {
+        if !self.nexus.is_same(nexus) {
+            self.attentions.raise(code);
+        }
+    }
+}
+
+/// All but this nexus have the attention to be told. It takes no memory.
+#[tactic(auto, unfolding(crate::specs::Joined::raised_for_others))]
+pub(crate) fn raise_for_others(joined: &mut [Joined], nexus: &Nexus, code: AdditionalSense)
+    ensures { joined.new ≡ raised_for_others nexus.now code joined.old }
+{
+    for at in 0..joined.len() {
+        let other = &mut joined[at];
+        other.raise_unless(nexus, code);
+    }
 }

@@ -7,7 +7,8 @@
 //!
 //! The first check that fails answers, in this order: the LUN names a unit, the unit has the
 //! operation, the nexus has no unit attention that it is still to be told, the fields of the command
-//! descriptor block, the range of blocks, the medium.
+//! descriptor block, the range of blocks, the data, the medium. INQUIRY, REPORT LUNS and REQUEST SENSE pass
+//! the attentions by, and INQUIRY and REQUEST SENSE the first check too.
 //!
 //! Promised: where the store is honest and none of its calls failed, [`Unit::perform`] and
 //! [`Units::perform`] do exactly what the definition `perform` says, to the unit and in their answer.
@@ -17,9 +18,11 @@
 
 mod commands;
 mod fault;
+mod identity;
 mod joined;
 mod logical_unit;
 mod medium;
+mod modes;
 mod unit;
 mod units;
 

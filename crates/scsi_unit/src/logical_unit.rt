@@ -1,22 +1,24 @@
 //! A logical unit as it lies in memory.
 
-ghost use Rattle.std.specs.Prelude.{◌≡◌, IfOk, OnOk, OnErr};
+ghost use Rattle.std.specs.Prelude.{◌≡◌, ◌≤◌, [], length, IfOk, OnOk, OnErr};
+ghost use Rattle.scsi_mode.specs.ParameterList.{selected};
 ghost use Rattle.scsi_unit.specs.Medium.{medium_state, IsSameMedium};
-ghost use Rattle.scsi_unit.specs.Commands.{IsShort, IsAnswered};
-ghost use Rattle.scsi_unit.specs.Unit.{unit_view, HasRoom, joined_unit, left_unit, perform_at, names_unit, IsPerformed, lun_number as number_of_lun, without_unit as sense_without_unit};
+ghost use Rattle.scsi_unit.specs.Commands.{IsShort, IsAnswered, most_given};
+ghost use Rattle.scsi_unit.specs.Unit.{unit_view, HasRoom, joined_unit, left_unit, parameters_of_unit, mode_selected, commanded, perform_at, names_unit, IsPerformed, lun_number as number_of_lun};
+ghost use Rattle.scsi_unit.specs.Joined.{told};
+ghost use Rattle.scsi_unit.specs.Identity.{sense_outcome, pending_sense};
 
 use crate::commands::{to_disk, to_tape};
 use crate::fault::Memory;
-use crate::joined::{Joined, join, leave, tell};
+use crate::identity::{inquiry, report_luns, sense_data};
+use crate::joined::{Joined, join, leave, pending, raise_for_others, tell, tell_before};
 use crate::medium::Medium;
+use crate::modes::mode_sense;
 use media_store::Store;
-use scsi_cdb::{Cdb, Command};
-use scsi_sense::{AdditionalSense, Done, Nexus, Sense, SenseKey};
+use scsi_cdb::{Cdb, Command, ModeSelectFields};
+use scsi_mode::{Parameters, select};
+use scsi_sense::{AdditionalSense, Done, Nexus, Sense, SenseKey, Status};
 use std::alloc::{AllocError, Global};
-
-const INQUIRY: u8 = 0x12;
-
-const REQUEST_SENSE: u8 = 0x03;
 
 /// A logical unit.
 #[derive(Drop)]
@@ -24,6 +26,8 @@ pub(crate) struct LogicalUnit<S: Store> {
     pub lun: u8,
     pub serial: String,
     pub medium: Medium<S>,
+    /// SWP: writes are refused (SPC-4 "Control mode page").
+    pub write_protect: bool,
     pub joined: Vec<Joined>,
 }
 
@@ -39,25 +43,13 @@ pub(crate) fn lun_number(field: [u8; 8]) -> Option<u8>
     }
 }
 
-/// LOGICAL UNIT NOT SUPPORTED. INQUIRY and REQUEST SENSE are not refused for their LUN (SPC-4
-/// "INQUIRY command", "REQUEST SENSE command"), and are not built yet.
-#[tactic(auto, unfolding(crate::specs::Unit::without_unit))]
-pub(crate) fn without_unit(cdb: [u8; 16]) -> Sense
-    ensures { result ≡ sense_without_unit cdb }
-{
-    let code = match cdb[0] {
-        INQUIRY | REQUEST_SENSE => AdditionalSense::InvalidCommandOperationCode,
-        _ => AdditionalSense::LogicalUnitNotSupported,
-    };
-    Sense::new(SenseKey::IllegalRequest, code)
-}
-
 impl<S: Store> Medium<S> {
     /// A command to the medium, with its fields judged.
     fn answer(&mut self, alloc: Global, command: Command) -> Result<Done, Memory>
         requires { IsShort command }
         ensures done { IfOk result (IsAnswered command (medium_state self.old) (medium_state self.new)) }
         ensures medium { IsSameMedium (medium_state self.old) (medium_state self.new) }
+        ensures given { IfOk result (λ done. length done.given ≤ most_given) }
         ensures err { OnErr result (medium_state self.new ≡ medium_state self.old) }
     {
         match self {
@@ -101,23 +93,137 @@ impl<S: Store> LogicalUnit<S> {
         leave(&mut self.joined, nexus);
     }
 
-    /// A command to the unit: its operation code is judged first, then the attentions, then its
-    /// fields (own, after SPC-4). Where an allocation fails nothing changes.
+    /// What its mode parameters tell.
+    fn parameters(&self) -> Parameters
+        ensures { result ≡ parameters_of_unit (unit_view self.now) }
+    {
+        match &self.medium {
+            Medium::Disk(disk) => Parameters::Disk {
+                block_count: disk.block_count(),
+                write_protect: self.write_protect,
+            },
+            Medium::Tape => Parameters::Tape,
+        }
+    }
+
+    /// REQUEST SENSE: the first attention is given as data, and is then taken away. The room for the data
+    /// is made first, so that where an allocation fails nothing changes.
+    fn request_sense(
+        &mut self,
+        alloc: Global,
+        nexus: &Nexus,
+        allocation_length: u32,
+    ) -> Result<Done, Memory>
+        ensures ok { OnOk result (unit_view self.new ≡ record (unit_view self.old) { joined = (told nexus.now self.old.joined.items).0 }) }
+        ensures done { IfOk result (λ done. done ≡ sense_outcome (pending_sense (told nexus.now self.old.joined.items).1) allocation_length) }
+        ensures given { IfOk result (λ done. length done.given ≤ most_given) }
+        ensures err { OnErr result (unit_view self.new ≡ unit_view self.old) }
+    {
+        let sense = match pending(self.joined.as_slice(), nexus) {
+            Some(code) => Sense::new(SenseKey::UnitAttention, code),
+            None => Sense::new(
+                SenseKey::NoSense,
+                AdditionalSense::NoAdditionalSenseInformation,
+            ),
+        };
+        let done = sense_data(alloc, sense, allocation_length)?;
+        let _ = tell(self.joined.as_mut_slice(), nexus);
+        Ok(done)
+    }
+
+    /// MODE SELECT with this data. Where SWP changes, all but this nexus are to be told. It takes no memory.
+    fn mode_select(
+        &mut self,
+        alloc: Global,
+        nexus: &Nexus,
+        fields: ModeSelectFields,
+        data: &[u8],
+    ) -> Done
+        ensures selected { (unit_view self.new, result) ≡ mode_selected nexus.now (unit_view self.old) fields.list_length
+            (selected (parameters_of_unit (unit_view self.old)) fields «data».now) }
+        ensures given { result.given ≡ [] }
+    {
+        match select(self.parameters(), fields, data) {
+            Ok(write_protect) => {
+                if self.write_protect != write_protect {
+                    let code = AdditionalSense::ModeParametersChanged;
+                    raise_for_others(self.joined.as_mut_slice(), nexus, code);
+                }
+                self.write_protect = write_protect;
+                Done {
+                    status: Status::Good,
+                    sense: None,
+                    given: Vec::new(alloc),
+                    moved: fields.list_length,
+                }
+            }
+            Err(fault) => Done::check_condition(alloc, fault.sense()),
+        }
+    }
+
+    /// A command to the unit with this data, with its fields judged. Where an allocation fails nothing
+    /// changes.
+    #[tactic(auto, unfolding(crate::specs::Unit::commanded))]
+    fn carry_out(
+        &mut self,
+        alloc: Global,
+        nexus: &Nexus,
+        command: Command,
+        data: &[u8],
+    ) -> Result<Done, Memory>
+        requires { IsShort command }
+        ensures done { IfOk result (IsPerformed (commanded nexus.now «data».now (unit_view self.old) command) (unit_view self.old) (unit_view self.new)) }
+        ensures given { IfOk result (λ done. length done.given ≤ most_given) }
+        ensures err { OnErr result (unit_view self.new ≡ unit_view self.old) }
+    {
+        match command {
+            Command::RequestSense { allocation_length } => {
+                self.request_sense(alloc, nexus, allocation_length)
+            }
+            Command::Inquiry {
+                page,
+                allocation_length,
+            } => {
+                let serial = self.serial.as_bytes();
+                inquiry(alloc, self.medium.kind(), serial, page, allocation_length)
+            }
+            Command::ReportLuns {
+                select,
+                allocation_length,
+            } => report_luns(alloc, &[self.lun], select, allocation_length),
+            Command::ModeSense(fields) => mode_sense(alloc, self.parameters(), fields),
+            Command::ModeSelect(fields) => Ok(self.mode_select(alloc, nexus, fields, data)),
+            Command::TestUnitReady
+            | Command::Read { .. }
+            | Command::ReadCapacity10
+            | Command::ReadCapacity16 { .. } => self.medium.answer(alloc, command),
+        }
+    }
+
+    /// A command to the unit with this data: its operation code is judged first, then the attentions, then
+    /// its fields (own, after SPC-4). Where an allocation fails nothing changes.
     #[tactic(auto, unfolding(crate::specs::Unit::perform_at))]
-    pub fn perform(&mut self, alloc: Global, nexus: &Nexus, cdb: [u8; 16]) -> Result<Done, Memory>
-        ensures done { IfOk result (IsPerformed (perform_at nexus.now cdb (unit_view self.old)) (unit_view self.old) (unit_view self.new)) }
+    pub fn perform(
+        &mut self,
+        alloc: Global,
+        nexus: &Nexus,
+        cdb: [u8; 16],
+        data: &[u8],
+    ) -> Result<Done, Memory>
+        ensures done { IfOk result (IsPerformed (perform_at nexus.now cdb «data».now (unit_view self.old)) (unit_view self.old) (unit_view self.new)) }
+        ensures given { IfOk result (λ done. length done.given ≤ most_given) }
         ensures err { OnErr result (unit_view self.new ≡ unit_view self.old) }
     {
         let operation = match Cdb::operation(cdb, self.medium.kind()) {
             Ok(operation) => operation,
             Err(sense) => return Ok(Done::check_condition(alloc, sense)),
         };
-        if let Some(code) = tell(self.joined.as_mut_slice(), nexus) {
+        if let Some(code) = tell_before(self.joined.as_mut_slice(), nexus, operation) {
             let sense = Sense::new(SenseKey::UnitAttention, code);
             return Ok(Done::check_condition(alloc, sense));
         }
         match operation.command(cdb) {
-            Ok(command) => self.medium.answer(alloc, command),
+            Ok(command) => self.carry_out(alloc, nexus, command, data),
             Err(sense) => Ok(Done::check_condition(alloc, sense)),
         }
     }

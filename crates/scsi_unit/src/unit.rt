@@ -1,13 +1,15 @@
 //! One logical unit.
 
-ghost use Rattle.std.specs.Prelude.{◌≡◌, IsTrue, IfOk, OnOk, OnErr, string_bytes};
+ghost use Rattle.std.specs.Prelude.{◌≡◌, ◌≤◌, length, IsTrue, IfOk, OnOk, OnErr, string_bytes};
 ghost use Rattle.media_store.specs.Failures.{NoneFailed};
 ghost use Rattle.scsi_unit.specs.Medium.{Disk as DiskMedium, Tape as TapeMedium, failures_of, honest_of};
+ghost use Rattle.scsi_unit.specs.Commands.{most_given};
 ghost use Rattle.scsi_unit.specs.Unit.{unit_view, free_unit, joined_unit, left_unit, perform as performed, IsPerformed};
 
 use crate::fault::Memory;
+use crate::identity::without_unit;
 use crate::joined::Joined;
-use crate::logical_unit::{LogicalUnit, without_unit};
+use crate::logical_unit::LogicalUnit;
 use crate::medium::Medium;
 use media_block::Disk;
 use media_store::Store;
@@ -40,6 +42,7 @@ impl<S: Store> Unit<S> {
                 lun,
                 serial,
                 medium: Medium::Disk(disk),
+                write_protect: false,
                 joined: Vec::new(alloc),
             },
             alloc,
@@ -55,6 +58,7 @@ impl<S: Store> Unit<S> {
                 lun,
                 serial,
                 medium: Medium::Tape,
+                write_protect: false,
                 joined: Vec::new(alloc),
             },
             alloc,
@@ -86,10 +90,10 @@ impl<S: Store> Unit<S> {
         self.unit.leave(nexus);
     }
 
-    /// A command that a LUN sends to the unit. The first check that fails answers, in this order: the
-    /// LUN names this unit, it has the operation, the nexus has no attention to be told, the fields of
-    /// the command descriptor block, the range, the medium. A store that fails is told as UNRECOVERED
-    /// READ ERROR, and nothing else changes. No command that is read so far takes data. Where an
+    /// A command with this data that a LUN sends to the unit. The first check that fails answers, in this
+    /// order: the LUN names this unit, it has the operation, the nexus has no attention to be told, the
+    /// fields of the command descriptor block, the range, the data, the medium. A store that fails is told
+    /// as UNRECOVERED READ ERROR, and nothing else changes. REPORT LUNS reports this unit alone. Where an
     /// allocation fails nothing changes.
     #[tactic(auto, unfolding(crate::specs::Unit::perform))]
     pub fn perform(
@@ -97,16 +101,17 @@ impl<S: Store> Unit<S> {
         nexus: &Nexus,
         lun: [u8; 8],
         cdb: [u8; 16],
-        _data: &[u8],
+        data: &[u8],
     ) -> Result<Done, Memory>
         ensures exact { IfOk result (λ done. IsTrue (honest_of self.old.medium) → NoneFailed (failures_of self.old.medium) (failures_of self.new.medium)
-            → (self.new, done) ≡ performed nexus.now lun cdb self.old) }
-        ensures done { IfOk result (IsPerformed (performed nexus.now lun cdb self.old) self.old self.new) }
+            → (self.new, done) ≡ performed nexus.now lun cdb «data».now self.old) }
+        ensures given { IfOk result (λ done. length done.given ≤ most_given) }
+        ensures done { IfOk result (IsPerformed (performed nexus.now lun cdb «data».now self.old) self.old self.new) }
         ensures err { OnErr result (self.new ≡ self.old) }
     {
         if !self.unit.is_named(lun) {
-            return Ok(Done::check_condition(self.alloc, without_unit(cdb)));
+            return without_unit(self.alloc, cdb);
         }
-        self.unit.perform(self.alloc, nexus, cdb)
+        self.unit.perform(self.alloc, nexus, cdb, data)
     }
 }

@@ -2,16 +2,20 @@
 
 ghost use Rattle.std.specs.Prelude.{All, ◌≡◌, ◌<◌, ◌≤◌, ◌+◌, ◌++◌, ◌∷◌, ℕ, List, [], length, map, replicate, IfSome, IfOk, OnOk, OnErr, slice_set};
 ghost use Rattle.scsi_sense.specs.Nexus.{NexusName};
+ghost use Rattle.scsi_unit.specs.Commands.{most_given};
 ghost use Rattle.scsi_unit.specs.Unit.{unit_view, HasRoom, joined_unit, left_unit, lun_number as number_of_lun};
-ghost use Rattle.scsi_unit.specs.Units.{join, leave, perform as performed, unit_of, AreHonest, NoUnitFailed, AreAnswered};
+ghost use Rattle.scsi_unit.specs.Units.{join, leave, perform as performed, unit_of, AreHonest, NoUnitFailed, AreSound, AreAnswered};
 
 use crate::fault::Memory;
-use crate::logical_unit::{LogicalUnit, lun_number, without_unit};
+use crate::identity::{reported_luns, without_unit};
+use crate::logical_unit::{LogicalUnit, lun_number};
 use crate::unit::Unit;
 use media_store::Store;
 use scsi_sense::{Done, Nexus};
 use std::alloc::Global;
 use std::marker::Model;
+
+const REPORT_LUNS: u8 = 0xa0;
 
 /// The logical units of one target.
 #[derive(Drop)]
@@ -66,6 +70,17 @@ fn admit<S: Store>(units: &mut [LogicalUnit<S>], mut names: Vec<Nexus>)
     }
 }
 
+/// The numbers of units.
+fn numbers<S: Store>(alloc: Global, units: &[LogicalUnit<S>]) -> Result<Vec<u8>, Memory>
+    ensures { IfOk result (λ numbers. numbers.items ≡ map (λ unit. unit.lun) units.now) }
+{
+    let mut numbers = Vec::new(alloc);
+    for unit in units {
+        numbers.push(unit.lun)?;
+    }
+    Ok(numbers)
+}
+
 impl<S: Store + Drop> Units<S> {
     /// These units.
     pub fn new(alloc: Global, units: Vec<Unit<S>>) -> Result<Units<S>, Memory>
@@ -113,27 +128,32 @@ impl<S: Store> Units<S> {
         self.units.iter().position(|unit| unit.lun == number)
     }
 
-    /// A command to the unit that the LUN names. No command that is read so far takes data. Where an
-    /// allocation fails nothing changes.
+    /// A command with this data to the unit that the LUN names. REPORT LUNS reports all units. It gives
+    /// 1,048,576 bytes at most. Where an allocation fails nothing changes.
     #[tactic(auto, unfolding(crate::specs::Units::perform))]
     pub fn perform(
         &mut self,
         nexus: &Nexus,
         lun: [u8; 8],
         cdb: [u8; 16],
-        _data: &[u8],
+        data: &[u8],
     ) -> Result<Done, Memory>
         ensures exact { IfOk result (λ done. AreHonest self.old → NoUnitFailed self.old self.new
-            → (self.new, done) ≡ performed self.old nexus.now lun cdb) }
-        ensures answered { IfOk result (AreAnswered nexus.now cdb (unit_of self.old (number_of_lun lun)) self.old self.new) }
+            → (self.new, done) ≡ performed self.old nexus.now lun cdb «data».now) }
+        ensures sound { IfOk result (λ done. AreSound self.new → (self.new, done) ≡ performed self.old nexus.now lun cdb «data».now) }
+        ensures back { AreSound self.new → AreSound self.old }
+        ensures given { IfOk result (λ done. length done.given ≤ most_given) }
+        ensures answered { IfOk result (AreAnswered nexus.now cdb «data».now (unit_of self.old (number_of_lun lun)) self.old self.new) }
         ensures err { OnErr result (self.new ≡ self.old) }
     {
-        match self.position(lun) {
-            None => Ok(Done::check_condition(self.alloc, without_unit(cdb))),
-            Some(at) => {
-                let unit = &mut self.units[at];
-                unit.perform(self.alloc, nexus, cdb)
-            }
+        let Some(at) = self.position(lun) else {
+            return without_unit(self.alloc, cdb);
+        };
+        if cdb[0] == REPORT_LUNS {
+            let numbers = numbers(self.alloc, self.units.as_slice())?;
+            return reported_luns(self.alloc, numbers.as_slice(), cdb);
         }
+        let unit = &mut self.units[at];
+        unit.perform(self.alloc, nexus, cdb, data)
     }
 }

@@ -1,6 +1,6 @@
 //! Two initiators on one target while memory runs short: what each of them is answered.
 //!
-//! The initiators `a` and `b` log in on connections 0 and 1, and each sends two TEST UNIT READYs.
+//! The initiators `a` and `b` log in on connections 0 and 1, and each sends two TEST UNIT READYs and a READ.
 //! Printed are, piece by piece,
 //!
 //! ```text
@@ -13,15 +13,17 @@
 #![tactic(auto)]
 
 use hex::FromHexError;
-use iscsi_target::{Config, LogicalUnit, Memory, Target, Units};
-use scsi_cdb::Kind;
-use std::alloc::{AllocError, Global};
+use iscsi_target::{Config, Memory, Target, Unit, Units};
+use media_block::{BLOCK_LENGTH, Disk, NotOpened};
+use media_store::MemStore;
+use std::alloc::{AllocError, AllocFailed, Global};
 use std::io;
 use std::process::ExitCode;
 
 /// Why the program ends before its pieces do.
 enum Fault {
     OutOfMemory,
+    Unopened,
     Digits,
     Output,
 }
@@ -32,8 +34,26 @@ impl From<Memory> for Fault {
     }
 }
 
+impl From<scsi_unit::Memory> for Fault {
+    fn from(_e: scsi_unit::Memory) -> Fault {
+        Fault::OutOfMemory
+    }
+}
+
+impl From<NotOpened<MemStore>> for Fault {
+    fn from(_e: NotOpened<MemStore>) -> Fault {
+        Fault::Unopened
+    }
+}
+
 impl From<AllocError> for Fault {
     fn from(_e: AllocError) -> Fault {
+        Fault::OutOfMemory
+    }
+}
+
+impl<T: Drop> From<AllocFailed<T>> for Fault {
+    fn from(_e: AllocFailed<T>) -> Fault {
         Fault::OutOfMemory
     }
 }
@@ -45,7 +65,7 @@ impl From<io::Error> for Fault {
 }
 
 /// The pieces, in hexadecimal digits, and the connection of each.
-const PIECES: [(usize, &str); 6] = [
+const PIECES: [(usize, &str); 8] = [
     (
         0,
         "438700000000001d40000000000a00000000001000000000000000640000000000000000000000000000000000000000496e69746961746f724e616d653d61005461726765744e616d653d7400000000",
@@ -70,27 +90,37 @@ const PIECES: [(usize, &str); 6] = [
         1,
         "018000000000000000000000000000000000000a00000000000007d10000000200000000000000000000000000000000",
     ),
+    (
+        0,
+        "01c000000000000000000000000000000000000300000200000000660000000028000000000000000100000000000000",
+    ),
+    (
+        1,
+        "01c000000000000000000000000000000000000b00000400000007d20000000028000000000000000200000000000000",
+    ),
 ];
 
+/// The blocks of the disk.
+const BLOCKS: usize = 2;
+
 /// A target `t` with one disk.
-fn target(alloc: Global) -> Result<Target, Memory> {
+fn target(alloc: Global) -> Result<Target<MemStore>, Fault> {
     let mut names = Vec::new(alloc);
     names.push(String::from_str(alloc, "t")?)?;
-    let disk = LogicalUnit {
-        lun: 0,
-        kind: Kind::Disk,
-    };
+    let store = MemStore::new(alloc, BLOCKS * BLOCK_LENGTH, BLOCKS * BLOCK_LENGTH)?;
+    let mut disks = Vec::new(alloc);
+    disks.push(Unit::disk(alloc, 0, String::from_str(alloc, "D0")?, Disk::open(store)?))?;
     let mut units = Vec::new(alloc);
-    units.push(Units::new(alloc, &[disk])?)?;
+    units.push(Units::new(alloc, disks)?)?;
     let config = Config {
         listen: String::new(alloc),
         targets: names,
     };
-    Target::new(alloc, config, units)
+    Ok(Target::new(alloc, config, units)?)
 }
 
 /// Prints what the target answers on a connection, which is then sent.
-fn print_answer(rt: &HostRuntime, target: &mut Target, c: usize) -> Result<(), Fault> {
+fn print_answer(rt: &HostRuntime, target: &mut Target<MemStore>, c: usize) -> Result<(), Fault> {
     if c >= 64 || !target.is_open(c) {
         return Ok(());
     }
@@ -105,7 +135,12 @@ fn print_answer(rt: &HostRuntime, target: &mut Target, c: usize) -> Result<(), F
 }
 
 /// Gives a piece to the target, and prints what comes of it.
-fn bring(rt: &HostRuntime, target: &mut Target, c: usize, digits: &str) -> Result<(), Fault> {
+fn bring(
+    rt: &HostRuntime,
+    target: &mut Target<MemStore>,
+    c: usize,
+    digits: &str,
+) -> Result<(), Fault> {
     let piece = match hex::decode(rt.alloc(), digits) {
         Ok(piece) => piece,
         Err(FromHexError::OutOfMemory) => return Err(Fault::OutOfMemory),
@@ -135,6 +170,6 @@ fn main(rt: HostRuntime) -> ExitCode {
     match run(&rt) {
         Ok(()) => ExitCode::from(0),
         Err(Fault::OutOfMemory) => ExitCode::from(3),
-        Err(Fault::Digits | Fault::Output) => ExitCode::from(1),
+        Err(Fault::Unopened | Fault::Digits | Fault::Output) => ExitCode::from(1),
     }
 }

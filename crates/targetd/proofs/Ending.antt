@@ -1,5 +1,5 @@
 -- How a replay ends, and a run.
-use Rattle.std.proofs.Common.{Bor, ◌≡◌, ◌≢◌, ℕ, ◌<◌, List, [], ◌++◌, length, take, refl, sym, ap, subst, ◌∙◌, Option, None, Some, append_assoc, append-nil, Result, Ok, Err}
+use Rattle.std.proofs.Common.{Bor, ◌≡◌, ◌≢◌, inl, inr, ℕ, ◌<◌, List, [], ◌++◌, length, take, refl, sym, ap, subst, ◌∙◌, Option, None, Some, append_assoc, append-nil, Result, Ok, Err}
 use Rattle.std.specs.Prelude.{OnOk, IfErr, IsErrAnd, IfSome, option_map}
 use Rattle.std.specs.List.{slice_split}
 use Rattle.std.specs.Io.KnownBytes.{Appends, Consumes, IsAtEnd, ReadConsumes}
@@ -7,7 +7,7 @@ use Rattle.std.proofs.KnownBytes.{Appends-nil, Appends-trans, Consumes-trans, Co
 use Rattle.std.specs.declared.io.Take.{Take}
 use Rattle.std.specs.Io.Take.{take_remaining}
 use Rattle.iscsi_target.specs.World.{Setting, world, present}
-use Rattle.iscsi_target.specs.Machine.{Machine}
+use Rattle.iscsi_target.specs.Machine.{Machine, IsSound}
 use Rattle.iscsi_target.specs.Stands.{Stands}
 use Rattle.iscsi_target.proofs.Standing.{stands_sent}
 use Rattle.targetd.specs.declared.engine.Engine.{Engine}
@@ -26,6 +26,8 @@ use Rattle.targetd.specs.Serve.{listening_line, HasBegun, Announces, Serves}
 use Rattle.targetd.specs.Fault.{bind_fault}
 use Rattle.iscsi_serve.specs.declared.bind_fault.BindFault.{BindFault}
 use Rattle.iscsi_serve.specs.declared.bind_fault.BindFault.TheVariants as binds
+use Rattle.scsi_unit.specs.Units.{UnitStates}
+use Rattle.targetd.specs.Opened.{AreUnitsOf, IsUnopened}
 use Rattle.targetd.specs.Run.{setting_of, configured_by, Replays, Runs}
 use Rattle.targetd.specs.Words.{mode_view}
 use Rattle.targetd.specs.declared.words.Mode.TheVariants as modes
@@ -70,6 +72,7 @@ ends faults.OutOfMemory s r0 r1 w0 w1 input text stop e = e
 ends faults.Output s r0 r1 w0 w1 input text stop e = e
 ends faults.Input s r0 r1 w0 w1 input text stop e = absurd stop
 ends faults.Usage s r0 r1 w0 w1 input text stop e = absurd stop
+ends (faults.Device target lun) s r0 r1 w0 w1 input text stop e = absurd stop
 ends faults.Socket s r0 r1 w0 w1 input text stop e = absurd stop
 ends (faults.Configuration number) s r0 r1 w0 w1 input text stop e = absurd stop
 
@@ -111,44 +114,51 @@ unread s engine bytes text r0 r1 w0 w1 took printed h = (
 -- ---- a run
 
 -- an allocation failed before anything was read
-memory_first : (r w : Option (List ℕ)) (configured : Result Document ConfigFault) → Replays r r w w configured (Err faults.OutOfMemory)
-unfolding StopsBy
-memory_first None w (Ok document) = tt
-memory_first (Some input) w (Ok document) = ([], Appends-nil w, ([], (lines input, refl), ([], refl)))
-memory_first r w (Err fault) = ((Keeps-refl r, Keeps-refl w), λ other. absurd (other refl))
+memory_first : (left : Option Engine) (r w : Option (List ℕ)) (configured : Result Document ConfigFault) → Replays left r r w w configured (Err faults.OutOfMemory)
+memory_first left r w (Ok document) = inl ((Keeps-refl r, Keeps-refl w), tt)
+memory_first left r w (Err fault) = ((Keeps-refl r, Keeps-refl w), λ other. absurd (other refl))
 
-pub memory_ends : (result : Result (Unit {0}) Fault) (r w : Option (List ℕ)) (configured : Result Document ConfigFault) → IsErrAnd result (λ fault. fault ≡ faults.OutOfMemory) → Replays r r w w configured result
-memory_ends (Ok x) r w configured is = absurd is
-memory_ends (Err fault) r w configured is = subst (λ (fault : Fault). Replays r r w w configured (Err fault)) (sym is) (memory_first r w configured)
+pub memory_ends : (result : Result (Unit {0}) Fault) (left : Option Engine) (r w : Option (List ℕ)) (configured : Result Document ConfigFault) → IsErrAnd result (λ fault. fault ≡ faults.OutOfMemory) → Replays left r r w w configured result
+memory_ends (Ok x) left r w configured is = absurd is
+memory_ends (Err fault) left r w configured is = subst (λ (fault : Fault). Replays left r r w w configured (Err fault)) (sym is) (memory_first left r w configured)
 
-fault_first : (r w : Option (List ℕ)) (configured : Result Document ConfigFault) (fault : ConfigFault) → configured ≡ Err fault → Replays r r w w configured (Err (program_fault fault))
-fault_first r w configured fault e = rw e ((Keeps-refl r, Keeps-refl w), λ _. refl)
+fault_first : (left : Option Engine) (r w : Option (List ℕ)) (configured : Result Document ConfigFault) (fault : ConfigFault) → configured ≡ Err fault → Replays left r r w w configured (Err (program_fault fault))
+fault_first left r w configured fault e = rw e ((Keeps-refl r, Keeps-refl w), λ _. refl)
 
-fault_or_memory : (r w : Option (List ℕ)) (configured : Result Document ConfigFault) (fault : ConfigFault) → (fault ≢ why.OutOfMemory → configured ≡ Err fault) → Replays r r w w configured (Err (program_fault fault))
-fault_or_memory r w configured why.OutOfMemory e = memory_first r w configured
-fault_or_memory r w configured why.Unreadable e = fault_first r w configured why.Unreadable (e (λ x. cc))
-fault_or_memory r w configured why.NotToml e = fault_first r w configured why.NotToml (e (λ x. cc))
-fault_or_memory r w configured why.Field e = fault_first r w configured why.Field (e (λ x. cc))
-fault_or_memory r w configured why.Limit e = fault_first r w configured why.Limit (e (λ x. cc))
-fault_or_memory r w configured why.Twice e = fault_first r w configured why.Twice (e (λ x. cc))
-fault_or_memory r w configured why.NoLunZero e = fault_first r w configured why.NoLunZero (e (λ x. cc))
+fault_or_memory : (left : Option Engine) (r w : Option (List ℕ)) (configured : Result Document ConfigFault) (fault : ConfigFault) → (fault ≢ why.OutOfMemory → configured ≡ Err fault) → Replays left r r w w configured (Err (program_fault fault))
+fault_or_memory left r w configured why.OutOfMemory e = memory_first left r w configured
+fault_or_memory left r w configured why.Unreadable e = fault_first left r w configured why.Unreadable (e (λ x. cc))
+fault_or_memory left r w configured why.NotToml e = fault_first left r w configured why.NotToml (e (λ x. cc))
+fault_or_memory left r w configured why.Field e = fault_first left r w configured why.Field (e (λ x. cc))
+fault_or_memory left r w configured why.Limit e = fault_first left r w configured why.Limit (e (λ x. cc))
+fault_or_memory left r w configured why.Twice e = fault_first left r w configured why.Twice (e (λ x. cc))
+fault_or_memory left r w configured why.NoLunZero e = fault_first left r w configured why.NoLunZero (e (λ x. cc))
 
-pub fault_ends : (result : Result (Unit {0}) Fault) (r w : Option (List ℕ)) (configured : Result Document ConfigFault) (fault : ConfigFault) → IsErrAnd result (λ seen. seen ≡ program_fault fault)
-    → (fault ≢ why.OutOfMemory → configured ≡ Err fault) → Replays r r w w configured result
-fault_ends (Ok x) r w configured fault is e = absurd is
-fault_ends (Err seen) r w configured fault is e = subst (λ (seen : Fault). Replays r r w w configured (Err seen)) (sym is) (fault_or_memory r w configured fault e)
+pub fault_ends : (result : Result (Unit {0}) Fault) (left : Option Engine) (r w : Option (List ℕ)) (configured : Result Document ConfigFault) (fault : ConfigFault) → IsErrAnd result (λ seen. seen ≡ program_fault fault)
+    → (fault ≢ why.OutOfMemory → configured ≡ Err fault) → Replays left r r w w configured result
+fault_ends (Ok x) left r w configured fault is e = absurd is
+fault_ends (Err seen) left r w configured fault is e = subst (λ (seen : Fault). Replays left r r w w configured (Err seen)) (sym is) (fault_or_memory left r w configured fault e)
 
-pub replay_ends : (result : Result (Unit {0}) Fault) (document : Document) (target : Machine) (r0 r1 w0 w1 : Option (List ℕ)) → HasSentAll (setting_of document) [] target
-    → OnOk result ((s : Setting) → HasSentAll s [] target → Ends r0 r1 w0 w1 s) → IfErr result (λ fault. (s : Setting) → HasSentAll s [] target → EndsBy r0 r1 w0 w1 s fault)
-    → Replays r0 r1 w0 w1 (Ok document) result
-replay_ends (Ok x) document target r0 r1 w0 w1 stands done fails = done (setting_of document) stands
-replay_ends (Err fault) document target r0 r1 w0 w1 stands done fails = fails (setting_of document) stands
+-- the units could not be opened
+pub unopened_ends : (result : Result (Unit {0}) Fault) (left : Option Engine) (r w : Option (List ℕ)) (document : Document) (fault : Fault) → IsErrAnd result (λ seen. seen ≡ fault) → IsUnopened document.targets fault → Replays left r r w w (Ok document) result
+unopened_ends (Ok x) left r w document fault is why = absurd is
+unopened_ends (Err seen) left r w document fault is why = inl ((Keeps-refl r, Keeps-refl w), subst (λ (fault : Fault). IsUnopened document.targets fault) (sym is) why)
 
-pub runs_replay : (config : Bor (List ℕ)) (file : Option (List ℕ)) (result : Result (Unit {0}) Fault) (r0 r1 w0 w1 : Option (List ℕ)) → Replays r0 r1 w0 w1 (configured_by file) result → Runs r0 r1 w0 w1 (Some (mode_view (modes.Replay config))) result
-runs_replay config file result r0 r1 w0 w1 h = (file, h)
+pub replay_ends : (result : Result (Unit {0}) Fault) (document : Document) (units : List UnitStates) (target : Machine) (engine : Engine) (left : Option Engine) (r0 r1 w0 w1 : Option (List ℕ)) → AreUnitsOf document.targets units → left ≡ Some engine
+    → HasSentAll (setting_of document units) [] target → OnOk result (IsSound engine.target → (s : Setting) → HasSentAll s [] target → Ends r0 r1 w0 w1 s)
+    → IfErr result (λ fault. IsSound engine.target → (s : Setting) → HasSentAll s [] target → EndsBy r0 r1 w0 w1 s fault) → Replays left r0 r1 w0 w1 (Ok document) result
+replay_ends (Ok x) document units target engine left r0 r1 w0 w1 opened is_left stands done fails =
+    inr record { units = units; opened = opened; engine = engine; is_left = is_left; carried = λ sound. done sound (setting_of document units) stands }
+replay_ends (Err fault) document units target engine left r0 r1 w0 w1 opened is_left stands done fails =
+    inr record { units = units; opened = opened; engine = engine; is_left = is_left; carried = λ sound. fails sound (setting_of document units) stands }
 
-pub runs_serve : (config : Bor (List ℕ)) (turns : ℕ) (file : Option (List ℕ)) (result : Result (Unit {0}) Fault) (r w0 w1 : Option (List ℕ)) → Serves w0 w1 (configured_by file) result → Runs r r w0 w1 (Some (mode_view (modes.Serve config turns))) result
-runs_serve config turns file result r w0 w1 h = (Keeps-refl r, (file, h))
+pub runs_replay : (config : Bor (List ℕ)) (file : Option (List ℕ)) (result : Result (Unit {0}) Fault) (left : Option Engine) (r0 r1 w0 w1 : Option (List ℕ)) → Replays left r0 r1 w0 w1 (configured_by file) result
+    → Runs left r0 r1 w0 w1 (Some (mode_view (modes.Replay config))) result
+runs_replay config file result left r0 r1 w0 w1 h = (file, h)
+
+pub runs_serve : (config : Bor (List ℕ)) (turns : ℕ) (file : Option (List ℕ)) (result : Result (Unit {0}) Fault) (left : Option Engine) (r w0 w1 : Option (List ℕ)) → Serves w0 w1 (configured_by file) result
+    → Runs left r r w0 w1 (Some (mode_view (modes.Serve config turns))) result
+runs_serve config turns file result left r w0 w1 h = (Keeps-refl r, (file, h))
 
 -- ---- serving
 
@@ -156,7 +166,7 @@ begun_none : (w : Option (List ℕ)) → HasBegun w w
 begun_none w = ([], [], listening_line [], refl, Appends-nil w)
 
 serve_memory : (w : Option (List ℕ)) (configured : Result Document ConfigFault) → Serves w w configured (Err faults.OutOfMemory)
-serve_memory w (Ok document) = begun_none w
+serve_memory w (Ok document) = inr (begun_none w)
 serve_memory w (Err fault) = (Keeps-refl w, λ other. absurd (other refl))
 
 pub serve_memory_ends : (result : Result (Unit {0}) Fault) (w : Option (List ℕ)) (configured : Result Document ConfigFault) → IsErrAnd result (λ fault. fault ≡ faults.OutOfMemory) → Serves w w configured result
@@ -179,6 +189,11 @@ pub serve_fault_ends : (result : Result (Unit {0}) Fault) (w : Option (List ℕ)
     → (fault ≢ why.OutOfMemory → configured ≡ Err fault) → Serves w w configured result
 serve_fault_ends (Ok x) w configured fault is e = absurd is
 serve_fault_ends (Err seen) w configured fault is e = subst (λ (seen : Fault). Serves w w configured (Err seen)) (sym is) (serve_or_memory w configured fault e)
+
+-- the units could not be opened
+pub serve_unopened : (result : Result (Unit {0}) Fault) (w : Option (List ℕ)) (document : Document) (fault : Fault) → IsErrAnd result (λ seen. seen ≡ fault) → IsUnopened document.targets fault → Serves w w (Ok document) result
+serve_unopened (Ok x) w document fault is why = absurd is
+serve_unopened (Err seen) w document fault is why = inl (Keeps-refl w, subst (λ (fault : Fault). IsUnopened document.targets fault) (sym is) why)
 
 bind_ends : (w : Option (List ℕ)) (error : BindFault) → Announces w w (Err (bind_fault error))
 bind_ends w binds.Socket = begun_none w

@@ -1,8 +1,9 @@
 pub mod Texts
 pub mod Lists
+pub mod Files
+pub mod OpenedUnits
 pub mod Entries
 pub mod Joint
-pub mod Draining
 pub mod Connections
 pub mod Replies
 pub mod LineLemmas

@@ -7,8 +7,7 @@ use Rattle.std.proofs.lemmas.Bool.{le-leb}
 use Rattle.std.proofs.lemmas.List.{drop_more, length-drop, length-map}
 use Rattle.std.proofs.Math.Seq.{take-length}
 use Rattle.std.proofs.lemmas.List.Folds.{list_all-map}
-use Rattle.targetd.specs.Configuration.{UnitEntry, TargetEntry, units_of, unit_view, units_view, target_view, targets_view, configuration_view, names_of}
-use Rattle.iscsi_target.specs.Units.{Units}
+use Rattle.targetd.specs.Configuration.{UnitEntry, TargetEntry, unit_view, units_view, target_view, targets_view, configuration_view, names_of}
 use Rattle.targetd.specs.Limits.{is_lun, unit_keeps, target_keeps, keeps_limits}
 use Rattle.targetd.specs.Distinct.{is_distinct, luns_of}
 use Rattle.targetd.specs.declared.configuration.UnitConfiguration.{UnitConfiguration}
@@ -39,26 +38,6 @@ pub targets_decide : (configuration : Configuration) → length (string_bytes co
     → keeps_limits (configuration_view configuration) ≡ list_all (λ target. target_keeps (target_view target)) configuration.targets.items
 targets_decide configuration listen targets = rw (le-leb _ _ listen, length-map configuration.targets.items target_view, le-leb _ _ targets) (tests_targets target_keeps configuration.targets.items)
 
-both : (a b : Bool) → (a && b) ≡ true → (a ≡ true) × (b ≡ true)
-both true b e = (refl, e)
-both false b e = absurd (cc)
-
--- where all pass, one does
-all_at : {X Y : Type 0} (test : Y → Bool) (view : X → Y) (xs : List X) (i : ℕ) (x : X) → i < length xs → x ≡ get_or xs i x → list_all test (map view xs) ≡ true → test (view x) ≡ true
-all_at test view [] i x lt e all = absurd (omega arith)
-all_at test view (y ∷ ys) zero x lt e all = ap (λ x. test (view x)) e ∙ (both _ _ all).0
-all_at test view (y ∷ ys) (suc i) x lt e all = all_at test view ys i x (omega arith) e (both _ _ all).1
-
-pub unit_at_keeps : (units : List UnitConfiguration) (i : ℕ) (unit : UnitConfiguration) → i < length units → unit ≡ get_or units i unit → list_all unit_keeps (units_view units) ≡ true → is_lun unit.lun ≡ true
-unit_at_keeps units i unit lt e all = (both _ _ (all_at unit_keeps unit_view units i unit lt e all)).0
-
-pub target_at_keeps : (targets : List TargetConfiguration) (i : ℕ) (target : TargetConfiguration) → i < length targets → target ≡ get_or targets i target → list_all target_keeps (targets_view targets) ≡ true
-    → list_all unit_keeps (units_view target.units.items) ≡ true
-target_at_keeps targets i target lt e all = (both _ _ (all_at target_keeps target_view targets i target lt e all)).1
-
-pub targets_kept : (configuration : Configuration) → keeps_limits (configuration_view configuration) ≡ true → list_all target_keeps (targets_view configuration.targets.items) ≡ true
-targets_kept configuration e = (both _ _ e).1
-
 -- what a slice of all behind a place holds
 abbrev behind : {X : Type 0} → ℕ → List X → List X
 behind i xs = take (length xs - (i + 1)) (drop (i + 1) xs)
@@ -83,8 +62,3 @@ name_repeats targets i target lt e found = rw (drop_more targets i target lt, �
 pub name_differs : (targets : List TargetConfiguration) (i : ℕ) (target : TargetConfiguration) → i < length targets → target ≡ get_or targets i target → list_any (λ other. bytes_eq (string_bytes other.name) (string_bytes target.name)) (behind i targets) ≡ false
     → is_distinct bytes_eq (names_of (targets_view (drop i targets))) ≡ is_distinct bytes_eq (names_of (targets_view (drop (i + 1) targets)))
 name_differs targets i target lt e found = rw (drop_more targets i target lt, ← e, ← list_any-names (string_bytes target.name) (drop (i + 1) targets), rw (behind-drop i targets) at found) refl
-
--- a target is made with units for each of its names
-pub as_many : {A : Type 0} (targets : List TargetEntry) (units : List Units) (bytes : A → List ℕ) (names : List A) → units ≡ map units_of targets → map bytes names ≡ names_of targets → length units ≡ length names
-as_many {A} targets units bytes names e f =
-    ap length e ∙ length-map targets units_of ∙ sym (sym (length-map names bytes) ∙ ap length f ∙ length-map targets (λ target. target.name))

@@ -60,15 +60,24 @@ line_ended s bytes text old new w0 w1 h e pending number = record {
   stands = e.stands;
 }
 
+-- ---- a line that is carried out
+
+pub line_ends : (G : Type 0) (r : Result (Unit {0}) Fault) (old : Engine) (target : Machine) (text : List ℕ) (w0 w1 : Option (List ℕ)) → (G → (s : Setting) (h : History) → HasSentAll s h old.target → HasReplied s h old.pending.items text target)
+    → OnOk r (Appends w0 w1 text) → OnOk r (G → (s : Setting) (h : History) → HasSentAll s h old.target → LineEnds s h old.pending.items target w0 w1)
+line_ends G (Err fault) old target text w0 w1 replied whole = tt
+line_ends G (Ok x) old target text w0 w1 replied whole = λ sound s h stands.
+    (let now = replied sound s h stands in
+    record { text = text; now = now.now; replied = now.replied; stands = now.stands; printed = whole })
+
 -- ---- how a line stops it
 
 -- a write failed
-pub line_fails : (r : Result (Unit {0}) Fault) (old : Engine) (target : Machine) (text : List ℕ) (w0 w1 : Option (List ℕ)) → ((s : Setting) (h : History) → HasSentAll s h old.target → HasReplied s h old.pending.items text target)
+pub line_fails : (G : Type 0) (r : Result (Unit {0}) Fault) (old : Engine) (target : Machine) (text : List ℕ) (w0 w1 : Option (List ℕ)) → (G → (s : Setting) (h : History) → HasSentAll s h old.target → HasReplied s h old.pending.items text target)
     → OnErr r ((part : List ℕ) × (unprinted : List ℕ) × (text ≡ part ++ unprinted) × Appends w0 w1 part) → IfErr r (λ fault. fault ≡ faults.Output)
-    → IfErr r (λ fault. (s : Setting) (h : History) → HasSentAll s h old.target → LineFails s h old w0 w1 fault)
-line_fails (Ok x) old target text w0 w1 replied part output = tt
-line_fails (Err fault) old target text w0 w1 replied part output = λ s h stands.
-    (let now = replied s h stands in
+    → IfErr r (λ fault. G → (s : Setting) (h : History) → HasSentAll s h old.target → LineFails s h old w0 w1 fault)
+line_fails G (Ok x) old target text w0 w1 replied part output = tt
+line_fails G (Err fault) old target text w0 w1 replied part output = λ sound s h stands.
+    (let now = replied sound s h stands in
     subst (LineFails s h old w0 w1) (sym output) (part.0, part.1, now.now, now.replied ∙ ap (λ (text : List ℕ). Some (text, now.now)) part.2, part.3))
 
 shown : (s : Setting) (past : History) (old : Engine) (w0 w1 : Option (List ℕ)) (fault : Fault) → LineFails s past old w0 w1 fault → (text : List ℕ) × Appends w0 w1 text
@@ -77,6 +86,7 @@ shown s past old w0 w1 faults.OutOfMemory f = ([], Appends-kept w0 w0 w1 [] (App
 shown s past old w0 w1 faults.Output f = (f.0, f.4)
 shown s past old w0 w1 faults.Input f = absurd f
 shown s past old w0 w1 faults.Usage f = absurd f
+shown s past old w0 w1 (faults.Device target lun) f = absurd f
 shown s past old w0 w1 faults.Socket f = absurd f
 shown s past old w0 w1 (faults.Configuration number) f = absurd f
 
@@ -109,6 +119,7 @@ stopped old w0 w1 faults.Output s bytes text input h f behind e = (
 )
 stopped old w0 w1 faults.Input s bytes text input h f behind e = absurd f
 stopped old w0 w1 faults.Usage s bytes text input h f behind e = absurd f
+stopped old w0 w1 (faults.Device target lun) s bytes text input h f behind e = absurd f
 stopped old w0 w1 faults.Socket s bytes text input h f behind e = absurd f
 stopped old w0 w1 (faults.Configuration number) s bytes text input h f behind e = absurd f
 
@@ -160,10 +171,10 @@ last_finishes old new w0 w1 some ends s bytes before h = (let e = ends s h.now h
   (e.now, ap (carried_out (reply s) []) (with_last s bytes before old h some) ∙ carried_out_more (reply s) [] h.now e.now h.ended old.pending.items before e.text h.prints e.replied),
 ))
 
-pub last_line_finishes : (r : Result (Unit {0}) Fault) (old new : Engine) (w0 w1 : Option (List ℕ)) → 0 < length old.pending.items
-    → OnOk r ((s : Setting) (h : History) → HasSentAll s h old.target → LineEnds s h old.pending.items new.target w0 w1) → OnOk r (Finishes old w0 w1)
-last_line_finishes (Err fault) old new w0 w1 some h = tt
-last_line_finishes (Ok x) old new w0 w1 some h = last_finishes old new w0 w1 some h
+pub last_line_finishes : (G : Type 0) (r : Result (Unit {0}) Fault) (old new : Engine) (w0 w1 : Option (List ℕ)) → 0 < length old.pending.items
+    → OnOk r (G → (s : Setting) (h : History) → HasSentAll s h old.target → LineEnds s h old.pending.items new.target w0 w1) → OnOk r (G → Finishes old w0 w1)
+last_line_finishes G (Err fault) old new w0 w1 some h = tt
+last_line_finishes G (Ok x) old new w0 w1 some h = λ sound. last_finishes old new w0 w1 some (h sound)
 
 -- ---- one piece after another
 
@@ -207,22 +218,22 @@ pushed old new more w pending target number s bytes before h =
 
 -- ---- a line that comes whole
 
-pub line_takes : (r : Result (Unit {0}) Fault) (old mid new : Engine) (rest : List ℕ) (w0 w1 : Option (List ℕ)) → mid.pending.items ≡ old.pending.items ++ rest → mid.target ≡ old.target → mid.number ≡ old.number
-    → OnOk r ((s : Setting) (h : History) → HasSentAll s h mid.target → LineEnds s h mid.pending.items new.target w0 w1) → OnOk r (new.pending.items ≡ []) → OnOk r (new.number ≡ mid.number + 1)
-    → OnOk r (Takes old (rest ++ 10 ∷ []) new w0 w1)
-line_takes (Err fault) old mid new rest w0 w1 pending target number replied none next = tt
-line_takes (Ok x) old mid new rest w0 w1 pending target number ends none next = λ s bytes before h.
+pub line_takes : (G : Type 0) (r : Result (Unit {0}) Fault) (old mid new : Engine) (rest : List ℕ) (w0 w1 : Option (List ℕ)) → mid.pending.items ≡ old.pending.items ++ rest → mid.target ≡ old.target → mid.number ≡ old.number
+    → OnOk r (G → (s : Setting) (h : History) → HasSentAll s h mid.target → LineEnds s h mid.pending.items new.target w0 w1) → OnOk r (new.pending.items ≡ []) → OnOk r (new.number ≡ mid.number + 1)
+    → OnOk r (G → Takes old (rest ++ 10 ∷ []) new w0 w1)
+line_takes G (Err fault) old mid new rest w0 w1 pending target number replied none next = tt
+line_takes G (Ok x) old mid new rest w0 w1 pending target number ends none next = λ sound s bytes before h.
     (let more = pending_more s bytes rest before old mid target number pending h in
-    let e = ends s more.now more.stands in (
+    let e = ends sound s more.now more.stands in (
       e.text,
       e.printed,
       subst (λ (bytes : List ℕ). HasTaken s bytes new (before ++ e.text)) (append_assoc bytes rest (10 ∷ [])) (line_ended s (bytes ++ rest) before mid new w0 w1 more e none next),
     ))
 
-pub line_stopped : (r : Result (Unit {0}) Fault) (old mid : Engine) (rest : List ℕ) (w0 w1 : Option (List ℕ)) → mid.pending.items ≡ old.pending.items ++ rest → mid.target ≡ old.target → mid.number ≡ old.number
-    → IfErr r (λ fault. (s : Setting) (h : History) → HasSentAll s h mid.target → LineFails s h mid w0 w1 fault) → IfErr r (λ fault. Stops old (rest ++ 10 ∷ []) w0 w1 fault)
-line_stopped (Ok x) old mid rest w0 w1 pending target number f = tt
-line_stopped (Err fault) old mid rest w0 w1 pending target number f = stops_behind old mid rest (10 ∷ []) w0 w0 w1 fault (pushed old mid rest w0 pending target number) (line_stops mid w0 w1 fault f)
+pub line_stopped : (G : Type 0) (r : Result (Unit {0}) Fault) (old mid : Engine) (rest : List ℕ) (w0 w1 : Option (List ℕ)) → mid.pending.items ≡ old.pending.items ++ rest → mid.target ≡ old.target → mid.number ≡ old.number
+    → IfErr r (λ fault. G → (s : Setting) (h : History) → HasSentAll s h mid.target → LineFails s h mid w0 w1 fault) → IfErr r (λ fault. G → Stops old (rest ++ 10 ∷ []) w0 w1 fault)
+line_stopped G (Ok x) old mid rest w0 w1 pending target number f = tt
+line_stopped G (Err fault) old mid rest w0 w1 pending target number f = λ sound. stops_behind old mid rest (10 ∷ []) w0 w0 w1 fault (pushed old mid rest w0 pending target number) (line_stops mid w0 w1 fault (f sound))
 
 -- ---- memory that runs out before a line is carried out
 
@@ -245,9 +256,9 @@ pub passed_on : (r : Result (Unit {0}) Fault) (fault : Fault) (P : Fault → Typ
 passed_on (Ok x) fault P is h = tt
 passed_on (Err other) fault P is h = subst P (sym is) h
 
-pub memory_passed_on : (r : Result (Unit {0}) Fault) (fault : Fault) (old : Engine) (piece : List ℕ) (w : Option (List ℕ)) → IsErrAnd r (λ (other : Fault). other ≡ fault) → fault ≡ faults.OutOfMemory
-    → IfErr r (λ fault. Stops old piece w w fault)
-memory_passed_on r fault old piece w is memory = passed_on r fault (λ fault. Stops old piece w w fault) is (subst (Stops old piece w w) (sym memory) (memory_stops old piece w))
+pub memory_passed_on : (G : Type 0) (r : Result (Unit {0}) Fault) (fault : Fault) (old : Engine) (piece : List ℕ) (w : Option (List ℕ)) → IsErrAnd r (λ (other : Fault). other ≡ fault) → fault ≡ faults.OutOfMemory
+    → IfErr r (λ fault. G → Stops old piece w w fault)
+memory_passed_on G r fault old piece w is memory = passed_on r fault (λ fault. G → Stops old piece w w fault) is (λ sound. subst (Stops old piece w w) (sym memory) (memory_stops old piece w))
 
 pub cut_more : (piece taken rest line behind : List ℕ) → piece ≡ taken ++ rest → rest ≡ line ++ 10 ∷ behind → piece ≡ (taken ++ (line ++ 10 ∷ [])) ++ behind
 cut_more piece taken rest line behind e f =
@@ -260,15 +271,15 @@ stops_within a b piece taken rest line behind w0 w1 w2 fault e f first second =
     (stops_before a (taken ++ (line ++ 10 ∷ [])) behind w0 w2 fault (stops_behind a b taken (line ++ 10 ∷ []) w0 w1 w2 fault first second))
 
 -- the rest of the piece has no newline
-pub rest_takes : (r : Result (Unit {0}) Fault) (a b new : Engine) (piece taken rest : List ℕ) (w0 w1 : Option (List ℕ)) → piece ≡ taken ++ rest → Takes a taken b w0 w1
-    → OnOk r (new.pending.items ≡ b.pending.items ++ rest) → new.target ≡ b.target → new.number ≡ b.number → OnOk r (Takes a piece new w0 w1)
-rest_takes (Err fault) a b new piece taken rest w0 w1 e first pending target number = tt
-rest_takes (Ok x) a b new piece taken rest w0 w1 e first pending target number =
-    subst (λ (piece : List ℕ). Takes a piece new w0 w1) (sym e) (takes_more a b new taken rest w0 w1 w1 first (pushed b new rest w1 pending target number))
+pub rest_takes : (G : Type 0) (r : Result (Unit {0}) Fault) (a b new : Engine) (piece taken rest : List ℕ) (w0 w1 : Option (List ℕ)) → piece ≡ taken ++ rest → (G → Takes a taken b w0 w1)
+    → OnOk r (new.pending.items ≡ b.pending.items ++ rest) → new.target ≡ b.target → new.number ≡ b.number → OnOk r (G → Takes a piece new w0 w1)
+rest_takes G (Err fault) a b new piece taken rest w0 w1 e first pending target number = tt
+rest_takes G (Ok x) a b new piece taken rest w0 w1 e first pending target number = λ sound.
+    subst (λ (piece : List ℕ). Takes a piece new w0 w1) (sym e) (takes_more a b new taken rest w0 w1 w1 (first sound) (pushed b new rest w1 pending target number))
 
-pub rest_stopped : (r : Result (Unit {0}) Fault) (a b : Engine) (piece taken rest : List ℕ) (w0 w1 : Option (List ℕ)) → piece ≡ taken ++ rest → Takes a taken b w0 w1
-    → IfErr r (λ fault. fault ≡ faults.OutOfMemory) → IfErr r (λ fault. Stops a piece w0 w1 fault)
-rest_stopped (Ok x) a b piece taken rest w0 w1 e first memory = tt
-rest_stopped (Err fault) a b piece taken rest w0 w1 e first memory =
+pub rest_stopped : (G : Type 0) (r : Result (Unit {0}) Fault) (a b : Engine) (piece taken rest : List ℕ) (w0 w1 : Option (List ℕ)) → piece ≡ taken ++ rest → (G → Takes a taken b w0 w1)
+    → IfErr r (λ fault. fault ≡ faults.OutOfMemory) → IfErr r (λ fault. G → Stops a piece w0 w1 fault)
+rest_stopped G (Ok x) a b piece taken rest w0 w1 e first memory = tt
+rest_stopped G (Err fault) a b piece taken rest w0 w1 e first memory = λ sound.
     subst (λ (piece : List ℕ). Stops a piece w0 w1 fault) (sym e)
-    (stops_behind a b taken rest w0 w1 w1 fault first (subst (Stops b rest w1 w1) (sym memory) (memory_stops b rest w1)))
+    (stops_behind a b taken rest w0 w1 w1 fault (first sound) (subst (Stops b rest w1 w1) (sym memory) (memory_stops b rest w1)))

@@ -6,7 +6,7 @@ use Rattle.toml.specs.Parse.{parse_document}
 use Rattle.targetd.specs.Configuration.{Document}
 use Rattle.targetd.specs.Document.{document_of}
 use Rattle.targetd.specs.Limits.{keeps_limits}
-use Rattle.targetd.specs.Distinct.{names_each_once, has_lun_zero}
+use Rattle.targetd.specs.Distinct.{comes_each_once, has_lun_zero}
 use Rattle.targetd.specs.declared.config.fault.ConfigFault.{ConfigFault}
 use Rattle.targetd.specs.declared.config.fault.ConfigFault.TheVariants as faults
 use Rattle.targetd.specs.declared.fault.Fault.{Fault}
@@ -26,7 +26,7 @@ program_fault faults.OutOfMemory = fault.OutOfMemory
 unfoldable pub fault_in : Document → Option ConfigFault
 fault_in document =
     if not (keeps_limits document) then Some faults.Limit
-    else if not (names_each_once document.targets) then Some faults.Twice
+    else if not (comes_each_once document.targets) then Some faults.Twice
     else if not (list_all has_lun_zero document.targets) then Some faults.NoLunZero
     else None
 

@@ -3,11 +3,9 @@
 use Rattle.std.specs.Prelude.{◌≡◌, ℕ, ℤ, pos, negsuc, List, [], ◌∷◌, length, Bool, not, ◌&&◌, ◌==◌, nat_le, codes, Option, Some, None, is_some, option_and_then, Result, Ok, Err, if◌then◌else◌, bytes_eq}
 use Rattle.std.specs.List.{list_any}
 use Rattle.toml.specs.Data.{Data, Items, no_items, item, Members, as_str, as_integer, as_array, as_table, get_member}
-use Rattle.targetd.specs.declared.configuration.UnitKind.{UnitKind}
-use Rattle.targetd.specs.declared.configuration.UnitKind.TheVariants as kinds
 use Rattle.targetd.specs.declared.config.fault.ConfigFault.{ConfigFault}
 use Rattle.targetd.specs.declared.config.fault.ConfigFault.TheVariants as faults
-use Rattle.targetd.specs.Configuration.{UnitEntry, TargetEntry, Document}
+use Rattle.targetd.specs.Configuration.{MediumEntry, MemoryDisk, FileDisk, MemoryTape, UnitEntry, TargetEntry, Document}
 
 -- the second step, where the first gave a value
 infixl 10 ◌>>=◌
@@ -58,36 +56,44 @@ each f (item value values) = do
 -- ---- a unit
 
 -- profile: 1 to 1048576 blocks
-unfoldable pub disk_of : Members → Option UnitKind
-disk_of table = do
+unfoldable pub memory_disk_of : Members → Option MediumEntry
+memory_disk_of table = do
   blocks ← number_at table (codes "blocks") 1 1048576
-  Some (kinds.Disk blocks)
+  Some (MemoryDisk blocks)
+
+-- profile: a disk in a file has as many blocks as the file
+unfoldable pub file_disk_of : Members → Option MediumEntry
+file_disk_of table = do
+  path ← text_at table (codes "file")
+  Some (FileDisk path)
+
+abbrev pub disk_of : Members → Option MediumEntry
+disk_of table = if has_member (codes "file") table then file_disk_of table else memory_disk_of table
 
 -- profile: 1 to 34359738360 bytes, so that the numbers of a tape's items fit in 4 bytes
-unfoldable pub tape_of : Members → Option UnitKind
-tape_of table = do
+unfoldable pub memory_tape_of : Members → Option MediumEntry
+memory_tape_of table = do
   capacity ← number_at table (codes "capacity") 1 34359738360
   early ← number_at table (codes "early") 0 capacity
-  Some (kinds.Tape capacity early)
+  Some (MemoryTape capacity early)
 
-abbrev pub kind_named : Members → List ℕ → Option UnitKind
-kind_named table name = if bytes_eq name (codes "disk") then disk_of table else if bytes_eq name (codes "tape") then tape_of table else None
+-- for now no tape is in a file
+abbrev pub tape_of : Members → Option MediumEntry
+tape_of table = if has_member (codes "file") table then None else memory_tape_of table
 
-unfoldable pub kind_of : Members → Option UnitKind
-kind_of table = option_and_then (kind_named table) (text_at table (codes "kind"))
+abbrev pub medium_named : Members → List ℕ → Option MediumEntry
+medium_named table kind = if bytes_eq kind (codes "disk") then disk_of table else if bytes_eq kind (codes "tape") then tape_of table else None
 
-unfoldable pub unit_in : Members → Option UnitEntry
-unit_in table = do
-  lun ← integer_at table (codes "lun")
-  serial ← text_at table (codes "serial")
-  kind ← kind_of table
-  Some (record { lun = lun; serial = serial; kind = kind })
+unfoldable pub medium_of : Members → Option MediumEntry
+medium_of table = option_and_then (medium_named table) (text_at table (codes "kind"))
 
--- for now no unit is in a file
 unfoldable pub unit_of : Data → Option UnitEntry
 unit_of value = do
   table ← as_table value
-  if has_member (codes "file") table then None else unit_in table
+  lun ← integer_at table (codes "lun")
+  serial ← text_at table (codes "serial")
+  medium ← medium_of table
+  Some (record { lun = lun; serial = serial; medium = medium })
 
 -- ---- a target, and the document
 

@@ -58,5 +58,6 @@ LineFails s h old w0 w1 faults.Output =
     (part : List ℕ) × (unprinted : List ℕ) × (now : History) × (reply s h old.pending.items ≡ Some (part ++ unprinted, now)) × Appends w0 w1 part
 LineFails s h old w0 w1 faults.Input = ⊥
 LineFails s h old w0 w1 faults.Usage = ⊥
+LineFails s h old w0 w1 (faults.Device target lun) = ⊥
 LineFails s h old w0 w1 faults.Socket = ⊥
 LineFails s h old w0 w1 (faults.Configuration number) = ⊥

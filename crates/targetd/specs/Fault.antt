@@ -11,6 +11,7 @@ status_of (Ok end) = 0
 status_of (Err (faults.Configuration number)) = 1
 status_of (Err faults.Usage) = 2
 status_of (Err (faults.Refused line)) = 2
+status_of (Err (faults.Device target lun)) = 3
 status_of (Err faults.Socket) = 3
 status_of (Err faults.Input) = 3
 status_of (Err faults.Output) = 3

@@ -5,6 +5,9 @@ pub mod Document
 pub mod Limits
 pub mod Distinct
 pub mod Config
+pub mod Store
+pub mod Opened
+pub mod Unopened
 pub mod Line
 pub mod Printed
 pub mod Printing

@@ -59,5 +59,6 @@ module _ {S : Type 0} (reply : S → List ℕ → Option (List ℕ × S)) where
   StopsBy faults.Output s input text = (front : List (List ℕ)) × (unprinted : List ℕ) × BeginsWith input front × Prints s front (text ++ unprinted)
   StopsBy faults.Input s input text = ⊥
   StopsBy faults.Usage s input text = ⊥
+  StopsBy (faults.Device target lun) s input text = ⊥
   StopsBy faults.Socket s input text = ⊥
   StopsBy (faults.Configuration number) s input text = ⊥

@@ -22,12 +22,13 @@ module _ (unread unread_then printed printed_then : Option (List ℕ)) where
   EndsUnread s = (read : List ℕ) × (front : List (List ℕ)) × (unended : List ℕ) × (text : List ℕ) × Consumes unread unread_then read
       × (slice_split is_newline read ≡ front ++ unended ∷ []) × Prints (reply s) [] front text × Appends printed printed_then text
 
-  -- it ended by this fault, which is none of the words, the configuration or the sockets
+  -- it ended by this fault, which is none of the words, the configuration, the units or the sockets
   abbrev pub EndsBy : Setting → Fault → Type 0
   EndsBy s (faults.Refused number) = EndsAtLine s (faults.Refused number)
   EndsBy s faults.OutOfMemory = EndsAtLine s faults.OutOfMemory
   EndsBy s faults.Output = EndsAtLine s faults.Output
   EndsBy s faults.Input = EndsUnread s
   EndsBy s faults.Usage = ⊥
+  EndsBy s (faults.Device target lun) = ⊥
   EndsBy s faults.Socket = ⊥
   EndsBy s (faults.Configuration number) = ⊥

@@ -1,8 +1,9 @@
 -- What serving prints.
-use Rattle.std.specs.Prelude.{◌≡◌, ◌≢◌, ℕ, ◌++◌, List, codes, Option, Result, Ok, Err}
+use Rattle.std.specs.Prelude.{◌≡◌, ◌≢◌, ◌⊎◌, ℕ, ◌++◌, IsErrAnd, List, codes, Option, Result, Ok, Err}
 use Rattle.std.specs.Io.KnownBytes.{Appends, Keeps}
 use Rattle.targetd.specs.Config.{program_fault}
 use Rattle.targetd.specs.Configuration.{Document}
+use Rattle.targetd.specs.Opened.{IsUnopened}
 use Rattle.targetd.specs.declared.config.fault.ConfigFault.{ConfigFault}
 use Rattle.targetd.specs.declared.fault.Fault.{Fault}
 use Rattle.targetd.specs.declared.fault.Fault.TheVariants as faults
@@ -26,6 +27,6 @@ module _ (printed printed_then : Option (List ℕ)) where
 
   -- how serving at this configuration ends
   abbrev pub Serves : Result Document ConfigFault → Result (Unit {0}) Fault → Type 0
-  Serves (Ok document) result = Announces result
+  Serves (Ok document) result = (Keeps printed printed_then × IsErrAnd result (IsUnopened document.targets)) ⊎ Announces result
   Serves (Err why) (Ok end) = ⊥
   Serves (Err why) (Err fault) = Keeps printed printed_then × (fault ≢ faults.OutOfMemory → fault ≡ program_fault why)

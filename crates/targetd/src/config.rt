@@ -12,7 +12,7 @@ ghost use Rattle.targetd.specs.Config.{fault_in as first_fault_in, config_of, fi
 ghost use Rattle.targetd.specs.declared.config.fault.ConfigFault.TheVariants.{OutOfMemory};
 
 use crate::configuration::Configuration;
-use distinct::{have_lun_zero, names_each_once};
+use distinct::{come_each_once, have_lun_zero};
 use fault::ConfigFault;
 use fields::fields;
 use limits::keeps_limits;
@@ -31,7 +31,7 @@ fn fault_in(configuration: &Configuration) -> Option<ConfigFault>
     if !keeps_limits(configuration) {
         return Some(ConfigFault::Limit);
     }
-    if !names_each_once(targets) {
+    if !come_each_once(targets) {
         return Some(ConfigFault::Twice);
     }
     if !have_lun_zero(targets) {

@@ -5,6 +5,7 @@ ghost use Rattle.std.specs.Prelude.{◌≡◌, ◌==◌, ◌++◌, ◌∷◌, No
 use crate::fault::Fault;
 use crate::printing::print_all;
 use crate::reply::reply;
+use crate::store::MediumStore;
 use iscsi_target::Target;
 use std::alloc::Global;
 use std::io::Write;
@@ -13,7 +14,7 @@ use std::io::Write;
 #[derive(Drop)]
 pub struct Engine {
     pub alloc: Global,
-    pub target: Target,
+    pub target: Target<MediumStore>,
     /// The line that has not ended yet.
     pub pending: Vec<u8>,
     /// The number of the line before it.
@@ -36,16 +37,32 @@ impl Engine {
     ghost use Rattle.std.specs.Io.KnownBytes.{Appends};
     ghost use Rattle.iscsi_target.specs.History.{History};
     ghost use Rattle.iscsi_target.specs.World.{Setting};
+    ghost use Rattle.iscsi_target.specs.Machine.{IsSound};
     ghost use Rattle.targetd.specs.Printed.{HasSentAll};
     ghost use Rattle.targetd.specs.Engine.{Takes, Stops, Finishes, StopsLast, LineEnds, LineFails};
+
+    /// A replay that has taken nothing yet.
+    pub fn new(alloc: Global, target: Target<MediumStore>) -> Engine
+        ensures target { result.target ≡ target }
+        ensures pending { result.pending.items ≡ [] }
+        ensures number { result.number ≡ 0 }
+    {
+        Engine {
+            alloc,
+            target,
+            pending: Vec::new(alloc),
+            number: 0,
+        }
+    }
 
     /// The pending line has ended.
     fn end_line<W: Write>(&mut self, writer: &mut W) -> Result<(), Fault>
         requires counts { self.old.number + 1 < 2 ^ 64 }
-        ensures reply { OnOk result ((s : Setting) (h : History) → HasSentAll s h self.old.target → LineEnds s h self.old.pending.items self.new.target (W.contents writer.old) (W.contents writer.new)) }
+        ensures reply { OnOk result (IsSound self.new.target → (s : Setting) (h : History) → HasSentAll s h self.old.target → LineEnds s h self.old.pending.items self.new.target (W.contents writer.old) (W.contents writer.new)) }
         ensures pending { OnOk result (self.new.pending.items ≡ []) }
         ensures number { OnOk result (self.new.number ≡ self.old.number + 1) }
-        ensures fails { IfErr result (λ fault. (s : Setting) (h : History) → HasSentAll s h self.old.target → LineFails s h self.old (W.contents writer.old) (W.contents writer.new) fault) }
+        ensures fails { IfErr result (λ fault. IsSound self.new.target → (s : Setting) (h : History) → HasSentAll s h self.old.target → LineFails s h self.old (W.contents writer.old) (W.contents writer.new) fault) }
+        ensures sound { IsSound self.new.target → IsSound self.old.target }
     {
         self.number += 1;
         let Some(text) = reply(self.alloc, &mut self.target, self.pending.as_slice())? else {
@@ -71,9 +88,10 @@ impl Engine {
     fn take_line<W: Write>(&mut self, rest: &[u8], writer: &mut W) -> Result<(), Fault>
         requires counts { self.old.number + 1 < 2 ^ 64 }
         requires one_line { All (λ byte. (byte == 10) ≡ false) rest.now }
-        ensures takes { OnOk result (Takes self.old (rest.now ++ 10 ∷ []) self.new (W.contents writer.old) (W.contents writer.new)) }
+        ensures takes { OnOk result (IsSound self.new.target → Takes self.old (rest.now ++ 10 ∷ []) self.new (W.contents writer.old) (W.contents writer.new)) }
         ensures number { OnOk result (self.new.number ≡ self.old.number + 1) }
-        ensures stops { IfErr result (λ fault. Stops self.old (rest.now ++ 10 ∷ []) (W.contents writer.old) (W.contents writer.new) fault) }
+        ensures stops { IfErr result (λ fault. IsSound self.new.target → Stops self.old (rest.now ++ 10 ∷ []) (W.contents writer.old) (W.contents writer.new) fault) }
+        ensures sound { IsSound self.new.target → IsSound self.old.target }
     {
         self.push(rest)?;
         self.end_line(writer)
@@ -82,9 +100,10 @@ impl Engine {
     /// The next bytes of the input.
     pub fn take<W: Write>(&mut self, piece: &[u8], writer: &mut W) -> Result<(), Fault>
         requires counts { self.old.number + length piece.now < 2 ^ 64 }
-        ensures takes { OnOk result (Takes self.old piece.now self.new (W.contents writer.old) (W.contents writer.new)) }
+        ensures takes { OnOk result (IsSound self.new.target → Takes self.old piece.now self.new (W.contents writer.old) (W.contents writer.new)) }
         ensures number { OnOk result (self.new.number ≤ self.old.number + length piece.now) }
-        ensures stops { IfErr result (λ fault. Stops self.old piece.now (W.contents writer.old) (W.contents writer.new) fault) }
+        ensures stops { IfErr result (λ fault. IsSound self.new.target → Stops self.old piece.now (W.contents writer.old) (W.contents writer.new) fault) }
+        ensures sound { IsSound self.new.target → IsSound self.old.target }
     {
         let mut rest = piece;
         while let Some((line, behind)) = split_line(rest) {
@@ -97,8 +116,9 @@ impl Engine {
     /// The input has ended. Its last line may lack its newline.
     pub fn end<W: Write>(&mut self, writer: &mut W) -> Result<(), Fault>
         requires counts { self.old.number + 1 < 2 ^ 64 }
-        ensures finishes { OnOk result (Finishes self.old (W.contents writer.old) (W.contents writer.new)) }
-        ensures stops { IfErr result (λ fault. StopsLast self.old (W.contents writer.old) (W.contents writer.new) fault) }
+        ensures finishes { OnOk result (IsSound self.new.target → Finishes self.old (W.contents writer.old) (W.contents writer.new)) }
+        ensures stops { IfErr result (λ fault. IsSound self.new.target → StopsLast self.old (W.contents writer.old) (W.contents writer.new) fault) }
+        ensures sound { IsSound self.new.target → IsSound self.old.target }
     {
         if self.pending.is_empty() {
             return Ok(());

@@ -10,7 +10,7 @@ use std::alloc::{AllocError, AllocFailed};
 use thiserror::Error;
 
 /// Why the run ended. Its text is its line on standard error.
-#[derive(Clone, Copy, Debug, PartialEq, Eq, Error)]
+#[derive(Debug, Drop, Error)]
 pub enum Fault {
     /// The configuration cannot be used; its number says why.
     #[error("targetd: configuration fault {number}")]
@@ -21,6 +21,9 @@ pub enum Fault {
     /// A line of the input, counted from 1, is of another form, or breaks a condition.
     #[error("targetd: line {line} refused")]
     Refused { line: u64 },
+    /// The unit of a target cannot be opened.
+    #[error("targetd: device fault at {target} unit {lun}")]
+    Device { target: String, lun: u8 },
     /// The address cannot be listened on, or the sockets failed.
     #[error("targetd: socket fault")]
     Socket,
@@ -43,7 +46,8 @@ pub fn status_of(ended: &Result<(), Fault>) -> u8
         Ok(()) => 0,
         Err(Fault::Configuration { .. }) => 1,
         Err(Fault::Usage | Fault::Refused { .. }) => 2,
-        Err(Fault::Socket | Fault::Input | Fault::Output | Fault::OutOfMemory) => 3,
+        Err(Fault::Device { .. } | Fault::Socket) => 3,
+        Err(Fault::Input | Fault::Output | Fault::OutOfMemory) => 3,
     }
 }
 

@@ -28,16 +28,19 @@
 #![tactic(auto)]
 
 mod arguments;
+mod block_count;
 mod config;
 mod configuration;
 mod engine;
 mod fault;
 mod line;
+mod opening;
 mod printing;
 mod replay;
 mod reply;
 mod run;
 mod serve;
+mod store;
 mod words;
 
 use arguments::arguments;
@@ -49,7 +52,13 @@ use std::process::ExitCode;
 /// Does what the words of the command line say.
 fn carry_out(rt: &HostRuntime) -> Result<(), Fault> {
     let words = arguments(rt)?;
-    run(rt, words.as_slice(), &mut rt.reader(), &mut io::writer(rt))
+    run(
+        rt,
+        words.as_slice(),
+        &mut None,
+        &mut rt.reader(),
+        &mut io::writer(rt),
+    )
 }
 
 fn main(rt: HostRuntime) -> ExitCode {

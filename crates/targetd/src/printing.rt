@@ -4,35 +4,31 @@ ghost use Rattle.std.specs.Prelude.{◌≡◌, ℕ, List, ◌++◌, ◌<◌, tru
 ghost use Rattle.std.specs.Io.KnownBytes.{Appends};
 ghost use Rattle.iscsi_target.specs.History.{History};
 ghost use Rattle.iscsi_target.specs.World.{Setting, world};
-ghost use Rattle.iscsi_target.specs.Machine.{link_at, is_open_at};
+ghost use Rattle.iscsi_target.specs.Machine.{IsSound, link_at, is_open_at};
 ghost use Rattle.iscsi_target.specs.Stands.{Stands, with_sent};
 ghost use Rattle.targetd.specs.Printed.{bytes_line, closed_line, all_sent};
 ghost use Rattle.targetd.specs.Printing.{HasPrintedOne, HasPrintedAll};
 
 use crate::fault::Fault;
 use crate::line::CONNECTIONS;
+use crate::store::MediumStore;
 use iscsi_target::{Memory, Target};
 use std::alloc::{AllocError, Global};
 use std::io::{ErrorKind, Write};
 
 /// Takes all that waits on a connection, which is then sent.
-fn drain(alloc: Global, target: &mut Target, c: usize) -> Result<Vec<u8>, Memory>
+fn drain(alloc: Global, target: &mut Target<MediumStore>, c: usize) -> Result<Vec<u8>, Memory>
     requires in_range { c < 64 }
     requires open { is_open_at target.old c ≡ true }
     ensures bytes { IfOk result (λ bytes. bytes.items ≡ (link_at target.old c).waiting) }
     ensures open { is_open_at target.new c ≡ true }
-    ensures stands { OnOk result ((s : Setting) (sent : ℕ → ℕ) (h : History) → Stands s sent target.old h → Stands s (with_sent sent c (all_sent (world s h) c)) target.new h) }
+    ensures stands { OnOk result (IsSound target.new → (s : Setting) (sent : ℕ → ℕ) (h : History) → Stands s sent target.old h → Stands s (with_sent sent c (all_sent (world s h) c)) target.new h) }
+    ensures sound { IsSound target.new → IsSound target.old }
 {
     let mut bytes = Vec::new(alloc);
-    loop {
-        let piece = target.out(c);
-        if piece.is_empty() {
-            return Ok(bytes);
-        }
-        bytes.extend_from_slice(piece)?;
-        let count = piece.len();
-        target.sent(c, count);
-    }
+    bytes.extend_from_slice(target.out(c))?;
+    target.sent(c, bytes.len());
+    Ok(bytes)
 }
 
 /// Prints `C HEX` where there are bytes.
@@ -57,13 +53,14 @@ fn print_closed(c: usize, text: &mut String) -> Result<(), AllocError>
 /// then gone.
 fn print_connection(
     alloc: Global,
-    target: &mut Target,
+    target: &mut Target<MediumStore>,
     c: usize,
     text: &mut String,
 ) -> Result<(), Memory>
     requires in_range { c < 64 }
     requires open { is_open_at target.old c ≡ true }
-    ensures { OnOk result ((s : Setting) (sent : ℕ → ℕ) (h : History) → Stands s sent target.old h → HasPrintedOne s sent h c (string_bytes text.old) (string_bytes text.new) target.new) }
+    ensures prints { OnOk result (IsSound target.new → (s : Setting) (sent : ℕ → ℕ) (h : History) → Stands s sent target.old h → HasPrintedOne s sent h c (string_bytes text.old) (string_bytes text.new) target.new) }
+    ensures sound { IsSound target.new → IsSound target.old }
 {
     let bytes = drain(alloc, target, c)?;
     print_bytes(alloc, c, bytes.as_slice(), text)?;
@@ -75,8 +72,9 @@ fn print_connection(
 }
 
 /// Prints what has come of a line, connection by connection.
-pub fn print(alloc: Global, target: &mut Target) -> Result<String, Memory>
-    ensures { IfOk result (λ text. (s : Setting) (sent : ℕ → ℕ) (h : History) → Stands s sent target.old h → HasPrintedAll s sent h (string_bytes text) target.new) }
+pub fn print(alloc: Global, target: &mut Target<MediumStore>) -> Result<String, Memory>
+    ensures prints { IfOk result (λ text. IsSound target.new → (s : Setting) (sent : ℕ → ℕ) (h : History) → Stands s sent target.old h → HasPrintedAll s sent h (string_bytes text) target.new) }
+    ensures sound { IsSound target.new → IsSound target.old }
 {
     let mut text = String::new(alloc);
     for c in 0..CONNECTIONS {

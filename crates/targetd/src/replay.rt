@@ -1,14 +1,13 @@
 //! The replay: events come as lines, and what the target answers is printed after each.
 
-ghost use Rattle.std.specs.Prelude.{[], OnOk, IfErr};
+ghost use Rattle.std.specs.Prelude.{◌≡◌, [], OnOk, IfErr};
 ghost use Rattle.iscsi_target.specs.World.{Setting};
+ghost use Rattle.iscsi_target.specs.Machine.{IsSound};
 ghost use Rattle.targetd.specs.Printed.{HasSentAll};
 ghost use Rattle.targetd.specs.Replay.{Ends, EndsBy};
 
 use crate::engine::Engine;
 use crate::fault::Fault;
-use iscsi_target::Target;
-use std::alloc::Global;
 use std::io::{ErrorKind, Read, Write};
 
 /// Input that has no end after so many reads is a fault.
@@ -18,20 +17,15 @@ const MOST_READS: u64 = 4_294_967_296;
 /// after each: for each connection in rising order `C HEX` where bytes wait, which are then sent,
 /// and `C closed` where it is closing, which is then gone. What was printed before a fault stays.
 pub fn replay<R: Read, W: Write>(
-    alloc: Global,
-    target: Target,
+    engine: &mut Engine,
     reader: &mut R,
     writer: &mut W,
 ) -> Result<(), Fault>
-    ensures done { OnOk result ((s : Setting) → HasSentAll s [] target → Ends (R.remaining reader.old) (R.remaining reader.new) (W.contents writer.old) (W.contents writer.new) s) }
-    ensures fails { IfErr result (λ fault. (s : Setting) → HasSentAll s [] target → EndsBy (R.remaining reader.old) (R.remaining reader.new) (W.contents writer.old) (W.contents writer.new) s fault) }
+    requires pending { engine.old.pending.items ≡ [] }
+    requires number { engine.old.number ≡ 0 }
+    ensures done { OnOk result (IsSound engine.new.target → (s : Setting) → HasSentAll s [] engine.old.target → Ends (R.remaining reader.old) (R.remaining reader.new) (W.contents writer.old) (W.contents writer.new) s) }
+    ensures fails { IfErr result (λ fault. IsSound engine.new.target → (s : Setting) → HasSentAll s [] engine.old.target → EndsBy (R.remaining reader.old) (R.remaining reader.new) (W.contents writer.old) (W.contents writer.new) s fault) }
 {
-    let mut engine = Engine {
-        alloc,
-        target,
-        pending: Vec::new(alloc),
-        number: 0,
-    };
     let mut chunk = [0u8; 4096];
     for _ in 0..MOST_READS {
         match reader.read(&mut chunk) {

@@ -3,6 +3,7 @@
 ghost use Rattle.std.specs.Prelude.{◌≡◌, ◌<◌, true, None, IfOk, IfSome, MatchOption, option_map, string_bytes};
 ghost use Rattle.iscsi_target.specs.History.{History};
 ghost use Rattle.iscsi_target.specs.World.{Setting, world};
+ghost use Rattle.iscsi_target.specs.Machine.{IsSound};
 ghost use Rattle.iscsi_target.specs.Events.{event_view};
 ghost use Rattle.targetd.specs.Line.{connection_in};
 ghost use Rattle.targetd.specs.Printed.{HasSentAll};
@@ -10,15 +11,17 @@ ghost use Rattle.targetd.specs.Reply.{is_allowed, event_in, HasActed, HasReplied
 
 use crate::line::line;
 use crate::printing::print;
+use crate::store::MediumStore;
 use iscsi_target::{Event, Memory, Starved, Target};
 use std::alloc::Global;
 use std::str;
 
 /// Carries out an event where it is allowed, and says whether it is.
-fn act(target: &mut Target, event: &Event) -> Result<bool, Starved>
+fn act(target: &mut Target<MediumStore>, event: &Event) -> Result<bool, Starved>
     requires { connection_in event.now < 64 }
     ensures allowed { IfOk result (λ allowed. (s : Setting) (h : History) → HasSentAll s h target.old → allowed ≡ is_allowed (world s h) (event_view event.now)) }
-    ensures acted { IfOk result (λ allowed. allowed ≡ true → (s : Setting) (h : History) → HasSentAll s h target.old → HasActed s h (event_view event.now) target.new) }
+    ensures acted { IfOk result (λ allowed. allowed ≡ true → IsSound target.new → (s : Setting) (h : History) → HasSentAll s h target.old → HasActed s h (event_view event.now) target.new) }
+    ensures sound { IsSound target.new → IsSound target.old }
 {
     match event {
         Event::Open(c) => {
@@ -56,8 +59,13 @@ fn event(alloc: Global, bytes: &[u8]) -> Result<Option<Event>, Memory>
 
 /// Carries out a line, given without its newline, and gives what is then printed: `None` where the
 /// line is of another form or breaks a condition.
-pub fn reply(alloc: Global, target: &mut Target, bytes: &[u8]) -> Result<Option<String>, Memory>
-    ensures { IfOk result (λ text. (s : Setting) (h : History) → HasSentAll s h target.old → MatchOption text (reply_of s h bytes.now ≡ None) (λ text. HasReplied s h bytes.now (string_bytes text) target.new)) }
+pub fn reply(
+    alloc: Global,
+    target: &mut Target<MediumStore>,
+    bytes: &[u8],
+) -> Result<Option<String>, Memory>
+    ensures reply { IfOk result (λ text. IsSound target.new → (s : Setting) (h : History) → HasSentAll s h target.old → MatchOption text (reply_of s h bytes.now ≡ None) (λ text. HasReplied s h bytes.now (string_bytes text) target.new)) }
+    ensures sound { IsSound target.new → IsSound target.old }
 {
     let Some(event) = event(alloc, bytes)? else {
         return Ok(None);

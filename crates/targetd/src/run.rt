@@ -9,7 +9,9 @@ ghost use Rattle.targetd.specs.Serve.{Serves};
 
 use crate::config::fault::ConfigFault;
 use crate::config::{MOST_BYTES, file_config};
+use crate::engine::Engine;
 use crate::fault::Fault;
+use crate::opening::{Setup, open};
 use crate::replay::replay;
 use crate::serve::serve;
 use crate::words::{Mode, mode_of};
@@ -57,22 +59,27 @@ fn load(rt: &(impl Files + AllocGlobal), path: &str) -> Result<Vec<u8>, ConfigFa
 
 /// Replays the input at the target of the configuration whose file has these contents.
 fn replay_at<R: Read, W: Write>(
-    alloc: Global,
+    rt: &(impl Files<File = File> + AllocGlobal),
     contents: &[u8],
+    left: &mut Option<Engine>,
     reader: &mut R,
     writer: &mut W,
 ) -> Result<(), Fault>
-    ensures { Replays (R.remaining reader.old) (R.remaining reader.new) (W.contents writer.old) (W.contents writer.new) (file_config_of contents.now) result }
+    ensures { Replays left.new (R.remaining reader.old) (R.remaining reader.new) (W.contents writer.old) (W.contents writer.new) (file_config_of contents.now) result }
 {
+    let alloc = rt.alloc();
     let configuration = file_config(alloc, contents)?;
-    let units = configuration.units(alloc)?;
-    let target = Target::new(alloc, configuration.into_config(alloc)?, units)?;
-    replay(alloc, target, reader, writer)
+    let Setup { config, units } = open(rt, configuration)?;
+    let target = Target::new(alloc, config, units)?;
+    let mut engine = Engine::new(alloc, target);
+    let ended = replay(&mut engine, reader, writer);
+    *left = Some(engine);
+    ended
 }
 
 /// Serves at the configuration whose file has these contents, for so many turns.
 fn serve_at<W: Write>(
-    rt: &(impl AllocGlobal + Net),
+    rt: &(impl Files<File = File> + AllocGlobal + Net),
     contents: &[u8],
     count: u64,
     writer: &mut W,
@@ -81,26 +88,27 @@ fn serve_at<W: Write>(
 {
     let alloc = rt.alloc();
     let configuration = file_config(alloc, contents)?;
-    let units = configuration.units(alloc)?;
-    let ports = MioPorts::new(rt, alloc, configuration.listen.as_str(), None)?;
-    let target = Target::new(alloc, configuration.into_config(alloc)?, units)?;
+    let Setup { config, units } = open(rt, configuration)?;
+    let ports = MioPorts::new(rt, alloc, config.listen.as_str(), None)?;
+    let target = Target::new(alloc, config, units)?;
     serve(alloc, ports, target, count, writer)
 }
 
 /// Does what the words say that stand behind the program's name, from the first to the end of the
-/// input.
+/// input. What a replay leaves is in `left`, so that it can be said of it whether it is sound.
 pub fn run<R: Read, W: Write>(
-    rt: &(impl Files + AllocGlobal + Net),
+    rt: &(impl Files<File = File> + AllocGlobal + Net),
     words: &[String],
+    left: &mut Option<Engine>,
     reader: &mut R,
     writer: &mut W,
 ) -> Result<(), Fault>
-    ensures { Runs (R.remaining reader.old) (R.remaining reader.new) (W.contents writer.old) (W.contents writer.new) (mode_in (map string_bytes words.now)) result }
+    ensures { Runs left.new (R.remaining reader.old) (R.remaining reader.new) (W.contents writer.old) (W.contents writer.new) (mode_in (map string_bytes words.now)) result }
 {
     match mode_of(words)? {
         Mode::Replay { config } => {
             let contents = load(rt, config)?;
-            replay_at(rt.alloc(), contents.as_slice(), reader, writer)
+            replay_at(rt, contents.as_slice(), left, reader, writer)
         }
         Mode::Serve { config, turns } => {
             let contents = load(rt, config)?;

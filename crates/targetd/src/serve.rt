@@ -5,6 +5,7 @@ ghost use Rattle.targetd.specs.Serve.{listening_line, Announces};
 
 use crate::fault::Fault;
 use crate::printing::print_all;
+use crate::store::MediumStore;
 use iscsi_serve::{MioPorts, turns};
 use iscsi_target::Target;
 use std::alloc::{AllocError, Global};
@@ -24,7 +25,7 @@ fn announcement(alloc: Global, address: SocketAddr) -> Result<String, AllocError
 pub fn serve<W: Write>(
     alloc: Global,
     mut ports: MioPorts,
-    mut target: Target,
+    mut target: Target<MediumStore>,
     count: u64,
     writer: &mut W,
 ) -> Result<(), Fault>

@@ -2,7 +2,7 @@
 
 ghost use Rattle.std.specs.Prelude.{◌≡◌, ◌≤◌, ℕ, length, min, take, IfNone};
 ghost use Rattle.iscsi_login.specs.LoginState.{AsksBelow};
-ghost use Rattle.iscsi_login.specs.Login.{longest_piece, step_of, answered, IsAnswered, IsBelow, accepted, begun_by, handle_with, login_stamp, login_answer, reply_to, refused_reply};
+ghost use Rattle.iscsi_login.specs.Login.{longest_piece, step_of, answered, IsAnswered, IsBelow, BeginsWith, accepted, begun_by, handle_with, login_stamp, login_response, reply_to, refused_reply};
 
 use crate::answer::LONGEST_PIECE;
 use crate::login::Login;
@@ -11,8 +11,7 @@ use crate::reply::Reply;
 use crate::request::{is_last_step, stage_after};
 use crate::session::Session;
 use iscsi_pdu::{
-    Answer, Frame, Header, LoginAccepted, LoginRefusal, LoginReply, LoginResponse, LoginStep,
-    Stage, Stamp,
+    Frame, Header, LoginAccepted, LoginRefusal, LoginReply, LoginResponse, LoginStep, Stage, Stamp,
 };
 
 /// So many commands beside the first may be sent, one less than the window (RFC 7143 §4.2.2.1).
@@ -33,18 +32,18 @@ impl Login {
     }
 
     /// The Login Response with this reply.
-    #[tactic(auto, unfolding(crate::specs::Login::login_answer))]
-    fn response(&self, request: &Frame, tsih: u16, reply: LoginReply) -> Answer
-        ensures { result ≡ login_answer self.now request.now tsih reply }
+    #[tactic(auto, unfolding(crate::specs::Login::login_response))]
+    fn response(&self, request: &Frame, tsih: u16, reply: LoginReply) -> LoginResponse
+        ensures { result ≡ login_response self.now request.now tsih reply }
     {
         let header = &request.header;
-        Answer::LoginResponse(LoginResponse {
+        LoginResponse {
             isid: header.isid(),
             tsih,
             initiator_task_tag: header.initiator_task_tag(),
             stamp: self.stamp(header),
             reply,
-        })
+        }
     }
 
     /// The request is refused.
@@ -74,6 +73,7 @@ impl Login {
         ensures target { (count : ℕ) → AsksBelow count self.old.session → AsksBelow count result }
         ensures left { (count : ℕ) → AsksBelow count self.old.session → AsksBelow count self.new.session }
         ensures none { IfNone result (self.new ≡ self.old) }
+        ensures values { self.new.values ≡ self.old.values }
     {
         if is_last_step(step) {
             return self.session.take();
@@ -95,10 +95,10 @@ impl Login {
     }
 
     /// The Login Response that has this piece, the next one of what is due.
-    fn accept(&self, request: &Frame, piece: Vec<u8>) -> Answer
+    fn accept(&self, request: &Frame, piece: Vec<u8>) -> LoginResponse
         requires next { piece.items ≡ take longest_piece self.now.due }
         requires short { length piece.items ≤ longest_piece }
-        ensures { result ≡ login_answer self.now request.now (handle_with self.now request.now.header (step_of request.now.header self.now.due)) (accepted request.now.header self.now.due) }
+        ensures { result ≡ login_response self.now request.now (handle_with self.now request.now.header (step_of request.now.header self.now.due)) (accepted request.now.header self.now.due) }
     {
         let header = &request.header;
         let step = self.step(header);
@@ -125,6 +125,8 @@ impl Login {
         ensures reply { result ≡ reply_to self.old request.now }
         ensures after { IsAnswered self.old request.now result self.new }
         ensures target { (count : ℕ) → AsksBelow count self.old.session → IsBelow count result self.new }
+        ensures values { self.new.values ≡ self.old.values }
+        ensures begins { BeginsWith self.old.values result }
     {
         let header = &request.header;
         let opening = self.opening_with(header);

@@ -1,14 +1,17 @@
 //! The fields of the document: each is there, of its type, and in the range that belongs to it.
 //! Fields that nothing reads are passed over.
 
-ghost use Rattle.std.specs.Prelude.{◌≡◌, map, codes, string_bytes};
+ghost use Rattle.std.specs.Prelude.{◌≡◌, ◌≤◌, IfOk, map, codes, string_bytes};
 ghost use Rattle.toml.specs.Data.{get_member};
 ghost use Rattle.toml.specs.View.{view, items_view, table_view};
-ghost use Rattle.targetd.specs.Document.{Gives, text_at, integer_at, items_at, number_at, name_at, disk_of, tape_of, kind_of, has_member, is_name as is_name_text, unit_in, unit_of, target_of, each, document_of};
-ghost use Rattle.targetd.specs.Configuration.{unit_view, target_view, configuration_view};
+ghost use Rattle.targetd.specs.Document.{Gives, text_at, integer_at, items_at, number_at, name_at, disk_of, memory_disk_of, file_disk_of, tape_of, memory_tape_of, medium_of, has_member, is_name as is_name_text, unit_of, target_of, each, document_of};
+ghost use Rattle.targetd.specs.Configuration.{medium_view, unit_view, target_view, configuration_view};
 
 use super::fault::ConfigFault;
-use crate::configuration::{Configuration, TargetConfiguration, UnitConfiguration, UnitKind};
+use crate::block_count::BlockCount;
+use crate::configuration::{
+    Configuration, MediumConfiguration, TargetConfiguration, UnitConfiguration,
+};
 use std::alloc::Global;
 use toml::{Table, Value};
 
@@ -56,7 +59,8 @@ fn array<'a>(table: &'a Table, key: &str) -> Result<&'a [Value], ConfigFault>
 /// A number from `least` to `most`.
 #[tactic(auto, unfolding(crate::specs::Document::number_at))]
 fn number(table: &Table, key: &str, least: u64, most: u64) -> Result<u64, ConfigFault>
-    ensures { Gives (λ n. n) result (number_at (table_view table.now) key.now least most) }
+    ensures number { Gives (λ n. n) result (number_at (table_view table.now) key.now least most) }
+    ensures range { IfOk result (λ n. (least ≤ n) × (n ≤ most)) }
 {
     match u64::try_from(integer(table, key)?) {
         Ok(number) if least <= number && number <= most => Ok(number),
@@ -83,54 +87,77 @@ fn name(alloc: Global, table: &Table, key: &str) -> Result<String, ConfigFault>
     Ok(String::from_str(alloc, name)?)
 }
 
-#[tactic(auto, unfolding(crate::specs::Document::disk_of))]
-fn disk(table: &Table) -> Result<UnitKind, ConfigFault>
-    ensures { Gives (λ k. k) result (disk_of (table_view table.now)) }
+/// A disk in memory, of so many blocks.
+#[tactic(auto, unfolding(crate::specs::Document::memory_disk_of))]
+fn memory_disk(table: &Table) -> Result<MediumConfiguration, ConfigFault>
+    ensures { Gives medium_view result (memory_disk_of (table_view table.now)) }
 {
-    let blocks = number(table, "blocks", 1, MOST_BLOCKS)?;
-    Ok(UnitKind::Disk { blocks })
+    let number = number(table, "blocks", 1, MOST_BLOCKS)?;
+    Ok(MediumConfiguration::MemoryDisk(BlockCount { number }))
 }
 
-#[tactic(auto, unfolding(crate::specs::Document::tape_of))]
-fn tape(table: &Table) -> Result<UnitKind, ConfigFault>
-    ensures { Gives (λ k. k) result (tape_of (table_view table.now)) }
+/// A disk in a file. A number of blocks beside it is not read.
+#[tactic(auto, unfolding(crate::specs::Document::file_disk_of))]
+fn file_disk(alloc: Global, table: &Table) -> Result<MediumConfiguration, ConfigFault>
+    ensures { Gives medium_view result (file_disk_of (table_view table.now)) }
+{
+    let path = String::from_str(alloc, text(table, "file")?)?;
+    Ok(MediumConfiguration::FileDisk(path))
+}
+
+fn disk(alloc: Global, table: &Table) -> Result<MediumConfiguration, ConfigFault>
+    ensures { Gives medium_view result (disk_of (table_view table.now)) }
+{
+    if has(table, "file") {
+        file_disk(alloc, table)
+    } else {
+        memory_disk(table)
+    }
+}
+
+#[tactic(auto, unfolding(crate::specs::Document::memory_tape_of))]
+fn memory_tape(table: &Table) -> Result<MediumConfiguration, ConfigFault>
+    ensures { Gives medium_view result (memory_tape_of (table_view table.now)) }
 {
     let capacity = number(table, "capacity", 1, MOST_CAPACITY)?;
     let early = number(table, "early", 0, capacity)?;
-    Ok(UnitKind::Tape { capacity, early })
+    Ok(MediumConfiguration::MemoryTape { capacity, early })
 }
 
-#[tactic(auto, unfolding(crate::specs::Document::kind_of))]
-fn kind(table: &Table) -> Result<UnitKind, ConfigFault>
-    ensures { Gives (λ k. k) result (kind_of (table_view table.now)) }
+/// A tape in memory. One in a file is not read yet.
+fn tape(table: &Table) -> Result<MediumConfiguration, ConfigFault>
+    ensures { Gives medium_view result (tape_of (table_view table.now)) }
+{
+    if has(table, "file") {
+        return Err(ConfigFault::Field);
+    }
+    memory_tape(table)
+}
+
+#[tactic(auto, unfolding(crate::specs::Document::medium_of))]
+fn medium(alloc: Global, table: &Table) -> Result<MediumConfiguration, ConfigFault>
+    ensures { Gives medium_view result (medium_of (table_view table.now)) }
 {
     match text(table, "kind")? {
-        "disk" => disk(table),
+        "disk" => disk(alloc, table),
         "tape" => tape(table),
         _ => Err(ConfigFault::Field),
     }
 }
 
-#[tactic(auto, unfolding(crate::specs::Document::unit_in))]
-fn unit_fields(alloc: Global, table: &Table) -> Result<UnitConfiguration, ConfigFault>
-    ensures { Gives unit_view result (unit_in (table_view table.now)) }
-{
-    let lun = integer(table, "lun")?;
-    let serial = String::from_str(alloc, text(table, "serial")?)?;
-    let kind = kind(table)?;
-    Ok(UnitConfiguration { lun, serial, kind })
-}
-
-/// A unit in memory. One in a file is not read yet.
 #[tactic(auto, unfolding(crate::specs::Document::unit_of))]
 fn unit(alloc: Global, value: &Value) -> Result<UnitConfiguration, ConfigFault>
     ensures { Gives unit_view result (unit_of (view value.now)) }
 {
     let table = value.as_table().ok_or(ConfigFault::Field)?;
-    if has(table, "file") {
-        return Err(ConfigFault::Field);
-    }
-    unit_fields(alloc, table)
+    let lun = integer(table, "lun")?;
+    let serial = String::from_str(alloc, text(table, "serial")?)?;
+    let medium = medium(alloc, table)?;
+    Ok(UnitConfiguration {
+        lun,
+        serial,
+        medium,
+    })
 }
 
 fn units(alloc: Global, values: &[Value]) -> Result<Vec<UnitConfiguration>, ConfigFault>

@@ -6,4 +6,4 @@ use Rattle.iscsi_serve.proofs.serving.free_number.Given as goal
 
 -- none was free so far
 abbrev pub invariant-loop-c : goal.invariant-loop-c
-invariant-loop-c l = find (λ c. not (is_open_at l.target c)) connections ≡ find (λ c. not (is_open_at l.target c)) (range_with_len l.c (64 - l.c))
+invariant-loop-c g l = find (λ c. not (is_open_at l.target c)) connections ≡ find (λ c. not (is_open_at l.target c)) (range_with_len l.c (64 - l.c))

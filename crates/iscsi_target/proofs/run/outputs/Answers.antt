@@ -6,7 +6,7 @@ use Rattle.iscsi_target.proofs.Rows.{bytes_after, all_written}
 use Rattle.iscsi_target.proofs.run.outputs.Goals as goal
 
 pub returns : goal.returns
-returns c =
+returns g c =
     let items = c.args.rows.items in
     let same : c.as_mut_slice.result.now ≡ items = c.as_mut_slice.ensures.value in
     let len : length c.finish.new.rows ≡ length items = c.finish.auto.rows ∙ ap (λ (l : List Row). length l) same in

@@ -5,18 +5,18 @@ use Rattle.targetd.specs.Reply.{event_in}
 use Rattle.targetd.proofs.Replies.{other_form, refused, replied}
 use Rattle.targetd.proofs.reply.reply.Goals as goal
 
-pub returns-in_default : goal.returns-in_default
-returns-in_default c = λ s h stands. other_form s h c.args.bytes.now (sym c.in_ok-event.ensures.event ∙ ap (option_map event_view) c.in_default.is)
+pub returns-in_default-clause-reply : goal.returns-in_default-clause-reply
+returns-in_default-clause-reply c = λ sound s h stands. other_form s h c.args.bytes.now (sym c.in_ok-event.ensures.event ∙ ap (option_map event_view) c.in_default.is)
 
-pub returns-in-Ok-true : goal.returns-in-Ok-true
-returns-in-Ok-true c = λ s h stands.
+pub returns-in-Ok-true-clause-reply : goal.returns-in-Ok-true-clause-reply
+returns-in-Ok-true-clause-reply c = λ sound s h stands.
     (let event : event_in c.args.bytes.now ≡ Some (event_view c.in-Some.event) = sym c.in_ok-event.ensures.event ∙ ap (option_map event_view) c.in-Some.is in
     replied s h c.args.bytes.now (string_bytes c.in_ok-print-in-Ok-true.field-0) (event_view c.in-Some.event) c.act.new.target c.print.new.target event
     (sym (c.in-Ok-true.ensures.allowed s h stands) ∙ c.in-Ok-true.field-0-test)
-    (c.in-Ok-true.ensures.acted c.in-Ok-true.field-0-test s h stands)
-    c.in_ok-print-in-Ok-true.ensures)
+    (c.in-Ok-true.ensures.acted c.in-Ok-true.field-0-test (c.print.ensures.sound sound) s h stands)
+    (c.in_ok-print-in-Ok-true.ensures.prints sound))
 
-pub returns-in-Ok-false : goal.returns-in-Ok-false
-returns-in-Ok-false c = λ s h stands.
+pub returns-in-Ok-false-clause-reply : goal.returns-in-Ok-false-clause-reply
+returns-in-Ok-false-clause-reply c = λ sound s h stands.
     (let event : event_in c.args.bytes.now ≡ Some (event_view c.in-Some.event) = sym c.in_ok-event.ensures.event ∙ ap (option_map event_view) c.in-Some.is in
     refused s h c.args.bytes.now (event_view c.in-Some.event) event (sym (c.in-Ok-false.ensures.allowed s h stands) ∙ c.in-Ok-false.field-0-test))

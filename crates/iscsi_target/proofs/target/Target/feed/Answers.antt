@@ -1,51 +1,65 @@
 use Rattle.std.proofs.Common.{◌≡◌, ◌∙◌, ◌<◌, [], length, sym, ap, refl, arith}
 use Rattle.std.proofs.lemmas.Bool.{eqb-true}
 use Rattle.std.proofs.lemmas.List.{nil_from_length}
-use Rattle.iscsi_target.specs.Machine.{LinkState, Machine, link_at, closed, is_reading, GivesFrame}
+use Rattle.iscsi_target.specs.Machine.{LinkState, Machine, link_at, closed, is_open_at, is_reading, GivesFrame}
+use Rattle.iscsi_target.proofs.Sound.{closed_sound, sound_as}
+use Rattle.iscsi_target.proofs.Opening.{closed_opens, reading_is_open}
 use Rattle.iscsi_target.proofs.Standing.{stands_machine}
 use Rattle.iscsi_target.proofs.Bringing.{begins, goes_on, with_half}
-use Rattle.iscsi_target.proofs.Feeding.{ends_whole, ends_closed, ends_long, ends_starved, ends_at_once, ends_idle, ends_empty, starved_machine, progress_from, closing_there, closed_rehalved, taken_is_shorter, some_given, some_frame}
+use Rattle.iscsi_target.proofs.Feeding.{ends_whole, ends_closed, ends_long, ends_starved, ends_at_once, ends_idle, ends_empty, starved_machine, progress_from, closing_there, closed_rehalved, first_sound, first_opens, taken_is_shorter, some_given, some_frame}
 use Rattle.iscsi_target.proofs.target.Target.feed.Goals as goal
 
 pub returns-then-is_empty-clause-stands : goal.returns-then-is_empty-clause-stands
-returns-then-is_empty-clause-stands c = λ s sent h at.
+returns-then-is_empty-clause-stands g c = λ s sent h at sound.
     (let none : c.args.piece.now ≡ [] = nil_from_length c.args.piece.now (eqb-true _ _ (sym c.is_empty.ensures ∙ c.if-is_empty.true)) in
-    ends_empty c.args.c s sent c.args.self.now h c.args.piece.now c.requires.in_range at c.requires.«open» none)
+    ends_empty c.args.c s sent c.args.self.now h c.args.piece.now c.requires.in_range (at sound) c.requires.«open» none)
 
 pub returns-then-not-reads-clause-stands : goal.returns-then-not-reads-clause-stands
-returns-then-not-reads-clause-stands c = λ s sent h at.
-    ends_idle c.args.c s sent c.args.self.now h c.args.piece.now c.requires.in_range at c.requires.«open» (sym c.reads.ensures.value ∙ c.if-not-reads.true)
+returns-then-not-reads-clause-stands g c = λ s sent h at sound.
+    ends_idle c.args.c s sent c.args.self.now h c.args.piece.now c.requires.in_range (at sound) c.requires.«open» (sym c.reads.ensures.value ∙ c.if-not-reads.true)
 
 pub returns-in-Err-clause-starved : goal.returns-in-Err-clause-starved
-returns-in-Err-clause-starved c = λ s sent h at.
-    starved_machine c.args.c s sent h c.args.piece.now (closed c.args.self.now c.args.c) c.starve.new.self
-    (ap (λ (m : Machine). closed m c.args.c) (sym c.in-Err.ensures.err) ∙ sym c.starve.ensures.closed)
-    (ends_at_once c.args.c s sent c.args.self.now h c.args.piece.now c.requires.in_range at (sym c.reads.ensures.value ∙ c.if-not-reads.false))
+returns-in-Err-clause-starved g c = λ s sent h at sound.
+    (let same : closed c.args.self.now c.args.c ≡ c.starve.new.self = ap (λ (m : Machine). closed m c.args.c) (sym c.in-Err.ensures.err) ∙ sym c.starve.ensures.closed in
+    starved_machine c.args.c s sent h c.args.piece.now (closed c.args.self.now c.args.c) c.starve.new.self same
+    (ends_at_once c.args.c s sent c.args.self.now h c.args.piece.now c.requires.in_range (at (closed_sound c.args.self.now c.args.c (sound_as c.starve.new.self _ (sym same) sound))) (sym c.reads.ensures.value ∙ c.if-not-reads.false)))
+
+pub returns-in-Err-clause-sound : goal.returns-in-Err-clause-sound
+returns-in-Err-clause-sound g c = λ sound.
+    (let same : closed c.args.self.now c.args.c ≡ c.starve.new.self = ap (λ (m : Machine). closed m c.args.c) (sym c.in-Err.ensures.err) ∙ sym c.starve.ensures.closed in
+    closed_sound c.args.self.now c.args.c (sound_as c.starve.new.self _ (sym same) sound))
+
+pub returns-in-Err-clause-open : goal.returns-in-Err-clause-open
+returns-in-Err-clause-open g c = λ d.
+    (let same : c.starve.new.self ≡ closed c.args.self.now c.args.c = c.starve.ensures.closed ∙ ap (λ (m : Machine). closed m c.args.c) c.in-Err.ensures.err in
+    let lt : c.args.c < length c.args.self.now.links = (let below = c.requires.in_range in omega (arith, c.reads.ensures.count)) in
+    ap (λ (m : Machine). is_open_at m d) same ∙ closed_opens c.args.self.now c.args.c lt (reading_is_open _ (sym c.reads.ensures.value ∙ c.if-not-reads.false)) d)
 
 pub returns-in-Err-clause-closing : goal.returns-in-Err-clause-closing
-returns-in-Err-clause-closing c =
+returns-in-Err-clause-closing g c =
     let same : c.starve.new.self ≡ closed c.args.self.now c.args.c = c.starve.ensures.closed ∙ ap (λ (m : Machine). closed m c.args.c) c.in-Err.ensures.err in
     rw same (closing_there c.args.self.now c.args.c (let lt = c.requires.in_range in omega (arith, c.reads.ensures.count)))
 
 pub loop-self-init : goal.loop-self-init
-loop-self-init c =
+loop-self-init g c =
     let lt : c.args.c < length c.args.self.now.links = (let below = c.requires.in_range in omega (arith, c.reads.ensures.count)) in
     let half : link_at c.keep.new.self c.args.c ≡ _ = ap (λ (m : Machine). link_at m c.args.c) c.in_default.ensures.ok ∙ with_half c.args.self.now c.args.c _ lt in
     begins c.args.c c.keep.new.self (ap (λ (l : LinkState). is_reading l.phase) half ∙ (sym c.reads.ensures.value ∙ c.if-not-reads.false))
 
 pub returns-in-Err-take_frame-clause-starved : goal.returns-in-Err-take_frame-clause-starved
-returns-in-Err-take_frame-clause-starved c = λ s sent h at.
+returns-in-Err-take_frame-clause-starved g c = λ s sent h at sound.
     (let given = rw c.in-Ok-Some.field-0-is at c.in-Ok-Some.ensures.same in
     let lt : c.args.c < length c.loop-self.self.links = (let below = c.requires.in_range in omega (arith, c.reads-in-loop-self.ensures.count)) in
     let same : closed c.loop-self.self c.args.c ≡ c.starve-in-Err-take_frame.new.self =
     sym (closed_rehalved c.loop-self.self c.next_frame.new.self c.args.c _ lt given) ∙ sym c.in-Err-take_frame.ensures.err ∙ sym c.starve-in-Err-take_frame.ensures.closed in
+    let now_sound = closed_sound c.loop-self.self c.args.c (sound_as c.starve-in-Err-take_frame.new.self _ (sym same) sound) in
     starved_machine c.args.c s sent h c.args.piece.now (closed c.loop-self.self c.args.c) c.starve-in-Err-take_frame.new.self same
-    (ends_starved c.args.c s sent c.args.self.now c.loop-self.self h c.args.piece.now c.requires.in_range at (sym c.reads.ensures.value ∙ c.if-not-reads.false)
-    (progress_from c.args.c c.keep.new.self _ c.loop-self.self c.in_default.ensures.ok c.loop-self.invariant) (sym c.reads-in-loop-self.ensures.value ∙ c.loop-self-test.true)
+    (ends_starved c.args.c s sent c.args.self.now c.loop-self.self h c.args.piece.now c.requires.in_range (at (first_sound c.args.c c.args.self.now c.keep.new.self c.loop-self.self c.args.piece.now c.in_default.ensures.ok c.loop-self.invariant now_sound)) (sym c.reads.ensures.value ∙ c.if-not-reads.false)
+    (progress_from c.args.c c.keep.new.self _ c.loop-self.self c.in_default.ensures.ok c.loop-self.invariant) now_sound (sym c.reads-in-loop-self.ensures.value ∙ c.loop-self-test.true)
     (some_given c.in-Ok-Some.frame _ _ (rw c.in-Ok-Some.field-0-is at c.in-Ok-Some.ensures.given))))
 
 pub returns-in-Err-take_frame-clause-closing : goal.returns-in-Err-take_frame-clause-closing
-returns-in-Err-take_frame-clause-closing c =
+returns-in-Err-take_frame-clause-closing g c =
     let given = rw c.in-Ok-Some.field-0-is at c.in-Ok-Some.ensures.same in
     let lt : c.args.c < length c.loop-self.self.links = (let below = c.requires.in_range in omega (arith, c.reads-in-loop-self.ensures.count)) in
     let same : c.starve-in-Err-take_frame.new.self ≡ closed c.loop-self.self c.args.c =
@@ -53,48 +67,113 @@ returns-in-Err-take_frame-clause-closing c =
     rw same (closing_there c.loop-self.self c.args.c lt)
 
 pub loop-self-preserved : goal.loop-self-preserved
-loop-self-preserved c =
+loop-self-preserved g c =
     let lt : c.args.c < length c.loop-self.self.links = (let below = c.requires.in_range in omega (arith, c.reads-in-loop-self.ensures.count)) in
     goes_on c.args.c c.keep.new.self c.loop-self.self c.next_frame.new.self c.take_frame.new.self c.in-Ok-Some.frame lt c.loop-self.invariant (sym c.reads-in-loop-self.ensures.value ∙ c.loop-self-test.true)
-    (rw c.in-Ok-Some.field-0-is at c.in-Ok-Some.ensures.given) (rw c.in-Ok-Some.field-0-is at c.in-Ok-Some.ensures.same) c.in_default-take_frame.ensures.ok
+    (rw c.in-Ok-Some.field-0-is at c.in-Ok-Some.ensures.given) (rw c.in-Ok-Some.field-0-is at c.in-Ok-Some.ensures.same)
+    (record { same = c.in_default-take_frame.ensures.ok; back = c.in_default-take_frame.ensures.sound; links = c.in_default-take_frame.ensures.links })
 
 pub loop-self-smaller : goal.loop-self-smaller
-loop-self-smaller c =
+loop-self-smaller g c =
     let lt : c.args.c < length c.loop-self.self.links = (let below = c.requires.in_range in omega (arith, c.reads-in-loop-self.ensures.count)) in
     let given : GivesFrame c.in-Ok-Some.frame _ _ = rw c.in-Ok-Some.field-0-is at c.in-Ok-Some.ensures.given in
-    taken_is_shorter c.args.c c.loop-self.self c.next_frame.new.self c.take_frame.new.self c.in-Ok-Some.frame lt (sym c.reads-in-loop-self.ensures.value ∙ c.loop-self-test.true) given (rw c.in-Ok-Some.field-0-is at c.in-Ok-Some.ensures.same) c.in_default-take_frame.ensures.ok
+    taken_is_shorter c.args.c c.loop-self.self c.next_frame.new.self c.take_frame.new.self c.in-Ok-Some.frame lt (sym c.reads-in-loop-self.ensures.value ∙ c.loop-self-test.true) given (rw c.in-Ok-Some.field-0-is at c.in-Ok-Some.ensures.same) (c.in_default-take_frame.ensures.links c.args.c)
 
 pub returns-in-Ok-None-clause-stands : goal.returns-in-Ok-None-clause-stands
-returns-in-Ok-None-clause-stands c = λ s sent h at.
+returns-in-Ok-None-clause-stands g c = λ s sent h at sound.
     (let waits : c.next_frame.new.self ≡ c.loop-self.self = rw c.in-Ok-None.field-0-is at c.in-Ok-None.ensures.waits in
+    let now_sound = sound_as c.next_frame.new.self c.loop-self.self waits sound in
     stands_machine s sent _ c.loop-self.self c.next_frame.new.self (sym waits)
-    (ends_whole c.args.c s sent c.args.self.now c.loop-self.self h c.args.piece.now c.requires.in_range at (sym c.reads.ensures.value ∙ c.if-not-reads.false)
-    (progress_from c.args.c c.keep.new.self _ c.loop-self.self c.in_default.ensures.ok c.loop-self.invariant) (sym c.reads-in-loop-self.ensures.value ∙ c.loop-self-test.true)
+    (ends_whole c.args.c s sent c.args.self.now c.loop-self.self h c.args.piece.now c.requires.in_range (at (first_sound c.args.c c.args.self.now c.keep.new.self c.loop-self.self c.args.piece.now c.in_default.ensures.ok c.loop-self.invariant now_sound)) (sym c.reads.ensures.value ∙ c.if-not-reads.false)
+    (progress_from c.args.c c.keep.new.self _ c.loop-self.self c.in_default.ensures.ok c.loop-self.invariant) now_sound (sym c.reads-in-loop-self.ensures.value ∙ c.loop-self-test.true)
     (rw c.in-Ok-None.field-0-is at c.in-Ok-None.ensures.none) (rw c.in-Ok-None.field-0-is at c.in-Ok-None.ensures.not_long)))
 
 pub returns-in-Err-TooLong-clause-stands : goal.returns-in-Err-TooLong-clause-stands
-returns-in-Err-TooLong-clause-stands c = λ s sent h at.
+returns-in-Err-TooLong-clause-stands g c = λ s sent h at sound.
     (let told = rw c.in-Err-TooLong.field-0-is at c.in-Err-TooLong.ensures.too_long in
     let same : closed c.loop-self.self c.args.c ≡ c.close.new.self = ap (λ (m : Machine). closed m c.args.c) (sym c.in-Err-TooLong.ensures.err) ∙ sym c.close.ensures in
+    let now_sound = closed_sound c.loop-self.self c.args.c (sound_as c.close.new.self _ (sym same) sound) in
     stands_machine s sent _ (closed c.loop-self.self c.args.c) c.close.new.self same
-    (ends_long c.args.c s sent c.args.self.now c.loop-self.self h c.args.piece.now c.requires.in_range at (sym c.reads.ensures.value ∙ c.if-not-reads.false)
-    (progress_from c.args.c c.keep.new.self _ c.loop-self.self c.in_default.ensures.ok c.loop-self.invariant) (sym c.reads-in-loop-self.ensures.value ∙ c.loop-self-test.true) (told refl)))
+    (ends_long c.args.c s sent c.args.self.now c.loop-self.self h c.args.piece.now c.requires.in_range (at (first_sound c.args.c c.args.self.now c.keep.new.self c.loop-self.self c.args.piece.now c.in_default.ensures.ok c.loop-self.invariant now_sound)) (sym c.reads.ensures.value ∙ c.if-not-reads.false)
+    (progress_from c.args.c c.keep.new.self _ c.loop-self.self c.in_default.ensures.ok c.loop-self.invariant) now_sound (sym c.reads-in-loop-self.ensures.value ∙ c.loop-self-test.true) (told refl)))
 
 pub returns-in-Err-Memory-clause-starved : goal.returns-in-Err-Memory-clause-starved
-returns-in-Err-Memory-clause-starved c = λ s sent h at.
+returns-in-Err-Memory-clause-starved g c = λ s sent h at sound.
     (let same : closed c.loop-self.self c.args.c ≡ c.starve-in-Err-Memory.new.self = ap (λ (m : Machine). closed m c.args.c) (sym c.in-Err-Memory.ensures.err) ∙ sym c.starve-in-Err-Memory.ensures.closed in
+    let now_sound = closed_sound c.loop-self.self c.args.c (sound_as c.starve-in-Err-Memory.new.self _ (sym same) sound) in
     starved_machine c.args.c s sent h c.args.piece.now (closed c.loop-self.self c.args.c) c.starve-in-Err-Memory.new.self same
-    (ends_starved c.args.c s sent c.args.self.now c.loop-self.self h c.args.piece.now c.requires.in_range at (sym c.reads.ensures.value ∙ c.if-not-reads.false)
-    (progress_from c.args.c c.keep.new.self _ c.loop-self.self c.in_default.ensures.ok c.loop-self.invariant) (sym c.reads-in-loop-self.ensures.value ∙ c.loop-self-test.true)
+    (ends_starved c.args.c s sent c.args.self.now c.loop-self.self h c.args.piece.now c.requires.in_range (at (first_sound c.args.c c.args.self.now c.keep.new.self c.loop-self.self c.args.piece.now c.in_default.ensures.ok c.loop-self.invariant now_sound)) (sym c.reads.ensures.value ∙ c.if-not-reads.false)
+    (progress_from c.args.c c.keep.new.self _ c.loop-self.self c.in_default.ensures.ok c.loop-self.invariant) now_sound (sym c.reads-in-loop-self.ensures.value ∙ c.loop-self-test.true)
     (some_frame _ ((rw c.in-Err-Memory.field-0-is at c.in-Err-Memory.ensures.memory) refl))))
 
 pub returns-in-Err-Memory-clause-closing : goal.returns-in-Err-Memory-clause-closing
-returns-in-Err-Memory-clause-closing c =
+returns-in-Err-Memory-clause-closing g c =
     let lt : c.args.c < length c.loop-self.self.links = (let below = c.requires.in_range in omega (arith, c.reads-in-loop-self.ensures.count)) in
     let same : c.starve-in-Err-Memory.new.self ≡ closed c.loop-self.self c.args.c = c.starve-in-Err-Memory.ensures.closed ∙ ap (λ (m : Machine). closed m c.args.c) c.in-Err-Memory.ensures.err in
     rw same (closing_there c.loop-self.self c.args.c lt)
 
 pub returns-clause-stands : goal.returns-clause-stands
-returns-clause-stands c = λ s sent h at.
-    ends_closed c.args.c s sent c.args.self.now c.loop-self.self h c.args.piece.now c.requires.in_range at (sym c.reads.ensures.value ∙ c.if-not-reads.false)
-    (progress_from c.args.c c.keep.new.self _ c.loop-self.self c.in_default.ensures.ok c.loop-self.invariant) (sym c.reads-in-loop-self.ensures.value ∙ c.loop-self-test.false)
+returns-clause-stands g c = λ s sent h at sound.
+    ends_closed c.args.c s sent c.args.self.now c.loop-self.self h c.args.piece.now c.requires.in_range (at (first_sound c.args.c c.args.self.now c.keep.new.self c.loop-self.self c.args.piece.now c.in_default.ensures.ok c.loop-self.invariant sound)) (sym c.reads.ensures.value ∙ c.if-not-reads.false)
+    (progress_from c.args.c c.keep.new.self _ c.loop-self.self c.in_default.ensures.ok c.loop-self.invariant) sound (sym c.reads-in-loop-self.ensures.value ∙ c.loop-self-test.false)
+
+-- ---- sound, and open, before and after
+
+pub returns-in-Err-take_frame-clause-sound : goal.returns-in-Err-take_frame-clause-sound
+returns-in-Err-take_frame-clause-sound g c = λ sound.
+    (let given = rw c.in-Ok-Some.field-0-is at c.in-Ok-Some.ensures.same in
+    let lt : c.args.c < length c.loop-self.self.links = (let below = c.requires.in_range in omega (arith, c.reads-in-loop-self.ensures.count)) in
+    let same : c.starve-in-Err-take_frame.new.self ≡ closed c.loop-self.self c.args.c =
+    c.starve-in-Err-take_frame.ensures.closed ∙ c.in-Err-take_frame.ensures.err ∙ closed_rehalved c.loop-self.self c.next_frame.new.self c.args.c _ lt given in
+    first_sound c.args.c c.args.self.now c.keep.new.self c.loop-self.self c.args.piece.now c.in_default.ensures.ok c.loop-self.invariant (closed_sound c.loop-self.self c.args.c (sound_as c.starve-in-Err-take_frame.new.self _ same sound)))
+
+pub returns-in-Err-take_frame-clause-open : goal.returns-in-Err-take_frame-clause-open
+returns-in-Err-take_frame-clause-open g c = λ d.
+    (let given = rw c.in-Ok-Some.field-0-is at c.in-Ok-Some.ensures.same in
+    let lt : c.args.c < length c.loop-self.self.links = (let below = c.requires.in_range in omega (arith, c.reads-in-loop-self.ensures.count)) in
+    let same : c.starve-in-Err-take_frame.new.self ≡ closed c.loop-self.self c.args.c =
+    c.starve-in-Err-take_frame.ensures.closed ∙ c.in-Err-take_frame.ensures.err ∙ closed_rehalved c.loop-self.self c.next_frame.new.self c.args.c _ lt given in
+    ap (λ (m : Machine). is_open_at m d) same ∙ closed_opens c.loop-self.self c.args.c lt (reading_is_open _ (sym c.reads-in-loop-self.ensures.value ∙ c.loop-self-test.true)) d
+    ∙ first_opens c.args.c c.args.self.now c.keep.new.self c.loop-self.self c.args.piece.now (let below = c.requires.in_range in omega (arith, c.reads.ensures.count)) c.in_default.ensures.ok c.loop-self.invariant d)
+
+pub returns-in-Err-TooLong-clause-sound : goal.returns-in-Err-TooLong-clause-sound
+returns-in-Err-TooLong-clause-sound g c = λ sound.
+    (let lt : c.args.c < length c.loop-self.self.links = (let below = c.requires.in_range in omega (arith, c.reads-in-loop-self.ensures.count)) in
+    let same : c.close.new.self ≡ closed c.loop-self.self c.args.c = c.close.ensures ∙ ap (λ (m : Machine). closed m c.args.c) c.in-Err-TooLong.ensures.err in
+    first_sound c.args.c c.args.self.now c.keep.new.self c.loop-self.self c.args.piece.now c.in_default.ensures.ok c.loop-self.invariant (closed_sound c.loop-self.self c.args.c (sound_as c.close.new.self _ same sound)))
+
+pub returns-in-Err-TooLong-clause-open : goal.returns-in-Err-TooLong-clause-open
+returns-in-Err-TooLong-clause-open g c = λ d.
+    (let lt : c.args.c < length c.loop-self.self.links = (let below = c.requires.in_range in omega (arith, c.reads-in-loop-self.ensures.count)) in
+    let same : c.close.new.self ≡ closed c.loop-self.self c.args.c = c.close.ensures ∙ ap (λ (m : Machine). closed m c.args.c) c.in-Err-TooLong.ensures.err in
+    ap (λ (m : Machine). is_open_at m d) same ∙ closed_opens c.loop-self.self c.args.c lt (reading_is_open _ (sym c.reads-in-loop-self.ensures.value ∙ c.loop-self-test.true)) d
+    ∙ first_opens c.args.c c.args.self.now c.keep.new.self c.loop-self.self c.args.piece.now (let below = c.requires.in_range in omega (arith, c.reads.ensures.count)) c.in_default.ensures.ok c.loop-self.invariant d)
+
+pub returns-in-Err-Memory-clause-sound : goal.returns-in-Err-Memory-clause-sound
+returns-in-Err-Memory-clause-sound g c = λ sound.
+    (let lt : c.args.c < length c.loop-self.self.links = (let below = c.requires.in_range in omega (arith, c.reads-in-loop-self.ensures.count)) in
+    let same : c.starve-in-Err-Memory.new.self ≡ closed c.loop-self.self c.args.c = c.starve-in-Err-Memory.ensures.closed ∙ ap (λ (m : Machine). closed m c.args.c) c.in-Err-Memory.ensures.err in
+    first_sound c.args.c c.args.self.now c.keep.new.self c.loop-self.self c.args.piece.now c.in_default.ensures.ok c.loop-self.invariant (closed_sound c.loop-self.self c.args.c (sound_as c.starve-in-Err-Memory.new.self _ same sound)))
+
+pub returns-in-Err-Memory-clause-open : goal.returns-in-Err-Memory-clause-open
+returns-in-Err-Memory-clause-open g c = λ d.
+    (let lt : c.args.c < length c.loop-self.self.links = (let below = c.requires.in_range in omega (arith, c.reads-in-loop-self.ensures.count)) in
+    let same : c.starve-in-Err-Memory.new.self ≡ closed c.loop-self.self c.args.c = c.starve-in-Err-Memory.ensures.closed ∙ ap (λ (m : Machine). closed m c.args.c) c.in-Err-Memory.ensures.err in
+    ap (λ (m : Machine). is_open_at m d) same ∙ closed_opens c.loop-self.self c.args.c lt (reading_is_open _ (sym c.reads-in-loop-self.ensures.value ∙ c.loop-self-test.true)) d
+    ∙ first_opens c.args.c c.args.self.now c.keep.new.self c.loop-self.self c.args.piece.now (let below = c.requires.in_range in omega (arith, c.reads.ensures.count)) c.in_default.ensures.ok c.loop-self.invariant d)
+
+pub returns-in-Ok-None-clause-sound : goal.returns-in-Ok-None-clause-sound
+returns-in-Ok-None-clause-sound g c = λ sound.
+    (let waits : c.next_frame.new.self ≡ c.loop-self.self = rw c.in-Ok-None.field-0-is at c.in-Ok-None.ensures.waits in
+    first_sound c.args.c c.args.self.now c.keep.new.self c.loop-self.self c.args.piece.now c.in_default.ensures.ok c.loop-self.invariant (sound_as c.next_frame.new.self c.loop-self.self waits sound))
+
+pub returns-in-Ok-None-clause-open : goal.returns-in-Ok-None-clause-open
+returns-in-Ok-None-clause-open g c = λ d.
+    (let waits : c.next_frame.new.self ≡ c.loop-self.self = rw c.in-Ok-None.field-0-is at c.in-Ok-None.ensures.waits in
+    ap (λ (m : Machine). is_open_at m d) waits ∙ first_opens c.args.c c.args.self.now c.keep.new.self c.loop-self.self c.args.piece.now (let below = c.requires.in_range in omega (arith, c.reads.ensures.count)) c.in_default.ensures.ok c.loop-self.invariant d)
+
+pub returns-clause-sound : goal.returns-clause-sound
+returns-clause-sound g c = λ sound. first_sound c.args.c c.args.self.now c.keep.new.self c.loop-self.self c.args.piece.now c.in_default.ensures.ok c.loop-self.invariant sound
+
+pub returns-clause-open : goal.returns-clause-open
+returns-clause-open g c = λ d. first_opens c.args.c c.args.self.now c.keep.new.self c.loop-self.self c.args.piece.now (let below = c.requires.in_range in omega (arith, c.reads.ensures.count)) c.in_default.ensures.ok c.loop-self.invariant d

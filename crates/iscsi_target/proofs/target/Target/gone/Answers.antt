@@ -1,17 +1,28 @@
-use Rattle.std.proofs.Common.{rules, length, subst, sym, ◌∙◌}
+use Rattle.std.proofs.Common.{rules, length, subst, sym, ap, ◌∙◌}
 use Rattle.std.proofs.lemmas.List.{length-set}
 use Rattle.std.proofs.lemmas.List.Elements.{All-set}
-use Rattle.iscsi_target.specs.Machine.{LinkState, HasTarget}
+use Rattle.iscsi_target.specs.Machine.{LinkState, Machine, IsWithin}
+use Rattle.iscsi_target.proofs.Opening.{closed_count}
+use Rattle.iscsi_target.proofs.Sound.{closed_sound, sound_as, sound_units}
 use Rattle.iscsi_target.proofs.Standing.{gone_stands, stands_machine}
 use Rattle.iscsi_target.proofs.target.Target.gone.Goals as goal
 
 pub invariant_of-self : goal.invariant_of-self
-invariant_of-self c =
-    let free : HasTarget (length c.self.inside.units.items) c.free.result.phase = subst (λ (l : LinkState). HasTarget (length c.self.inside.units.items) l.phase) (sym c.free.ensures) tt in (
+invariant_of-self g c =
+    let free : IsWithin (length c.self.inside.units.items) c.free.result.phase = subst (λ (l : LinkState). IsWithin (length c.self.inside.units.items) l.phase) (sym c.free.ensures) tt in (
       length-set c.self.inside.links.items c.args.c c.free.result ∙ c.self.invariant.0,
       c.self.invariant.1,
-      All-set (λ (l : LinkState). HasTarget (length c.self.inside.units.items) l.phase) c.self.inside.links.items c.args.c c.free.result free c.self.invariant.2,
+      All-set (λ (l : LinkState). IsWithin (length c.self.inside.units.items) l.phase) c.self.inside.links.items c.args.c c.free.result free c.self.invariant.2,
     )
 
+pub returns-clause-sound : goal.returns-clause-sound
+returns-clause-sound g c = λ sound. closed_sound c.args.self.now c.args.c (sound_as c.close.new.self _ c.close.ensures (sound_units _ c.close.new.self (ap (λ (m : Machine). m.units) c.self.view_is) sound))
+
 pub returns-clause-stands : goal.returns-clause-stands
-returns-clause-stands c = λ s sent h at. stands_machine _ _ _ _ _ (search rules) (gone_stands s sent c.args.self.now h c.args.c c.requires.in_range at)
+returns-clause-stands g c = λ s sent h at sound.
+    (let before = closed_sound c.args.self.now c.args.c (sound_as c.close.new.self _ c.close.ensures (sound_units _ c.close.new.self (ap (λ (m : Machine). m.units) c.self.view_is) sound)) in
+    stands_machine _ _ _ _ _ (search rules) (gone_stands s sent c.args.self.now h c.args.c c.requires.in_range (at before)))
+
+pub returns-clause-count : goal.returns-clause-count
+returns-clause-count g c =
+    sym (closed_count c.args.self.now c.args.c) ∙ ap (λ (m : Machine). length m.links) (sym c.close.ensures ∙ sym c.self.view_is) ∙ c.self.invariant.0

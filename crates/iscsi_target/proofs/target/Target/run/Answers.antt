@@ -1,41 +1,63 @@
-use Rattle.std.proofs.Common.{◌≡◌, ◌<◌, List, [], length, map, take, sym, ap, ◌∙◌, arith}
+use Rattle.std.proofs.Common.{◌≡◌, ◌<◌, List, [], length, map, take, sym, ap, ◌∙◌, subst, arith}
 use Rattle.std.specs.Prelude.{string_bytes}
 use Rattle.std.proofs.lemmas.List.{take_all}
 use Rattle.iscsi_target.specs.History.{open_after}
 use Rattle.iscsi_target.specs.Events.{event_view, plain_history}
-use Rattle.iscsi_target.specs.Output.{outputs}
+use Rattle.scsi_unit.specs.Units.{UnitStates}
+use Rattle.iscsi_target.specs.Output.{outputs, media, media_in}
+use Rattle.iscsi_target.specs.Stands.{Stands}
 use Rattle.iscsi_target.specs.declared.event.Event.{Event}
 use Rattle.iscsi_target.proofs.Choices.{and_true}
 use Rattle.iscsi_target.proofs.Tables.{follows}
 use Rattle.iscsi_target.proofs.Rows.{history_more}
-use Rattle.iscsi_target.proofs.Running.{new_runs, comes, finished_outputs}
+use Rattle.iscsi_target.proofs.Running.{new_runs, finished_outputs}
+use Rattle.iscsi_target.proofs.Tracking.{comes, none_open}
 use Rattle.iscsi_target.proofs.target.Target.run.Goals as goal
 
 pub loop-event-init : goal.loop-event-init
-loop-event-init c = ([], rw c.new-rows.ensures.items (new_runs _ c.in_ok-target.target c.in_ok-target.ensures.stands), c.requires.well_formed)
+loop-event-init g c = (
+  [],
+  λ sound. rw c.new-rows.ensures.items (new_runs _ c.in_ok-target.target c.in_ok-target.ensures.stands),
+  none_open c.in_ok-target.target _ _ c.in_ok-target.ensures.made,
+  c.requires.well_formed,
+)
 
 pub take_event-requires : goal.take_event-requires
-take_event-requires c =
+take_event-requires g c =
     let lt : c.loop-event.event-index < length c.args.events.now = omega arith in
     let i = c.loop-event.invariant in
-    let both = and_true _ _ (sym (follows c.args.events.now c.loop-event.event-index c.event-item.result i.0 lt c.event-item.is) ∙ i.2) in
-    comes _ c.loop-event.target _ i.0 _ (event_view c.event-item.result) i.1 both.0
+    let both = and_true _ _ (sym (follows c.args.events.now c.loop-event.event-index c.event-item.result i.0 lt c.event-item.is) ∙ i.3) in
+    comes c.loop-event.target i.0 (event_view c.event-item.result) i.2 both.0
 
 pub loop-event-preserved : goal.loop-event-preserved
-loop-event-preserved c =
+loop-event-preserved g c =
     let es = c.args.events.now in
     let at = c.loop-event.event-index in
     let e = c.event-item.result in
     let lt : at < length es = omega arith in
     let i = c.loop-event.invariant in
-    let both = and_true _ _ (sym (follows es at e i.0 lt c.event-item.is) ∙ i.2) in
-    let r = c.in_ok-take_event.ensures _ i.0 (plain_history (take at es)) i.1 in
-    (open_after i.0 (event_view e), rw (history_more es at e lt c.event-item.is) r, both.1)
+    let both = and_true _ _ (sym (follows es at e i.0 lt c.event-item.is) ∙ i.3) in
+    let r = c.in_ok-take_event.ensures.runs _ i.0 (plain_history (take at es)) i.1 in
+    (open_after i.0 (event_view e), rw (history_more es at e lt c.event-item.is) r, c.in_ok-take_event.ensures.«open» i.0 i.2, both.1)
+
+pub returns-clause-stands : goal.returns-clause-stands
+returns-clause-stands g c = λ sound.
+    (let es = c.args.events.now in
+    let all : take c.loop-event.event-index es ≡ es = take_all c.loop-event.event-index es (omega arith) in
+    let P : List Event → Type 0 = λ l. Stands (record { names = map string_bytes c.args.config.targets.items; units = c.args.units.items }) (λ k. 0) c.loop-event.target (plain_history l) in
+    subst P all (c.loop-event.invariant.1 sound).stands)
 
 pub returns-clause-outputs : goal.returns-clause-outputs
-returns-clause-outputs c =
-    let es = c.args.events.now in
+returns-clause-outputs g c = λ sound.
+    (let es = c.args.events.now in
     let i = c.loop-event.invariant in
     let all : take c.loop-event.event-index es ≡ es = take_all c.loop-event.event-index es (omega arith) in
-    c.in_ok-outputs.ensures ∙ finished_outputs _ c.loop-event.target _ i.0 _ i.1
-    ∙ ap (λ (l : List Event). outputs (record { names = map string_bytes c.args.config.targets.items; units = c.args.units.items }) (plain_history l)) all
+    c.in_ok-outputs.ensures ∙ finished_outputs _ c.loop-event.target _ i.0 _ (i.1 sound)
+    ∙ ap (λ (l : List Event). outputs (record { names = map string_bytes c.args.config.targets.items; units = c.args.units.items }) (plain_history l)) all)
+
+pub returns-clause-media : goal.returns-clause-media
+returns-clause-media g c = λ sound number.
+    (let es = c.args.events.now in
+    let all : take c.loop-event.event-index es ≡ es = take_all c.loop-event.event-index es (omega arith) in
+    let P : List Event → Type 0 = λ l. media_in c.loop-event.target.units number ≡ media (record { names = map string_bytes c.args.config.targets.items; units = c.args.units.items }) (plain_history l) number in
+    subst P all (ap (λ (units : List UnitStates). media_in units number) (c.loop-event.invariant.1 sound).stands.units))

@@ -2,12 +2,14 @@ use Rattle.std.proofs.Common.{◌≡◌, ℕ, List, true, map, take, drop}
 use Rattle.std.specs.Prelude.{string_bytes}
 use Rattle.iscsi_target.specs.History.{may_follow}
 use Rattle.iscsi_target.specs.Events.{events_view, plain_history}
-use Rattle.iscsi_target.specs.Runs.{seen, Runs}
+use Rattle.iscsi_target.specs.Machine.{WhereSound}
+use Rattle.iscsi_target.specs.Runs.{seen, AreOpen, Runs}
 use Rattle.iscsi_target.proofs.target.Target.run.Given as goal
 
 -- the events so far were taken, and the others may follow
 abbrev pub invariant-loop-event : goal.invariant-loop-event
-invariant-loop-event l =
+invariant-loop-event g l =
     (before : List ℕ)
-    × Runs (record { names = map string_bytes l.fn.config.targets.items; units = l.fn.units.items }) l.target (map seen l.rows.items) before (plain_history (take l.event-index l.events))
+    × WhereSound l.target (Runs (record { names = map string_bytes l.fn.config.targets.items; units = l.fn.units.items }) l.target (map seen l.rows.items) before (plain_history (take l.event-index l.events)))
+    × AreOpen l.target before
     × (may_follow before (events_view (drop l.event-index l.events)) ≡ true)

@@ -1,0 +1,4 @@
+pub mod Front
+pub mod Serial
+pub mod Held
+pub mod Standing

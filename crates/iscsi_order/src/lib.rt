@@ -1,0 +1,29 @@
+//! The sequence numbers of a session (RFC 7143 §4.2.2), as a target counts them: in which order
+//! commands are taken, how many more may come, and how answers are numbered.
+//!
+//! ```text
+//!   CmdSN     5     6     7     8     9 ..   37    38
+//!             taken taken -     held  -      -     outside
+//!                         │                  │
+//!                         ExpCmdSN           MaxCmdSN, as long as none is finished
+//! ```
+//!
+//! Promised, and proved, with numbers compared serially modulo 2^32:
+//!
+//! - A number is new where it is inside ExpCmdSN to MaxCmdSN and has not come before. Every other
+//!   one is ignored ([`Window::arrive`]).
+//! - A number is taken once it and all before it have come, and each of those is handed over once, in
+//!   order ([`Window::take`]).
+//! - ExpCmdSN counts the numbers taken, MaxCmdSN those finished ([`Window::numbers`]).
+//! - What these words mean does not hang on how they are written down ([`laws`]).
+//! - StatSN counts the answers that bear status ([`Stat`]).
+//!
+//! Nothing here takes memory.
+#![tactic(auto)]
+
+pub mod laws;
+mod stat;
+mod window;
+
+pub use stat::Stat;
+pub use window::{Arrival, CommandNumbers, Window};

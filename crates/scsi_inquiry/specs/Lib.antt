@@ -1,0 +1,4 @@
+pub mod Standard
+pub mod VpdPages
+pub mod Luns
+pub mod Examples

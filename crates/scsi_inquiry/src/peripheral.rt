@@ -1,0 +1,28 @@
+//! What a LUN names.
+
+ghost use Rattle.std.specs.Prelude.{◌≡◌};
+ghost use Rattle.scsi_inquiry.specs.Standard.{peripheral_byte};
+
+use scsi_cdb::Kind;
+
+/// What a LUN names, which byte 0 of INQUIRY data tells (SPC-4 "Standard INQUIRY data").
+#[derive(Clone, Copy, Debug, PartialEq, Eq)]
+pub enum Peripheral {
+    /// A logical unit of this kind.
+    Unit(Kind),
+    /// None, and there can be none.
+    NoUnit,
+}
+
+impl Peripheral {
+    /// Peripheral qualifier and peripheral device type.
+    pub fn byte(self) -> u8
+        ensures { result ≡ peripheral_byte self }
+    {
+        match self {
+            Peripheral::Unit(Kind::Disk) => 0x00,
+            Peripheral::Unit(Kind::Tape) => 0x01,
+            Peripheral::NoUnit => 0x7f,
+        }
+    }
+}

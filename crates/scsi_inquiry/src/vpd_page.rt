@@ -1,0 +1,50 @@
+//! Which vital product data pages there are.
+
+ghost use Rattle.std.specs.Prelude.{◌≡◌};
+ghost use Rattle.scsi_inquiry.specs.VpdPages.{page_of, page_code};
+
+use scsi_cdb::Kind;
+
+/// A vital product data page (SPC-4 "Vital product data parameters").
+#[derive(Clone, Copy, Debug, PartialEq, Eq)]
+pub enum VpdPage {
+    /// 00h
+    SupportedPages,
+    /// 80h
+    UnitSerialNumber,
+    /// 83h
+    DeviceIdentification,
+    /// B0h (SBC-3 "Block Limits VPD page")
+    BlockLimits,
+    /// B1h (SBC-3 "Block Device Characteristics VPD page")
+    BlockDeviceCharacteristics,
+}
+
+impl VpdPage {
+    /// The page of this code that a unit of this kind has.
+    pub fn of(code: u8, kind: Kind) -> Option<VpdPage>
+        ensures { result ≡ page_of code kind }
+    {
+        match (code, kind) {
+            (0x00, _) => Some(VpdPage::SupportedPages),
+            (0x80, _) => Some(VpdPage::UnitSerialNumber),
+            (0x83, _) => Some(VpdPage::DeviceIdentification),
+            (0xb0, Kind::Disk) => Some(VpdPage::BlockLimits),
+            (0xb1, Kind::Disk) => Some(VpdPage::BlockDeviceCharacteristics),
+            _ => None,
+        }
+    }
+
+    /// Its page code.
+    pub fn code(self) -> u8
+        ensures { result ≡ page_code self }
+    {
+        match self {
+            VpdPage::SupportedPages => 0x00,
+            VpdPage::UnitSerialNumber => 0x80,
+            VpdPage::DeviceIdentification => 0x83,
+            VpdPage::BlockLimits => 0xb0,
+            VpdPage::BlockDeviceCharacteristics => 0xb1,
+        }
+    }
+}

@@ -1,0 +1,150 @@
+//! The parameter list of MODE SELECT.
+
+ghost use Rattle.std.specs.Prelude.{◌≡◌, ◌<◌, ◌≤◌, length, IfSome};
+ghost use Rattle.scsi_mode.specs.ModePages.{write_protect};
+ghost use Rattle.scsi_mode.specs.ParameterList.{is_page, swp_after, page_if, after_pages, header_length, descriptor_length, after_descriptor, after_header, after_list, selected};
+
+use crate::descriptor::is_descriptor;
+use crate::list_fault::ListFault;
+use crate::page::{caching_page, control_page};
+use crate::parameters::Parameters;
+use byteorder::{BigEndian, ByteOrder};
+use scsi_cdb::{ModeSelectFields, PageControl, ParameterHeader};
+
+/// PS, in byte 0 of a page.
+const WITHOUT_SAVEABLE: u8 = 0x7f;
+
+/// The bytes of a block descriptor.
+const DESCRIPTOR_LENGTH: usize = 8;
+
+/// Whether a page of the list is this one.
+#[tactic(auto, unfolding(crate::specs::ParameterList::is_page))]
+fn is_page(page: &[u8], expected: &[u8]) -> bool
+    requires page { 0 < length page.now }
+    requires expected { 0 < length expected.now }
+    ensures { result ≡ is_page page.now expected.now }
+{
+    page[0] & WITHOUT_SAVEABLE == expected[0] && page[1..] == expected[1..]
+}
+
+/// What SWP is behind a page of the list.
+#[tactic(auto, unfolding(crate::specs::ParameterList::swp_after))]
+fn swp_after(parameters: Parameters, swp: bool, page: &[u8]) -> Result<bool, ListFault>
+    requires { 0 < length page.now }
+    ensures { result ≡ swp_after parameters swp page.now }
+{
+    match parameters {
+        Parameters::Disk { .. } if is_page(page, &caching_page(PageControl::Current)) => Ok(swp),
+        Parameters::Disk { .. } if is_page(page, &control_page(false)) => Ok(false),
+        Parameters::Disk { .. } if is_page(page, &control_page(true)) => Ok(true),
+        Parameters::Tape if is_page(page, &control_page(false)) => Ok(swp),
+        _ => Err(ListFault::InvalidField),
+    }
+}
+
+/// The length of the page in front, where it is whole.
+#[tactic(auto, unfolding(crate::specs::ParameterList::has_page))]
+fn whole_page(list: &[u8]) -> Option<usize>
+    ensures value { result ≡ page_if list.now }
+    ensures some { IfSome result (λ n. 0 < n) }
+    ensures within { IfSome result (λ n. n ≤ length list.now) }
+{
+    match list {
+        [_, length, rest @ ..] if rest.len() >= usize::from(*length) => {
+            Some(2 + usize::from(*length))
+        }
+        _ => None,
+    }
+}
+
+/// What SWP is behind pages.
+fn after_pages(parameters: Parameters, list: &[u8]) -> Result<bool, ListFault>
+    ensures { result ≡ after_pages parameters (write_protect parameters) list.now }
+{
+    let mut swp = parameters.write_protect();
+    let mut rest = list;
+    while !rest.is_empty() {
+        let Some(length) = whole_page(rest) else {
+            return Err(ListFault::EndsEarly);
+        };
+        let (page, others) = rest.split_at(length);
+        swp = swp_after(parameters, swp, page)?;
+        rest = others;
+    }
+    Ok(swp)
+}
+
+/// A block descriptor, and then pages.
+#[tactic(auto, unfolding(crate::specs::ParameterList::after_descriptor))]
+fn after_descriptor(parameters: Parameters, list: &[u8]) -> Result<bool, ListFault>
+    ensures { result ≡ after_descriptor parameters list.now }
+{
+    if list.len() < DESCRIPTOR_LENGTH {
+        Err(ListFault::EndsEarly)
+    } else if is_descriptor(parameters, list) {
+        after_pages(parameters, &list[DESCRIPTOR_LENGTH..])
+    } else {
+        Err(ListFault::InvalidField)
+    }
+}
+
+/// What stands behind a header that gives this length to the block descriptor.
+#[tactic(auto, unfolding(crate::specs::ParameterList::after_header))]
+fn after_header(
+    parameters: Parameters,
+    descriptor_length: usize,
+    list: &[u8],
+) -> Result<bool, ListFault>
+    ensures { result ≡ after_header parameters descriptor_length list.now }
+{
+    match descriptor_length {
+        0 => after_pages(parameters, list),
+        DESCRIPTOR_LENGTH => after_descriptor(parameters, list),
+        _ => Err(ListFault::InvalidField),
+    }
+}
+
+/// A parameter list. An empty one changes nothing.
+#[tactic(auto, unfolding(crate::specs::ParameterList::after_list))]
+fn after_list(
+    parameters: Parameters,
+    header: ParameterHeader,
+    list: &[u8],
+) -> Result<bool, ListFault>
+    ensures { result ≡ after_list parameters header list.now }
+{
+    if list.is_empty() {
+        return Ok(parameters.write_protect());
+    }
+    let length = match header {
+        ParameterHeader::Six => 4,
+        ParameterHeader::Ten => 8,
+    };
+    if list.len() < length {
+        return Err(ListFault::EndsEarly);
+    }
+    let descriptor_length = match header {
+        ParameterHeader::Six => usize::from(list[3]),
+        ParameterHeader::Ten => usize::from(BigEndian::read_u16(&list[6..])),
+    };
+    after_header(parameters, descriptor_length, &list[length..])
+}
+
+/// What SWP is behind a MODE SELECT with this data, or why it is refused and nothing changes (SPC-4
+/// "MODE SELECT (6) command", "MODE SELECT (10) command"). The parts of the list are judged in turn:
+/// one may end early, as data shorter than the list do, and one may change anything but a disk's SWP;
+/// the first of these counts.
+#[tactic(auto, unfolding(crate::specs::ParameterList::selected))]
+pub fn select(
+    parameters: Parameters,
+    fields: ModeSelectFields,
+    data: &[u8],
+) -> Result<bool, ListFault>
+    ensures { result ≡ selected parameters fields «data».now }
+{
+    let length = fields.list_length as usize;
+    if data.len() < length {
+        return Err(ListFault::EndsEarly);
+    }
+    after_list(parameters, fields.header, &data[..length])
+}

@@ -1,0 +1,6 @@
+use Rattle.std.proofs.Common.{◌≡◌, map, take}
+use Rattle.scsi_unit.proofs.units.numbers.Given as goal
+
+-- the numbers of the units so far
+abbrev pub invariant-loop-unit : goal.invariant-loop-unit
+invariant-loop-unit g l = l.numbers.items ≡ map (λ unit. unit.lun) (take l.unit-index l.units)

@@ -1,0 +1,185 @@
+//! INQUIRY, REPORT LUNS and the data of REQUEST SENSE, also where there is no unit.
+
+ghost use Rattle.std.specs.Prelude.{◌≡◌, ◌≤◌, length, take, IfOk};
+ghost use Rattle.scsi_sense.specs.Done.{check_condition};
+ghost use Rattle.scsi_cdb.specs.Command.{invalid_field};
+ghost use Rattle.scsi_inquiry.specs.Standard.{standard_data};
+ghost use Rattle.scsi_inquiry.specs.VpdPages.{most_serial, page_of};
+ghost use Rattle.scsi_unit.specs.Commands.{good_with, most_given};
+ghost use Rattle.scsi_unit.specs.Identity.{told_serial, page_outcome, inquiry_outcome, luns_outcome, reported_luns, sense_outcome, unsupported, without_unit};
+
+use crate::commands::done_with_cut;
+use crate::fault::Memory;
+use scsi_cdb::{Command, Kind, Operation, SelectReport};
+use scsi_inquiry::{Peripheral, VpdPage, luns, page, standard};
+use scsi_sense::{AdditionalSense, Done, Sense, SenseKey};
+use std::alloc::Global;
+
+const INQUIRY: u8 = 0x12;
+
+const REQUEST_SENSE: u8 = 0x03;
+
+/// The most bytes of a serial number that are told.
+const MOST_SERIAL: usize = 32;
+
+/// INVALID FIELD IN CDB.
+pub(crate) fn field_refused(alloc: Global) -> Done
+    ensures { result ≡ check_condition invalid_field }
+{
+    let code = AdditionalSense::InvalidFieldInCdb;
+    Done::check_condition(alloc, Sense::new(SenseKey::IllegalRequest, code))
+}
+
+/// Standard INQUIRY data.
+fn standard_inquiry(
+    alloc: Global,
+    peripheral: Peripheral,
+    allocation_length: u32,
+) -> Result<Done, Memory>
+    ensures done { IfOk result (λ done. done ≡ good_with (take allocation_length (standard_data peripheral))) }
+    ensures given { IfOk result (λ done. length done.given ≤ most_given) }
+{
+    let bytes = Vec::from_slice(alloc, &standard(peripheral))?;
+    Ok(done_with_cut(bytes, allocation_length))
+}
+
+/// The bytes in front, so many at most.
+fn front(bytes: &[u8], most: usize) -> &[u8]
+    ensures value { result.now ≡ take most bytes.now }
+    ensures short { length result.now ≤ most }
+{
+    if bytes.len() > most {
+        &bytes[..most]
+    } else {
+        bytes
+    }
+}
+
+/// The part of a serial number that is told.
+fn told_serial(serial: &[u8]) -> &[u8]
+    ensures value { result.now ≡ told_serial serial.now }
+    ensures short { length result.now ≤ most_serial }
+{
+    front(serial, MOST_SERIAL)
+}
+
+/// A vital product data page.
+fn page_inquiry(
+    alloc: Global,
+    kind: Kind,
+    serial: &[u8],
+    code: u8,
+    allocation_length: u32,
+) -> Result<Done, Memory>
+    ensures done { IfOk result (λ done. done ≡ page_outcome kind (told_serial serial.now) allocation_length (page_of code kind)) }
+    ensures given { IfOk result (λ done. length done.given ≤ most_given) }
+{
+    let Some(asked) = VpdPage::of(code, kind) else {
+        return Ok(field_refused(alloc));
+    };
+    let bytes = page(alloc, kind, told_serial(serial), asked)?;
+    Ok(done_with_cut(bytes, allocation_length))
+}
+
+/// INQUIRY of a unit.
+#[tactic(auto, unfolding(crate::specs::Identity::inquiry_outcome))]
+pub(crate) fn inquiry(
+    alloc: Global,
+    kind: Kind,
+    serial: &[u8],
+    page: Option<u8>,
+    allocation_length: u32,
+) -> Result<Done, Memory>
+    ensures done { IfOk result (λ done. done ≡ inquiry_outcome kind serial.now page allocation_length) }
+    ensures given { IfOk result (λ done. length done.given ≤ most_given) }
+{
+    match page {
+        Some(code) => page_inquiry(alloc, kind, serial, code, allocation_length),
+        None => standard_inquiry(alloc, Peripheral::Unit(kind), allocation_length),
+    }
+}
+
+/// REPORT LUNS of units with these numbers.
+#[tactic(auto, unfolding(crate::specs::Identity::luns_outcome))]
+pub(crate) fn report_luns(
+    alloc: Global,
+    numbers: &[u8],
+    select: SelectReport,
+    allocation_length: u32,
+) -> Result<Done, Memory>
+    ensures done { IfOk result (λ done. done ≡ luns_outcome numbers.now select allocation_length) }
+    ensures given { IfOk result (λ done. length done.given ≤ most_given) }
+{
+    let bytes = luns(alloc, select, numbers)?;
+    Ok(done_with_cut(bytes, allocation_length))
+}
+
+/// REPORT LUNS with these bytes, to units with these numbers.
+#[tactic(auto, unfolding(crate::specs::Identity::reported_luns))]
+pub(crate) fn reported_luns(alloc: Global, numbers: &[u8], cdb: [u8; 16]) -> Result<Done, Memory>
+    ensures done { IfOk result (λ done. done ≡ reported_luns numbers.now cdb) }
+    ensures given { IfOk result (λ done. length done.given ≤ most_given) }
+{
+    match Operation::ReportLuns.command(cdb) {
+        Ok(
+            Command::ReportLuns {
+                select,
+                allocation_length,
+            },
+        ) => report_luns(alloc, numbers, select, allocation_length),
+        Ok(_) => Ok(field_refused(alloc)),
+        Err(sense) => Ok(Done::check_condition(alloc, sense)),
+    }
+}
+
+/// Sense data, given as data with GOOD.
+#[tactic(auto, unfolding(crate::specs::Identity::sense_outcome))]
+pub(crate) fn sense_data(
+    alloc: Global,
+    sense: Sense,
+    allocation_length: u32,
+) -> Result<Done, Memory>
+    ensures done { IfOk result (λ done. done ≡ sense_outcome sense allocation_length) }
+    ensures given { IfOk result (λ done. length done.given ≤ most_given) }
+{
+    let bytes = Vec::from_slice(alloc, &sense.bytes())?;
+    Ok(done_with_cut(bytes, allocation_length))
+}
+
+/// LOGICAL UNIT NOT SUPPORTED.
+fn not_supported() -> Sense
+    ensures { result ≡ unsupported }
+{
+    Sense::new(
+        SenseKey::IllegalRequest,
+        AdditionalSense::LogicalUnitNotSupported,
+    )
+}
+
+/// What is answered where there is no unit: INQUIRY and REQUEST SENSE go on (SPC-4 "INQUIRY command",
+/// "REQUEST SENSE command"). There is no page then.
+#[tactic(auto, unfolding(crate::specs::Identity::without_unit))]
+pub(crate) fn without_unit(alloc: Global, cdb: [u8; 16]) -> Result<Done, Memory>
+    ensures done { IfOk result (λ done. done ≡ without_unit cdb) }
+    ensures given { IfOk result (λ done. length done.given ≤ most_given) }
+{
+    let command = match cdb[0] {
+        INQUIRY => Operation::Inquiry.command(cdb),
+        REQUEST_SENSE => Operation::RequestSense.command(cdb),
+        _ => Err(not_supported()),
+    };
+    match command {
+        Ok(
+            Command::Inquiry {
+                page: None,
+                allocation_length,
+            },
+        ) => standard_inquiry(alloc, Peripheral::NoUnit, allocation_length),
+        Ok(Command::Inquiry { page: Some(_), .. }) => Ok(field_refused(alloc)),
+        Ok(Command::RequestSense { allocation_length }) => {
+            sense_data(alloc, not_supported(), allocation_length)
+        }
+        Ok(_) => Ok(Done::check_condition(alloc, not_supported())),
+        Err(sense) => Ok(Done::check_condition(alloc, sense)),
+    }
+}

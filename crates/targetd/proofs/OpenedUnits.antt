@@ -1,0 +1,106 @@
+-- Units of a configuration as they are opened, one after the other.
+use Rattle.std.proofs.Common.{◌≡◌, ℕ, zero, suc, ◌-◌, ◌*◌, ◌/◌, List, [], ◌∷◌, ◌++◌, length, map, refl, sym, ap, ◌∙◌, Bool, true, false, ◌&&◌, ◌||◌, arith}
+use Rattle.std.specs.Prelude.{replicate, String, string_bytes}
+use Rattle.std.specs.declared.alloc.Global.{Global}
+use Rattle.std.specs.List.{list_all}
+use Rattle.std.proofs.lemmas.List.{take-replicate, drop-replicate, length-replicate, length-map, map-append}
+use Rattle.media_block.specs.Blocks.{DiskState, block_length, blocks_of, disk_of}
+use Rattle.scsi_unit.specs.Medium.{MediumState, Disk}
+use Rattle.scsi_unit.specs.Unit.{UnitState, free_unit}
+use Rattle.scsi_unit.specs.Units.{UnitStates}
+use Rattle.targetd.specs.declared.store.MediumStore.{MediumStore}
+use Rattle.targetd.specs.declared.block_count.BlockCount.{BlockCount}
+use Rattle.targetd.specs.declared.configuration.MediumConfiguration.TheVariants as media
+use Rattle.targetd.specs.declared.configuration.UnitConfiguration.{UnitConfiguration}
+use Rattle.targetd.specs.Configuration.{TargetEntry, natural, names_of, unit_view, units_view, target_view, targets_view}
+use Rattle.targetd.specs.Limits.{unit_keeps, target_keeps}
+use Rattle.targetd.specs.declared.configuration.TargetConfiguration.{TargetConfiguration}
+use Rattle.targetd.specs.Store.{zero_store}
+use Rattle.targetd.specs.Opened.{zero_disk, IsUnitOf, AreEach, IsDiskOf, IsDiskUnit, has_lun, has_unit, AreUnitsOf}
+
+-- the blocks of zeros are blocks of zeros
+zero_blocks : (count : ℕ) → blocks_of count (replicate (block_length * count) 0) ≡ replicate count (replicate block_length 0)
+unfolding blocks_of
+zero_blocks zero = refl
+zero_blocks (suc count) =
+    let less : block_length * suc count - block_length ≡ block_length * count = omega arith in
+    rw (take-replicate {X = ℕ} block_length (block_length * suc count) 0 (omega arith), drop-replicate {X = ℕ} block_length (block_length * suc count) 0, less, zero_blocks count) refl
+
+zero_content : (count : ℕ) → disk_of (replicate (block_length * count) 0) ≡ replicate count (replicate block_length 0)
+zero_content count =
+    let whole : (block_length * count) / block_length ≡ count = omega arith in
+    rw (length-replicate {A = ℕ} (block_length * count) 0, whole) (zero_blocks count)
+
+zero_opened : (count : ℕ) (disk : DiskState) → IsDiskOf (zero_store count) disk → disk ≡ zero_disk count
+zero_opened count disk h =
+    let blocks = h.blocks refl ∙ zero_content count in
+    ap (λ (blocks : List (List ℕ)). record { blocks = blocks; synced = disk.synced; failures = disk.failures; honest = disk.honest }) blocks
+    ∙ ap (λ (synced : Bool). record { blocks = replicate count (replicate block_length 0); synced = synced; failures = disk.failures; honest = disk.honest }) h.synced
+    ∙ ap (λ (failures : ℕ). record { blocks = replicate count (replicate block_length 0); synced = false; failures = failures; honest = disk.honest }) h.failures
+    ∙ ap (λ (honest : Bool). record { blocks = replicate count (replicate block_length 0); synced = false; failures = 0; honest = honest }) h.honest
+
+-- a unit over its own medium
+over : (unit : UnitState) (lun : ℕ) (serial : List ℕ) (medium : MediumState) → unit ≡ free_unit lun serial medium → unit ≡ free_unit lun serial unit.medium
+over unit lun serial medium e = e ∙ ap (λ (medium : MediumState). free_unit lun serial medium) (sym (ap (λ (unit : UnitState). unit.medium) e))
+
+pub memory_disk_unit : (entry : UnitConfiguration) (blocks : BlockCount) (lun : ℕ) (store : MediumStore) (unit : UnitState) → entry.medium ≡ media.MemoryDisk blocks → store ≡ zero_store blocks.number → lun ≡ natural entry.lun
+    → IsDiskUnit lun (string_bytes entry.serial) store unit → IsUnitOf (unit_view entry) unit
+memory_disk_unit entry blocks lun store unit is made number h =
+    let opened = zero_opened blocks.number h.disk (rw made at h.opened) in
+    record {
+      free = over unit (natural entry.lun) (string_bytes entry.serial) (Disk h.disk) (rw (← number) h.free);
+      medium = rw is (ap (λ (unit : UnitState). unit.medium) h.free ∙ ap Disk opened);
+    }
+
+-- one more of each
+pub each_more : {X Y : Type 0} (R : X → Y → Type 0) (xs : List X) (ys : List Y) (x : X) (y : Y) → AreEach R xs ys → R x y → AreEach R (xs ++ x ∷ []) (ys ++ y ∷ [])
+each_more R [] [] x y h one = (one, tt)
+each_more R [] (z ∷ ys) x y h one = absurd h
+each_more R (z ∷ xs) [] x y h one = absurd h
+each_more R (z ∷ xs) (w ∷ ys) x y h one = (h.0, each_more R xs ys x y h.1 one)
+
+-- one more of each, seen by `view`
+pub each_view_more : {X Y Z : Type 0} (R : Y → Z → Type 0) (view : X → Y) (xs : List X) (zs now : List Z) (x : X) (z : Z) → now ≡ zs ++ z ∷ [] → AreEach R (map view xs) zs → R (view x) z
+    → AreEach R (map view (xs ++ x ∷ [])) now
+each_view_more R view xs zs now x z pushed h one = rw (pushed, map-append view xs (x ∷ [])) (each_more R (map view xs) zs (view x) z h one)
+
+both : (a b : Bool) → (a && b) ≡ true → (a ≡ true) × (b ≡ true)
+both true b e = (refl, e)
+both false b e = absurd cc
+
+true_or : (a b : Bool) → b ≡ true → (a || b) ≡ true
+true_or true b e = refl
+true_or false b e = e
+
+-- the units behind one keep their limits, and have no LUN that those from it on lack
+pub units_next : (now rest : List UnitConfiguration) (unit : UnitConfiguration) (all : List UnitConfiguration) → now ≡ unit ∷ rest → list_all unit_keeps (units_view now) ≡ true
+    → ((lun : ℕ) → has_lun lun (units_view now) ≡ true → has_lun lun (units_view all) ≡ true)
+    → (list_all unit_keeps (units_view rest) ≡ true) × ((lun : ℕ) → has_lun lun (units_view rest) ≡ true → has_lun lun (units_view all) ≡ true)
+units_next now rest unit all taken kept named =
+    ((both (unit_keeps (unit_view unit)) (list_all unit_keeps (units_view rest)) (rw taken at kept)).1, λ lun found. named lun (rw taken (true_or _ (has_lun lun (units_view rest)) found)))
+
+-- the same of targets
+pub targets_next : (now rest : List TargetConfiguration) (target : TargetConfiguration) (all : List TargetEntry) → now ≡ target ∷ rest → list_all target_keeps (targets_view now) ≡ true
+    → ((name : List ℕ) (lun : ℕ) → has_unit name lun (targets_view now) ≡ true → has_unit name lun all ≡ true)
+    → (list_all target_keeps (targets_view rest) ≡ true) × ((name : List ℕ) (lun : ℕ) → has_unit name lun (targets_view rest) ≡ true → has_unit name lun all ≡ true)
+targets_next now rest target all taken kept named = (
+  (both (target_keeps (target_view target)) (list_all target_keeps (targets_view rest)) (rw taken at kept)).1,
+  λ name lun found. named name lun (rw taken (true_or _ (has_unit name lun (targets_view rest)) found)),
+)
+
+-- one more name
+pub names_next : (targets : List TargetConfiguration) (target : TargetConfiguration) (names now : List (String Global)) → now ≡ names ++ target.name ∷ [] → map string_bytes names ≡ names_of (targets_view targets)
+    → map string_bytes now ≡ names_of (targets_view (targets ++ target ∷ []))
+names_next targets target names now pushed e =
+    rw (pushed, map-append string_bytes names (target.name ∷ []), e, map-append target_view targets (target ∷ [])) (sym (map-append (λ (target : TargetEntry). target.name) (targets_view targets) (target_view target ∷ [])))
+
+-- a target is made with units for each of its names
+pub as_many : (targets : List TargetEntry) (units : List UnitStates) (names : List (String Global)) → AreUnitsOf targets units → map string_bytes names ≡ names_of targets → length units ≡ length names
+as_many targets units names opened e =
+    as_long targets units opened ∙ sym (length-map targets (λ target. target.name)) ∙ sym (ap length e) ∙ length-map names string_bytes
+  where
+    as_long : (targets : List TargetEntry) (units : List UnitStates) → AreUnitsOf targets units → length units ≡ length targets
+    as_long [] [] h = refl
+    as_long [] (u ∷ us) h = absurd h
+    as_long (t ∷ ts) [] h = absurd h
+    as_long (t ∷ ts) (u ∷ us) h = ap suc (as_long ts us h.1)
