@@ -80,9 +80,8 @@ window = 32
 
 -- an answer that bears status uses a StatSN; a Data-In does not
 abbrev pub bears_status : Answer → Bool
-bears_status (answers.ScsiResponse response) = true
-bears_status (answers.LoginResponse response) = true
 bears_status (answers.DataIn piece) = false
+bears_status _ = true
 
 -- StatSN counts the answers that bear status, ExpCmdSN the requests taken, MaxCmdSN those finished
 unfoldable pub stamp : Life → Stamp
