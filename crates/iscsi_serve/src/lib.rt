@@ -2,7 +2,8 @@
 //!
 //! A [`turn`] asks the [`Ports`] whom to serve, accepts, reads, writes and closes what is due, and
 //! [`turns`] makes many. Whatever the ports tell, what was written on a connection is what the
-//! machine of `iscsi_target` answers there, without what still waits (the clauses `served`).
+//! machine of `iscsi_target` answers there, without what still waits (the clauses `served`), as long
+//! as the log of the ports tells all (`Ports::tells`) and the target is sound.
 //!
 //! [`MioPorts`] are the system's sockets; [`MemPorts`] follow a script and keep a log, for tests.
 #![tactic(auto)]
