@@ -12,7 +12,7 @@ from typing import NamedTuple
 from relay import ANSWERED, SENT, relaying
 from server import targetd
 
-LIMIT = 60  # seconds that a program may take
+LIMIT, LARGE_LIMIT = 30, 300  # seconds that an initiator may take, and on the large disk
 BLOCK, MEBIBYTE = 512, 1 << 20
 SIZE = 64 * MEBIBYTE  # of the disk in memory, and of that in a file but for the long checks
 LARGE_SIZE = 1024 * MEBIBYTE
@@ -34,17 +34,27 @@ PLACES = [(0, 1), (511, 2), (7 * BLOCK + 3, 4096), ((1 << 18) - 1, 2), (3 * (1 <
           (MEBIBYTE - 1, MEBIBYTE + 3), (SIZE - 1, 1), (SIZE - BLOCK - 1, BLOCK + 1),
           (SIZE - MEBIBYTE - 1, MEBIBYTE + 1)]
 
-# Tests of libiscsi's own suite that need nothing but reads.
-SUITE = ["Inquiry.Standard", "Inquiry.AllocLength", "Inquiry.EVPD", "Inquiry.BlockLimits",
-         "Inquiry.MandatoryVPDSBC", "Inquiry.SupportedVPD", "Inquiry.VersionDescriptors",
-         "ModeSense6.AllPages", "ModeSense6.Control", "ModeSense6.Residuals",
-         "Read10.Simple", "Read10.BeyondEol", "Read10.ZeroBlocks", "Read10.ReadProtect",
-         "Read16.Simple", "Read16.BeyondEol", "Read16.ZeroBlocks", "Read16.ReadProtect",
-         "ReadCapacity10.Simple", "ReadCapacity16.Simple", "ReadCapacity16.Alloclen", "TestUnitReady.Simple"]
+# Tests of libiscsi's own suite that need nothing but reads. Each begins by asking for these two operations,
+# and says that they are skipped where the target has none.
+SUITE = ["SCSI.Inquiry.Standard", "SCSI.Inquiry.AllocLength", "SCSI.Inquiry.EVPD", "SCSI.Inquiry.MandatoryVPDSBC",
+         "SCSI.Inquiry.SupportedVPD", "SCSI.Inquiry.VersionDescriptors", "SCSI.Mandatory.MandatorySBC",
+         "SCSI.ModeSense6.AllPages", "SCSI.ModeSense6.Control", "SCSI.ModeSense6.Residuals",
+         "SCSI.Read10.Simple", "SCSI.Read10.BeyondEol", "SCSI.Read10.ZeroBlocks", "SCSI.Read10.ReadProtect",
+         "SCSI.Read10.DpoFua", "SCSI.Read16.Simple", "SCSI.Read16.BeyondEol", "SCSI.Read16.ZeroBlocks",
+         "SCSI.Read16.ReadProtect", "SCSI.Read16.DpoFua", "SCSI.ReadCapacity10.Simple",
+         "SCSI.ReadCapacity16.Simple", "SCSI.ReadCapacity16.Alloclen", "SCSI.ReadCapacity16.PI",
+         "SCSI.ReadCapacity16.Support", "SCSI.TestUnitReady.Simple",
+         "iSCSI.iSCSIResiduals.Read10Residuals", "iSCSI.iSCSIResiduals.Read16Residuals"]
+SLOW_SUITE = ["iSCSI.iSCSIcmdsn.iSCSICmdSnTooHigh", "iSCSI.iSCSIcmdsn.iSCSICmdSnTooLow"]
+OPTIONAL = re.compile(r"\[SKIPPED\] (PERSISTENT RESERVE IN|REPORT_SUPPORTED_OPCODES) is not implemented")
 
 
 class Failed(Exception):
     """An initiator did not see what it must."""
+
+
+class NotYet(Exception):
+    """The target answered as it does until something is built, and nothing else was wrong."""
 
 
 class Served(NamedTuple):
@@ -73,14 +83,14 @@ def served(program, size):
             yield Served(server.process, server.port, path)
 
 
-def run(*words):
+def run(*words, limit=LIMIT):
     """Runs an initiator. Gives its exit status and all that it said."""
     try:
-        ran = subprocess.run(words, stdin=subprocess.DEVNULL, stdout=subprocess.PIPE, timeout=LIMIT,
+        ran = subprocess.run(words, stdin=subprocess.DEVNULL, stdout=subprocess.PIPE, timeout=limit,
                              stderr=subprocess.STDOUT, text=True, errors="replace", check=False)
     except subprocess.TimeoutExpired as late:
         said = (late.stdout or b"").decode(errors="replace")
-        raise Failed(f"{words[0]} took more than {LIMIT} seconds: {said[-200:]!r}") from None
+        raise Failed(f"{words[0]} took more than {limit} seconds: {said[-200:]!r}") from None
     return ran.returncode, ran.stdout
 
 
@@ -132,8 +142,10 @@ def refuses_a_target_of_another_name(disks):
 
 
 def lists_the_targets(disks):
-    says([f"Target:{NAME}:{disk} Portal:127.0.0.1:{disks.port},1" for disk, _ in DISKS],
-         "iscsi-ls", f"iscsi://127.0.0.1:{disks.port}")
+    status, said = run("iscsi-ls", f"iscsi://127.0.0.1:{disks.port}")
+    if status and "Login failed. Failed to log in to target. Status: Initiator error(512)" in said:
+        raise NotYet("discovery is refused with status 0200h")
+    must(all(f"Target:{NAME}:{disk} Portal:127.0.0.1:{disks.port},1\n" in said for disk, _ in DISKS), (status, said))
 
 
 def tells_the_capacity(disks):
@@ -155,10 +167,11 @@ def shows_its_size_to_qemu(disks):
         says(["file format: raw", f"virtual size: 64 MiB ({SIZE} bytes)"], "qemu-img", "info", disks.url(disk))
 
 
-def copied(disks, disk, folder, requests=16):
+def copied(disks, disk, folder, requests=16, limit=LIMIT):
     """What qemu-img made of a whole disk, with so many requests in flight."""
     path = Path(folder) / f"{disk}-{requests}"
-    status, said = run("qemu-img", "convert", "-f", "raw", "-O", "raw", "-W", "-m", str(requests), disks.url(disk), path)
+    status, said = run("qemu-img", "convert", "-f", "raw", "-O", "raw", "-W", "-m", str(requests),
+                       disks.url(disk), path, limit=limit)
     must(status == 0, (status, said))
     return path
 
@@ -189,7 +202,7 @@ def gives_many_initiators_the_same_bytes_at_once(disks):
 def gives_a_large_disk_byte_for_byte(disks):
     says([f"Total size:{LARGE_SIZE}"], "iscsi-readcapacity16", disks.url("file"))
     with tempfile.TemporaryDirectory(prefix="clients-") as folder:
-        must(is_same(copied(disks, "file", folder), disks.file), "other bytes")
+        must(is_same(copied(disks, "file", folder, limit=LARGE_LIMIT), disks.file), "other bytes")
 
 
 def dumped(said):
@@ -234,35 +247,46 @@ def gives_qemu_nothing_behind_the_end(disks):
         must("read failed: Input/output error" in said, (at, status, said))
 
 
-def names(relay, side):
-    """The PDUs that passed from one side, by their names, and its ends."""
-    return [event.name() for event in relay.events if event.side == side]
+def answer_to(relay, request):
+    """The name of what came first on a connection after the first request of this name."""
+    at = next((at for at, event in enumerate(relay.events) if event.side == SENT and event.name() == request), None)
+    must(at is not None, f"no {request} was sent")
+    connection = relay.events[at].connection
+    return next(event.name() for event in relay.events[at:]
+                if event.side == ANSWERED and event.connection == connection)
+
+
+def must_answer(relay, request, answer):
+    """The request is answered so, and the initiator had no need to connect again."""
+    first = answer_to(relay, request)
+    if first == "closed":
+        raise NotYet(f"{request} closes the connection")
+    must(first == answer, f"{request} is answered {first}")
+    must(all(event.connection == 0 for event in relay.events), "it connected again")
 
 
 def answers_the_logout_of_libiscsi(disks):
     with relaying(("127.0.0.1", disks.port)) as relay:
         says([str(SIZE)], "iscsi-readcapacity16", "-s", disks.url("file", 0, relay.port))
-        must("Logout-Request" in names(relay, SENT), names(relay, SENT))
-        must(names(relay, ANSWERED)[-2:] == ["Logout-Response", "closed"], names(relay, ANSWERED))
+        must_answer(relay, "Logout-Request", "Logout-Response")
 
 
 def answers_the_pings_of_qemu(disks):
+    content = disks.file.read_bytes()[:1024]
     with relaying(("127.0.0.1", disks.port)) as relay:
-        content = disks.file.read_bytes()[:1024]
+        # QEMU sends a NOP-Out after 5 seconds.
         said = qemu_io(disks.url("file", 0, relay.port), "read -v 0 16", "sleep 6000", "read -v 512 16")
         must(dumped(said) == {0: content[:16], 512: content[512:528]}, said)
-        must("NOP-Out" in names(relay, SENT), names(relay, SENT))
-        must("NOP-In" in names(relay, ANSWERED), names(relay, ANSWERED))
-        must(max(event.connection for event in relay.events) == 0, "it connected again")
+        must_answer(relay, "NOP-Out", "NOP-In")
 
 
 def passes(test):
-    """A check that a test of libiscsi's suite passes."""
+    """A check that a test of libiscsi's suite passes, and is not skipped."""
     def check(disks):
         for disk, _ in DISKS:
-            status, said = run("iscsi-test-cu", "--fail", "--normal", "--test", f"SCSI.{test}", disks.url(disk))
+            status, said = run("iscsi-test-cu", "--fail", "--normal", "--test", test, disks.url(disk))
             ran = re.search(r"tests +(\d+) +(\d+) +(\d+) +(\d+)", said)
-            is_passed = ran and ran[2] == ran[3] != "0" and "SKIPPED" not in said
+            is_passed = ran and ran[2] == ran[3] != "0" and "[SKIPPED]" not in OPTIONAL.sub("", said)
             must(status == 0 and is_passed, (disk, status, said))
-    check.__name__ = f"passes {test} of libiscsi"
+    check.__name__ = f"passes {test}"
     return check

@@ -65,7 +65,11 @@ class Relay:
                 initiator, _ = self.listener.accept()
             except OSError:
                 return
-            target = socket.create_connection(self.target)
+            try:
+                target = socket.create_connection(self.target)
+            except OSError:
+                initiator.close()
+                continue
             for ends in ((SENT, initiator, target), (ANSWERED, target, initiator)):
                 threading.Thread(target=self.pass_on, args=(number, *ends), daemon=True).start()
             number += 1
