@@ -1,5 +1,5 @@
 # Pitsagul: each target works from a fresh clone on a machine with the Rattle kit (the command rt).
-.PHONY: demo demo-unproved demo-proved build test bench clean
+.PHONY: demo demo-unproved demo-proved build test clients bench clean
 
 # Which demo `make demo` is: unproved takes about a minute, proved proves every crate first.
 DEMO = unproved
@@ -19,11 +19,17 @@ build:
 	@echo "== proving the crates and building targetd (some minutes the first time)"
 	@./tools/build
 
-# The gate: the proofs, the wrong bodies, the cases, sockets, failing calls, the pages. About 40 minutes.
+# The gate: the proofs, the wrong bodies, the cases, sockets, initiators, failing calls, the pages. About 40 minutes.
 test:
 	@./tools/test
 
-# Requests each second and processor time, beside a plain C program, on this machine.
+# Real initiators (libiscsi, QEMU) on disks of 64 MiB and of 1 GiB. Installs their Debian packages where missing.
+clients:
+	@test -x crates/targetd/out/targetd || ./tools/build
+	@./tools/clients
+
+# Requests each second and processor time, beside a plain C program and beside tgt, on this machine.
+# Installs the Debian packages libiscsi-bin and tgt where missing.
 bench:
 	@test -x crates/targetd/out/targetd || ./tools/build
 	@./tools/bench

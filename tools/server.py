@@ -1,0 +1,44 @@
+"""A server on a free port of loopback, which is ended when it is no longer needed."""
+
+import subprocess
+import tempfile
+import threading
+from contextlib import contextmanager
+from pathlib import Path
+from typing import NamedTuple
+
+LIMIT = 20  # seconds until a server must listen
+
+
+class Server(NamedTuple):
+    """A server that listens."""
+    process: subprocess.Popen
+    port: int
+
+
+@contextmanager
+def listening(*words):
+    """Starts a server that says in its first line, behind its last colon, on which port it listens."""
+    with subprocess.Popen(words, stdin=subprocess.DEVNULL, stdout=subprocess.PIPE, text=True) as process:
+        late = threading.Timer(LIMIT, process.kill)
+        late.start()
+        try:
+            line = process.stdout.readline()
+            late.cancel()
+            port = line.strip().rpartition(":")[2]
+            if not port.isdecimal():
+                raise OSError(f"{words[0]} does not listen: {line!r}")
+            yield Server(process, int(port))
+        finally:
+            late.cancel()
+            process.kill()
+
+
+@contextmanager
+def targetd(program, units):
+    """targetd with the targets of a configuration."""
+    with tempfile.TemporaryDirectory(prefix="targetd-") as folder:
+        config = Path(folder) / "config.toml"
+        config.write_text(f'listen = "127.0.0.1:0"\n{units}', encoding="ascii")
+        with listening(program, "serve", "--config", config) as server:
+            yield server
