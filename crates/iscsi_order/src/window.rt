@@ -69,12 +69,29 @@ impl Window {
         ensures arrival { (past : Past) → Stands past self.old → result ≡ arrival_of past n }
         ensures stands { (past : Past) → Stands past self.old → Stands (arrived past n) self.new }
     {
-        let ahead = n.wrapping_sub(self.next) as usize;
-        if ahead >= WINDOW - self.unfinished || self.held[ahead] {
+        if !self.is_new(n) {
             return Arrival::Ignored;
         }
-        self.held[ahead] = true;
+        self.held[n.wrapping_sub(self.next) as usize] = true;
         Arrival::New
+    }
+
+    /// Whether a request with CmdSN `n` would be new.
+    pub fn is_new(&self, n: u32) -> bool
+        ensures { (past : Past) → Stands past self.now → result ≡ is_new past n }
+    {
+        let ahead = n.wrapping_sub(self.next) as usize;
+        ahead < WINDOW - self.unfinished && !self.held[ahead]
+    }
+
+    /// The number that [`Window::take`] hands over next.
+    pub fn next(&self) -> Option<u32>
+        ensures { (past : Past) → Stands past self.now → result ≡ next_of past }
+    {
+        if !self.held[0] {
+            return None;
+        }
+        Some(self.next)
     }
 
     /// The next number, where it and all before it have come. Each is handed over once, in order.

@@ -1,0 +1,17 @@
+pub use Rattle.iscsi_pdu.specs.Header
+pub use Rattle.iscsi_pdu.specs.ScsiCommand
+pub use Rattle.iscsi_pdu.specs.LoginRequest
+pub use Rattle.iscsi_pdu.specs.LogoutRequest
+pub use Rattle.iscsi_pdu.specs.Frames
+pub use Rattle.iscsi_pdu.specs.Answer
+pub use Rattle.iscsi_order.specs.Window
+pub use Rattle.iscsi_order.specs.WindowState
+pub use Rattle.iscsi_order.specs.Stat
+pub use Rattle.iscsi_transfer.specs.DataIn
+pub use Rattle.scsi_sense.specs.Done
+pub mod Requests
+pub mod Judging
+pub mod Acts
+pub mod Answers
+pub mod Room
+pub mod State
