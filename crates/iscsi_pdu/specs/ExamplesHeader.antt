@@ -1,10 +1,11 @@
--- The fields of a Login Request and of a SCSI Command, computed.
+-- The fields of a Login Request, of a SCSI Command and of a Logout Request, computed.
 use Rattle.std.specs.Prelude.{◌≡◌, ℕ, List, [], ◌∷◌, ◌++◌, true, false, Some, None, replicate, refl}
 use Rattle.iscsi_pdu.specs.declared.header.Opcode.TheVariants as opcodes
 use Rattle.iscsi_pdu.specs.declared.stage.Stage.TheVariants as stages
 use Rattle.iscsi_pdu.specs.Header.{opcode_of, opcode_number, is_immediate, additional_length, data_length, lun_field, initiator_task_tag, cmd_sn}
 use Rattle.iscsi_pdu.specs.ScsiCommand.{is_final, is_read, is_write, expected_transfer_length, cdb}
-use Rattle.iscsi_pdu.specs.LoginRequest.{is_transit, is_continued, current_stage, next_stage, version_min, isid, tsih}
+use Rattle.iscsi_pdu.specs.LoginRequest.{is_transit, is_continued, current_stage, next_stage, version_min, isid, tsih, connection_id}
+use Rattle.iscsi_pdu.specs.LogoutRequest.{logout_reason}
 
 -- a Login Request with 30 bytes of text
 abbrev pub login_header : List ℕ
@@ -23,8 +24,8 @@ login_lengths = (refl, refl)
 login_stages : (is_transit login_header ≡ true) × (is_continued login_header ≡ false) × (current_stage login_header ≡ Some stages.OperationalNegotiation) × (next_stage login_header ≡ Some stages.FullFeaturePhase)
 login_stages = (refl, refl, refl, refl)
 
-login_session : (version_min login_header ≡ 0) × (isid login_header ≡ 0x80 ∷ 0 ∷ 0 ∷ 0 ∷ 0 ∷ 1 ∷ []) × (tsih login_header ≡ 0)
-login_session = (refl, refl, refl)
+login_session : (version_min login_header ≡ 0) × (isid login_header ≡ 0x80 ∷ 0 ∷ 0 ∷ 0 ∷ 0 ∷ 1 ∷ []) × (tsih login_header ≡ 0) × (connection_id login_header ≡ 1)
+login_session = (refl, refl, refl, refl)
 
 login_numbers : (initiator_task_tag login_header ≡ 1) × (cmd_sn login_header ≡ 123)
 login_numbers = (refl, refl)
@@ -58,6 +59,20 @@ command_lun = refl
 
 command_cdb : cdb command_header ≡ 0x28 ∷ 0 ∷ 0 ∷ 0 ∷ 0 ∷ 7 ∷ 0 ∷ 0 ∷ 1 ∷ replicate 6 0 ++ 0xff ∷ []
 command_cdb = refl
+
+-- an immediate Logout Request that removes connection 7 for recovery
+abbrev logout_header : List ℕ
+logout_header =
+    0x46 ∷ 0x82 ∷ 0x00 ∷ 0x00 ∷ 0x00 ∷ 0x00 ∷ 0x00 ∷ 0x00 ∷ 0x00 ∷ 0x00 ∷ 0x00 ∷ 0x00 ∷ 0x00 ∷ 0x00 ∷ 0x00 ∷ 0x00 ∷
+    0x00 ∷ 0x00 ∷ 0x00 ∷ 0x03 ∷ 0x00 ∷ 0x07 ∷ 0x00 ∷ 0x00 ∷ 0x00 ∷ 0x00 ∷ 0x00 ∷ 0x7d ∷ 0x00 ∷ 0x00 ∷ 0x00 ∷ 0x02 ∷
+    0x00 ∷ 0x00 ∷ 0x00 ∷ 0x00 ∷ 0x00 ∷ 0x00 ∷ 0x00 ∷ 0x00 ∷ 0x00 ∷ 0x00 ∷ 0x00 ∷ 0x00 ∷ 0x00 ∷ 0x00 ∷ 0x00 ∷ 0x00 ∷ []
+
+logout_opcode : (opcode_of (opcode_number logout_header) ≡ opcodes.Logout) × (is_immediate logout_header ≡ true)
+logout_opcode = (refl, refl)
+
+-- the reason is without the bit that is always set
+logout_fields : (logout_reason logout_header ≡ 2) × (connection_id logout_header ≡ 7)
+logout_fields = (refl, refl)
 
 -- 3Fh is no opcode of an initiator
 no_opcode : opcode_of 0x3F ≡ opcodes.Other 0x3F

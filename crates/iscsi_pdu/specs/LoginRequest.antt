@@ -39,6 +39,6 @@ isid header = take 6 (drop 8 header)
 abbrev pub tsih : List ℕ → ℕ
 tsih header = big_from 14 2 header
 
--- RFC 7143 §11.12.7: CID
+-- RFC 7143 §11.12.7 and §11.14.3: CID, in a Login Request and in a Logout Request
 abbrev pub connection_id : List ℕ → ℕ
 connection_id header = big_from 20 2 header

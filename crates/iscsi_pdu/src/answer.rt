@@ -5,6 +5,9 @@ ghost use Rattle.std.specs.Prelude.{◌≡◌, ◌+◌, ◌<◌, ◌≤◌, ◌+
 use crate::data_in::DataIn;
 use crate::fault::PduFault;
 use crate::login_response::LoginResponse;
+use crate::logout_response::LogoutResponse;
+use crate::nop_in::NopIn;
+use crate::reject::Reject;
 use crate::scsi_response::{ScsiResponse, sense_segment};
 use crate::segment::put;
 use bytes::BytesMut;
@@ -12,12 +15,18 @@ use bytes::BytesMut;
 /// What the target sends.
 #[derive(Debug, Drop)]
 pub enum Answer<'a> {
+    /// 20h NOP-In
+    NopIn(NopIn<'a>),
     /// 21h SCSI Response
     ScsiResponse(ScsiResponse),
     /// 23h Login Response
     LoginResponse(LoginResponse),
     /// 25h SCSI Data-In
     DataIn(DataIn<'a>),
+    /// 26h Logout Response
+    LogoutResponse(LogoutResponse),
+    /// 3Fh Reject
+    Reject(Reject),
 }
 
 impl<'a> Answer<'a> {
@@ -31,9 +40,12 @@ impl<'a> Answer<'a> {
         ensures bound { result ≤ header_length + most_data }
     {
         match self {
+            Answer::NopIn(answer) => answer.length(),
             Answer::ScsiResponse(response) => response.length(),
             Answer::LoginResponse(response) => response.length(),
             Answer::DataIn(piece) => piece.length(),
+            Answer::LogoutResponse(response) => response.length(),
+            Answer::Reject(reject) => reject.length(),
         }
     }
 
@@ -49,6 +61,7 @@ impl<'a> Answer<'a> {
         ensures full { OnErr result (out.old.spare < length (spelling self.now)) }
     {
         match self {
+            Answer::NopIn(answer) => put(out, &answer.header(), answer.segment()),
             Answer::ScsiResponse(response) => match response.sense {
                 None => put(out, &response.header(), &[]),
                 Some(sense) => put(out, &response.header(), &sense_segment(sense)),
@@ -57,6 +70,8 @@ impl<'a> Answer<'a> {
                 put(out, &response.header(), response.reply.text())
             }
             Answer::DataIn(piece) => put(out, &piece.header(), piece.segment()),
+            Answer::LogoutResponse(response) => put(out, &response.header(), &[]),
+            Answer::Reject(reject) => put(out, &reject.header(), reject.segment()),
         }
     }
 }

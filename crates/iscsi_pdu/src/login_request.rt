@@ -67,7 +67,8 @@ impl Header {
         BigEndian::read_u16(&self.bytes[14..])
     }
 
-    /// CID, the initiator's number of the connection in the session.
+    /// CID, the initiator's number of the connection in the session: of a Login Request and of a
+    /// Logout Request.
     pub fn connection_id(&self) -> u16
         ensures { result ≡ connection_id self.now }
     {

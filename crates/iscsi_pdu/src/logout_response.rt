@@ -1,0 +1,75 @@
+//! The answer to a Logout Request (RFC 7143 §11.15).
+
+ghost use Rattle.std.specs.Prelude.{◌≡◌, ◌+◌, ◌≤◌, length};
+ghost use Rattle.iscsi_pdu.specs.Header.{header_length};
+ghost use Rattle.iscsi_pdu.specs.Segment.{most_data};
+
+use crate::header::HEADER_LENGTH;
+use crate::stamp::Stamp;
+use byteorder::{BigEndian, ByteOrder};
+
+/// The opcode, byte 0.
+const OPCODE: u8 = 0x26;
+
+/// The bit of byte 1 that is always set.
+const FINAL: u8 = 0x80;
+
+/// How a logout ended (RFC 7143 §11.15.1).
+#[derive(Clone, Copy, Debug, PartialEq, Eq)]
+pub enum LogoutResult {
+    /// 0: the connection or the session is closed.
+    Closed,
+    /// 1: the session has no connection with this CID.
+    CidNotFound,
+    /// 2: connection recovery is not supported.
+    NoRecovery,
+}
+
+/// The answer to a Logout Request (RFC 7143 §11.15). Time2Wait and Time2Retain are 0.
+#[derive(Clone, Copy, Debug, PartialEq, Eq)]
+pub struct LogoutResponse {
+    /// The Initiator Task Tag of the request.
+    pub initiator_task_tag: u32,
+    pub stamp: Stamp,
+    pub response: LogoutResult,
+}
+
+impl LogoutResult {
+    ghost use Rattle.iscsi_pdu.specs.LogoutResponse.{logout_code};
+
+    /// Byte 2.
+    fn code(self) -> u8
+        ensures { result ≡ logout_code self }
+    {
+        match self {
+            LogoutResult::Closed => 0,
+            LogoutResult::CidNotFound => 1,
+            LogoutResult::NoRecovery => 2,
+        }
+    }
+}
+
+impl LogoutResponse {
+    ghost use Rattle.iscsi_pdu.specs.LogoutResponse.{logout_response_bytes, logout_response_header};
+
+    /// The length in bytes of the response.
+    pub(crate) fn length(&self) -> usize
+        ensures value { result ≡ length (logout_response_bytes self.now) }
+        ensures bound { result ≤ header_length + most_data }
+    {
+        self.header().len()
+    }
+
+    /// The 48 header bytes.
+    pub(crate) fn header(&self) -> [u8; HEADER_LENGTH]
+        ensures { result ≡ logout_response_header self.now }
+    {
+        let mut header = [0; HEADER_LENGTH];
+        header[0] = OPCODE;
+        header[1] = FINAL;
+        header[2] = self.response.code();
+        BigEndian::write_u32(&mut header[16..20], self.initiator_task_tag);
+        header[24..36].copy_from_slice(&self.stamp.bytes());
+        header
+    }
+}

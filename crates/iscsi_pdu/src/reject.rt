@@ -1,0 +1,91 @@
+//! The refusal of a PDU (RFC 7143 §11.17).
+
+ghost use Rattle.std.specs.Prelude.{◌≡◌, ◌+◌, ◌≤◌, length};
+ghost use Rattle.iscsi_pdu.specs.Header.{header_length};
+ghost use Rattle.iscsi_pdu.specs.Segment.{most_data};
+
+use crate::header::{HEADER_LENGTH, Header};
+use crate::segment::padded;
+use crate::stamp::Stamp;
+use byteorder::{BigEndian, ByteOrder};
+
+/// The opcode, byte 0.
+const OPCODE: u8 = 0x3F;
+
+/// The bit of byte 1 that is always set.
+const FINAL: u8 = 0x80;
+
+/// Where other answers have the Initiator Task Tag.
+const NO_TASK_TAG: u32 = 0xffff_ffff;
+
+/// Why a PDU is refused (RFC 7143 §11.17.1).
+#[derive(Clone, Copy, Debug, PartialEq, Eq)]
+pub enum RejectReason {
+    /// 03h: SNACK is not supported.
+    Snack,
+    /// 05h: the command is not supported.
+    CommandNotSupported,
+    /// 06h: there are too many immediate commands.
+    TooManyImmediate,
+    /// 09h: a field of the PDU is invalid.
+    InvalidField,
+}
+
+/// The refusal of a PDU (RFC 7143 §11.17).
+#[derive(Clone, Copy, Debug, PartialEq, Eq)]
+pub struct Reject {
+    pub reason: RejectReason,
+    pub stamp: Stamp,
+    /// The header of the PDU that is refused.
+    pub header: Header,
+}
+
+impl RejectReason {
+    ghost use Rattle.iscsi_pdu.specs.Reject.{reject_code};
+
+    /// Byte 2.
+    fn code(self) -> u8
+        ensures { result ≡ reject_code self }
+    {
+        match self {
+            RejectReason::Snack => 0x03,
+            RejectReason::CommandNotSupported => 0x05,
+            RejectReason::TooManyImmediate => 0x06,
+            RejectReason::InvalidField => 0x09,
+        }
+    }
+}
+
+impl Reject {
+    ghost use Rattle.iscsi_pdu.specs.Reject.{reject_bytes, reject_header};
+
+    /// The length in bytes of the PDU.
+    pub(crate) fn length(&self) -> usize
+        ensures value { result ≡ length (reject_bytes self.now) }
+        ensures bound { result ≤ header_length + most_data }
+    {
+        self.header().len() + padded(self.segment().len())
+    }
+
+    /// The 48 header bytes.
+    pub(crate) fn header(&self) -> [u8; HEADER_LENGTH]
+        ensures { result ≡ reject_header self.now }
+    {
+        let mut header = [0; HEADER_LENGTH];
+        header[0] = OPCODE;
+        header[1] = FINAL;
+        header[2] = self.reason.code();
+        BigEndian::write_u24(&mut header[5..8], self.segment().len() as u32);
+        BigEndian::write_u32(&mut header[16..20], NO_TASK_TAG);
+        header[24..36].copy_from_slice(&self.stamp.bytes());
+        header
+    }
+
+    /// The data segment: the header of the PDU that is refused.
+    pub(crate) fn segment(&self) -> &[u8]
+        ensures value { result.now ≡ self.now.header }
+        ensures bound { length result.now ≤ most_data }
+    {
+        &self.header.bytes
+    }
+}
