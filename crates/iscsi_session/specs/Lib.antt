@@ -15,3 +15,4 @@ pub mod Acts
 pub mod Answers
 pub mod Room
 pub mod State
+pub mod Examples
