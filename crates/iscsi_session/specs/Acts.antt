@@ -1,5 +1,5 @@
 -- What a request does when it is taken.
-use Rattle.std.specs.Prelude.{ℕ, List, [], ◌∷◌, take, min, Bool, ◌&&◌, ◌||◌, not, ◌==◌, if◌then◌else◌}
+use Rattle.std.specs.Prelude.{ℕ, List, [], ◌∷◌, take, min, Bool, false, ◌&&◌, ◌||◌, not, ◌==◌, if◌then◌else◌}
 use Rattle.iscsi_pdu.specs.Header.{opcode_of, opcode_number, initiator_task_tag}
 use Rattle.iscsi_pdu.specs.LoginRequest.{connection_id}
 use Rattle.iscsi_pdu.specs.LogoutRequest.{logout_reason}

@@ -1,6 +1,5 @@
 -- Sessions computed from the definitions alone, with the expected numbers written by hand.
 use Rattle.std.specs.Prelude.{◌≡◌, ℕ, ◌+◌, List, [], ◌∷◌, ◌++◌, fold, flat_map, length, replicate, Bool, true, false, Option, Some, None, refl}
-use Rattle.byteorder.specs.Endian.{big_bytes}
 use Rattle.scsi_sense.specs.Nexus.{NexusName}
 use Rattle.iscsi_pdu.specs.Frames.{Frame}
 use Rattle.iscsi_pdu.specs.declared.answer.Answer.{Answer}
@@ -24,30 +23,37 @@ computed = true
 
 -- ---- requests
 
--- opcode and I, byte 1, CID or the expected length, tag, CmdSN; no LUN, no data
-abbrev request : ℕ → ℕ → ℕ → ℕ → Frame
+-- four bytes
+abbrev low : ℕ → List ℕ
+low n = 0 ∷ 0 ∷ 0 ∷ n ∷ []
+
+abbrev high : ℕ → List ℕ
+high n = 0xff ∷ 0xff ∷ 0xff ∷ n ∷ []
+
+-- opcode and I, byte 1, tag, CmdSN; no LUN, no expected length and CID 0, no data
+abbrev request : ℕ → ℕ → List ℕ → List ℕ → Frame
 request opcode flags tag number = record {
-  header = opcode ∷ flags ∷ replicate 14 0 ++ big_bytes 4 tag ++ replicate 4 0 ++ big_bytes 4 number ++ replicate 20 0;
+  header = opcode ∷ flags ∷ replicate 14 0 ++ tag ++ replicate 4 0 ++ number ++ replicate 20 0;
   body = [];
 }
 
 abbrev command : ℕ → ℕ → Frame
-command tag number = request 0x01 0x80 tag number
+command tag number = request 0x01 0x80 (low tag) (low number)
 
 abbrev immediate_command : ℕ → Frame
-immediate_command tag = request 0x41 0x80 tag 0
+immediate_command tag = request 0x41 0x80 (low tag) (low 0)
 
-abbrev ping : ℕ → ℕ → List ℕ → Frame
-ping tag number bytes = record { header = (request 0x00 0x80 tag number).header; body = bytes }
+abbrev ping : List ℕ → ℕ → List ℕ → Frame
+ping tag number bytes = record { header = (request 0x00 0x80 tag (low number)).header; body = bytes }
 
 abbrev logout : ℕ → ℕ → Frame
-logout reason number = request 0x06 reason 0x20 number
+logout reason number = request 0x06 reason (low 0x20) (low number)
 
 abbrev snack : Frame
-snack = request 0x10 0x80 0x30 0
+snack = request 0x10 0x80 (low 0x30) (low 0)
 
 abbrev data_out : ℕ → Frame
-data_out tag = request 0x05 0x80 tag 0
+data_out tag = request 0x05 0x80 (low tag) (low 0)
 
 -- ---- sessions
 
@@ -112,7 +118,7 @@ unfolding computed
 held_numbers = refl
 
 -- numbers that wrap around
-wraps : (all_come (from 0xfffffffe) (command 1 0xfffffffe ∷ command 2 0xffffffff ∷ command 3 0 ∷ [])).stamps
+wraps : (all_come (from 0xfffffffe) (request 0x01 0x80 (low 1) (high 0xfe) ∷ request 0x01 0x80 (low 2) (high 0xff) ∷ command 3 0 ∷ [])).stamps
     ≡ record { stat_sn = 1; exp_cmd_sn = 0xffffffff; max_cmd_sn = 0x1e } ∷ record { stat_sn = 2; exp_cmd_sn = 0; max_cmd_sn = 0x1f } ∷ record { stat_sn = 3; exp_cmd_sn = 1; max_cmd_sn = 0x20 } ∷ []
 unfolding computed
 wraps = refl
@@ -160,17 +166,17 @@ unfolding computed
 past_the_window = refl
 
 -- a NOP-Out that is held answers before the commands of its frame are done
-ping_before_commands : (comes (comes prepared (ping 7 6 (1 ∷ 2 ∷ 3 ∷ []))) (command 8 5)).answers
+ping_before_commands : (comes (comes prepared (ping (low 7) 6 (1 ∷ 2 ∷ 3 ∷ []))) (command 8 5)).answers
     ≡ answers.NopIn (record { initiator_task_tag = 7; stamp = record { stat_sn = 3; exp_cmd_sn = 7; max_cmd_sn = 37 }; body = 1 ∷ 2 ∷ 3 ∷ [] }) ∷ []
 unfolding computed
 ping_before_commands = refl
 
 -- the reserved tag asks for no answer, and its number is used
-silent_ping : (comes prepared (ping 0xffffffff 5 (1 ∷ []))).answers ≡ []
+silent_ping : (comes prepared (ping (high 0xff) 5 (1 ∷ []))).answers ≡ []
 unfolding computed
 silent_ping = refl
 
-silent_ping_counts : order.exp_cmd_sn (numbers (comes prepared (ping 0xffffffff 5 [])).past) ≡ 6
+silent_ping_counts : order.exp_cmd_sn (numbers (comes prepared (ping (high 0xff) 5 [])).past) ≡ 6
 unfolding computed
 silent_ping_counts = refl
 
@@ -189,7 +195,7 @@ data_for_no_command : verdict prepared.past (data_out 3) ≡ Dropped
 unfolding computed
 data_for_no_command = refl
 
-reserved_for_a_command : verdict prepared.past (command 0xffffffff 5) ≡ Violating
+reserved_for_a_command : verdict prepared.past (request 0x01 0x80 (high 0xff) (low 5)) ≡ Violating
 unfolding computed
 reserved_for_a_command = refl
 
@@ -211,6 +217,6 @@ limit_before_tag : verdict eight (immediate_command 0x10) ≡ Rejected reasons.T
 unfolding computed
 limit_before_tag = refl
 
-ninth_ping : verdict eight (request 0x40 0x80 0x18 0) ≡ Accepted
+ninth_ping : verdict eight (request 0x40 0x80 (low 0x18) (low 0)) ≡ Accepted
 unfolding computed
 ninth_ping = refl

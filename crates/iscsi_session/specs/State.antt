@@ -1,6 +1,6 @@
 -- What a session remembers of its past.
-use Rattle.std.specs.Prelude.{◌≡◌, All, ℕ, ◌+◌, ◌^◌, ◌%◌, ◌≤◌, List, [], ◌∷◌, length, map, not, ◌==◌, Option, Some, None, if◌then◌else◌, ⊤}
-use Rattle.iscsi_pdu.specs.Header.{cmd_sn}
+use Rattle.std.specs.Prelude.{◌≡◌, All, ℕ, ◌+◌, ◌^◌, ◌%◌, ◌≤◌, List, [], ◌∷◌, length, map, false, not, ◌==◌, Option, Some, None, is_some, if◌then◌else◌, ⊤}
+use Rattle.iscsi_pdu.specs.Header.{is_immediate, cmd_sn}
 use Rattle.iscsi_pdu.specs.Frames.{Frame}
 use Rattle.iscsi_login.specs.declared.params.Params.{Params}
 use Rattle.iscsi_order.specs.Window as order
@@ -48,11 +48,17 @@ AreDistinct (k ∷ ks) = (order.has_come ks k ≡ false) × AreDistinct ks
 abbrev pub HasNumber : ℕ → Request → Type 0
 HasNumber first request = (k : ℕ) → request.number ≡ Some k → cmd_sn request.frame.header ≡ (first + k) % 2 ^ 32
 
+-- one for immediate delivery has no number, and every other one has
+abbrev pub IsDelivered : Request → Type 0
+IsDelivered request = is_some request.number ≡ not (is_immediate request.frame.header)
+
 -- what can have happened
 pub record IsLawful (past : Past) : Type 0 where
   pub numbers : window.IsLawful (numbers past)
   pub distinct : AreDistinct (numbered past.came)
   pub named : All (HasNumber past.params.first_cmd_sn) past.came
+  pub delivered : All IsDelivered past.came
+  pub acted : All IsDelivered past.acted
   pub immediate : length (immediate past.acted) ≤ length (immediate past.came)
   pub commands : length (commands past.finished) ≤ length (commands past.acted)
   -- of the numbers that acted, those that are not finished are commands of the queue

@@ -63,7 +63,7 @@ fn expected(frame: &Frame, done: &Done) -> u32
 }
 
 /// The SCSI Response of a command, behind so many Data-Ins (RFC 7143 §11.4).
-#[tactic(auto, unfolding(crate::specs::Acts::scsi_answer))]
+#[tactic(auto, unfolding(crate::specs::Answers::scsi_answer))]
 fn response(numbers: Stamp, frame: &Frame, done: &Done, data_ins: u32) -> Answer<'static>
     ensures value { result ≡ scsi_answer numbers frame.now done.now data_ins }
     ensures short { length (spelling result) ≤ LONGEST_RESPONSE }
@@ -122,7 +122,7 @@ pub(crate) fn put(out: &mut BytesMut, answer: &Answer)
 }
 
 /// Writes the Data-Ins of a command where there is room for them.
-#[tactic(auto, unfolding(crate::specs::Acts::data_answers))]
+#[tactic(auto, unfolding(crate::specs::Answers::data_answers))]
 fn put_data(
     out: &mut BytesMut,
     numbers: Stamp,
