@@ -249,6 +249,12 @@ finishes past next unfinished held s some =
     let lawful : IsLawful after = record { finished = omega arith; handed = (let handed = s.lawful.handed in omega (arith, taken_is past, taken_is after)); within = λ k come. let lt = s.lawful.within k come in omega arith } in
     stands_by after next (unfinished - 1) held lawful (record { next_is = r.next_is; unfinished_is = omega arith; held_is = r.held_is })
 
+-- where fewer are finished than were handed over, one is unfinished
+pub some_unfinished : (past : Past) (next unfinished : ℕ) (held : List Bool) → Stands past (record { next = next; unfinished = unfinished; held = held }) → past.finished < past.handed → 0 < unfinished
+some_unfinished past next unfinished held s fewer =
+    let e = (remembers past (record { next = next; unfinished = unfinished; held = held }) s.remembered).unfinished_is in
+    omega arith
+
 -- ---- ExpCmdSN and MaxCmdSN
 
 pub expected : (past : Past) (next unfinished : ℕ) (held : List Bool) → Stands past (record { next = next; unfinished = unfinished; held = held })

@@ -2,7 +2,7 @@
 
 ghost use Rattle.std.specs.Prelude.{◌≡◌, ◌<◌, List, Bool, length};
 ghost use Rattle.std.specs.List.{prefix_len};
-ghost use Rattle.iscsi_order.specs.Window.{Past, begun, arrived, arrival_of, handed_over, next_of, finished_one, numbers_of};
+ghost use Rattle.iscsi_order.specs.Window.{Past, begun, is_new as is_new_in, arrived, arrival_of, handed_over, next_of, finished_one, numbers_of};
 ghost use Rattle.iscsi_order.specs.WindowState.{Stands};
 
 use std::marker::Model;
@@ -77,6 +77,27 @@ impl Window {
         Arrival::New
     }
 
+    /// Whether a request with CmdSN `n` would be new ([`Window::arrive`]).
+    pub fn is_new(&self, n: u32) -> bool
+        ensures { (past : Past) → Stands past self.now → result ≡ is_new_in past n }
+    {
+        let ahead = n.wrapping_sub(self.next) as usize;
+        if ahead >= WINDOW - self.unfinished || self.held[ahead] {
+            return false;
+        }
+        true
+    }
+
+    /// The number that [`Window::take`] hands over next.
+    pub fn next(&self) -> Option<u32>
+        ensures { (past : Past) → Stands past self.now → result ≡ next_of past }
+    {
+        if !self.held[0] {
+            return None;
+        }
+        Some(self.next)
+    }
+
     /// The next number, where it and all before it have come. Each is handed over once, in order.
     pub fn take(&mut self) -> Option<u32>
         ensures number { (past : Past) → Stands past self.old → result ≡ next_of past }
@@ -93,13 +114,14 @@ impl Window {
         Some(number)
     }
 
-    /// A request that was handed over is finished, and one more may come. Fewer must be finished than
-    /// were handed over.
+    /// A request that was handed over is finished, and one more may come. Where none is unfinished
+    /// nothing changes.
     pub fn finish(&mut self)
-        requires { 0 < self.old.unfinished }
-        ensures { (past : Past) → Stands past self.old → Stands (finished_one past) self.new }
+        ensures { (past : Past) → Stands past self.old → past.finished < past.handed → Stands (finished_one past) self.new }
     {
-        self.unfinished -= 1;
+        if self.unfinished > 0 {
+            self.unfinished -= 1;
+        }
     }
 
     /// ExpCmdSN and MaxCmdSN.

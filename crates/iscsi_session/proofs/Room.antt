@@ -1,0 +1,178 @@
+-- The answers of a command fit into the room that is made for them.
+use Rattle.std.proofs.Common.{◌≡◌, ℕ, ◌+◌, ◌-◌, ◌*◌, ◌<◌, ◌≤◌, ◌==◌, min, replicate, List, [], ◌∷◌, ◌++◌, length, map, take, get_or, Bool, true, false, cond, ◌&&◌, ◌||◌, not, refl, sym, ap, ◌∙◌, arith}
+use Rattle.std.specs.Prelude.{flat_map}
+use Rattle.std.specs.List.{enumerate_from}
+use Rattle.std.proofs.lemmas.List.{length-append, length-map, length-take, length-replicate, get_or-map, take_more, append_assoc, append-nil}
+use Rattle.std.proofs.lemmas.List.Folds.{length-flat_map-take}
+use Rattle.std.proofs.lemmas.List.FromFn.{length-enumerate_from, get_or-enumerate_from}
+use Rattle.std.proofs.lemmas.Grind.{flat_map-append}
+use Rattle.iscsi_pdu.specs.Answer.{spelling}
+use Rattle.iscsi_pdu.specs.DataIn.{DataInFields, data_in_header, data_in_bytes}
+use Rattle.iscsi_pdu.specs.Segment.{padded, segment}
+use Rattle.iscsi_pdu.specs.Header.{initiator_task_tag}
+use Rattle.iscsi_pdu.specs.Frames.{Frame}
+use Rattle.iscsi_pdu.specs.ScsiCommand.{is_read, is_write, expected_transfer_length}
+use Rattle.iscsi_pdu.specs.declared.answer.Answer.{Answer}
+use Rattle.iscsi_pdu.specs.declared.stamp.Stamp.{Stamp}
+use Rattle.iscsi_transfer.specs.declared.data_in.Piece.{Piece}
+use Rattle.iscsi_transfer.specs.DataIn.{piece_count, part_of}
+use Rattle.iscsi_transfer.specs.Laws.{Lies}
+use Rattle.iscsi_transfer.proofs.Pieces.{pieces_are_joined}
+use Rattle.iscsi_transfer.proofs.Counts.{pieces_are_counted, less_has_fewer, count_fits}
+use Rattle.iscsi_transfer.proofs.Lying.{pieces_lie}
+use Rattle.scsi_sense.specs.Done.{Outcome}
+use Rattle.iscsi_session.specs.Room.{most_given}
+use Rattle.iscsi_login.specs.Values.{AreInRange}
+use Rattle.iscsi_login.specs.declared.values.Values.{Values}
+use Rattle.iscsi_session.specs.Answers.{expected_length, data_sent, sent_pieces, data_in, data_answers}
+use Rattle.iscsi_session.specs.Room.{most_sent, most_pieces, room_for}
+
+-- ---- the length of the Data-Ins
+
+header_long : (fields : DataInFields) → length (data_in_header fields) ≡ 48
+header_long fields = refl
+
+segment_long : (bytes : List ℕ) → length (segment bytes) ≤ length bytes + 3
+segment_long bytes =
+    let n = padded (length bytes) - length bytes in
+    let zeros : List ℕ = replicate n 0 in
+    let count : length zeros ≡ n = length-replicate {A = ℕ} n 0 in
+    let both : length (segment bytes) ≡ length bytes + length zeros = length-append bytes zeros in
+    omega (arith, both, count)
+
+piece_long : (fields : DataInFields) → length (data_in_bytes fields) ≤ 51 + length fields.body
+piece_long fields = omega (arith, length-append (data_in_header fields) (segment fields.body), header_long fields, segment_long fields.body)
+
+all_long : (numbers : Stamp) (frame : Frame) (sent : List ℕ) (k : ℕ) (pieces : List Piece)
+    → length (flat_map spelling (map (data_in numbers frame sent) (enumerate_from k pieces))) ≤ length pieces * 51 + length (flat_map (part_of sent) pieces)
+all_long numbers frame sent k [] = omega arith
+all_long numbers frame sent k (piece ∷ pieces) =
+    let answer = data_in numbers frame sent (k, piece) in
+    let rest = flat_map spelling (map (data_in numbers frame sent) (enumerate_from (k + 1) pieces)) in
+    let parts = flat_map (part_of sent) pieces in
+    let fields : DataInFields = record {
+      is_final = piece.is_final;
+      initiator_task_tag = initiator_task_tag frame.header;
+      exp_cmd_sn = numbers.exp_cmd_sn;
+      max_cmd_sn = numbers.max_cmd_sn;
+      data_sn = k;
+      buffer_offset = piece.offset;
+      body = part_of sent piece;
+    } in
+    let first : length (spelling answer) ≤ 51 + length (part_of sent piece) = piece_long fields in
+    let more : length rest ≤ length pieces * 51 + length parts = all_long numbers frame sent (k + 1) pieces in
+    let bytes : length (spelling answer ++ rest) ≡ length (spelling answer) + length rest = length-append (spelling answer) rest in
+    let joined : length (part_of sent piece ++ parts) ≡ length (part_of sent piece) + length parts = length-append (part_of sent piece) parts in
+    omega (arith, first, more, bytes, joined)
+
+-- ---- so many pieces
+
+pub pieces_counted : (values : Values) (sent : List ℕ) → AreInRange values → length (sent_pieces values sent) ≡ piece_count (length sent) values.max_burst_length values.max_recv_data_segment_length
+pieces_counted values sent range =
+    pieces_are_counted (length sent) values.max_burst_length values.max_recv_data_segment_length (let some = range.burst in omega arith) (let some = range.segment in omega arith)
+
+pub answers_long : (numbers : Stamp) (values : Values) (frame : Frame) (sent : List ℕ) → AreInRange values
+    → length (flat_map spelling (data_answers numbers values frame sent)) ≤ length (sent_pieces values sent) * 51 + length sent
+unfolding data_answers
+answers_long numbers values frame sent range =
+    let joined = pieces_are_joined sent values.max_burst_length values.max_recv_data_segment_length (let some = range.burst in omega arith) (let some = range.segment in omega arith) in
+    let same : length (flat_map (part_of sent) (sent_pieces values sent)) ≡ length sent = ap (λ (bytes : List ℕ). length bytes) joined in
+    let long = all_long numbers frame sent 0 (sent_pieces values sent) in
+    omega (arith, long, same)
+
+sent_by : (b : Bool) (n e most : ℕ) → n ≤ most → min (cond ((n == 0) || b) e 0) n ≤ cond b (min most e) 0
+sent_by true n e most le = grind arith
+sent_by false n e most le = grind arith
+
+pub sent_short : (frame : Frame) (done : Outcome) → length done.given ≤ most_given → length (data_sent frame done) ≤ most_sent frame
+sent_short frame done le =
+    let short = sent_by (is_read frame.header && not (is_write frame.header)) (length done.given) (expected_transfer_length frame.header) most_given le in
+    omega (arith, short, length-take (expected_length frame done) done.given)
+
+pub pieces_within : (values : Values) (frame : Frame) (done : Outcome) → AreInRange values → length done.given ≤ most_given → piece_count (length (data_sent frame done)) values.max_burst_length values.max_recv_data_segment_length ≤ most_pieces values frame
+pieces_within values frame done range le =
+    less_has_fewer (length (data_sent frame done)) (most_sent frame) values.max_burst_length values.max_recv_data_segment_length (let some = range.burst in omega arith) (let some = range.segment in omega arith) (sent_short frame done le)
+
+-- room for all Data-Ins, and for the SCSI Response behind them
+pub data_fits : (numbers : Stamp) (values : Values) (frame : Frame) (done : Outcome) → AreInRange values → length done.given ≤ most_given
+    → length (flat_map spelling (data_answers numbers values frame (data_sent frame done))) + 68 ≤ room_for values frame
+data_fits numbers values frame done range le =
+    let sent = data_sent frame done in
+    let long = answers_long numbers values frame sent range in
+    let count = pieces_counted values sent range in
+    let within = pieces_within values frame done range le in
+    let short = sent_short frame done le in
+    omega (arith, long, count, within, short)
+
+-- no more pieces than bytes
+pub most_pieces_fit : (values : Values) (frame : Frame) → AreInRange values → most_sent frame ≤ most_given → most_pieces values frame ≤ most_given
+most_pieces_fit values frame range le =
+    let fits = count_fits (most_sent frame) values.max_burst_length values.max_recv_data_segment_length (let some = range.burst in omega arith) (let some = range.segment in omega arith) in
+    omega (arith, fits)
+
+-- ---- one piece
+
+pub record IsOneOf (values : Values) (sent : List ℕ) (k : ℕ) (piece : Piece) : Type 0 where
+  pub within : piece.offset + piece.length ≤ length sent
+  pub short : piece.length ≤ 262144
+  pub early : k < length sent
+
+pub piece_there : (values : Values) (sent : List ℕ) (k : ℕ) (d : Piece) → AreInRange values → k < length (sent_pieces values sent) → IsOneOf values sent k (get_or (sent_pieces values sent) k d)
+piece_there values sent k d range lt =
+    let burst = values.max_burst_length in
+    let segment_ = values.max_recv_data_segment_length in
+    let lies : Lies (get_or (sent_pieces values sent) k d) (length sent) burst = pieces_lie (length sent) burst segment_ (let some = range.burst in omega arith) (let some = range.segment in omega arith) k d lt in
+    let count = pieces_counted values sent range in
+    let fits = count_fits (length sent) burst segment_ (let some = range.burst in omega arith) (let some = range.segment in omega arith) in
+    record {
+      within = lies.within;
+      short = (let longest = range.longest_burst in let short = lies.short in omega arith);
+      early = omega (arith, lt, count, fits);
+    }
+
+-- ---- as the loop writes them
+
+pub data_answer_at : (numbers : Stamp) (values : Values) (frame : Frame) (sent : List ℕ) (k : ℕ) (d : Answer) (p : Piece) → k < length (sent_pieces values sent)
+    → get_or (data_answers numbers values frame sent) k d ≡ data_in numbers frame sent (k, get_or (sent_pieces values sent) k p)
+unfolding data_answers
+data_answer_at numbers values frame sent k d p lt =
+    let pieces = sent_pieces values sent in
+    let below : k < length (enumerate_from 0 pieces) = omega (arith, lt, length-enumerate_from 0 pieces) in
+    get_or-map (data_in numbers frame sent) (enumerate_from 0 pieces) k (0, p) d below
+    ∙ ap (data_in numbers frame sent) (get_or-enumerate_from 0 pieces k (0, p) lt ∙ ap (λ (n : ℕ). (n, get_or pieces k p)) (omega arith))
+
+pub data_answers_count : (numbers : Stamp) (values : Values) (frame : Frame) (sent : List ℕ) → length (data_answers numbers values frame sent) ≡ length (sent_pieces values sent)
+unfolding data_answers
+data_answers_count numbers values frame sent = length-map (enumerate_from 0 (sent_pieces values sent)) (data_in numbers frame sent) ∙ length-enumerate_from 0 (sent_pieces values sent)
+
+-- one more answer is written behind the first k
+pub record IsWritten (all : List Answer) (k : ℕ) (items before : List ℕ) (left room : ℕ) : Type 0 where
+  pub written : items ≡ before ++ flat_map spelling (take k all)
+  pub spare : left + length (flat_map spelling (take k all)) ≡ room
+
+more_spelled : (all : List Answer) (k : ℕ) (d : Answer) → k < length all → flat_map spelling (take (k + 1) all) ≡ flat_map spelling (take k all) ++ spelling (get_or all k d)
+more_spelled all k d lt =
+    ap (flat_map spelling) (take_more all k d lt) ∙ flat_map-append spelling (take k all) (get_or all k d ∷ [])
+    ∙ ap (λ (bytes : List ℕ). flat_map spelling (take k all) ++ bytes) (append-nil (spelling (get_or all k d)))
+
+pub written_more : (all : List Answer) (k : ℕ) (items after before : List ℕ) (spare left room : ℕ) (answer : Answer) → k < length all → get_or all k answer ≡ answer → IsWritten all k items before spare room
+    → after ≡ items ++ spelling answer → left + length (spelling answer) ≡ spare → IsWritten all (k + 1) after before left room
+written_more all k items after before spare left room answer lt is h written used =
+    let more : flat_map spelling (take (k + 1) all) ≡ flat_map spelling (take k all) ++ spelling answer = more_spelled all k answer lt ∙ ap (λ (a : Answer). flat_map spelling (take k all) ++ spelling a) is in
+    record {
+      written = written ∙ ap (λ (bytes : List ℕ). bytes ++ spelling answer) h.written ∙ append_assoc before (flat_map spelling (take k all)) (spelling answer) ∙ ap (λ (bytes : List ℕ). before ++ bytes) (sym more);
+      spare = omega (arith, h.spare, used, ap (λ (bytes : List ℕ). length bytes) more, length-append (flat_map spelling (take k all)) (spelling answer));
+    }
+
+-- there is room for the next one
+pub next_fits : (all : List Answer) (k : ℕ) (items before : List ℕ) (spare room : ℕ) (answer : Answer) → k < length all → get_or all k answer ≡ answer → IsWritten all k items before spare room
+    → length (flat_map spelling all) ≤ room → length (spelling answer) ≤ spare
+next_fits all k items before spare room answer lt is h le =
+    omega (arith, h.spare, le, length-flat_map-take spelling all k answer lt, ap (λ (a : Answer). length (spelling a)) is)
+
+-- the pieces can be counted in four bytes
+pub pieces_few : (values : Values) (frame : Frame) (done : Outcome) → AreInRange values → length done.given ≤ most_given → length (sent_pieces values (data_sent frame done)) ≤ most_given
+pieces_few values frame done range le =
+    let sent = data_sent frame done in
+    let fits = count_fits (length sent) values.max_burst_length values.max_recv_data_segment_length (let some = range.burst in omega arith) (let some = range.segment in omega arith) in
+    omega (arith, pieces_counted values sent range, fits, length-take (expected_length frame done) done.given, le)

@@ -1,0 +1,171 @@
+//! The requests that are taken act.
+
+ghost use Rattle.std.specs.Prelude.{◌≡◌, ◌+◌, ◌++◌, ℕ, flat_map, IfOk, OnOk, OnErr};
+ghost use Rattle.iscsi_pdu.specs.Answer.{spelling};
+ghost use Rattle.iscsi_pdu.specs.Frames as pdu;
+ghost use Rattle.iscsi_session.specs.Requests.{Past, bearing, due};
+ghost use Rattle.iscsi_session.specs.Acts.{act_by, acted_by, answers_by, closes};
+ghost use Rattle.iscsi_session.specs.State.{Stands};
+
+use crate::act::Act;
+use crate::answers::{put, rejected};
+use crate::fault::Memory;
+use crate::session::Session;
+use bytes::BytesMut;
+use iscsi_pdu::{Answer, Frame, Header, LogoutResponse, LogoutResult, NopIn, Opcode, RejectReason};
+
+/// What the answer of a NOP-Out or of a Logout takes beside the ping data, in bytes at most.
+const ROOM_TO_ACT: usize = 99;
+
+/// A PDU of the target bears no more data than this, in bytes.
+const MOST_DATA: usize = 262_144;
+
+/// No request that is to be answered bears this tag (RFC 7143 §11.2.1.8).
+const RESERVED_TAG: u32 = 0xffff_ffff;
+
+/// Which request acts next.
+#[derive(Clone, Copy)]
+enum Turn {
+    /// The first of those for immediate delivery.
+    Immediate,
+    /// The one with this CmdSN.
+    Numbered(u32),
+}
+
+impl Session {
+    /// The next request that was taken acts: a SCSI Command joins the queue, a NOP-Out and a Logout are
+    /// answered at the end of the buffer. Where an allocation fails nothing changes.
+    pub fn act(&mut self, out: &mut BytesMut) -> Result<Act, Memory>
+        ensures act { IfOk result (λ a. (answered : ℕ) (past : Past) → Stands answered past self.old → a ≡ act_by (due past) past) }
+        ensures stands { OnOk result ((answered : ℕ) (past : Past) → Stands answered past self.old
+            → Stands (answered + bearing (answers_by (due past) answered past)) (acted_by (due past) past) self.new) }
+        ensures out { OnOk result ((answered : ℕ) (past : Past) → Stands answered past self.old
+            → out.new.items ≡ out.old.items ++ flat_map spelling (answers_by (due past) answered past)) }
+        ensures params { self.new.params ≡ self.old.params }
+        ensures err { OnErr result (self.new ≡ self.old) }
+        ensures out_err { OnErr result (out.new.items ≡ out.old.items) }
+    {
+        let Some(turn) = self.turn() else {
+            return Ok(Act::Idle);
+        };
+        match self.due(turn) {
+            None => Ok(Act::Idle),
+            Some(frame) if frame.header.opcode() == Opcode::ScsiCommand => {
+                self.queue(turn)?;
+                Ok(Act::Taken)
+            }
+            Some(frame) => {
+                out.reserve(frame.body.len() + ROOM_TO_ACT)?;
+                Ok(self.answer(turn, out))
+            }
+        }
+    }
+
+    /// Which request acts next.
+    fn turn(&self) -> Option<Turn> {
+        if self.tasks.arrived().is_some() {
+            return Some(Turn::Immediate);
+        }
+        self.window.next().map(Turn::Numbered)
+    }
+
+    /// The request that acts next.
+    fn due(&self, turn: Turn) -> Option<&Frame> {
+        match turn {
+            Turn::Immediate => self.tasks.arrived(),
+            Turn::Numbered(n) => self.tasks.held(n),
+        }
+    }
+
+    /// A SCSI Command joins the queue. Where an allocation fails nothing changes.
+    fn queue(&mut self, turn: Turn) -> Result<(), Memory> {
+        match turn {
+            Turn::Immediate => self.tasks.queue_arrived(),
+            Turn::Numbered(n) => {
+                self.tasks.queue_held(n)?;
+                let _ = self.window.take();
+                Ok(())
+            }
+        }
+    }
+
+    /// A request is taken out.
+    fn take_out(&mut self, turn: Turn) -> Option<Frame> {
+        match turn {
+            Turn::Immediate => self.tasks.take_arrived(),
+            Turn::Numbered(n) => {
+                let _ = self.window.take();
+                self.window.finish();
+                self.tasks.take_held(n)
+            }
+        }
+    }
+
+    /// A NOP-Out or a Logout is finished and answered. There must be room for its answer, so it takes no memory.
+    fn answer(&mut self, turn: Turn, out: &mut BytesMut) -> Act {
+        let Some(frame) = self.take_out(turn) else {
+            return Act::Idle;
+        };
+        if frame.header.opcode() == Opcode::NopOut {
+            self.return_ping(&frame, out);
+            return Act::Taken;
+        }
+        self.log_out(&frame, out)
+    }
+
+    /// A NOP-In returns the ping data of a NOP-Out (RFC 7143 §11.19), where it asks for an answer.
+    fn return_ping(&mut self, frame: &Frame, out: &mut BytesMut) {
+        let header = &frame.header;
+        if header.initiator_task_tag() == RESERVED_TAG {
+            return;
+        }
+        let segment = self.params.values.max_recv_data_segment_length as usize;
+        let length = frame.body.len().min(segment).min(MOST_DATA);
+        let answer = Answer::NopIn(NopIn {
+            initiator_task_tag: header.initiator_task_tag(),
+            stamp: self.next_stamp(),
+            body: &frame.body[..length],
+        });
+        put(out, &answer);
+    }
+
+    /// The session, or its one connection by its CID, is closed by this Logout (RFC 7143 §11.14.1).
+    fn closes(&self, header: &Header) -> bool
+        ensures { (frame : pdu.Frame) → frame.header ≡ header.now → result ≡ closes self.now.params frame }
+    {
+        match header.logout_reason() {
+            0 => true,
+            1 => header.connection_id() == self.params.connection_id,
+            _ => false,
+        }
+    }
+
+    /// A Logout is answered (RFC 7143 §11.15).
+    fn log_out(&mut self, frame: &Frame, out: &mut BytesMut) -> Act {
+        let header = &frame.header;
+        let closes = self.closes(header);
+        let stamp = self.next_stamp();
+        let response = match header.logout_reason() {
+            _ if closes => LogoutResult::Closed,
+            1 => LogoutResult::CidNotFound,
+            2 => LogoutResult::NoRecovery,
+            _ => {
+                put(
+                    out,
+                    &rejected(RejectReason::InvalidField, stamp, frame.header),
+                );
+                return Act::Taken;
+            }
+        };
+        let initiator_task_tag = header.initiator_task_tag();
+        put(
+            out,
+            &Answer::LogoutResponse(LogoutResponse {
+                initiator_task_tag,
+                stamp,
+                response,
+            }),
+        );
+        if closes { Act::Ended } else { Act::Taken }
+    }
+}

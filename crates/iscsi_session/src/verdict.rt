@@ -1,0 +1,18 @@
+//! What a frame is judged to be.
+
+use iscsi_pdu::RejectReason;
+
+/// What becomes of a frame in full feature phase.
+#[derive(Clone, Copy, Debug, PartialEq, Eq)]
+pub enum Verdict {
+    /// Its number is outside the window, or has come before (RFC 7143 §4.2.2.1).
+    Ignored,
+    /// It is data for a command that is not there.
+    Dropped,
+    /// It is answered by a Reject (RFC 7143 §11.17), and uses no number.
+    Rejected(RejectReason),
+    /// The connection closes.
+    Violating,
+    /// It acts in its turn.
+    Accepted,
+}
