@@ -13,6 +13,7 @@ use Rattle.iscsi_order.specs.WindowState as window
 use Rattle.iscsi_order.specs.Stat.{stat_sn}
 use Rattle.iscsi_order.proofs.Held.{come_before}
 use Rattle.iscsi_session.specs.Requests.{Request, Past, numbered, immediate, commands, is_from, numbers, held, arrived, queue, unfinished, accepted}
+use Rattle.iscsi_session.specs.Judging.{is_fresh}
 use Rattle.iscsi_session.specs.State.{TaskLists, SessionState, frames_of, remembered, AreDistinct, HasNumber, IsDelivered, IsLawful, Stands}
 
 -- ---- the past, one request longer
@@ -32,6 +33,9 @@ accepted_now past frame h = rw h refl
 
 accepted_with : (past : Past) (frame : Frame) → is_immediate frame.header ≡ false → accepted frame past ≡ joined (with (order.index_of (numbers past) (cmd_sn frame.header)) frame) past
 accepted_with past frame h = rw h refl
+
+pub fresh_is : (past : Past) (frame : Frame) → is_immediate frame.header ≡ false → is_fresh past frame ≡ order.is_new (numbers past) (cmd_sn frame.header)
+fresh_is past frame h = rw h refl
 
 -- ---- one for immediate delivery
 
