@@ -1,8 +1,7 @@
 -- What is read from the past where one more request is accepted.
-use Rattle.std.proofs.Common.{◌≡◌, ◌≢◌, ℕ, ◌+◌, ◌-◌, ◌^◌, ◌%◌, ◌<◌, ◌≤◌, List, [], ◌∷◌, ◌++◌, length, map, drop, Bool, true, false, not, ◌&&◌, ◌||◌, cond, eqb, Option, Some, None, refl, sym, ap, ◌∙◌, subst, arith, add-one, suc}
-use Rattle.std.specs.Prelude.{filter, filter_map, All, is_some, nat_lt, ⊤}
+use Rattle.std.proofs.Common.{◌≡◌, ◌≢◌, ℕ, ◌+◌, ◌-◌, ◌^◌, ◌%◌, ◌<◌, ◌≤◌, List, [], ◌∷◌, ◌++◌, length, drop, Bool, true, false, not, ◌&&◌, ◌||◌, cond, eqb, Some, None, refl, sym, ap, ◌∙◌, subst, arith, add-one, suc}
+use Rattle.std.specs.Prelude.{is_some}
 use Rattle.std.proofs.lemmas.Bool.{le-ltb, eqb-false}
-use Rattle.std.proofs.lemmas.Bool.Decides.{eqb_tells}
 use Rattle.std.proofs.lemmas.List.{append-nil, length-append, map-append, drop-append-le}
 use Rattle.std.proofs.lemmas.List.Elements.{filter-append, filter_map-append, All-push}
 use Rattle.iscsi_pdu.specs.Header.{is_immediate, cmd_sn}
@@ -14,24 +13,24 @@ use Rattle.iscsi_order.specs.Stat.{stat_sn}
 use Rattle.iscsi_order.proofs.Held.{come_before}
 use Rattle.iscsi_session.specs.Requests.{Request, Past, numbered, immediate, commands, is_from, numbers, held, arrived, queue, unfinished, accepted}
 use Rattle.iscsi_session.specs.Judging.{is_fresh}
-use Rattle.iscsi_session.specs.State.{TaskLists, SessionState, frames_of, remembered, AreDistinct, HasNumber, IsDelivered, IsLawful, Stands}
+use Rattle.iscsi_session.specs.State.{SessionState, frames_of, remembered, AreDistinct, HasNumber, IsDelivered, IsLawful, Stands}
 
 -- ---- the past, one request longer
 
 -- for immediate delivery, and with a number
-abbrev now : Frame → Request
+abbrev pub now : Frame → Request
 now frame = record { number = None; frame = frame }
 
-abbrev with : ℕ → Frame → Request
+abbrev pub with : ℕ → Frame → Request
 with k frame = record { number = Some k; frame = frame }
 
-abbrev joined : Request → Past → Past
+abbrev pub joined : Request → Past → Past
 joined request past = record past { came = past.came ++ request ∷ [] }
 
-accepted_now : (past : Past) (frame : Frame) → is_immediate frame.header ≡ true → accepted frame past ≡ joined (now frame) past
+pub accepted_now : (past : Past) (frame : Frame) → is_immediate frame.header ≡ true → accepted frame past ≡ joined (now frame) past
 accepted_now past frame h = rw h refl
 
-accepted_with : (past : Past) (frame : Frame) → is_immediate frame.header ≡ false → accepted frame past ≡ joined (with (order.index_of (numbers past) (cmd_sn frame.header)) frame) past
+pub accepted_with : (past : Past) (frame : Frame) → is_immediate frame.header ≡ false → accepted frame past ≡ joined (with (order.index_of (numbers past) (cmd_sn frame.header)) frame) past
 accepted_with past frame h = rw h refl
 
 pub fresh_is : (past : Past) (frame : Frame) → is_immediate frame.header ≡ false → is_fresh past frame ≡ order.is_new (numbers past) (cmd_sn frame.header)
@@ -42,43 +41,60 @@ fresh_is past frame h = rw h refl
 numbered_now : (came : List Request) (frame : Frame) → numbered (came ++ now frame ∷ []) ≡ numbered came
 numbered_now came frame = filter_map-append (λ (r : Request). r.number) came (now frame ∷ []) ∙ append-nil (numbered came)
 
-numbers_now : (past : Past) (frame : Frame) → numbers (joined (now frame) past) ≡ numbers past
+pub numbers_now : (past : Past) (frame : Frame) → numbers (joined (now frame) past) ≡ numbers past
 numbers_now past frame = ap (λ (ks : List ℕ). record (numbers past) { came = ks }) (numbered_now past.came frame)
 
 immediate_now : (came : List Request) (frame : Frame) → immediate (came ++ now frame ∷ []) ≡ immediate came ++ now frame ∷ []
 immediate_now came frame = filter-append (λ (r : Request). not (is_some r.number)) came (now frame ∷ [])
 
-held_now : (past : Past) (frame : Frame) → held (joined (now frame) past) ≡ held past
+pub held_now : (past : Past) (frame : Frame) → held (joined (now frame) past) ≡ held past
 unfolding held
 held_now past frame = filter-append (λ (r : Request). is_from (length (numbered past.acted)) r.number) past.came (now frame ∷ []) ∙ append-nil (held past)
 
-arrived_now : (past : Past) (frame : Frame) → length (immediate past.acted) ≤ length (immediate past.came) → arrived (joined (now frame) past) ≡ arrived past ++ now frame ∷ []
+pub arrived_now : (past : Past) (frame : Frame) → length (immediate past.acted) ≤ length (immediate past.came) → arrived (joined (now frame) past) ≡ arrived past ++ now frame ∷ []
 unfolding arrived
 arrived_now past frame le =
     ap (drop (length (immediate past.acted))) (immediate_now past.came frame)
     ∙ drop-append-le (length (immediate past.acted)) (immediate past.came) (now frame ∷ []) le
+
+pub unfinished_now : (past : Past) (frame : Frame) → length (immediate past.acted) ≤ length (immediate past.came) → unfinished (joined (now frame) past) ≡ frames_of (held past ++ (arrived past ++ now frame ∷ []) ++ queue past)
+unfolding queue
+unfinished_now past frame le =
+    ap (λ (rs : List Request). frames_of (rs ++ arrived (joined (now frame) past) ++ queue past)) (held_now past frame)
+    ∙ ap (λ (rs : List Request). frames_of (held past ++ rs ++ queue past)) (arrived_now past frame le)
 
 -- ---- one with a number
 
 numbered_with : (came : List Request) (k : ℕ) (frame : Frame) → numbered (came ++ with k frame ∷ []) ≡ numbered came ++ k ∷ []
 numbered_with came k frame = filter_map-append (λ (r : Request). r.number) came (with k frame ∷ [])
 
-numbers_with : (past : Past) (k : ℕ) (frame : Frame) → numbers (joined (with k frame) past) ≡ record (numbers past) { came = numbered past.came ++ k ∷ [] }
+pub numbers_with : (past : Past) (k : ℕ) (frame : Frame) → numbers (joined (with k frame) past) ≡ record (numbers past) { came = numbered past.came ++ k ∷ [] }
 numbers_with past k frame = ap (λ (ks : List ℕ). record (numbers past) { came = ks }) (numbered_with past.came k frame)
 
 immediate_with : (came : List Request) (k : ℕ) (frame : Frame) → immediate (came ++ with k frame ∷ []) ≡ immediate came
 immediate_with came k frame = filter-append (λ (r : Request). not (is_some r.number)) came (with k frame ∷ []) ∙ append-nil (immediate came)
 
-held_with : (past : Past) (k : ℕ) (frame : Frame) → length (numbered past.acted) ≤ k → held (joined (with k frame) past) ≡ held past ++ with k frame ∷ []
+pub held_with : (past : Past) (k : ℕ) (frame : Frame) → length (numbered past.acted) ≤ k → held (joined (with k frame) past) ≡ held past ++ with k frame ∷ []
 unfolding held
 held_with past k frame le =
     let handed = length (numbered past.acted) in
     filter-append (λ (r : Request). is_from handed r.number) past.came (with k frame ∷ [])
     ∙ ap (λ (b : Bool). held past ++ cond (not b) (with k frame ∷ []) []) (le-ltb k handed le)
 
-arrived_with : (past : Past) (k : ℕ) (frame : Frame) → arrived (joined (with k frame) past) ≡ arrived past
+pub arrived_with : (past : Past) (k : ℕ) (frame : Frame) → arrived (joined (with k frame) past) ≡ arrived past
 unfolding arrived
 arrived_with past k frame = ap (drop (length (immediate past.acted))) (immediate_with past.came k frame)
+
+pub unfinished_with : (past : Past) (k : ℕ) (frame : Frame) → length (numbered past.acted) ≤ k → unfinished (joined (with k frame) past) ≡ frames_of ((held past ++ with k frame ∷ []) ++ arrived past ++ queue past)
+unfolding queue
+unfinished_with past k frame le =
+    ap (λ (rs : List Request). frames_of (rs ++ arrived (joined (with k frame) past) ++ queue past)) (held_with past k frame le)
+    ∙ ap (λ (rs : List Request). frames_of ((held past ++ with k frame ∷ []) ++ rs ++ queue past)) (arrived_with past k frame)
+
+-- the commands that are to be done are the same
+pub queue_same : (past : Past) (frame : Frame) → queue (accepted frame past) ≡ queue past
+unfolding queue
+queue_same past frame = refl
 
 -- ---- it stays lawful
 
@@ -96,7 +112,7 @@ distinct_more (a ∷ ks) k d h =
 index_is : (past : order.Past) (n : ℕ) → n < 2 ^ 32 → n ≡ (past.first + order.index_of past n) % 2 ^ 32
 index_is past n fits = omega arith
 
-lawful_now : (past : Past) (frame : Frame) → is_immediate frame.header ≡ true → IsLawful past → IsLawful (joined (now frame) past)
+pub lawful_now : (past : Past) (frame : Frame) → is_immediate frame.header ≡ true → IsLawful past → IsLawful (joined (now frame) past)
 unfolding queue
 lawful_now past frame h lawful =
     record {
@@ -111,7 +127,7 @@ lawful_now past frame h lawful =
     }
 
 -- its number is counted from the session's first, and has not come
-lawful_with : (past : Past) (k : ℕ) (frame : Frame) → is_immediate frame.header ≡ false → cmd_sn frame.header ≡ (past.params.first_cmd_sn + k) % 2 ^ 32
+pub lawful_with : (past : Past) (k : ℕ) (frame : Frame) → is_immediate frame.header ≡ false → cmd_sn frame.header ≡ (past.params.first_cmd_sn + k) % 2 ^ 32
     → order.has_come (numbered past.came) k ≡ false → window.IsLawful (record (numbers past) { came = numbered past.came ++ k ∷ [] }) → IsLawful past → IsLawful (joined (with k frame) past)
 unfolding queue
 lawful_with past k frame h named missing numbers_lawful lawful =
