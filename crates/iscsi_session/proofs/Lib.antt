@@ -1,2 +1,4 @@
 mod Room
 mod Lines
+pub mod Accepted
+pub mod Verdicts
