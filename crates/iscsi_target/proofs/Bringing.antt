@@ -2,12 +2,12 @@
 -- allocation fails.
 use Rattle.std.proofs.Common.{◌≡◌, ◌≢◌, ℕ, ◌+◌, ◌<◌, List, [], ◌∷◌, ◌++◌, length, map, Bool, true, false, ◌&&◌, eqb, Option, Some, None, refl, sym, ap, ◌∙◌, subst, arith, append_assoc}
 use Rattle.std.specs.List.{fold, enumerate_from}
-use Rattle.std.proofs.lemmas.Bool.{ne_eqb}
+use Rattle.std.proofs.lemmas.Bool.{eqb-true, ne_eqb}
 use Rattle.std.proofs.lemmas.List.{length-append, length-map, map-append, length-set, get_or-set_same}
 use Rattle.iscsi_pdu.specs.Frames.{Frame, frames, rest}
-use Rattle.iscsi_target.specs.History.{Mark, Judging, Taking, Ending, Arrival, Whole, TooLong}
+use Rattle.iscsi_target.specs.History.{Mark, Step, Judging, Taking, Doing, Ending, is_of, Arrival, Whole, TooLong}
 use Rattle.iscsi_target.specs.Life.{Life, Phase, LoggingIn, FullFeature, Closing, Over, reads, taken}
-use Rattle.iscsi_target.specs.World.{Setting, World, present, reads_life, close, is_marked, take_step, judge, ready_in, settle, serve, enter, arrive, arrive_at, arrive_in}
+use Rattle.iscsi_target.specs.World.{Setting, World, present, reads_life, close, is_step, is_marked, take_step, judge, ready_in, settle, serve, enter, arrive, arrive_at, arrive_in}
 use Rattle.iscsi_target.specs.Machine.{LinkState, Machine, link_at, with_link, IsSound, IsAlike, is_open_at, is_reading, free_link, GivesFrame, frame_taken}
 use Rattle.iscsi_target.specs.Stands.{NamesFirst}
 use Rattle.iscsi_target.proofs.Choices.{cond_true, cond_false}
@@ -23,7 +23,7 @@ use Rattle.iscsi_target.proofs.Opening.{open_alike, half_opens, frame_opens}
 
 pub unmarked_plain : (c place : ℕ) → Unmarked [] c place
 unfolding is_marked
-unmarked_plain c place = record { judging = refl; taking = refl; doing = refl }
+unmarked_plain c place = λ step e. refl
 
 -- an allocation failed before the next frame was judged, or at the end where there is none
 pub starved : ℕ → ℕ → List Mark
@@ -31,21 +31,30 @@ starved c place = record { connection = c; step = Judging place } ∷ record { c
 
 pub names_first : (c place : ℕ) → NamesFirst c place (starved c place)
 unfolding starved
-names_first c place = (refl, refl)
+names_first c place = (refl, eqb_self place)
 
 and_no : (b : Bool) → (b && false) ≡ false
 and_no true = refl
 and_no false = refl
 
+other_frame : (place q a b : ℕ) → place ≢ q → eqb a q ≡ true → eqb b place ≡ true → eqb a b ≡ false
+other_frame place q a b differ e f = ne_eqb a b (λ same. differ (sym (eqb-true b place f) ∙ sym same ∙ eqb-true a q e))
+
+-- steps of two frames are two steps
+other_step : (place q : ℕ) (a b : Step) → place ≢ q → is_of q a ≡ true → is_of place b ≡ true → is_step a b ≡ false
+other_step place q (Judging a) (Judging b) differ e f = other_frame place q a b differ e f
+other_step place q (Taking a i) (Taking b j) differ e f = ap (λ (same : Bool). same && eqb i j) (other_frame place q a b differ e f)
+other_step place q (Doing a i) (Doing b j) differ e f = ap (λ (same : Bool). same && eqb i j) (other_frame place q a b differ e f)
+other_step place q Ending b differ e f = absurd cc
+other_step place q a b differ e f = refl
+
+not_ending : (place : ℕ) (step : Step) → is_of place step ≡ true → is_step Ending step ≡ false
+not_ending place Ending e = absurd cc
+not_ending place step e = refl
+
 pub unmarked_before : (c place q : ℕ) → place ≢ q → Unmarked (starved c q) c place
 unfolding is_marked starved
-unmarked_before c place q differ =
-    let ne : eqb q place ≡ false = ne_eqb q place (λ e. differ (sym e)) in
-    record {
-      judging = rw (ne, and_no (eqb c c)) refl;
-      taking = rw (and_no (eqb c c)) refl;
-      doing = rw (and_no (eqb c c)) refl;
-    }
+unmarked_before c place q differ = λ step e. rw (other_step place q (Judging q) step differ (eqb_self q) e, not_ending place step e, and_no (eqb c c)) refl
 
 marked_there : (c q : ℕ) → is_marked (starved c q) c (Judging q) ≡ true
 unfolding is_marked starved
@@ -88,9 +97,9 @@ starved_serve c place frame w life e r =
     let marks = starved c place in
     let shut_ = closed_reads c w life e in
     let judged_ = step_marked marks c (Judging place) (judge c place frame) w r (marked_there c place) in
-    ap (λ (v : World). settle marks c (take_step marks c (Taking place) (λ u. u) v)) judged_
-    ∙ ap (settle marks c) (step_idle marks c (Taking place) (λ u. u) (close c w) shut_)
-    ∙ idle_settle marks c (ready_in (present c (close c w))) (close c w) shut_
+    ap (λ (v : World). settle marks c place (take_step marks c (Taking place 0) (λ u. u) v)) judged_
+    ∙ ap (settle marks c place) (step_idle marks c (Taking place 0) (λ u. u) (close c w) shut_)
+    ∙ idle_settle marks c place 0 (ready_in (present c (close c w))) (close c w) shut_
 
 starved_in : (s : Setting) (c place : ℕ) (w : World) (life : Life) (arrival : Arrival) (ph : Phase) → present c w ≡ Some life → reads_life (present c w) ≡ true → reads ph ≡ true → arrive_in s (starved c place) c w place arrival ph ≡ close c w
 starved_in s c place w life (Whole frame) LoggingIn e r q = step_marked (starved c place) c (Judging place) (enter s c frame) w r (marked_there c place)

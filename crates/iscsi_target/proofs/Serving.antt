@@ -5,7 +5,7 @@ use Rattle.std.specs.List.{range_with_len}
 use Rattle.std.proofs.lemmas.Bool.Decides.{eqb_tells}
 use Rattle.std.proofs.lemmas.List.{length-map, length-set, get_or-map, get_or-set_same, get_or-set_other, drop-append-le, ext_get_or}
 use Rattle.std.proofs.lemmas.List.FromFn.{get_or-map-range_with_len, length-map-range_with_len}
-use Rattle.iscsi_target.specs.History.{Mark, Step, Judging, Taking, Doing, connection_limit}
+use Rattle.iscsi_target.specs.History.{Mark, Step, is_of, connection_limit}
 use Rattle.scsi_unit.specs.Units.{UnitStates}
 use Rattle.iscsi_target.specs.Life.{Life, Phase, LoggingIn, FullFeature, Closing, Over, session_in, out_of}
 use Rattle.iscsi_target.specs.World.{Setting, World, is_present, present, changed, reads_life, session_of, live, left, close, shut, is_marked, take_step}
@@ -190,7 +190,5 @@ unfolding take_step
 step_marked marks c step act w r u = rw (r, u) refl
 
 -- no mark names a step of the frame of this place
-pub record Unmarked (marks : List Mark) (c place : ℕ) : Type 0 where
-  pub judging : is_marked marks c (Judging place) ≡ false
-  pub taking : is_marked marks c (Taking place) ≡ false
-  pub doing : is_marked marks c (Doing place) ≡ false
+abbrev pub Unmarked : List Mark → ℕ → ℕ → Type 0
+Unmarked marks c place = (step : Step) → is_of place step ≡ true → is_marked marks c step ≡ false
