@@ -11,6 +11,7 @@ use Rattle.iscsi_pdu.specs.declared.answer.Answer.TheVariants as answers
 use Rattle.iscsi_target.specs.World.{lookup_for}
 use Rattle.iscsi_target.specs.Acts.{is_login, verdict}
 use Rattle.iscsi_target.specs.Machine.{LinkState, Machine, link_at, shut_link, closed, free_link, is_reading, session_in_phase, sessions, gone_on_link, refused_link, begun_link, shut_older, replied, logged_in, served_in, judged, frame_in, frame_taken}
+use Rattle.iscsi_target.specs.Serving.{KeepsHalf}
 use Rattle.iscsi_login.specs.declared.params.Params.{Params}
 use Rattle.iscsi_target.specs.declared.session.Verdict.{Verdict}
 use Rattle.iscsi_target.specs.declared.session.Verdict.TheVariants.{Accepted, Violating}
@@ -18,11 +19,6 @@ use Rattle.iscsi_login.specs.declared.reply.Reply.{Reply}
 use Rattle.iscsi_login.specs.declared.reply.Reply.TheVariants.{GoOn, Full, Refused}
 use Rattle.iscsi_target.specs.declared.phase.Phase.{Phase}
 use Rattle.iscsi_target.specs.declared.phase.Phase.TheVariants.{Free, Login, FullFeature, Closing}
-
--- a connection that still reads has kept its bytes, and one that does not has none
-pub record KeepsHalf (half : List ℕ) (link : LinkState) : Type 0 where
-  pub reading : is_reading link.phase ≡ true → link.half ≡ half
-  pub idle : is_reading link.phase ≡ false → link.half ≡ []
 
 shut_half : (half : List ℕ) (link : LinkState) → KeepsHalf half (shut_link link)
 shut_half half link = record { reading = λ e. absurd cc; idle = λ e. refl }

@@ -15,8 +15,11 @@ pub mod Standing
 pub mod Asking
 pub mod Halves
 pub mod Opening
+pub mod Marks
 pub mod Bringing
 pub mod Feeding
+pub mod Starving
+pub mod OneFrame
 pub mod Tables
 pub mod Keeping
 pub mod Running

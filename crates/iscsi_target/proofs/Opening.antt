@@ -123,19 +123,19 @@ judged_opens Accepted machine c frame lt free d =
     let p = served_in (link_at machine c) machine.units frame (link_at machine c).phase in
     open_set machine p.1 c p.0 lt (served_open (link_at machine c) machine.units frame (link_at machine c).phase refl) d
 
-frame_in_opens : (phase : Phase) (machine : Machine) (c : ℕ) (frame : Frame) → c < length machine.links → is_free (link_at machine c).phase ≡ false → (d : ℕ) → is_open_at (frame_in machine c frame phase) d ≡ is_open_at machine d
-frame_in_opens phases.Free machine c frame lt free d = refl
-frame_in_opens (phases.Login login) machine c frame lt free d = login_opens (is_login frame)
+frame_in_opens : (phase : Phase) (machine : Machine) (c : ℕ) (frame : Frame) → c < length machine.links → (link_at machine c).phase ≡ phase → (d : ℕ) → is_open_at (frame_in machine c frame phase) d ≡ is_open_at machine d
+frame_in_opens phases.Free machine c frame lt e d = refl
+frame_in_opens (phases.Login login) machine c frame lt e d = login_opens (is_login frame)
   where
     login_opens : (b : Bool) → is_open_at (cond b (logged_in machine c login frame) (closed machine c)) d ≡ is_open_at machine d
-    login_opens true = logged_in_opens machine c login frame lt free d
-    login_opens false = closed_opens machine c lt free d
-frame_in_opens (phases.FullFeature session numbers) machine c frame lt free d = judged_opens (verdict numbers.exp_cmd_sn frame) machine c frame lt free d
-frame_in_opens phases.Closing machine c frame lt free d = refl
+    login_opens true = logged_in_opens machine c login frame lt (ap is_free e) d
+    login_opens false = closed_opens machine c lt (ap is_free e) d
+frame_in_opens (phases.FullFeature session numbers) machine c frame lt e d = judged_opens (verdict numbers.exp_cmd_sn frame) machine c frame lt (ap is_free e) d
+frame_in_opens phases.Closing machine c frame lt e d = refl
 
-pub frame_opens : (machine : Machine) (c : ℕ) (frame : Frame) → c < length machine.links → is_reading (link_at machine c).phase ≡ true → (d : ℕ) → is_open_at (frame_taken machine c frame) d ≡ is_open_at machine d
+pub frame_opens : (machine : Machine) (c : ℕ) (frame : Frame) → c < length machine.links → (d : ℕ) → is_open_at (frame_taken machine c frame) d ≡ is_open_at machine d
 unfolding frame_taken
-frame_opens machine c frame lt reads d = frame_in_opens (link_at machine c).phase machine c frame lt (reading_is_open (link_at machine c).phase reads) d
+frame_opens machine c frame lt d = frame_in_opens (link_at machine c).phase machine c frame lt refl d
 
 pub closed_count : (machine : Machine) (c : ℕ) → length (closed machine c).links ≡ length machine.links
 unfolding closed
