@@ -1,17 +1,17 @@
 -- A whole event of bytes keeps the code where the World is: each way in which it ends.
 use Rattle.std.proofs.Common.{◌≡◌, ◌≢◌, ℕ, ◌+◌, ◌<◌, List, [], ◌∷◌, ◌++◌, length, drop, map, set, get_or, Bool, true, false, Option, Some, None, refl, sym, ap, ◌∙◌, subst, arith, append_assoc, inl, inr}
 use Rattle.std.specs.List.{fold, enumerate_from}
-use Rattle.std.proofs.lemmas.List.{append-nil, length-append, length-map, map-append, length-set, set-set, set-get_or, get_or-set_same, get_or-set_other, drop_all}
+use Rattle.std.proofs.lemmas.List.{append-nil, length-append, length-map, map-append, length-set, set-get_or, get_or-set_same, get_or-set_other, drop_all}
 use Rattle.std.proofs.lemmas.Bool.Decides.{eqb_tells}
 use Rattle.std.proofs.lemmas.List.FromFn.{length-enumerate_from}
 use Rattle.iscsi_pdu.specs.Frames.{Frame, frames, rest, is_long, has_frame}
-use Rattle.iscsi_pdu.proofs.Frames.{frames_none, rest_none, frames_step}
+use Rattle.iscsi_pdu.proofs.Frames.{frames_none, rest_none}
 use Rattle.iscsi_pdu.proofs.Cuts.{rest_in_pieces, long_is_no_frame}
-use Rattle.iscsi_target.specs.History.{Bytes, Mark, Step, Ending, History, marked, plain, Arrival, Whole, TooLong, arrivals, new_arrivals, connection_limit}
+use Rattle.iscsi_target.specs.History.{Bytes, Mark, Step, Ending, History, plain, Arrival, Whole, TooLong, arrivals, new_arrivals, connection_limit}
 use Rattle.iscsi_target.specs.Life.{Life, Phase, LoggingIn, FullFeature, Closing, Over, reads, stamp, taken, out_of}
-use Rattle.iscsi_target.specs.World.{Setting, World, left, present, changed, reads_life, close, is_marked, take_step, arrive, arrive_at, brought, longer, bring, world}
-use Rattle.iscsi_target.specs.Machine.{LinkState, Machine, link_at, with_link, shut_link, session_in_phase, closed, IsSound, is_reading, is_closing, is_open_at, free_link, GivesFrame}
-use Rattle.iscsi_target.specs.Stands.{phase_of, phase_for, half_of, IsQuiet, IsSettled, IsLinkOf, StandsAt, Stands, IsStarved, frames_with}
+use Rattle.iscsi_target.specs.World.{Setting, World, present, changed, reads_life, close, is_marked, take_step, arrive, arrive_at, brought, longer, bring, world}
+use Rattle.iscsi_target.specs.Machine.{LinkState, Machine, link_at, with_link, closed, IsSound, is_reading, is_closing, is_open_at, free_link, GivesFrame}
+use Rattle.iscsi_target.specs.Stands.{phase_of, phase_for, half_of, IsQuiet, IsSettled, IsLinkOf, StandsAt, Stands}
 use Rattle.iscsi_target.proofs.Choices.{cond_true, cond_false}
 use Rattle.iscsi_target.proofs.Arrivals.{long_end, fold-places, joined_arrivals, new_is}
 use Rattle.iscsi_target.proofs.Lives.{present-changed, present-changed_other, present_is}

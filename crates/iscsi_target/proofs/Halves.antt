@@ -1,5 +1,5 @@
 -- What a frame leaves of a connection's bytes.
-use Rattle.std.proofs.Common.{◌≡◌, ◌≢◌, ℕ, ◌<◌, List, [], length, set, get_or, Bool, true, false, cond, Option, Some, None, refl, sym, ap, ◌∙◌}
+use Rattle.std.proofs.Common.{◌≡◌, ◌≢◌, ℕ, ◌<◌, List, length, set, get_or, Bool, true, false, cond, Option, Some, None, refl, sym, ap, ◌∙◌}
 use Rattle.std.proofs.lemmas.List.{get_or-map, get_or-set_same, get_or-set_other}
 use Rattle.std.proofs.lemmas.List.Quantifiers.{position-Some}
 use Rattle.iscsi_pdu.specs.Frames.{Frame}

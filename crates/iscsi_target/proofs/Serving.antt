@@ -1,6 +1,5 @@
 -- While the frames of one connection are taken, the code stands where the World does.
-use Rattle.std.proofs.Common.{◌≡◌, ◌≢◌, ℕ, ◌<◌, ◌≤◌, List, [], ◌++◌, length, map, drop, set, get_or, true, false, eqb, Option, Some, None, refl, sym, ap, ◌∙◌, arith, inl, inr}
-use Rattle.std.specs.Prelude.{⊤}
+use Rattle.std.proofs.Common.{◌≡◌, ◌≢◌, ℕ, ◌<◌, ◌≤◌, List, ◌++◌, length, map, drop, set, get_or, true, false, eqb, Option, Some, None, refl, sym, ap, ◌∙◌, arith, inl, inr}
 use Rattle.std.specs.List.{range_with_len}
 use Rattle.std.proofs.lemmas.Bool.Decides.{eqb_tells}
 use Rattle.std.proofs.lemmas.List.{length-map, length-set, get_or-map, get_or-set_same, get_or-set_other, drop-append-le, ext_get_or}
@@ -9,7 +8,6 @@ use Rattle.iscsi_target.specs.History.{Mark, Step, connection_limit}
 use Rattle.scsi_unit.specs.Units.{UnitStates}
 use Rattle.iscsi_target.specs.Life.{Life, Phase, LoggingIn, FullFeature, Closing, Over, session_in, out_of}
 use Rattle.iscsi_target.specs.World.{Setting, World, is_present, present, changed, reads_life, session_of, live, left, close, shut, is_marked, take_step}
-use Rattle.iscsi_target.specs.Output.{out_now}
 use Rattle.iscsi_target.specs.Machine.{LinkState, Machine, link_at, shut_link, closed, session_in_phase, sessions, free_link}
 use Rattle.iscsi_target.specs.Stands.{phase_of, phase_for, IsLinkOf}
 use Rattle.iscsi_target.specs.Serving.{IsServing, Serves}

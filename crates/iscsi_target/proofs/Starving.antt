@@ -4,8 +4,8 @@ use Rattle.std.specs.List.{fold, enumerate_from}
 use Rattle.std.proofs.lemmas.List.{length-append}
 use Rattle.iscsi_pdu.specs.Frames.{Frame, frames, rest, is_long, has_frame}
 use Rattle.iscsi_pdu.proofs.Frames.{frames_step}
-use Rattle.iscsi_target.specs.History.{Bytes, Mark, Step, Judging, Ending, History, marked, Arrival, Whole, arrivals, connection_limit}
-use Rattle.iscsi_target.specs.Life.{Life, reads}
+use Rattle.iscsi_target.specs.History.{Bytes, Mark, Judging, Ending, History, marked, Arrival, Whole, arrivals, connection_limit}
+use Rattle.iscsi_target.specs.Life.{Life}
 use Rattle.iscsi_target.specs.World.{Setting, World, present, changed, reads_life, close, take_step, arrive, brought, longer, bring, world}
 use Rattle.iscsi_target.specs.Machine.{LinkState, Machine, link_at, with_link, closed, IsSound, is_reading, GivesFrame}
 use Rattle.iscsi_target.specs.Stands.{Stands, IsStarved, frames_with}

@@ -1,6 +1,6 @@
 -- While the frames of one connection are taken, the code stands where the World does: what taking one
 -- frame does to it, and what is left where an allocation fails.
-use Rattle.std.specs.Prelude.{◌≡◌, ◌≢◌, ℕ, ◌+◌, ◌<◌, ◌≤◌, List, [], ◌∷◌, length, drop, Bool, true, false, Option, Some, None, ⊤}
+use Rattle.std.specs.Prelude.{◌≡◌, ◌≢◌, ℕ, ◌+◌, ◌<◌, ◌≤◌, List, [], ◌∷◌, length, drop, true, false, Option, Some, None, ⊤}
 use Rattle.iscsi_pdu.specs.Frames.{Frame}
 use Rattle.iscsi_target.specs.History.{Mark, Step, Ending, is_of, Whole, connection_limit}
 use Rattle.iscsi_target.specs.Life.{Life}

@@ -1,7 +1,7 @@
-use Rattle.std.proofs.Common.{rules, ◌≡◌, ◌<◌, length, true, false, sym, ap, ◌∙◌, arith}
+use Rattle.std.proofs.Common.{rules, ◌≡◌, true, false, sym, ap, ◌∙◌}
 use Rattle.std.proofs.lemmas.Result.{on_ok_weaker, on_err_weaker}
 use Rattle.iscsi_target.specs.Acts.{is_login}
-use Rattle.iscsi_target.specs.Machine.{LinkState, Machine, link_at, closed, free_link, is_free, is_reading, is_logging_in, judged, frame_taken}
+use Rattle.iscsi_target.specs.Machine.{LinkState, Machine, link_at, closed, is_free, is_reading, is_logging_in, judged, frame_taken}
 use Rattle.iscsi_target.specs.declared.session.Verdict.TheVariants.{Accepted, Violating}
 use Rattle.iscsi_target.specs.declared.phase.Phase.TheVariants.{FullFeature}
 use Rattle.iscsi_target.proofs.Asking.{login_there}
