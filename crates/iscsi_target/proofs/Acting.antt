@@ -14,7 +14,7 @@ use Rattle.iscsi_target.specs.History.{Mark, Judging, Taking, Doing, Whole}
 use Rattle.iscsi_target.specs.Life.{Life, Phase, LoggingIn, FullFeature, Closing, Over, Accepted, reads, session_in, stamp, index_of, out_of}
 use Rattle.iscsi_target.specs.Acts.{is_login, reserved_tag, verdict, carried_out, command_answers}
 use Rattle.iscsi_target.specs.World.{Setting, World, log_in, is_present, present, changed, reads_life, session_of, close, take_step, accepted, judged, verdict_for, judge, finished, done_for, finish, ready_in, settle, serve, enter, arrive, arrive_at, arrive_in}
-use Rattle.iscsi_target.specs.Machine.{LinkState, Machine, link_at, with_link, closed, logged_in, counted, finished_one, served_in, judged as machine_judged, frame_in, frame_taken}
+use Rattle.iscsi_target.specs.Machine.{LinkState, Machine, link_at, with_link, closed, logged_in, counted, finished_one, served_in, judged as machine_judged}
 use Rattle.iscsi_target.specs.Stands.{phase_of, phase_for, IsQuiet, IsFinished, IsLogin}
 use Rattle.iscsi_target.specs.Serving.{IsQuietAt, IsServing, Serves, Unmarked}
 use Rattle.iscsi_login.specs.declared.params.Params.{Params}
@@ -27,6 +27,7 @@ use Rattle.iscsi_target.proofs.Counting.{eqb_self}
 use Rattle.iscsi_target.proofs.Numbers.{stamp-answered, out-answered_all, one_bears, index_next, ready_one, complete_unwritten, finished_numbers, finished_is}
 use Rattle.iscsi_target.proofs.Serving.{replaced, closes, present-close, says, step_done, step_idle}
 use Rattle.iscsi_target.proofs.LoggingIn.{logs_in}
+use Rattle.iscsi_target.proofs.FrameTaken.{frame_in, frame_taken}
 
 quiet_as : (place : ℕ) (life : Life) (a b : Phase) → a ≡ b → IsQuiet place life a → IsQuiet place life b
 quiet_as place life a b e h = let P : Phase → Type 0 = λ ph. IsQuiet place life ph in subst P e h

@@ -18,9 +18,8 @@ use Rattle.iscsi_target.proofs.Lives.{present-changed, present-changed_other, pr
 use Rattle.iscsi_target.specs.Serving.{IsServing, Serves, Unmarked, KeepsHalf, Takes}
 use Rattle.iscsi_target.proofs.Serving.{closes, present-close, step_done, step_idle}
 use Rattle.iscsi_target.proofs.Standing.{stands_as, stands_from, is_open_there}
-use Rattle.iscsi_target.proofs.Halves.{closed_link_at}
 use Rattle.iscsi_target.proofs.Sound.{sound_as}
-use Rattle.iscsi_target.proofs.Opening.{half_opens}
+use Rattle.iscsi_target.proofs.Opening.{half_opens, closed_link_at}
 use Rattle.iscsi_target.proofs.Marks.{unmarked_plain, idle, idle_all}
 use Rattle.iscsi_target.proofs.Bringing.{Progress, with_half}
 

@@ -6,17 +6,19 @@ use Rattle.iscsi_login.specs.LoginState.{LoginState}
 use Rattle.iscsi_target.specs.History.{Judging, Whole}
 use Rattle.iscsi_target.specs.World.{present}
 use Rattle.iscsi_target.specs.Acts.{is_login}
-use Rattle.iscsi_target.specs.Machine.{LinkState, Machine, IsSound, IsAlike, link_at, free_link, is_free, is_reading, is_open_at, closed, logged_in, frame_taken}
+use Rattle.iscsi_target.specs.Machine.{LinkState, Machine, IsSound, IsAlike, link_at, free_link, is_free, is_reading, is_open_at, closed, logged_in}
 use Rattle.iscsi_target.specs.Serving.{KeepsHalf, Takes, Fails}
 use Rattle.iscsi_target.specs.declared.phase.Phase.{Phase}
 use Rattle.iscsi_target.specs.declared.phase.Phase.TheVariants as phases
 use Rattle.iscsi_target.proofs.Asking.{get_or_any}
 use Rattle.iscsi_target.proofs.Counting.{eqb_self}
 use Rattle.iscsi_target.proofs.Serving.{closes}
+use Rattle.iscsi_target.proofs.FrameTaken.{frame_taken, frame_logged_in, idle_taken}
+use Rattle.iscsi_target.proofs.FrameOpens.{open_alike, frame_opens}
 use Rattle.iscsi_target.proofs.Halves.{frame_half}
 use Rattle.iscsi_target.proofs.Acting.{takes}
 use Rattle.iscsi_target.proofs.Sound.{closed_sound, logged_in_sound, sound_as}
-use Rattle.iscsi_target.proofs.Opening.{open_alike, frame_opens, closed_opens}
+use Rattle.iscsi_target.proofs.Opening.{closed_opens}
 use Rattle.iscsi_target.proofs.Marks.{starved_arrive}
 use Rattle.iscsi_target.proofs.Feeding.{some_reads}
 
@@ -66,13 +68,6 @@ pub idle_either : (phase : Phase) → (phase ≡ phases.Free) ⊎ (phase ≡ pha
 idle_either phase (inl e) = ap is_reading e
 idle_either phase (inr e) = ap is_reading e
 
-idle_taken : (machine : Machine) (c : ℕ) (frame : Frame) (phase : Phase) → (link_at machine c).phase ≡ phase → is_reading phase ≡ false → frame_taken machine c frame ≡ machine
-unfolding frame_taken
-idle_taken machine c frame phases.Free e r = rw e refl
-idle_taken machine c frame (phases.Login login) e r = absurd cc
-idle_taken machine c frame (phases.FullFeature session numbers) e r = absurd cc
-idle_taken machine c frame phases.Closing e r = rw e refl
-
 -- a connection that does not read takes none
 pub takes_none : (machine : Machine) (c : ℕ) (frame : Frame) → c < length machine.links → is_reading (link_at machine c).phase ≡ false → Takes c frame machine machine
 takes_none machine c frame lt idle = takes_as machine machine c frame lt (λ sound. sound) (sym (idle_taken machine c frame (link_at machine c).phase refl idle))
@@ -80,14 +75,6 @@ takes_none machine c frame lt idle = takes_as machine machine c frame lt (λ sou
 -- a frame that the connection may not send closes it
 pub takes_closed : (given after : Machine) (c : ℕ) (frame : Frame) → c < length given.links → after ≡ closed given c → frame_taken given c frame ≡ closed given c → Takes c frame given after
 takes_closed given after c frame lt is same = takes_as given after c frame lt (λ sound. closed_sound given c (sound_as after _ is sound)) (is ∙ sym same)
-
-pub frame_refused : (machine : Machine) (c : ℕ) (frame : Frame) (login : LoginState) → (link_at machine c).phase ≡ phases.Login login → is_login frame ≡ false → frame_taken machine c frame ≡ closed machine c
-unfolding frame_taken
-frame_refused machine c frame login e other = rw (e, other) refl
-
-frame_logged_in : (machine : Machine) (c : ℕ) (frame : Frame) (login : LoginState) → (link_at machine c).phase ≡ phases.Login login → is_login frame ≡ true → frame_taken machine c frame ≡ logged_in machine c login frame
-unfolding frame_taken
-frame_logged_in machine c frame login e logs = rw (e, logs) refl
 
 -- a Login request
 pub takes_login : (given after : Machine) (c : ℕ) (frame : Frame) (login : LoginState) → c < length given.links → (link_at given c).phase ≡ phases.Login login → is_login frame ≡ true → after ≡ logged_in given c login frame → Takes c frame given after

@@ -15,9 +15,8 @@ use Rattle.iscsi_target.proofs.Counting.{eqb_self}
 use Rattle.iscsi_target.proofs.Lives.{present-changed, present_is}
 use Rattle.iscsi_target.proofs.Serving.{step_idle}
 use Rattle.iscsi_target.proofs.Standing.{stands_as}
-use Rattle.iscsi_target.proofs.Halves.{closed_link_at}
 use Rattle.iscsi_target.proofs.Sound.{sound_as}
-use Rattle.iscsi_target.proofs.Opening.{closed_count}
+use Rattle.iscsi_target.proofs.Opening.{closed_count, closed_link_at}
 use Rattle.iscsi_target.proofs.Marks.{names_first, unmarked_before, idle_all, starved_rest}
 use Rattle.iscsi_target.proofs.Bringing.{Progress, rehalved, subst_machine}
 use Rattle.iscsi_target.proofs.Feeding.{some_reads, reads_there, idle_stands, closed_stands, Fed, fed, longer_serves, kept_first, first_half, is_short, left_over, so_far, brings, serves_so_far, same_link}

@@ -1,12 +1,12 @@
 use Rattle.std.proofs.Common.{rules, ◌≡◌, true, false, sym, ap, ◌∙◌}
 use Rattle.std.proofs.lemmas.Result.{on_ok_weaker, on_err_weaker}
 use Rattle.iscsi_target.specs.Acts.{is_login}
-use Rattle.iscsi_target.specs.Machine.{LinkState, Machine, link_at, closed, is_free, is_reading, is_logging_in, judged, frame_taken}
+use Rattle.iscsi_target.specs.Machine.{LinkState, Machine, link_at, closed, is_free, is_reading, is_logging_in, judged}
 use Rattle.iscsi_target.specs.declared.session.Verdict.TheVariants.{Accepted, Violating}
 use Rattle.iscsi_target.specs.declared.phase.Phase.TheVariants.{FullFeature}
 use Rattle.iscsi_target.proofs.Asking.{login_there}
-use Rattle.iscsi_target.proofs.Served.{frame_judged}
-use Rattle.iscsi_target.proofs.OneFrame.{on_ok_both, link_read, takes_so, idle_either, takes_none, takes_login, takes_closed, frame_refused, fails_early}
+use Rattle.iscsi_target.proofs.FrameTaken.{frame_taken, frame_judged, frame_refused}
+use Rattle.iscsi_target.proofs.OneFrame.{on_ok_both, link_read, takes_so, idle_either, takes_none, takes_login, takes_closed, fails_early}
 use Rattle.iscsi_target.proofs.target.Target.take_frame.Goals as goal
 
 -- ---- a connection that does not read
