@@ -1,6 +1,7 @@
 -- A frame does to the World what it does to the code.
 use Rattle.std.proofs.Common.{◌≡◌, ℕ, ◌+◌, List, [], ◌∷◌, ◌++◌, length, Bool, true, false, cond, not, ◌&&◌, eqb, Option, Some, None, refl, sym, ap, ◌∙◌, subst, arith}
 use Rattle.std.specs.Prelude.{fold, flat_map, slice_index_or, slice_set}
+use Rattle.std.specs.List.{enumerate_from}
 use Rattle.std.proofs.lemmas.Bool.{eqb-true}
 use Rattle.std.proofs.lemmas.List.{length-append}
 use Rattle.iscsi_pdu.specs.Header.{opcode_number, is_immediate, cmd_sn, initiator_task_tag}
@@ -13,17 +14,20 @@ use Rattle.iscsi_target.specs.History.{Mark, Judging, Taking, Doing, Whole}
 use Rattle.iscsi_target.specs.Life.{Life, Phase, LoggingIn, FullFeature, Closing, Over, Accepted, reads, session_in, stamp, index_of, out_of}
 use Rattle.iscsi_target.specs.Acts.{is_login, reserved_tag, verdict, carried_out, command_answers}
 use Rattle.iscsi_target.specs.World.{Setting, World, log_in, is_present, present, changed, reads_life, session_of, close, take_step, accepted, judged, verdict_for, judge, finished, done_for, finish, ready_in, settle, serve, enter, arrive, arrive_at, arrive_in}
-use Rattle.iscsi_target.specs.Machine.{LinkState, Machine, link_at, with_link, closed, logged_in, counted, finished_one, served_in, judged as machine_judged, frame_in, frame_taken}
+use Rattle.iscsi_target.specs.Machine.{LinkState, Machine, link_at, with_link, closed, logged_in, counted, finished_one, served_in, judged as machine_judged}
 use Rattle.iscsi_target.specs.Stands.{phase_of, phase_for, IsQuiet, IsFinished, IsLogin}
+use Rattle.iscsi_target.specs.Serving.{IsQuietAt, IsServing, Serves, Unmarked}
 use Rattle.iscsi_login.specs.declared.params.Params.{Params}
 use Rattle.iscsi_target.specs.declared.session.Verdict.{Verdict}
 use Rattle.iscsi_target.specs.declared.session.Verdict.TheVariants as verdicts
 use Rattle.iscsi_target.specs.declared.phase.Phase.TheVariants as remembered
 use Rattle.iscsi_target.proofs.Choices.{and_true, not_true}
 use Rattle.iscsi_target.proofs.Lives.{present-changed, present-changed_other, present-units, present_is}
+use Rattle.iscsi_target.proofs.Counting.{eqb_self}
 use Rattle.iscsi_target.proofs.Numbers.{stamp-answered, out-answered_all, one_bears, index_next, ready_one, complete_unwritten, finished_numbers, finished_is}
-use Rattle.iscsi_target.proofs.Serving.{Serves, IsServing, IsQuietAt, replaced, closes, present-close, says, step_done, step_idle, Unmarked}
+use Rattle.iscsi_target.proofs.Serving.{replaced, closes, present-close, says, step_done, step_idle}
 use Rattle.iscsi_target.proofs.LoggingIn.{logs_in}
+use Rattle.iscsi_target.proofs.FrameTaken.{frame_in, frame_taken}
 
 quiet_as : (place : ℕ) (life : Life) (a b : Phase) → a ≡ b → IsQuiet place life a → IsQuiet place life b
 quiet_as place life a b e h = let P : Phase → Type 0 = λ ph. IsQuiet place life ph in subst P e h
@@ -48,15 +52,15 @@ writes_nothing exp frame e = not_true (is_write frame.header) (and_true _ _ (and
 
 -- ---- a violation
 
-pub idle_settle : (marks : List Mark) (c : ℕ) (commands : List Accepted) (w : World) → reads_life (present c w) ≡ false → fold (λ v command. take_step marks c (Doing command.place) (finish c command) v) w commands ≡ w
-idle_settle marks c [] w r = refl
-idle_settle marks c (command ∷ commands) w r =
-    ap (λ (v : World). fold (λ u next. take_step marks c (Doing next.place) (finish c next) u) v commands) (step_idle marks c (Doing command.place) (finish c command) w r) ∙ idle_settle marks c commands w r
+pub idle_settle : (marks : List Mark) (c place n : ℕ) (commands : List Accepted) (w : World) → reads_life (present c w) ≡ false → fold (λ v turn. take_step marks c (Doing place turn.0) (finish c turn.1) v) w (enumerate_from n commands) ≡ w
+idle_settle marks c place n [] w r = refl
+idle_settle marks c place n (command ∷ commands) w r =
+    ap (λ (v : World). fold (λ u turn. take_step marks c (Doing place turn.0) (finish c turn.1) u) v (enumerate_from (n + 1) commands)) (step_idle marks c (Doing place n) (finish c command) w r) ∙ idle_settle marks c place (n + 1) commands w r
 
 -- what a connection that was closed by the judging of its frame still does
-closed_serve : (marks : List Mark) (c place : ℕ) (w : World) → reads_life (present c w) ≡ false → settle marks c (take_step marks c (Taking place) (λ u. u) w) ≡ w
+closed_serve : (marks : List Mark) (c place : ℕ) (w : World) → reads_life (present c w) ≡ false → settle marks c place (take_step marks c (Taking place 0) (λ u. u) w) ≡ w
 unfolding settle
-closed_serve marks c place w r = ap (settle marks c) (step_idle marks c (Taking place) (λ u. u) w r) ∙ idle_settle marks c (ready_in (present c w)) w r
+closed_serve marks c place w r = ap (settle marks c place) (step_idle marks c (Taking place 0) (λ u. u) w r) ∙ idle_settle marks c place 0 (ready_in (present c w)) w r
 
 -- ---- a command
 
@@ -80,7 +84,7 @@ unit_world c place frame w command session = refl
 -- it is accepted, taken, done and answered
 does : (marks : List Mark) (c place : ℕ) (bytes : List ℕ) (s : Setting) (sent : ℕ → ℕ) (w : World) (machine : Machine) (life : Life) (session : Params) (frame : Frame) → Serves c place bytes s sent w machine → Unmarked marks c place → present c w ≡ Some life → life.phase ≡ FullFeature session → IsFinished place life
     → verdict (stamp life).exp_cmd_sn frame ≡ verdicts.Accepted
-    → Serves c (place + 1) bytes s sent (settle marks c (take_step marks c (Taking place) (λ u. u) (changed (accepted place frame) c w)))
+    → Serves c (place + 1) bytes s sent (settle marks c place (take_step marks c (Taking place 0) (λ u. u) (changed (accepted place frame) c w)))
     (let p = served_in (link_at machine c) machine.units frame (remembered.FullFeature session (stamp life)) in record (with_link machine c p.0) { units = p.1 })
 unfolding settle finish
 does marks c place bytes s sent w machine life session frame h un at phase done ok =
@@ -97,10 +101,10 @@ does marks c place bytes s sent w machine life session frame h un at phase done 
     let v : World = record (changed (finished session.values command p.1) c u) { units = slice_set w.units session.target p.0 } in
     let in_session : session_of (present c u) ≡ Some session = ap session_of at_u ∙ ap session_in phase in
     let does_ : finish c command u ≡ v = ap (λ (o : Option Params). done_for o c command u) in_session ∙ unit_world c place frame w command session in
-    let world : settle marks c (take_step marks c (Taking place) (λ x. x) u) ≡ v =
-    ap (settle marks c) (step_done marks c (Taking place) (λ x. x) u reads_u un.taking)
-    ∙ ap (λ (cs : List Accepted). fold (λ x next_. take_step marks c (Doing next_.place) (finish c next_) x) u cs) all
-    ∙ step_done marks c (Doing place) (finish c command) u reads_u un.doing ∙ does_ in
+    let world : settle marks c place (take_step marks c (Taking place 0) (λ x. x) u) ≡ v =
+    ap (settle marks c place) (step_done marks c (Taking place 0) (λ x. x) u reads_u (un (Taking place 0) (eqb_self place)))
+    ∙ ap (λ (cs : List Accepted). fold (λ x turn. take_step marks c (Doing place turn.0) (finish c turn.1) x) u (enumerate_from 0 cs)) all
+    ∙ step_done marks c (Doing place 0) (finish c command) u reads_u (un (Doing place 0) (eqb_self place)) ∙ does_ in
     let at_v : present c v ≡ Some f = present-units c v (changed (finished session.values command p.1) c u) refl ∙ present-changed (finished session.values command p.1) c u l at_u on in
     let over = record l { finished = l.finished ++ place ∷ [] } in
     let numbers : stamp over ≡ finished_one (stamp life) = finished_numbers place life frame done.numbered next in
@@ -125,7 +129,7 @@ does marks c place bytes s sent w machine life session frame h un at phase done 
 
 judges : (v : Verdict) (marks : List Mark) (c place : ℕ) (bytes : List ℕ) (s : Setting) (sent : ℕ → ℕ) (w : World) (machine : Machine) (life : Life) (session : Params) (frame : Frame) → Serves c place bytes s sent w machine → Unmarked marks c place → present c w ≡ Some life → life.phase ≡ FullFeature session → IsFinished place life
     → (link_at machine c).phase ≡ remembered.FullFeature session (stamp life) → verdict (stamp life).exp_cmd_sn frame ≡ v
-    → Serves c (place + 1) bytes s sent (settle marks c (take_step marks c (Taking place) (λ u. u) (judged v c place frame w))) (machine_judged v machine c frame)
+    → Serves c (place + 1) bytes s sent (settle marks c place (take_step marks c (Taking place 0) (λ u. u) (judged v c place frame w))) (machine_judged v machine c frame)
 judges verdicts.Accepted marks c place bytes s sent w machine life session frame h un at phase done link e = rw link (does marks c place bytes s sent w machine life session frame h un at phase done e)
 judges verdicts.Violating marks c place bytes s sent w machine life session frame h un at phase done link e =
     let idle : reads_life (present c (close c w)) ≡ false = ap reads_life (present-close c w life at) in
@@ -138,7 +142,7 @@ unfolding serve judge
 serves marks c place bytes s sent w machine life session frame h un at phase done link =
     let reads_w : reads_life (present c w) ≡ true = ap reads_life at ∙ ap reads phase in
     let judged_ : take_step marks c (Judging place) (judge c place frame) w ≡ judged (verdict (stamp life).exp_cmd_sn frame) c place frame w =
-    step_done marks c (Judging place) (judge c place frame) w reads_w un.judging ∙ ap (λ (o : Option Life). judged (verdict_for o frame) c place frame w) at in
+    step_done marks c (Judging place) (judge c place frame) w reads_w (un (Judging place) (eqb_self place)) ∙ ap (λ (o : Option Life). judged (verdict_for o frame) c place frame w) at in
     rw judged_ (judges (verdict (stamp life).exp_cmd_sn frame) marks c place bytes s sent w machine life session frame h un at phase done link refl)
 
 -- ---- any frame
@@ -175,7 +179,7 @@ takes_in LoggingIn marks c place bytes s sent w machine life frame h un at phase
     let reads_w : reads_life (present c w) ≡ true = ap reads_life at ∙ ap reads phase in
     let here : IsServing s.names place bytes (sent c) (link_at machine c) (Some life) = rw at at h.here in
     let new : IsLogin life = quiet_as place life life.phase LoggingIn phase here.quiet in
-    rw (step_done marks c (Judging place) (enter s c frame) w reads_w un.judging) (enters (is_login frame) c place bytes s sent w machine life frame h at phase new)
+    rw (step_done marks c (Judging place) (enter s c frame) w reads_w (un (Judging place) (eqb_self place))) (enters (is_login frame) c place bytes s sent w machine life frame h at phase new)
 takes_in (FullFeature session) marks c place bytes s sent w machine life frame h un at phase =
     let here : IsServing s.names place bytes (sent c) (link_at machine c) (Some life) = rw at at h.here in
     let done : IsFinished place life = quiet_as place life life.phase (FullFeature session) phase here.quiet in

@@ -1,26 +1,27 @@
 -- A whole event of bytes keeps the code where the World is: each way in which it ends.
 use Rattle.std.proofs.Common.{◌≡◌, ◌≢◌, ℕ, ◌+◌, ◌<◌, List, [], ◌∷◌, ◌++◌, length, drop, map, set, get_or, Bool, true, false, Option, Some, None, refl, sym, ap, ◌∙◌, subst, arith, append_assoc, inl, inr}
 use Rattle.std.specs.List.{fold, enumerate_from}
-use Rattle.std.proofs.lemmas.List.{append-nil, length-append, length-map, map-append, length-set, set-set, set-get_or, get_or-set_same, get_or-set_other, drop_all}
+use Rattle.std.proofs.lemmas.List.{append-nil, length-append, length-map, map-append, length-set, set-get_or, get_or-set_same, get_or-set_other, drop_all}
 use Rattle.std.proofs.lemmas.Bool.Decides.{eqb_tells}
 use Rattle.std.proofs.lemmas.List.FromFn.{length-enumerate_from}
 use Rattle.iscsi_pdu.specs.Frames.{Frame, frames, rest, is_long, has_frame}
-use Rattle.iscsi_pdu.proofs.Frames.{frames_none, rest_none, frames_step}
+use Rattle.iscsi_pdu.proofs.Frames.{frames_none, rest_none}
 use Rattle.iscsi_pdu.proofs.Cuts.{rest_in_pieces, long_is_no_frame}
-use Rattle.iscsi_target.specs.History.{Bytes, Mark, Step, Ending, History, marked, plain, Arrival, Whole, TooLong, arrivals, new_arrivals, connection_limit}
+use Rattle.iscsi_target.specs.History.{Bytes, Mark, Step, Ending, History, plain, Arrival, Whole, TooLong, arrivals, new_arrivals, connection_limit}
 use Rattle.iscsi_target.specs.Life.{Life, Phase, LoggingIn, FullFeature, Closing, Over, reads, stamp, taken, out_of}
-use Rattle.iscsi_target.specs.World.{Setting, World, left, present, changed, reads_life, close, is_marked, take_step, arrive, arrive_at, brought, longer, bring, world}
-use Rattle.iscsi_target.specs.Machine.{LinkState, Machine, link_at, with_link, shut_link, session_in_phase, closed, IsSound, IsAlike, is_reading, is_closing, is_open_at, free_link, GivesFrame, frame_taken}
-use Rattle.iscsi_target.specs.Stands.{phase_of, phase_for, half_of, IsQuiet, IsSettled, IsLinkOf, StandsAt, Stands, IsStarved, frames_with}
+use Rattle.iscsi_target.specs.World.{Setting, World, present, changed, reads_life, close, is_marked, take_step, arrive, arrive_at, brought, longer, bring, world}
+use Rattle.iscsi_target.specs.Machine.{LinkState, Machine, link_at, with_link, closed, IsSound, is_reading, is_closing, is_open_at, free_link, GivesFrame}
+use Rattle.iscsi_target.specs.Stands.{phase_of, phase_for, half_of, IsQuiet, IsSettled, IsLinkOf, StandsAt, Stands}
 use Rattle.iscsi_target.proofs.Choices.{cond_true, cond_false}
 use Rattle.iscsi_target.proofs.Arrivals.{long_end, fold-places, joined_arrivals, new_is}
 use Rattle.iscsi_target.proofs.Lives.{present-changed, present-changed_other, present_is}
-use Rattle.iscsi_target.proofs.Serving.{IsServing, Serves, closes, present-close, step_done, step_idle, Unmarked}
+use Rattle.iscsi_target.specs.Serving.{IsServing, Serves, Unmarked, KeepsHalf, Takes}
+use Rattle.iscsi_target.proofs.Serving.{closes, present-close, step_done, step_idle}
 use Rattle.iscsi_target.proofs.Standing.{stands_as, stands_from, is_open_there}
-use Rattle.iscsi_target.proofs.Halves.{KeepsHalf, closed_link_at, frame_half}
 use Rattle.iscsi_target.proofs.Sound.{sound_as}
-use Rattle.iscsi_target.proofs.Opening.{half_opens}
-use Rattle.iscsi_target.proofs.Bringing.{alike_half, starved, names_first, unmarked_before, unmarked_plain, idle, idle_all, starved_rest, Progress, with_half}
+use Rattle.iscsi_target.proofs.Opening.{half_opens, closed_link_at}
+use Rattle.iscsi_target.proofs.Marks.{unmarked_plain, idle, idle_all}
+use Rattle.iscsi_target.proofs.Bringing.{Progress, with_half}
 
 -- ---- what reads
 
@@ -34,11 +35,11 @@ reading_same : (names : List (List ℕ)) (o : Option Life) → is_reading (phase
 reading_same names None = refl
 reading_same names (Some life) = reading_in names life life.phase
 
-some_reads : (o : Option Life) → reads_life o ≡ true → (life : Life) × (o ≡ Some life) × (reads life.phase ≡ true)
+pub some_reads : (o : Option Life) → reads_life o ≡ true → (life : Life) × (o ≡ Some life) × (reads life.phase ≡ true)
 some_reads None e = absurd cc
 some_reads (Some life) e = (life, refl, e)
 
-reads_there : (c place : ℕ) (bytes : List ℕ) (s : Setting) (sent : ℕ → ℕ) (w : World) (machine : Machine) → Serves c place bytes s sent w machine → is_reading (link_at machine c).phase ≡ reads_life (present c w)
+pub reads_there : (c place : ℕ) (bytes : List ℕ) (s : Setting) (sent : ℕ → ℕ) (w : World) (machine : Machine) → Serves c place bytes s sent w machine → is_reading (link_at machine c).phase ≡ reads_life (present c w)
 reads_there c place bytes s sent w machine h = ap is_reading h.here.phase ∙ reading_same s.names (present c w)
 
 -- a step that no mark names, and that does nothing
@@ -63,7 +64,7 @@ half_idle : (o : Option Life) → reads_life o ≡ false → half_of o ≡ []
 half_idle None r = refl
 half_idle (Some life) r = cond_false (reads life.phase) (rest life.bytes) [] r
 
-idle_stands : (c place : ℕ) (bytes : List ℕ) (s : Setting) (sent : ℕ → ℕ) (w : World) (machine : Machine) → Serves c place bytes s sent w machine → reads_life (present c w) ≡ false → (link_at machine c).half ≡ [] → StandsAt s sent w machine
+pub idle_stands : (c place : ℕ) (bytes : List ℕ) (s : Setting) (sent : ℕ → ℕ) (w : World) (machine : Machine) → Serves c place bytes s sent w machine → reads_life (present c w) ≡ false → (link_at machine c).half ≡ [] → StandsAt s sent w machine
 idle_stands c place bytes s sent w machine h r half = stands_from c place bytes s sent w machine h (record {
   phase = h.here.phase;
   half = half ∙ sym (half_idle (present c w) r);
@@ -73,7 +74,7 @@ idle_stands c place bytes s sent w machine h r half = stands_from c place bytes 
 })
 
 -- one that was closed
-closed_stands : (c place : ℕ) (bytes : List ℕ) (s : Setting) (sent : ℕ → ℕ) (w : World) (machine : Machine) (life : Life) → Serves c place bytes s sent w machine → present c w ≡ Some life → StandsAt s sent (close c w) (closed machine c)
+pub closed_stands : (c place : ℕ) (bytes : List ℕ) (s : Setting) (sent : ℕ → ℕ) (w : World) (machine : Machine) (life : Life) → Serves c place bytes s sent w machine → present c w ≡ Some life → StandsAt s sent (close c w) (closed machine c)
 closed_stands c place bytes s sent w machine life h e =
     let half : (link_at (closed machine c) c).half ≡ [] = ap (λ (l : LinkState). l.half) (closed_link_at machine c (omega (arith, h.count, h.in_range))) in
     idle_stands c place bytes s sent (close c w) (closed machine c) (closes c place place bytes s sent w machine life h e) (ap reads_life (present-close c w life e)) half
@@ -130,7 +131,7 @@ serves_with c place bytes s sent w v machine link lt h u other here =
     }
 
 -- the World with the longer bytes, before a frame of them is taken
-longer_serves : (c : ℕ) (s : Setting) (sent : ℕ → ℕ) (w : World) (machine : Machine) (life : Life) (piece half : List ℕ) → c < connection_limit → StandsAt s sent w machine → present c w ≡ Some life
+pub longer_serves : (c : ℕ) (s : Setting) (sent : ℕ → ℕ) (w : World) (machine : Machine) (life : Life) (piece half : List ℕ) → c < connection_limit → StandsAt s sent w machine → present c w ≡ Some life
     → Serves c (length (arrivals life.bytes)) (life.bytes ++ piece) s sent (changed (longer piece) c w) (with_link machine c (record (link_at machine c) { half = half }))
 unfolding changed
 longer_serves c s sent w machine life piece half lt h at =
@@ -152,22 +153,22 @@ longer_serves c s sent w machine life piece half lt h at =
 abbrev pub kept_first : Machine → ℕ → List ℕ → Machine
 kept_first machine c piece = with_link machine c (record (link_at machine c) { half = (link_at machine c).half ++ piece })
 
-first_half : (c : ℕ) (s : Setting) (sent : ℕ → ℕ) (w : World) (machine : Machine) (piece : List ℕ) → (f : Fed c s sent w machine) → (link_at (kept_first machine c piece) c).half ≡ rest f.life.bytes ++ piece
+pub first_half : (c : ℕ) (s : Setting) (sent : ℕ → ℕ) (w : World) (machine : Machine) (piece : List ℕ) → (f : Fed c s sent w machine) → (link_at (kept_first machine c piece) c).half ≡ rest f.life.bytes ++ piece
 first_half c s sent w machine piece f =
     let link : IsLinkOf s.names (sent c) (link_at machine c) (Some f.life) = rw f.at at (f.stands.links c f.in_range) in
     ap (λ (l : LinkState). l.half) (with_half machine c ((link_at machine c).half ++ piece) (omega (arith, f.stands.count, f.in_range)))
     ∙ ap (λ (b : List ℕ). b ++ piece) (link.half ∙ cond_true (reads f.life.phase) (rest f.life.bytes) [] f.reads_life)
 
-is_short : (c : ℕ) (s : Setting) (sent : ℕ → ℕ) (w : World) (machine : Machine) → (f : Fed c s sent w machine) → is_long (rest f.life.bytes) ≡ false
+pub is_short : (c : ℕ) (s : Setting) (sent : ℕ → ℕ) (w : World) (machine : Machine) → (f : Fed c s sent w machine) → is_long (rest f.life.bytes) ≡ false
 is_short c s sent w machine f =
     let link : IsLinkOf s.names (sent c) (link_at machine c) (Some f.life) = rw f.at at (f.stands.links c f.in_range) in
     link.settled.short f.reads_life
 
 -- what is left to arrive behind the frames that were taken
-abbrev left_over : List ℕ → Bool → List Arrival
+abbrev pub left_over : List ℕ → Bool → List Arrival
 left_over more long = map Whole (frames more) ++ long_end long
 
-abbrev so_far : Setting → List Mark → ℕ → ℕ → World → List Frame → World
+abbrev pub so_far : Setting → List Mark → ℕ → ℕ → World → List Frame → World
 so_far s marks c place v done = fold (arrive s marks c) v (enumerate_from place (map Whole done))
 
 split_arrivals : (done : List Frame) (more first : List ℕ) → frames first ≡ done ++ frames more → rest first ≡ rest more → arrivals first ≡ map Whole done ++ left_over more (is_long (rest more))
@@ -175,7 +176,7 @@ unfolding arrivals
 split_arrivals done more first e r =
     rw (e, r, map-append Whole done (frames more)) (append_assoc (map Whole done) (map Whole (frames more)) (long_end (is_long (rest more))))
 
-brings : (c : ℕ) (s : Setting) (sent : ℕ → ℕ) (w : World) (machine now : Machine) (piece : List ℕ) (marks : List Mark) → (f : Fed c s sent w machine) → (p : Progress c (kept_first machine c piece) now)
+pub brings : (c : ℕ) (s : Setting) (sent : ℕ → ℕ) (w : World) (machine now : Machine) (piece : List ℕ) (marks : List Mark) → (f : Fed c s sent w machine) → (p : Progress c (kept_first machine c piece) now)
     → bring s marks c piece w ≡ take_step marks c Ending (λ v. v) (fold (arrive s marks c) (so_far s marks c (length (arrivals f.life.bytes)) (changed (longer piece) c w) p.done)
     (enumerate_from (length (arrivals f.life.bytes) + length p.done) (left_over p.more (is_long (rest p.more)))))
 unfolding bring
@@ -192,7 +193,7 @@ brings c s sent w machine now piece marks f p =
     ∙ ap (λ (n : ℕ). fold (arrive s marks c) (so_far s marks c place v p.done) (enumerate_from (place + n) (left_over p.more (is_long (rest p.more))))) (length-map p.done Whole))
 
 -- where the code is once the frames so far are taken, if no mark names one of them
-serves_so_far : (c : ℕ) (s : Setting) (sent : ℕ → ℕ) (w : World) (machine now : Machine) (piece : List ℕ) (marks : List Mark) → (f : Fed c s sent w machine) → (p : Progress c (kept_first machine c piece) now)
+pub serves_so_far : (c : ℕ) (s : Setting) (sent : ℕ → ℕ) (w : World) (machine now : Machine) (piece : List ℕ) (marks : List Mark) → (f : Fed c s sent w machine) → (p : Progress c (kept_first machine c piece) now)
     → IsSound now → ((q : ℕ) → q < length (arrivals f.life.bytes) + length p.done → Unmarked marks c q)
     → Serves c (length (arrivals f.life.bytes) + length p.done) (f.life.bytes ++ piece) s sent (so_far s marks c (length (arrivals f.life.bytes)) (changed (longer piece) c w) p.done) now
 serves_so_far c s sent w machine now piece marks f p sound un =
@@ -274,51 +275,11 @@ ends_long c s sent machine now history piece lt h r p sound reads_now long =
     ∙ step_idle [] c Ending (λ u. u) (close c v) shut_ in
     stands_as s sent (closed now c) history (plain (Bytes c piece)) (close c v) e (closed_stands c _ _ s sent v now there.0 serves there.1)
 
--- an allocation failed before the next frame was judged
-pub ends_starved : (c : ℕ) (s : Setting) (sent : ℕ → ℕ) (machine now : Machine) (history : History) (piece : List ℕ) → c < connection_limit → Stands s sent machine history → is_reading (link_at machine c).phase ≡ true
-    → Progress c (kept_first machine c piece) now → IsSound now → is_reading (link_at now c).phase ≡ true → 0 < length (frames (link_at now c).half)
-    → (marks : List Mark) × IsStarved c (present c (world s history)) piece marks × Stands s sent (closed now c) (history ++ marked marks (Bytes c piece) ∷ [])
-ends_starved c s sent machine now history piece lt h r p sound reads_now next =
-    let w = world s history in
-    let f = fed c s sent w machine lt h r in
-    let place = length (arrivals f.life.bytes) in
-    let q = place + length p.done in
-    let marks = starved c q in
-    let v = so_far s marks c place (changed (longer piece) c w) p.done in
-    let serves = serves_so_far c s sent w machine now piece marks f p sound (λ k below. unmarked_before c k q (λ same. let lt_ : k < q = below in omega arith)) in
-    let there = some_reads (present c v) (sym (reads_there c _ _ s sent v now serves) ∙ reads_now) in
-    let e : bring s marks c piece w ≡ close c v = brings c s sent w machine now piece marks f p ∙ starved_rest s c q v there.0 (left_over p.more (is_long (rest p.more))) there.1 there.2 in
-    let count : length (frames (rest f.life.bytes ++ piece)) ≡ length p.done + length (frames p.more) =
-    ap (λ (b : List ℕ). length (frames b)) (sym (first_half c s sent w machine piece f)) ∙ ap length p.front ∙ length-append p.done (frames p.more) in
-    let some : 0 < length (frames p.more) = subst (λ (b : List ℕ). 0 < length (frames b)) (p.kept.reading reads_now) next in
-    let reached : q < frames_with (Some f.life) piece = omega arith in
-    let is : IsStarved c (Some f.life) piece marks = record { place = q; first = names_first c q; reached = inr reached } in
-    (marks, rw f.at is, stands_as s sent (closed now c) history (marked marks (Bytes c piece)) (close c v) e (closed_stands c _ _ s sent v now there.0 serves there.1))
-
 -- a link that is written as it is
-same_link : (c place : ℕ) (bytes : List ℕ) (s : Setting) (sent : ℕ → ℕ) (w : World) (machine : Machine) → c < length machine.links → Serves c place bytes s sent w (with_link machine c (record (link_at machine c) { half = (link_at machine c).half })) → Serves c place bytes s sent w machine
+pub same_link : (c place : ℕ) (bytes : List ℕ) (s : Setting) (sent : ℕ → ℕ) (w : World) (machine : Machine) → c < length machine.links → Serves c place bytes s sent w (with_link machine c (record (link_at machine c) { half = (link_at machine c).half })) → Serves c place bytes s sent w machine
 same_link c place bytes s sent w machine lt h =
     let P : List LinkState → Type 0 = λ links. Serves c place bytes s sent w (record machine { links = links }) in
     subst P (set-get_or machine.links c free_link) h
-
--- none of the bytes could be kept
-pub ends_at_once : (c : ℕ) (s : Setting) (sent : ℕ → ℕ) (machine : Machine) (history : History) (piece : List ℕ) → c < connection_limit → Stands s sent machine history → is_reading (link_at machine c).phase ≡ true
-    → (marks : List Mark) × IsStarved c (present c (world s history)) piece marks × Stands s sent (closed machine c) (history ++ marked marks (Bytes c piece) ∷ [])
-unfolding bring
-ends_at_once c s sent machine history piece lt h r =
-    let w = world s history in
-    let f = fed c s sent w machine lt h r in
-    let q = length (arrivals f.life.bytes) in
-    let marks = starved c q in
-    let v = changed (longer piece) c w in
-    let serves : Serves c q (f.life.bytes ++ piece) s sent v machine = same_link c q (f.life.bytes ++ piece) s sent v machine (omega (arith, f.stands.count, lt)) (longer_serves c s sent w machine f.life piece (link_at machine c).half lt h f.at) in
-    let at : present c v ≡ Some (longer piece f.life) = present-changed (longer piece) c w f.life f.at (present_is c w f.life f.at) in
-    let e : bring s marks c piece w ≡ close c v =
-    ap (λ (o : Option Life). take_step marks c Ending (λ u. u) (fold (arrive s marks c) v (brought o piece))) f.at
-    ∙ ap (λ (l : List (ℕ × Arrival)). take_step marks c Ending (λ u. u) (fold (arrive s marks c) v l)) (new_is f.life.bytes piece (is_short c s sent w machine f))
-    ∙ starved_rest s c q v (longer piece f.life) (arrivals (rest f.life.bytes ++ piece)) at f.reads_life in
-    let is : IsStarved c (Some f.life) piece marks = record { place = q; first = names_first c q; reached = inl refl } in
-    (marks, rw f.at is, stands_as s sent (closed machine c) history (marked marks (Bytes c piece)) (close c v) e (closed_stands c _ _ s sent v machine (longer piece f.life) serves at))
 
 idle_places : (s : Setting) (marks : List Mark) (c : ℕ) (w : World) (all : List (ℕ × Arrival)) → reads_life (present c w) ≡ false → fold (arrive s marks c) w all ≡ w
 idle_places s marks c w [] r = refl
@@ -378,28 +339,11 @@ ends_empty c s sent machine history piece lt h open_ none =
 
 -- ---- as the code has it
 
-pub starved_machine : (c : ℕ) (s : Setting) (sent : ℕ → ℕ) (history : History) (piece : List ℕ) (a b : Machine) → a ≡ b
-    → (marks : List Mark) × IsStarved c (present c (world s history)) piece marks × Stands s sent a (history ++ marked marks (Bytes c piece) ∷ [])
-    → (marks : List Mark) × IsStarved c (present c (world s history)) piece marks × Stands s sent b (history ++ marked marks (Bytes c piece) ∷ [])
-starved_machine c s sent history piece a b same h =
-    let P : Machine → Type 0 = λ m. (marks : List Mark) × IsStarved c (present c (world s history)) piece marks × Stands s sent m (history ++ marked marks (Bytes c piece) ∷ []) in
-    subst P same h
-
 pub progress_from : (c : ℕ) (a b now : Machine) → a ≡ b → Progress c a now → Progress c b now
 progress_from c a b now same p = let P : Machine → Type 0 = λ m. Progress c m now in subst P same p
 
 pub closing_there : (machine : Machine) (c : ℕ) → c < length machine.links → is_closing (link_at (closed machine c) c).phase ≡ true
 closing_there machine c lt = ap (λ (l : LinkState). is_closing l.phase) (closed_link_at machine c lt)
-
--- the bytes of a connection that closes do not matter
-pub closed_rehalved : (machine given : Machine) (c : ℕ) (half : List ℕ) → c < length machine.links → given ≡ with_link machine c (record (link_at machine c) { half = half }) → closed given c ≡ closed machine c
-unfolding closed
-closed_rehalved machine given c half lt e =
-    let link = record (link_at machine c) { half = half } in
-    let here : link_at (with_link machine c link) c ≡ link = with_half machine c half lt in
-    ap (λ (m : Machine). closed m c) e
-    ∙ ap (λ (l : LinkState). record { names = machine.names; units = left (session_in_phase l.phase) machine.units; links = set (set machine.links c link) c (shut_link l) }) here
-    ∙ ap (λ (links : List LinkState). record { names = machine.names; units = left (session_in_phase (link_at machine c).phase) machine.units; links = links }) (set-set machine.links c link (shut_link (link_at machine c)))
 
 shorter_by : (b : Bool) (after given : Machine) (c n : ℕ) → is_reading (link_at after c).phase ≡ b → KeepsHalf (link_at given c).half (link_at after c) → length (link_at given c).half < n → length (link_at after c).half < n
 shorter_by true after given c n r k lt = let same = ap (λ (h : List ℕ). length h) (k.reading r) in omega arith
@@ -407,19 +351,11 @@ shorter_by false after given c n r k lt = let same = ap (λ (h : List ℕ). leng
 
 -- a frame that is taken leaves fewer bytes
 pub taken_is_shorter : (c : ℕ) (machine given after : Machine) (frame : Frame) → c < length machine.links → is_reading (link_at machine c).phase ≡ true → GivesFrame frame (link_at machine c).half (link_at given c).half
-    → given ≡ with_link machine c (record (link_at machine c) { half = (link_at given c).half }) → IsAlike (link_at after c) (link_at (frame_taken given c frame) c) → length (link_at after c).half < length (link_at machine c).half
-taken_is_shorter c machine given after frame lt r gives is alike =
+    → given ≡ with_link machine c (record (link_at machine c) { half = (link_at given c).half }) → Takes c frame given after → length (link_at after c).half < length (link_at machine c).half
+taken_is_shorter c machine given after frame lt r gives is taken =
     let given_link = ap (λ (m : Machine). link_at m c) is ∙ with_half machine c (link_at given c).half lt in
-    let count : length given.links ≡ length machine.links = ap (λ (m : Machine). length m.links) is ∙ length-set machine.links c _ in
-    let k : KeepsHalf (link_at given c).half (link_at after c) = alike_half _ (link_at after c) _ alike (frame_half given c frame (omega (arith, count)) (ap (λ (l : LinkState). is_reading l.phase) given_link ∙ r)) in
+    let k : KeepsHalf (link_at given c).half (link_at after c) = taken.keeps (ap (λ (l : LinkState). is_reading l.phase) given_link ∙ r) in
     shorter_by (is_reading (link_at after c).phase) after given c (length (link_at machine c).half) refl k gives.shorter
-
--- a frame that is given is one of the bytes
-pub some_given : (frame : Frame) (before after : List ℕ) → GivesFrame frame before after → 0 < length (frames before)
-some_given frame before after g = let count = ap (λ (l : List Frame). length l) g.first in omega arith
-
-pub some_frame : (bytes : List ℕ) → has_frame bytes ≡ true → 0 < length (frames bytes)
-some_frame bytes e = let count = ap (λ (l : List Frame). length l) (frames_step bytes e) in omega arith
 
 -- ---- sound, and open, before and after
 

@@ -1,5 +1,5 @@
 -- What a frame leaves of a connection's bytes.
-use Rattle.std.proofs.Common.{◌≡◌, ◌≢◌, ℕ, ◌<◌, List, [], length, set, get_or, Bool, true, false, cond, Option, Some, None, refl, sym, ap, ◌∙◌}
+use Rattle.std.proofs.Common.{◌≡◌, ◌≢◌, ℕ, ◌<◌, List, length, set, get_or, Bool, true, false, cond, Option, Some, None, refl, sym, ap, ◌∙◌}
 use Rattle.std.proofs.lemmas.List.{get_or-map, get_or-set_same, get_or-set_other}
 use Rattle.std.proofs.lemmas.List.Quantifiers.{position-Some}
 use Rattle.iscsi_pdu.specs.Frames.{Frame}
@@ -10,7 +10,8 @@ use Rattle.iscsi_pdu.specs.declared.answer.Answer.{Answer}
 use Rattle.iscsi_pdu.specs.declared.answer.Answer.TheVariants as answers
 use Rattle.iscsi_target.specs.World.{lookup_for}
 use Rattle.iscsi_target.specs.Acts.{is_login, verdict}
-use Rattle.iscsi_target.specs.Machine.{LinkState, Machine, link_at, shut_link, closed, free_link, is_reading, session_in_phase, sessions, gone_on_link, refused_link, begun_link, shut_older, replied, logged_in, served_in, judged, frame_in, frame_taken}
+use Rattle.iscsi_target.specs.Machine.{LinkState, Machine, link_at, shut_link, closed, free_link, is_reading, session_in_phase, sessions, gone_on_link, refused_link, begun_link, shut_older, replied, logged_in, served_in, judged}
+use Rattle.iscsi_target.specs.Serving.{KeepsHalf}
 use Rattle.iscsi_login.specs.declared.params.Params.{Params}
 use Rattle.iscsi_target.specs.declared.session.Verdict.{Verdict}
 use Rattle.iscsi_target.specs.declared.session.Verdict.TheVariants.{Accepted, Violating}
@@ -18,18 +19,11 @@ use Rattle.iscsi_login.specs.declared.reply.Reply.{Reply}
 use Rattle.iscsi_login.specs.declared.reply.Reply.TheVariants.{GoOn, Full, Refused}
 use Rattle.iscsi_target.specs.declared.phase.Phase.{Phase}
 use Rattle.iscsi_target.specs.declared.phase.Phase.TheVariants.{Free, Login, FullFeature, Closing}
-
--- a connection that still reads has kept its bytes, and one that does not has none
-pub record KeepsHalf (half : List ℕ) (link : LinkState) : Type 0 where
-  pub reading : is_reading link.phase ≡ true → link.half ≡ half
-  pub idle : is_reading link.phase ≡ false → link.half ≡ []
+use Rattle.iscsi_target.proofs.Opening.{closed_link_at}
+use Rattle.iscsi_target.proofs.FrameTaken.{frame_in, frame_taken}
 
 shut_half : (half : List ℕ) (link : LinkState) → KeepsHalf half (shut_link link)
 shut_half half link = record { reading = λ e. absurd cc; idle = λ e. refl }
-
-pub closed_link_at : (machine : Machine) (c : ℕ) → c < length machine.links → link_at (closed machine c) c ≡ shut_link (link_at machine c)
-unfolding closed
-closed_link_at machine c lt = get_or-set_same machine.links c (shut_link (link_at machine c)) free_link lt
 
 closed_half : (machine : Machine) (c : ℕ) → c < length machine.links → KeepsHalf (link_at machine c).half (link_at (closed machine c) c)
 closed_half machine c lt = rw (closed_link_at machine c lt) (shut_half (link_at machine c).half (link_at machine c))

@@ -1,6 +1,6 @@
 -- An event of bytes begins and ends no life, and each goes on from what it was.
 use Rattle.std.proofs.Common.{◌≡◌, ℕ, ◌+◌, List, [], ◌∷◌, ◌++◌, map, Bool, true, false, cond, not, eqb, Option, Some, None, refl, sym, ap, ◌∙◌, subst, append_assoc, append-nil}
-use Rattle.std.specs.List.{fold}
+use Rattle.std.specs.List.{fold, enumerate_from}
 use Rattle.std.specs.Prelude.{flat_map}
 use Rattle.std.proofs.lemmas.Grind.{flat_map-append}
 use Rattle.iscsi_pdu.specs.Answer.{spelling}
@@ -167,17 +167,17 @@ on-fold : {X : Type 0} (f : World → X → World) (w : World) (xs : List X) →
 on-fold f w [] goes = on-same w
 on-fold f w (x ∷ xs) goes = on-then w (f w x) (fold f (f w x) xs) (goes w x) (on-fold f (f w x) xs goes)
 
-on-settle : (marks : List Mark) (c : ℕ) (w : World) → GoesTo w (settle marks c w)
+on-settle : (marks : List Mark) (c place : ℕ) (w : World) → GoesTo w (settle marks c place w)
 unfolding settle
-on-settle marks c w = on-fold _ w (ready_in (present c w)) (λ v command. on-take_step marks c (Doing command.place) (finish c command) v (on-finish c command v))
+on-settle marks c place w = on-fold _ w (enumerate_from 0 (ready_in (present c w))) (λ v turn. on-take_step marks c (Doing place turn.0) (finish c turn.1) v (on-finish c turn.1 v))
 
 on-serve : (marks : List Mark) (c place : ℕ) (frame : Frame) (w : World) → GoesTo w (serve marks c place frame w)
 unfolding serve
 on-serve marks c place frame w =
     let v = take_step marks c (Judging place) (judge c place frame) w in
-    let u = take_step marks c (Taking place) (λ u. u) v in
-    on-then w v (settle marks c u) (on-take_step marks c (Judging place) (judge c place frame) w (on-judge c place frame w))
-    (on-then v u (settle marks c u) (on-take_step marks c (Taking place) (λ u. u) v (on-same v)) (on-settle marks c u))
+    let u = take_step marks c (Taking place 0) (λ u. u) v in
+    on-then w v (settle marks c place u) (on-take_step marks c (Judging place) (judge c place frame) w (on-judge c place frame w))
+    (on-then v u (settle marks c place u) (on-take_step marks c (Taking place 0) (λ u. u) v (on-same v)) (on-settle marks c place u))
 
 -- ---- one event
 

@@ -26,7 +26,8 @@ use Rattle.iscsi_target.proofs.Choices.{and_true}
 use Rattle.iscsi_target.proofs.Lives.{present-changed, present-changed_other, present-units, present_is}
 use Rattle.iscsi_target.proofs.Numbers.{out-answered, stamp-first}
 use Rattle.iscsi_target.proofs.Requests.{remembered-push, HasNumbers, begun_numbers}
-use Rattle.iscsi_target.proofs.Serving.{Serves, IsServing, phases, sessions_there, live_same, replaced, replaced_other, same_world, out_phase, says, closed_link, shut_present, session_same}
+use Rattle.iscsi_target.specs.Serving.{IsServing, Serves}
+use Rattle.iscsi_target.proofs.Serving.{phases, sessions_there, live_same, replaced, replaced_other, same_world, out_phase, says, closed_link, shut_present, session_same}
 
 -- what is known of a connection that logs in
 record Entering (c place : ℕ) (bytes : List ℕ) (s : Setting) (sent : ℕ → ℕ) (w : World) (machine : Machine) (life : Life) : Type 0 where

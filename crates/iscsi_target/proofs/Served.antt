@@ -9,9 +9,8 @@ use Rattle.iscsi_pdu.specs.Answer.{spelling}
 use Rattle.iscsi_pdu.specs.Frames.{Frame}
 use Rattle.iscsi_pdu.specs.declared.stamp.Stamp.{Stamp}
 use Rattle.iscsi_login.specs.declared.params.Params.{Params}
-use Rattle.iscsi_target.specs.Acts.{verdict, carried_out, command_answers}
-use Rattle.iscsi_target.specs.Machine.{LinkState, Machine, IsAlike, link_at, counted, finished_one, served_in, served_phase, judged, frame_taken, free_link}
-use Rattle.iscsi_target.specs.declared.session.Verdict.{Verdict}
+use Rattle.iscsi_target.specs.Acts.{carried_out, command_answers}
+use Rattle.iscsi_target.specs.Machine.{LinkState, IsAlike, counted, finished_one, served_in, served_phase, free_link}
 use Rattle.iscsi_target.specs.declared.phase.Phase.{Phase}
 use Rattle.iscsi_target.specs.declared.phase.Phase.TheVariants.{Free, Login, FullFeature, Closing}
 
@@ -52,8 +51,3 @@ set_alike links others c new other e lt alike d = rw e (elim (eqb_tells d c) [
       let there : get_or (set others c other) d free_link ≡ get_or others d free_link = get_or-set_other others c d other free_link differ.1 in
       rw (here, there) (alike_same (get_or others d free_link)))
 ])
-
--- a frame of a session is as it is judged
-pub frame_judged : (machine : Machine) (c : ℕ) (frame : Frame) (session : Params) (numbers : Stamp) (v : Verdict) → (link_at machine c).phase ≡ FullFeature session numbers → verdict numbers.exp_cmd_sn frame ≡ v → frame_taken machine c frame ≡ judged v machine c frame
-unfolding frame_taken
-frame_judged machine c frame session numbers v phase e = rw (phase, e) refl

@@ -1,47 +1,19 @@
 -- While the frames of one connection are taken, the code stands where the World does.
-use Rattle.std.proofs.Common.{◌≡◌, ◌≢◌, ℕ, ◌<◌, ◌≤◌, List, [], ◌++◌, length, map, drop, set, get_or, true, false, eqb, Option, Some, None, refl, sym, ap, ◌∙◌, arith, inl, inr}
-use Rattle.std.specs.Prelude.{⊤}
+use Rattle.std.proofs.Common.{◌≡◌, ◌≢◌, ℕ, ◌<◌, ◌≤◌, List, ◌++◌, length, map, drop, set, get_or, true, false, eqb, Option, Some, None, refl, sym, ap, ◌∙◌, arith, inl, inr}
 use Rattle.std.specs.List.{range_with_len}
 use Rattle.std.proofs.lemmas.Bool.Decides.{eqb_tells}
 use Rattle.std.proofs.lemmas.List.{length-map, length-set, get_or-map, get_or-set_same, get_or-set_other, drop-append-le, ext_get_or}
 use Rattle.std.proofs.lemmas.List.FromFn.{get_or-map-range_with_len, length-map-range_with_len}
-use Rattle.iscsi_target.specs.History.{Mark, Step, Judging, Taking, Doing, connection_limit}
+use Rattle.iscsi_target.specs.History.{Mark, Step, connection_limit}
 use Rattle.scsi_unit.specs.Units.{UnitStates}
 use Rattle.iscsi_target.specs.Life.{Life, Phase, LoggingIn, FullFeature, Closing, Over, session_in, out_of}
 use Rattle.iscsi_target.specs.World.{Setting, World, is_present, present, changed, reads_life, session_of, live, left, close, shut, is_marked, take_step}
-use Rattle.iscsi_target.specs.Output.{out_now}
 use Rattle.iscsi_target.specs.Machine.{LinkState, Machine, link_at, shut_link, closed, session_in_phase, sessions, free_link}
-use Rattle.iscsi_target.specs.Stands.{phase_of, phase_for, IsQuiet, IsLinkOf}
+use Rattle.iscsi_target.specs.Stands.{phase_of, phase_for, IsLinkOf}
+use Rattle.iscsi_target.specs.Serving.{IsServing, Serves}
 use Rattle.iscsi_login.specs.declared.params.Params.{Params}
 use Rattle.iscsi_target.proofs.Choices.{and_true}
 use Rattle.iscsi_target.proofs.Lives.{present-changed, present-changed_other, present-units, present_is}
-
--- ---- one connection
-
-abbrev pub IsQuietAt : ℕ → Option Life → Type 0
-IsQuietAt place None = ⊤
-IsQuietAt place (Some life) = IsQuiet place life life.phase
-
-abbrev pub bytes_now : Option Life → List ℕ
-bytes_now None = []
-bytes_now (Some life) = life.bytes
-
--- as IsLinkOf, but of the bytes that are no whole frame yet nothing is said: the next frame has this place
-pub record IsServing (names : List (List ℕ)) (place : ℕ) (bytes : List ℕ) (sent : ℕ) (link : LinkState) (life : Option Life) : Type 0 where
-  pub phase : link.phase ≡ phase_of names life
-  pub answered : sent ≤ length (out_now life)
-  pub waiting : link.waiting ≡ drop sent (out_now life)
-  pub quiet : IsQuietAt place life
-  -- what came on it, joined
-  pub held : bytes_now life ≡ bytes
-
-pub record Serves (c place : ℕ) (bytes : List ℕ) (s : Setting) (sent : ℕ → ℕ) (w : World) (machine : Machine) : Type 0 where
-  pub names : machine.names ≡ s.names
-  pub units : machine.units ≡ w.units
-  pub count : length machine.links ≡ connection_limit
-  pub in_range : c < connection_limit
-  pub here : IsServing s.names place bytes (sent c) (link_at machine c) (present c w)
-  pub others : (d : ℕ) → d < connection_limit → d ≢ c → IsLinkOf s.names (sent d) (link_at machine d) (present d w)
 
 -- ---- what is remembered of a phase
 
@@ -188,9 +160,3 @@ step_idle marks c step act w r = rw r refl
 pub step_marked : (marks : List Mark) (c : ℕ) (step : Step) (act : World → World) (w : World) → reads_life (present c w) ≡ true → is_marked marks c step ≡ true → take_step marks c step act w ≡ close c w
 unfolding take_step
 step_marked marks c step act w r u = rw (r, u) refl
-
--- no mark names a step of the frame of this place
-pub record Unmarked (marks : List Mark) (c place : ℕ) : Type 0 where
-  pub judging : is_marked marks c (Judging place) ≡ false
-  pub taking : is_marked marks c (Taking place) ≡ false
-  pub doing : is_marked marks c (Doing place) ≡ false

@@ -17,7 +17,8 @@ use Rattle.iscsi_login.specs.declared.params.Params.{Params}
 use Rattle.iscsi_target.proofs.Choices.{cond_true, cond_false, and_true, not_true}
 use Rattle.iscsi_target.proofs.Counting.{eqb_self}
 use Rattle.iscsi_target.proofs.Lives.{present-over, present-changed_other, present-units, present-born, present-born_other, present_is}
-use Rattle.iscsi_target.proofs.Serving.{IsQuietAt, Serves, session_same, bytes_now}
+use Rattle.iscsi_target.specs.Serving.{IsQuietAt, bytes_now, Serves}
+use Rattle.iscsi_target.proofs.Serving.{session_same}
 
 -- ---- one more event
 

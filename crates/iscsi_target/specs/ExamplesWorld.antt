@@ -86,13 +86,18 @@ before_it_is_judged : outputs one_target (failed_at (Judging 1)) ≡ unanswered
 unfolding computed
 before_it_is_judged = refl
 
-before_it_is_taken : outputs one_target (failed_at (Taking 1)) ≡ unanswered
+before_it_is_taken : outputs one_target (failed_at (Taking 1 0)) ≡ unanswered
 unfolding computed
 before_it_is_taken = refl
 
-before_it_is_done : outputs one_target (failed_at (Doing 1)) ≡ unanswered
+before_it_is_done : outputs one_target (failed_at (Doing 1 0)) ≡ unanswered
 unfolding computed
 before_it_is_done = refl
+
+-- the frame sets off one command, so a mark at a second one names no step
+before_a_second_is_done : outputs one_target (failed_at (Doing 1 1)) ≡ (logged_in ++ attention) ∷ (login_response 0x01 0x02 ++ attention) ∷ []
+unfolding computed
+before_a_second_is_done = refl
 
 -- an allocation fails before the second of two Login requests is answered: it closes the connection
 before_it_is_answered : outputs one_target (plain (Open 0) ∷ plain (Bytes 0 first_request) ∷ marked (record { connection = 0; step = Judging 1 } ∷ []) (Bytes 0 (second_request ++ first_test)) ∷ []) ≡ first_answer ∷ []
@@ -100,7 +105,7 @@ unfolding computed
 before_it_is_answered = refl
 
 -- that connection alone is closed
-it_is_closed : are_read one_target (failed_at (Doing 1)) ≡ false ∷ true ∷ []
+it_is_closed : are_read one_target (failed_at (Doing 1 0)) ≡ false ∷ true ∷ []
 unfolding computed
 it_is_closed = refl
 

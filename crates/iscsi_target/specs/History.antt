@@ -9,13 +9,21 @@ pub data Event : Type 0 where
   Gone : (connection : ℕ) → Event
 
 -- A step of a connection in an event: a frame is judged, or answered where it is a Login request; the
--- act of taking a request; a command is done and answered; and then the event ends. Each frame has its
--- place among those of its connection.
+-- act of taking a request; a command is done and answered; and then the event ends. The place is that of
+-- the frame that sets off the step, among those of its connection. The turn counts the requests that this
+-- frame lets be taken, and then the commands that are done, each from 0 on.
 pub data Step : Type 0 where
   Judging : (place : ℕ) → Step
-  Taking : (place : ℕ) → Step
-  Doing : (place : ℕ) → Step
+  Taking : (place turn : ℕ) → Step
+  Doing : (place turn : ℕ) → Step
   Ending : Step
+
+-- the frame of this place sets off the step
+abbrev pub is_of : ℕ → Step → Bool
+is_of place (Judging p) = p == place
+is_of place (Taking p turn) = p == place
+is_of place (Doing p turn) = p == place
+is_of place Ending = false
 
 -- an allocation failed: just before this step of this connection, it is closed as by a violation
 pub record Mark : Type 0 where

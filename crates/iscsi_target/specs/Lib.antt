@@ -24,6 +24,7 @@ pub mod Output
 pub mod Events
 pub mod Machine
 pub mod Stands
+pub mod Serving
 pub mod Runs
 pub mod Laws
 pub mod ExamplesBytes

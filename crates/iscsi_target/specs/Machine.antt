@@ -14,7 +14,7 @@ use Rattle.iscsi_login.specs.LoginState.{LoginState, AsksBelow, new_login}
 use Rattle.iscsi_login.specs.Login.{advanced, reply_of}
 use Rattle.iscsi_login.specs.Values.{AreInRange}
 use Rattle.iscsi_target.specs.Life.{window}
-use Rattle.iscsi_target.specs.Acts.{is_login, verdict, carried_out, command_answers}
+use Rattle.iscsi_target.specs.Acts.{carried_out, command_answers}
 use Rattle.iscsi_target.specs.World.{left, changed_units, lookup_for}
 use Rattle.iscsi_login.specs.declared.params.Params.{Params}
 use Rattle.iscsi_target.specs.declared.session.Verdict.{Verdict}
@@ -173,16 +173,6 @@ abbrev pub judged : Verdict → Machine → ℕ → Frame → Machine
 judged verdicts.Violating machine c frame = closed machine c
 judged verdicts.Accepted machine c frame =
     let p = served_in (link_at machine c) machine.units frame (link_at machine c).phase in record (with_link machine c p.0) { units = p.1 }
-
-abbrev pub frame_in : Machine → ℕ → Frame → Phase → Machine
-frame_in machine c frame Free = machine
-frame_in machine c frame (Login login) = if is_login frame then logged_in machine c login frame else closed machine c
-frame_in machine c frame (FullFeature session numbers) = judged (verdict numbers.exp_cmd_sn frame) machine c frame
-frame_in machine c frame Closing = machine
-
--- a frame is taken
-unfoldable pub frame_taken : Machine → ℕ → Frame → Machine
-frame_taken machine c frame = frame_in machine c frame (link_at machine c).phase
 
 -- a frame is taken from the front of the bytes
 pub record GivesFrame (frame : Frame) (before after : List ℕ) : Type 0 where

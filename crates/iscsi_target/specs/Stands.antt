@@ -2,7 +2,7 @@
 use Rattle.std.specs.Prelude.{◌≡◌, ◌⊎◌, ℕ, ◌+◌, ◌<◌, ◌≤◌, List, [], ◌∷◌, ◌++◌, length, drop, map, filter, true, false, ◌==◌, Option, Some, None, if◌then◌else◌, ⊤}
 use Rattle.iscsi_pdu.specs.Frames.{frames, rest, is_long}
 use Rattle.iscsi_login.specs.Login.{remembered}
-use Rattle.iscsi_target.specs.History.{History, Mark, Judging, arrivals, connection_limit}
+use Rattle.iscsi_target.specs.History.{History, Mark, is_of, arrivals, connection_limit}
 use Rattle.iscsi_target.specs.Life.{Life, Phase, LoggingIn, FullFeature, Closing, Over, Accepted, reads, bears_status, stamp}
 use Rattle.iscsi_target.specs.World.{Setting, World, present, world}
 use Rattle.iscsi_target.specs.Output.{out_now}
@@ -88,10 +88,10 @@ Stands s sent machine history = StandsAt s sent (world s history) machine
 abbrev pub with_sent : (ℕ → ℕ) → ℕ → ℕ → ℕ → ℕ
 with_sent sent c n d = if d == c then n else sent d
 
--- the first of the marks stands before the judging of the frame of this place
+-- the first of the marks stands before a step of the frame of this place
 abbrev pub NamesFirst : ℕ → ℕ → List Mark → Type 0
 NamesFirst c place [] = ⊥
-NamesFirst c place (mark ∷ marks) = (mark.connection ≡ c) × (mark.step ≡ Judging place)
+NamesFirst c place (mark ∷ marks) = (mark.connection ≡ c) × (is_of place mark.step ≡ true)
 
 -- how many frames have come, and how many come with a further piece
 abbrev pub frames_before : Option Life → ℕ
@@ -102,7 +102,7 @@ abbrev pub frames_with : Option Life → List ℕ → ℕ
 frames_with None piece = 0
 frames_with (Some life) piece = frames_before (Some life) + length (frames (rest life.bytes ++ piece))
 
--- An allocation failed in a piece's event: before a frame that the piece brings was judged, or at once,
+-- An allocation failed in a piece's event: before a step of a frame that the piece brings, or at once,
 -- before the piece was kept.
 pub record IsStarved (c : ℕ) (life : Option Life) (piece : List ℕ) (marks : List Mark) : Type 0 where
   pub place : ℕ

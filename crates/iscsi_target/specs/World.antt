@@ -1,7 +1,7 @@
 -- The machine that the target is: plain lists of what came and what was answered, and the units. Each
 -- step is of one connection.
 use Rattle.std.specs.Prelude.{ℕ, ◌+◌, List, [], ◌∷◌, ◌++◌, fold, map, find, Bool, true, false, ◌&&◌, not, ◌==◌, Option, Some, None, slice_index_or, slice_set, if◌then◌else◌}
-use Rattle.std.specs.List.{list_any}
+use Rattle.std.specs.List.{list_any, enumerate_from}
 use Rattle.scsi_sense.specs.Done.{Outcome}
 use Rattle.iscsi_pdu.specs.Frames.{Frame}
 use Rattle.iscsi_pdu.specs.declared.answer.Answer.{Answer}
@@ -87,8 +87,8 @@ end c w = record (changed (λ life. record life { phase = Over }) c w) { units =
 
 abbrev pub is_step : Step → Step → Bool
 is_step (Judging a) (Judging b) = a == b
-is_step (Taking a) (Taking b) = a == b
-is_step (Doing a) (Doing b) = a == b
+is_step (Taking a i) (Taking b j) = a == b && i == j
+is_step (Doing a i) (Doing b j) = a == b && i == j
 is_step Ending Ending = true
 is_step _ _ = false
 
@@ -177,15 +177,15 @@ ready_in None = []
 ready_in (Some life) = ready life
 
 -- the commands at the front that are complete are done and answered, one after the other
-unfoldable pub settle : List Mark → ℕ → World → World
-settle marks c w = fold (λ v command. take_step marks c (Doing command.place) (finish c command) v) w (ready_in (present c w))
+unfoldable pub settle : List Mark → ℕ → ℕ → World → World
+settle marks c place w = fold (λ v turn. take_step marks c (Doing place turn.0) (finish c turn.1) v) w (enumerate_from 0 (ready_in (present c w)))
 
 -- A frame is judged, the requests that can be taken are, and the commands that are ready are done. Which
 -- requests are taken is read from those that came: the act of taking changes no list.
 unfoldable pub serve : List Mark → ℕ → ℕ → Frame → World → World
 serve marks c place frame w =
     let v = take_step marks c (Judging place) (judge c place frame) w in
-    settle marks c (take_step marks c (Taking place) (λ u. u) v)
+    settle marks c place (take_step marks c (Taking place 0) (λ u. u) v)
 
 -- ---- one event
 

@@ -5,12 +5,13 @@ ghost use Rattle.std.specs.Result.{IsErrOf};
 ghost use Rattle.iscsi_pdu.specs.Frames.{has_frame, is_long};
 ghost use Rattle.iscsi_target.specs.History.{Open, Bytes, Gone, Mark, History, plain, marked};
 ghost use Rattle.iscsi_target.specs.World.{Setting, present, world};
-ghost use Rattle.iscsi_target.specs.Machine.{LinkState, IsSound, WhereSound, IsAlike, free_link, opened_link, sent_link, new_machine, link_at, with_link, closed, begun, logged_in, is_logging_in, judged, frame_taken, GivesFrame, is_reading, is_open_at, is_closing, want_of};
+ghost use Rattle.iscsi_target.specs.Machine.{LinkState, IsSound, WhereSound, IsAlike, free_link, opened_link, sent_link, new_machine, link_at, with_link, closed, begun, logged_in, is_logging_in, judged, GivesFrame, is_reading, is_open_at, is_closing, want_of};
 ghost use Rattle.iscsi_target.specs.declared.phase.Phase.TheVariants.{Login};
 ghost use Rattle.iscsi_target.specs.declared.session.Verdict.TheVariants.{Accepted};
 ghost use Rattle.iscsi_login.specs.LoginState.{LoginState};
 ghost use Rattle.iscsi_login.specs.Values.{AreInRange};
 ghost use Rattle.iscsi_target.specs.Stands.{Stands, IsStarved, with_sent};
+ghost use Rattle.iscsi_target.specs.Serving.{Takes, Fails};
 
 use crate::config::Config;
 use crate::fault::{Memory, Starved};
@@ -240,7 +241,8 @@ impl<S: Store> Target<S> {
     #[tactic(auto, unfolding(crate::specs::Machine::closed, crate::specs::World::changed_units))]
     fn close(&mut self, c: usize)
         requires { c < 64 }
-        ensures { self.new ≡ closed self.old c }
+        ensures closed { self.new ≡ closed self.old c }
+        ensures count { length self.old.links ≡ 64 }
     {
         let link = &mut self.links[c];
         if let Phase::FullFeature { session, .. } = &link.phase {
@@ -254,6 +256,7 @@ impl<S: Store> Target<S> {
     fn starve(&mut self, c: usize) -> Starved
         requires { c < 64 }
         ensures closed { self.new ≡ closed self.old c }
+        ensures count { length self.old.links ≡ 64 }
         ensures names { result.connection ≡ c }
     {
         self.close(c);
@@ -290,13 +293,11 @@ impl<S: Store> Target<S> {
 
     /// One frame of a connection, in its phase. Where an allocation fails the connection is to be
     /// closed, and nothing else changes.
-    #[tactic(auto, unfolding(crate::specs::Machine::frame_taken, crate::specs::Acts::is_login))]
+    #[tactic(auto, unfolding(crate::specs::Acts::is_login))]
     fn take_frame(&mut self, c: usize, frame: &Frame) -> Result<(), Memory>
         requires { c < 64 }
-        ensures ok { OnOk result (IsSound self.new → self.new ≡ frame_taken self.old c frame.now) }
-        ensures sound { OnOk result (IsSound self.new → IsSound self.old) }
-        ensures links { OnOk result ((d : ℕ) → IsAlike (link_at self.new d) (link_at (frame_taken self.old c frame.now) d)) }
-        ensures err { OnErr result (closed self.new c ≡ closed self.old c) }
+        ensures ok { OnOk result (Takes c frame.now self.old self.new) }
+        ensures err { OnErr result (Fails c frame.now self.old self.new) }
     {
         match &self.links[c].phase {
             Phase::Free | Phase::Closing => Ok(()),

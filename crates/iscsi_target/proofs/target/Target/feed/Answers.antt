@@ -3,10 +3,11 @@ use Rattle.std.proofs.lemmas.Bool.{eqb-true}
 use Rattle.std.proofs.lemmas.List.{nil_from_length}
 use Rattle.iscsi_target.specs.Machine.{LinkState, Machine, link_at, closed, is_open_at, is_reading, GivesFrame}
 use Rattle.iscsi_target.proofs.Sound.{closed_sound, sound_as}
-use Rattle.iscsi_target.proofs.Opening.{closed_opens, reading_is_open}
+use Rattle.iscsi_target.proofs.Opening.{half_opens, closed_opens, reading_is_open}
 use Rattle.iscsi_target.proofs.Standing.{stands_machine}
 use Rattle.iscsi_target.proofs.Bringing.{begins, goes_on, with_half}
-use Rattle.iscsi_target.proofs.Feeding.{ends_whole, ends_closed, ends_long, ends_starved, ends_at_once, ends_idle, ends_empty, starved_machine, progress_from, closing_there, closed_rehalved, first_sound, first_opens, taken_is_shorter, some_given, some_frame}
+use Rattle.iscsi_target.proofs.Feeding.{ends_whole, ends_closed, ends_long, ends_idle, ends_empty, progress_from, closing_there, first_sound, first_opens, taken_is_shorter}
+use Rattle.iscsi_target.proofs.Starving.{ends_starved, ends_failed, ends_at_once, starved_machine, some_frame}
 use Rattle.iscsi_target.proofs.target.Target.feed.Goals as goal
 
 pub returns-then-is_empty-clause-stands : goal.returns-then-is_empty-clause-stands
@@ -49,35 +50,30 @@ loop-self-init g c =
 pub returns-in-Err-take_frame-clause-starved : goal.returns-in-Err-take_frame-clause-starved
 returns-in-Err-take_frame-clause-starved g c = λ s sent h at sound.
     (let given = rw c.in-Ok-Some.field-0-is at c.in-Ok-Some.ensures.same in
-    let lt : c.args.c < length c.loop-self.self.links = (let below = c.requires.in_range in omega (arith, c.reads-in-loop-self.ensures.count)) in
-    let same : closed c.loop-self.self c.args.c ≡ c.starve-in-Err-take_frame.new.self =
-    sym (closed_rehalved c.loop-self.self c.next_frame.new.self c.args.c _ lt given) ∙ sym c.in-Err-take_frame.ensures.err ∙ sym c.starve-in-Err-take_frame.ensures.closed in
-    let now_sound = closed_sound c.loop-self.self c.args.c (sound_as c.starve-in-Err-take_frame.new.self _ (sym same) sound) in
-    starved_machine c.args.c s sent h c.args.piece.now (closed c.loop-self.self c.args.c) c.starve-in-Err-take_frame.new.self same
-    (ends_starved c.args.c s sent c.args.self.now c.loop-self.self h c.args.piece.now c.requires.in_range (at (first_sound c.args.c c.args.self.now c.keep.new.self c.loop-self.self c.args.piece.now c.in_default.ensures.ok c.loop-self.invariant now_sound)) (sym c.reads.ensures.value ∙ c.if-not-reads.false)
-    (progress_from c.args.c c.keep.new.self _ c.loop-self.self c.in_default.ensures.ok c.loop-self.invariant) now_sound (sym c.reads-in-loop-self.ensures.value ∙ c.loop-self-test.true)
-    (some_given c.in-Ok-Some.frame _ _ (rw c.in-Ok-Some.field-0-is at c.in-Ok-Some.ensures.given))))
+    let same = c.starve-in-Err-take_frame.ensures.closed in
+    let stopped = sound_as c.starve-in-Err-take_frame.new.self _ same sound in
+    let now_sound = sound_as c.next_frame.new.self _ given (c.in-Err-take_frame.ensures.err.back stopped) in
+    starved_machine c.args.c s sent h c.args.piece.now (closed c.take_frame.new.self c.args.c) c.starve-in-Err-take_frame.new.self (sym same)
+    (ends_failed c.args.c s sent c.args.self.now c.loop-self.self c.next_frame.new.self c.take_frame.new.self h c.args.piece.now c.in-Ok-Some.frame c.requires.in_range (at (first_sound c.args.c c.args.self.now c.keep.new.self c.loop-self.self c.args.piece.now c.in_default.ensures.ok c.loop-self.invariant now_sound)) (sym c.reads.ensures.value ∙ c.if-not-reads.false)
+    (progress_from c.args.c c.keep.new.self _ c.loop-self.self c.in_default.ensures.ok c.loop-self.invariant) (sym c.reads-in-loop-self.ensures.value ∙ c.loop-self-test.true)
+    (rw c.in-Ok-Some.field-0-is at c.in-Ok-Some.ensures.given) given c.in-Err-take_frame.ensures.err stopped))
 
 pub returns-in-Err-take_frame-clause-closing : goal.returns-in-Err-take_frame-clause-closing
 returns-in-Err-take_frame-clause-closing g c =
-    let given = rw c.in-Ok-Some.field-0-is at c.in-Ok-Some.ensures.same in
-    let lt : c.args.c < length c.loop-self.self.links = (let below = c.requires.in_range in omega (arith, c.reads-in-loop-self.ensures.count)) in
-    let same : c.starve-in-Err-take_frame.new.self ≡ closed c.loop-self.self c.args.c =
-    c.starve-in-Err-take_frame.ensures.closed ∙ c.in-Err-take_frame.ensures.err ∙ closed_rehalved c.loop-self.self c.next_frame.new.self c.args.c _ lt given in
-    rw same (closing_there c.loop-self.self c.args.c lt)
+    rw c.starve-in-Err-take_frame.ensures.closed (closing_there c.take_frame.new.self c.args.c (let below = c.requires.in_range in omega (arith, c.starve-in-Err-take_frame.ensures.count)))
 
 pub loop-self-preserved : goal.loop-self-preserved
 loop-self-preserved g c =
     let lt : c.args.c < length c.loop-self.self.links = (let below = c.requires.in_range in omega (arith, c.reads-in-loop-self.ensures.count)) in
     goes_on c.args.c c.keep.new.self c.loop-self.self c.next_frame.new.self c.take_frame.new.self c.in-Ok-Some.frame lt c.loop-self.invariant (sym c.reads-in-loop-self.ensures.value ∙ c.loop-self-test.true)
     (rw c.in-Ok-Some.field-0-is at c.in-Ok-Some.ensures.given) (rw c.in-Ok-Some.field-0-is at c.in-Ok-Some.ensures.same)
-    (record { same = c.in_default-take_frame.ensures.ok; back = c.in_default-take_frame.ensures.sound; links = c.in_default-take_frame.ensures.links })
+    c.in_default-take_frame.ensures.ok
 
 pub loop-self-smaller : goal.loop-self-smaller
 loop-self-smaller g c =
     let lt : c.args.c < length c.loop-self.self.links = (let below = c.requires.in_range in omega (arith, c.reads-in-loop-self.ensures.count)) in
     let given : GivesFrame c.in-Ok-Some.frame _ _ = rw c.in-Ok-Some.field-0-is at c.in-Ok-Some.ensures.given in
-    taken_is_shorter c.args.c c.loop-self.self c.next_frame.new.self c.take_frame.new.self c.in-Ok-Some.frame lt (sym c.reads-in-loop-self.ensures.value ∙ c.loop-self-test.true) given (rw c.in-Ok-Some.field-0-is at c.in-Ok-Some.ensures.same) (c.in_default-take_frame.ensures.links c.args.c)
+    taken_is_shorter c.args.c c.loop-self.self c.next_frame.new.self c.take_frame.new.self c.in-Ok-Some.frame lt (sym c.reads-in-loop-self.ensures.value ∙ c.loop-self-test.true) given (rw c.in-Ok-Some.field-0-is at c.in-Ok-Some.ensures.same) c.in_default-take_frame.ensures.ok
 
 pub returns-in-Ok-None-clause-stands : goal.returns-in-Ok-None-clause-stands
 returns-in-Ok-None-clause-stands g c = λ s sent h at sound.
@@ -91,7 +87,7 @@ returns-in-Ok-None-clause-stands g c = λ s sent h at sound.
 pub returns-in-Err-TooLong-clause-stands : goal.returns-in-Err-TooLong-clause-stands
 returns-in-Err-TooLong-clause-stands g c = λ s sent h at sound.
     (let told = rw c.in-Err-TooLong.field-0-is at c.in-Err-TooLong.ensures.too_long in
-    let same : closed c.loop-self.self c.args.c ≡ c.close.new.self = ap (λ (m : Machine). closed m c.args.c) (sym c.in-Err-TooLong.ensures.err) ∙ sym c.close.ensures in
+    let same : closed c.loop-self.self c.args.c ≡ c.close.new.self = ap (λ (m : Machine). closed m c.args.c) (sym c.in-Err-TooLong.ensures.err) ∙ sym c.close.ensures.closed in
     let now_sound = closed_sound c.loop-self.self c.args.c (sound_as c.close.new.self _ (sym same) sound) in
     stands_machine s sent _ (closed c.loop-self.self c.args.c) c.close.new.self same
     (ends_long c.args.c s sent c.args.self.now c.loop-self.self h c.args.piece.now c.requires.in_range (at (first_sound c.args.c c.args.self.now c.keep.new.self c.loop-self.self c.args.piece.now c.in_default.ensures.ok c.loop-self.invariant now_sound)) (sym c.reads.ensures.value ∙ c.if-not-reads.false)
@@ -122,30 +118,27 @@ returns-clause-stands g c = λ s sent h at sound.
 pub returns-in-Err-take_frame-clause-sound : goal.returns-in-Err-take_frame-clause-sound
 returns-in-Err-take_frame-clause-sound g c = λ sound.
     (let given = rw c.in-Ok-Some.field-0-is at c.in-Ok-Some.ensures.same in
-    let lt : c.args.c < length c.loop-self.self.links = (let below = c.requires.in_range in omega (arith, c.reads-in-loop-self.ensures.count)) in
-    let same : c.starve-in-Err-take_frame.new.self ≡ closed c.loop-self.self c.args.c =
-    c.starve-in-Err-take_frame.ensures.closed ∙ c.in-Err-take_frame.ensures.err ∙ closed_rehalved c.loop-self.self c.next_frame.new.self c.args.c _ lt given in
-    first_sound c.args.c c.args.self.now c.keep.new.self c.loop-self.self c.args.piece.now c.in_default.ensures.ok c.loop-self.invariant (closed_sound c.loop-self.self c.args.c (sound_as c.starve-in-Err-take_frame.new.self _ same sound)))
+    let stopped = sound_as c.starve-in-Err-take_frame.new.self _ c.starve-in-Err-take_frame.ensures.closed sound in
+    first_sound c.args.c c.args.self.now c.keep.new.self c.loop-self.self c.args.piece.now c.in_default.ensures.ok c.loop-self.invariant (sound_as c.next_frame.new.self _ given (c.in-Err-take_frame.ensures.err.back stopped)))
 
 pub returns-in-Err-take_frame-clause-open : goal.returns-in-Err-take_frame-clause-open
 returns-in-Err-take_frame-clause-open g c = λ d.
     (let given = rw c.in-Ok-Some.field-0-is at c.in-Ok-Some.ensures.same in
     let lt : c.args.c < length c.loop-self.self.links = (let below = c.requires.in_range in omega (arith, c.reads-in-loop-self.ensures.count)) in
-    let same : c.starve-in-Err-take_frame.new.self ≡ closed c.loop-self.self c.args.c =
-    c.starve-in-Err-take_frame.ensures.closed ∙ c.in-Err-take_frame.ensures.err ∙ closed_rehalved c.loop-self.self c.next_frame.new.self c.args.c _ lt given in
-    ap (λ (m : Machine). is_open_at m d) same ∙ closed_opens c.loop-self.self c.args.c lt (reading_is_open _ (sym c.reads-in-loop-self.ensures.value ∙ c.loop-self-test.true)) d
+    ap (λ (m : Machine). is_open_at m d) c.starve-in-Err-take_frame.ensures.closed ∙ c.in-Err-take_frame.ensures.err.opens d
+    ∙ ap (λ (m : Machine). is_open_at m d) given ∙ half_opens c.loop-self.self c.args.c _ lt d
     ∙ first_opens c.args.c c.args.self.now c.keep.new.self c.loop-self.self c.args.piece.now (let below = c.requires.in_range in omega (arith, c.reads.ensures.count)) c.in_default.ensures.ok c.loop-self.invariant d)
 
 pub returns-in-Err-TooLong-clause-sound : goal.returns-in-Err-TooLong-clause-sound
 returns-in-Err-TooLong-clause-sound g c = λ sound.
     (let lt : c.args.c < length c.loop-self.self.links = (let below = c.requires.in_range in omega (arith, c.reads-in-loop-self.ensures.count)) in
-    let same : c.close.new.self ≡ closed c.loop-self.self c.args.c = c.close.ensures ∙ ap (λ (m : Machine). closed m c.args.c) c.in-Err-TooLong.ensures.err in
+    let same : c.close.new.self ≡ closed c.loop-self.self c.args.c = c.close.ensures.closed ∙ ap (λ (m : Machine). closed m c.args.c) c.in-Err-TooLong.ensures.err in
     first_sound c.args.c c.args.self.now c.keep.new.self c.loop-self.self c.args.piece.now c.in_default.ensures.ok c.loop-self.invariant (closed_sound c.loop-self.self c.args.c (sound_as c.close.new.self _ same sound)))
 
 pub returns-in-Err-TooLong-clause-open : goal.returns-in-Err-TooLong-clause-open
 returns-in-Err-TooLong-clause-open g c = λ d.
     (let lt : c.args.c < length c.loop-self.self.links = (let below = c.requires.in_range in omega (arith, c.reads-in-loop-self.ensures.count)) in
-    let same : c.close.new.self ≡ closed c.loop-self.self c.args.c = c.close.ensures ∙ ap (λ (m : Machine). closed m c.args.c) c.in-Err-TooLong.ensures.err in
+    let same : c.close.new.self ≡ closed c.loop-self.self c.args.c = c.close.ensures.closed ∙ ap (λ (m : Machine). closed m c.args.c) c.in-Err-TooLong.ensures.err in
     ap (λ (m : Machine). is_open_at m d) same ∙ closed_opens c.loop-self.self c.args.c lt (reading_is_open _ (sym c.reads-in-loop-self.ensures.value ∙ c.loop-self-test.true)) d
     ∙ first_opens c.args.c c.args.self.now c.keep.new.self c.loop-self.self c.args.piece.now (let below = c.requires.in_range in omega (arith, c.reads.ensures.count)) c.in_default.ensures.ok c.loop-self.invariant d)
 

@@ -16,13 +16,13 @@ invariant_of-self g c =
     )
 
 pub returns-clause-sound : goal.returns-clause-sound
-returns-clause-sound g c = λ sound. closed_sound c.args.self.now c.args.c (sound_as c.close.new.self _ c.close.ensures (sound_units _ c.close.new.self (ap (λ (m : Machine). m.units) c.self.view_is) sound))
+returns-clause-sound g c = λ sound. closed_sound c.args.self.now c.args.c (sound_as c.close.new.self _ c.close.ensures.closed (sound_units _ c.close.new.self (ap (λ (m : Machine). m.units) c.self.view_is) sound))
 
 pub returns-clause-stands : goal.returns-clause-stands
 returns-clause-stands g c = λ s sent h at sound.
-    (let before = closed_sound c.args.self.now c.args.c (sound_as c.close.new.self _ c.close.ensures (sound_units _ c.close.new.self (ap (λ (m : Machine). m.units) c.self.view_is) sound)) in
+    (let before = closed_sound c.args.self.now c.args.c (sound_as c.close.new.self _ c.close.ensures.closed (sound_units _ c.close.new.self (ap (λ (m : Machine). m.units) c.self.view_is) sound)) in
     stands_machine _ _ _ _ _ (search rules) (gone_stands s sent c.args.self.now h c.args.c c.requires.in_range (at before)))
 
 pub returns-clause-count : goal.returns-clause-count
 returns-clause-count g c =
-    sym (closed_count c.args.self.now c.args.c) ∙ ap (λ (m : Machine). length m.links) (sym c.close.ensures ∙ sym c.self.view_is) ∙ c.self.invariant.0
+    sym (closed_count c.args.self.now c.args.c) ∙ ap (λ (m : Machine). length m.links) (sym c.close.ensures.closed ∙ sym c.self.view_is) ∙ c.self.invariant.0
