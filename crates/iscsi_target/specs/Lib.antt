@@ -11,13 +11,17 @@ pub use Rattle.scsi_sense.specs.Done
 pub use Rattle.scsi_sense.specs.Nexus
 pub use Rattle.scsi_cdb.specs.Command
 pub use Rattle.iscsi_transfer.specs.DataIn
+pub use Rattle.iscsi_session.specs.Requests
+pub use Rattle.iscsi_session.specs.Judging
+pub use Rattle.iscsi_session.specs.Acts
+pub use Rattle.iscsi_session.specs.Answers
+pub use Rattle.iscsi_session.specs.State
 pub use Rattle.media_block.specs.Blocks
 pub use Rattle.scsi_unit.specs.Medium
 pub use Rattle.scsi_unit.specs.Unit
 pub use Rattle.scsi_unit.specs.Units
 pub mod History
 pub mod Life
-pub mod Room
 pub mod Acts
 pub mod World
 pub mod Output
@@ -25,6 +29,7 @@ pub mod Events
 pub mod Machine
 pub mod Stands
 pub mod Serving
+pub mod Sessions
 pub mod Runs
 pub mod Laws
 pub mod ExamplesBytes

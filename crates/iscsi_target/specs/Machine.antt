@@ -3,7 +3,6 @@
 use Rattle.std.specs.Prelude.{◌≡◌, All, ℕ, ◌+◌, ◌-◌, ◌^◌, ◌%◌, ◌<◌, List, [], ◌∷◌, ◌++◌, length, drop, map, flat_map, replicate, Bool, true, false, ◌||◌, not, nat_lt, Option, Some, None, slice_index_or, slice_set, if◌then◌else◌, ⊤}
 use Rattle.iscsi_pdu.specs.Frames.{Frame, frames, rest, wanted}
 use Rattle.iscsi_pdu.specs.Answer.{spelling}
-use Rattle.iscsi_pdu.specs.declared.stamp.Stamp.{Stamp}
 use Rattle.iscsi_pdu.specs.declared.answer.Answer.{Answer}
 use Rattle.iscsi_pdu.specs.declared.answer.Answer.TheVariants as answers
 use Rattle.iscsi_pdu.specs.declared.login_response.LoginResponse.{LoginResponse}
@@ -13,12 +12,10 @@ use Rattle.iscsi_login.specs.Session.{Live, older}
 use Rattle.iscsi_login.specs.LoginState.{LoginState, AsksBelow, new_login}
 use Rattle.iscsi_login.specs.Login.{advanced, reply_of}
 use Rattle.iscsi_login.specs.Values.{AreInRange}
-use Rattle.iscsi_target.specs.Life.{window}
-use Rattle.iscsi_target.specs.Acts.{carried_out, command_answers}
+use Rattle.iscsi_session.specs.Requests.{begun as begun_past}
+use Rattle.iscsi_session.specs.State.{remembered}
 use Rattle.iscsi_target.specs.World.{left, changed_units, lookup_for}
 use Rattle.iscsi_login.specs.declared.params.Params.{Params}
-use Rattle.iscsi_target.specs.declared.session.Verdict.{Verdict}
-use Rattle.iscsi_target.specs.declared.session.Verdict.TheVariants as verdicts
 use Rattle.iscsi_login.specs.declared.reply.Reply.{Reply}
 use Rattle.iscsi_login.specs.declared.reply.Reply.TheVariants.{GoOn, Full, Refused}
 use Rattle.iscsi_target.specs.declared.phase.Phase.{Phase}
@@ -53,7 +50,7 @@ link_at machine c = slice_index_or machine.links c free_link
 -- frames are read in this phase
 abbrev pub is_reading : Phase → Bool
 is_reading (Login login) = true
-is_reading (FullFeature session numbers) = true
+is_reading (FullFeature session) = true
 is_reading _ = false
 
 abbrev pub is_free : Phase → Bool
@@ -81,31 +78,27 @@ most_waiting = 1048576
 abbrev pub want_of : LinkState → ℕ
 want_of link = if is_closing link.phase || nat_lt most_waiting (length link.waiting) then 0 else wanted link.half
 
+-- full feature phase
+abbrev pub is_in_session : Phase → Bool
+is_in_session (FullFeature session) = true
+is_in_session _ = false
+
+-- how many requests of the session have not acted, and how many commands are to be done
+abbrev pub waiting_requests : Phase → ℕ
+waiting_requests (FullFeature session) = length session.tasks.held + length session.tasks.arrived
+waiting_requests _ = 0
+
+abbrev pub waiting_commands : Phase → ℕ
+waiting_commands (FullFeature session) = length session.tasks.queue
+waiting_commands _ = 0
+
 -- the session in full feature phase
 abbrev pub session_in_phase : Phase → Option Params
-session_in_phase (FullFeature session numbers) = Some session
+session_in_phase (FullFeature session) = Some session.params
 session_in_phase _ = None
 
 abbrev pub sessions : List LinkState → Live
 sessions links = map (λ link. session_in_phase link.phase) links
-
--- ---- sequence numbers
-
--- the number after, modulo 2^32
-abbrev pub next_number : ℕ → ℕ
-next_number n = (n + 1) % 2 ^ 32
-
--- those of the first answer in full feature phase
-unfoldable pub first_numbers : Params → Stamp
-first_numbers session = record { stat_sn = session.next_stat_sn; exp_cmd_sn = session.first_cmd_sn % 2 ^ 32; max_cmd_sn = (session.first_cmd_sn + (window - 1)) % 2 ^ 32 }
-
--- one more answer that bears status was sent
-unfoldable pub counted : Stamp → Stamp
-counted numbers = record numbers { stat_sn = next_number numbers.stat_sn }
-
--- one more command was taken and finished
-unfoldable pub finished_one : Stamp → Stamp
-finished_one numbers = record numbers { exp_cmd_sn = next_number numbers.exp_cmd_sn; max_cmd_sn = next_number numbers.max_cmd_sn }
 
 -- ---- what a call, or a frame, does to what is remembered
 
@@ -124,18 +117,7 @@ abbrev pub refused_link : Answer → LinkState → LinkState
 refused_link answer link = record { half = []; phase = Closing; waiting = link.waiting ++ spelling answer }
 
 abbrev pub begun_link : Params → Answer → LinkState → LinkState
-begun_link session answer link = record link { phase = FullFeature session (first_numbers session); waiting = link.waiting ++ spelling answer }
-
--- a command is done and answered
-abbrev pub served : Params → Stamp → Frame → LinkState → List UnitStates → LinkState × List UnitStates
-served session numbers frame link all =
-    let p = carried_out (slice_index_or all session.target []) session.nexus frame in
-    let over = finished_one numbers in
-    (record link { phase = FullFeature session (counted over); waiting = link.waiting ++ flat_map spelling (command_answers over session.values frame p.1) }, slice_set all session.target p.0)
-
-abbrev pub served_in : LinkState → List UnitStates → Frame → Phase → LinkState × List UnitStates
-served_in link all frame (FullFeature session numbers) = served session numbers frame link all
-served_in link all frame _ = (link, all)
+begun_link session answer link = record link { phase = FullFeature (remembered session.next_stat_sn (begun_past session)); waiting = link.waiting ++ spelling answer }
 
 abbrev pub with_link : Machine → ℕ → LinkState → Machine
 with_link machine c link = record machine { links = slice_set machine.links c link }
@@ -169,11 +151,6 @@ IsAnswered (GoOn response) login old begun new = (begun ≡ None) × (new ≡ go
 IsAnswered (Refused response) login old begun new = (begun ≡ None) × (new ≡ refused_link (answers.LoginResponse response) old)
 IsAnswered (Full response session) login old begun new = (begun ≡ Some (response, session)) × (new ≡ record old { phase = new.phase }) × (is_logging_in new.phase ≡ true)
 
-abbrev pub judged : Verdict → Machine → ℕ → Frame → Machine
-judged verdicts.Violating machine c frame = closed machine c
-judged verdicts.Accepted machine c frame =
-    let p = served_in (link_at machine c) machine.units frame (link_at machine c).phase in record (with_link machine c p.0) { units = p.1 }
-
 -- a frame is taken from the front of the bytes
 pub record GivesFrame (frame : Frame) (before after : List ℕ) : Type 0 where
   pub first : frames before ≡ frame ∷ frames after
@@ -182,19 +159,9 @@ pub record GivesFrame (frame : Frame) (before after : List ℕ) : Type 0 where
 
 -- the target that its session or its login is with is one of so many, and its values are in range
 abbrev pub IsWithin : ℕ → Phase → Type 0
-IsWithin count (FullFeature session numbers) = (session.target < count) × AreInRange session.values
+IsWithin count (FullFeature session) = (session.params.target < count) × AreInRange session.params.values
 IsWithin count (Login login) = AsksBelow count login.session × AreInRange login.values
 IsWithin count _ = ⊤
-
--- the phase after a command
-abbrev pub served_phase : Phase → Phase
-served_phase (FullFeature session numbers) = FullFeature session (counted (finished_one numbers))
-served_phase phase = phase
-
--- a connection keeps the same bytes in the same phase
-pub record IsAlike (a b : LinkState) : Type 0 where
-  pub half : a.half ≡ b.half
-  pub phase : a.phase ≡ b.phase
 
 abbrev pub new_machine : List (List ℕ) → List UnitStates → Machine
 new_machine names units = record { names = names; units = units; links = replicate connection_limit free_link }

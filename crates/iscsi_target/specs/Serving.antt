@@ -11,30 +11,30 @@ use Rattle.iscsi_target.specs.Stands.{phase_of, IsQuiet, IsLinkOf}
 
 -- ---- between two frames of a connection
 
-abbrev pub IsQuietAt : ℕ → Option Life → Type 0
-IsQuietAt place None = ⊤
-IsQuietAt place (Some life) = IsQuiet place life life.phase
+abbrev pub IsQuietAt : Option Life → Type 0
+IsQuietAt None = ⊤
+IsQuietAt (Some life) = IsQuiet life life.phase
 
 abbrev pub bytes_now : Option Life → List ℕ
 bytes_now None = []
 bytes_now (Some life) = life.bytes
 
--- as IsLinkOf, but of the bytes that are no whole frame yet nothing is said: the next frame has this place
-pub record IsServing (names : List (List ℕ)) (place : ℕ) (bytes : List ℕ) (sent : ℕ) (link : LinkState) (life : Option Life) : Type 0 where
+-- as IsLinkOf, but of the bytes that are no whole frame yet nothing is said
+pub record IsServing (names : List (List ℕ)) (bytes : List ℕ) (sent : ℕ) (link : LinkState) (life : Option Life) : Type 0 where
   pub phase : link.phase ≡ phase_of names life
   pub answered : sent ≤ length (out_now life)
   pub waiting : link.waiting ≡ drop sent (out_now life)
-  pub quiet : IsQuietAt place life
+  pub quiet : IsQuietAt life
   -- what came on it, joined
   pub held : bytes_now life ≡ bytes
 
 -- The code stands where this World does, while the frames of connection c are taken.
-pub record Serves (c place : ℕ) (bytes : List ℕ) (s : Setting) (sent : ℕ → ℕ) (w : World) (machine : Machine) : Type 0 where
+pub record Serves (c : ℕ) (bytes : List ℕ) (s : Setting) (sent : ℕ → ℕ) (w : World) (machine : Machine) : Type 0 where
   pub names : machine.names ≡ s.names
   pub units : machine.units ≡ w.units
   pub count : length machine.links ≡ connection_limit
   pub in_range : c < connection_limit
-  pub here : IsServing s.names place bytes (sent c) (link_at machine c) (present c w)
+  pub here : IsServing s.names bytes (sent c) (link_at machine c) (present c w)
   pub others : (d : ℕ) → d < connection_limit → d ≢ c → IsLinkOf s.names (sent d) (link_at machine d) (present d w)
 
 -- ---- a frame is taken
@@ -54,8 +54,8 @@ pub record Takes (c : ℕ) (frame : Frame) (given after : Machine) : Type 0 wher
   pub keeps : is_reading (link_at given c).phase ≡ true → KeepsHalf (link_at given c).half (link_at after c)
   pub opens : (d : ℕ) → is_open_at after d ≡ is_open_at given d
   -- where the code stood with the World, it stands with the World that took the frame
-  pub stands : IsSound after → (s : Setting) (sent : ℕ → ℕ) (w : World) (place : ℕ) (bytes : List ℕ) (marks : List Mark) → Unmarked marks c place → Serves c place bytes s sent w given
-      → Serves c (place + 1) bytes s sent (arrive s marks c w (place, Whole frame)) after
+  pub stands : IsSound after → (s : Setting) (sent : ℕ → ℕ) (w : World) (place : ℕ) (bytes : List ℕ) (marks : List Mark) → Unmarked marks c place → Serves c bytes s sent w given
+      → Serves c bytes s sent (arrive s marks c w (place, Whole frame)) after
 
 -- ---- an allocation fails
 
@@ -72,5 +72,5 @@ pub record Fails (c : ℕ) (frame : Frame) (given after : Machine) : Type 0 wher
   pub step : ℕ → Step
   pub of_frame : (place : ℕ) → is_of place (step place) ≡ true
   -- where the code stood with the World, it stands with the World that closed the connection before this step
-  pub stands : IsSound (closed after c) → (s : Setting) (sent : ℕ → ℕ) (w : World) (place : ℕ) (bytes : List ℕ) → Serves c place bytes s sent w given → reads_life (present c w) ≡ true
-      → Serves c (place + 1) bytes s sent (arrive s (starved c (step place)) c w (place, Whole frame)) (closed after c)
+  pub stands : IsSound (closed after c) → (s : Setting) (sent : ℕ → ℕ) (w : World) (place : ℕ) (bytes : List ℕ) → Serves c bytes s sent w given → reads_life (present c w) ≡ true
+      → Serves c bytes s sent (arrive s (starved c (step place)) c w (place, Whole frame)) (closed after c)

@@ -2,8 +2,9 @@
 use Rattle.std.specs.Prelude.{◌≡◌, ◌⊎◌, ℕ, ◌+◌, ◌<◌, ◌≤◌, List, [], ◌∷◌, ◌++◌, length, drop, map, filter, true, false, ◌==◌, Option, Some, None, if◌then◌else◌, ⊤}
 use Rattle.iscsi_pdu.specs.Frames.{frames, rest, is_long}
 use Rattle.iscsi_login.specs.Login.{remembered}
+use Rattle.iscsi_session.specs.State.{IsLawful, remembered as session_remembered}
 use Rattle.iscsi_target.specs.History.{History, Mark, is_of, arrivals, connection_limit}
-use Rattle.iscsi_target.specs.Life.{Life, Phase, LoggingIn, FullFeature, Closing, Over, Accepted, reads, bears_status, stamp}
+use Rattle.iscsi_target.specs.Life.{Life, Phase, LoggingIn, FullFeature, Closing, Over, reads, statuses}
 use Rattle.iscsi_target.specs.World.{Setting, World, present, world}
 use Rattle.iscsi_target.specs.Output.{out_now}
 use Rattle.iscsi_target.specs.Machine.{Machine, LinkState, link_at}
@@ -12,11 +13,11 @@ use Rattle.iscsi_target.specs.declared.phase.Phase.TheVariants as phases
 
 -- ---- what is remembered of a life
 
--- of a login, with these targets, what is remembered of its requests; a session has the sequence
--- numbers of its next answer
+-- of a login, with these targets, what is remembered of its requests; of a session, what is remembered of
+-- its past, behind the answers of its life
 abbrev pub phase_for : List (List ℕ) → Life → Phase → code.Phase
 phase_for names life LoggingIn = phases.Login (remembered names (life.connection + 1) life.requests)
-phase_for names life (FullFeature session) = phases.FullFeature session (stamp life)
+phase_for names life (FullFeature session) = phases.FullFeature (session_remembered (statuses life) session)
 phase_for names life Closing = phases.Closing
 phase_for names life Over = phases.Free
 
@@ -34,30 +35,18 @@ half_of (Some life) = half_in life
 
 -- ---- what is true of each life between two events, whatever the history
 
--- requests are numbered from k on without a gap, and came before the frame of this place
-abbrev pub AreNumbered : ℕ → ℕ → List Accepted → Type 0
-AreNumbered k place [] = ⊤
-AreNumbered k place (request ∷ others) = (request.index ≡ k) × (request.place < place) × AreNumbered (k + 1) place others
+-- each Login request was answered with status
+abbrev pub IsLogin : Life → Type 0
+IsLogin life = statuses life ≡ length life.requests
 
--- all that was accepted is finished
-pub record IsFinished (place : ℕ) (life : Life) : Type 0 where
-  pub numbered : AreNumbered 0 place life.came
-  pub finished : life.finished ≡ map (λ request. request.place) life.came
-
--- each Login request was answered with status, and nothing else came
-pub record IsLogin (life : Life) : Type 0 where
-  pub came : life.came ≡ []
-  pub finished : life.finished ≡ []
-  pub answered : length (filter bears_status life.answers) ≡ length life.requests
-
-abbrev pub IsQuiet : ℕ → Life → Phase → Type 0
-IsQuiet place life LoggingIn = IsLogin life
-IsQuiet place life (FullFeature session) = IsFinished place life
-IsQuiet place life Closing = ⊤
-IsQuiet place life Over = ⊤
+abbrev pub IsQuiet : Life → Phase → Type 0
+IsQuiet life LoggingIn = IsLogin life
+IsQuiet life (FullFeature session) = IsLawful session
+IsQuiet life Closing = ⊤
+IsQuiet life Over = ⊤
 
 pub record IsSettledLife (life : Life) : Type 0 where
-  pub quiet : IsQuiet (length (arrivals life.bytes)) life life.phase
+  pub quiet : IsQuiet life life.phase
   pub short : reads life.phase ≡ true → is_long (rest life.bytes) ≡ false
 
 abbrev pub IsSettled : Option Life → Type 0

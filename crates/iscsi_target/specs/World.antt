@@ -2,7 +2,6 @@
 -- step is of one connection.
 use Rattle.std.specs.Prelude.{ℕ, ◌+◌, List, [], ◌∷◌, ◌++◌, fold, map, find, Bool, true, false, ◌&&◌, not, ◌==◌, Option, Some, None, slice_index_or, slice_set, if◌then◌else◌}
 use Rattle.std.specs.List.{list_any, enumerate_from}
-use Rattle.scsi_sense.specs.Done.{Outcome}
 use Rattle.iscsi_pdu.specs.Frames.{Frame}
 use Rattle.iscsi_pdu.specs.declared.answer.Answer.{Answer}
 use Rattle.iscsi_pdu.specs.declared.answer.Answer.TheVariants as answers
@@ -12,12 +11,15 @@ use Rattle.scsi_unit.specs.Units.{UnitStates, join, leave}
 use Rattle.iscsi_login.specs.Session.{Live, named_by, older}
 use Rattle.iscsi_login.specs.Lookup.{Lookup}
 use Rattle.iscsi_login.specs.Login.{login}
-use Rattle.iscsi_target.specs.Life.{Life, Phase, LoggingIn, FullFeature, Closing, Over, Accepted, born, reads, is_over, session_in, stamp, index_of, ready}
-use Rattle.iscsi_target.specs.Acts.{is_login, verdict, carried_out, command_answers}
+use Rattle.iscsi_session.specs.Requests.{Request, Past, begun as begun_past, acted, finished, stamp}
+use Rattle.iscsi_session.specs.Judging.{verdict, judged, judged_answers}
+use Rattle.iscsi_session.specs.Acts.{act_answers, ends}
+use Rattle.iscsi_session.specs.Answers.{command_answers}
+use Rattle.iscsi_session.specs.declared.verdict.Verdict.{Verdict}
+use Rattle.iscsi_session.specs.declared.verdict.Verdict.TheVariants as verdicts
+use Rattle.iscsi_target.specs.Life.{Life, Phase, LoggingIn, FullFeature, Closing, Over, born, reads, is_over, past_in, session_in, statuses, due_in, queue_in}
+use Rattle.iscsi_target.specs.Acts.{is_login, carried_out}
 use Rattle.iscsi_login.specs.declared.params.Params.{Params}
-use Rattle.iscsi_login.specs.declared.values.Values.{Values}
-use Rattle.iscsi_target.specs.declared.session.Verdict.{Verdict}
-use Rattle.iscsi_target.specs.declared.session.Verdict.TheVariants as verdicts
 use Rattle.iscsi_login.specs.declared.reply.Reply.{Reply}
 use Rattle.iscsi_login.specs.declared.reply.Reply.TheVariants.{GoOn, Full, Refused}
 
@@ -55,6 +57,10 @@ reads_life (Some life) = reads life.phase
 abbrev pub session_of : Option Life → Option Params
 session_of None = None
 session_of (Some life) = session_in life.phase
+
+abbrev pub past_of : Option Life → Option Past
+past_of None = None
+past_of (Some life) = past_in life.phase
 
 -- the sessions in full feature phase, by the number of their connection
 unfoldable pub live : World → Live
@@ -113,7 +119,7 @@ asked request life = record life { requests = life.requests ++ request ∷ [] }
 
 -- full feature phase begins
 abbrev pub begun : Params → Answer → Life → Life
-begun session answer life = record (answered answer life) { phase = FullFeature session }
+begun session answer life = record (answered answer life) { phase = FullFeature (begun_past session) }
 
 -- its connection closes, and what waits on it is still sent
 abbrev pub end_older : Option ℕ → World → World
@@ -142,50 +148,65 @@ log_in s c request w = replied (login (c + 1) (requests_of (present c w)) (looku
 
 -- ---- full feature phase
 
-abbrev pub accepted : ℕ → Frame → Life → Life
-accepted place frame life = record life { came = life.came ++ record { place = place; index = index_of life frame; frame = frame } ∷ [] }
+-- a step of its session, and what is answered
+abbrev pub goes_on : Past → List Answer → Life → Life
+goes_on past more life = record life { phase = FullFeature past; answers = life.answers ++ more }
 
-abbrev pub judged : Verdict → ℕ → ℕ → Frame → World → World
-judged verdicts.Accepted c place frame w = changed (accepted place frame) c w
-judged verdicts.Violating c place frame w = close c w
+abbrev pub judged_by : Verdict → Past → ℕ → Frame → World → World
+judged_by verdicts.Violating past c frame w = close c w
+judged_by v past c frame w = changed (λ life. goes_on (judged v frame past) (judged_answers v (stamp (statuses life) past) frame) life) c w
 
-abbrev pub verdict_for : Option Life → Frame → Verdict
-verdict_for None frame = verdicts.Violating
-verdict_for (Some life) frame = verdict (stamp life).exp_cmd_sn frame
+abbrev pub judge_for : Option Past → ℕ → Frame → World → World
+judge_for None c frame w = w
+judge_for (Some past) c frame w = judged_by (verdict past frame) past c frame w
 
-unfoldable pub judge : ℕ → ℕ → Frame → World → World
-judge c place frame w = judged (verdict_for (present c w) frame) c place frame w
+-- a frame is judged: a violation closes the connection, and a frame that is rejected is answered
+unfoldable pub judge : ℕ → Frame → World → World
+judge c frame w = judge_for (past_of (present c w)) c frame w
 
--- a request counts as finished before its answers are stamped
-abbrev pub finished : Values → Accepted → Outcome → Life → Life
-finished values command done life =
-    let over = record life { finished = life.finished ++ command.place ∷ [] } in
-    record over { answers = over.answers ++ command_answers (stamp over) values command.frame done }
+-- a Logout that closes ends the session
+abbrev pub ended_if : Bool → ℕ → World → World
+ended_if b c w = if b then close c w else w
 
-abbrev pub done_for : Option Params → ℕ → Accepted → World → World
+abbrev pub act_for : Option Past → ℕ → Request → World → World
+act_for None c request w = w
+act_for (Some past) c request w =
+    ended_if (ends past.params request.frame) c (changed (λ life. goes_on (acted request past) (act_answers (statuses life) request past) life) c w)
+
+-- a request that was taken acts
+unfoldable pub act : ℕ → Request → World → World
+act c request w = act_for (past_of (present c w)) c request w
+
+abbrev pub due_of : Option Life → List Request
+due_of None = []
+due_of (Some life) = due_in life.phase
+
+-- the requests that are due act, one after the other
+unfoldable pub act_all : List Mark → ℕ → ℕ → World → World
+act_all marks c place w = fold (λ v turn. take_step marks c (Taking place turn.0) (act c turn.1) v) w (enumerate_from 0 (due_of (present c w)))
+
+abbrev pub done_for : Option Past → ℕ → Request → World → World
 done_for None c command w = w
-done_for (Some session) c command w =
-    let p = carried_out (slice_index_or w.units session.target []) session.nexus command.frame in
-    record (changed (finished session.values command p.1) c w) { units = slice_set w.units session.target p.0 }
+done_for (Some past) c command w =
+    let p = carried_out (slice_index_or w.units past.params.target []) past.params.nexus command.frame in
+    let after = finished command past in
+    record (changed (λ life. goes_on after (command_answers (stamp (statuses life) after) past.params.values command.frame p.1) life) c w) { units = slice_set w.units past.params.target p.0 }
 
--- a command is done and answered
-unfoldable pub finish : ℕ → Accepted → World → World
-finish c command w = done_for (session_of (present c w)) c command w
+-- a command is done and answered; it counts as finished before its answers are stamped
+unfoldable pub finish : ℕ → Request → World → World
+finish c command w = done_for (past_of (present c w)) c command w
 
-abbrev pub ready_in : Option Life → List Accepted
-ready_in None = []
-ready_in (Some life) = ready life
+abbrev pub queue_of : Option Life → List Request
+queue_of None = []
+queue_of (Some life) = queue_in life.phase
 
--- the commands at the front that are complete are done and answered, one after the other
+-- the commands that were taken are done and answered, one after the other
 unfoldable pub settle : List Mark → ℕ → ℕ → World → World
-settle marks c place w = fold (λ v turn. take_step marks c (Doing place turn.0) (finish c turn.1) v) w (enumerate_from 0 (ready_in (present c w)))
+settle marks c place w = fold (λ v turn. take_step marks c (Doing place turn.0) (finish c turn.1) v) w (enumerate_from 0 (queue_of (present c w)))
 
--- A frame is judged, the requests that can be taken are, and the commands that are ready are done. Which
--- requests are taken is read from those that came: the act of taking changes no list.
+-- a frame is judged, the requests that it lets be taken act, and the commands that were taken are done
 unfoldable pub serve : List Mark → ℕ → ℕ → Frame → World → World
-serve marks c place frame w =
-    let v = take_step marks c (Judging place) (judge c place frame) w in
-    settle marks c place (take_step marks c (Taking place 0) (λ u. u) v)
+serve marks c place frame w = settle marks c place (act_all marks c place (take_step marks c (Judging place) (judge c frame) w))
 
 -- ---- one event
 

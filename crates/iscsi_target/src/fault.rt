@@ -30,6 +30,12 @@ impl From<iscsi_login::Memory> for Memory {
     }
 }
 
+impl From<iscsi_session::Memory> for Memory {
+    fn from(_e: iscsi_session::Memory) -> Memory {
+        Memory
+    }
+}
+
 impl From<scsi_unit::Memory> for Memory {
     fn from(_e: scsi_unit::Memory) -> Memory {
         Memory

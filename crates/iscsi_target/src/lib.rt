@@ -4,11 +4,10 @@
 //! For every list of openings, pieces of bytes and closings on up to 64 connections, a [`Target`]
 //! answers what a plainly defined machine answers, the World of `specs/World.antt` (the clauses
 //! `stands`), as long as the stores of its units are honest and no call of one has failed. Where an
-//! allocation fails one connection closes between two frames, each frame was done
-//! and answered whole or did nothing, and all others go on (`starved`).
+//! allocation fails one connection closes between two steps: each request was done and answered whole
+//! or did nothing, and all other connections go on (`starved`).
 #![tactic(auto)]
 
-mod answers;
 mod config;
 mod event;
 mod fault;
@@ -17,7 +16,7 @@ pub mod laws;
 mod link;
 mod phase;
 mod run;
-mod session;
+mod serving;
 mod sessions;
 mod target;
 

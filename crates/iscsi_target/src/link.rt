@@ -11,15 +11,17 @@ ghost use Rattle.iscsi_pdu.specs.Answer.{spelling};
 ghost use Rattle.iscsi_login.specs.Lookup.{lookup_in};
 ghost use Rattle.iscsi_login.specs.LoginState.{LoginState};
 ghost use Rattle.iscsi_login.specs.Login.{advanced, reply_of};
-ghost use Rattle.iscsi_target.specs.Machine.{LinkState, is_reading, is_logging_in, session_in_phase, free_link, opened_link, shut_link, begun_link, served_in, served_phase, IsAnswered, IsWithin, sent_link};
+ghost use Rattle.iscsi_target.specs.Machine.{LinkState, is_reading, is_logging_in, session_in_phase, free_link, opened_link, shut_link, begun_link, is_in_session, waiting_requests, waiting_commands, IsAnswered, IsWithin, sent_link};
+ghost use Rattle.iscsi_session.specs.Requests.{Past, queue};
+ghost use Rattle.iscsi_session.specs.declared.act.Act.TheVariants.{Taken};
+ghost use Rattle.iscsi_target.specs.Sessions.{IsSessionOf, JudgesTo, ActsTo, FinishesTo, StaysSession};
 ghost use Rattle.iscsi_target.specs.declared.phase.Phase.TheVariants.{Login as UnderWay};
 
-use crate::answers::{most_pieces, put_answers, room_for};
 use crate::fault::Memory;
 use crate::phase::Phase;
-use crate::session::{count, finish_one, first_numbers};
 use bytes::BytesMut;
 use iscsi_login::{Login, Params, Reply};
+use iscsi_session::{Act, Session, Verdict, make_room};
 use iscsi_pdu::{Answer, Frame, Framer, LoginResponse, PduFault};
 use media_store::Store;
 use scsi_sense::{AdditionalSense, Done, Nexus, Sense, SenseKey};
@@ -177,6 +179,7 @@ impl Link {
     /// allocation fails nothing changes.
     pub(crate) fn begin<S: Store>(
         &mut self,
+        alloc: Global,
         session: Params,
         answer: &Answer,
         units: &mut Units<S>,
@@ -193,46 +196,72 @@ impl Link {
         if answer.write(&mut self.waiting).is_err() {
             return Err(Memory);
         }
-        let numbers = first_numbers(&session);
-        self.phase = Phase::FullFeature { session, numbers };
+        self.phase = Phase::FullFeature(Session::new(alloc, session));
         Ok(())
     }
 
-    /// A command is done on its target's units, and answered. All room is made before the units act, so
-    /// that where an allocation fails nothing changes.
-    pub(crate) fn serve<S: Store>(
+    /// A frame of the session is judged, and answered where it is rejected. Where an allocation fails
+    /// nothing changes.
+    pub(crate) fn judge(&mut self, frame: Frame) -> Result<Verdict, Memory>
+        requires { is_in_session self.old.phase ≡ true }
+        ensures judged { IfOk result (λ v. (answered : ℕ) (past : Past) → IsSessionOf answered past self.old → JudgesTo answered past frame v self.old self.new) }
+        ensures stays { StaysSession self.old self.new }
+        ensures err { OnErr result (self.new ≡ self.old) }
+    {
+        let Phase::FullFeature(session) = &mut self.phase else {
+            return Ok(Verdict::Ignored);
+        };
+        let verdict = session.take(frame, &mut self.waiting)?;
+        Ok(verdict)
+    }
+
+    /// The next request of the session that was taken acts. Where an allocation fails nothing changes.
+    pub(crate) fn act(&mut self) -> Result<Act, Memory>
+        requires { is_in_session self.old.phase ≡ true }
+        ensures acts { IfOk result (λ a. (answered : ℕ) (past : Past) → IsSessionOf answered past self.old → ActsTo answered past a self.old self.new) }
+        ensures fewer { IfOk result (λ a. a ≡ Taken → waiting_requests self.new.phase < waiting_requests self.old.phase) }
+        ensures stays { StaysSession self.old self.new }
+        ensures err { OnErr result (self.new ≡ self.old) }
+    {
+        let Phase::FullFeature(session) = &mut self.phase else {
+            return Ok(Act::Idle);
+        };
+        let act = session.act(&mut self.waiting)?;
+        Ok(act)
+    }
+
+    /// The first command of the session's queue is done on its target's units, and answered: whether
+    /// there was one. All room is made before the units act, so that where an allocation fails nothing
+    /// changes.
+    pub(crate) fn finish<S: Store>(
         &mut self,
         alloc: Global,
         units: &mut [Units<S>],
-        frame: &Frame,
-    ) -> Result<(), Memory>
-        requires { IsWithin (length units.old) self.old.phase }
-        ensures ok { OnOk result (All AreSound units.new → (self.new, units.new) ≡ served_in self.old units.old frame.now self.old.phase) }
+    ) -> Result<bool, Memory>
+        requires in_session { is_in_session self.old.phase ≡ true }
+        requires within { IsWithin (length units.old) self.old.phase }
+        ensures finishes { IfOk result (λ more. All AreSound units.new → (answered : ℕ) (past : Past) → IsSessionOf answered past self.old
+            → FinishesTo (queue past) answered past more self.old self.new units.old units.new) }
+        ensures fewer { IfOk result (λ more. more ≡ true → waiting_commands self.new.phase < waiting_commands self.old.phase) }
         ensures back { All AreSound units.new → All AreSound units.old }
-        ensures link { OnOk result (self.new ≡ record self.old { phase = served_phase self.old.phase; waiting = self.new.waiting }) }
+        ensures stays { StaysSession self.old self.new }
         ensures within { IsWithin (length units.old) self.new.phase }
         ensures err { OnErr result (self.new ≡ self.old) }
         ensures units_err { OnErr result (units.new ≡ units.old) }
     {
-        let Phase::FullFeature { session, numbers } = &mut self.phase else {
-            return Ok(());
+        let Phase::FullFeature(session) = &mut self.phase else {
+            return Ok(false);
         };
-        self.waiting.reserve(room_for(&session.values, frame))?;
-        let pieces = Vec::with_capacity(alloc, most_pieces(&session.values, frame))?;
-        let target = &mut units[session.target];
-        let done = carry_out(alloc, target, &session.nexus, frame)?;
+        let Some(frame) = session.first() else {
+            return Ok(false);
+        };
+        let params = session.params();
+        let pieces = make_room(alloc, &mut self.waiting, &params.values, frame)?;
+        let target = &mut units[params.target];
+        let done = carry_out(alloc, target, &params.nexus, frame)?;
         // There is room for the answers, so nothing fails any more.
-        let over = finish_one(*numbers);
-        put_answers(
-            &mut self.waiting,
-            pieces,
-            over,
-            &session.values,
-            frame,
-            &done,
-        );
-        *numbers = count(over);
-        Ok(())
+        session.done(&mut self.waiting, pieces, &done);
+        Ok(true)
     }
 
     /// All that waits to be sent.

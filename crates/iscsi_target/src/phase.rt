@@ -1,7 +1,7 @@
 //! Where a connection is.
 
-use iscsi_login::{Login, Params};
-use iscsi_pdu::Stamp;
+use iscsi_login::Login;
+use iscsi_session::Session;
 
 /// The phase of a connection (RFC 7143 §4.2.4 to §4.2.6).
 #[derive(Drop)]
@@ -10,21 +10,28 @@ pub(crate) enum Phase {
     Free,
     /// Before full feature phase: the login so far.
     Login(Login),
-    /// Full feature phase: its session, and the sequence numbers of its next answer.
-    FullFeature { session: Params, numbers: Stamp },
+    /// Full feature phase.
+    FullFeature(Session),
     /// What waits is still sent, and nothing more is read.
     Closing,
 }
 
 impl Phase {
     ghost use Rattle.std.specs.Prelude.{◌≡◌};
-    ghost use Rattle.iscsi_target.specs.Machine.{is_reading, is_free, is_closing};
+    ghost use Rattle.iscsi_target.specs.Machine.{is_reading, is_in_session, is_free, is_closing};
 
     /// Frames are read in this phase.
     pub(crate) fn reads(&self) -> bool
         ensures { result ≡ is_reading self.now }
     {
-        matches!(self, Phase::Login(_) | Phase::FullFeature { .. })
+        matches!(self, Phase::Login(_) | Phase::FullFeature(_))
+    }
+
+    /// Full feature phase.
+    pub(crate) fn is_in_session(&self) -> bool
+        ensures { result ≡ is_in_session self.now }
+    {
+        matches!(self, Phase::FullFeature(_))
     }
 
     /// The connection is not open.

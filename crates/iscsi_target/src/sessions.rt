@@ -14,7 +14,8 @@ fn is_of(link: &Link, session: &Params) -> bool
     ensures { result ≡ is_session_of session.now.nexus session.now.target (session_in_phase link.now.phase) }
 {
     match &link.phase {
-        Phase::FullFeature { session: other, .. } => {
+        Phase::FullFeature(other) => {
+            let other = other.params();
             other.nexus.is_same(&session.nexus) && other.target == session.target
         }
         _ => false,
@@ -35,7 +36,7 @@ fn copy_of(link: &Link) -> Result<Option<Params>, Memory>
     ensures { IfOk result (λ session. session ≡ session_in_phase link.now.phase) }
 {
     match &link.phase {
-        Phase::FullFeature { session, .. } => Ok(Some(session.clone()?)),
+        Phase::FullFeature(session) => Ok(Some(session.params().clone()?)),
         _ => Ok(None),
     }
 }

@@ -5,9 +5,8 @@ ghost use Rattle.std.specs.Result.{IsErrOf};
 ghost use Rattle.iscsi_pdu.specs.Frames.{has_frame, is_long};
 ghost use Rattle.iscsi_target.specs.History.{Open, Bytes, Gone, Mark, History, plain, marked};
 ghost use Rattle.iscsi_target.specs.World.{Setting, present, world};
-ghost use Rattle.iscsi_target.specs.Machine.{LinkState, IsSound, WhereSound, IsAlike, free_link, opened_link, sent_link, new_machine, link_at, with_link, closed, begun, logged_in, is_logging_in, judged, GivesFrame, is_reading, is_open_at, is_closing, want_of};
+ghost use Rattle.iscsi_target.specs.Machine.{LinkState, IsSound, WhereSound, free_link, opened_link, sent_link, new_machine, link_at, with_link, closed, begun, logged_in, is_logging_in, GivesFrame, is_reading, is_open_at, is_closing, want_of};
 ghost use Rattle.iscsi_target.specs.declared.phase.Phase.TheVariants.{Login};
-ghost use Rattle.iscsi_target.specs.declared.session.Verdict.TheVariants.{Accepted};
 ghost use Rattle.iscsi_login.specs.LoginState.{LoginState};
 ghost use Rattle.iscsi_login.specs.Values.{AreInRange};
 ghost use Rattle.iscsi_target.specs.Stands.{Stands, IsStarved, with_sent};
@@ -17,7 +16,6 @@ use crate::config::Config;
 use crate::fault::{Memory, Starved};
 use crate::link::Link;
 use crate::phase::Phase;
-use crate::session::{Verdict, judge};
 use crate::sessions::{named, older};
 use iscsi_login::Params;
 use iscsi_pdu::{Answer, Frame, Opcode, PduFault};
@@ -41,10 +39,10 @@ const MOST_WAITING: usize = 1_048_576;
 /// one has failed (`WhereSound`): a target that is sound after a call was so before it.
 #[derive(Drop)]
 pub struct Target<S: Store> {
-    alloc: Global,
+    pub(crate) alloc: Global,
     config: Config,
-    units: Vec<Units<S>>,
-    links: Vec<Link>,
+    pub(crate) units: Vec<Units<S>>,
+    pub(crate) links: Vec<Link>,
 }
 
 impl<S: Store> Model for Target<S> {
@@ -135,7 +133,7 @@ impl<S: Store> Target<S> {
         while self.reads(c) {
             match self.next_frame(c) {
                 Ok(Some(frame)) => {
-                    if let Err(Memory) = self.take_frame(c, &frame) {
+                    if let Err(Memory) = self.take_frame(c, frame) {
                         return Err(self.starve(c));
                     }
                 }
@@ -229,7 +227,7 @@ impl<S: Store> Target<S> {
     }
 
     /// The connection's frames are read.
-    fn reads(&self, c: usize) -> bool
+    pub(crate) fn reads(&self, c: usize) -> bool
         requires { c < 64 }
         ensures value { result ≡ is_reading (link_at self.now c).phase }
         ensures count { length self.now.links ≡ 64 }
@@ -239,15 +237,16 @@ impl<S: Store> Target<S> {
 
     /// The connection closes, and its session ends.
     #[tactic(auto, unfolding(crate::specs::Machine::closed, crate::specs::World::changed_units))]
-    fn close(&mut self, c: usize)
+    pub(crate) fn close(&mut self, c: usize)
         requires { c < 64 }
         ensures closed { self.new ≡ closed self.old c }
         ensures count { length self.old.links ≡ 64 }
     {
         let link = &mut self.links[c];
-        if let Phase::FullFeature { session, .. } = &link.phase {
-            let units = &mut self.units[session.target];
-            units.leave(&session.nexus);
+        if let Phase::FullFeature(session) = &link.phase {
+            let params = session.params();
+            let units = &mut self.units[params.target];
+            units.leave(&params.nexus);
         }
         link.shut();
     }
@@ -292,42 +291,24 @@ impl<S: Store> Target<S> {
     }
 
     /// One frame of a connection, in its phase. Where an allocation fails the connection is to be
-    /// closed, and nothing else changes.
+    /// closed.
     #[tactic(auto, unfolding(crate::specs::Acts::is_login))]
-    fn take_frame(&mut self, c: usize, frame: &Frame) -> Result<(), Memory>
+    fn take_frame(&mut self, c: usize, frame: Frame) -> Result<(), Memory>
         requires { c < 64 }
-        ensures ok { OnOk result (Takes c frame.now self.old self.new) }
-        ensures err { OnErr result (Fails c frame.now self.old self.new) }
+        ensures ok { OnOk result (Takes c frame self.old self.new) }
+        ensures err { OnErr result (Fails c frame self.old self.new) }
     {
         match &self.links[c].phase {
             Phase::Free | Phase::Closing => Ok(()),
             Phase::Login(_) => {
                 if frame.header.opcode() == Opcode::Login {
-                    return self.log_in(c, frame);
+                    return self.log_in(c, &frame);
                 }
                 self.close(c);
                 Ok(())
             }
-            Phase::FullFeature { numbers, .. } => match judge(numbers.exp_cmd_sn, frame) {
-                Verdict::Accepted => self.serve(c, frame),
-                Verdict::Violating => {
-                    self.close(c);
-                    Ok(())
-                }
-            },
+            Phase::FullFeature(_) => self.serve(c, frame),
         }
-    }
-
-    /// A command that is accepted is done and answered. Where an allocation fails nothing changes.
-    fn serve(&mut self, c: usize, frame: &Frame) -> Result<(), Memory>
-        requires { c < 64 }
-        ensures ok { OnOk result (IsSound self.new → self.new ≡ judged Accepted self.old c frame.now) }
-        ensures sound { IsSound self.new → IsSound self.old }
-        ensures links { OnOk result ((d : ℕ) → IsAlike (link_at self.new d) (link_at (judged Accepted self.old c frame.now) d)) }
-        ensures err { OnErr result (self.new ≡ self.old) }
-    {
-        let link = &mut self.links[c];
-        link.serve(self.alloc, self.units.as_mut_slice(), frame)
     }
 
     /// A Login request is answered. Where an allocation fails the connection is to be closed.
@@ -361,7 +342,7 @@ impl<S: Store> Target<S> {
         let before = older(self.links.as_slice(), &session);
         let units = &mut self.units[session.target];
         let link = &mut self.links[c];
-        link.begin(session, answer, units)?;
+        link.begin(self.alloc, session, answer, units)?;
         if let Some(before) = before {
             let link = &mut self.links[before];
             link.shut();
