@@ -1,1 +1,6 @@
 mod Room
+mod Numbered
+mod Due
+mod Acted
+mod Remembered
+mod Finished

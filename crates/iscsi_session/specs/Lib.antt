@@ -15,4 +15,5 @@ pub mod Acts
 pub mod Answers
 pub mod Room
 pub mod State
+pub mod Turns
 pub mod Examples

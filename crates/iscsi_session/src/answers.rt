@@ -3,9 +3,11 @@
 ghost use Rattle.std.specs.Prelude.{◌≡◌, ◌≤◌, ◌<◌, ◌+◌, ◌++◌, [], length, option_map, flat_map, vec_capacity, IfOk, OnOk};
 ghost use Rattle.scsi_sense.specs.Sense.{sense_bytes};
 ghost use Rattle.iscsi_pdu.specs.Answer.{spelling};
+ghost use Rattle.iscsi_pdu.specs.Frames as pdu;
 ghost use Rattle.iscsi_login.specs.Values.{AreInRange};
 ghost use Rattle.iscsi_pdu.specs.Segment.{most_data};
 ghost use Rattle.iscsi_session.specs.Answers.{expected_length, data_sent, sent_pieces, data_in as data_in_answer, data_answers, scsi_answer, command_answers, residual_of};
+ghost use Rattle.iscsi_session.specs.Judging.{reject};
 ghost use Rattle.iscsi_session.specs.Room.{most_given, room_for, most_pieces, most_sent as most_data_sent};
 
 use crate::fault::Memory;
@@ -208,7 +210,10 @@ pub(crate) fn put_answers(
 }
 
 /// A Reject of the frame with this header (RFC 7143 §11.17).
-pub(crate) fn rejected(reason: RejectReason, stamp: Stamp, header: Header) -> Answer<'static> {
+pub(crate) fn rejected(reason: RejectReason, stamp: Stamp, header: Header) -> Answer<'static>
+    ensures value { (frame : pdu.Frame) → frame.header ≡ header → result ≡ reject reason stamp frame }
+    ensures short { length (spelling result) ≤ 96 }
+{
     Answer::Reject(Reject {
         reason,
         stamp,
