@@ -1,6 +1,6 @@
 -- A session that remembers its past remembers the one in which one more request acted.
 use Rattle.std.proofs.Common.{◌≡◌, ℕ, suc, ◌+◌, ◌^◌, ◌%◌, ◌<◌, ◌≤◌, List, [], ◌∷◌, ◌++◌, length, map, Bool, true, false, Option, Some, None, refl, sym, ap, ◌∙◌, subst, arith, add-one}
-use Rattle.std.specs.Prelude.{drop, flat_map, nat_lt, slice_get}
+use Rattle.std.specs.Prelude.{option_map, drop, flat_map, nat_lt, slice_get}
 use Rattle.std.proofs.lemmas.Bool.{lt-ltb}
 use Rattle.std.proofs.lemmas.List.{length_push, map_push}
 use Rattle.iscsi_pdu.specs.Frames.{Frame}
@@ -12,7 +12,7 @@ use Rattle.iscsi_session.specs.declared.acting.Turn.TheVariants.{Immediate, Numb
 use Rattle.iscsi_login.specs.declared.params.Params.{Params}
 use Rattle.iscsi_session.specs.Requests.{Request, Past, numbered, is_command, numbers, with_number, held, arrived, queue, due, acted}
 use Rattle.iscsi_session.specs.State.{SessionState, TaskLists, frames_of, remembered, IsLawful, Stands, named_by, without}
-use Rattle.iscsi_session.specs.Turns.{turn_of, frame_at, IsTurn}
+use Rattle.iscsi_session.specs.Turns.{turn_by, turn_of, frame_at, IsTurn}
 use Rattle.iscsi_session.proofs.Numbered.{numbered_same, numbered_push}
 use Rattle.iscsi_session.proofs.Due.{handed, waiting, with_acted, acted_command, acted_other, ActsAtOnce, arrived_after, held_same, ActsInTurn, handed_more, held_after, arrived_same, queue_joined, queue_same}
 use Rattle.iscsi_session.proofs.Acted.{IsAtOnce, at_once, IsInTurn, in_turn, lawful_after}
@@ -234,3 +234,17 @@ has_turn answered past state (Numbered n) s e =
       is_turn = record { here = e; due = found.1.acts.due };
       frame = ap (named_by n) p.held_is ∙ ap (λ (m : ℕ). named_by m (frames_of (held past))) (sym found.1.number) ∙ found.1.acts.named;
     }
+
+turn_first : (l : List Request) (next : Option ℕ) (frame : Frame) (rest : List Frame) → frames_of l ≡ frame ∷ rest → Some Immediate ≡ turn_by l next
+turn_first [] next frame rest e = absurd cc
+turn_first (request ∷ others) next frame rest e = refl
+
+turn_next : (l : List Request) (next : Option ℕ) → frames_of l ≡ [] → option_map Numbered next ≡ turn_by l next
+turn_next [] next e = refl
+turn_next (request ∷ others) next e = absurd cc
+
+pub turn_arrived : (answered : ℕ) (past : Past) (state : SessionState) (frame : Frame) (rest : List Frame) → Stands answered past state → state.tasks.arrived ≡ frame ∷ rest → Some Immediate ≡ turn_of past
+turn_arrived answered past state frame rest s e = turn_first (arrived past) (order.next_of (numbers past)) frame rest (sym (parts answered past state s).arrived_is ∙ e)
+
+pub turn_taken : (answered : ℕ) (past : Past) (state : SessionState) (next : Option ℕ) → Stands answered past state → state.tasks.arrived ≡ [] → next ≡ order.next_of (numbers past) → option_map Numbered next ≡ turn_of past
+turn_taken answered past state next s e is = ap (option_map Numbered) is ∙ turn_next (arrived past) (order.next_of (numbers past)) (sym (parts answered past state s).arrived_is ∙ e)
