@@ -3,4 +3,6 @@ mod Numbered
 mod Due
 mod Acted
 mod Remembered
+mod Moving
+mod Answered
 mod Finished

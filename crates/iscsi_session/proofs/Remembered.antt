@@ -235,6 +235,13 @@ has_turn answered past state (Numbered n) s e =
       frame = ap (named_by n) p.held_is ∙ ap (λ (m : ℕ). named_by m (frames_of (held past))) (sym found.1.number) ∙ found.1.acts.named;
     }
 
+pub turn_frame : (answered : ℕ) (past : Past) (state : SessionState) (turn : Turn) (request : Request) (others : List Request) → Stands answered past state → IsTurn turn past request others → frame_at turn state.tasks ≡ Some request.frame
+turn_frame answered past state turn request others s t =
+    let h = has_turn answered past state turn s t.here in
+    let heads : h.request ∷ h.others ≡ request ∷ others = sym h.is_turn.due ∙ t.due in
+    let same : h.request ≡ request = cc in
+    h.frame ∙ ap (λ (r : Request). Some r.frame) same
+
 turn_first : (l : List Request) (next : Option ℕ) (frame : Frame) (rest : List Frame) → frames_of l ≡ frame ∷ rest → Some Immediate ≡ turn_by l next
 turn_first [] next frame rest e = absurd cc
 turn_first (request ∷ others) next frame rest e = refl

@@ -34,6 +34,13 @@ enum Turn {
     Numbered(u32),
 }
 
+/// It is a SCSI Command.
+fn is_command(frame: &Frame) -> bool
+    ensures { result ≡ is_command frame.now }
+{
+    matches!(frame.header.opcode(), Opcode::ScsiCommand)
+}
+
 impl Session {
     /// The next request that was taken acts: a SCSI Command joins the queue, a NOP-Out and a Logout are
     /// answered at the end of the buffer. Where an allocation fails nothing changes.
@@ -52,7 +59,7 @@ impl Session {
         };
         match self.due(turn) {
             None => Ok(Act::Idle),
-            Some(frame) if frame.header.opcode() == Opcode::ScsiCommand => {
+            Some(frame) if is_command(frame) => {
                 self.queue(turn)?;
                 Ok(Act::Taken)
             }
@@ -69,7 +76,7 @@ impl Session {
     {
         match self.tasks.arrived() {
             Some(_) => Some(Turn::Immediate),
-            None => self.window.next().map(Turn::Numbered),
+            None => Some(Turn::Numbered(self.window.next()?)),
         }
     }
 
@@ -132,11 +139,13 @@ impl Session {
         let Some(frame) = self.take_out(turn) else {
             return Act::Idle;
         };
-        if frame.header.opcode() == Opcode::NopOut {
-            self.return_ping(&frame, out);
-            return Act::Taken;
+        match frame.header.opcode() {
+            Opcode::NopOut => {
+                self.return_ping(&frame, out);
+                Act::Taken
+            }
+            _ => self.log_out(&frame, out),
         }
-        self.log_out(&frame, out)
     }
 
     /// A NOP-In returns the ping data of a NOP-Out (RFC 7143 §11.19), where it asks for an answer.

@@ -7,10 +7,3 @@ pub returns-in-Some : goal.returns-in-Some
 returns-in-Some c answered past s =
     let known = subst (λ (x : SessionState). Stands answered past x) (sym c.self.view_is) s in
     turn_arrived answered past _ _ _ known c.in-Some.ensures.some
-
-pub returns-in-None : goal.returns-in-None
-returns-in-None c answered past s =
-    let known = subst (λ (x : SessionState). Stands answered past x) (sym c.self.view_is) s in
-    let h = c.map.ensures in
-    let n = c.next.ensures in
-    ?
