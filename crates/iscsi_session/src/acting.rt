@@ -1,6 +1,6 @@
 //! The requests that are taken act.
 
-ghost use Rattle.std.specs.Prelude.{◌≡◌, ◌≤◌, ◌+◌, ◌++◌, ℕ, List, flat_map, true, false, if◌then◌else◌, IfOk, OnOk, OnErr, IfSome, IfNone};
+ghost use Rattle.std.specs.Prelude.{◌≡◌, ◌≤◌, ◌+◌, ◌++◌, ℕ, List, length, flat_map, true, false, if◌then◌else◌, IfOk, OnOk, OnErr, IfSome, IfNone};
 ghost use Rattle.iscsi_pdu.specs.Answer.{spelling};
 ghost use Rattle.iscsi_pdu.specs.Frames as pdu;
 ghost use Rattle.iscsi_session.specs.Requests.{Request, Past, is_command, acted, bearing, due, stamp};
@@ -14,7 +14,9 @@ use crate::answers::{put, rejected};
 use crate::fault::Memory;
 use crate::session::Session;
 use bytes::BytesMut;
-use iscsi_pdu::{Answer, Frame, Header, LogoutResponse, LogoutResult, NopIn, Opcode, RejectReason};
+use iscsi_pdu::{
+    Answer, Frame, Header, LogoutResponse, LogoutResult, NopIn, Opcode, RejectReason, Stamp,
+};
 
 /// What the answer of a NOP-Out or of a Logout takes beside the ping data, in bytes at most.
 const ROOM_TO_ACT: usize = 99;
@@ -191,30 +193,31 @@ impl Session {
             → out.new.items ≡ out.old.items ++ spelling (logout_answer (stamp answered past) past.params frame.now) }
         ensures params { self.new.params ≡ self.old.params }
     {
-        let header = &frame.header;
-        let closes = self.closes(header);
         let stamp = self.next_stamp();
+        put(out, &self.logout_answer(stamp, frame));
+        if self.closes(&frame.header) {
+            Act::Ended
+        } else {
+            Act::Taken
+        }
+    }
+
+    /// What a Logout is answered.
+    fn logout_answer(&self, stamp: Stamp, frame: &Frame) -> Answer<'static>
+        ensures value { result ≡ logout_answer stamp self.now.params frame.now }
+        ensures short { length (spelling result) ≤ 96 }
+    {
+        let header = &frame.header;
         let response = match header.logout_reason() {
-            _ if closes => LogoutResult::Closed,
+            _ if self.closes(header) => LogoutResult::Closed,
             1 => LogoutResult::CidNotFound,
             2 => LogoutResult::NoRecovery,
-            _ => {
-                put(
-                    out,
-                    &rejected(RejectReason::InvalidField, stamp, frame.header),
-                );
-                return Act::Taken;
-            }
+            _ => return rejected(RejectReason::InvalidField, stamp, frame.header),
         };
-        let initiator_task_tag = header.initiator_task_tag();
-        put(
-            out,
-            &Answer::LogoutResponse(LogoutResponse {
-                initiator_task_tag,
-                stamp,
-                response,
-            }),
-        );
-        if closes { Act::Ended } else { Act::Taken }
+        Answer::LogoutResponse(LogoutResponse {
+            initiator_task_tag: header.initiator_task_tag(),
+            stamp,
+            response,
+        })
     }
 }

@@ -7,3 +7,13 @@ pub returns-in-Some : goal.returns-in-Some
 returns-in-Some c answered past s =
     let known = subst (λ (x : SessionState). Stands answered past x) (sym c.self.view_is) s in
     turn_arrived answered past _ _ _ known c.in-Some.ensures.some
+
+pub returns-in_err-next-in-None : goal.returns-in_err-next-in-None
+returns-in_err-next-in-None c answered past s =
+    let known = subst (λ (x : SessionState). Stands answered past x) (sym c.self.view_is) s in
+    rw c.from_residual.ensures (turn_taken answered past _ _ known c.in-None.ensures.none (c.in_err-next-in-None.ensures _ (window_stands answered past _ known)))
+
+pub returns-in_ok-next-in-None : goal.returns-in_ok-next-in-None
+returns-in_ok-next-in-None c answered past s =
+    let known = subst (λ (x : SessionState). Stands answered past x) (sym c.self.view_is) s in
+    turn_taken answered past _ _ known c.in-None.ensures.none (c.in_ok-next-in-None.ensures _ (window_stands answered past _ known))
