@@ -16,4 +16,5 @@ pub mod Answers
 pub mod Room
 pub mod State
 pub mod Tasks
+pub mod Turns
 pub mod Examples

@@ -1,18 +1,22 @@
 //! The requests that are taken act.
 
-ghost use Rattle.std.specs.Prelude.{◌≡◌, ◌+◌, ◌++◌, ℕ, flat_map, IfOk, OnOk, OnErr};
+ghost use Rattle.std.specs.Prelude.{◌≡◌, ◌≤◌, ◌+◌, ◌++◌, ℕ, List, length, flat_map, true, false, if◌then◌else◌, IfOk, OnOk, OnErr, IfSome, IfNone};
 ghost use Rattle.iscsi_pdu.specs.Answer.{spelling};
 ghost use Rattle.iscsi_pdu.specs.Frames as pdu;
-ghost use Rattle.iscsi_session.specs.Requests.{Past, bearing, due};
-ghost use Rattle.iscsi_session.specs.Acts.{act_by, acted_by, answers_by, closes};
+ghost use Rattle.iscsi_session.specs.Requests.{Request, Past, is_command, acted, bearing, due, stamp};
+ghost use Rattle.iscsi_session.specs.Acts.{act_answers, act_by, acted_by, answers_by, closes, ends, logout_answer, ping_answers};
+ghost use Rattle.iscsi_session.specs.Room.{room_to_act};
 ghost use Rattle.iscsi_session.specs.State.{Stands};
+ghost use Rattle.iscsi_session.specs.Turns.{turn_of, frame_at, IsTurn};
 
 use crate::act::Act;
 use crate::answers::{put, rejected};
 use crate::fault::Memory;
 use crate::session::Session;
 use bytes::BytesMut;
-use iscsi_pdu::{Answer, Frame, Header, LogoutResponse, LogoutResult, NopIn, Opcode, RejectReason};
+use iscsi_pdu::{
+    Answer, Frame, Header, LogoutResponse, LogoutResult, NopIn, Opcode, RejectReason, Stamp,
+};
 
 /// What the answer of a NOP-Out or of a Logout takes beside the ping data, in bytes at most.
 const ROOM_TO_ACT: usize = 99;
@@ -30,6 +34,13 @@ enum Turn {
     Immediate,
     /// The one with this CmdSN.
     Numbered(u32),
+}
+
+/// It is a SCSI Command.
+fn is_command(frame: &Frame) -> bool
+    ensures { result ≡ is_command frame.now }
+{
+    matches!(frame.header.opcode(), Opcode::ScsiCommand)
 }
 
 impl Session {
@@ -50,7 +61,7 @@ impl Session {
         };
         match self.due(turn) {
             None => Ok(Act::Idle),
-            Some(frame) if frame.header.opcode() == Opcode::ScsiCommand => {
+            Some(frame) if is_command(frame) => {
                 self.queue(turn)?;
                 Ok(Act::Taken)
             }
@@ -62,15 +73,20 @@ impl Session {
     }
 
     /// Which request acts next.
-    fn turn(&self) -> Option<Turn> {
-        if self.tasks.arrived().is_some() {
-            return Some(Turn::Immediate);
+    fn turn(&self) -> Option<Turn>
+        ensures { (answered : ℕ) (past : Past) → Stands answered past self.now → result ≡ turn_of past }
+    {
+        match self.tasks.arrived() {
+            Some(_) => Some(Turn::Immediate),
+            None => Some(Turn::Numbered(self.window.next()?)),
         }
-        self.window.next().map(Turn::Numbered)
     }
 
     /// The request that acts next.
-    fn due(&self, turn: Turn) -> Option<&Frame> {
+    fn due(&self, turn: Turn) -> Option<&Frame>
+        ensures some { IfSome result (λ frame. frame_at turn self.now.tasks ≡ Some frame.now) }
+        ensures none { IfNone result (frame_at turn self.now.tasks ≡ None) }
+    {
         match turn {
             Turn::Immediate => self.tasks.arrived(),
             Turn::Numbered(n) => self.tasks.held(n),
@@ -78,7 +94,12 @@ impl Session {
     }
 
     /// A SCSI Command joins the queue. Where an allocation fails nothing changes.
-    fn queue(&mut self, turn: Turn) -> Result<(), Memory> {
+    fn queue(&mut self, turn: Turn) -> Result<(), Memory>
+        ensures ok { OnOk result ((answered : ℕ) (past : Past) (request : Request) (others : List Request) → Stands answered past self.old → IsTurn turn past request others
+            → is_command request.frame ≡ true → Stands answered (acted request past) self.new) }
+        ensures params { self.new.params ≡ self.old.params }
+        ensures err { OnErr result (self.new ≡ self.old) }
+    {
         match turn {
             Turn::Immediate => self.tasks.queue_arrived(),
             Turn::Numbered(n) => {
@@ -90,7 +111,12 @@ impl Session {
     }
 
     /// A request is taken out.
-    fn take_out(&mut self, turn: Turn) -> Option<Frame> {
+    fn take_out(&mut self, turn: Turn) -> Option<Frame>
+        ensures frame { result ≡ frame_at turn self.old.tasks }
+        ensures stands { (answered : ℕ) (past : Past) (request : Request) (others : List Request) → Stands answered past self.old → IsTurn turn past request others
+            → is_command request.frame ≡ false → Stands answered (acted request past) self.new }
+        ensures params { self.new.params ≡ self.old.params }
+    {
         match turn {
             Turn::Immediate => self.tasks.take_arrived(),
             Turn::Numbered(n) => {
@@ -102,19 +128,37 @@ impl Session {
     }
 
     /// A NOP-Out or a Logout is finished and answered. There must be room for its answer, so it takes no memory.
-    fn answer(&mut self, turn: Turn, out: &mut BytesMut) -> Act {
+    fn answer(&mut self, turn: Turn, out: &mut BytesMut) -> Act
+        requires { (frame : pdu.Frame) → frame_at turn self.old.tasks ≡ Some frame → room_to_act frame ≤ out.old.spare }
+        ensures act { (answered : ℕ) (past : Past) (request : Request) (others : List Request) → Stands answered past self.old → IsTurn turn past request others
+            → is_command request.frame ≡ false → result ≡ (if ends past.params request.frame then Act.Ended else Act.Taken) }
+        ensures stands { (answered : ℕ) (past : Past) (request : Request) (others : List Request) → Stands answered past self.old → IsTurn turn past request others
+            → is_command request.frame ≡ false → Stands (answered + bearing (act_answers answered request past)) (acted request past) self.new }
+        ensures out { (answered : ℕ) (past : Past) (request : Request) (others : List Request) → Stands answered past self.old → IsTurn turn past request others
+            → is_command request.frame ≡ false → out.new.items ≡ out.old.items ++ flat_map spelling (act_answers answered request past) }
+        ensures params { self.new.params ≡ self.old.params }
+    {
         let Some(frame) = self.take_out(turn) else {
             return Act::Idle;
         };
-        if frame.header.opcode() == Opcode::NopOut {
-            self.return_ping(&frame, out);
-            return Act::Taken;
+        match frame.header.opcode() {
+            Opcode::NopOut => {
+                self.return_ping(&frame, out);
+                Act::Taken
+            }
+            _ => self.log_out(&frame, out),
         }
-        self.log_out(&frame, out)
     }
 
     /// A NOP-In returns the ping data of a NOP-Out (RFC 7143 §11.19), where it asks for an answer.
-    fn return_ping(&mut self, frame: &Frame, out: &mut BytesMut) {
+    fn return_ping(&mut self, frame: &Frame, out: &mut BytesMut)
+        requires { room_to_act frame.now ≤ out.old.spare }
+        ensures stands { (answered : ℕ) (past : Past) → Stands answered past self.old
+            → Stands (answered + bearing (ping_answers (stamp answered past) past.params.values frame.now)) past self.new }
+        ensures out { (answered : ℕ) (past : Past) → Stands answered past self.old
+            → out.new.items ≡ out.old.items ++ flat_map spelling (ping_answers (stamp answered past) past.params.values frame.now) }
+        ensures params { self.new.params ≡ self.old.params }
+    {
         let header = &frame.header;
         if header.initiator_task_tag() == RESERVED_TAG {
             return;
@@ -141,31 +185,39 @@ impl Session {
     }
 
     /// A Logout is answered (RFC 7143 §11.15).
-    fn log_out(&mut self, frame: &Frame, out: &mut BytesMut) -> Act {
-        let header = &frame.header;
-        let closes = self.closes(header);
+    fn log_out(&mut self, frame: &Frame, out: &mut BytesMut) -> Act
+        requires { room_to_act frame.now ≤ out.old.spare }
+        ensures act { result ≡ (if closes self.old.params frame.now then Act.Ended else Act.Taken) }
+        ensures stands { (answered : ℕ) (past : Past) → Stands answered past self.old → Stands (answered + 1) past self.new }
+        ensures out { (answered : ℕ) (past : Past) → Stands answered past self.old
+            → out.new.items ≡ out.old.items ++ spelling (logout_answer (stamp answered past) past.params frame.now) }
+        ensures params { self.new.params ≡ self.old.params }
+    {
         let stamp = self.next_stamp();
+        put(out, &self.logout_answer(stamp, frame));
+        if self.closes(&frame.header) {
+            Act::Ended
+        } else {
+            Act::Taken
+        }
+    }
+
+    /// What a Logout is answered.
+    fn logout_answer(&self, stamp: Stamp, frame: &Frame) -> Answer<'static>
+        ensures value { result ≡ logout_answer stamp self.now.params frame.now }
+        ensures short { length (spelling result) ≤ 96 }
+    {
+        let header = &frame.header;
         let response = match header.logout_reason() {
-            _ if closes => LogoutResult::Closed,
+            _ if self.closes(header) => LogoutResult::Closed,
             1 => LogoutResult::CidNotFound,
             2 => LogoutResult::NoRecovery,
-            _ => {
-                put(
-                    out,
-                    &rejected(RejectReason::InvalidField, stamp, frame.header),
-                );
-                return Act::Taken;
-            }
+            _ => return rejected(RejectReason::InvalidField, stamp, frame.header),
         };
-        let initiator_task_tag = header.initiator_task_tag();
-        put(
-            out,
-            &Answer::LogoutResponse(LogoutResponse {
-                initiator_task_tag,
-                stamp,
-                response,
-            }),
-        );
-        if closes { Act::Ended } else { Act::Taken }
+        Answer::LogoutResponse(LogoutResponse {
+            initiator_task_tag: header.initiator_task_tag(),
+            stamp,
+            response,
+        })
     }
 }

@@ -1,0 +1,1 @@
+use Rattle.iscsi_session.proofs.session.Session.act.Goals as goal

@@ -1,0 +1,1 @@
+use Rattle.iscsi_session.proofs.session.Session.done.Goals as goal

@@ -1,0 +1,24 @@
+use Rattle.std.proofs.Common.{◌≡◌, ◌++◌, ◌∙◌, ap, List, ℕ}
+use Rattle.iscsi_pdu.specs.Answer.{spelling}
+use Rattle.iscsi_pdu.specs.declared.answer.Answer.{Answer}
+use Rattle.iscsi_login.specs.declared.params.Params.{Params}
+use Rattle.iscsi_pdu.specs.declared.stamp.Stamp.{Stamp}
+use Rattle.iscsi_session.specs.Requests.{stamp}
+use Rattle.iscsi_session.specs.Acts.{logout_answer}
+use Rattle.iscsi_session.specs.State.{SessionState, Stands}
+use Rattle.iscsi_session.proofs.Remembered.{parts}
+use Rattle.iscsi_session.proofs.session.Session.log_out.Goals as goal
+
+pub returns-then-closes-clause-out : goal.returns-then-closes-clause-out
+returns-then-closes-clause-out c answered past s =
+    let agreed : c.next_stamp-stamp.new.self.params ≡ past.params = ap (λ (x : SessionState). x.params) c.next_stamp-stamp.ensures.same ∙ (parts answered past _ s).params_is in
+    c.put.ensures.written ∙ ap (λ (a : Answer). c.args.out.now.items ++ spelling a) (c.logout_answer.ensures.value
+    ∙ ap (λ (x : Stamp). logout_answer x c.next_stamp-stamp.new.self.params c.args.frame.now) (c.next_stamp-stamp.ensures.stamp answered past s)
+    ∙ ap (λ (p : Params). logout_answer (stamp answered past) p c.args.frame.now) agreed)
+
+pub returns-else-closes-clause-out : goal.returns-else-closes-clause-out
+returns-else-closes-clause-out c answered past s =
+    let agreed : c.next_stamp-stamp.new.self.params ≡ past.params = ap (λ (x : SessionState). x.params) c.next_stamp-stamp.ensures.same ∙ (parts answered past _ s).params_is in
+    c.put.ensures.written ∙ ap (λ (a : Answer). c.args.out.now.items ++ spelling a) (c.logout_answer.ensures.value
+    ∙ ap (λ (x : Stamp). logout_answer x c.next_stamp-stamp.new.self.params c.args.frame.now) (c.next_stamp-stamp.ensures.stamp answered past s)
+    ∙ ap (λ (p : Params). logout_answer (stamp answered past) p c.args.frame.now) agreed)

@@ -1,0 +1,17 @@
+use Rattle.std.proofs.Common.{sym, subst}
+use Rattle.std.proofs.lemmas.Result.{on_ok_weaker}
+use Rattle.iscsi_session.specs.State.{SessionState, Stands}
+use Rattle.iscsi_session.proofs.Moving.{queues_at_once, queues_in_turn}
+use Rattle.iscsi_session.proofs.session.Session.queue.Goals as goal
+
+pub returns-in-Immediate-clause-ok : goal.returns-in-Immediate-clause-ok
+returns-in-Immediate-clause-ok c =
+    on_ok_weaker c.queue_arrived.result
+    (λ moved. λ answered past request others s t is.
+    queues_at_once answered past _ c.args.turn request others _ c.in-Immediate.is moved (subst (λ (x : SessionState). Stands answered past x) (sym c.self.view_is) s) t is)
+    c.queue_arrived.ensures.ok
+
+pub returns-in_ok-queue_held-in-Numbered-clause-ok : goal.returns-in_ok-queue_held-in-Numbered-clause-ok
+returns-in_ok-queue_held-in-Numbered-clause-ok c answered past request others s t is =
+    queues_in_turn answered _ past _ c.args.turn request others _ _ c.in-Numbered.is c.in_ok-queue_held-in-Numbered.ensures.ok c.take.ensures.stands
+    (subst (λ (x : SessionState). Stands answered past x) (sym c.self.view_is) s) t is
