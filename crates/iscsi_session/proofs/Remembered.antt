@@ -235,6 +235,21 @@ has_turn answered past state (Numbered n) s e =
       frame = ap (named_by n) p.held_is ∙ ap (λ (m : ℕ). named_by m (frames_of (held past))) (sym found.1.number) ∙ found.1.acts.named;
     }
 
+-- which request acts, and whether it is a SCSI Command
+pub record Acting (turn : Turn) (past : Past) (kind : Bool) : Type 0 where
+  pub request : Request
+  pub others : List Request
+  pub is_turn : IsTurn turn past request others
+  pub is_kind : is_command request.frame ≡ kind
+
+pub acting : (answered : ℕ) (past : Past) (state : SessionState) (turn : Turn) (frame : Frame) (told kind : Bool) → Stands answered past state → Some turn ≡ turn_of past → frame_at turn state.tasks ≡ Some frame
+    → told ≡ is_command frame → told ≡ kind → Acting turn past kind
+acting answered past state turn frame told kind s e at is known =
+    let h = has_turn answered past state turn s (sym e) in
+    let both : Some frame ≡ Some h.request.frame = sym at ∙ h.frame in
+    let same : frame ≡ h.request.frame = cc in
+    record { request = h.request; others = h.others; is_turn = h.is_turn; is_kind = ap is_command (sym same) ∙ sym is ∙ known }
+
 pub turn_frame : (answered : ℕ) (past : Past) (state : SessionState) (turn : Turn) (request : Request) (others : List Request) → Stands answered past state → IsTurn turn past request others → frame_at turn state.tasks ≡ Some request.frame
 turn_frame answered past state turn request others s t =
     let h = has_turn answered past state turn s t.here in
