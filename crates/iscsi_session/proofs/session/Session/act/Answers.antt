@@ -1,4 +1,7 @@
-use Rattle.std.proofs.Common.{◌≡◌, Some, None, sym, ◌∙◌}
+use Rattle.std.proofs.Common.{◌≡◌, ◌++◌, ℕ, List, Some, None, sym, ap, ◌∙◌}
+use Rattle.std.specs.Prelude.{flat_map}
+use Rattle.iscsi_pdu.specs.Answer.{spelling}
+use Rattle.iscsi_session.specs.Acts.{act_answers}
 use Rattle.iscsi_session.proofs.Acted.{no_turn}
 use Rattle.iscsi_session.proofs.Remembered.{has_turn, acting}
 use Rattle.iscsi_session.proofs.Answered.{idle_act, idle_stands, idle_out, one_act, one_stands, one_out, command_act, command_stands, command_out}
@@ -59,4 +62,5 @@ returns-in_ok-reserve-in-Some-2-clause-stands c answered past s =
 pub returns-in_ok-reserve-in-Some-2-clause-out : goal.returns-in_ok-reserve-in-Some-2-clause-out
 returns-in_ok-reserve-in-Some-2-clause-out c answered past s =
     let a = acting answered past _ c.in-Some.turn _ _ _ s (c.in-Some.ensures answered past s) c.in-Some-due.ensures.some c.is_command.ensures c.if-is_command.false in
-    one_out answered past a.request a.others _ _ a.is_turn.due (c.answer.ensures.out answered past a.request a.others s a.is_turn a.is_kind ∙ ?)
+    one_out answered past a.request a.others _ _ a.is_turn.due (c.answer.ensures.out answered past a.request a.others s a.is_turn a.is_kind
+      ∙ ap (λ (bytes : List ℕ). bytes ++ flat_map spelling (act_answers answered a.request past)) c.in_ok-reserve-in-Some-2.ensures.items)
