@@ -1,8 +1,8 @@
 mod Room
 mod Numbered
 mod Due
-mod Acted
+pub mod Acted
 mod Remembered
 mod Moving
 mod Answered
-mod Finished
+pub mod Finished
