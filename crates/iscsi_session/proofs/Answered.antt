@@ -1,5 +1,5 @@
 -- What a request is answered, by its opcode.
-use Rattle.std.proofs.Common.{◌≡◌, ◌≢◌, ℕ, min, List, [], ◌∷◌, ◌++◌, length, take, Bool, true, false, cond, ◌==◌, eqb, Option, Some, None, ◌+◌, refl, sym, ap, ◌∙◌, subst, arith, append-nil}
+use Rattle.std.proofs.Common.{◌≡◌, ◌≢◌, ℕ, min, List, [], ◌∷◌, ◌++◌, length, take, Bool, true, false, cond, ◌==◌, eqb, Option, Some, ◌+◌, refl, sym, ap, ◌∙◌, subst, arith, append-nil, add-zero}
 use Rattle.std.specs.Prelude.{flat_map}
 use Rattle.std.proofs.lemmas.Bool.{eqb-true}
 use Rattle.std.proofs.lemmas.List.{take_min}
@@ -18,11 +18,11 @@ use Rattle.iscsi_pdu.specs.declared.stamp.Stamp.{Stamp}
 use Rattle.iscsi_login.specs.declared.params.Params.{Params}
 use Rattle.iscsi_login.specs.declared.values.Values.{Values}
 use Rattle.iscsi_session.specs.Judging.{reserved_tag, reject}
-use Rattle.iscsi_session.specs.Requests.{Request, Past, is_command, acted, bears_status, bearing, stamp}
+use Rattle.iscsi_session.specs.Requests.{Request, Past, is_command, due, acted, bears_status, bearing, stamp}
 use Rattle.iscsi_session.specs.declared.act.Act.{Act}
-use Rattle.iscsi_session.specs.declared.act.Act.TheVariants.{Taken, Ended}
+use Rattle.iscsi_session.specs.declared.act.Act.TheVariants.{Idle, Taken, Ended}
 use Rattle.iscsi_session.specs.State.{SessionState, Stands}
-use Rattle.iscsi_session.specs.Acts.{act_answers, act_answers_by, ends, ends_by, closes, logout_response, logout_answer, ping_answers}
+use Rattle.iscsi_session.specs.Acts.{act_answers, act_answers_by, ends, ends_by, act_by, acted_by, answers_by, closes, logout_response, logout_answer, ping_answers}
 use Rattle.iscsi_session.proofs.Due.{acted_other}
 
 -- ---- a SCSI Command
@@ -115,9 +115,9 @@ logout_bears numbers_now params frame =
     let second : Answer = cond (logout_reason frame.header == 2) (logout_response results.NoRecovery numbers_now frame) refused in
     let first : Answer = cond (logout_reason frame.header == 1) (logout_response results.CidNotFound numbers_now frame) second in
     one_bearing (logout_answer numbers_now params frame)
-      (bears_by (closes params frame) (logout_response results.Closed numbers_now frame) first refl
-        (bears_by (logout_reason frame.header == 1) (logout_response results.CidNotFound numbers_now frame) second refl
-          (bears_by (logout_reason frame.header == 2) (logout_response results.NoRecovery numbers_now frame) refused refl refl)))
+    (bears_by (closes params frame) (logout_response results.Closed numbers_now frame) first refl
+    (bears_by (logout_reason frame.header == 1) (logout_response results.CidNotFound numbers_now frame) second refl
+    (bears_by (logout_reason frame.header == 2) (logout_response results.NoRecovery numbers_now frame) refused refl refl)))
 
 -- ---- what is written
 
@@ -138,6 +138,41 @@ ping_written old new body tag numbers_now given values frame is same written =
 pub ping_data : (length_is n most : ℕ) (body : List ℕ) → length_is ≡ length body → take (min (min length_is n) most) body ≡ take (min n most) body
 ping_data length_is n most body e =
     ap (λ (k : ℕ). take k body) (let same : min (min length_is n) most ≡ min (min n most) (length body) = omega arith in same) ∙ take_min (min n most) body
+
+-- ---- the next act
+
+pub idle_act : (past : Past) → due past ≡ [] → Idle ≡ act_by (due past) past
+idle_act past e = ap (λ (l : List Request). act_by l past) (sym e)
+
+pub idle_stands : (answered : ℕ) (past : Past) (state : SessionState) → due past ≡ [] → Stands answered past state → Stands (answered + bearing (answers_by (due past) answered past)) (acted_by (due past) past) state
+idle_stands answered past state e s =
+    subst (λ (l : List Request). Stands (answered + bearing (answers_by l answered past)) (acted_by l past) state) (sym e) (subst (λ (n : ℕ). Stands n past state) (sym (add-zero answered)) s)
+
+pub idle_out : (answered : ℕ) (past : Past) (items : List ℕ) → due past ≡ [] → items ≡ items ++ flat_map spelling (answers_by (due past) answered past)
+idle_out answered past items e = sym (append-nil items) ∙ ap (λ (l : List Request). items ++ flat_map spelling (answers_by l answered past)) (sym e)
+
+pub one_act : (past : Past) (request : Request) (others : List Request) (act : Act) → due past ≡ request ∷ others → act ≡ cond (ends past.params request.frame) Ended Taken → act ≡ act_by (due past) past
+one_act past request others act e is = is ∙ ap (λ (l : List Request). act_by l past) (sym e)
+
+pub one_stands : (answered : ℕ) (past : Past) (request : Request) (others : List Request) (state : SessionState) → due past ≡ request ∷ others
+    → Stands (answered + bearing (act_answers answered request past)) (acted request past) state → Stands (answered + bearing (answers_by (due past) answered past)) (acted_by (due past) past) state
+one_stands answered past request others state e s = subst (λ (l : List Request). Stands (answered + bearing (answers_by l answered past)) (acted_by l past) state) (sym e) s
+
+pub one_out : (answered : ℕ) (past : Past) (request : Request) (others : List Request) (old new : List ℕ) → due past ≡ request ∷ others
+    → new ≡ old ++ flat_map spelling (act_answers answered request past) → new ≡ old ++ flat_map spelling (answers_by (due past) answered past)
+one_out answered past request others old new e is = is ∙ ap (λ (l : List Request). old ++ flat_map spelling (answers_by l answered past)) (sym e)
+
+-- a SCSI Command is not answered yet
+pub command_act : (past : Past) (request : Request) → is_command request.frame ≡ true → Taken ≡ cond (ends past.params request.frame) Ended Taken
+command_act past request e = ap (λ (b : Bool). cond b Ended Taken) (sym (command_goes_on past.params request.frame e))
+
+pub command_stands : (answered : ℕ) (past : Past) (request : Request) (state : SessionState) → is_command request.frame ≡ true → Stands answered (acted request past) state
+    → Stands (answered + bearing (act_answers answered request past)) (acted request past) state
+command_stands answered past request state e s =
+    subst (λ (l : List Answer). Stands (answered + bearing l) (acted request past) state) (sym (command_answers_none answered request past e)) (subst (λ (n : ℕ). Stands n (acted request past) state) (sym (add-zero answered)) s)
+
+pub command_out : (answered : ℕ) (past : Past) (request : Request) (items : List ℕ) → is_command request.frame ≡ true → items ≡ items ++ flat_map spelling (act_answers answered request past)
+command_out answered past request items e = sym (append-nil items) ∙ ap (λ (l : List Answer). items ++ flat_map spelling l) (sym (command_answers_none answered request past e))
 
 -- ---- the request that acted
 
@@ -182,3 +217,10 @@ logout_act past request frame params act e same agreed other is =
 
 pub ping_act : (past : Past) (request : Request) → opcode_of (opcode_number request.frame.header) ≡ opcodes.NopOut → Taken ≡ cond (ends past.params request.frame) Ended Taken
 ping_act past request is = ap (λ (b : Bool). cond b Ended Taken) (sym (ping_goes_on past.params request.frame is))
+
+logout_by : (a b c : Bool) (w x y z : Answer) → a ≡ false → b ≡ false → c ≡ false → cond a w (cond b x (cond c y z)) ≡ z
+logout_by a b c w x y z p q r = rw (p, q, r) refl
+
+pub logout_refused : (numbers_now : Stamp) (params : Params) (frame : Frame) (given : Answer) → closes params frame ≡ false → eqb (logout_reason frame.header) 1 ≡ false → eqb (logout_reason frame.header) 2 ≡ false
+    → given ≡ reject reasons.InvalidField numbers_now frame → given ≡ logout_answer numbers_now params frame
+logout_refused numbers_now params frame given open_still no_cid no_recovery is = is ∙ sym (logout_by (closes params frame) (logout_reason frame.header == 1) (logout_reason frame.header == 2) _ _ _ _ open_still no_cid no_recovery)

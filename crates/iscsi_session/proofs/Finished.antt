@@ -8,11 +8,12 @@ use Rattle.iscsi_pdu.specs.Frames.{Frame}
 use Rattle.iscsi_order.specs.Window as order
 use Rattle.iscsi_order.specs.Window.{taken}
 use Rattle.iscsi_order.specs.WindowState as window
+use Rattle.iscsi_order.specs.declared.window.CommandNumbers.{CommandNumbers}
 use Rattle.iscsi_order.specs.Stat.{stat_sn}
-use Rattle.iscsi_session.specs.Requests.{Request, Past, numbered, commands, is_command, numbers, held, arrived, queue, finished}
+use Rattle.iscsi_session.specs.Requests.{Request, Past, numbered, commands, is_command, numbers, held, arrived, queue, finished, stamp}
 use Rattle.iscsi_session.specs.State.{SessionState, frames_of, IsLawful, IsDelivered, Stands}
 use Rattle.iscsi_session.proofs.Numbered.{numbered_same, numbered_push, commands_push, numbered_count, numbered_first}
-use Rattle.iscsi_session.proofs.Remembered.{Parts, parts, stands_by}
+use Rattle.iscsi_session.proofs.Remembered.{parts, stands_by, window_stands}
 
 -- ---- the first of the queue
 
@@ -143,3 +144,30 @@ finishes answered past state command others w stat s is ws counted =
       arrived_is = p.arrived_is ∙ ap frames_of (sym (arrived_finished past command));
       queue_is = ap (drop 1) (first_is answered past state command others s is) ∙ ap frames_of (sym (queue_after past command others s.lawful is));
     })
+
+-- ---- what the calls of `done` leave
+
+window_by : (b : Bool) (answered : ℕ) (past : Past) (state : SessionState) (command : Request) (others : List Request) (w : window.WindowState) → is_immediate command.frame.header ≡ b → Stands answered past state → queue past ≡ command ∷ others
+    → (b ≡ true → w ≡ state.window) → (b ≡ false → (p : order.Past) → window.Stands p state.window → p.finished < p.handed → window.Stands (order.finished_one p) w) → window.Stands (numbers (finished command past)) w
+window_by true answered past state command others w at s is same more =
+    subst (λ (x : window.WindowState). window.Stands (numbers (finished command past)) x) (sym (same refl)) (window_same answered past state command others s is at)
+window_by false answered past state command others w at s is same more =
+    window_more past command others w s.lawful is at (more refl (numbers past) (window_stands answered past state s) (one_handed past command others s.lawful is at))
+
+pub window_finished : (answered : ℕ) (past : Past) (state : SessionState) (command : Request) (others : List Request) (frame : Frame) (w : window.WindowState) → Stands answered past state → queue past ≡ command ∷ others → frame ≡ command.frame
+    → (is_immediate frame.header ≡ true → w ≡ state.window) → (is_immediate frame.header ≡ false → (p : order.Past) → window.Stands p state.window → p.finished < p.handed → window.Stands (order.finished_one p) w)
+    → window.Stands (numbers (finished command past)) w
+window_finished answered past state command others frame w s is e same more =
+    let header = ap (λ (f : Frame). is_immediate f.header) e in
+    window_by _ answered past state command others w refl s is (λ t. same (header ∙ t)) (λ f. more (header ∙ f))
+
+pub first_frame : (answered : ℕ) (past : Past) (state : SessionState) (command : Request) (others : List Request) (frame : Frame) (rest : List Frame) → Stands answered past state → queue past ≡ command ∷ others
+    → state.tasks.queue ≡ frame ∷ rest → frame ≡ command.frame
+first_frame answered past state command others frame rest s is at =
+    let both : frame ∷ rest ≡ command.frame ∷ frames_of others = sym at ∙ first_is answered past state command others s is in
+    cc
+
+pub stamped : (answered : ℕ) (past : Past) (n : ℕ) (told : CommandNumbers) → n ≡ stat_sn answered → told ≡ order.numbers_of (numbers past)
+    → record { stat_sn = n; exp_cmd_sn = told.exp_cmd_sn; max_cmd_sn = told.max_cmd_sn } ≡ stamp answered past
+unfolding stamp
+stamped answered past n told e is = rw (e, is) refl

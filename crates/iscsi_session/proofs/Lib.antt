@@ -4,8 +4,8 @@ pub mod Accepted
 pub mod Verdicts
 mod Numbered
 mod Due
-mod Acted
+pub mod Acted
 mod Remembered
 mod Moving
 mod Answered
-mod Finished
+pub mod Finished

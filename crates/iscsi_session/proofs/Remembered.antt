@@ -1,5 +1,5 @@
 -- A session that remembers its past remembers the one in which one more request acted.
-use Rattle.std.proofs.Common.{◌≡◌, ℕ, suc, ◌+◌, ◌^◌, ◌%◌, ◌<◌, ◌≤◌, List, [], ◌∷◌, ◌++◌, length, map, Bool, true, false, Option, Some, None, refl, sym, ap, ◌∙◌, subst, arith, add-one}
+use Rattle.std.proofs.Common.{◌≡◌, ℕ, suc, ◌<◌, List, [], ◌∷◌, ◌++◌, length, Bool, true, false, Option, Some, None, refl, sym, ap, ◌∙◌, subst, arith}
 use Rattle.std.specs.Prelude.{option_map, drop, flat_map, nat_lt, slice_get}
 use Rattle.std.proofs.lemmas.Bool.{lt-ltb}
 use Rattle.std.proofs.lemmas.List.{length_push, map_push}
@@ -10,11 +10,11 @@ use Rattle.iscsi_order.specs.Stat.{stat_sn}
 use Rattle.iscsi_session.specs.declared.acting.Turn.{Turn}
 use Rattle.iscsi_session.specs.declared.acting.Turn.TheVariants.{Immediate, Numbered}
 use Rattle.iscsi_login.specs.declared.params.Params.{Params}
-use Rattle.iscsi_session.specs.Requests.{Request, Past, numbered, is_command, numbers, with_number, held, arrived, queue, due, acted}
+use Rattle.iscsi_session.specs.Requests.{Request, Past, numbered, is_command, numbers, with_number, held, arrived, queue, acted}
 use Rattle.iscsi_session.specs.State.{SessionState, TaskLists, frames_of, remembered, IsLawful, Stands, named_by, without}
 use Rattle.iscsi_session.specs.Turns.{turn_by, turn_of, frame_at, IsTurn}
 use Rattle.iscsi_session.proofs.Numbered.{numbered_same, numbered_push}
-use Rattle.iscsi_session.proofs.Due.{handed, waiting, with_acted, acted_command, acted_other, ActsAtOnce, arrived_after, held_same, ActsInTurn, handed_more, held_after, arrived_same, queue_joined, queue_same}
+use Rattle.iscsi_session.proofs.Due.{handed, waiting, with_acted, acted_command, acted_other, arrived_after, held_same, handed_more, held_after, arrived_same, queue_joined, queue_same}
 use Rattle.iscsi_session.proofs.Acted.{IsAtOnce, at_once, IsInTurn, in_turn, lawful_after}
 
 -- what is remembered, part by part
@@ -234,6 +234,21 @@ has_turn answered past state (Numbered n) s e =
       is_turn = record { here = e; due = found.1.acts.due };
       frame = ap (named_by n) p.held_is ∙ ap (λ (m : ℕ). named_by m (frames_of (held past))) (sym found.1.number) ∙ found.1.acts.named;
     }
+
+-- which request acts, and whether it is a SCSI Command
+pub record Acting (turn : Turn) (past : Past) (kind : Bool) : Type 0 where
+  pub request : Request
+  pub others : List Request
+  pub is_turn : IsTurn turn past request others
+  pub is_kind : is_command request.frame ≡ kind
+
+pub acting : (answered : ℕ) (past : Past) (state : SessionState) (turn : Turn) (frame : Frame) (told kind : Bool) → Stands answered past state → Some turn ≡ turn_of past → frame_at turn state.tasks ≡ Some frame
+    → told ≡ is_command frame → told ≡ kind → Acting turn past kind
+acting answered past state turn frame told kind s e at is known =
+    let h = has_turn answered past state turn s (sym e) in
+    let both : Some frame ≡ Some h.request.frame = sym at ∙ h.frame in
+    let same : frame ≡ h.request.frame = cc in
+    record { request = h.request; others = h.others; is_turn = h.is_turn; is_kind = ap is_command (sym same) ∙ sym is ∙ known }
 
 pub turn_frame : (answered : ℕ) (past : Past) (state : SessionState) (turn : Turn) (request : Request) (others : List Request) → Stands answered past state → IsTurn turn past request others → frame_at turn state.tasks ≡ Some request.frame
 turn_frame answered past state turn request others s t =

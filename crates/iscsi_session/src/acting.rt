@@ -208,11 +208,15 @@ impl Session {
         ensures short { length (spelling result) ≤ 96 }
     {
         let header = &frame.header;
-        let response = match header.logout_reason() {
-            _ if self.closes(header) => LogoutResult::Closed,
-            1 => LogoutResult::CidNotFound,
-            2 => LogoutResult::NoRecovery,
-            _ => return rejected(RejectReason::InvalidField, stamp, frame.header),
+        let reason = header.logout_reason();
+        let response = if self.closes(header) {
+            LogoutResult::Closed
+        } else if reason == 1 {
+            LogoutResult::CidNotFound
+        } else if reason == 2 {
+            LogoutResult::NoRecovery
+        } else {
+            return rejected(RejectReason::InvalidField, stamp, frame.header);
         };
         Answer::LogoutResponse(LogoutResponse {
             initiator_task_tag: header.initiator_task_tag(),

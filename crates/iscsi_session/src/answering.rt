@@ -1,8 +1,11 @@
 //! A command that is done is answered.
 
-ghost use Rattle.std.specs.Prelude.{◌≡◌, ◌≤◌, ◌+◌, ◌++◌, ◌∷◌, ℕ, List, [], flat_map, length, vec_capacity};
+ghost use Rattle.std.specs.Prelude.{◌≡◌, ◌≤◌, ◌<◌, ◌+◌, ◌++◌, ◌∷◌, ℕ, List, [], flat_map, length, true, false, vec_capacity};
 ghost use Rattle.iscsi_pdu.specs.Answer.{spelling};
 ghost use Rattle.iscsi_pdu.specs.Frames as pdu;
+ghost use Rattle.iscsi_pdu.specs.Header.{is_immediate};
+ghost use Rattle.iscsi_order.specs.Window.{Past as Numbers, finished_one};
+ghost use Rattle.iscsi_order.specs.WindowState.{Stands as Counts};
 ghost use Rattle.iscsi_login.specs.Values.{AreInRange};
 ghost use Rattle.iscsi_session.specs.Requests.{Request, Past, queue, stamp, finished};
 ghost use Rattle.iscsi_session.specs.Answers.{command_answers};
@@ -12,7 +15,8 @@ ghost use Rattle.iscsi_session.specs.State.{Stands};
 use crate::answers::put_answers;
 use crate::session::Session;
 use bytes::BytesMut;
-use iscsi_pdu::Stamp;
+use iscsi_order::Window;
+use iscsi_pdu::{Frame, Stamp};
 use iscsi_transfer::Piece;
 use scsi_sense::Done;
 
@@ -35,9 +39,7 @@ impl Session {
         let Some(frame) = self.tasks.first() else {
             return;
         };
-        if !frame.header.is_immediate() {
-            self.window.finish();
-        }
+        finish_number(&mut self.window, frame);
         let numbers = self.window.numbers();
         let stamp = Stamp {
             stat_sn: self.stat.next(),
@@ -46,5 +48,15 @@ impl Session {
         };
         put_answers(out, pieces, stamp, &self.params.values, frame, done);
         self.tasks.finish();
+    }
+}
+
+/// A request is finished that was handed over with its number. One for immediate delivery has none.
+fn finish_number(window: &mut Window, frame: &Frame)
+    ensures immediate { is_immediate frame.now.header ≡ true → window.new ≡ window.old }
+    ensures numbered { is_immediate frame.now.header ≡ false → (past : Numbers) → Counts past window.old → past.finished < past.handed → Counts (finished_one past) window.new }
+{
+    if !frame.header.is_immediate() {
+        window.finish();
     }
 }

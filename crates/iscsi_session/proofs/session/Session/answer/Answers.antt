@@ -1,10 +1,5 @@
-use Rattle.std.proofs.Common.{◌≡◌, ◌≢◌, ℕ, List, Some, None, refl, sym, ap, ◌∙◌, subst}
-use Rattle.iscsi_pdu.specs.Header.{opcode_of, opcode_number}
+use Rattle.std.proofs.Common.{sym, ap, ◌∙◌}
 use Rattle.iscsi_pdu.specs.Frames.{Frame}
-use Rattle.iscsi_pdu.specs.declared.header.Opcode.TheVariants as opcodes
-use Rattle.iscsi_session.specs.Requests.{Request, Past}
-use Rattle.iscsi_session.specs.State.{SessionState, Stands}
-use Rattle.iscsi_session.specs.Turns.{IsTurn}
 use Rattle.iscsi_session.proofs.Remembered.{parts, turn_frame}
 use Rattle.iscsi_session.proofs.Answered.{same_frame, opcode_same, ping_stands, ping_out, ping_act, logout_stands, logout_out, logout_act}
 use Rattle.iscsi_session.proofs.session.Session.answer.Goals as goal
@@ -29,13 +24,13 @@ pub returns-in-NopOut-clause-stands : goal.returns-in-NopOut-clause-stands
 returns-in-NopOut-clause-stands c answered past request others s t is =
     let same = same_frame _ request.frame _ c.in-Some.ensures.frame (turn_frame answered past _ _ request others s t) in
     ping_stands answered past request _ _ is same (sym (opcode_same _ request.frame _ (ap (λ (f : Frame). f.header) c.frame.view_is) same) ∙ sym c.in-NopOut.ensures)
-      (c.return_ping.ensures.stands answered _ (c.take_out.ensures.stands answered past request others s t is))
+    (c.return_ping.ensures.stands answered _ (c.take_out.ensures.stands answered past request others s t is))
 
 pub returns-in-NopOut-clause-out : goal.returns-in-NopOut-clause-out
 returns-in-NopOut-clause-out c answered past request others s t is =
     let same = same_frame _ request.frame _ c.in-Some.ensures.frame (turn_frame answered past _ _ request others s t) in
     ping_out answered past request _ _ _ is same (sym (opcode_same _ request.frame _ (ap (λ (f : Frame). f.header) c.frame.view_is) same) ∙ sym c.in-NopOut.ensures)
-      (c.return_ping.ensures.out answered _ (c.take_out.ensures.stands answered past request others s t is))
+    (c.return_ping.ensures.out answered _ (c.take_out.ensures.stands answered past request others s t is))
 
 -- ---- a Logout
 
