@@ -6,3 +6,4 @@ mod Remembered
 mod Moving
 mod Answered
 pub mod Finished
+mod Lines

@@ -16,4 +16,5 @@ pub mod Answers
 pub mod Room
 pub mod State
 pub mod Turns
+pub mod Tasks
 pub mod Examples
