@@ -1,3 +1,3 @@
 mod Room
 pub mod Accepted
-pub mod Verdicts
+mod Verdicts
