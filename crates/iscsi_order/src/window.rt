@@ -81,21 +81,15 @@ impl Window {
     pub fn is_new(&self, n: u32) -> bool
         ensures { (past : Past) → Stands past self.now → result ≡ is_new_in past n }
     {
-        let ahead = n.wrapping_sub(self.next) as usize;
-        if ahead >= WINDOW - self.unfinished || self.held[ahead] {
-            return false;
-        }
-        true
+        let place = n.wrapping_sub(self.next) as usize;
+        place < WINDOW - self.unfinished && !self.held[place]
     }
 
     /// The number that [`Window::take`] hands over next.
     pub fn next(&self) -> Option<u32>
         ensures { (past : Past) → Stands past self.now → result ≡ next_of past }
     {
-        if !self.held[0] {
-            return None;
-        }
-        Some(self.next)
+        if self.held[0] { Some(self.next) } else { None }
     }
 
     /// The next number, where it and all before it have come. Each is handed over once, in order.

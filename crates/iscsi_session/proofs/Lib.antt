@@ -7,3 +7,5 @@ mod Moving
 mod Answered
 pub mod Finished
 mod Lines
+pub mod Accepted
+mod Verdicts

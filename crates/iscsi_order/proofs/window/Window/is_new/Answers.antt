@@ -1,28 +1,22 @@
-use Rattle.std.proofs.Common.{◌≡◌, ◌+◌, ◌-◌, ◌^◌, ◌%◌, ◌<◌, get_or, true, false, refl, sym, subst, arith}
-use Rattle.iscsi_order.specs.Window.{window}
+use Rattle.std.proofs.Common.{◌≡◌, ℕ, ◌+◌, ◌-◌, ◌^◌, ◌%◌, ◌<◌, List, get_or, Bool, true, false, not, refl, sym, subst, ◌∙◌, arith}
+use Rattle.std.proofs.lemmas.Bool.{le-ltb}
+use Rattle.iscsi_order.specs.Window.{window, Past, is_new}
 use Rattle.iscsi_order.specs.WindowState.{WindowState, Stands}
 use Rattle.iscsi_order.proofs.Standing.{arrives, ignored}
 use Rattle.iscsi_order.proofs.window.Window.is_new.Goals as goal
-use Rattle.iscsi_order.proofs.window.Window.is_new.Goals.{then-ahead-self-via-then-ahead-self, then-ahead-self-via-else-ahead-self+then-self-ahead}
 
--- it is outside the window, or has come
-abbrev IsOld : goal.Joined-then-ahead-self → Type 0
-IsOld c =
-    let ahead = (c.args.n + (2 ^ 32 - c.self.inside.next)) % 2 ^ 32 in
-    ahead < window - c.self.inside.unfinished → get_or c.self.inside.held ahead false ≡ true
+-- inside the window it is new where it has not come
+new_inside : (past : Past) (n next unfinished : ℕ) (held : List Bool) (b : Bool) → Stands past (record { next = next; unfinished = unfinished; held = held }) → n < 2 ^ 32 → next < 2 ^ 32
+    → (n + (2 ^ 32 - next)) % 2 ^ 32 < window - unfinished → get_or held ((n + (2 ^ 32 - next)) % 2 ^ 32) false ≡ b → not b ≡ is_new past n
+new_inside past n next unfinished held true s fits small near come = sym (ignored past n next unfinished held s fits small (λ _. come))
+new_inside past n next unfinished held false s fits small near missing = sym (arrives past n next unfinished held s fits small near missing).is_new
 
-is_old : (c : goal.Joined-then-ahead-self) → IsOld c
-is_old c = elim c.then-ahead-self.branch [
-  | then-ahead-self-via-then-ahead-self w ↦ λ near. absurd (let far = w.if-ahead-self.true in omega arith)
-  | then-ahead-self-via-else-ahead-self+then-self-ahead w ↦ λ near. w.if-self-ahead.true
-]
-
-pub returns-then-ahead-self : goal.returns-then-ahead-self
-returns-then-ahead-self c past s =
+pub returns-then-place-self : goal.returns-then-place-self
+returns-then-place-self c past s =
     let known = subst (λ (w : WindowState). Stands past w) (sym c.self.view_is) s in
-    rw (ignored past c.args.n _ _ _ known (omega arith) (omega arith) (is_old c)) refl
+    new_inside past c.args.n _ _ _ _ known (omega arith) (omega arith) (omega arith) refl
 
-pub returns : goal.returns
-returns c past s =
+pub returns-else-place-self : goal.returns-else-place-self
+returns-else-place-self c past s =
     let known = subst (λ (w : WindowState). Stands past w) (sym c.self.view_is) s in
-    rw (arrives past c.args.n _ _ _ known (omega arith) (omega arith) (omega arith) c.if-self-ahead.false).is_new refl
+    le-ltb _ _ c.if-place-self.false ∙ sym (ignored past c.args.n _ _ _ known (omega arith) (omega arith) (λ near. absurd (let far = c.if-place-self.false in omega arith)))
