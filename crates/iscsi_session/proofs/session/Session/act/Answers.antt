@@ -63,4 +63,4 @@ pub returns-in_ok-reserve-in-Some-2-clause-out : goal.returns-in_ok-reserve-in-S
 returns-in_ok-reserve-in-Some-2-clause-out c answered past s =
     let a = acting answered past _ c.in-Some.turn _ _ _ s (c.in-Some.ensures answered past s) c.in-Some-due.ensures.some c.is_command.ensures c.if-is_command.false in
     one_out answered past a.request a.others _ _ a.is_turn.due (c.answer.ensures.out answered past a.request a.others s a.is_turn a.is_kind
-      ∙ ap (λ (bytes : List ℕ). bytes ++ flat_map spelling (act_answers answered a.request past)) c.in_ok-reserve-in-Some-2.ensures.items)
+    ∙ ap (λ (bytes : List ℕ). bytes ++ flat_map spelling (act_answers answered a.request past)) c.in_ok-reserve-in-Some-2.ensures.items)
