@@ -1,5 +1,5 @@
 -- What is read from the past where one more request is accepted.
-use Rattle.std.proofs.Common.{◌≡◌, ◌≢◌, ℕ, ◌+◌, ◌-◌, ◌^◌, ◌%◌, ◌<◌, ◌≤◌, List, [], ◌∷◌, ◌++◌, length, drop, Bool, true, false, not, ◌&&◌, ◌||◌, cond, eqb, Some, None, refl, sym, ap, ◌∙◌, subst, arith, add-one, suc}
+use Rattle.std.proofs.Common.{◌≡◌, ◌≢◌, ℕ, ◌+◌, ◌^◌, ◌%◌, ◌<◌, ◌≤◌, List, [], ◌∷◌, ◌++◌, length, drop, Bool, true, false, not, ◌&&◌, ◌||◌, cond, eqb, Some, None, refl, sym, ap, ◌∙◌, subst, arith, add-one, suc}
 use Rattle.std.specs.Prelude.{is_some}
 use Rattle.std.proofs.lemmas.Bool.{le-ltb, eqb-false}
 use Rattle.std.proofs.lemmas.List.{append-nil, length-append, map-append, drop-append-le}
@@ -11,7 +11,7 @@ use Rattle.iscsi_order.specs.Window as order
 use Rattle.iscsi_order.specs.WindowState as window
 use Rattle.iscsi_order.specs.Stat.{stat_sn}
 use Rattle.iscsi_order.proofs.Held.{come_before}
-use Rattle.iscsi_session.specs.Requests.{Request, Past, numbered, immediate, commands, is_from, numbers, held, arrived, queue, unfinished, accepted}
+use Rattle.iscsi_session.specs.Requests.{Request, Past, numbered, immediate, is_from, numbers, held, arrived, queue, unfinished, accepted}
 use Rattle.iscsi_session.specs.Judging.{is_fresh}
 use Rattle.iscsi_session.specs.State.{SessionState, frames_of, remembered, AreDistinct, HasNumber, IsDelivered, IsLawful, Stands}
 

@@ -1,23 +1,18 @@
 -- What a session remembers when a request acted.
-use Rattle.std.proofs.Common.{◌≡◌, All, ℕ, suc, ◌+◌, ◌^◌, ◌%◌, ◌<◌, ◌≤◌, List, [], ◌∷◌, ◌++◌, length, map, drop, Bool, true, false, cond, Option, Some, None, refl, sym, ap, ◌∙◌, subst, arith, inl, inr}
-use Rattle.std.specs.Prelude.{nat_lt, option_map, slice_get, flat_map}
-use Rattle.std.proofs.lemmas.Bool.{lt-ltb}
+use Rattle.std.proofs.Common.{◌≡◌, ℕ, suc, ◌+◌, ◌^◌, ◌%◌, ◌<◌, ◌≤◌, List, [], ◌∷◌, ◌++◌, length, drop, Bool, true, false, Option, Some, None, refl, sym, ap, ◌∙◌, subst, arith, inl, inr}
+use Rattle.std.specs.Prelude.{flat_map}
 use Rattle.std.proofs.lemmas.Bool.Decides.{leb_tells}
-use Rattle.std.proofs.lemmas.List.{length-append, map_push}
-use Rattle.std.proofs.lemmas.List.Elements.{All-push, filter_map-append, filter-append}
-use Rattle.iscsi_pdu.specs.Frames.{Frame}
+use Rattle.std.proofs.lemmas.List.Elements.{All-push}
 use Rattle.iscsi_order.specs.Window as order
 use Rattle.iscsi_order.specs.Window.{taken}
 use Rattle.iscsi_order.specs.WindowState as window
-use Rattle.iscsi_order.specs.Stat.{stat_sn}
-use Rattle.iscsi_session.specs.declared.acting.Turn.{Turn}
 use Rattle.iscsi_session.specs.declared.acting.Turn.TheVariants.{Immediate, Numbered}
-use Rattle.iscsi_session.specs.Requests.{Request, Past, numbered, immediate, commands, is_command, numbers, with_number, held, arrived, queue, due, acted}
-use Rattle.iscsi_session.specs.State.{SessionState, TaskLists, frames_of, remembered, IsLawful, IsDelivered, Stands, named_by, without}
+use Rattle.iscsi_session.specs.Requests.{Request, Past, numbered, immediate, is_command, numbers, with_number, arrived, queue, due, acted}
+use Rattle.iscsi_session.specs.State.{IsLawful, IsDelivered}
 use Rattle.iscsi_session.specs.Acts.{acted_by}
-use Rattle.iscsi_session.specs.Turns.{turn_by, turn_of, frame_at, IsTurn}
-use Rattle.iscsi_session.proofs.Numbered.{numbered_same, numbered_push, immediate_same, immediate_push, commands_same, commands_push, numbered_count, immediate_count, commands_count, held_from}
-use Rattle.iscsi_session.proofs.Due.{handed, waiting, with_acted, acted_command, acted_other, taken_same, ActsAtOnce, acts_at_once, arrived_after, held_same, due_at_once, ActsInTurn, acts_in_turn, handed_more, held_after, arrived_same, due_in_turn, none_acts, queue_joined, queue_same}
+use Rattle.iscsi_session.specs.Turns.{turn_by, turn_of}
+use Rattle.iscsi_session.proofs.Numbered.{numbered_count, immediate_count, commands_count}
+use Rattle.iscsi_session.proofs.Due.{handed, waiting, with_acted, acted_command, acted_other, taken_same, ActsAtOnce, acts_at_once, due_at_once, ActsInTurn, acts_in_turn, due_in_turn, none_acts, queue_joined, queue_same}
 
 -- ---- whose turn it is
 

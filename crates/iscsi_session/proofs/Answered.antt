@@ -1,5 +1,5 @@
 -- What a request is answered, by its opcode.
-use Rattle.std.proofs.Common.{◌≡◌, ◌≢◌, ℕ, min, List, [], ◌∷◌, ◌++◌, length, take, Bool, true, false, cond, ◌==◌, eqb, Option, Some, None, ◌+◌, refl, sym, ap, ◌∙◌, subst, arith, append-nil, add-zero}
+use Rattle.std.proofs.Common.{◌≡◌, ◌≢◌, ℕ, min, List, [], ◌∷◌, ◌++◌, length, take, Bool, true, false, cond, ◌==◌, eqb, Option, Some, ◌+◌, refl, sym, ap, ◌∙◌, subst, arith, append-nil, add-zero}
 use Rattle.std.specs.Prelude.{flat_map}
 use Rattle.std.proofs.lemmas.Bool.{eqb-true}
 use Rattle.std.proofs.lemmas.List.{take_min}

@@ -1,14 +1,12 @@
 -- Which request acts next, and what is left when it has acted.
-use Rattle.std.proofs.Common.{◌≡◌, ◌≢◌, All, ℕ, suc, ◌+◌, ◌^◌, ◌%◌, ◌<◌, ◌≤◌, List, [], ◌∷◌, ◌++◌, length, map, drop, get_or, Bool, true, false, not, cond, Option, Some, None, refl, sym, ap, ◌∙◌, subst, arith, inl, inr, add-one}
-use Rattle.std.specs.Prelude.{filter, flat_map, is_some}
+use Rattle.std.proofs.Common.{◌≡◌, All, ℕ, suc, ◌+◌, ◌^◌, ◌%◌, ◌<◌, ◌≤◌, List, [], ◌∷◌, ◌++◌, length, drop, get_or, true, false, not, Option, Some, None, refl, sym, ap, ◌∙◌, subst, arith, add-one}
+use Rattle.std.specs.Prelude.{flat_map, is_some}
 use Rattle.std.proofs.lemmas.List.{length_push, drop_more, drop_all, drop-drop, drop-append-le}
-use Rattle.std.proofs.lemmas.List.Elements.{All-head, All-drop, All-filter, All-push, filter_passes}
+use Rattle.std.proofs.lemmas.List.Elements.{All-head, All-drop, All-filter, filter_passes}
 use Rattle.std.proofs.lemmas.List.FromFn.{get_or-range_with_len}
 use Rattle.std.specs.List.{range_with_len}
-use Rattle.iscsi_pdu.specs.Frames.{Frame}
 use Rattle.iscsi_order.specs.Window as order
 use Rattle.iscsi_order.specs.Window.{taken}
-use Rattle.iscsi_order.specs.WindowState as window
 use Rattle.iscsi_order.proofs.Front.{front, front_run, front_come}
 use Rattle.iscsi_session.specs.Requests.{Request, Past, numbered, immediate, commands, is_command, numbers, with_number, held, arrived, queue, due, acted}
 use Rattle.iscsi_session.specs.State.{frames_of, IsLawful, IsDelivered, named_by, without}

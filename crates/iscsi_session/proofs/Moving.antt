@@ -1,5 +1,5 @@
 -- What the calls of an act leave of a session's state, as what it remembers.
-use Rattle.std.proofs.Common.{◌≡◌, ℕ, List, [], ◌∷◌, ◌++◌, ◌<◌, Bool, true, false, Option, Some, None, IfSome, IfNone, refl, sym, ap, ◌∙◌, subst}
+use Rattle.std.proofs.Common.{◌≡◌, ℕ, List, [], ◌∷◌, ◌++◌, ◌<◌, true, false, Option, Some, None, IfSome, IfNone, sym, ap, ◌∙◌, subst}
 use Rattle.iscsi_pdu.specs.Frames.{Frame}
 use Rattle.iscsi_order.specs.Window as order
 use Rattle.iscsi_order.specs.WindowState as window
@@ -8,7 +8,7 @@ use Rattle.iscsi_session.specs.declared.acting.Turn.TheVariants.{Immediate, Numb
 use Rattle.iscsi_session.specs.Requests.{Request, Past, is_command, numbers, acted}
 use Rattle.iscsi_session.specs.State.{SessionState, TaskLists, Stands, named_by, without}
 use Rattle.iscsi_session.specs.Turns.{IsTurn}
-use Rattle.iscsi_session.proofs.Remembered.{window_stands, queued_at_once, left_at_once, queued_in_turn, left_in_turn, one_unfinished, LeavesAtOnce, LeavesInTurn}
+use Rattle.iscsi_session.proofs.Remembered.{window_stands, queued_at_once, left_at_once, queued_in_turn, left_in_turn, one_unfinished}
 
 -- a SCSI Command joins the queue
 

@@ -1,5 +1,5 @@
 -- A session that remembers its past remembers the one in which one more request acted.
-use Rattle.std.proofs.Common.{◌≡◌, ℕ, suc, ◌+◌, ◌^◌, ◌%◌, ◌<◌, ◌≤◌, List, [], ◌∷◌, ◌++◌, length, map, Bool, true, false, Option, Some, None, refl, sym, ap, ◌∙◌, subst, arith, add-one}
+use Rattle.std.proofs.Common.{◌≡◌, ℕ, suc, ◌<◌, List, [], ◌∷◌, ◌++◌, length, Bool, true, false, Option, Some, None, refl, sym, ap, ◌∙◌, subst, arith}
 use Rattle.std.specs.Prelude.{option_map, drop, flat_map, nat_lt, slice_get}
 use Rattle.std.proofs.lemmas.Bool.{lt-ltb}
 use Rattle.std.proofs.lemmas.List.{length_push, map_push}
@@ -10,11 +10,11 @@ use Rattle.iscsi_order.specs.Stat.{stat_sn}
 use Rattle.iscsi_session.specs.declared.acting.Turn.{Turn}
 use Rattle.iscsi_session.specs.declared.acting.Turn.TheVariants.{Immediate, Numbered}
 use Rattle.iscsi_login.specs.declared.params.Params.{Params}
-use Rattle.iscsi_session.specs.Requests.{Request, Past, numbered, is_command, numbers, with_number, held, arrived, queue, due, acted}
+use Rattle.iscsi_session.specs.Requests.{Request, Past, numbered, is_command, numbers, with_number, held, arrived, queue, acted}
 use Rattle.iscsi_session.specs.State.{SessionState, TaskLists, frames_of, remembered, IsLawful, Stands, named_by, without}
 use Rattle.iscsi_session.specs.Turns.{turn_by, turn_of, frame_at, IsTurn}
 use Rattle.iscsi_session.proofs.Numbered.{numbered_same, numbered_push}
-use Rattle.iscsi_session.proofs.Due.{handed, waiting, with_acted, acted_command, acted_other, ActsAtOnce, arrived_after, held_same, ActsInTurn, handed_more, held_after, arrived_same, queue_joined, queue_same}
+use Rattle.iscsi_session.proofs.Due.{handed, waiting, with_acted, acted_command, acted_other, arrived_after, held_same, handed_more, held_after, arrived_same, queue_joined, queue_same}
 use Rattle.iscsi_session.proofs.Acted.{IsAtOnce, at_once, IsInTurn, in_turn, lawful_after}
 
 -- what is remembered, part by part

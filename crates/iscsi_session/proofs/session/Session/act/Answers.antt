@@ -1,4 +1,4 @@
-use Rattle.std.proofs.Common.{◌≡◌, ◌++◌, ℕ, List, Some, None, sym, ap, ◌∙◌}
+use Rattle.std.proofs.Common.{◌++◌, ℕ, List, sym, ap, ◌∙◌}
 use Rattle.std.specs.Prelude.{flat_map}
 use Rattle.iscsi_pdu.specs.Answer.{spelling}
 use Rattle.iscsi_session.specs.Acts.{act_answers}

@@ -1,10 +1,5 @@
-use Rattle.std.proofs.Common.{◌≡◌, ◌≢◌, ℕ, List, Some, None, refl, sym, ap, ◌∙◌, subst}
-use Rattle.iscsi_pdu.specs.Header.{opcode_of, opcode_number}
+use Rattle.std.proofs.Common.{sym, ap, ◌∙◌}
 use Rattle.iscsi_pdu.specs.Frames.{Frame}
-use Rattle.iscsi_pdu.specs.declared.header.Opcode.TheVariants as opcodes
-use Rattle.iscsi_session.specs.Requests.{Request, Past}
-use Rattle.iscsi_session.specs.State.{SessionState, Stands}
-use Rattle.iscsi_session.specs.Turns.{IsTurn}
 use Rattle.iscsi_session.proofs.Remembered.{parts, turn_frame}
 use Rattle.iscsi_session.proofs.Answered.{same_frame, opcode_same, ping_stands, ping_out, ping_act, logout_stands, logout_out, logout_act}
 use Rattle.iscsi_session.proofs.session.Session.answer.Goals as goal

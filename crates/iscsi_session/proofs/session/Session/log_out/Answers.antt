@@ -1,11 +1,11 @@
-use Rattle.std.proofs.Common.{◌≡◌, ◌++◌, ◌∙◌, ap, List, ℕ}
+use Rattle.std.proofs.Common.{◌≡◌, ◌++◌, ◌∙◌, ap}
 use Rattle.iscsi_pdu.specs.Answer.{spelling}
 use Rattle.iscsi_pdu.specs.declared.answer.Answer.{Answer}
 use Rattle.iscsi_login.specs.declared.params.Params.{Params}
 use Rattle.iscsi_pdu.specs.declared.stamp.Stamp.{Stamp}
 use Rattle.iscsi_session.specs.Requests.{stamp}
 use Rattle.iscsi_session.specs.Acts.{logout_answer}
-use Rattle.iscsi_session.specs.State.{SessionState, Stands}
+use Rattle.iscsi_session.specs.State.{SessionState}
 use Rattle.iscsi_session.proofs.Remembered.{parts}
 use Rattle.iscsi_session.proofs.session.Session.log_out.Goals as goal
 
