@@ -2,6 +2,7 @@ mod Room
 mod Numbered
 mod Due
 pub mod Acted
+mod Parts
 mod Remembered
 mod Moving
 mod Answered
