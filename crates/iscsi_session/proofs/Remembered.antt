@@ -6,14 +6,12 @@ use Rattle.std.proofs.lemmas.List.{length_push, map_push}
 use Rattle.iscsi_pdu.specs.Frames.{Frame}
 use Rattle.iscsi_order.specs.Window as order
 use Rattle.iscsi_order.specs.WindowState as window
-use Rattle.iscsi_order.specs.Stat.{stat_sn}
 use Rattle.iscsi_session.specs.declared.acting.Turn.{Turn}
 use Rattle.iscsi_session.specs.declared.acting.Turn.TheVariants.{Immediate, Numbered}
-use Rattle.iscsi_login.specs.declared.params.Params.{Params}
 use Rattle.iscsi_session.specs.Requests.{Request, Past, numbered, is_command, numbers, with_number, held, arrived, queue, acted}
-use Rattle.iscsi_session.specs.State.{SessionState, TaskLists, frames_of, remembered, IsLawful, Stands, named_by, without}
+use Rattle.iscsi_session.specs.State.{SessionState, TaskLists, frames_of, IsLawful, Stands, named_by, without}
 use Rattle.iscsi_session.specs.Turns.{turn_by, turn_of, frame_at, IsTurn}
-use Rattle.iscsi_session.proofs.Parts.{Parts, parts, stands_by, window_stands}
+use Rattle.iscsi_session.proofs.Parts.{Parts, parts, stands_by}
 use Rattle.iscsi_session.proofs.Numbered.{numbered_same, numbered_push}
 use Rattle.iscsi_session.proofs.Due.{handed, waiting, with_acted, acted_command, acted_other, arrived_after, held_same, handed_more, held_after, arrived_same, queue_joined, queue_same}
 use Rattle.iscsi_session.proofs.Acted.{IsAtOnce, at_once, IsInTurn, in_turn, lawful_after}
