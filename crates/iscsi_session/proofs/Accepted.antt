@@ -3,17 +3,33 @@ use Rattle.std.proofs.Common.{◌≡◌, ◌≢◌, ℕ, ◌+◌, ◌^◌, ◌%�
 use Rattle.std.specs.Prelude.{is_some}
 use Rattle.std.proofs.lemmas.Bool.{le-ltb, eqb-false}
 use Rattle.std.proofs.lemmas.List.{append-nil, length-append, map-append, drop-append-le}
-use Rattle.std.proofs.lemmas.List.Elements.{filter-append, filter_map-append, All-push}
+use Rattle.std.proofs.lemmas.List.Elements.{filter-append, filter_map-append, All-nil, All-push}
 use Rattle.iscsi_pdu.specs.Header.{is_immediate, cmd_sn}
 use Rattle.iscsi_pdu.specs.Frames.{Frame}
+use Rattle.iscsi_login.specs.declared.params.Params.{Params}
 use Rattle.iscsi_order.specs.Window as order
 use Rattle.iscsi_order.specs.WindowState as window
 use Rattle.iscsi_order.specs.Stat.{stat_sn}
 use Rattle.iscsi_order.proofs.Held.{come_before}
-use Rattle.iscsi_session.specs.Requests.{Request, Past, numbered, immediate, is_from, numbers, held, arrived, queue, unfinished, accepted}
+use Rattle.iscsi_session.specs.Requests.{Request, Past, numbered, immediate, is_from, numbers, held, arrived, queue, unfinished, begun, accepted}
 use Rattle.iscsi_session.specs.Judging.{is_fresh}
 use Rattle.iscsi_session.specs.State.{SessionState, frames_of, AreDistinct, HasNumber, IsDelivered, IsLawful, Stands}
 use Rattle.iscsi_session.proofs.Parts.{parts, stands_from}
+
+-- ---- the past at its beginning
+
+pub begun_lawful : (params : Params) → IsLawful (begun params)
+unfolding queue
+begun_lawful params = record {
+  numbers = record { finished = omega arith; handed = omega arith; within = λ k come. absurd cc };
+  distinct = tt;
+  named = All-nil (HasNumber params.first_cmd_sn);
+  delivered = All-nil IsDelivered;
+  acted = All-nil IsDelivered;
+  immediate = omega arith;
+  commands = omega arith;
+  unfinished = omega arith;
+}
 
 -- ---- the past, one request longer
 
