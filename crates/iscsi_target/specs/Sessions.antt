@@ -59,6 +59,7 @@ pub record Stays (c : ℕ) (given after : Machine) : Type 0 where
   pub back : IsSound after → IsSound given
   pub keeps : is_reading (link_at given c).phase ≡ true → KeepsHalf (link_at given c).half (link_at after c)
   pub opens : (d : ℕ) → is_open_at after d ≡ is_open_at given d
+  pub idle : is_reading (link_at given c).phase ≡ false → link_at after c ≡ link_at given c
 
 -- where the code stood with the World, it stands with what the step makes of it
 abbrev pub Steps : ℕ → (World → World) → Machine → Machine → Type 0
@@ -74,12 +75,24 @@ NextDone c [] w more v = (more ≡ false) × (v ≡ w)
 NextDone c (command ∷ others) w more v = (more ≡ true) × (v ≡ finish c command w)
 
 abbrev pub ActsOne : ℕ → Bool → Machine → Machine → Type 0
-ActsOne c more given after = IsSound after → (s : Setting) (sent : ℕ → ℕ) (w : World) (bytes : List ℕ) → Serves c bytes s sent w given → reads_life (present c w) ≡ true
+ActsOne c more given after = IsSound after → (s : Setting) (sent : ℕ → ℕ) (w : World) (bytes : List ℕ) → Serves c bytes s sent w given
     → (v : World) × NextActs c (due_of (present c w)) w more v × Serves c bytes s sent v after
 
 abbrev pub FinishesOne : ℕ → Bool → Machine → Machine → Type 0
-FinishesOne c more given after = IsSound after → (s : Setting) (sent : ℕ → ℕ) (w : World) (bytes : List ℕ) → Serves c bytes s sent w given → reads_life (present c w) ≡ true
+FinishesOne c more given after = IsSound after → (s : Setting) (sent : ℕ → ℕ) (w : World) (bytes : List ℕ) → Serves c bytes s sent w given
     → (v : World) × NextDone c (queue_of (present c w)) w more v × Serves c bytes s sent v after
+
+-- a request is due to act, or a command is to be done
+pub record IsSome (requests : List Request) : Type 0 where
+  pub first : Request
+  pub others : List Request
+  pub is : requests ≡ first ∷ others
+
+abbrev pub HasDue : ℕ → Machine → Type 0
+HasDue c given = (s : Setting) (sent : ℕ → ℕ) (w : World) (bytes : List ℕ) → Serves c bytes s sent w given → IsSome (due_of (present c w))
+
+abbrev pub HasQueue : ℕ → Machine → Type 0
+HasQueue c given = (s : Setting) (sent : ℕ → ℕ) (w : World) (bytes : List ℕ) → Serves c bytes s sent w given → IsSome (queue_of (present c w))
 
 -- all that is due acted, or the queue is done, unless a mark names one of these steps
 abbrev pub StepsAll : (List Mark → ℕ → World → World) → ℕ → Machine → Machine → Type 0
@@ -90,5 +103,5 @@ StepsAll all c given after = IsSound after → (s : Setting) (sent : ℕ → ℕ
 pub record StopsAt (all : List Mark → ℕ → World → World) (c : ℕ) (given after : Machine) : Type 0 where
   pub step : ℕ → Step
   pub of_frame : (place : ℕ) → is_of place (step place) ≡ true
-  pub stands : IsSound (closed after c) → (s : Setting) (sent : ℕ → ℕ) (w : World) (place : ℕ) (bytes : List ℕ) → Serves c bytes s sent w given → reads_life (present c w) ≡ true
+  pub stands : IsSound (closed after c) → (s : Setting) (sent : ℕ → ℕ) (w : World) (place : ℕ) (bytes : List ℕ) → Serves c bytes s sent w given
       → Serves c bytes s sent (all (starved c (step place)) place w) (closed after c)

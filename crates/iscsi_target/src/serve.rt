@@ -5,7 +5,7 @@ ghost use Rattle.std.specs.Prelude.{◌≡◌, ◌<◌, true, length, IfOk, OnOk
 ghost use Rattle.iscsi_target.specs.World.{judge, act_all, settle};
 ghost use Rattle.iscsi_target.specs.Machine.{link_at, is_in_session, waiting_requests, waiting_commands};
 ghost use Rattle.iscsi_target.specs.Serving.{Takes, Fails};
-ghost use Rattle.iscsi_target.specs.Sessions.{Stays, Steps, ActsOne, FinishesOne, StepsAll, StopsAt};
+ghost use Rattle.iscsi_target.specs.Sessions.{Stays, Steps, ActsOne, FinishesOne, HasDue, HasQueue, StepsAll, StopsAt};
 
 use crate::fault::Memory;
 use crate::target::Target;
@@ -62,6 +62,7 @@ impl<S: Store> Target<S> {
         ensures fewer { IfOk result (λ more. more ≡ true → waiting_requests (link_at self.new c).phase < waiting_requests (link_at self.old c).phase) }
         ensures stays { OnOk result (Stays c self.old self.new) }
         ensures err { OnErr result (self.new ≡ self.old) }
+        ensures due { OnErr result (HasDue c self.old) }
     {
         let link = &mut self.links[c];
         if !link.phase.is_in_session() {
@@ -97,6 +98,7 @@ impl<S: Store> Target<S> {
         ensures fewer { IfOk result (λ more. more ≡ true → waiting_commands (link_at self.new c).phase < waiting_commands (link_at self.old c).phase) }
         ensures stays { Stays c self.old self.new }
         ensures err { OnErr result (self.new ≡ self.old) }
+        ensures queue { OnErr result (HasQueue c self.old) }
     {
         let link = &mut self.links[c];
         if !link.phase.is_in_session() {
