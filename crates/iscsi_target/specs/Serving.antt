@@ -2,7 +2,7 @@
 -- frame does to it, and what is left where an allocation fails.
 use Rattle.std.specs.Prelude.{◌≡◌, ◌≢◌, ℕ, ◌+◌, ◌<◌, ◌≤◌, List, [], ◌∷◌, length, drop, true, false, Option, Some, None, ⊤}
 use Rattle.iscsi_pdu.specs.Frames.{Frame}
-use Rattle.iscsi_target.specs.History.{Mark, Step, Ending, is_of, Whole, connection_limit}
+use Rattle.iscsi_target.specs.History.{Mark, Step, is_of, Whole, connection_limit}
 use Rattle.iscsi_target.specs.Life.{Life}
 use Rattle.iscsi_target.specs.World.{Setting, World, present, reads_life, is_marked, arrive}
 use Rattle.iscsi_target.specs.Output.{out_now}
@@ -59,9 +59,9 @@ pub record Takes (c : ℕ) (frame : Frame) (given after : Machine) : Type 0 wher
 
 -- ---- an allocation fails
 
--- it failed before this step, or at the event's end where the step does not come
-unfoldable pub starved : ℕ → Step → List Mark
-starved c step = record { connection = c; step = step } ∷ record { connection = c; step = Ending } ∷ []
+-- it failed before this step
+abbrev pub failed_before : ℕ → Step → List Mark
+failed_before c step = record { connection = c; step = step } ∷ []
 
 -- An allocation failed while a frame of connection c was taken: what that makes of a target once the
 -- connection is closed.
@@ -73,4 +73,4 @@ pub record Fails (c : ℕ) (frame : Frame) (given after : Machine) : Type 0 wher
   pub of_frame : (place : ℕ) → is_of place (step place) ≡ true
   -- where the code stood with the World, it stands with the World that closed the connection before this step
   pub stands : IsSound (closed after c) → (s : Setting) (sent : ℕ → ℕ) (w : World) (place : ℕ) (bytes : List ℕ) → Serves c place bytes s sent w given → reads_life (present c w) ≡ true
-      → Serves c (place + 1) bytes s sent (arrive s (starved c (step place)) c w (place, Whole frame)) (closed after c)
+      → Serves c (place + 1) bytes s sent (arrive s (failed_before c (step place)) c w (place, Whole frame)) (closed after c)
