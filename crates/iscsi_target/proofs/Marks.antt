@@ -28,6 +28,7 @@ other_step place q (Doing a i) (Doing b j) differ e f = ap (λ (same : Bool). sa
 other_step place q Ending b differ e f = absurd cc
 other_step place q a b differ e f = refl
 
+-- a mark of one frame leaves the others as they are
 pub unmarked_before : (c place q : ℕ) (failed : Step) → place ≢ q → is_of q failed ≡ true → Unmarked (failed_before c failed) c place
 unfolding is_marked
 unmarked_before c place q failed differ is = λ step e. rw (other_step place q failed step differ is e, and_false (eqb c c)) refl

@@ -51,9 +51,11 @@ pub record KeepsHalf (half : List ℕ) (link : LinkState) : Type 0 where
 -- What taking a frame of connection c makes of a target.
 pub record Takes (c : ℕ) (frame : Frame) (given after : Machine) : Type 0 where
   pub back : IsSound after → IsSound given
+  -- of the bytes behind the frame
   pub keeps : is_reading (link_at given c).phase ≡ true → KeepsHalf (link_at given c).half (link_at after c)
+  -- it opens no connection and ends none
   pub opens : (d : ℕ) → is_open_at after d ≡ is_open_at given d
-  -- where the code stood with the World, it stands with the World that took the frame
+  -- where the code stood with the World, it stands with the World that took the frame, if no mark names a step of it
   pub stands : IsSound after → (s : Setting) (sent : ℕ → ℕ) (w : World) (place : ℕ) (bytes : List ℕ) (marks : List Mark) → Unmarked marks c place → Serves c place bytes s sent w given
       → Serves c (place + 1) bytes s sent (arrive s marks c w (place, Whole frame)) after
 
@@ -63,7 +65,7 @@ pub record Takes (c : ℕ) (frame : Frame) (given after : Machine) : Type 0 wher
 abbrev pub failed_before : ℕ → Step → List Mark
 failed_before c step = record { connection = c; step = step } ∷ []
 
--- An allocation failed while a frame of connection c was taken: what that makes of a target once the
+-- An allocation failed while a frame of connection c was taken: what that makes of a target, once the
 -- connection is closed.
 pub record Fails (c : ℕ) (frame : Frame) (given after : Machine) : Type 0 where
   pub back : IsSound (closed after c) → IsSound given
