@@ -7,5 +7,6 @@ mod Due
 pub mod Acted
 mod Remembered
 mod Moving
+mod Fewer
 mod Answered
 pub mod Finished
