@@ -1,9 +1,9 @@
 -- What is read from the past where one more request is accepted.
-use Rattle.std.proofs.Common.{◌≡◌, ◌≢◌, ℕ, ◌+◌, ◌-◌, ◌^◌, ◌%◌, ◌<◌, ◌≤◌, List, [], ◌∷◌, ◌++◌, length, drop, Bool, true, false, not, ◌&&◌, ◌||◌, cond, eqb, Some, None, refl, sym, ap, ◌∙◌, subst, arith, add-one, suc}
+use Rattle.std.proofs.Common.{◌≡◌, ◌≢◌, ℕ, ◌+◌, ◌^◌, ◌%◌, ◌<◌, ◌≤◌, List, [], ◌∷◌, ◌++◌, length, drop, Bool, true, false, not, ◌&&◌, ◌||◌, cond, eqb, Some, None, refl, sym, ap, ◌∙◌, subst, arith, add-one, suc}
 use Rattle.std.specs.Prelude.{is_some}
 use Rattle.std.proofs.lemmas.Bool.{le-ltb, eqb-false}
 use Rattle.std.proofs.lemmas.List.{append-nil, length-append, map-append, drop-append-le}
-use Rattle.std.proofs.lemmas.List.Elements.{filter-append, filter_map-append, All-push}
+use Rattle.std.proofs.lemmas.List.Elements.{filter-append, filter_map-append, All-nil, All-push}
 use Rattle.iscsi_pdu.specs.Header.{is_immediate, cmd_sn}
 use Rattle.iscsi_pdu.specs.Frames.{Frame}
 use Rattle.iscsi_login.specs.declared.params.Params.{Params}
@@ -11,9 +11,25 @@ use Rattle.iscsi_order.specs.Window as order
 use Rattle.iscsi_order.specs.WindowState as window
 use Rattle.iscsi_order.specs.Stat.{stat_sn}
 use Rattle.iscsi_order.proofs.Held.{come_before}
-use Rattle.iscsi_session.specs.Requests.{Request, Past, numbered, immediate, commands, is_from, numbers, held, arrived, queue, unfinished, accepted}
+use Rattle.iscsi_session.specs.Requests.{Request, Past, numbered, immediate, is_from, numbers, held, arrived, queue, unfinished, begun, accepted}
 use Rattle.iscsi_session.specs.Judging.{is_fresh}
-use Rattle.iscsi_session.specs.State.{SessionState, frames_of, remembered, AreDistinct, HasNumber, IsDelivered, IsLawful, Stands}
+use Rattle.iscsi_session.specs.State.{SessionState, frames_of, AreDistinct, HasNumber, IsDelivered, IsLawful, Stands}
+use Rattle.iscsi_session.proofs.Parts.{parts, stands_from}
+
+-- ---- the past at its beginning
+
+pub begun_lawful : (params : Params) → IsLawful (begun params)
+unfolding queue
+begun_lawful params = record {
+  numbers = record { finished = omega arith; handed = omega arith; within = λ k come. absurd cc };
+  distinct = tt;
+  named = All-nil (HasNumber params.first_cmd_sn);
+  delivered = All-nil IsDelivered;
+  acted = All-nil IsDelivered;
+  immediate = omega arith;
+  commands = omega arith;
+  unfinished = omega arith;
+}
 
 -- ---- the past, one request longer
 
@@ -142,45 +158,15 @@ lawful_with past k frame h named missing numbers_lawful lawful =
       unfinished = lawful.unfinished;
     }
 
--- ---- what a session remembers, field by field
-
-record Remembers (answered : ℕ) (past : Past) (state : SessionState) : Type 0 where
-  params_is : state.params ≡ past.params
-  window_is : state.window ≡ window.remembered (numbers past)
-  stat_is : state.stat ≡ stat_sn answered
-  held_is : state.tasks.held ≡ frames_of (held past)
-  arrived_is : state.tasks.arrived ≡ frames_of (arrived past)
-  queue_is : state.tasks.queue ≡ frames_of (queue past)
-
-remembers : (answered : ℕ) (past : Past) (state : SessionState) → state ≡ remembered answered past → Remembers answered past state
-unfolding remembered
-remembers answered past state e = record {
-  params_is = ap (λ (s : SessionState). s.params) e;
-  window_is = ap (λ (s : SessionState). s.window) e;
-  stat_is = ap (λ (s : SessionState). s.stat) e;
-  held_is = ap (λ (s : SessionState). s.tasks.held) e;
-  arrived_is = ap (λ (s : SessionState). s.tasks.arrived) e;
-  queue_is = ap (λ (s : SessionState). s.tasks.queue) e;
-}
-
-abbrev state_of : Params → window.WindowState → ℕ → List Frame → List Frame → List Frame → SessionState
-state_of params numbers_now stat held_now arrived_now queue_now = record { params = params; window = numbers_now; stat = stat; tasks = record { held = held_now; arrived = arrived_now; queue = queue_now } }
-
-stands_by : (answered : ℕ) (past : Past) (params : Params) (w : window.WindowState) (stat : ℕ) (hs bs qs : List Frame) → IsLawful past → Remembers answered past (state_of params w stat hs bs qs) → Stands answered past (state_of params w stat hs bs qs)
-unfolding remembered
-stands_by answered past params w stat hs bs qs lawful r = record { lawful = lawful; remembered = rw (r.params_is, r.window_is, r.stat_is, r.held_is, r.arrived_is, r.queue_is) refl }
-
--- its window remembers the numbers
-pub window_stands : (answered : ℕ) (past : Past) (state : SessionState) → Stands answered past state → window.Stands (numbers past) state.window
-window_stands answered past state s = record { lawful = s.lawful.numbers; remembered = (remembers answered past state s.remembered).window_is }
+-- ---- what a session remembers
 
 pub stat_is : (answered : ℕ) (past : Past) (state : SessionState) → Stands answered past state → state.stat ≡ stat_sn answered
-stat_is answered past state s = (remembers answered past state s.remembered).stat_is
+stat_is answered past state s = (parts answered past state s).stat_is
 
 -- its requests are those that are not finished
 pub open_is : (answered : ℕ) (past : Past) (state : SessionState) → Stands answered past state → state.tasks.held ++ state.tasks.arrived ++ state.tasks.queue ≡ unfinished past
 open_is answered past state s =
-    let r = remembers answered past state s.remembered in
+    let r = parts answered past state s in
     ap (λ (fs : List Frame). fs ++ state.tasks.arrived ++ state.tasks.queue) r.held_is
     ∙ ap (λ (fs : List Frame). frames_of (held past) ++ fs ++ state.tasks.queue) r.arrived_is
     ∙ ap (λ (fs : List Frame). frames_of (held past) ++ frames_of (arrived past) ++ fs) r.queue_is
@@ -192,8 +178,8 @@ open_is answered past state s =
 -- one more answer bore status
 pub answers_one : (answered : ℕ) (past : Past) (state : SessionState) (stat : ℕ) → Stands answered past state → stat ≡ stat_sn (suc answered) → Stands (answered + 1) past (record state { stat = stat })
 answers_one answered past state stat s e =
-    let r = remembers answered past state s.remembered in
-    stands_by (answered + 1) past state.params state.window stat state.tasks.held state.tasks.arrived state.tasks.queue s.lawful (record {
+    let r = parts answered past state s in
+    stands_from (answered + 1) past state.params state.window stat state.tasks.held state.tasks.arrived state.tasks.queue s.lawful (record {
       params_is = r.params_is;
       window_is = r.window_is;
       stat_is = e ∙ ap stat_sn (sym (add-one answered));
@@ -207,14 +193,14 @@ pub admits : (answered : ℕ) (past : Past) (state : SessionState) (frame : Fram
     → Stands answered (accepted frame past) (record state { tasks = record state.tasks { arrived = state.tasks.arrived ++ frame ∷ [] } })
 unfolding queue
 admits answered past state frame h s =
-    let r = remembers answered past state s.remembered in
+    let r = parts answered past state s in
     let after = joined (now frame) past in
     let arrived_after : state.tasks.arrived ++ frame ∷ [] ≡ frames_of (arrived after) =
     ap (λ (fs : List Frame). fs ++ frame ∷ []) r.arrived_is
     ∙ sym (map-append (λ (r : Request). r.frame) (arrived past) (now frame ∷ []))
     ∙ ap frames_of (sym (arrived_now past frame s.lawful.immediate)) in
     subst (λ (p : Past). Stands answered p (record state { tasks = record state.tasks { arrived = state.tasks.arrived ++ frame ∷ [] } })) (sym (accepted_now past frame h))
-    (stands_by answered after state.params state.window state.stat state.tasks.held (state.tasks.arrived ++ frame ∷ []) state.tasks.queue (lawful_now past frame h s.lawful) (record {
+    (stands_from answered after state.params state.window state.stat state.tasks.held (state.tasks.arrived ++ frame ∷ []) state.tasks.queue (lawful_now past frame h s.lawful) (record {
       params_is = r.params_is;
       window_is = r.window_is ∙ ap window.remembered (sym (numbers_now past frame));
       stat_is = r.stat_is;
@@ -250,7 +236,7 @@ pub holds : (answered : ℕ) (past : Past) (state : SessionState) (frame : Frame
     → Stands answered (accepted frame past) (record state { window = w; tasks = record state.tasks { held = state.tasks.held ++ frame ∷ [] } })
 unfolding queue
 holds answered past state frame w h fits new ws s =
-    let r = remembers answered past state s.remembered in
+    let r = parts answered past state s in
     let k = order.index_of (numbers past) (cmd_sn frame.header) in
     let at = holds_at past (cmd_sn frame.header) fits new s.lawful in
     let after = joined (with k frame) past in
@@ -260,7 +246,7 @@ holds answered past state frame w h fits new ws s =
     ∙ sym (map-append (λ (r : Request). r.frame) (held past) (with k frame ∷ []))
     ∙ ap frames_of (sym (held_with past k frame at.waits)) in
     subst (λ (p : Past). Stands answered p (record state { window = w; tasks = record state.tasks { held = state.tasks.held ++ frame ∷ [] } })) (sym (accepted_with past frame h))
-    (stands_by answered after state.params w state.stat (state.tasks.held ++ frame ∷ []) state.tasks.arrived state.tasks.queue
+    (stands_from answered after state.params w state.stat (state.tasks.held ++ frame ∷ []) state.tasks.arrived state.tasks.queue
     (lawful_with past k frame h at.named at.missing (subst (λ (p : order.Past). window.IsLawful p) at.arrives ws.lawful) s.lawful) (record {
       params_is = r.params_is;
       window_is = ws.remembered ∙ ap window.remembered numbers_after;

@@ -13,7 +13,7 @@ use Rattle.iscsi_order.specs.Stat.{stat_sn}
 use Rattle.iscsi_session.specs.Requests.{Request, Past, numbered, commands, is_command, numbers, held, arrived, queue, finished, stamp}
 use Rattle.iscsi_session.specs.State.{SessionState, frames_of, IsLawful, IsDelivered, Stands}
 use Rattle.iscsi_session.proofs.Numbered.{numbered_same, numbered_push, commands_push, numbered_count, numbered_first}
-use Rattle.iscsi_session.proofs.Remembered.{parts, stands_by, window_stands}
+use Rattle.iscsi_session.proofs.Parts.{parts, stands_by, window_stands}
 
 -- ---- the first of the queue
 

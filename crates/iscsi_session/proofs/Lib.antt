@@ -1,12 +1,13 @@
 mod Room
-mod Lines
-pub mod Accepted
-pub mod Verdicts
 mod Numbered
 mod Due
 pub mod Acted
+mod Parts
 mod Remembered
 mod Moving
 mod Fewer
 mod Answered
 pub mod Finished
+mod Lines
+pub mod Accepted
+mod Verdicts

@@ -8,7 +8,8 @@ use Rattle.iscsi_session.specs.declared.acting.Turn.TheVariants.{Immediate, Numb
 use Rattle.iscsi_session.specs.Requests.{Request, Past, is_command, numbers, acted}
 use Rattle.iscsi_session.specs.State.{SessionState, TaskLists, Stands, named_by, without}
 use Rattle.iscsi_session.specs.Turns.{IsTurn}
-use Rattle.iscsi_session.proofs.Remembered.{window_stands, queued_at_once, left_at_once, queued_in_turn, left_in_turn, one_unfinished}
+use Rattle.iscsi_session.proofs.Parts.{window_stands}
+use Rattle.iscsi_session.proofs.Remembered.{queued_at_once, left_at_once, queued_in_turn, left_in_turn, one_unfinished}
 
 -- a SCSI Command joins the queue
 

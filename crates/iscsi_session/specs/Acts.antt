@@ -1,5 +1,5 @@
 -- What a request does when it is taken.
-use Rattle.std.specs.Prelude.{ℕ, List, [], ◌∷◌, take, min, Bool, false, ◌&&◌, ◌||◌, not, ◌==◌, if◌then◌else◌}
+use Rattle.std.specs.Prelude.{ℕ, List, [], ◌∷◌, take, min, Bool, false, ◌&&◌, ◌||◌, ◌==◌, if◌then◌else◌}
 use Rattle.iscsi_pdu.specs.Header.{opcode_of, opcode_number, initiator_task_tag}
 use Rattle.iscsi_pdu.specs.LoginRequest.{connection_id}
 use Rattle.iscsi_pdu.specs.LogoutRequest.{logout_reason}
@@ -15,7 +15,7 @@ use Rattle.iscsi_pdu.specs.declared.answer.Answer.TheVariants as answers
 use Rattle.iscsi_pdu.specs.declared.stamp.Stamp.{Stamp}
 use Rattle.iscsi_login.specs.declared.params.Params.{Params}
 use Rattle.iscsi_login.specs.declared.values.Values.{Values}
-use Rattle.iscsi_session.specs.Requests.{Request, Past, due, acted, stamp}
+use Rattle.iscsi_session.specs.Requests.{Request, Past, acted, stamp}
 use Rattle.iscsi_session.specs.Judging.{reserved_tag, reject}
 use Rattle.iscsi_session.specs.declared.act.Act.{Act}
 use Rattle.iscsi_session.specs.declared.act.Act.TheVariants.{Idle, Taken, Ended}

@@ -1,6 +1,5 @@
 -- Sessions computed from the definitions alone, with the expected numbers written by hand.
-use Rattle.std.specs.Prelude.{◌≡◌, ℕ, ◌+◌, List, [], ◌∷◌, ◌++◌, fold, flat_map, length, replicate, Bool, true, false, Option, Some, None, refl}
-use Rattle.scsi_sense.specs.Nexus.{NexusName}
+use Rattle.std.specs.Prelude.{◌≡◌, ℕ, ◌+◌, List, [], ◌∷◌, ◌++◌, fold, replicate, Bool, true, false, refl}
 use Rattle.iscsi_pdu.specs.Frames.{Frame}
 use Rattle.iscsi_pdu.specs.declared.answer.Answer.{Answer}
 use Rattle.iscsi_pdu.specs.declared.answer.Answer.TheVariants as answers
@@ -10,7 +9,6 @@ use Rattle.iscsi_pdu.specs.declared.stamp.Stamp.{Stamp}
 use Rattle.iscsi_login.specs.declared.params.Params.{Params}
 use Rattle.iscsi_login.specs.Values.{default_values}
 use Rattle.iscsi_order.specs.Window as order
-use Rattle.iscsi_session.specs.declared.verdict.Verdict.{Verdict}
 use Rattle.iscsi_session.specs.declared.verdict.Verdict.TheVariants.{Ignored, Dropped, Rejected, Violating, Accepted}
 use Rattle.iscsi_session.specs.Requests.{Request, Past, begun, held, arrived, queue, due, acted, finished, bearing, stamp, numbers}
 use Rattle.iscsi_session.specs.Judging.{verdict, verdict_by, judged, judged_answers, reject}

@@ -12,7 +12,7 @@ use Rattle.iscsi_pdu.specs.declared.answer.Answer.{Answer}
 use Rattle.iscsi_pdu.specs.declared.answer.Answer.TheVariants as answers
 use Rattle.iscsi_pdu.specs.declared.stamp.Stamp.{Stamp}
 use Rattle.iscsi_order.specs.Window as order
-use Rattle.iscsi_session.specs.Requests.{Past, numbers, unfinished, is_command, accepted, stamp}
+use Rattle.iscsi_session.specs.Requests.{Past, numbers, unfinished, is_command, accepted}
 use Rattle.iscsi_session.specs.declared.verdict.Verdict.{Verdict}
 use Rattle.iscsi_session.specs.declared.verdict.Verdict.TheVariants.{Ignored, Dropped, Rejected, Violating, Accepted}
 

@@ -15,6 +15,6 @@ pub mod Acts
 pub mod Answers
 pub mod Room
 pub mod State
-pub mod Tasks
 pub mod Turns
+pub mod Tasks
 pub mod Examples

@@ -1,6 +1,6 @@
 -- The requests of a session in full feature phase: plain lists of what came, what acted and what is
 -- finished, and what is read from them.
-use Rattle.std.specs.Prelude.{ℕ, ◌+◌, List, [], ◌∷◌, ◌++◌, length, map, filter, filter_map, flat_map, drop, Bool, true, false, not, ◌==◌, nat_lt, Option, Some, None, is_some, if◌then◌else◌}
+use Rattle.std.specs.Prelude.{ℕ, List, [], ◌∷◌, ◌++◌, length, map, filter, filter_map, flat_map, drop, Bool, true, false, not, ◌==◌, nat_lt, Option, Some, None, is_some, if◌then◌else◌}
 use Rattle.iscsi_pdu.specs.Header.{opcode_number, is_immediate, cmd_sn}
 use Rattle.iscsi_pdu.specs.Frames.{Frame}
 use Rattle.iscsi_pdu.specs.declared.answer.Answer.{Answer}

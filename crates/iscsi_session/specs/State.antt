@@ -6,7 +6,7 @@ use Rattle.iscsi_login.specs.declared.params.Params.{Params}
 use Rattle.iscsi_order.specs.Window as order
 use Rattle.iscsi_order.specs.WindowState as window
 use Rattle.iscsi_order.specs.Stat.{stat_sn}
-use Rattle.iscsi_session.specs.Requests.{Request, Past, numbered, immediate, commands, numbers, held, arrived, queue, begun}
+use Rattle.iscsi_session.specs.Requests.{Request, Past, numbered, immediate, commands, numbers, held, arrived, queue}
 
 -- the requests that are not finished
 pub record TaskLists : Type 0 where

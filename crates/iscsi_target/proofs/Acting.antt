@@ -21,9 +21,8 @@ use Rattle.iscsi_login.specs.declared.params.Params.{Params}
 use Rattle.iscsi_target.specs.declared.session.Verdict.{Verdict}
 use Rattle.iscsi_target.specs.declared.session.Verdict.TheVariants as verdicts
 use Rattle.iscsi_target.specs.declared.phase.Phase.TheVariants as remembered
-use Rattle.iscsi_target.proofs.Choices.{and_true, not_true}
+use Rattle.iscsi_target.proofs.Choices.{eqb_self, and_true, not_true}
 use Rattle.iscsi_target.proofs.Lives.{present-changed, present-changed_other, present-units, present_is}
-use Rattle.iscsi_target.proofs.Counting.{eqb_self}
 use Rattle.iscsi_target.proofs.Numbers.{stamp-answered, out-answered_all, one_bears, index_next, ready_one, complete_unwritten, finished_numbers, finished_is}
 use Rattle.iscsi_target.proofs.Serving.{replaced, closes, present-close, says, step_done, step_idle}
 use Rattle.iscsi_target.proofs.LoggingIn.{logs_in}
@@ -82,9 +81,9 @@ unfolding changed
 unit_world c place frame w command session = refl
 
 -- it is accepted, taken, done and answered
-does : (marks : List Mark) (c place : ℕ) (bytes : List ℕ) (s : Setting) (sent : ℕ → ℕ) (w : World) (machine : Machine) (life : Life) (session : Params) (frame : Frame) → Serves c place bytes s sent w machine → Unmarked marks c place → present c w ≡ Some life → life.phase ≡ FullFeature session → IsFinished place life
+does : (marks : List Mark) (c place : ℕ) (bytes : List ℕ) (s : Setting) (sent : ℕ → ℕ) (w : World) (machine : Machine) (life : Life) (session : Params) (frame : Frame) → Serves c bytes s sent w machine → Unmarked marks c place → present c w ≡ Some life → life.phase ≡ FullFeature session → IsFinished place life
     → verdict (stamp life).exp_cmd_sn frame ≡ verdicts.Accepted
-    → Serves c (place + 1) bytes s sent (settle marks c place (take_step marks c (Taking place 0) (λ u. u) (changed (accepted place frame) c w)))
+    → Serves c bytes s sent (settle marks c place (take_step marks c (Taking place 0) (λ u. u) (changed (accepted place frame) c w)))
     (let p = served_in (link_at machine c) machine.units frame (remembered.FullFeature session (stamp life)) in record (with_link machine c p.0) { units = p.1 })
 unfolding settle finish
 does marks c place bytes s sent w machine life session frame h un at phase done ok =
@@ -108,7 +107,7 @@ does marks c place bytes s sent w machine life session frame h un at phase done 
     let at_v : present c v ≡ Some f = present-units c v (changed (finished session.values command p.1) c u) refl ∙ present-changed (finished session.values command p.1) c u l at_u on in
     let over = record l { finished = l.finished ++ place ∷ [] } in
     let numbers : stamp over ≡ finished_one (stamp life) = finished_numbers place life frame done.numbered next in
-    let here : IsServing s.names place bytes (sent c) (link_at machine c) (Some life) = rw at at h.here in
+    let here : IsServing s.names bytes (sent c) (link_at machine c) (Some life) = rw at at h.here in
     let more = command_answers (stamp over) session.values frame p.1 in
     let x = flat_map spelling (command_answers (finished_one (stamp life)) session.values frame p.1) in
     let out : out_of f ≡ out_of life ++ x =
@@ -127,17 +126,17 @@ does marks c place bytes s sent w machine life session frame h un at phase done 
 
 -- ---- a frame in full feature phase
 
-judges : (v : Verdict) (marks : List Mark) (c place : ℕ) (bytes : List ℕ) (s : Setting) (sent : ℕ → ℕ) (w : World) (machine : Machine) (life : Life) (session : Params) (frame : Frame) → Serves c place bytes s sent w machine → Unmarked marks c place → present c w ≡ Some life → life.phase ≡ FullFeature session → IsFinished place life
+judges : (v : Verdict) (marks : List Mark) (c place : ℕ) (bytes : List ℕ) (s : Setting) (sent : ℕ → ℕ) (w : World) (machine : Machine) (life : Life) (session : Params) (frame : Frame) → Serves c bytes s sent w machine → Unmarked marks c place → present c w ≡ Some life → life.phase ≡ FullFeature session → IsFinished place life
     → (link_at machine c).phase ≡ remembered.FullFeature session (stamp life) → verdict (stamp life).exp_cmd_sn frame ≡ v
-    → Serves c (place + 1) bytes s sent (settle marks c place (take_step marks c (Taking place 0) (λ u. u) (judged v c place frame w))) (machine_judged v machine c frame)
+    → Serves c bytes s sent (settle marks c place (take_step marks c (Taking place 0) (λ u. u) (judged v c place frame w))) (machine_judged v machine c frame)
 judges verdicts.Accepted marks c place bytes s sent w machine life session frame h un at phase done link e = rw link (does marks c place bytes s sent w machine life session frame h un at phase done e)
 judges verdicts.Violating marks c place bytes s sent w machine life session frame h un at phase done link e =
     let idle : reads_life (present c (close c w)) ≡ false = ap reads_life (present-close c w life at) in
     rw (closed_serve marks c place (close c w) idle) (closes c place (place + 1) bytes s sent w machine life h at)
 
-serves : (marks : List Mark) (c place : ℕ) (bytes : List ℕ) (s : Setting) (sent : ℕ → ℕ) (w : World) (machine : Machine) (life : Life) (session : Params) (frame : Frame) → Serves c place bytes s sent w machine → Unmarked marks c place → present c w ≡ Some life → life.phase ≡ FullFeature session → IsFinished place life
+serves : (marks : List Mark) (c place : ℕ) (bytes : List ℕ) (s : Setting) (sent : ℕ → ℕ) (w : World) (machine : Machine) (life : Life) (session : Params) (frame : Frame) → Serves c bytes s sent w machine → Unmarked marks c place → present c w ≡ Some life → life.phase ≡ FullFeature session → IsFinished place life
     → (link_at machine c).phase ≡ remembered.FullFeature session (stamp life)
-    → Serves c (place + 1) bytes s sent (serve marks c place frame w) (machine_judged (verdict (stamp life).exp_cmd_sn frame) machine c frame)
+    → Serves c bytes s sent (serve marks c place frame w) (machine_judged (verdict (stamp life).exp_cmd_sn frame) machine c frame)
 unfolding serve judge
 serves marks c place bytes s sent w machine life session frame h un at phase done link =
     let reads_w : reads_life (present c w) ≡ true = ap reads_life at ∙ ap reads phase in
@@ -147,8 +146,8 @@ serves marks c place bytes s sent w machine life session frame h un at phase don
 
 -- ---- any frame
 
-enters : (b : Bool) (c place : ℕ) (bytes : List ℕ) (s : Setting) (sent : ℕ → ℕ) (w : World) (machine : Machine) (life : Life) (frame : Frame) → Serves c place bytes s sent w machine → present c w ≡ Some life → life.phase ≡ LoggingIn → IsLogin life
-    → Serves c (place + 1) bytes s sent (cond b (log_in s c frame w) (close c w)) (cond b (logged_in machine c (remembered_of s.names (life.connection + 1) life.requests) frame) (closed machine c))
+enters : (b : Bool) (c place : ℕ) (bytes : List ℕ) (s : Setting) (sent : ℕ → ℕ) (w : World) (machine : Machine) (life : Life) (frame : Frame) → Serves c bytes s sent w machine → present c w ≡ Some life → life.phase ≡ LoggingIn → IsLogin life
+    → Serves c bytes s sent (cond b (log_in s c frame w) (close c w)) (cond b (logged_in machine c (remembered_of s.names (life.connection + 1) life.requests) frame) (closed machine c))
 enters true c place bytes s sent w machine life frame h at phase new = logs_in c place bytes s sent w machine life frame h at phase new
 enters false c place bytes s sent w machine life frame h at phase new = closes c place (place + 1) bytes s sent w machine life h at
 
@@ -163,7 +162,7 @@ quiet_anywhere place None r = tt
 quiet_anywhere place (Some life) r = quiet_in place life life.phase r
 
 -- a connection that does not read takes no frame
-stays : (c place later : ℕ) (bytes : List ℕ) (s : Setting) (sent : ℕ → ℕ) (w : World) (machine : Machine) → Serves c place bytes s sent w machine → reads_life (present c w) ≡ false → Serves c later bytes s sent w machine
+stays : (c place later : ℕ) (bytes : List ℕ) (s : Setting) (sent : ℕ → ℕ) (w : World) (machine : Machine) → Serves c bytes s sent w machine → reads_life (present c w) ≡ false → Serves c bytes s sent w machine
 stays c place later bytes s sent w machine h r = record {
   names = h.names;
   units = h.units;
@@ -173,28 +172,28 @@ stays c place later bytes s sent w machine h r = record {
   others = h.others;
 }
 
-takes_in : (ph : Phase) (marks : List Mark) (c place : ℕ) (bytes : List ℕ) (s : Setting) (sent : ℕ → ℕ) (w : World) (machine : Machine) (life : Life) (frame : Frame) → Serves c place bytes s sent w machine → Unmarked marks c place → present c w ≡ Some life → life.phase ≡ ph
-    → Serves c (place + 1) bytes s sent (arrive_in s marks c w place (Whole frame) ph) (frame_in machine c frame (phase_for s.names life ph))
+takes_in : (ph : Phase) (marks : List Mark) (c place : ℕ) (bytes : List ℕ) (s : Setting) (sent : ℕ → ℕ) (w : World) (machine : Machine) (life : Life) (frame : Frame) → Serves c bytes s sent w machine → Unmarked marks c place → present c w ≡ Some life → life.phase ≡ ph
+    → Serves c bytes s sent (arrive_in s marks c w place (Whole frame) ph) (frame_in machine c frame (phase_for s.names life ph))
 takes_in LoggingIn marks c place bytes s sent w machine life frame h un at phase =
     let reads_w : reads_life (present c w) ≡ true = ap reads_life at ∙ ap reads phase in
-    let here : IsServing s.names place bytes (sent c) (link_at machine c) (Some life) = rw at at h.here in
+    let here : IsServing s.names bytes (sent c) (link_at machine c) (Some life) = rw at at h.here in
     let new : IsLogin life = quiet_as place life life.phase LoggingIn phase here.quiet in
     rw (step_done marks c (Judging place) (enter s c frame) w reads_w (un (Judging place) (eqb_self place))) (enters (is_login frame) c place bytes s sent w machine life frame h at phase new)
 takes_in (FullFeature session) marks c place bytes s sent w machine life frame h un at phase =
-    let here : IsServing s.names place bytes (sent c) (link_at machine c) (Some life) = rw at at h.here in
+    let here : IsServing s.names bytes (sent c) (link_at machine c) (Some life) = rw at at h.here in
     let done : IsFinished place life = quiet_as place life life.phase (FullFeature session) phase here.quiet in
     let link : (link_at machine c).phase ≡ remembered.FullFeature session (stamp life) = here.phase ∙ ap (phase_for s.names life) phase in
     serves marks c place bytes s sent w machine life session frame h un at phase done link
 takes_in Closing marks c place bytes s sent w machine life frame h un at phase = stays c place (place + 1) bytes s sent w machine h (ap reads_life at ∙ ap reads phase)
 takes_in Over marks c place bytes s sent w machine life frame h un at phase = stays c place (place + 1) bytes s sent w machine h (ap reads_life at ∙ ap reads phase)
 
-takes_at : (o : Option Life) (marks : List Mark) (c place : ℕ) (bytes : List ℕ) (s : Setting) (sent : ℕ → ℕ) (w : World) (machine : Machine) (frame : Frame) → Serves c place bytes s sent w machine → Unmarked marks c place → present c w ≡ o
-    → Serves c (place + 1) bytes s sent (arrive_at s marks c w place (Whole frame) o) (frame_in machine c frame (phase_of s.names o))
+takes_at : (o : Option Life) (marks : List Mark) (c place : ℕ) (bytes : List ℕ) (s : Setting) (sent : ℕ → ℕ) (w : World) (machine : Machine) (frame : Frame) → Serves c bytes s sent w machine → Unmarked marks c place → present c w ≡ o
+    → Serves c bytes s sent (arrive_at s marks c w place (Whole frame) o) (frame_in machine c frame (phase_of s.names o))
 takes_at None marks c place bytes s sent w machine frame h un at = stays c place (place + 1) bytes s sent w machine h (ap reads_life at)
 takes_at (Some life) marks c place bytes s sent w machine frame h un at = takes_in life.phase marks c place bytes s sent w machine life frame h un at refl
 
 -- a frame at its place
-pub takes : (marks : List Mark) (c place : ℕ) (bytes : List ℕ) (s : Setting) (sent : ℕ → ℕ) (w : World) (machine : Machine) (frame : Frame) → Serves c place bytes s sent w machine → Unmarked marks c place
-    → Serves c (place + 1) bytes s sent (arrive s marks c w (place, Whole frame)) (frame_taken machine c frame)
+pub takes : (marks : List Mark) (c place : ℕ) (bytes : List ℕ) (s : Setting) (sent : ℕ → ℕ) (w : World) (machine : Machine) (frame : Frame) → Serves c bytes s sent w machine → Unmarked marks c place
+    → Serves c bytes s sent (arrive s marks c w (place, Whole frame)) (frame_taken machine c frame)
 unfolding arrive frame_taken
 takes marks c place bytes s sent w machine frame h un = rw h.here.phase (takes_at (present c w) marks c place bytes s sent w machine frame h un refl)

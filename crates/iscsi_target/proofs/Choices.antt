@@ -1,5 +1,6 @@
 -- Which way a test went.
-use Rattle.std.proofs.Common.{◌≡◌, Bool, true, false, cond, not, ◌&&◌, refl}
+use Rattle.std.proofs.Common.{◌≡◌, ℕ, Bool, true, false, cond, not, ◌&&◌, eqb, refl}
+use Rattle.std.proofs.lemmas.Bool.{eq-eqb}
 
 pub cond_true : {X : Type 0} (b : Bool) (x y : X) → b ≡ true → cond b x y ≡ x
 cond_true true x y e = refl
@@ -20,3 +21,6 @@ and_false false = refl
 pub not_true : (b : Bool) → not b ≡ true → b ≡ false
 not_true true e = absurd cc
 not_true false e = refl
+
+pub eqb_self : (n : ℕ) → eqb n n ≡ true
+eqb_self n = eq-eqb n n refl

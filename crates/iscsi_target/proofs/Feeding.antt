@@ -39,7 +39,7 @@ pub some_reads : (o : Option Life) → reads_life o ≡ true → (life : Life) �
 some_reads None e = absurd cc
 some_reads (Some life) e = (life, refl, e)
 
-pub reads_there : (c place : ℕ) (bytes : List ℕ) (s : Setting) (sent : ℕ → ℕ) (w : World) (machine : Machine) → Serves c place bytes s sent w machine → is_reading (link_at machine c).phase ≡ reads_life (present c w)
+pub reads_there : (c place : ℕ) (bytes : List ℕ) (s : Setting) (sent : ℕ → ℕ) (w : World) (machine : Machine) → Serves c bytes s sent w machine → is_reading (link_at machine c).phase ≡ reads_life (present c w)
 reads_there c place bytes s sent w machine h = ap is_reading h.here.phase ∙ reading_same s.names (present c w)
 
 -- a step that no mark names, and that does nothing
@@ -64,7 +64,7 @@ half_idle : (o : Option Life) → reads_life o ≡ false → half_of o ≡ []
 half_idle None r = refl
 half_idle (Some life) r = cond_false (reads life.phase) (rest life.bytes) [] r
 
-pub idle_stands : (c place : ℕ) (bytes : List ℕ) (s : Setting) (sent : ℕ → ℕ) (w : World) (machine : Machine) → Serves c place bytes s sent w machine → reads_life (present c w) ≡ false → (link_at machine c).half ≡ [] → StandsAt s sent w machine
+pub idle_stands : (c place : ℕ) (bytes : List ℕ) (s : Setting) (sent : ℕ → ℕ) (w : World) (machine : Machine) → Serves c bytes s sent w machine → reads_life (present c w) ≡ false → (link_at machine c).half ≡ [] → StandsAt s sent w machine
 idle_stands c place bytes s sent w machine h r half = stands_from c place bytes s sent w machine h (record {
   phase = h.here.phase;
   half = half ∙ sym (half_idle (present c w) r);
@@ -74,7 +74,7 @@ idle_stands c place bytes s sent w machine h r half = stands_from c place bytes 
 })
 
 -- one that was closed
-pub closed_stands : (c place : ℕ) (bytes : List ℕ) (s : Setting) (sent : ℕ → ℕ) (w : World) (machine : Machine) (life : Life) → Serves c place bytes s sent w machine → present c w ≡ Some life → StandsAt s sent (close c w) (closed machine c)
+pub closed_stands : (c place : ℕ) (bytes : List ℕ) (s : Setting) (sent : ℕ → ℕ) (w : World) (machine : Machine) (life : Life) → Serves c bytes s sent w machine → present c w ≡ Some life → StandsAt s sent (close c w) (closed machine c)
 closed_stands c place bytes s sent w machine life h e =
     let half : (link_at (closed machine c) c).half ≡ [] = ap (λ (l : LinkState). l.half) (closed_link_at machine c (omega (arith, h.count, h.in_range))) in
     idle_stands c place bytes s sent (close c w) (closed machine c) (closes c place place bytes s sent w machine life h e) (ap reads_life (present-close c w life e)) half
@@ -116,7 +116,7 @@ quiet_longer place life piece Closing h = tt
 quiet_longer place life piece Over h = tt
 
 serves_with : (c place : ℕ) (bytes : List ℕ) (s : Setting) (sent : ℕ → ℕ) (w v : World) (machine : Machine) (link : LinkState) → c < connection_limit → StandsAt s sent w machine → v.units ≡ w.units
-    → ((d : ℕ) → d ≢ c → present d v ≡ present d w) → IsServing s.names place bytes (sent c) link (present c v) → Serves c place bytes s sent v (with_link machine c link)
+    → ((d : ℕ) → d ≢ c → present d v ≡ present d w) → IsServing s.names bytes (sent c) link (present c v) → Serves c bytes s sent v (with_link machine c link)
 serves_with c place bytes s sent w v machine link lt h u other here =
     let there : get_or (set machine.links c link) c free_link ≡ link = get_or-set_same machine.links c link free_link (omega (arith, h.count)) in
     record {
@@ -132,7 +132,7 @@ serves_with c place bytes s sent w v machine link lt h u other here =
 
 -- the World with the longer bytes, before a frame of them is taken
 pub longer_serves : (c : ℕ) (s : Setting) (sent : ℕ → ℕ) (w : World) (machine : Machine) (life : Life) (piece half : List ℕ) → c < connection_limit → StandsAt s sent w machine → present c w ≡ Some life
-    → Serves c (length (arrivals life.bytes)) (life.bytes ++ piece) s sent (changed (longer piece) c w) (with_link machine c (record (link_at machine c) { half = half }))
+    → Serves c (life.bytes ++ piece) s sent (changed (longer piece) c w) (with_link machine c (record (link_at machine c) { half = half }))
 unfolding changed
 longer_serves c s sent w machine life piece half lt h at =
     let v = changed (longer piece) c w in
@@ -195,7 +195,7 @@ brings c s sent w machine now piece marks f p =
 -- where the code is once the frames so far are taken, if no mark names one of them
 pub serves_so_far : (c : ℕ) (s : Setting) (sent : ℕ → ℕ) (w : World) (machine now : Machine) (piece : List ℕ) (marks : List Mark) → (f : Fed c s sent w machine) → (p : Progress c (kept_first machine c piece) now)
     → IsSound now → ((q : ℕ) → q < length (arrivals f.life.bytes) + length p.done → Unmarked marks c q)
-    → Serves c (length (arrivals f.life.bytes) + length p.done) (f.life.bytes ++ piece) s sent (so_far s marks c (length (arrivals f.life.bytes)) (changed (longer piece) c w) p.done) now
+    → Serves c (f.life.bytes ++ piece) s sent (so_far s marks c (length (arrivals f.life.bytes)) (changed (longer piece) c w) p.done) now
 serves_so_far c s sent w machine now piece marks f p sound un =
     p.stands sound s sent (changed (longer piece) c w) (length (arrivals f.life.bytes)) (f.life.bytes ++ piece) marks un
     (longer_serves c s sent w machine f.life piece ((link_at machine c).half ++ piece) f.in_range f.stands f.at)
@@ -220,7 +220,7 @@ ends_whole c s sent machine now history piece lt h r p sound reads_now none shor
     ∙ nothing_by (reads_life (present c v)) c Ending v refl in
     let reads_v : reads_life (present c v) ≡ true = sym (reads_there c _ _ s sent v now serves) ∙ reads_now in
     let there = some_reads (present c v) reads_v in
-    let here : IsServing s.names (place + length p.done) (f.life.bytes ++ piece) (sent c) (link_at now c) (Some there.0) = rw there.1 at serves.here in
+    let here : IsServing s.names (f.life.bytes ++ piece) (sent c) (link_at now c) (Some there.0) = rw there.1 at serves.here in
     let behind : rest there.0.bytes ≡ p.more = ap rest here.held ∙ rest_in_pieces f.life.bytes piece ∙ ap rest (sym (first_half c s sent w machine piece f)) ∙ p.behind ∙ rest_none p.more none_ in
     let all : arrivals (f.life.bytes ++ piece) ≡ arrivals f.life.bytes ++ map Whole p.done =
     joined_arrivals f.life.bytes piece (is_short c s sent w machine f)
@@ -276,9 +276,9 @@ ends_long c s sent machine now history piece lt h r p sound reads_now long =
     stands_as s sent (closed now c) history (plain (Bytes c piece)) (close c v) e (closed_stands c _ _ s sent v now there.0 serves there.1)
 
 -- a link that is written as it is
-pub same_link : (c place : ℕ) (bytes : List ℕ) (s : Setting) (sent : ℕ → ℕ) (w : World) (machine : Machine) → c < length machine.links → Serves c place bytes s sent w (with_link machine c (record (link_at machine c) { half = (link_at machine c).half })) → Serves c place bytes s sent w machine
+pub same_link : (c place : ℕ) (bytes : List ℕ) (s : Setting) (sent : ℕ → ℕ) (w : World) (machine : Machine) → c < length machine.links → Serves c bytes s sent w (with_link machine c (record (link_at machine c) { half = (link_at machine c).half })) → Serves c bytes s sent w machine
 same_link c place bytes s sent w machine lt h =
-    let P : List LinkState → Type 0 = λ links. Serves c place bytes s sent w (record machine { links = links }) in
+    let P : List LinkState → Type 0 = λ links. Serves c bytes s sent w (record machine { links = links }) in
     subst P (set-get_or machine.links c free_link) h
 
 idle_places : (s : Setting) (marks : List Mark) (c : ℕ) (w : World) (all : List (ℕ × Arrival)) → reads_life (present c w) ≡ false → fold (arrive s marks c) w all ≡ w
@@ -313,7 +313,7 @@ ends_idle c s sent machine history piece lt h open_ r =
     let at : present c v ≡ Some (longer piece there.0) = present-changed (longer piece) c w there.0 there.1 (present_is c w there.0 there.1) in
     let idle_ : reads there.0.phase ≡ false = sym (reading_in s.names there.0 there.0.phase) ∙ ap is_reading (sym link.phase) ∙ r in
     let reads_v : reads_life (present c v) ≡ false = ap reads_life at ∙ idle_ in
-    let serves : Serves c (length (arrivals there.0.bytes)) (there.0.bytes ++ piece) s sent v machine = same_link c _ (there.0.bytes ++ piece) s sent v machine (omega (arith, h.count, lt)) (longer_serves c s sent w machine there.0 piece (link_at machine c).half lt h there.1) in
+    let serves : Serves c (there.0.bytes ++ piece) s sent v machine = same_link c _ (there.0.bytes ++ piece) s sent v machine (omega (arith, h.count, lt)) (longer_serves c s sent w machine there.0 piece (link_at machine c).half lt h there.1) in
     let e : bring s [] c piece w ≡ v =
     ap (take_step [] c Ending (λ u. u)) (idle_places s [] c v (brought (present c w) piece) reads_v) ∙ step_idle [] c Ending (λ u. u) v reads_v in
     stands_as s sent machine history (plain (Bytes c piece)) v e (idle_stands c _ _ s sent v machine serves reads_v (link.half ∙ half_idle (Some there.0) idle_))

@@ -3,9 +3,7 @@ pub mod Lists
 pub mod Arrivals
 pub mod Lives
 pub mod Sound
-pub mod Room
 pub mod Served
-pub mod Counting
 pub mod Numbers
 pub mod Requests
 pub mod Serving

@@ -31,7 +31,7 @@ use Rattle.iscsi_target.proofs.Serving.{phases, sessions_there, live_same, repla
 
 -- what is known of a connection that logs in
 record Entering (c place : ℕ) (bytes : List ℕ) (s : Setting) (sent : ℕ → ℕ) (w : World) (machine : Machine) (life : Life) : Type 0 where
-  serves : Serves c place bytes s sent w machine
+  serves : Serves c bytes s sent w machine
   at : present c w ≡ Some life
   phase : life.phase ≡ LoggingIn
   asked_so : IsLogin life
@@ -71,7 +71,7 @@ out_more life request answer phase = out_phase (answered answer (asked request l
 -- ---- a refusal
 
 refuses : (c place : ℕ) (bytes : List ℕ) (s : Setting) (sent : ℕ → ℕ) (w : World) (machine : Machine) (life : Life) (request : Frame) (answer : Answer) → Entering c place bytes s sent w machine life
-    → Serves c (place + 1) bytes s sent (close c (changed (answered answer) c (changed (asked request) c w))) (with_link machine c (refused_link answer (link_at machine c)))
+    → Serves c bytes s sent (close c (changed (answered answer) c (changed (asked request) c w))) (with_link machine c (refused_link answer (link_at machine c)))
 unfolding close changed
 refuses c place bytes s sent w machine life request answer h =
     let u = changed (asked request) c w in
@@ -82,7 +82,7 @@ refuses c place bytes s sent w machine life request answer h =
     let at_v : present c v ≡ Some m = present-changed (answered answer) c u l at_u (present_is c w life h.at) in
     let last = close c v in
     let at : present c last ≡ Some (shut m) = present-units c last (changed shut c v) refl ∙ present-changed shut c v m at_v (shut_present c m (present_is c w life h.at)) in
-    let here : IsServing s.names place bytes (sent c) (link_at machine c) (Some life) = rw h.at at h.serves.here in
+    let here : IsServing s.names bytes (sent c) (link_at machine c) (Some life) = rw h.at at h.serves.here in
     let x = spelling answer in
     let out : out_of (shut m) ≡ out_of life ++ x = out_more life request answer Closing in
     let none : session_of (present c v) ≡ None = ap session_of at_v ∙ rw h.phase refl in
@@ -118,7 +118,7 @@ one_more life request answer bears h = record {
 }
 
 goes_on : (c place : ℕ) (bytes : List ℕ) (s : Setting) (sent : ℕ → ℕ) (w : World) (machine : Machine) (life : Life) (request : Frame) (answer : Answer) → bears_status answer ≡ true → Entering c place bytes s sent w machine life
-    → Serves c (place + 1) bytes s sent (changed (answered answer) c (changed (asked request) c w))
+    → Serves c bytes s sent (changed (answered answer) c (changed (asked request) c w))
     (with_link machine c (gone_on_link (advanced s.names (remembered s.names (life.connection + 1) life.requests) request) answer (link_at machine c)))
 unfolding changed
 goes_on c place bytes s sent w machine life request answer bears h =
@@ -128,7 +128,7 @@ goes_on c place bytes s sent w machine life request answer bears h =
     let v = changed (answered answer) c u in
     let m = answered answer l in
     let at : present c v ≡ Some m = present-changed (answered answer) c u l at_u (present_is c w life h.at) in
-    let here : IsServing s.names place bytes (sent c) (link_at machine c) (Some life) = rw h.at at h.serves.here in
+    let here : IsServing s.names bytes (sent c) (link_at machine c) (Some life) = rw h.at at h.serves.here in
     let x = spelling answer in
     let out : out_of m ≡ out_of life ++ x = out_same life request answer in
     let login_ = advanced s.names (remembered s.names (life.connection + 1) life.requests) request in
@@ -184,7 +184,7 @@ first_stamp life request answer session bears h numbers =
 -- the connection itself, before the older one is ended
 begins_here : (c place : ℕ) (bytes : List ℕ) (s : Setting) (sent : ℕ → ℕ) (w : World) (machine : Machine) (life : Life) (request : Frame) (answer : Answer) (session : Params) → bears_status answer ≡ true → Entering c place bytes s sent w machine life
     → HasNumbers ((length life.requests + 1) % 2 ^ 32) (first_cmd_sn (life.requests ++ request ∷ [])) session
-    → Serves c (place + 1) bytes s sent (record (changed (begun session answer) c (changed (asked request) c w)) { units = changed_units (join session.nexus) session.target w.units })
+    → Serves c bytes s sent (record (changed (begun session answer) c (changed (asked request) c w)) { units = changed_units (join session.nexus) session.target w.units })
     (record (with_link machine c (begun_link session answer (link_at machine c))) { units = changed_units (join session.nexus) session.target machine.units })
 begins_here c place bytes s sent w machine life request answer session bears h numbers =
     let u = changed (asked request) c w in
@@ -195,7 +195,7 @@ begins_here c place bytes s sent w machine life request answer session bears h n
     let is : is_present c b ≡ true = rw on (begun_is_present c) in
     let v : World = record (changed (begun session answer) c u) { units = changed_units (join session.nexus) session.target w.units } in
     let at : present c v ≡ Some b = present-units c v (changed (begun session answer) c u) refl ∙ present-changed (begun session answer) c u l at_u is in
-    let here : IsServing s.names place bytes (sent c) (link_at machine c) (Some life) = rw h.at at h.serves.here in
+    let here : IsServing s.names bytes (sent c) (link_at machine c) (Some life) = rw h.at at h.serves.here in
     let x = spelling answer in
     let out : out_of b ≡ out_of life ++ x = out_more life request answer (FullFeature session) in
     replaced c place (place + 1) bytes s sent w v machine (changed_units (join session.nexus) session.target machine.units) (begun_link session answer (link_at machine c)) h.serves
@@ -214,7 +214,7 @@ unfolding changed
 units_changed d w = refl
 
 begins_with : (c place : ℕ) (bytes : List ℕ) (s : Setting) (sent : ℕ → ℕ) (w : World) (machine : Machine) (life : Life) (request : Frame) (answer : Answer) (session : Params) (o : Option ℕ) → bears_status answer ≡ true → Entering c place bytes s sent w machine life → HasNumbers ((length life.requests + 1) % 2 ^ 32) (first_cmd_sn (life.requests ++ request ∷ [])) session → older session (sessions machine.links) ≡ o
-    → Serves c (place + 1) bytes s sent (record (changed (begun session answer) c (end_older o (changed (asked request) c w))) { units = changed_units (join session.nexus) session.target w.units })
+    → Serves c bytes s sent (record (changed (begun session answer) c (end_older o (changed (asked request) c w))) { units = changed_units (join session.nexus) session.target w.units })
     (shut_older o (record (with_link machine c (begun_link session answer (link_at machine c))) { units = changed_units (join session.nexus) session.target machine.units }))
 begins_with c place bytes s sent w machine life request answer session None bears h numbers e = begins_here c place bytes s sent w machine life request answer session bears h numbers
 begins_with c place bytes s sent w machine life request answer session (Some d) bears h numbers e =
@@ -229,7 +229,7 @@ begins_with c place bytes s sent w machine life request answer session (Some d) 
     let first_d : present d first ≡ Some older_.other = present-units d first (changed (begun session answer) c u) refl ∙ present-changed_other (begun session answer) c d u (λ k. refl) older_.apart ∙ present-changed_other (asked request) c d w (λ k. refl) older_.apart ∙ older_.at in
     let v_d : present d v ≡ Some (shut older_.other) = present-changed shut d first older_.other first_d (shut_present d older_.other (present_is d w older_.other older_.at)) in
     let was : IsLinkOf s.names (sent d) (link_at machine d) (Some older_.other) = rw older_.at at (h.serves.others d older_.below older_.apart) in
-    let shut_ : Serves c (place + 1) bytes s sent v (with_link m d (shut_link (link_at m d))) =
+    let shut_ : Serves c bytes s sent v (with_link m d (shut_link (link_at m d))) =
     replaced_other c d (place + 1) bytes s sent first v m (shut_link (link_at m d)) begun_ older_.apart older_.below (units_changed d first)
     (λ k differ. present-changed_other shut d k first (λ l. refl) differ)
     (rw (v_d, link_d) (closed_link s.names (sent d) (link_at machine d) older_.other was)) in
@@ -262,7 +262,7 @@ units_asked c w request = refl
 
 replies : (c place : ℕ) (bytes : List ℕ) (s : Setting) (sent : ℕ → ℕ) (w : World) (machine : Machine) (life : Life) (lookup : Lookup) (request : Frame) (reply : Reply) → Entering c place bytes s sent w machine life
     → reply_of (remembered s.names (life.connection + 1) life.requests) lookup request ≡ reply
-    → Serves c (place + 1) bytes s sent (replied reply c (changed (asked request) c w)) (machine_replied reply (advanced s.names (remembered s.names (life.connection + 1) life.requests) request) c machine)
+    → Serves c bytes s sent (replied reply c (changed (asked request) c w)) (machine_replied reply (advanced s.names (remembered s.names (life.connection + 1) life.requests) request) c machine)
 unfolding changed
 replies c place bytes s sent w machine life lookup request (GoOn response) h e = goes_on c place bytes s sent w machine life request (answers.LoginResponse response) refl h
 replies c place bytes s sent w machine life lookup request (Refused response) h e = refuses c place bytes s sent w machine life request (answers.LoginResponse response) h
@@ -272,8 +272,8 @@ replies c place bytes s sent w machine life lookup request (Full response sessio
     rw (live_asked c place bytes s sent w machine life request h, units_asked c w request) (begins_with c place bytes s sent w machine life request answer session (older session (sessions machine.links)) refl h numbers refl)
 
 -- a Login request
-pub logs_in : (c place : ℕ) (bytes : List ℕ) (s : Setting) (sent : ℕ → ℕ) (w : World) (machine : Machine) (life : Life) (request : Frame) → Serves c place bytes s sent w machine → present c w ≡ Some life → life.phase ≡ LoggingIn → IsLogin life
-    → Serves c (place + 1) bytes s sent (log_in s c request w) (logged_in machine c (remembered s.names (life.connection + 1) life.requests) request)
+pub logs_in : (c place : ℕ) (bytes : List ℕ) (s : Setting) (sent : ℕ → ℕ) (w : World) (machine : Machine) (life : Life) (request : Frame) → Serves c bytes s sent w machine → present c w ≡ Some life → life.phase ≡ LoggingIn → IsLogin life
+    → Serves c bytes s sent (log_in s c request w) (logged_in machine c (remembered s.names (life.connection + 1) life.requests) request)
 unfolding log_in logged_in
 logs_in c place bytes s sent w machine life request h at phase so_far =
     let e : Entering c place bytes s sent w machine life = record { serves = h; at = at; phase = phase; asked_so = so_far } in
@@ -284,5 +284,5 @@ logs_in c place bytes s sent w machine life request h at phase so_far =
     ap (λ (o : Option Life). login (c + 1) (requests_of o) (lookup_for s.names (live w) request) request) at
     ∙ ap (λ (k : ℕ). login (k + 1) life.requests (lookup_for s.names (live w) request) request) (sym on)
     ∙ ap (λ (all : List (Option Params)). reply_of login_ (lookup_for s.names all request) request) (live_before c place bytes s sent w machine life e) in
-    let P : List (List ℕ) → Type 0 = λ names. Serves c (place + 1) bytes s sent (replied (login (c + 1) (requests_of (present c w)) (lookup_for s.names (live w) request) request) c (changed (asked request) c w)) (machine_replied (reply_of login_ (lookup_for names (sessions machine.links) request) request) (advanced names login_ request) c machine) in
+    let P : List (List ℕ) → Type 0 = λ names. Serves c bytes s sent (replied (login (c + 1) (requests_of (present c w)) (lookup_for s.names (live w) request) request) c (changed (asked request) c w)) (machine_replied (reply_of login_ (lookup_for names (sessions machine.links) request) request) (advanced names login_ request) c machine) in
     subst P (sym h.names) (rw same (replies c place bytes s sent w machine life (lookup_for s.names (sessions machine.links) request) request reply e refl))

@@ -8,8 +8,7 @@ use Rattle.iscsi_target.specs.Life.{Life, Phase, LoggingIn, FullFeature, Closing
 use Rattle.iscsi_target.specs.World.{Setting, World, present, reads_life, close, is_step, is_marked, take_step, judge, ready_in, settle, serve, enter, arrive, arrive_at, arrive_in}
 use Rattle.iscsi_target.specs.Stands.{NamesFirst}
 use Rattle.iscsi_target.specs.Serving.{Unmarked, starved}
-use Rattle.iscsi_target.proofs.Choices.{cond_true, cond_false, and_false}
-use Rattle.iscsi_target.proofs.Counting.{eqb_self}
+use Rattle.iscsi_target.proofs.Choices.{eqb_self, cond_true, cond_false, and_false}
 use Rattle.iscsi_target.proofs.Serving.{present-close, step_idle, step_marked}
 use Rattle.iscsi_target.proofs.Acting.{idle_settle}
 

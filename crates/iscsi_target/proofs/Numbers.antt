@@ -20,7 +20,7 @@ use Rattle.iscsi_login.specs.declared.values.Values.{Values}
 use Rattle.std.specs.List.{enumerate_from}
 use Rattle.iscsi_target.specs.Machine.{next_number, counted, finished_one, first_numbers}
 use Rattle.iscsi_target.specs.Stands.{AreNumbered, IsFinished}
-use Rattle.iscsi_target.proofs.Counting.{place_of, AreNumbered-push, taken_all, last_unfinished, eqb_self}
+use Rattle.iscsi_target.proofs.Choices.{eqb_self}
 
 -- one more, modulo 2^32
 pub next_mod : (n : ℕ) → next_number (n % 2 ^ 32) ≡ (n + 1) % 2 ^ 32

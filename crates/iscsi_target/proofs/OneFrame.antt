@@ -11,7 +11,7 @@ use Rattle.iscsi_target.specs.Serving.{KeepsHalf, Takes, Fails}
 use Rattle.iscsi_target.specs.declared.phase.Phase.{Phase}
 use Rattle.iscsi_target.specs.declared.phase.Phase.TheVariants as phases
 use Rattle.iscsi_target.proofs.Asking.{get_or_any}
-use Rattle.iscsi_target.proofs.Counting.{eqb_self}
+use Rattle.iscsi_target.proofs.Choices.{eqb_self}
 use Rattle.iscsi_target.proofs.Serving.{closes}
 use Rattle.iscsi_target.proofs.FrameTaken.{frame_taken, frame_logged_in, idle_taken}
 use Rattle.iscsi_target.proofs.FrameOpens.{open_alike, frame_opens}

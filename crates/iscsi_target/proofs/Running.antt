@@ -13,8 +13,7 @@ use Rattle.iscsi_target.specs.Output.{out_now, outputs}
 use Rattle.iscsi_target.specs.Machine.{Machine, link_at, is_free, is_open_at}
 use Rattle.iscsi_target.specs.Stands.{phase_of, Stands, with_sent}
 use Rattle.iscsi_target.specs.Runs.{MayCome, RowState, open_row, over_row, row_of, finished_in, finished, is_on, ended, has, IsFree, AreDistinct, Runs}
-use Rattle.iscsi_target.proofs.Choices.{cond_true, cond_false, and_true, and_false}
-use Rattle.iscsi_target.proofs.Counting.{eqb_self}
+use Rattle.iscsi_target.proofs.Choices.{eqb_self, cond_true, cond_false, and_true, and_false}
 use Rattle.iscsi_target.proofs.Standing.{world-push, present_open, stands_sent}
 use Rattle.iscsi_target.proofs.Tables.{among-gone, among-gone_other}
 use Rattle.iscsi_target.proofs.Keeping.{rows_in, open_is, is_open_here, rows-bring}

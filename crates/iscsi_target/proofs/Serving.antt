@@ -27,7 +27,7 @@ pub session_same : (names : List (List ℕ)) (o : Option Life) → session_in_ph
 session_same names None = refl
 session_same names (Some life) = session_same_in names life life.phase
 
-pub phases : (c place : ℕ) (bytes : List ℕ) (s : Setting) (sent : ℕ → ℕ) (w : World) (machine : Machine) → Serves c place bytes s sent w machine → (d : ℕ) → d < connection_limit → (link_at machine d).phase ≡ phase_of s.names (present d w)
+pub phases : (c place : ℕ) (bytes : List ℕ) (s : Setting) (sent : ℕ → ℕ) (w : World) (machine : Machine) → Serves c bytes s sent w machine → (d : ℕ) → d < connection_limit → (link_at machine d).phase ≡ phase_of s.names (present d w)
 phases c place bytes s sent w machine h d lt = elim (eqb_tells d c) [
   | inl same ↦ ap (λ (k : ℕ). (link_at machine k).phase) same.1 ∙ h.here.phase ∙ ap (λ (k : ℕ). phase_of s.names (present k w)) (sym same.1)
   | inr differ ↦ (h.others d lt differ.1).phase
@@ -46,14 +46,14 @@ live_same w machine count same =
     ∙ sym (same i below)
     ∙ sym (get_or-map g machine.links i free_link None (omega arith))))
 
-pub sessions_there : (c place : ℕ) (bytes : List ℕ) (s : Setting) (sent : ℕ → ℕ) (w : World) (machine : Machine) → Serves c place bytes s sent w machine → (d : ℕ) → d < connection_limit → session_in_phase (link_at machine d).phase ≡ session_of (present d w)
+pub sessions_there : (c place : ℕ) (bytes : List ℕ) (s : Setting) (sent : ℕ → ℕ) (w : World) (machine : Machine) → Serves c bytes s sent w machine → (d : ℕ) → d < connection_limit → session_in_phase (link_at machine d).phase ≡ session_of (present d w)
 sessions_there c place bytes s sent w machine h d lt = ap session_in_phase (phases c place bytes s sent w machine h d lt) ∙ session_same s.names (present d w)
 
 -- ---- one connection changes
 
-pub replaced : (c place later : ℕ) (bytes : List ℕ) (s : Setting) (sent : ℕ → ℕ) (w v : World) (machine : Machine) (units : List UnitStates) (link : LinkState) → Serves c place bytes s sent w machine
-    → v.units ≡ units → ((d : ℕ) → d ≢ c → present d v ≡ present d w) → IsServing s.names later bytes (sent c) link (present c v)
-    → Serves c later bytes s sent v (record machine { units = units; links = set machine.links c link })
+pub replaced : (c place later : ℕ) (bytes : List ℕ) (s : Setting) (sent : ℕ → ℕ) (w v : World) (machine : Machine) (units : List UnitStates) (link : LinkState) → Serves c bytes s sent w machine
+    → v.units ≡ units → ((d : ℕ) → d ≢ c → present d v ≡ present d w) → IsServing s.names bytes (sent c) link (present c v)
+    → Serves c bytes s sent v (record machine { units = units; links = set machine.links c link })
 replaced c place later bytes s sent w v machine units link h u other here =
     let there : get_or (set machine.links c link) c free_link ≡ link = get_or-set_same machine.links c link free_link (omega (arith, h.count, h.in_range)) in
     record {
@@ -68,9 +68,9 @@ replaced c place later bytes s sent w v machine units link h u other here =
     }
 
 -- another connection changes
-pub replaced_other : (c e place : ℕ) (bytes : List ℕ) (s : Setting) (sent : ℕ → ℕ) (w v : World) (machine : Machine) (link : LinkState) → Serves c place bytes s sent w machine → e ≢ c → e < connection_limit
+pub replaced_other : (c e place : ℕ) (bytes : List ℕ) (s : Setting) (sent : ℕ → ℕ) (w v : World) (machine : Machine) (link : LinkState) → Serves c bytes s sent w machine → e ≢ c → e < connection_limit
     → v.units ≡ w.units → ((d : ℕ) → d ≢ e → present d v ≡ present d w) → IsLinkOf s.names (sent e) link (present e v)
-    → Serves c place bytes s sent v (record machine { links = set machine.links e link })
+    → Serves c bytes s sent v (record machine { links = set machine.links e link })
 replaced_other c e place bytes s sent w v machine link h differ below u other there =
     let at_c : get_or (set machine.links e link) c free_link ≡ link_at machine c = get_or-set_other machine.links e c link free_link (λ x. differ (sym x)) in
     let at_e : get_or (set machine.links e link) e free_link ≡ link = get_or-set_same machine.links e link free_link (omega (arith, h.count)) in
@@ -87,7 +87,7 @@ replaced_other c e place bytes s sent w v machine link h differ below u other th
     }
 
 -- only the present lives and the units count
-pub same_world : (c place : ℕ) (bytes : List ℕ) (s : Setting) (sent : ℕ → ℕ) (w v : World) (machine : Machine) → Serves c place bytes s sent w machine → v.units ≡ w.units → ((d : ℕ) → present d v ≡ present d w) → Serves c place bytes s sent v machine
+pub same_world : (c place : ℕ) (bytes : List ℕ) (s : Setting) (sent : ℕ → ℕ) (w v : World) (machine : Machine) → Serves c bytes s sent w machine → v.units ≡ w.units → ((d : ℕ) → present d v ≡ present d w) → Serves c bytes s sent v machine
 same_world c place bytes s sent w v machine h u same = record {
   names = h.names;
   units = h.units ∙ sym u;
@@ -108,7 +108,7 @@ says n waiting out more le e = ap (λ (t : List ℕ). t ++ more) e ∙ sym (drop
 
 -- ---- a connection closes
 
-pub closed_life : (names : List (List ℕ)) (place : ℕ) (bytes : List ℕ) (sent : ℕ) (link : LinkState) (life : Life) (later : ℕ) → IsServing names place bytes sent link (Some life) → IsServing names later bytes sent (shut_link link) (Some (shut life))
+pub closed_life : (names : List (List ℕ)) (place : ℕ) (bytes : List ℕ) (sent : ℕ) (link : LinkState) (life : Life) (later : ℕ) → IsServing names bytes sent link (Some life) → IsServing names bytes sent (shut_link link) (Some (shut life))
 closed_life names place bytes sent link life later h = record {
   phase = refl;
   answered = rw (out_phase life Closing) h.answered;
@@ -137,10 +137,10 @@ pub present-close_other : (c d : ℕ) (w : World) → d ≢ c → present d (clo
 unfolding close
 present-close_other c d w differ = present-units d (close c w) (changed shut c w) refl ∙ present-changed_other shut c d w (λ life. refl) differ
 
-pub closes : (c place later : ℕ) (bytes : List ℕ) (s : Setting) (sent : ℕ → ℕ) (w : World) (machine : Machine) (life : Life) → Serves c place bytes s sent w machine → present c w ≡ Some life → Serves c later bytes s sent (close c w) (closed machine c)
+pub closes : (c place later : ℕ) (bytes : List ℕ) (s : Setting) (sent : ℕ → ℕ) (w : World) (machine : Machine) (life : Life) → Serves c bytes s sent w machine → present c w ≡ Some life → Serves c bytes s sent (close c w) (closed machine c)
 unfolding close closed
 closes c place later bytes s sent w machine life h e =
-    let here : IsServing s.names place bytes (sent c) (link_at machine c) (Some life) = rw e at h.here in
+    let here : IsServing s.names bytes (sent c) (link_at machine c) (Some life) = rw e at h.here in
     let session : session_of (present c w) ≡ session_in_phase (link_at machine c).phase = sym (session_same s.names (present c w)) ∙ ap session_in_phase (sym h.here.phase) in
     let units : (close c w).units ≡ left (session_in_phase (link_at machine c).phase) machine.units = ap (λ (o : Option Params). left o w.units) session ∙ ap (left (session_in_phase (link_at machine c).phase)) (sym h.units) in
     replaced c place later bytes s sent w (close c w) machine (left (session_in_phase (link_at machine c).phase) machine.units) (shut_link (link_at machine c)) h units

@@ -14,8 +14,7 @@ use Rattle.iscsi_target.specs.World.{Setting, World, present, changed, session_o
 use Rattle.iscsi_target.specs.Machine.{LinkState, Machine, link_at, with_link, closed, is_free, is_open_at, free_link, opened_link, shut_link, session_in_phase, new_machine}
 use Rattle.iscsi_target.specs.Stands.{phase_of, phase_for, IsLinkOf, StandsAt, Stands, with_sent}
 use Rattle.iscsi_login.specs.declared.params.Params.{Params}
-use Rattle.iscsi_target.proofs.Choices.{cond_true, cond_false, and_true, not_true}
-use Rattle.iscsi_target.proofs.Counting.{eqb_self}
+use Rattle.iscsi_target.proofs.Choices.{eqb_self, cond_true, cond_false, and_true, not_true}
 use Rattle.iscsi_target.proofs.Lives.{present-over, present-changed_other, present-units, present-born, present-born_other, present_is}
 use Rattle.iscsi_target.specs.Serving.{IsQuietAt, bytes_now, Serves}
 use Rattle.iscsi_target.proofs.Serving.{session_same}
@@ -41,7 +40,7 @@ quiet_now : (names : List (List ℕ)) (o : Option Life) (sent : ℕ) (link : Lin
 quiet_now names None sent link h = tt
 quiet_now names (Some life) sent link h = h.settled.quiet
 
-pub serving : (c : ℕ) (s : Setting) (sent : ℕ → ℕ) (w : World) (machine : Machine) → c < connection_limit → StandsAt s sent w machine → Serves c (place_in (present c w)) (bytes_now (present c w)) s sent w machine
+pub serving : (c : ℕ) (s : Setting) (sent : ℕ → ℕ) (w : World) (machine : Machine) → c < connection_limit → StandsAt s sent w machine → Serves c (bytes_now (present c w)) s sent w machine
 serving c s sent w machine lt h =
     let link = h.links c lt in
     record {
@@ -53,7 +52,7 @@ serving c s sent w machine lt h =
       others = λ d below differ. h.links d below;
     }
 
-pub stands_from : (c place : ℕ) (bytes : List ℕ) (s : Setting) (sent : ℕ → ℕ) (w : World) (machine : Machine) → Serves c place bytes s sent w machine → IsLinkOf s.names (sent c) (link_at machine c) (present c w) → StandsAt s sent w machine
+pub stands_from : (c place : ℕ) (bytes : List ℕ) (s : Setting) (sent : ℕ → ℕ) (w : World) (machine : Machine) → Serves c bytes s sent w machine → IsLinkOf s.names (sent c) (link_at machine c) (present c w) → StandsAt s sent w machine
 stands_from c place bytes s sent w machine h here = record {
   names = h.names;
   units = h.units;

@@ -11,7 +11,7 @@ use Rattle.iscsi_target.specs.Machine.{LinkState, Machine, link_at, with_link, c
 use Rattle.iscsi_target.specs.Stands.{Stands, IsStarved, frames_with}
 use Rattle.iscsi_target.specs.Serving.{Serves, starved, Fails}
 use Rattle.iscsi_target.proofs.Arrivals.{long_end, new_is}
-use Rattle.iscsi_target.proofs.Counting.{eqb_self}
+use Rattle.iscsi_target.proofs.Choices.{eqb_self}
 use Rattle.iscsi_target.proofs.Lives.{present-changed, present_is}
 use Rattle.iscsi_target.proofs.Serving.{step_idle}
 use Rattle.iscsi_target.proofs.Standing.{stands_as}
@@ -61,7 +61,7 @@ record IsShut (c : ℕ) (w : World) (machine : Machine) : Type 0 where
   idle : reads_life (present c w) ≡ false
   half : (link_at machine c).half ≡ []
 
-is_shut : (c place : ℕ) (bytes : List ℕ) (s : Setting) (sent : ℕ → ℕ) (w : World) (machine : Machine) → Serves c place bytes s sent w (closed machine c) → IsShut c w (closed machine c)
+is_shut : (c place : ℕ) (bytes : List ℕ) (s : Setting) (sent : ℕ → ℕ) (w : World) (machine : Machine) → Serves c bytes s sent w (closed machine c) → IsShut c w (closed machine c)
 is_shut c place bytes s sent w machine h =
     let link = closed_link_at machine c (omega (arith, h.count, h.in_range, closed_count machine c)) in
     record {
@@ -84,9 +84,9 @@ ends_failed c s sent machine now given after history piece frame lt h r p reads_
     let v = so_far s marks c place (changed (longer piece) c w) p.done in
     let serves = serves_so_far c s sent w machine now piece marks f p (sound_as given _ is (failed.back sound)) (λ k below. unmarked_before c k q (failed.step q) (λ same. let lt_ : k < q = below in omega arith) (failed.of_frame q)) in
     let reads_v : reads_life (present c v) ≡ true = sym (reads_there c _ _ s sent v now serves) ∙ reads_now in
-    let again : Serves c q bytes s sent v given = subst_machine c q bytes s sent v _ given (sym is) (rehalved c q bytes s sent v now (link_at given c).half serves) in
+    let again : Serves c bytes s sent v given = subst_machine c q bytes s sent v _ given (sym is) (rehalved c q bytes s sent v now (link_at given c).half serves) in
     let u = arrive s marks c v (q, Whole frame) in
-    let stopped : Serves c (q + 1) bytes s sent u (closed after c) = failed.stands sound s sent v q bytes again reads_v in
+    let stopped : Serves c bytes s sent u (closed after c) = failed.stands sound s sent v q bytes again reads_v in
     let shut_ = is_shut c (q + 1) bytes s sent u after stopped in
     let others = map Whole (frames (link_at given c).half) ++ long_end (is_long (rest p.more)) in
     let next : left_over p.more (is_long (rest p.more)) ≡ Whole frame ∷ others =
@@ -108,7 +108,7 @@ ends_at_once c s sent machine history piece lt h r =
     let q = length (arrivals f.life.bytes) in
     let marks = starved c (Judging q) in
     let v = changed (longer piece) c w in
-    let serves : Serves c q (f.life.bytes ++ piece) s sent v machine = same_link c q (f.life.bytes ++ piece) s sent v machine (omega (arith, f.stands.count, lt)) (longer_serves c s sent w machine f.life piece (link_at machine c).half lt h f.at) in
+    let serves : Serves c (f.life.bytes ++ piece) s sent v machine = same_link c q (f.life.bytes ++ piece) s sent v machine (omega (arith, f.stands.count, lt)) (longer_serves c s sent w machine f.life piece (link_at machine c).half lt h f.at) in
     let at : present c v ≡ Some (longer piece f.life) = present-changed (longer piece) c w f.life f.at (present_is c w f.life f.at) in
     let e : bring s marks c piece w ≡ close c v =
     ap (λ (o : Option Life). take_step marks c Ending (λ u. u) (fold (arrive s marks c) v (brought o piece))) f.at

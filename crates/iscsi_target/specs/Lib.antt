@@ -13,7 +13,7 @@ pub use Rattle.scsi_cdb.specs.Command
 pub use Rattle.iscsi_transfer.specs.DataIn
 pub use Rattle.iscsi_session.specs.Requests
 pub use Rattle.iscsi_session.specs.Judging
-pub use Rattle.iscsi_session.specs.Acts
+pub use Rattle.iscsi_session.specs.Acts as SessionActs
 pub use Rattle.iscsi_session.specs.Answers
 pub use Rattle.iscsi_session.specs.State
 pub use Rattle.media_block.specs.Blocks

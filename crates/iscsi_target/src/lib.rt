@@ -16,7 +16,7 @@ pub mod laws;
 mod link;
 mod phase;
 mod run;
-mod serving;
+mod serve;
 mod sessions;
 mod target;
 

@@ -6,7 +6,8 @@ use Rattle.iscsi_order.specs.Window as order
 use Rattle.iscsi_order.specs.WindowState as window
 use Rattle.iscsi_session.specs.Requests.{numbers}
 use Rattle.iscsi_session.specs.State.{SessionState, Stands}
-use Rattle.iscsi_session.proofs.Accepted.{fresh_is, window_stands, admits, holds}
+use Rattle.iscsi_session.proofs.Accepted.{fresh_is, admits, holds}
+use Rattle.iscsi_session.proofs.Parts.{window_stands}
 use Rattle.iscsi_session.proofs.session.Session.accept.Goals as goal
 
 pub returns-then-is_immediate-clause-stands : goal.returns-then-is_immediate-clause-stands

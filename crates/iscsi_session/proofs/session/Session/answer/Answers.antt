@@ -1,6 +1,7 @@
 use Rattle.std.proofs.Common.{sym, ap, ◌∙◌}
 use Rattle.iscsi_pdu.specs.Frames.{Frame}
-use Rattle.iscsi_session.proofs.Remembered.{parts, turn_frame}
+use Rattle.iscsi_session.proofs.Parts.{parts}
+use Rattle.iscsi_session.proofs.Remembered.{turn_frame}
 use Rattle.iscsi_session.proofs.Answered.{same_frame, opcode_same, ping_stands, ping_out, ping_act, logout_stands, logout_out, logout_act}
 use Rattle.iscsi_session.proofs.session.Session.answer.Goals as goal
 

@@ -8,7 +8,7 @@ use Rattle.iscsi_session.specs.Requests.{stamp, finished}
 use Rattle.iscsi_session.specs.Answers.{command_answers}
 use Rattle.iscsi_session.specs.Room.{most_pieces, room_for}
 use Rattle.iscsi_session.specs.State.{SessionState, Stands}
-use Rattle.iscsi_session.proofs.Remembered.{parts}
+use Rattle.iscsi_session.proofs.Parts.{parts}
 use Rattle.iscsi_session.proofs.Finished.{first_is, first_frame, window_finished, finishes, stamped}
 use Rattle.iscsi_session.proofs.session.Session.done.Goals as goal
 

@@ -4,7 +4,8 @@ use Rattle.iscsi_pdu.specs.Frames.{Frame}
 use Rattle.iscsi_order.specs.Window as order
 use Rattle.iscsi_session.specs.Requests.{numbers}
 use Rattle.iscsi_session.specs.State.{SessionState, Stands}
-use Rattle.iscsi_session.proofs.Accepted.{fresh_is, window_stands}
+use Rattle.iscsi_session.proofs.Accepted.{fresh_is}
+use Rattle.iscsi_session.proofs.Parts.{window_stands}
 use Rattle.iscsi_session.proofs.session.Session.is_fresh.Goals as goal
 
 pub returns-else-is_immediate : goal.returns-else-is_immediate

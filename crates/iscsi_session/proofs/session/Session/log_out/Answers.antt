@@ -6,7 +6,7 @@ use Rattle.iscsi_pdu.specs.declared.stamp.Stamp.{Stamp}
 use Rattle.iscsi_session.specs.Requests.{stamp}
 use Rattle.iscsi_session.specs.Acts.{logout_answer}
 use Rattle.iscsi_session.specs.State.{SessionState}
-use Rattle.iscsi_session.proofs.Remembered.{parts}
+use Rattle.iscsi_session.proofs.Parts.{parts}
 use Rattle.iscsi_session.proofs.session.Session.log_out.Goals as goal
 
 pub returns-then-closes-clause-out : goal.returns-then-closes-clause-out

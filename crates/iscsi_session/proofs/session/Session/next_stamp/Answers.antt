@@ -1,7 +1,8 @@
 use Rattle.std.proofs.Common.{refl, sym, subst}
 use Rattle.iscsi_session.specs.Requests.{numbers, stamp}
 use Rattle.iscsi_session.specs.State.{SessionState, Stands}
-use Rattle.iscsi_session.proofs.Accepted.{window_stands, stat_is, answers_one}
+use Rattle.iscsi_session.proofs.Accepted.{stat_is, answers_one}
+use Rattle.iscsi_session.proofs.Parts.{window_stands}
 use Rattle.iscsi_session.proofs.session.Session.next_stamp.Goals as goal
 
 pub returns-clause-stamp : goal.returns-clause-stamp

@@ -1,6 +1,7 @@
 use Rattle.std.proofs.Common.{sym, subst}
 use Rattle.iscsi_session.specs.State.{SessionState, Stands}
-use Rattle.iscsi_session.proofs.Remembered.{window_stands, turn_arrived, turn_taken}
+use Rattle.iscsi_session.proofs.Parts.{window_stands}
+use Rattle.iscsi_session.proofs.Remembered.{turn_arrived, turn_taken}
 use Rattle.iscsi_session.proofs.session.Session.turn.Goals as goal
 
 pub returns-in-Some : goal.returns-in-Some
