@@ -23,19 +23,19 @@ use Rattle.iscsi_target.specs.declared.phase.Phase.TheVariants.{Free, Login, Ful
 pub login_there : (phase : Phase) → is_logging_in phase ≡ true → (login : LoginState) × (phase ≡ Login login)
 login_there Free e = absurd cc
 login_there (Login login) e = (login, refl)
-login_there (FullFeature session numbers) e = absurd cc
+login_there (FullFeature session) e = absurd cc
 login_there Closing e = absurd cc
 
 pub no_session : (phase : Phase) → is_logging_in phase ≡ true → session_in_phase phase ≡ None
 no_session Free e = absurd cc
 no_session (Login login) e = refl
-no_session (FullFeature session numbers) e = absurd cc
+no_session (FullFeature session) e = absurd cc
 no_session Closing e = absurd cc
 
 pub still_reading : (phase : Phase) → is_logging_in phase ≡ true → is_reading phase ≡ true
 still_reading Free e = absurd cc
 still_reading (Login login) e = refl
-still_reading (FullFeature session numbers) e = absurd cc
+still_reading (FullFeature session) e = absurd cc
 still_reading Closing e = absurd cc
 
 -- ---- a connection whose session has still to begin

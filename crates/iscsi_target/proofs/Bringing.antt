@@ -28,9 +28,6 @@ pub record Progress (c : ℕ) (first machine : Machine) : Type 0 where
 reads_not : (link : LinkState) → is_reading link.phase ≡ true → is_reading link.phase ≡ false → link.half ≡ []
 reads_not link r i = absurd (cc (r, i))
 
-no_more : (n : ℕ) → n + 0 ≡ n
-no_more n = omega arith
-
 pub begins : (c : ℕ) (machine : Machine) → is_reading (link_at machine c).phase ≡ true → Progress c machine machine
 begins c machine r = record {
   done = [];
@@ -40,7 +37,7 @@ begins c machine r = record {
   kept = record { reading = λ e. refl; idle = λ i. reads_not (link_at machine c) r i };
   back = λ sound. sound;
   opens = λ d. refl;
-  stands = λ sound s sent w place bytes marks un h. rw (no_more place) h;
+  stands = λ sound s sent w place bytes marks un h. h;
 }
 
 pub with_half : (machine : Machine) (c : ℕ) (half : List ℕ) → c < length machine.links → link_at (with_link machine c (record (link_at machine c) { half = half })) c ≡ record (link_at machine c) { half = half }
@@ -85,6 +82,5 @@ goes_on c first machine given after frame lt p r gives is taken =
           let v = fold (arrive s marks c) w (enumerate_from place (map Whole p.done)) in
           let again : Serves c bytes s sent v given = subst_machine c (place + length p.done) bytes s sent v _ given (sym is) (rehalved c (place + length p.done) bytes s sent v machine (link_at given c).half before) in
           let next = taken.stands sound s sent v (place + length p.done) bytes marks (un (place + length p.done) (omega (arith, one_further p.done frame))) again in
-          let at : place + length p.done + 1 ≡ place + length (p.done ++ frame ∷ []) = omega (arith, one_further p.done frame) in
-          rw (fold_further s marks c place w p.done frame, ← at) next);
+          rw (fold_further s marks c place w p.done frame) next);
     }

@@ -8,7 +8,7 @@ use Rattle.iscsi_pdu.specs.Frames.{Frame, frames, rest, is_long, has_frame}
 use Rattle.iscsi_pdu.proofs.Frames.{frames_none, rest_none}
 use Rattle.iscsi_pdu.proofs.Cuts.{rest_in_pieces, long_is_no_frame}
 use Rattle.iscsi_target.specs.History.{Bytes, Mark, Step, Ending, History, plain, Arrival, Whole, TooLong, arrivals, new_arrivals, connection_limit}
-use Rattle.iscsi_target.specs.Life.{Life, Phase, LoggingIn, FullFeature, Closing, Over, reads, stamp, taken, out_of}
+use Rattle.iscsi_target.specs.Life.{Life, Phase, LoggingIn, FullFeature, Closing, Over, reads, out_of}
 use Rattle.iscsi_target.specs.World.{Setting, World, present, changed, reads_life, close, is_marked, take_step, arrive, arrive_at, brought, longer, bring, world}
 use Rattle.iscsi_target.specs.Machine.{LinkState, Machine, link_at, with_link, closed, IsSound, is_reading, is_closing, is_open_at, free_link, GivesFrame}
 use Rattle.iscsi_target.specs.Stands.{phase_of, phase_for, half_of, IsQuiet, IsSettled, IsLinkOf, StandsAt, Stands}
@@ -50,7 +50,7 @@ nothing_by false c step w r = step_idle [] c step (λ v. v) w r
 
 -- ---- a life that does not read
 
-settled_in : (life : Life) (phase : Phase) → reads phase ≡ false → IsQuiet (length (arrivals life.bytes)) life phase
+settled_in : (life : Life) (phase : Phase) → reads phase ≡ false → IsQuiet life phase
 settled_in life LoggingIn r = absurd cc
 settled_in life (FullFeature session) r = absurd cc
 settled_in life Closing r = tt
@@ -94,26 +94,21 @@ fed c s sent w machine lt h r =
     let there = some_reads (present c w) (sym (reading_same s.names (present c w)) ∙ ap is_reading (sym (h.links c lt).phase) ∙ r) in
     record { in_range = lt; stands = h; life = there.0; at = there.1; reads_life = there.2 }
 
-stamp_longer : (life : Life) (piece : List ℕ) → stamp (longer piece life) ≡ stamp life
-unfolding stamp taken
-stamp_longer life piece = refl
-
 out_longer : (life : Life) (piece : List ℕ) → out_of (longer piece life) ≡ out_of life
 unfolding out_of
 out_longer life piece = refl
 
 phase_longer : (names : List (List ℕ)) (life : Life) (piece : List ℕ) (phase : Phase) → phase_for names (longer piece life) phase ≡ phase_for names life phase
-unfolding stamp taken
 phase_longer names life piece LoggingIn = refl
 phase_longer names life piece (FullFeature session) = refl
 phase_longer names life piece Closing = refl
 phase_longer names life piece Over = refl
 
-quiet_longer : (place : ℕ) (life : Life) (piece : List ℕ) (phase : Phase) → IsQuiet place life phase → IsQuiet place (longer piece life) phase
-quiet_longer place life piece LoggingIn h = record { came = h.came; finished = h.finished; answered = h.answered }
-quiet_longer place life piece (FullFeature session) h = record { numbered = h.numbered; finished = h.finished }
-quiet_longer place life piece Closing h = tt
-quiet_longer place life piece Over h = tt
+quiet_longer : (life : Life) (piece : List ℕ) (phase : Phase) → IsQuiet life phase → IsQuiet (longer piece life) phase
+quiet_longer life piece LoggingIn h = h
+quiet_longer life piece (FullFeature session) h = h
+quiet_longer life piece Closing h = tt
+quiet_longer life piece Over h = tt
 
 serves_with : (c place : ℕ) (bytes : List ℕ) (s : Setting) (sent : ℕ → ℕ) (w v : World) (machine : Machine) (link : LinkState) → c < connection_limit → StandsAt s sent w machine → v.units ≡ w.units
     → ((d : ℕ) → d ≢ c → present d v ≡ present d w) → IsServing s.names bytes (sent c) link (present c v) → Serves c bytes s sent v (with_link machine c link)
@@ -145,7 +140,7 @@ longer_serves c s sent w machine life piece half lt h at =
       phase = link.phase ∙ sym (phase_longer s.names life piece life.phase);
       answered = rw (out_longer life piece) link.answered;
       waiting = rw (out_longer life piece) link.waiting;
-      quiet = quiet_longer place life piece life.phase link.settled.quiet;
+      quiet = quiet_longer life piece life.phase link.settled.quiet;
       held = refl;
     })
 
@@ -222,16 +217,12 @@ ends_whole c s sent machine now history piece lt h r p sound reads_now none shor
     let there = some_reads (present c v) reads_v in
     let here : IsServing s.names (f.life.bytes ++ piece) (sent c) (link_at now c) (Some there.0) = rw there.1 at serves.here in
     let behind : rest there.0.bytes ≡ p.more = ap rest here.held ∙ rest_in_pieces f.life.bytes piece ∙ ap rest (sym (first_half c s sent w machine piece f)) ∙ p.behind ∙ rest_none p.more none_ in
-    let all : arrivals (f.life.bytes ++ piece) ≡ arrivals f.life.bytes ++ map Whole p.done =
-    joined_arrivals f.life.bytes piece (is_short c s sent w machine f)
-    ∙ ap (λ (l : List Arrival). arrivals f.life.bytes ++ l) (ap arrivals (sym (first_half c s sent w machine piece f)) ∙ split_arrivals p.done p.more _ p.front p.behind ∙ ap (λ (l : List Arrival). map Whole p.done ++ l) nothing ∙ append-nil (map Whole p.done)) in
-    let count : length (arrivals there.0.bytes) ≡ place + length p.done = ap (λ (b : List ℕ). length (arrivals b)) here.held ∙ ap length all ∙ length-append (arrivals f.life.bytes) (map Whole p.done) ∙ ap (λ (n : ℕ). place + n) (length-map p.done Whole) in
     stands_as s sent now history (plain (Bytes c piece)) v e (stands_from c _ _ s sent v now serves (rw there.1 record {
       phase = here.phase;
       half = half ∙ sym behind ∙ sym (cond_true (reads there.0.phase) (rest there.0.bytes) [] there.2);
       answered = here.answered;
       waiting = here.waiting;
-      settled = record { quiet = rw count here.quiet; short = λ x. ap (λ (b : List ℕ). is_long b) (behind ∙ sym half) ∙ short };
+      settled = record { quiet = here.quiet; short = λ x. ap (λ (b : List ℕ). is_long b) (behind ∙ sym half) ∙ short };
     }))
 
 -- one of the frames closed the connection

@@ -1,7 +1,7 @@
 -- An event of bytes begins and ends no life, and each goes on from what it was.
 use Rattle.std.proofs.Common.{◌≡◌, ℕ, ◌+◌, List, [], ◌∷◌, ◌++◌, map, Bool, true, false, cond, not, eqb, Option, Some, None, refl, sym, ap, ◌∙◌, subst, append_assoc, append-nil}
 use Rattle.std.specs.List.{fold, enumerate_from}
-use Rattle.std.specs.Prelude.{flat_map}
+use Rattle.std.specs.Prelude.{flat_map, slice_index_or}
 use Rattle.std.proofs.lemmas.Grind.{flat_map-append}
 use Rattle.iscsi_pdu.specs.Answer.{spelling}
 use Rattle.iscsi_pdu.specs.Frames.{Frame}
@@ -10,14 +10,17 @@ use Rattle.iscsi_pdu.specs.declared.answer.Answer.TheVariants as answers
 use Rattle.iscsi_target.specs.History.{Mark, Step, Judging, Taking, Doing, Ending, Arrival, Whole, TooLong, Bytes, marked}
 use Rattle.iscsi_login.specs.Session.{older}
 use Rattle.iscsi_login.specs.Login.{login}
-use Rattle.iscsi_target.specs.Life.{Life, Phase, LoggingIn, FullFeature, Closing, Over, Accepted, is_over, reads, out_of}
-use Rattle.iscsi_target.specs.World.{Setting, World, is_present, present, changed_life, changed, reads_life, session_of, live, close, shut, is_marked, take_step, answered, asked, begun, requests_of, lookup_for, end_older, replied, log_in, accepted, judged, judge, verdict_for, finished, done_for, finish, ready_in, settle, serve, enter, arrive_in, arrive_at, arrive, brought, longer, bring, world}
-use Rattle.iscsi_target.specs.Acts.{is_login}
+use Rattle.iscsi_session.specs.Requests.{Request, Past, accepted, acted, finished, stamp}
+use Rattle.iscsi_session.specs.Judging.{verdict, judged_answers}
+use Rattle.iscsi_session.specs.Acts.{act_answers, ends}
+use Rattle.iscsi_session.specs.Answers.{command_answers}
+use Rattle.iscsi_session.specs.declared.verdict.Verdict.{Verdict}
+use Rattle.iscsi_session.specs.declared.verdict.Verdict.TheVariants as verdicts
+use Rattle.iscsi_target.specs.Life.{Life, Phase, LoggingIn, FullFeature, Closing, Over, is_over, reads, statuses, out_of}
+use Rattle.iscsi_target.specs.World.{Setting, World, is_present, present, changed_life, changed, reads_life, past_of, live, close, shut, is_marked, take_step, answered, asked, begun, requests_of, lookup_for, end_older, replied, log_in, goes_on, judged_by, judge_for, judge, ended_if, act_for, act, due_of, act_all, done_for, finish, queue_of, settle, serve, enter, arrive_in, arrive_at, arrive, brought, longer, bring, world}
+use Rattle.iscsi_target.specs.Acts.{is_login, carried_out}
 use Rattle.iscsi_target.specs.Laws.{GoesOn, LivesGoOn, AnswersStay}
 use Rattle.iscsi_target.specs.Runs.{RowState, open_row, row_of}
-use Rattle.iscsi_login.specs.declared.params.Params.{Params}
-use Rattle.iscsi_target.specs.declared.session.Verdict.{Verdict}
-use Rattle.iscsi_target.specs.declared.session.Verdict.TheVariants as verdicts
 use Rattle.iscsi_login.specs.declared.reply.Reply.{Reply}
 use Rattle.iscsi_login.specs.declared.reply.Reply.TheVariants.{GoOn, Full, Refused}
 use Rattle.iscsi_target.proofs.Choices.{cond_true, cond_false, and_true, not_true}
@@ -146,38 +149,69 @@ on-log_in s c request w =
     on-then w v (log_in s c request w) (on-changed (asked request) c w (silent (asked request) (λ life e. e) (λ life. refl) (λ life. refl)))
     (on-replied (login (c + 1) (requests_of (present c w)) (lookup_for s.names (live w) request) request) c v)
 
-on-judged : (verdict : Verdict) (c place : ℕ) (frame : Frame) (w : World) → GoesTo w (judged verdict c place frame w)
-on-judged verdicts.Accepted c place frame w = on-changed (accepted place frame) c w (silent (accepted place frame) (λ life e. e) (λ life. refl) (λ life. refl))
-on-judged verdicts.Violating c place frame w = on-close c w
+-- a step of its session
+session_goes : (past : Life → Past) (more : Life → List Answer) → Continues (λ life. goes_on (past life) (more life) life)
+session_goes past more = record { open_ = λ life e. refl; connection = λ life. refl; answers = λ life. (more life, refl) }
 
-on-judge : (c place : ℕ) (frame : Frame) (w : World) → GoesTo w (judge c place frame w)
+on-session : (past : Past) (more : Life → List Answer) (c : ℕ) (w : World) → GoesTo w (changed (λ life. goes_on past (more life) life) c w)
+on-session past more c w = on-changed (λ life. goes_on past (more life) life) c w (session_goes (λ life. past) more)
+
+on-judged_by : (v : Verdict) (past : Past) (c : ℕ) (frame : Frame) (w : World) → GoesTo w (judged_by v past c frame w)
+on-judged_by verdicts.Ignored past c frame w = on-session past (λ life. []) c w
+on-judged_by verdicts.Dropped past c frame w = on-session past (λ life. []) c w
+on-judged_by (verdicts.Rejected reason) past c frame w = on-session past (λ life. judged_answers (verdicts.Rejected reason) (stamp (statuses life) past) frame) c w
+on-judged_by verdicts.Violating past c frame w = on-close c w
+on-judged_by verdicts.Accepted past c frame w = on-session (accepted frame past) (λ life. []) c w
+
+on-judge_for : (o : Option Past) (c : ℕ) (frame : Frame) (w : World) → GoesTo w (judge_for o c frame w)
+on-judge_for None c frame w = on-same w
+on-judge_for (Some past) c frame w = on-judged_by (verdict past frame) past c frame w
+
+on-judge : (c : ℕ) (frame : Frame) (w : World) → GoesTo w (judge c frame w)
 unfolding judge
-on-judge c place frame w = on-judged (verdict_for (present c w) frame) c place frame w
+on-judge c frame w = on-judge_for (past_of (present c w)) c frame w
 
-on-done_for : (o : Option Params) (c : ℕ) (command : Accepted) (w : World) → GoesTo w (done_for o c command w)
+on-act_for : (o : Option Past) (c : ℕ) (request : Request) (w : World) → GoesTo w (act_for o c request w)
+on-act_for None c request w = on-same w
+on-act_for (Some past) c request w =
+    let v = changed (λ life. goes_on (acted request past) (act_answers (statuses life) request past) life) c w in
+    on-then w v (ended_if (ends past.params request.frame) c v) (on-session (acted request past) (λ life. act_answers (statuses life) request past) c w)
+    (on-cond (ends past.params request.frame) (close c v) v v (on-close c v) (on-same v))
+
+on-act : (c : ℕ) (request : Request) (w : World) → GoesTo w (act c request w)
+unfolding act
+on-act c request w = on-act_for (past_of (present c w)) c request w
+
+on-done_for : (o : Option Past) (c : ℕ) (command : Request) (w : World) → GoesTo w (done_for o c command w)
 on-done_for None c command w = on-same w
-on-done_for (Some session) c command w = on-changed (finished session.values command _) c w (record { open_ = λ life e. e; connection = λ life. refl; answers = λ life. (_, refl) })
+on-done_for (Some past) c command w =
+    let p = carried_out (slice_index_or w.units past.params.target []) past.params.nexus command.frame in
+    on-session (finished command past) (λ life. command_answers (stamp (statuses life) (finished command past)) past.params.values command.frame p.1) c w
 
-on-finish : (c : ℕ) (command : Accepted) (w : World) → GoesTo w (finish c command w)
+on-finish : (c : ℕ) (command : Request) (w : World) → GoesTo w (finish c command w)
 unfolding finish
-on-finish c command w = on-done_for (session_of (present c w)) c command w
+on-finish c command w = on-done_for (past_of (present c w)) c command w
 
 -- one step after the other
 on-fold : {X : Type 0} (f : World → X → World) (w : World) (xs : List X) → ((v : World) (x : X) → GoesTo v (f v x)) → GoesTo w (fold f w xs)
 on-fold f w [] goes = on-same w
 on-fold f w (x ∷ xs) goes = on-then w (f w x) (fold f (f w x) xs) (goes w x) (on-fold f (f w x) xs goes)
 
+on-act_all : (marks : List Mark) (c place : ℕ) (w : World) → GoesTo w (act_all marks c place w)
+unfolding act_all
+on-act_all marks c place w = on-fold _ w (enumerate_from 0 (due_of (present c w))) (λ v turn. on-take_step marks c (Taking place turn.0) (act c turn.1) v (on-act c turn.1 v))
+
 on-settle : (marks : List Mark) (c place : ℕ) (w : World) → GoesTo w (settle marks c place w)
 unfolding settle
-on-settle marks c place w = on-fold _ w (enumerate_from 0 (ready_in (present c w))) (λ v turn. on-take_step marks c (Doing place turn.0) (finish c turn.1) v (on-finish c turn.1 v))
+on-settle marks c place w = on-fold _ w (enumerate_from 0 (queue_of (present c w))) (λ v turn. on-take_step marks c (Doing place turn.0) (finish c turn.1) v (on-finish c turn.1 v))
 
 on-serve : (marks : List Mark) (c place : ℕ) (frame : Frame) (w : World) → GoesTo w (serve marks c place frame w)
 unfolding serve
 on-serve marks c place frame w =
-    let v = take_step marks c (Judging place) (judge c place frame) w in
-    let u = take_step marks c (Taking place 0) (λ u. u) v in
-    on-then w v (settle marks c place u) (on-take_step marks c (Judging place) (judge c place frame) w (on-judge c place frame w))
-    (on-then v u (settle marks c place u) (on-take_step marks c (Taking place 0) (λ u. u) v (on-same v)) (on-settle marks c place u))
+    let v = take_step marks c (Judging place) (judge c frame) w in
+    let u = act_all marks c place v in
+    on-then w v (settle marks c place u) (on-take_step marks c (Judging place) (judge c frame) w (on-judge c frame w))
+    (on-then v u (settle marks c place u) (on-act_all marks c place v) (on-settle marks c place u))
 
 -- ---- one event
 

@@ -1,10 +1,9 @@
 -- A Login request does to the World what it does to the code.
-use Rattle.std.proofs.Common.{filter, cond, ◌≡◌, ◌≢◌, ℕ, ◌+◌, ◌^◌, ◌%◌, ◌<◌, List, [], ◌∷◌, ◌++◌, length, get_or, Bool, true, ◌&&◌, eqb, Option, Some, None, refl, sym, ap, ◌∙◌, subst, arith, inl, inr}
+use Rattle.std.proofs.Common.{cond, ◌≡◌, ◌≢◌, ℕ, ◌+◌, ◌^◌, ◌%◌, ◌<◌, List, [], ◌∷◌, ◌++◌, length, get_or, Bool, true, ◌&&◌, eqb, Option, Some, None, refl, sym, ap, ◌∙◌, subst, arith, inl, inr}
 use Rattle.std.proofs.lemmas.Bool.{eqb-true, eq-eqb}
 use Rattle.std.proofs.lemmas.Bool.Decides.{eqb_tells}
 use Rattle.std.proofs.lemmas.List.{length-append, length-map, get_or-map, get_or-set_other}
 use Rattle.std.proofs.lemmas.List.Quantifiers.{position-Some}
-use Rattle.std.proofs.lemmas.List.Elements.{filter-append}
 use Rattle.iscsi_pdu.specs.Frames.{Frame}
 use Rattle.iscsi_pdu.specs.Answer.{spelling}
 use Rattle.iscsi_pdu.specs.declared.answer.Answer.{Answer}
@@ -14,18 +13,21 @@ use Rattle.scsi_unit.specs.Units.{UnitStates, join}
 use Rattle.iscsi_login.specs.Session.{is_of, older}
 use Rattle.iscsi_login.specs.Lookup.{Lookup}
 use Rattle.iscsi_login.specs.Login.{login, advanced, remembered, reply_of}
-use Rattle.iscsi_target.specs.Life.{bears_status, Life, Phase, LoggingIn, FullFeature, Closing, first_cmd_sn, stamp, out_of}
+use Rattle.iscsi_session.specs.Requests.{bears_status, bearing, begun as begun_past}
+use Rattle.iscsi_session.specs.State.{remembered as session_remembered}
+use Rattle.iscsi_target.specs.Life.{Life, Phase, LoggingIn, FullFeature, Closing, statuses, out_of}
 use Rattle.iscsi_target.specs.World.{Setting, World, is_present, present, changed, session_of, live, left, close, shut, changed_units, answered, asked, begun, end_older, requests_of, lookup_for, replied, log_in}
-use Rattle.iscsi_target.specs.Machine.{Machine, link_at, with_link, shut_link, session_in_phase, sessions, free_link, gone_on_link, refused_link, begun_link, shut_older, replied as machine_replied, logged_in, first_numbers}
+use Rattle.iscsi_target.specs.Machine.{Machine, link_at, with_link, shut_link, session_in_phase, sessions, free_link, gone_on_link, refused_link, begun_link, shut_older, replied as machine_replied, logged_in}
 use Rattle.iscsi_target.specs.Stands.{phase_for, IsQuiet, IsLogin, IsLinkOf}
 use Rattle.iscsi_login.specs.declared.params.Params.{Params}
 use Rattle.iscsi_login.specs.declared.reply.Reply.{Reply}
 use Rattle.iscsi_login.specs.declared.reply.Reply.TheVariants.{GoOn, Full, Refused}
 use Rattle.iscsi_target.specs.declared.phase.Phase.TheVariants as phases_of
+use Rattle.iscsi_session.proofs.Accepted.{begun_lawful}
 use Rattle.iscsi_target.proofs.Choices.{and_true}
 use Rattle.iscsi_target.proofs.Lives.{present-changed, present-changed_other, present-units, present_is}
-use Rattle.iscsi_target.proofs.Numbers.{out-answered, stamp-first}
-use Rattle.iscsi_target.proofs.Requests.{remembered-push, HasNumbers, begun_numbers}
+use Rattle.iscsi_target.proofs.Numbers.{bearing-append, out-answered, remembered-count}
+use Rattle.iscsi_target.proofs.Requests.{remembered-push, begun_number}
 use Rattle.iscsi_target.specs.Serving.{IsServing, Serves}
 use Rattle.iscsi_target.proofs.Serving.{phases, sessions_there, live_same, replaced, replaced_other, same_world, out_phase, says, closed_link, shut_present, session_same}
 
@@ -99,23 +101,18 @@ refuses c place bytes s sent w machine life request answer h =
 
 -- ---- the login goes on
 
-quiet_login : (place : ℕ) (life : Life) (phase : Phase) → phase ≡ LoggingIn → IsLogin life → IsQuiet place life phase
-quiet_login place life phase e h = let P : Phase → Type 0 = λ ph. IsQuiet place life ph in subst P (sym e) h
+quiet_login : (life : Life) (phase : Phase) → phase ≡ LoggingIn → IsLogin life → IsQuiet life phase
+quiet_login life phase e h = let P : Phase → Type 0 = λ ph. IsQuiet life ph in subst P (sym e) h
 
 out_same : (life : Life) (request : Frame) (answer : Answer) → out_of (answered answer (asked request life)) ≡ out_of life ++ spelling answer
 out_same life request answer = out-answered (asked request life) answer ∙ ap (λ (o : List ℕ). o ++ spelling answer) (out_asked life request)
 
-status_more : (life : Life) (answer : Answer) → bears_status answer ≡ true → length (filter bears_status (life.answers ++ answer ∷ [])) ≡ length (filter bears_status life.answers) + 1
-status_more life answer bears =
-    ap length (filter-append bears_status life.answers (answer ∷ [])) ∙ length-append (filter bears_status life.answers) (filter bears_status (answer ∷ []))
-    ∙ ap (λ (b : Bool). length (filter bears_status life.answers) + length (cond b (answer ∷ []) [])) bears
+status_more : (life : Life) (request : Frame) (answer : Answer) → bears_status answer ≡ true → IsLogin life → bearing (life.answers ++ answer ∷ []) ≡ length life.requests + 1
+status_more life request answer bears h =
+    bearing-append life.answers (answer ∷ []) ∙ ap (λ (b : Bool). bearing life.answers + length (cond b (answer ∷ []) [])) bears ∙ ap (λ (n : ℕ). n + 1) h
 
 one_more : (life : Life) (request : Frame) (answer : Answer) → bears_status answer ≡ true → IsLogin life → IsLogin (answered answer (asked request life))
-one_more life request answer bears h = record {
-  came = h.came;
-  finished = h.finished;
-  answered = status_more life answer bears ∙ ap (λ (n : ℕ). n + 1) h.answered ∙ sym (length-append life.requests (request ∷ []));
-}
+one_more life request answer bears h = status_more life request answer bears h ∙ sym (length-append life.requests (request ∷ []))
 
 goes_on : (c place : ℕ) (bytes : List ℕ) (s : Setting) (sent : ℕ → ℕ) (w : World) (machine : Machine) (life : Life) (request : Frame) (answer : Answer) → bears_status answer ≡ true → Entering c place bytes s sent w machine life
     → Serves c bytes s sent (changed (answered answer) c (changed (asked request) c w))
@@ -138,7 +135,7 @@ goes_on c place bytes s sent w machine life request answer bears h =
       phase = ap phases_of.Login (sym (remembered-push s.names (life.connection + 1) life.requests request)) ∙ sym (ap (phase_for s.names m) h.phase);
       answered = rw out (let le = here.answered in omega (arith, length-append (out_of life) x));
       waiting = rw out (says (sent c) (link_at machine c).waiting (out_of life) x here.answered here.waiting);
-      quiet = quiet_login (place + 1) m life.phase h.phase (one_more life request answer bears h.asked_so);
+      quiet = quiet_login m life.phase h.phase (one_more life request answer bears h.asked_so);
       held = here.held;
     })
 
@@ -175,15 +172,17 @@ has_older c place bytes s sent w machine life session d h e =
       at = other.1;
     }
 
--- the numbers of the session's first answer
-first_stamp : (life : Life) (request : Frame) (answer : Answer) (session : Params) → bears_status answer ≡ true → IsLogin life → HasNumbers ((length life.requests + 1) % 2 ^ 32) (first_cmd_sn (life.requests ++ request ∷ [])) session → stamp (begun session answer (asked request life)) ≡ first_numbers session
-first_stamp life request answer session bears h numbers =
-    let count : length (filter bears_status (life.answers ++ answer ∷ [])) ≡ length life.requests + 1 = status_more life answer bears ∙ ap (λ (n : ℕ). n + 1) h.answered in
-    stamp-first (begun session answer (asked request life)) session h.came h.finished (ap (λ (n : ℕ). n % 2 ^ 32) count ∙ sym numbers.stat) (sym numbers.first_is)
+-- what its session remembers at first
+first_told : (life : Life) (request : Frame) (answer : Answer) (session : Params) → bears_status answer ≡ true → IsLogin life → session.next_stat_sn ≡ (length life.requests + 1) % 2 ^ 32
+    → session_remembered session.next_stat_sn (begun_past session) ≡ session_remembered (statuses (begun session answer (asked request life))) (begun_past session)
+first_told life request answer session bears h next =
+    let count : bearing (life.answers ++ answer ∷ []) ≡ length life.requests + 1 = status_more life request answer bears h in
+    let same : (((length life.requests + 1) % 2 ^ 32) % 2 ^ 32) ≡ (length life.requests + 1) % 2 ^ 32 = omega arith in
+    remembered-count session.next_stat_sn (bearing (life.answers ++ answer ∷ [])) (begun_past session) (ap (λ (n : ℕ). n % 2 ^ 32) next ∙ same ∙ ap (λ (n : ℕ). n % 2 ^ 32) (sym count))
 
 -- the connection itself, before the older one is ended
 begins_here : (c place : ℕ) (bytes : List ℕ) (s : Setting) (sent : ℕ → ℕ) (w : World) (machine : Machine) (life : Life) (request : Frame) (answer : Answer) (session : Params) → bears_status answer ≡ true → Entering c place bytes s sent w machine life
-    → HasNumbers ((length life.requests + 1) % 2 ^ 32) (first_cmd_sn (life.requests ++ request ∷ [])) session
+    → session.next_stat_sn ≡ (length life.requests + 1) % 2 ^ 32
     → Serves c bytes s sent (record (changed (begun session answer) c (changed (asked request) c w)) { units = changed_units (join session.nexus) session.target w.units })
     (record (with_link machine c (begun_link session answer (link_at machine c))) { units = changed_units (join session.nexus) session.target machine.units })
 begins_here c place bytes s sent w machine life request answer session bears h numbers =
@@ -197,15 +196,15 @@ begins_here c place bytes s sent w machine life request answer session bears h n
     let at : present c v ≡ Some b = present-units c v (changed (begun session answer) c u) refl ∙ present-changed (begun session answer) c u l at_u is in
     let here : IsServing s.names bytes (sent c) (link_at machine c) (Some life) = rw h.at at h.serves.here in
     let x = spelling answer in
-    let out : out_of b ≡ out_of life ++ x = out_more life request answer (FullFeature session) in
+    let out : out_of b ≡ out_of life ++ x = out_more life request answer (FullFeature (begun_past session)) in
     replaced c place (place + 1) bytes s sent w v machine (changed_units (join session.nexus) session.target machine.units) (begun_link session answer (link_at machine c)) h.serves
     (ap (λ (us : List UnitStates). changed_units (join session.nexus) session.target us) (sym h.serves.units))
     (λ d differ. present-units d v (changed (begun session answer) c u) refl ∙ present-changed_other (begun session answer) c d u (λ k. refl) differ ∙ present-changed_other (asked request) c d w (λ k. refl) differ)
     (rw at record {
-      phase = ap (phases_of.FullFeature session) (sym (first_stamp life request answer session bears h.asked_so numbers));
+      phase = ap phases_of.FullFeature (first_told life request answer session bears h.asked_so numbers);
       answered = rw out (let le = here.answered in omega (arith, length-append (out_of life) x));
       waiting = rw out (says (sent c) (link_at machine c).waiting (out_of life) x here.answered here.waiting);
-      quiet = rw (h.asked_so.came, h.asked_so.finished) record { numbered = tt; finished = refl };
+      quiet = begun_lawful session;
       held = here.held;
     })
 
@@ -213,7 +212,7 @@ units_changed : (d : ℕ) (w : World) → (changed shut d w).units ≡ w.units
 unfolding changed
 units_changed d w = refl
 
-begins_with : (c place : ℕ) (bytes : List ℕ) (s : Setting) (sent : ℕ → ℕ) (w : World) (machine : Machine) (life : Life) (request : Frame) (answer : Answer) (session : Params) (o : Option ℕ) → bears_status answer ≡ true → Entering c place bytes s sent w machine life → HasNumbers ((length life.requests + 1) % 2 ^ 32) (first_cmd_sn (life.requests ++ request ∷ [])) session → older session (sessions machine.links) ≡ o
+begins_with : (c place : ℕ) (bytes : List ℕ) (s : Setting) (sent : ℕ → ℕ) (w : World) (machine : Machine) (life : Life) (request : Frame) (answer : Answer) (session : Params) (o : Option ℕ) → bears_status answer ≡ true → Entering c place bytes s sent w machine life → session.next_stat_sn ≡ (length life.requests + 1) % 2 ^ 32 → older session (sessions machine.links) ≡ o
     → Serves c bytes s sent (record (changed (begun session answer) c (end_older o (changed (asked request) c w))) { units = changed_units (join session.nexus) session.target w.units })
     (shut_older o (record (with_link machine c (begun_link session answer (link_at machine c))) { units = changed_units (join session.nexus) session.target machine.units }))
 begins_with c place bytes s sent w machine life request answer session None bears h numbers e = begins_here c place bytes s sent w machine life request answer session bears h numbers
@@ -268,7 +267,7 @@ replies c place bytes s sent w machine life lookup request (GoOn response) h e =
 replies c place bytes s sent w machine life lookup request (Refused response) h e = refuses c place bytes s sent w machine life request (answers.LoginResponse response) h
 replies c place bytes s sent w machine life lookup request (Full response session) h e =
     let answer : Answer = answers.LoginResponse response in
-    let numbers = begun_numbers s.names (life.connection + 1) life.requests lookup request response session e in
+    let numbers = begun_number s.names (life.connection + 1) life.requests lookup request response session e in
     rw (live_asked c place bytes s sent w machine life request h, units_asked c w request) (begins_with c place bytes s sent w machine life request answer session (older session (sessions machine.links)) refl h numbers refl)
 
 -- a Login request

@@ -3,14 +3,14 @@ use Rattle.std.proofs.Common.{◌≡◌, ◌≢◌, ℕ, ◌+◌, List, [], ◌�
 use Rattle.std.specs.List.{fold, enumerate_from}
 use Rattle.std.proofs.lemmas.Bool.{eqb-true, ne_eqb}
 use Rattle.iscsi_pdu.specs.Frames.{Frame}
+use Rattle.iscsi_session.specs.Requests.{Request}
 use Rattle.iscsi_target.specs.History.{Mark, Step, Judging, Taking, Doing, Ending, is_of, Arrival, Whole, TooLong}
 use Rattle.iscsi_target.specs.Life.{Life, Phase, LoggingIn, FullFeature, Closing, Over, reads}
-use Rattle.iscsi_target.specs.World.{Setting, World, present, reads_life, close, is_step, is_marked, take_step, judge, ready_in, settle, serve, enter, arrive, arrive_at, arrive_in}
+use Rattle.iscsi_target.specs.World.{Setting, World, present, reads_life, close, is_step, is_marked, take_step, judge, act, act_all, finish, settle, serve, due_of, queue_of, enter, arrive, arrive_at, arrive_in}
 use Rattle.iscsi_target.specs.Stands.{NamesFirst}
 use Rattle.iscsi_target.specs.Serving.{Unmarked, starved}
 use Rattle.iscsi_target.proofs.Choices.{eqb_self, cond_true, cond_false, and_false}
 use Rattle.iscsi_target.proofs.Serving.{present-close, step_idle, step_marked}
-use Rattle.iscsi_target.proofs.Acting.{idle_settle}
 
 pub unmarked_plain : (c place : ℕ) → Unmarked [] c place
 unfolding is_marked
@@ -69,20 +69,34 @@ idle_all s marks c place w [] r = refl
 idle_all s marks c place w (arrival ∷ all) r =
     ap (λ (v : World). fold (arrive s marks c) v (enumerate_from (place + 1) all)) (idle s marks c place w arrival r) ∙ idle_all s marks c (place + 1) w all r
 
+-- nor do the steps of a frame
+idle_turns : (marks : List Mark) (c : ℕ) (step : ℕ → Step) (act_on : Request → World → World) (w : World) (turns : List (ℕ × Request)) → reads_life (present c w) ≡ false
+    → fold (λ v turn. take_step marks c (step turn.0) (act_on turn.1) v) w turns ≡ w
+idle_turns marks c step act_on w [] r = refl
+idle_turns marks c step act_on w (turn ∷ turns) r =
+    ap (λ (v : World). fold (λ u t. take_step marks c (step t.0) (act_on t.1) u) v turns) (step_idle marks c (step turn.0) (act_on turn.1) w r) ∙ idle_turns marks c step act_on w turns r
+
+pub idle_acts : (marks : List Mark) (c place : ℕ) (w : World) → reads_life (present c w) ≡ false → act_all marks c place w ≡ w
+unfolding act_all
+idle_acts marks c place w r = idle_turns marks c (Taking place) (act c) w (enumerate_from 0 (due_of (present c w))) r
+
+pub idle_settle : (marks : List Mark) (c place : ℕ) (w : World) → reads_life (present c w) ≡ false → settle marks c place w ≡ w
+unfolding settle
+idle_settle marks c place w r = idle_turns marks c (Doing place) (finish c) w (enumerate_from 0 (queue_of (present c w))) r
+
 -- ---- an allocation that failed before a frame was judged closes the connection, whatever was to come
 
 pub closed_reads : (c : ℕ) (w : World) (life : Life) → present c w ≡ Some life → reads_life (present c (close c w)) ≡ false
 closed_reads c w life e = ap reads_life (present-close c w life e)
 
 starved_serve : (c place : ℕ) (frame : Frame) (w : World) (life : Life) → present c w ≡ Some life → reads_life (present c w) ≡ true → serve (starved c (Judging place)) c place frame w ≡ close c w
-unfolding serve settle
+unfolding serve
 starved_serve c place frame w life e r =
     let marks = starved c (Judging place) in
     let shut_ = closed_reads c w life e in
-    let judged_ = step_marked marks c (Judging place) (judge c place frame) w r (marked_there c place) in
-    ap (λ (v : World). settle marks c place (take_step marks c (Taking place 0) (λ u. u) v)) judged_
-    ∙ ap (settle marks c place) (step_idle marks c (Taking place 0) (λ u. u) (close c w) shut_)
-    ∙ idle_settle marks c place 0 (ready_in (present c (close c w))) (close c w) shut_
+    ap (λ (v : World). settle marks c place (act_all marks c place v)) (step_marked marks c (Judging place) (judge c frame) w r (marked_there c place))
+    ∙ ap (settle marks c place) (idle_acts marks c place (close c w) shut_)
+    ∙ idle_settle marks c place (close c w) shut_
 
 starved_in : (s : Setting) (c place : ℕ) (w : World) (life : Life) (arrival : Arrival) (ph : Phase) → present c w ≡ Some life → reads_life (present c w) ≡ true → reads ph ≡ true → arrive_in s (starved c (Judging place)) c w place arrival ph ≡ close c w
 starved_in s c place w life (Whole frame) LoggingIn e r q = step_marked (starved c (Judging place)) c (Judging place) (enter s c frame) w r (marked_there c place)

@@ -11,6 +11,7 @@ use Rattle.iscsi_target.specs.World.{Setting, World, is_present, present, change
 use Rattle.iscsi_target.specs.Machine.{LinkState, Machine, link_at, shut_link, closed, session_in_phase, sessions, free_link}
 use Rattle.iscsi_target.specs.Stands.{phase_of, phase_for, IsLinkOf}
 use Rattle.iscsi_target.specs.Serving.{IsServing, Serves}
+use Rattle.iscsi_session.specs.State.{remembered}
 use Rattle.iscsi_login.specs.declared.params.Params.{Params}
 use Rattle.iscsi_target.proofs.Choices.{and_true}
 use Rattle.iscsi_target.proofs.Lives.{present-changed, present-changed_other, present-units, present_is}
@@ -18,6 +19,7 @@ use Rattle.iscsi_target.proofs.Lives.{present-changed, present-changed_other, pr
 -- ---- what is remembered of a phase
 
 pub session_same_in : (names : List (List ℕ)) (life : Life) (phase : Phase) → session_in_phase (phase_for names life phase) ≡ session_in phase
+unfolding remembered
 session_same_in names life LoggingIn = refl
 session_same_in names life (FullFeature session) = refl
 session_same_in names life Closing = refl

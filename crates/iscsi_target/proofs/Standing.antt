@@ -32,11 +32,7 @@ stands_as s sent machine history h v e at =
 
 -- ---- between two events, and while frames are taken
 
-abbrev pub place_in : Option Life → ℕ
-place_in None = 0
-place_in (Some life) = length (arrivals life.bytes)
-
-quiet_now : (names : List (List ℕ)) (o : Option Life) (sent : ℕ) (link : LinkState) → IsLinkOf names sent link o → IsQuietAt (place_in o) o
+quiet_now : (names : List (List ℕ)) (o : Option Life) (sent : ℕ) (link : LinkState) → IsLinkOf names sent link o → IsQuietAt o
 quiet_now names None sent link h = tt
 quiet_now names (Some life) sent link h = h.settled.quiet
 
@@ -156,7 +152,7 @@ born_link names c = record {
   answered = omega arith;
   waiting = rw (no_answers c) refl;
   settled = record {
-    quiet = record { came = refl; finished = refl; answered = refl };
+    quiet = refl;
     short = λ e. rw (rest_none [] no_frame) nothing_long;
   };
 }

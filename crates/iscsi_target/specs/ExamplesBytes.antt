@@ -10,9 +10,11 @@ use Rattle.scsi_unit.specs.Unit.{free_unit, commanded, perform_at, lun_number}
 use Rattle.scsi_unit.specs.Units.{perform, join, leave}
 use Rattle.iscsi_login.specs.ExamplesLogin.{computed as login_computed}
 use Rattle.iscsi_login.specs.Session.{older}
-use Rattle.iscsi_target.specs.Life.{Life, reads, taken, stamp, index_of, ready, out_of}
-use Rattle.iscsi_target.specs.Acts.{is_login, verdict, carried_out, data_answers, scsi_answer}
-use Rattle.iscsi_target.specs.World.{Setting, present, changed, live, changed_units, close, end, is_marked, take_step, log_in, judge, finish, settle, serve, arrive, bring, world}
+use Rattle.iscsi_session.specs.Examples.{computed as session_computed}
+use Rattle.iscsi_session.specs.Answers.{data_answers, scsi_answer}
+use Rattle.iscsi_target.specs.Life.{Life, reads, out_of}
+use Rattle.iscsi_target.specs.Acts.{is_login, carried_out}
+use Rattle.iscsi_target.specs.World.{Setting, present, changed, live, changed_units, close, end, is_marked, take_step, log_in, judge, act, act_all, finish, settle, serve, arrive, bring, world}
 use Rattle.iscsi_target.specs.Output.{outputs}
 
 -- ---- what the target is made with
@@ -34,7 +36,7 @@ are_read s history = map (λ (life : Life). reads life.phase) (world s history).
 
 -- what an example unfolds
 unfoldable pub computed : Bool
-unfolding frames rest has_frame is_long first_frame frame_length login_computed arrivals new_arrivals perform perform_at commanded told told_before without_unit lun_number join leave older taken stamp index_of ready out_of is_login verdict carried_out data_answers scsi_answer present changed live changed_units close end is_marked take_step log_in judge finish settle serve arrive bring world outputs
+unfolding frames rest has_frame is_long first_frame frame_length login_computed arrivals new_arrivals perform perform_at commanded told told_before without_unit lun_number join leave older session_computed data_answers scsi_answer out_of is_login carried_out present changed live changed_units close end is_marked take_step log_in judge act act_all finish settle serve arrive bring world outputs
 computed = true
 
 -- ---- Login requests (RFC 7143 §11.12)

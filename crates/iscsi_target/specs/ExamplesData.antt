@@ -10,7 +10,7 @@ use Rattle.iscsi_pdu.specs.declared.scsi_response.Residual.{Residual}
 use Rattle.iscsi_pdu.specs.declared.scsi_response.Residual.TheVariants as residuals
 use Rattle.iscsi_login.specs.Values.{default_values}
 use Rattle.iscsi_login.specs.declared.values.Values.{Values}
-use Rattle.iscsi_target.specs.Acts.{command_answers, data_answers, scsi_answer}
+use Rattle.iscsi_session.specs.Answers.{command_answers, data_answers, scsi_answer}
 
 -- a SCSI Command with byte 1, tag 7, and the last two bytes of its Expected Data Transfer Length
 abbrev command : ℕ → ℕ → ℕ → Frame
