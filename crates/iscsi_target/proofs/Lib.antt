@@ -7,6 +7,7 @@ pub mod Served
 pub mod Numbers
 pub mod Requests
 pub mod Serving
+pub mod SessionSteps
 pub mod FrameTaken
 pub mod LoggingIn
 pub mod Acting
