@@ -8,6 +8,7 @@ pub mod Numbers
 pub mod Requests
 pub mod Serving
 pub mod SessionSteps
+pub mod Turns
 pub mod FrameTaken
 pub mod LoggingIn
 pub mod Acting

@@ -243,7 +243,17 @@ acts_one c given a new inside acts = λ sound s sent w bytes h.
 
 -- ---- a command is done
 
-finish_is : (c : ℕ) (command : Request) (w : World) (past : Past) → past_of (present c w) ≡ Some past → finish c command w ≡ done_for (Some past) c command w
+abbrev pub done_life : World → Request → Past → Life → Life
+done_life w command past life =
+    let p = carried_out (slice_index_or w.units past.params.target []) past.params.nexus command.frame in
+    goes_on (finished command past) (command_answers (stamp (statuses life) (finished command past)) past.params.values command.frame p.1) life
+
+abbrev pub done_world : ℕ → World → Request → Past → World
+done_world c w command past =
+    let p = carried_out (slice_index_or w.units past.params.target []) past.params.nexus command.frame in
+    record (changed (done_life w command past) c w) { units = slice_set w.units past.params.target p.0 }
+
+pub finish_is : (c : ℕ) (command : Request) (w : World) (past : Past) → past_of (present c w) ≡ Some past → finish c command w ≡ done_world c w command past
 unfolding finish
 finish_is c command w past e = ap (λ (o : Option Past). done_for o c command w) e
 
@@ -270,10 +280,9 @@ finishes_by (command ∷ others) c w bytes s sent given more new after l h f =
     (let P : List UnitStates → Type 0 = λ us. FinishesTo (command ∷ others) (statuses l.life) past more (link_at given c) new us after in subst P h.units f) in
     let p = carried_out (slice_index_or w.units past.params.target []) past.params.nexus command.frame in
     let over = finished command past in
-    let given_back : Life → Life = λ life. goes_on over (command_answers (stamp (statuses life) over) past.params.values command.frame p.1) life in
-    let v : World = record (changed given_back c w) { units = slice_set w.units past.params.target p.0 } in
+    let v : World = done_world c w command past in
     let world : finish c command w ≡ v = finish_is c command w past (live_past c w (link_at given c) l) in
-    let g : GoesOn c w v l.life over (command_answers (stamp (statuses l.life) over) past.params.values command.frame p.1) = record { f = given_back; stays = λ life. refl; is = refl; lives = refl } in
+    let g : GoesOn c w v l.life over (command_answers (stamp (statuses l.life) over) past.params.values command.frame p.1) = record { f = done_life w command past; stays = λ life. refl; is = refl; lives = refl } in
     (v, (there.0, sym world), steps_on c bytes s sent w v given l.life _ _ new after h l.at g (sym there.1) there.2)
 
 pub finishes_one : (c : ℕ) (given : Machine) (more : Bool) (new : LinkState) (after : List UnitStates) → is_in_session (link_at given c).phase ≡ true → (All AreSound after → FinishesOn (link_at given c) more new given.units after)
