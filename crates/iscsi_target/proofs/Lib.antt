@@ -7,6 +7,9 @@ pub mod Served
 pub mod Numbers
 pub mod Requests
 pub mod Serving
+pub mod SessionSteps
+pub mod Turns
+pub mod FrameServed
 pub mod FrameTaken
 pub mod LoggingIn
 pub mod Acting
