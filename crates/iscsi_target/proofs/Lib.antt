@@ -21,6 +21,8 @@ pub mod Feeding
 pub mod Starving
 pub mod Halves
 pub mod FrameOpens
+pub mod Staying
+pub mod AllTurns
 pub mod OneFrame
 pub mod Tables
 pub mod Keeping

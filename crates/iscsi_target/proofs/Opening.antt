@@ -26,7 +26,7 @@ half_opens machine c half lt d = open_set machine machine.units c (record (link_
 pub reading_is_open : (phase : Phase) → is_reading phase ≡ true → is_free phase ≡ false
 reading_is_open phases.Free e = absurd cc
 reading_is_open (phases.Login login) e = refl
-reading_is_open (phases.FullFeature session numbers) e = refl
+reading_is_open (phases.FullFeature session) e = refl
 reading_is_open phases.Closing e = absurd cc
 
 -- a connection that is open and closes stays open until it is gone
