@@ -44,9 +44,9 @@ pub with_half : (machine : Machine) (c : ℕ) (half : List ℕ) → c < length m
 with_half machine c half lt = get_or-set_same machine.links c (record (link_at machine c) { half = half }) free_link lt
 
 -- of the connection's bytes fewer are kept
-pub rehalved : (c place : ℕ) (bytes : List ℕ) (s : Setting) (sent : ℕ → ℕ) (w : World) (machine : Machine) (half : List ℕ) → Serves c bytes s sent w machine → Serves c bytes s sent w (with_link machine c (record (link_at machine c) { half = half }))
-rehalved c place bytes s sent w machine half h =
-    replaced c place place bytes s sent w w machine machine.units (record (link_at machine c) { half = half }) h (sym h.units) (λ d differ. refl)
+pub rehalved : (c : ℕ) (bytes : List ℕ) (s : Setting) (sent : ℕ → ℕ) (w : World) (machine : Machine) (half : List ℕ) → Serves c bytes s sent w machine → Serves c bytes s sent w (with_link machine c (record (link_at machine c) { half = half }))
+rehalved c bytes s sent w machine half h =
+    replaced c 0 0 bytes s sent w w machine machine.units (record (link_at machine c) { half = half }) h (sym h.units) (λ d differ. refl)
     (record { phase = h.here.phase; answered = h.here.answered; waiting = h.here.waiting; quiet = h.here.quiet; held = h.here.held })
 
 pub one_further : (done : List Frame) (frame : Frame) → length (done ++ frame ∷ []) ≡ length done + 1
@@ -59,8 +59,8 @@ fold_further s marks c place w done frame =
     ∙ fold-places (arrive s marks c) w place (map Whole done) (Whole frame ∷ [])
     ∙ ap (λ (n : ℕ). arrive s marks c (fold (arrive s marks c) w (enumerate_from place (map Whole done))) (place + n, Whole frame)) (length-map done Whole)
 
-pub subst_machine : (c place : ℕ) (bytes : List ℕ) (s : Setting) (sent : ℕ → ℕ) (w : World) (a b : Machine) → a ≡ b → Serves c bytes s sent w a → Serves c bytes s sent w b
-subst_machine c place bytes s sent w a b e h = let P : Machine → Type 0 = λ m. Serves c bytes s sent w m in subst P e h
+pub subst_machine : (c : ℕ) (bytes : List ℕ) (s : Setting) (sent : ℕ → ℕ) (w : World) (a b : Machine) → a ≡ b → Serves c bytes s sent w a → Serves c bytes s sent w b
+subst_machine c bytes s sent w a b e h = let P : Machine → Type 0 = λ m. Serves c bytes s sent w m in subst P e h
 
 -- one more frame
 pub goes_on : (c : ℕ) (first machine given after : Machine) (frame : Frame) → c < length machine.links → Progress c first machine → is_reading (link_at machine c).phase ≡ true
@@ -80,7 +80,7 @@ goes_on c first machine given after frame lt p r gives is taken =
       stands = λ sound s sent w place bytes marks un h.
           (let before = p.stands (sound_as given _ is (taken.back sound)) s sent w place bytes marks (λ q below. un q (omega (arith, one_further p.done frame))) h in
           let v = fold (arrive s marks c) w (enumerate_from place (map Whole p.done)) in
-          let again : Serves c bytes s sent v given = subst_machine c (place + length p.done) bytes s sent v _ given (sym is) (rehalved c (place + length p.done) bytes s sent v machine (link_at given c).half before) in
+          let again : Serves c bytes s sent v given = subst_machine c bytes s sent v _ given (sym is) (rehalved c bytes s sent v machine (link_at given c).half before) in
           let next = taken.stands sound s sent v (place + length p.done) bytes marks (un (place + length p.done) (omega (arith, one_further p.done frame))) again in
           rw (fold_further s marks c place w p.done frame) next);
     }

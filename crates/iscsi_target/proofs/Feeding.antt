@@ -39,8 +39,8 @@ pub some_reads : (o : Option Life) → reads_life o ≡ true → (life : Life) �
 some_reads None e = absurd cc
 some_reads (Some life) e = (life, refl, e)
 
-pub reads_there : (c place : ℕ) (bytes : List ℕ) (s : Setting) (sent : ℕ → ℕ) (w : World) (machine : Machine) → Serves c bytes s sent w machine → is_reading (link_at machine c).phase ≡ reads_life (present c w)
-reads_there c place bytes s sent w machine h = ap is_reading h.here.phase ∙ reading_same s.names (present c w)
+pub reads_there : (c : ℕ) (bytes : List ℕ) (s : Setting) (sent : ℕ → ℕ) (w : World) (machine : Machine) → Serves c bytes s sent w machine → is_reading (link_at machine c).phase ≡ reads_life (present c w)
+reads_there c bytes s sent w machine h = ap is_reading h.here.phase ∙ reading_same s.names (present c w)
 
 -- a step that no mark names, and that does nothing
 nothing_by : (b : Bool) (c : ℕ) (step : Step) (w : World) → reads_life (present c w) ≡ b → take_step [] c step (λ v. v) w ≡ w
@@ -64,8 +64,8 @@ half_idle : (o : Option Life) → reads_life o ≡ false → half_of o ≡ []
 half_idle None r = refl
 half_idle (Some life) r = cond_false (reads life.phase) (rest life.bytes) [] r
 
-pub idle_stands : (c place : ℕ) (bytes : List ℕ) (s : Setting) (sent : ℕ → ℕ) (w : World) (machine : Machine) → Serves c bytes s sent w machine → reads_life (present c w) ≡ false → (link_at machine c).half ≡ [] → StandsAt s sent w machine
-idle_stands c place bytes s sent w machine h r half = stands_from c place bytes s sent w machine h (record {
+pub idle_stands : (c : ℕ) (bytes : List ℕ) (s : Setting) (sent : ℕ → ℕ) (w : World) (machine : Machine) → Serves c bytes s sent w machine → reads_life (present c w) ≡ false → (link_at machine c).half ≡ [] → StandsAt s sent w machine
+idle_stands c bytes s sent w machine h r half = stands_from c bytes s sent w machine h (record {
   phase = h.here.phase;
   half = half ∙ sym (half_idle (present c w) r);
   answered = h.here.answered;
@@ -74,10 +74,10 @@ idle_stands c place bytes s sent w machine h r half = stands_from c place bytes 
 })
 
 -- one that was closed
-pub closed_stands : (c place : ℕ) (bytes : List ℕ) (s : Setting) (sent : ℕ → ℕ) (w : World) (machine : Machine) (life : Life) → Serves c bytes s sent w machine → present c w ≡ Some life → StandsAt s sent (close c w) (closed machine c)
-closed_stands c place bytes s sent w machine life h e =
+pub closed_stands : (c : ℕ) (bytes : List ℕ) (s : Setting) (sent : ℕ → ℕ) (w : World) (machine : Machine) (life : Life) → Serves c bytes s sent w machine → present c w ≡ Some life → StandsAt s sent (close c w) (closed machine c)
+closed_stands c bytes s sent w machine life h e =
     let half : (link_at (closed machine c) c).half ≡ [] = ap (λ (l : LinkState). l.half) (closed_link_at machine c (omega (arith, h.count, h.in_range))) in
-    idle_stands c place bytes s sent (close c w) (closed machine c) (closes c place place bytes s sent w machine life h e) (ap reads_life (present-close c w life e)) half
+    idle_stands c bytes s sent (close c w) (closed machine c) (closes c 0 0 bytes s sent w machine life h e) (ap reads_life (present-close c w life e)) half
 
 -- ---- the event
 
@@ -110,9 +110,9 @@ quiet_longer life piece (FullFeature session) h = h
 quiet_longer life piece Closing h = tt
 quiet_longer life piece Over h = tt
 
-serves_with : (c place : ℕ) (bytes : List ℕ) (s : Setting) (sent : ℕ → ℕ) (w v : World) (machine : Machine) (link : LinkState) → c < connection_limit → StandsAt s sent w machine → v.units ≡ w.units
+serves_with : (c : ℕ) (bytes : List ℕ) (s : Setting) (sent : ℕ → ℕ) (w v : World) (machine : Machine) (link : LinkState) → c < connection_limit → StandsAt s sent w machine → v.units ≡ w.units
     → ((d : ℕ) → d ≢ c → present d v ≡ present d w) → IsServing s.names bytes (sent c) link (present c v) → Serves c bytes s sent v (with_link machine c link)
-serves_with c place bytes s sent w v machine link lt h u other here =
+serves_with c bytes s sent w v machine link lt h u other here =
     let there : get_or (set machine.links c link) c free_link ≡ link = get_or-set_same machine.links c link free_link (omega (arith, h.count)) in
     record {
       names = h.names;
@@ -131,10 +131,9 @@ pub longer_serves : (c : ℕ) (s : Setting) (sent : ℕ → ℕ) (w : World) (ma
 unfolding changed
 longer_serves c s sent w machine life piece half lt h at =
     let v = changed (longer piece) c w in
-    let place = length (arrivals life.bytes) in
     let at_v : present c v ≡ Some (longer piece life) = present-changed (longer piece) c w life at (present_is c w life at) in
     let link : IsLinkOf s.names (sent c) (link_at machine c) (Some life) = rw at at (h.links c lt) in
-    serves_with c place (life.bytes ++ piece) s sent w v machine (record (link_at machine c) { half = half }) lt h refl
+    serves_with c (life.bytes ++ piece) s sent w v machine (record (link_at machine c) { half = half }) lt h refl
     (λ d differ. present-changed_other (longer piece) c d w (λ l. refl) differ)
     (rw at_v record {
       phase = link.phase ∙ sym (phase_longer s.names life piece life.phase);
@@ -213,11 +212,11 @@ ends_whole c s sent machine now history piece lt h r p sound reads_now none shor
     let e : bring s [] c piece w ≡ v = brings c s sent w machine now piece [] f p
     ∙ ap (λ (l : List Arrival). take_step [] c Ending (λ u. u) (fold (arrive s [] c) v (enumerate_from (place + length p.done) l))) nothing
     ∙ nothing_by (reads_life (present c v)) c Ending v refl in
-    let reads_v : reads_life (present c v) ≡ true = sym (reads_there c _ _ s sent v now serves) ∙ reads_now in
+    let reads_v : reads_life (present c v) ≡ true = sym (reads_there c _ s sent v now serves) ∙ reads_now in
     let there = some_reads (present c v) reads_v in
     let here : IsServing s.names (f.life.bytes ++ piece) (sent c) (link_at now c) (Some there.0) = rw there.1 at serves.here in
     let behind : rest there.0.bytes ≡ p.more = ap rest here.held ∙ rest_in_pieces f.life.bytes piece ∙ ap rest (sym (first_half c s sent w machine piece f)) ∙ p.behind ∙ rest_none p.more none_ in
-    stands_as s sent now history (plain (Bytes c piece)) v e (stands_from c _ _ s sent v now serves (rw there.1 record {
+    stands_as s sent now history (plain (Bytes c piece)) v e (stands_from c _ s sent v now serves (rw there.1 record {
       phase = here.phase;
       half = half ∙ sym behind ∙ sym (cond_true (reads there.0.phase) (rest there.0.bytes) [] there.2);
       answered = here.answered;
@@ -234,11 +233,11 @@ ends_closed c s sent machine now history piece lt h r p sound closed_now =
     let place = length (arrivals f.life.bytes) in
     let v = so_far s [] c place (changed (longer piece) c w) p.done in
     let serves = serves_so_far c s sent w machine now piece [] f p sound (λ q below. unmarked_plain c q) in
-    let reads_v : reads_life (present c v) ≡ false = sym (reads_there c _ _ s sent v now serves) ∙ closed_now in
+    let reads_v : reads_life (present c v) ≡ false = sym (reads_there c _ s sent v now serves) ∙ closed_now in
     let e : bring s [] c piece w ≡ v = brings c s sent w machine now piece [] f p
     ∙ ap (take_step [] c Ending (λ u. u)) (idle_all s [] c (place + length p.done) v (left_over p.more (is_long (rest p.more))) reads_v)
     ∙ step_idle [] c Ending (λ u. u) v reads_v in
-    stands_as s sent now history (plain (Bytes c piece)) v e (idle_stands c _ _ s sent v now serves reads_v (p.kept.idle closed_now))
+    stands_as s sent now history (plain (Bytes c piece)) v e (idle_stands c _ s sent v now serves reads_v (p.kept.idle closed_now))
 
 too_long : (s : Setting) (c place : ℕ) (w : World) (life : Life) → present c w ≡ Some life → reads life.phase ≡ true → arrive s [] c w (place, TooLong) ≡ close c w
 unfolding arrive
@@ -258,17 +257,17 @@ ends_long c s sent machine now history piece lt h r p sound reads_now long =
     let none_ : has_frame p.more ≡ false = long_is_no_frame p.more long_ in
     let long_rest : is_long (rest p.more) ≡ true = ap is_long (rest_none p.more none_) ∙ long_ in
     let one : left_over p.more (is_long (rest p.more)) ≡ TooLong ∷ [] = ap (λ (l : List Frame). map Whole l ++ long_end (is_long (rest p.more))) (frames_none p.more none_) ∙ ap long_end long_rest in
-    let there = some_reads (present c v) (sym (reads_there c _ _ s sent v now serves) ∙ reads_now) in
+    let there = some_reads (present c v) (sym (reads_there c _ s sent v now serves) ∙ reads_now) in
     let shut_ : reads_life (present c (close c v)) ≡ false = ap reads_life (present-close c v there.0 there.1) in
     let e : bring s [] c piece w ≡ close c v = brings c s sent w machine now piece [] f p
     ∙ ap (λ (l : List Arrival). take_step [] c Ending (λ u. u) (fold (arrive s [] c) v (enumerate_from (place + length p.done) l))) one
     ∙ ap (take_step [] c Ending (λ u. u)) (too_long s c (place + length p.done) v there.0 there.1 there.2)
     ∙ step_idle [] c Ending (λ u. u) (close c v) shut_ in
-    stands_as s sent (closed now c) history (plain (Bytes c piece)) (close c v) e (closed_stands c _ _ s sent v now there.0 serves there.1)
+    stands_as s sent (closed now c) history (plain (Bytes c piece)) (close c v) e (closed_stands c _ s sent v now there.0 serves there.1)
 
 -- a link that is written as it is
-pub same_link : (c place : ℕ) (bytes : List ℕ) (s : Setting) (sent : ℕ → ℕ) (w : World) (machine : Machine) → c < length machine.links → Serves c bytes s sent w (with_link machine c (record (link_at machine c) { half = (link_at machine c).half })) → Serves c bytes s sent w machine
-same_link c place bytes s sent w machine lt h =
+pub same_link : (c : ℕ) (bytes : List ℕ) (s : Setting) (sent : ℕ → ℕ) (w : World) (machine : Machine) → c < length machine.links → Serves c bytes s sent w (with_link machine c (record (link_at machine c) { half = (link_at machine c).half })) → Serves c bytes s sent w machine
+same_link c bytes s sent w machine lt h =
     let P : List LinkState → Type 0 = λ links. Serves c bytes s sent w (record machine { links = links }) in
     subst P (set-get_or machine.links c free_link) h
 
@@ -304,10 +303,10 @@ ends_idle c s sent machine history piece lt h open_ r =
     let at : present c v ≡ Some (longer piece there.0) = present-changed (longer piece) c w there.0 there.1 (present_is c w there.0 there.1) in
     let idle_ : reads there.0.phase ≡ false = sym (reading_in s.names there.0 there.0.phase) ∙ ap is_reading (sym link.phase) ∙ r in
     let reads_v : reads_life (present c v) ≡ false = ap reads_life at ∙ idle_ in
-    let serves : Serves c (there.0.bytes ++ piece) s sent v machine = same_link c _ (there.0.bytes ++ piece) s sent v machine (omega (arith, h.count, lt)) (longer_serves c s sent w machine there.0 piece (link_at machine c).half lt h there.1) in
+    let serves : Serves c (there.0.bytes ++ piece) s sent v machine = same_link c (there.0.bytes ++ piece) s sent v machine (omega (arith, h.count, lt)) (longer_serves c s sent w machine there.0 piece (link_at machine c).half lt h there.1) in
     let e : bring s [] c piece w ≡ v =
     ap (take_step [] c Ending (λ u. u)) (idle_places s [] c v (brought (present c w) piece) reads_v) ∙ step_idle [] c Ending (λ u. u) v reads_v in
-    stands_as s sent machine history (plain (Bytes c piece)) v e (idle_stands c _ _ s sent v machine serves reads_v (link.half ∙ half_idle (Some there.0) idle_))
+    stands_as s sent machine history (plain (Bytes c piece)) v e (idle_stands c _ s sent v machine serves reads_v (link.half ∙ half_idle (Some there.0) idle_))
 
 -- an empty piece
 pub ends_empty : (c : ℕ) (s : Setting) (sent : ℕ → ℕ) (machine : Machine) (history : History) (piece : List ℕ) → c < connection_limit → Stands s sent machine history → is_open_at machine c ≡ true → piece ≡ []

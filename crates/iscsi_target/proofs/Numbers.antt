@@ -1,12 +1,11 @@
 -- The answers of a life, some further on.
-use Rattle.std.proofs.Common.{◌≡◌, ℕ, ◌+◌, List, [], ◌∷◌, ◌++◌, length, ap, ◌∙◌}
+use Rattle.std.proofs.Common.{◌≡◌, ℕ, ◌+◌, ◌^◌, ◌%◌, List, [], ◌∷◌, ◌++◌, length, ap, ◌∙◌}
 use Rattle.std.specs.Prelude.{filter, flat_map}
 use Rattle.std.proofs.lemmas.List.{append-nil, length-append}
 use Rattle.std.proofs.lemmas.List.Elements.{filter-append}
 use Rattle.std.proofs.lemmas.Grind.{flat_map-append}
 use Rattle.iscsi_pdu.specs.Answer.{spelling}
 use Rattle.iscsi_pdu.specs.declared.answer.Answer.{Answer}
-use Rattle.iscsi_order.specs.Stat.{stat_sn}
 use Rattle.iscsi_session.specs.Requests.{Past, bears_status, bearing}
 use Rattle.iscsi_session.specs.State.{remembered}
 use Rattle.iscsi_target.specs.Life.{Life, statuses, out_of}
@@ -31,6 +30,6 @@ out-answered life answer = flat_map-append spelling life.answers (answer ∷ [])
 -- ---- what a session remembers
 
 -- only the StatSN of its next answer is remembered
-pub remembered-count : (m n : ℕ) (past : Past) → stat_sn m ≡ stat_sn n → remembered m past ≡ remembered n past
+pub remembered-count : (m n : ℕ) (past : Past) → m % 2 ^ 32 ≡ n % 2 ^ 32 → remembered m past ≡ remembered n past
 unfolding remembered
 remembered-count m n past e = ap (λ (k : ℕ). record (remembered n past) { stat = k }) e

@@ -48,8 +48,8 @@ serving c s sent w machine lt h =
       others = λ d below differ. h.links d below;
     }
 
-pub stands_from : (c place : ℕ) (bytes : List ℕ) (s : Setting) (sent : ℕ → ℕ) (w : World) (machine : Machine) → Serves c bytes s sent w machine → IsLinkOf s.names (sent c) (link_at machine c) (present c w) → StandsAt s sent w machine
-stands_from c place bytes s sent w machine h here = record {
+pub stands_from : (c : ℕ) (bytes : List ℕ) (s : Setting) (sent : ℕ → ℕ) (w : World) (machine : Machine) → Serves c bytes s sent w machine → IsLinkOf s.names (sent c) (link_at machine c) (present c w) → StandsAt s sent w machine
+stands_from c bytes s sent w machine h here = record {
   names = h.names;
   units = h.units;
   count = h.count;

@@ -51,21 +51,21 @@ ends_starved c s sent machine now history piece lt h r p sound reads_now next =
     let marks = starved c (Judging q) in
     let v = so_far s marks c place (changed (longer piece) c w) p.done in
     let serves = serves_so_far c s sent w machine now piece marks f p sound (λ k below. unmarked_before c k q (Judging q) (λ same. let lt_ : k < q = below in omega arith) (eqb_self q)) in
-    let there = some_reads (present c v) (sym (reads_there c _ _ s sent v now serves) ∙ reads_now) in
+    let there = some_reads (present c v) (sym (reads_there c _ s sent v now serves) ∙ reads_now) in
     let e : bring s marks c piece w ≡ close c v = brings c s sent w machine now piece marks f p ∙ starved_rest s c q v there.0 (left_over p.more (is_long (rest p.more))) there.1 there.2 in
     let is : IsStarved c (Some f.life) piece marks = record { place = q; first = names_first c q (Judging q) (eqb_self q); reached = inr (reaches c s sent w machine now piece f p reads_now next) } in
-    (marks, rw f.at is, stands_as s sent (closed now c) history (marked marks (Bytes c piece)) (close c v) e (closed_stands c _ _ s sent v now there.0 serves there.1))
+    (marks, rw f.at is, stands_as s sent (closed now c) history (marked marks (Bytes c piece)) (close c v) e (closed_stands c _ s sent v now there.0 serves there.1))
 
 -- a connection that was closed keeps no bytes, and reads none
 record IsShut (c : ℕ) (w : World) (machine : Machine) : Type 0 where
   idle : reads_life (present c w) ≡ false
   half : (link_at machine c).half ≡ []
 
-is_shut : (c place : ℕ) (bytes : List ℕ) (s : Setting) (sent : ℕ → ℕ) (w : World) (machine : Machine) → Serves c bytes s sent w (closed machine c) → IsShut c w (closed machine c)
-is_shut c place bytes s sent w machine h =
+is_shut : (c : ℕ) (bytes : List ℕ) (s : Setting) (sent : ℕ → ℕ) (w : World) (machine : Machine) → Serves c bytes s sent w (closed machine c) → IsShut c w (closed machine c)
+is_shut c bytes s sent w machine h =
     let link = closed_link_at machine c (omega (arith, h.count, h.in_range, closed_count machine c)) in
     record {
-      idle = sym (reads_there c place bytes s sent w (closed machine c) h) ∙ ap (λ (l : LinkState). is_reading l.phase) link;
+      idle = sym (reads_there c bytes s sent w (closed machine c) h) ∙ ap (λ (l : LinkState). is_reading l.phase) link;
       half = ap (λ (l : LinkState). l.half) link;
     }
 
@@ -83,11 +83,11 @@ ends_failed c s sent machine now given after history piece frame lt h r p reads_
     let marks = starved c (failed.step q) in
     let v = so_far s marks c place (changed (longer piece) c w) p.done in
     let serves = serves_so_far c s sent w machine now piece marks f p (sound_as given _ is (failed.back sound)) (λ k below. unmarked_before c k q (failed.step q) (λ same. let lt_ : k < q = below in omega arith) (failed.of_frame q)) in
-    let reads_v : reads_life (present c v) ≡ true = sym (reads_there c _ _ s sent v now serves) ∙ reads_now in
-    let again : Serves c bytes s sent v given = subst_machine c q bytes s sent v _ given (sym is) (rehalved c q bytes s sent v now (link_at given c).half serves) in
+    let reads_v : reads_life (present c v) ≡ true = sym (reads_there c _ s sent v now serves) ∙ reads_now in
+    let again : Serves c bytes s sent v given = subst_machine c bytes s sent v _ given (sym is) (rehalved c bytes s sent v now (link_at given c).half serves) in
     let u = arrive s marks c v (q, Whole frame) in
     let stopped : Serves c bytes s sent u (closed after c) = failed.stands sound s sent v q bytes again reads_v in
-    let shut_ = is_shut c (q + 1) bytes s sent u after stopped in
+    let shut_ = is_shut c bytes s sent u after stopped in
     let others = map Whole (frames (link_at given c).half) ++ long_end (is_long (rest p.more)) in
     let next : left_over p.more (is_long (rest p.more)) ≡ Whole frame ∷ others =
     ap (λ (l : List Frame). map Whole l ++ long_end (is_long (rest p.more))) (ap frames (sym (p.kept.reading reads_now)) ∙ gives.first) in
@@ -96,7 +96,7 @@ ends_failed c s sent machine now given after history piece frame lt h r p reads_
     ∙ ap (take_step marks c Ending (λ x. x)) (idle_all s marks c (q + 1) u others shut_.idle)
     ∙ step_idle marks c Ending (λ x. x) u shut_.idle in
     let there : IsStarved c (Some f.life) piece marks = record { place = q; first = names_first c q (failed.step q) (failed.of_frame q); reached = inr (reaches c s sent w machine now piece f p reads_now (some_given frame _ _ gives)) } in
-    (marks, rw f.at there, stands_as s sent (closed after c) history (marked marks (Bytes c piece)) u e (idle_stands c (q + 1) bytes s sent u (closed after c) stopped shut_.idle shut_.half))
+    (marks, rw f.at there, stands_as s sent (closed after c) history (marked marks (Bytes c piece)) u e (idle_stands c bytes s sent u (closed after c) stopped shut_.idle shut_.half))
 
 -- none of the bytes could be kept
 pub ends_at_once : (c : ℕ) (s : Setting) (sent : ℕ → ℕ) (machine : Machine) (history : History) (piece : List ℕ) → c < connection_limit → Stands s sent machine history → is_reading (link_at machine c).phase ≡ true
@@ -108,14 +108,14 @@ ends_at_once c s sent machine history piece lt h r =
     let q = length (arrivals f.life.bytes) in
     let marks = starved c (Judging q) in
     let v = changed (longer piece) c w in
-    let serves : Serves c (f.life.bytes ++ piece) s sent v machine = same_link c q (f.life.bytes ++ piece) s sent v machine (omega (arith, f.stands.count, lt)) (longer_serves c s sent w machine f.life piece (link_at machine c).half lt h f.at) in
+    let serves : Serves c (f.life.bytes ++ piece) s sent v machine = same_link c (f.life.bytes ++ piece) s sent v machine (omega (arith, f.stands.count, lt)) (longer_serves c s sent w machine f.life piece (link_at machine c).half lt h f.at) in
     let at : present c v ≡ Some (longer piece f.life) = present-changed (longer piece) c w f.life f.at (present_is c w f.life f.at) in
     let e : bring s marks c piece w ≡ close c v =
     ap (λ (o : Option Life). take_step marks c Ending (λ u. u) (fold (arrive s marks c) v (brought o piece))) f.at
     ∙ ap (λ (l : List (ℕ × Arrival)). take_step marks c Ending (λ u. u) (fold (arrive s marks c) v l)) (new_is f.life.bytes piece (is_short c s sent w machine f))
     ∙ starved_rest s c q v (longer piece f.life) (arrivals (rest f.life.bytes ++ piece)) at f.reads_life in
     let is : IsStarved c (Some f.life) piece marks = record { place = q; first = names_first c q (Judging q) (eqb_self q); reached = inl refl } in
-    (marks, rw f.at is, stands_as s sent (closed machine c) history (marked marks (Bytes c piece)) (close c v) e (closed_stands c _ _ s sent v machine (longer piece f.life) serves at))
+    (marks, rw f.at is, stands_as s sent (closed machine c) history (marked marks (Bytes c piece)) (close c v) e (closed_stands c _ s sent v machine (longer piece f.life) serves at))
 
 -- ---- as the code has it
 
