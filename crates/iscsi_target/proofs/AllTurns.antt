@@ -52,12 +52,13 @@ one_more [] marks c place turns bytes s sent v u now e next un h = let no = next
 one_more (request ∷ others) marks c place turns bytes s sent v u now e next un h =
     act_next marks c place turns bytes s sent v now request others h e un ∙ ap (act_from marks c place (turns + 1)) (sym next.1)
 
-pub acted_more : (c turns : ℕ) (given now after : Machine) → Acted c turns given now → Stays c now after → ActsOne c true now after → Acted c (turns + 1) given after
-acted_more c turns given now after so_far stays one = record {
+pub acted_more : (c turns : ℕ) (more : Bool) (given now after : Machine) → Acted c turns given now → Stays c now after → ActsOne c more now after → more ≡ true → Acted c (turns + 1) given after
+acted_more c turns more given now after so_far stays may e = record {
   stays = stays_then c given now after so_far.stays stays;
   stands = λ sound s sent w place bytes marks un h.
       (let before = so_far.stands (stays.back sound) s sent w place bytes marks (λ t lt. un t (omega arith)) h in
-      let next = one sound s sent before.0 bytes before.2 in
+      let P : Bool → Type 0 = λ b. ActsOne c b now after in
+      let next = (subst P e may) sound s sent before.0 bytes before.2 in
       (next.0, before.1 ∙ one_more (due_of (present c before.0)) marks c place turns bytes s sent before.0 next.0 now refl next.1 (un turns (omega arith)) before.2, next.2));
 }
 
@@ -69,10 +70,11 @@ last_acted (request ∷ others) marks c place turns bytes s sent v u now e next 
     act_next marks c place turns bytes s sent v now request others h e un ∙ ap (act_from marks c place (turns + 1)) (sym next.1)
     ∙ steps_idle marks c (Taking place) (act c) (turns + 1) (due_of (present c u)) u (sym next.0)
 
-pub all_acted : (c turns : ℕ) (given now after : Machine) → Acted c turns given now → Stays c now after → ActsOne c false now after → StepsAll Taking (λ marks place. act_all marks c place) c given after
-all_acted c turns given now after so_far stays one = λ sound s sent w place bytes marks un h.
+pub all_acted : (c turns : ℕ) (more : Bool) (given now after : Machine) → Acted c turns given now → Stays c now after → ActsOne c more now after → more ≡ false → StepsAll Taking (λ marks place. act_all marks c place) c given after
+all_acted c turns more given now after so_far stays may e = λ sound s sent w place bytes marks un h.
     (let before = so_far.stands (stays.back sound) s sent w place bytes marks (λ t lt. un t) h in
-    let next = one sound s sent before.0 bytes before.2 in
+    let P : Bool → Type 0 = λ b. ActsOne c b now after in
+    let next = (subst P e may) sound s sent before.0 bytes before.2 in
     let world : act_all marks c place w ≡ next.0 = before.1 ∙ last_acted (due_of (present c before.0)) marks c place turns bytes s sent before.0 next.0 now refl next.1 (un turns) before.2 in
     rw world next.2)
 
@@ -93,7 +95,8 @@ acting_stops c turns given now after so_far same has = record {
       let before = so_far.stands sound_now s sent w place bytes marks (λ t lt. taken_before c place turns t lt) h in
       let first = has s sent before.0 bytes before.2 in
       let world : act_all marks c place w ≡ close c before.0 = before.1 ∙ act_marked marks c place turns bytes s sent before.0 now first.first first.others before.2 first.is (taken_there c place turns) in
-      rw (world, same) (closed_due c bytes s sent before.0 now first.first first.others before.2 first.is));
+      let Q : Machine → Type 0 = λ m. Serves c bytes s sent (close c before.0) (closed m c) in
+      rw world (subst Q (sym same) (closed_due c bytes s sent before.0 now first.first first.others before.2 first.is)));
 }
 
 -- ---- the commands of the queue
@@ -113,12 +116,13 @@ one_done [] marks c place turns bytes s sent v u now e next un h = let no = next
 one_done (command ∷ others) marks c place turns bytes s sent v u now e next un h =
     settle_next marks c place turns bytes s sent v now command others h e un ∙ ap (settle_from marks c place (turns + 1)) (sym next.1)
 
-pub finished_more : (c turns : ℕ) (given now after : Machine) → Finished c turns given now → Stays c now after → FinishesOne c true now after → Finished c (turns + 1) given after
-finished_more c turns given now after so_far stays one = record {
+pub finished_more : (c turns : ℕ) (more : Bool) (given now after : Machine) → Finished c turns given now → Stays c now after → FinishesOne c more now after → more ≡ true → Finished c (turns + 1) given after
+finished_more c turns more given now after so_far stays may e = record {
   stays = stays_then c given now after so_far.stays stays;
   stands = λ sound s sent w place bytes marks un h.
       (let before = so_far.stands (stays.back sound) s sent w place bytes marks (λ t lt. un t (omega arith)) h in
-      let next = one sound s sent before.0 bytes before.2 in
+      let P : Bool → Type 0 = λ b. FinishesOne c b now after in
+      let next = (subst P e may) sound s sent before.0 bytes before.2 in
       (next.0, before.1 ∙ one_done (queue_of (present c before.0)) marks c place turns bytes s sent before.0 next.0 now refl next.1 (un turns (omega arith)) before.2, next.2));
 }
 
@@ -128,10 +132,11 @@ last_done [] marks c place turns bytes s sent v u now e next un h =
     settle_none marks c place turns v e ∙ sym next.1
 last_done (command ∷ others) marks c place turns bytes s sent v u now e next un h = let no = next.0 in absurd cc
 
-pub all_finished : (c turns : ℕ) (given now after : Machine) → Finished c turns given now → Stays c now after → FinishesOne c false now after → StepsAll Doing (λ marks place. settle marks c place) c given after
-all_finished c turns given now after so_far stays one = λ sound s sent w place bytes marks un h.
+pub all_finished : (c turns : ℕ) (more : Bool) (given now after : Machine) → Finished c turns given now → Stays c now after → FinishesOne c more now after → more ≡ false → StepsAll Doing (λ marks place. settle marks c place) c given after
+all_finished c turns more given now after so_far stays may e = λ sound s sent w place bytes marks un h.
     (let before = so_far.stands (stays.back sound) s sent w place bytes marks (λ t lt. un t) h in
-    let next = one sound s sent before.0 bytes before.2 in
+    let P : Bool → Type 0 = λ b. FinishesOne c b now after in
+    let next = (subst P e may) sound s sent before.0 bytes before.2 in
     let world : settle marks c place w ≡ next.0 = before.1 ∙ last_done (queue_of (present c before.0)) marks c place turns bytes s sent before.0 next.0 now refl next.1 (un turns) before.2 in
     rw world next.2)
 
@@ -152,5 +157,6 @@ finishing_stops c turns given now after so_far same has = record {
       let before = so_far.stands sound_now s sent w place bytes marks (λ t lt. done_before c place turns t lt) h in
       let first = has s sent before.0 bytes before.2 in
       let world : settle marks c place w ≡ close c before.0 = before.1 ∙ settle_marked marks c place turns bytes s sent before.0 now first.first first.others before.2 first.is (done_there c place turns) in
-      rw (world, same) (closed_queue c bytes s sent before.0 now first.first first.others before.2 first.is));
+      let Q : Machine → Type 0 = λ m. Serves c bytes s sent (close c before.0) (closed m c) in
+      rw world (subst Q (sym same) (closed_queue c bytes s sent before.0 now first.first first.others before.2 first.is)));
 }

@@ -23,6 +23,7 @@ pub mod Halves
 pub mod FrameOpens
 pub mod Staying
 pub mod AllTurns
+pub mod SessionLinks
 pub mod OneFrame
 pub mod Tables
 pub mod Keeping

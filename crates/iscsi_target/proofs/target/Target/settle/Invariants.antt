@@ -1,12 +1,12 @@
-use Rattle.std.proofs.Common.{◌≡◌, ◌<◌, true, length, IfOk, OnOk, OnErr, ℕ, ◌+◌, ◌-◌, ◌*◌, ◌≤◌}
-use Rattle.iscsi_target.specs.World.{judge, act_all, settle}
-use Rattle.iscsi_target.specs.Machine.{link_at, is_in_session, waiting_requests, waiting_commands}
-use Rattle.iscsi_target.specs.Serving.{Takes, Fails}
-use Rattle.iscsi_target.specs.Sessions.{Stays, Steps, ActsOne, FinishesOne, HasDue, HasQueue, StepsAll, StopsAt}
+use Rattle.std.proofs.Common.{ℕ}
+use Rattle.iscsi_target.specs.Machine.{link_at, waiting_commands}
+use Rattle.iscsi_target.proofs.AllTurns.{Finished}
 use Rattle.iscsi_target.proofs.target.Target.settle.Given as goal
 
+-- so many commands are done
 abbrev pub invariant-loop : goal.invariant-loop
-invariant-loop g l = ?
+invariant-loop g l = (turns : ℕ) × Finished l.c turns l.initial.self l.self
 
+-- each that is done no longer waits
 abbrev pub decreases-loop : goal.decreases-loop
-decreases-loop g l = ?
+decreases-loop g l = waiting_commands (link_at l.self l.c).phase
