@@ -9,6 +9,7 @@ pub mod Requests
 pub mod Serving
 pub mod SessionSteps
 pub mod Turns
+pub mod FrameServed
 pub mod FrameTaken
 pub mod LoggingIn
 pub mod Acting
