@@ -11,28 +11,28 @@ returns-in_err-act-clause-due g c =
     let machine : Machine = record { names = map string_bytes c.self.inside.config.targets.items; units = c.self.inside.units.items; links = c.self.inside.links.items } in
     let lt : c.args.c < length c.self.inside.links.items = (let below = c.requires in let count = c.self.invariant.0 in omega arith) in
     let here : IsHere c.args.c c.args.self.now machine c.index_mut-link.result.now = record { same = c.self.view_is; below = lt; is = c.index_mut-link.ensures.value ∙ get_or_any c.self.inside.links.items c.args.c _ free_link lt } in
-    on_err c.from_residual.result (due_here c.args.c c.args.self.now machine c.index_mut-link.result.now here ? c.in_err-act.ensures.due)
+    on_err c.from_residual.result (due_here c.args.c c.args.self.now machine c.index_mut-link.result.now here (ap (λ (l : LinkState). is_in_session l.phase) (sym c.link.view_is) ∙ sym c.is_in_session.ensures ∙ c.if-not-is_in_session.false) c.in_err-act.ensures.due)
 
 pub returns-in-Idle-clause-steps : goal.returns-in-Idle-clause-steps
 returns-in-Idle-clause-steps g c =
     let machine : Machine = record { names = map string_bytes c.self.inside.config.targets.items; units = c.self.inside.units.items; links = c.self.inside.links.items } in
     let lt : c.args.c < length c.self.inside.links.items = (let below = c.requires in let count = c.self.invariant.0 in omega arith) in
     let here : IsHere c.args.c c.args.self.now machine c.index_mut-link.result.now = record { same = c.self.view_is; below = lt; is = c.index_mut-link.ensures.value ∙ get_or_any c.self.inside.links.items c.args.c _ free_link lt } in
-    acted_here c.args.c c.args.self.now machine c.index_mut-link.result.now c.act.new.self c.in_ok-act.field-0 Idle here ? c.in_ok-act.ensures.acts c.in-Idle.is
+    acted_here c.args.c c.args.self.now machine c.index_mut-link.result.now c.act.new.self c.in_ok-act.field-0 Idle here (ap (λ (l : LinkState). is_in_session l.phase) (sym c.link.view_is) ∙ sym c.is_in_session.ensures ∙ c.if-not-is_in_session.false) c.in_ok-act.ensures.acts c.in-Idle.is
 
 pub returns-in-Taken-clause-steps : goal.returns-in-Taken-clause-steps
 returns-in-Taken-clause-steps g c =
     let machine : Machine = record { names = map string_bytes c.self.inside.config.targets.items; units = c.self.inside.units.items; links = c.self.inside.links.items } in
     let lt : c.args.c < length c.self.inside.links.items = (let below = c.requires in let count = c.self.invariant.0 in omega arith) in
     let here : IsHere c.args.c c.args.self.now machine c.index_mut-link.result.now = record { same = c.self.view_is; below = lt; is = c.index_mut-link.ensures.value ∙ get_or_any c.self.inside.links.items c.args.c _ free_link lt } in
-    acted_here c.args.c c.args.self.now machine c.index_mut-link.result.now c.act.new.self c.in_ok-act.field-0 Taken here ? c.in_ok-act.ensures.acts c.in-Taken.is
+    acted_here c.args.c c.args.self.now machine c.index_mut-link.result.now c.act.new.self c.in_ok-act.field-0 Taken here (ap (λ (l : LinkState). is_in_session l.phase) (sym c.link.view_is) ∙ sym c.is_in_session.ensures ∙ c.if-not-is_in_session.false) c.in_ok-act.ensures.acts c.in-Taken.is
 
 pub returns-in-Ended-clause-steps : goal.returns-in-Ended-clause-steps
 returns-in-Ended-clause-steps g c =
     let machine : Machine = record { names = map string_bytes c.self.inside.config.targets.items; units = c.self.inside.units.items; links = c.self.inside.links.items } in
     let lt : c.args.c < length c.self.inside.links.items = (let below = c.requires in let count = c.self.invariant.0 in omega arith) in
     let here : IsHere c.args.c c.args.self.now machine c.index_mut-link.result.now = record { same = c.self.view_is; below = lt; is = c.index_mut-link.ensures.value ∙ get_or_any c.self.inside.links.items c.args.c _ free_link lt } in
-    let one : ActsOne c.args.c false c.args.self.now (closed (with_link machine c.args.c c.act.new.self) c.args.c) = acted_here c.args.c c.args.self.now machine c.index_mut-link.result.now c.act.new.self c.in_ok-act.field-0 Ended here ? c.in_ok-act.ensures.acts c.in-Ended.is in
+    let one : ActsOne c.args.c false c.args.self.now (closed (with_link machine c.args.c c.act.new.self) c.args.c) = acted_here c.args.c c.args.self.now machine c.index_mut-link.result.now c.act.new.self c.in_ok-act.field-0 Ended here (ap (λ (l : LinkState). is_in_session l.phase) (sym c.link.view_is) ∙ sym c.is_in_session.ensures ∙ c.if-not-is_in_session.false) c.in_ok-act.ensures.acts c.in-Ended.is in
     let P : Machine → Type 0 = λ m. ActsOne c.args.c false c.args.self.now m in
     subst P (sym c.close.ensures.closed) one
 
@@ -42,4 +42,4 @@ returns-in-Ended-clause-stays g c =
     let lt : c.args.c < length c.self.inside.links.items = (let below = c.requires in let count = c.self.invariant.0 in omega arith) in
     let here : IsHere c.args.c c.args.self.now machine c.index_mut-link.result.now = record { same = c.self.view_is; below = lt; is = c.index_mut-link.ensures.value ∙ get_or_any c.self.inside.links.items c.args.c _ free_link lt } in
     let P : Machine → Type 0 = λ m. Stays c.args.c c.args.self.now m in
-    subst P (sym c.close.ensures.closed) (ended_here c.args.c c.args.self.now machine c.index_mut-link.result.now c.act.new.self here ? c.in_ok-act.ensures.stays)
+    subst P (sym c.close.ensures.closed) (ended_here c.args.c c.args.self.now machine c.index_mut-link.result.now c.act.new.self here (ap (λ (l : LinkState). is_in_session l.phase) (sym c.link.view_is) ∙ sym c.is_in_session.ensures ∙ c.if-not-is_in_session.false) c.in_ok-act.ensures.stays)
