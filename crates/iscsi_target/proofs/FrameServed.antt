@@ -1,77 +1,41 @@
 -- A frame of a session is taken, or an allocation failed at one of its steps.
-use Rattle.std.proofs.Common.{◌≡◌, ◌≢◌, ℕ, ◌+◌, ◌<◌, List, [], ◌∷◌, length, get_or, Bool, true, false, not, ◌&&◌, eqb, Option, Some, None, refl, sym, ap, ◌∙◌, subst, arith}
-use Rattle.std.proofs.lemmas.Bool.{ne_eqb}
+use Rattle.std.proofs.Common.{◌≡◌, ℕ, suc, ◌<◌, List, length, true, false, not, eqb, Option, Some, refl, sym, ap, ◌∙◌, subst, arith, inl, inr}
+use Rattle.std.specs.Prelude.{Result, Ok, Err, OnOk, OnErr}
+use Rattle.std.proofs.lemmas.Bool.Decides.{leb_tells}
+use Rattle.std.proofs.lemmas.List.{get_or_past}
 use Rattle.iscsi_pdu.specs.Frames.{Frame}
-use Rattle.iscsi_target.specs.History.{Mark, Step, Judging, Taking, Doing, Whole}
-use Rattle.iscsi_target.specs.Life.{Life, FullFeature, reads}
 use Rattle.iscsi_session.specs.Requests.{Past}
-use Rattle.iscsi_target.specs.World.{Setting, World, present, reads_life, judge, act_all, settle, serve, arrive, arrive_at, arrive_in, is_marked, is_step, queue_of, finish}
-use Rattle.iscsi_target.specs.Machine.{LinkState, Machine, IsSound, link_at, closed, is_free, is_reading, is_open_at, is_in_session}
-use Rattle.iscsi_target.specs.Serving.{Serves, KeepsHalf, Unmarked, starved, Takes, Fails}
+use Rattle.iscsi_target.specs.History.{Mark, Judging, Taking, Doing, Whole}
+use Rattle.iscsi_target.specs.Life.{Life, FullFeature, reads}
+use Rattle.iscsi_target.specs.World.{Setting, World, present, reads_life, close, judge, act, act_all, due_of, finish, settle, queue_of, serve, arrive, arrive_at, arrive_in, is_marked}
+use Rattle.iscsi_target.specs.Machine.{LinkState, Machine, link_at, closed, free_link, is_free, is_reading, is_open_at, is_in_session}
+use Rattle.iscsi_target.specs.Serving.{Serves, starved, Takes, Fails}
 use Rattle.iscsi_target.specs.Sessions.{Stays, Steps, StepsAll, StopsAt}
-use Rattle.iscsi_target.specs.declared.phase.Phase.{Phase}
-use Rattle.iscsi_target.specs.declared.phase.Phase.TheVariants as phases
 use Rattle.iscsi_target.proofs.Choices.{eqb_self, and_false, not_true}
-use Rattle.iscsi_target.proofs.Serving.{step_done}
+use Rattle.iscsi_target.proofs.Serving.{closes, present-close, step_done, step_marked}
 use Rattle.iscsi_target.proofs.Opening.{closed_opens, closed_link_at}
 use Rattle.iscsi_target.proofs.Sound.{closed_sound}
 use Rattle.iscsi_target.proofs.Feeding.{reads_there}
-use Rattle.iscsi_target.proofs.SessionSteps.{IsLive, session_here, serves_world}
-use Rattle.iscsi_target.proofs.Turns.{settle_all_from, steps_idle}
-
--- ---- one step behind another
-
-kept_by : (b : Bool) (c : ℕ) (given middle after : Machine) → is_reading (link_at middle c).phase ≡ b → KeepsHalf (link_at given c).half (link_at middle c) → Stays c middle after → KeepsHalf (link_at given c).half (link_at after c)
-kept_by true c given middle after r first q =
-    let P : List ℕ → Type 0 = λ half. KeepsHalf half (link_at after c) in subst P (first.reading r) (q.keeps r)
-kept_by false c given middle after r first q =
-    let P : LinkState → Type 0 = λ link. KeepsHalf (link_at given c).half link in subst P (sym (q.idle r)) first
-
-pub stays_both : (c : ℕ) (given middle after : Machine) → Stays c given middle → Stays c middle after → Stays c given after
-stays_both c given middle after p q = record {
-  back = λ sound. p.back (q.back sound);
-  keeps = λ r. kept_by (is_reading (link_at middle c).phase) c given middle after refl (p.keeps r) q;
-  opens = λ d. q.opens d ∙ p.opens d;
-  idle = λ r. q.idle (ap (λ (link : LinkState). is_reading link.phase) (p.idle r) ∙ r) ∙ p.idle r;
-}
-
-pub stays_same : (c : ℕ) (machine : Machine) → Stays c machine machine
-stays_same c machine = record {
-  back = λ sound. sound;
-  keeps = λ r. record { reading = λ e. refl; idle = λ e. absurd (let no : true ≡ false = sym r ∙ e in cc) };
-  opens = λ d. refl;
-  idle = λ r. refl;
-}
+use Rattle.iscsi_target.proofs.Staying.{session_open, never, stays_same, stays_then}
+use Rattle.iscsi_target.proofs.SessionSteps.{session_here, serves_world}
+use Rattle.iscsi_target.proofs.Turns.{act_all_from, settle_all_from, steps_idle}
 
 -- ---- which step a mark names
 
-pub taking_here : (c place turn : ℕ) → is_marked (starved c (Taking place turn)) c (Taking place turn) ≡ true
-unfolding is_marked starved
-taking_here c place turn = rw (eqb_self c, eqb_self place, eqb_self turn) refl
-
-pub doing_here : (c place turn : ℕ) → is_marked (starved c (Doing place turn)) c (Doing place turn) ≡ true
-unfolding is_marked starved
-doing_here c place turn = rw (eqb_self c, eqb_self place, eqb_self turn) refl
-
--- an earlier one of them
-pub taking_other : (c place turn other : ℕ) → turn ≢ other → is_marked (starved c (Taking place turn)) c (Taking place other) ≡ false
-unfolding is_marked starved
-taking_other c place turn other differ = rw (ne_eqb turn other differ, and_false (eqb place place), and_false (eqb c c)) refl
-
-pub doing_other : (c place turn other : ℕ) → turn ≢ other → is_marked (starved c (Doing place turn)) c (Doing place other) ≡ false
-unfolding is_marked starved
-doing_other c place turn other differ = rw (ne_eqb turn other differ, and_false (eqb place place), and_false (eqb c c)) refl
+judging_here : (c place : ℕ) → is_marked (starved c (Judging place)) c (Judging place) ≡ true
+unfolding is_marked
+judging_here c place = rw (eqb_self c, eqb_self place) refl
 
 pub taking_judged : (c place turn : ℕ) → is_marked (starved c (Taking place turn)) c (Judging place) ≡ false
-unfolding is_marked starved
+unfolding is_marked
 taking_judged c place turn = rw (and_false (eqb c c)) refl
 
 pub doing_judged : (c place turn : ℕ) → is_marked (starved c (Doing place turn)) c (Judging place) ≡ false
-unfolding is_marked starved
+unfolding is_marked
 doing_judged c place turn = rw (and_false (eqb c c)) refl
 
 pub doing_taken : (c place turn other : ℕ) → is_marked (starved c (Doing place turn)) c (Taking place other) ≡ false
-unfolding is_marked starved
+unfolding is_marked
 doing_taken c place turn other = rw (and_false (eqb c c)) refl
 
 -- ---- the frame
@@ -87,6 +51,18 @@ arrive_served s marks c place frame w life past at full un =
     ap (λ (o : Option Life). arrive_at s marks c w place (Whole frame) o) at ∙ ap (arrive_in s marks c w place (Whole frame)) full
     ∙ ap (λ (v : World). settle marks c place (act_all marks c place v)) (step_done marks c (Judging place) (judge c frame) w reads_w un)
 
+-- it is closed where the mark names its judging
+arrive_marked : (s : Setting) (marks : List Mark) (c place : ℕ) (frame : Frame) (w : World) (life : Life) (past : Past) → present c w ≡ Some life → life.phase ≡ FullFeature past → is_marked marks c (Judging place) ≡ true
+    → arrive s marks c w (place, Whole frame) ≡ close c w
+unfolding arrive serve
+arrive_marked s marks c place frame w life past at full is =
+    let reads_w : reads_life (present c w) ≡ true = ap reads_life at ∙ ap reads full in
+    let shut_ : reads_life (present c (close c w)) ≡ false = ap reads_life (present-close c w life at) in
+    ap (λ (o : Option Life). arrive_at s marks c w place (Whole frame) o) at ∙ ap (arrive_in s marks c w place (Whole frame)) full
+    ∙ ap (λ (v : World). settle marks c place (act_all marks c place v)) (step_marked marks c (Judging place) (judge c frame) w reads_w is)
+    ∙ ap (settle marks c place) (act_all_from marks c place (close c w) ∙ steps_idle marks c (Taking place) (act c) 0 (due_of (present c (close c w))) (close c w) shut_)
+    ∙ settle_all_from marks c place (close c w) ∙ steps_idle marks c (Doing place) (finish c) 0 (queue_of (present c (close c w))) (close c w) shut_
+
 arrives : (s : Setting) (marks : List Mark) (c place : ℕ) (frame : Frame) (bytes : List ℕ) (sent : ℕ → ℕ) (w : World) (given after : Machine) → is_in_session (link_at given c).phase ≡ true → Serves c bytes s sent w given → is_marked marks c (Judging place) ≡ false
     → Serves c bytes s sent (served marks c place frame w) after → Serves c bytes s sent (arrive s marks c w (place, Whole frame)) after
 arrives s marks c place frame bytes sent w given after inside h un there =
@@ -100,7 +76,7 @@ reads_in c bytes s sent w given inside h = let l = session_here c bytes s sent w
 pub takes_served : (c : ℕ) (frame : Frame) (given judged_ acted_ after : Machine) → is_in_session (link_at given c).phase ≡ true → Steps c (judge c frame) given judged_ → Stays c given judged_
     → StepsAll Taking (λ marks place. act_all marks c place) c judged_ acted_ → Stays c judged_ acted_ → StepsAll Doing (λ marks place. settle marks c place) c acted_ after → Stays c acted_ after → Takes c frame given after
 takes_served c frame given judged_ acted_ after inside judges p acts q settles r =
-    let all : Stays c given after = stays_both c given acted_ after (stays_both c given judged_ acted_ p q) r in
+    let all : Stays c given after = stays_then c given acted_ after (stays_then c given judged_ acted_ p q) r in
     record {
       back = all.back;
       keeps = all.keeps;
@@ -114,16 +90,19 @@ takes_served c frame given judged_ acted_ after inside judges p acts q settles r
 
 -- ---- an allocation failed
 
-session_is_open : (phase : Phase) → is_in_session phase ≡ true → is_free phase ≡ false
-session_is_open phases.Free e = absurd cc
-session_is_open (phases.Login login) e = absurd cc
-session_is_open (phases.FullFeature session) e = refl
-session_is_open phases.Closing e = absurd cc
+-- a connection that is open is one of the target's
+is_within : (c : ℕ) (machine : Machine) → is_free (link_at machine c).phase ≡ false → c < length machine.links
+is_within c machine e = elim (leb_tells (suc c) (length machine.links)) [
+  | inl below ↦ below.1
+  | inr past ↦ never (c < length machine.links) (is_free (link_at machine c).phase) (ap (λ (link : LinkState). is_free link.phase) (get_or_past machine.links c free_link (let le = past.1 in omega arith))) e
+]
 
-stopped_opens : (c : ℕ) (given after : Machine) → c < length after.links → is_in_session (link_at given c).phase ≡ true → Stays c given after → (d : ℕ) → is_open_at (closed after c) d ≡ is_open_at given d
-stopped_opens c given after lt inside p d =
-    let open_ : is_free (link_at after c).phase ≡ false = not_true (is_free (link_at after c).phase) (p.opens c ∙ ap not (session_is_open (link_at given c).phase inside)) in
-    closed_opens after c lt open_ d ∙ p.opens d
+stays_open : (c : ℕ) (given after : Machine) → is_in_session (link_at given c).phase ≡ true → Stays c given after → is_free (link_at after c).phase ≡ false
+stays_open c given after inside p = not_true (is_free (link_at after c).phase) (p.opens c ∙ ap not (session_open (link_at given c).phase inside))
+
+stopped_opens : (c : ℕ) (given after : Machine) → is_in_session (link_at given c).phase ≡ true → Stays c given after → (d : ℕ) → is_open_at (closed after c) d ≡ is_open_at given d
+stopped_opens c given after inside p d =
+    let open_ = stays_open c given after inside p in closed_opens after c (is_within c after open_) open_ d ∙ p.opens d
 
 -- what is closed settles nothing
 closed_settles : (marks : List Mark) (c place : ℕ) (bytes : List ℕ) (s : Setting) (sent : ℕ → ℕ) (w : World) (after : Machine) → c < length after.links → Serves c bytes s sent w (closed after c) → settle marks c place w ≡ w
@@ -132,11 +111,13 @@ closed_settles marks c place bytes s sent w after lt h =
     settle_all_from marks c place w ∙ steps_idle marks c (Doing place) (finish c) 0 (queue_of (present c w)) w idle_
 
 -- before a request acts
-pub fails_acting : (c : ℕ) (frame : Frame) (given judged_ after : Machine) → c < length after.links → is_in_session (link_at given c).phase ≡ true → Steps c (judge c frame) given judged_ → Stays c given judged_
+pub fails_acting : (c : ℕ) (frame : Frame) (given judged_ after : Machine) → is_in_session (link_at given c).phase ≡ true → Steps c (judge c frame) given judged_ → Stays c given judged_
     → StopsAt Taking (λ marks place. act_all marks c place) c judged_ after → Stays c judged_ after → Fails c frame given after
-fails_acting c frame given judged_ after lt inside judges p stops q = record {
+fails_acting c frame given judged_ after inside judges p stops q =
+    let lt = is_within c after (stays_open c given after inside (stays_then c given judged_ after p q)) in
+    record {
   back = λ sound. p.back (q.back (closed_sound after c sound));
-  opens = stopped_opens c given after lt inside (stays_both c given judged_ after p q);
+  opens = stopped_opens c given after inside (stays_then c given judged_ after p q);
   step = λ place. Taking place stops.turn;
   of_frame = λ place. eqb_self place;
   stands = λ sound s sent w place bytes h reads_w.
@@ -148,11 +129,11 @@ fails_acting c frame given judged_ after lt inside judges p stops q = record {
 }
 
 -- before a command is done
-pub fails_settling : (c : ℕ) (frame : Frame) (given judged_ acted_ after : Machine) → c < length after.links → is_in_session (link_at given c).phase ≡ true → Steps c (judge c frame) given judged_ → Stays c given judged_
+pub fails_settling : (c : ℕ) (frame : Frame) (given judged_ acted_ after : Machine) → is_in_session (link_at given c).phase ≡ true → Steps c (judge c frame) given judged_ → Stays c given judged_
     → StepsAll Taking (λ marks place. act_all marks c place) c judged_ acted_ → Stays c judged_ acted_ → StopsAt Doing (λ marks place. settle marks c place) c acted_ after → Stays c acted_ after → Fails c frame given after
-fails_settling c frame given judged_ acted_ after lt inside judges p acts q stops r = record {
+fails_settling c frame given judged_ acted_ after inside judges p acts q stops r = record {
   back = λ sound. p.back (q.back (r.back (closed_sound after c sound)));
-  opens = stopped_opens c given after lt inside (stays_both c given acted_ after (stays_both c given judged_ acted_ p q) r);
+  opens = stopped_opens c given after inside (stays_then c given acted_ after (stays_then c given judged_ acted_ p q) r);
   step = λ place. Doing place stops.turn;
   of_frame = λ place. eqb_self place;
   stands = λ sound s sent w place bytes h reads_w.
@@ -164,5 +145,26 @@ fails_settling c frame given judged_ acted_ after lt inside judges p acts q stop
       arrives s marks c place frame bytes sent w given (closed after c) inside h (doing_judged c place stops.turn) third);
 }
 
-pub checked : (n : ℕ) → n ≡ n
-checked n = refl
+-- before it is judged
+pub fails_judging : (c : ℕ) (frame : Frame) (given after : Machine) → is_in_session (link_at given c).phase ≡ true → after ≡ given → Fails c frame given after
+fails_judging c frame given after inside same = let P : Machine → Type 0 = λ m. Fails c frame given m in subst P (sym same) record {
+  back = closed_sound given c;
+  opens = stopped_opens c given given inside (stays_same c given);
+  step = λ place. Judging place;
+  of_frame = λ place. eqb_self place;
+  stands = λ sound s sent w place bytes h reads_w.
+      (let l = session_here c bytes s sent w given h inside in
+      let marked_ : is_marked (starved c (Judging place)) c (Judging place) ≡ true = judging_here c place in
+      let world : arrive s (starved c (Judging place)) c w (place, Whole frame) ≡ close c w = arrive_marked s (starved c (Judging place)) c place frame w l.life l.past l.at l.full marked_ in
+      serves_world c bytes s sent (close c w) (arrive s (starved c (Judging place)) c w (place, Whole frame)) (closed given c) (sym world) (closes c 0 0 bytes s sent w given l.life h l.at));
+}
+
+-- ---- as the code has it
+
+pub ok_then : {X E P Q : Type 0} (r : Result X E) → (P → Q) → OnOk r P → OnOk r Q
+ok_then (Ok x) f p = f p
+ok_then (Err e) f p = tt
+
+pub err_then : {X E P Q : Type 0} (r : Result X E) → (P → Q) → OnErr r P → OnErr r Q
+err_then (Ok x) f p = tt
+err_then (Err e) f p = f p

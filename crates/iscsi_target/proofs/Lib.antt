@@ -22,6 +22,9 @@ pub mod Feeding
 pub mod Starving
 pub mod Halves
 pub mod FrameOpens
+pub mod Staying
+pub mod AllTurns
+pub mod SessionLinks
 pub mod OneFrame
 pub mod Tables
 pub mod Keeping

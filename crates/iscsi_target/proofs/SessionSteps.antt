@@ -1,5 +1,5 @@
 -- A step of a session does to the World what it does to the code.
-use Rattle.std.proofs.Common.{◌≡◌, ◌≢◌, All, ℕ, ◌+◌, ◌≤◌, List, [], ◌∷◌, ◌++◌, length, drop, set, Bool, true, false, cond, eqb, Option, Some, None, refl, sym, ap, ◌∙◌, subst, arith, add-zero}
+use Rattle.std.proofs.Common.{◌≡◌, ◌≢◌, All, ℕ, ◌+◌, List, [], ◌∷◌, ◌++◌, drop, set, Bool, true, false, cond, eqb, Option, Some, None, refl, sym, ap, ◌∙◌, subst, arith, add-zero}
 use Rattle.std.specs.Prelude.{flat_map, slice_index_or, slice_set}
 use Rattle.std.proofs.lemmas.List.{append-nil, length-append, set-get_or}
 use Rattle.scsi_unit.specs.Units.{UnitStates, AreSound}
@@ -10,15 +10,15 @@ use Rattle.iscsi_session.specs.Requests.{Request, Past, due, queue, acted, finis
 use Rattle.iscsi_session.specs.Judging.{verdict, judged, judged_answers}
 use Rattle.iscsi_session.specs.Acts.{act_answers, act_by, acted_by, answers_by, ends}
 use Rattle.iscsi_session.specs.Answers.{command_answers}
-use Rattle.iscsi_session.specs.State.{IsLawful, SessionState, remembered as session_remembered}
+use Rattle.iscsi_session.specs.State.{remembered as session_remembered}
 use Rattle.iscsi_session.specs.declared.act.Act.{Act}
 use Rattle.iscsi_session.specs.declared.act.Act.TheVariants.{Idle, Taken, Ended}
 use Rattle.iscsi_session.specs.declared.verdict.Verdict.{Verdict}
 use Rattle.iscsi_session.specs.declared.verdict.Verdict.TheVariants as verdicts
 use Rattle.iscsi_target.specs.Acts.{carried_out}
-use Rattle.iscsi_target.specs.Life.{Life, Phase, LoggingIn, FullFeature, Closing, Over, reads, past_in, statuses, due_in, queue_in, out_of}
+use Rattle.iscsi_target.specs.Life.{Life, Phase, LoggingIn, FullFeature, Closing, Over, past_in, statuses, due_in, queue_in, out_of}
 use Rattle.iscsi_target.specs.World.{Setting, World, is_present, present, changed, reads_life, past_of, close, goes_on, judged_by, judge_for, judge, ended_if, act_for, act, due_of, done_for, finish, queue_of}
-use Rattle.iscsi_target.specs.Machine.{LinkState, Machine, IsSound, link_at, with_link, closed, free_link, is_in_session}
+use Rattle.iscsi_target.specs.Machine.{LinkState, Machine, link_at, with_link, closed, free_link, is_in_session}
 use Rattle.iscsi_target.specs.Stands.{phase_of, phase_for, IsQuiet}
 use Rattle.iscsi_target.specs.Serving.{IsServing, Serves}
 use Rattle.iscsi_target.specs.Sessions.{IsSessionOf, StepsTo, JudgesTo, ActsTo, FinishesTo, Steps, NextActs, NextDone, IsSome, HasDue, HasQueue, ActsOne, FinishesOne}
@@ -326,6 +326,3 @@ has_due c given inside some = λ s sent w bytes h.
 pub has_queue : (c : ℕ) (given : Machine) → is_in_session (link_at given c).phase ≡ true → ((answered : ℕ) (past : Past) → IsSessionOf answered past (link_at given c) → queue past ≢ []) → HasQueue c given
 has_queue c given inside some = λ s sent w bytes h.
     (let l = session_here c bytes s sent w given h inside in some_of (queue l.past) (queue_of (present c w)) (live_queue c w (link_at given c) l) (some (statuses l.life) l.past l.is))
-
-pub checked : (n : ℕ) → n ≡ n
-checked n = refl

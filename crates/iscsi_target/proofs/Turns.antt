@@ -1,22 +1,20 @@
 -- The requests that are due act one after the other, and the commands of the queue are done so.
-use Rattle.std.proofs.Common.{◌≡◌, ◌≢◌, ℕ, ◌+◌, ◌<◌, List, [], ◌∷◌, Bool, true, false, Option, Some, None, refl, sym, ap, ◌∙◌}
-use Rattle.std.specs.Prelude.{fold, slice_index_or}
+use Rattle.std.proofs.Common.{◌≡◌, ◌≢◌, ℕ, ◌+◌, List, [], ◌∷◌, Bool, true, false, Option, Some, None, refl, sym, ap, ◌∙◌}
+use Rattle.std.specs.Prelude.{fold}
 use Rattle.std.specs.List.{enumerate_from}
-use Rattle.iscsi_session.specs.Requests.{Request, Past, due, queue, acted, finished, stamp}
+use Rattle.iscsi_session.specs.Requests.{Request, Past, due, queue, acted}
 use Rattle.iscsi_session.specs.Acts.{act_answers, ends}
-use Rattle.iscsi_session.specs.Answers.{command_answers}
 use Rattle.iscsi_session.specs.State.{IsLawful}
 use Rattle.iscsi_session.proofs.Acted.{due_after}
 use Rattle.iscsi_session.proofs.Finished.{queue_after}
 use Rattle.iscsi_target.specs.History.{Mark, Step, Taking, Doing}
 use Rattle.iscsi_target.specs.Life.{Life, Phase, LoggingIn, FullFeature, Closing, Over, reads, past_in, statuses, due_in, queue_in}
-use Rattle.iscsi_target.specs.Acts.{carried_out}
 use Rattle.iscsi_target.specs.World.{Setting, World, present, changed, reads_life, past_of, close, goes_on, ended_if, act, act_all, due_of, finish, settle, queue_of, is_marked, take_step}
 use Rattle.iscsi_target.specs.Machine.{Machine}
 use Rattle.iscsi_target.specs.Stands.{IsQuiet}
 use Rattle.iscsi_target.specs.Serving.{IsQuietAt, Serves}
 use Rattle.iscsi_target.proofs.Serving.{present-close, step_done, step_idle, step_marked}
-use Rattle.iscsi_target.proofs.SessionSteps.{GoesOn, present-goes_on, acted_life, act_is, done_life, done_world, finish_is}
+use Rattle.iscsi_target.proofs.SessionSteps.{present-goes_on, acted_life, act_is, done_life, done_world, finish_is}
 
 -- ---- steps, one after the other
 
@@ -177,6 +175,3 @@ settle_marked marks c place turn bytes s sent w machine command others h is mark
     let f = full_queue c bytes s sent w machine command others h is in
     ap (λ (commands : List Request). steps_from marks c (Doing place) (finish c) turn commands w) is
     ∙ steps_marked marks c (Doing place) (finish c) turn command others w f.life f.at f.reads_w marked
-
-pub checked : (n : ℕ) → n ≡ n
-checked n = refl
