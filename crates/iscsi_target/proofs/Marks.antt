@@ -7,7 +7,7 @@ use Rattle.iscsi_session.specs.Requests.{Request}
 use Rattle.iscsi_target.specs.History.{Mark, Step, Judging, Taking, Doing, Ending, is_of, Arrival, Whole, TooLong}
 use Rattle.iscsi_target.specs.Life.{Life, Phase, LoggingIn, FullFeature, Closing, Over, reads}
 use Rattle.iscsi_target.specs.World.{Setting, World, present, reads_life, close, is_step, is_marked, take_step, judge, act, act_all, finish, settle, serve, due_of, queue_of, enter, arrive, arrive_at, arrive_in}
-use Rattle.iscsi_target.specs.Stands.{NamesFirst}
+use Rattle.iscsi_target.specs.Stands.{NamesFirst, at_once}
 use Rattle.iscsi_target.specs.Serving.{Unmarked, starved}
 use Rattle.iscsi_target.proofs.Choices.{eqb_self, cond_true, cond_false, and_false}
 use Rattle.iscsi_target.proofs.Serving.{present-close, step_idle, step_marked}
@@ -15,10 +15,6 @@ use Rattle.iscsi_target.proofs.Serving.{present-close, step_idle, step_marked}
 pub unmarked_plain : (c place : ℕ) → Unmarked [] c place
 unfolding is_marked
 unmarked_plain c place = λ step e. refl
-
-pub names_first : (c place : ℕ) (step : Step) → is_of place step ≡ true → NamesFirst c place (starved c step)
-unfolding starved
-names_first c place step e = (refl, e)
 
 other_frame : (place q a b : ℕ) → place ≢ q → eqb a q ≡ true → eqb b place ≡ true → eqb a b ≡ false
 other_frame place q a b differ e f = ne_eqb a b (λ same. differ (sym (eqb-true b place f) ∙ sym same ∙ eqb-true a q e))
@@ -31,20 +27,24 @@ other_step place q (Doing a i) (Doing b j) differ e f = ap (λ (same : Bool). sa
 other_step place q Ending b differ e f = absurd cc
 other_step place q a b differ e f = refl
 
-not_ending : (place : ℕ) (step : Step) → is_of place step ≡ true → is_step Ending step ≡ false
-not_ending place Ending e = absurd cc
-not_ending place step e = refl
-
+-- a mark of one frame leaves the others as they are
 pub unmarked_before : (c place q : ℕ) (failed : Step) → place ≢ q → is_of q failed ≡ true → Unmarked (starved c failed) c place
-unfolding is_marked starved
-unmarked_before c place q failed differ is = λ step e. rw (other_step place q failed step differ is e, not_ending place step e, and_false (eqb c c)) refl
+unfolding is_marked
+unmarked_before c place q failed differ is = λ step e. rw (other_step place q failed step differ is e, and_false (eqb c c)) refl
 
-marked_there : (c q : ℕ) → is_marked (starved c (Judging q)) c (Judging q) ≡ true
-unfolding is_marked starved
+pub marked_before : (c q : ℕ) → is_marked (starved c (Judging q)) c (Judging q) ≡ true
+unfolding is_marked
+marked_before c q = rw (eqb_self c, eqb_self q) refl
+
+pub names_first : (c q : ℕ) → NamesFirst c q (at_once c q)
+names_first c q = (refl, eqb_self q)
+
+marked_there : (c q : ℕ) → is_marked (at_once c q) c (Judging q) ≡ true
+unfolding is_marked
 marked_there c q = rw (eqb_self c, eqb_self q) refl
 
-marked_end : (c q : ℕ) → is_marked (starved c (Judging q)) c Ending ≡ true
-unfolding is_marked starved
+marked_end : (c q : ℕ) → is_marked (at_once c q) c Ending ≡ true
+unfolding is_marked
 marked_end c q = rw (and_false (eqb c c), eqb_self c) refl
 
 -- ---- a connection that does not read
@@ -89,33 +89,32 @@ idle_settle marks c place w r = idle_turns marks c (Doing place) (finish c) w (e
 pub closed_reads : (c : ℕ) (w : World) (life : Life) → present c w ≡ Some life → reads_life (present c (close c w)) ≡ false
 closed_reads c w life e = ap reads_life (present-close c w life e)
 
-starved_serve : (c place : ℕ) (frame : Frame) (w : World) (life : Life) → present c w ≡ Some life → reads_life (present c w) ≡ true → serve (starved c (Judging place)) c place frame w ≡ close c w
+marked_serve : (marks : List Mark) (c place : ℕ) (frame : Frame) (w : World) (life : Life) → is_marked marks c (Judging place) ≡ true → present c w ≡ Some life → reads_life (present c w) ≡ true → serve marks c place frame w ≡ close c w
 unfolding serve
-starved_serve c place frame w life e r =
-    let marks = starved c (Judging place) in
+marked_serve marks c place frame w life m e r =
     let shut_ = closed_reads c w life e in
-    ap (λ (v : World). settle marks c place (act_all marks c place v)) (step_marked marks c (Judging place) (judge c frame) w r (marked_there c place))
+    ap (λ (v : World). settle marks c place (act_all marks c place v)) (step_marked marks c (Judging place) (judge c frame) w r m)
     ∙ ap (settle marks c place) (idle_acts marks c place (close c w) shut_)
     ∙ idle_settle marks c place (close c w) shut_
 
-starved_in : (s : Setting) (c place : ℕ) (w : World) (life : Life) (arrival : Arrival) (ph : Phase) → present c w ≡ Some life → reads_life (present c w) ≡ true → reads ph ≡ true → arrive_in s (starved c (Judging place)) c w place arrival ph ≡ close c w
-starved_in s c place w life (Whole frame) LoggingIn e r q = step_marked (starved c (Judging place)) c (Judging place) (enter s c frame) w r (marked_there c place)
-starved_in s c place w life (Whole frame) (FullFeature session) e r q = starved_serve c place frame w life e r
-starved_in s c place w life (Whole frame) Closing e r q = absurd cc
-starved_in s c place w life (Whole frame) Over e r q = absurd cc
-starved_in s c place w life TooLong ph e r q = cond_true (reads ph) (close c w) w q
+marked_in : (s : Setting) (marks : List Mark) (c place : ℕ) (w : World) (life : Life) (arrival : Arrival) (ph : Phase) → is_marked marks c (Judging place) ≡ true → present c w ≡ Some life → reads_life (present c w) ≡ true → reads ph ≡ true → arrive_in s marks c w place arrival ph ≡ close c w
+marked_in s marks c place w life (Whole frame) LoggingIn m e r q = step_marked marks c (Judging place) (enter s c frame) w r m
+marked_in s marks c place w life (Whole frame) (FullFeature session) m e r q = marked_serve marks c place frame w life m e r
+marked_in s marks c place w life (Whole frame) Closing m e r q = absurd cc
+marked_in s marks c place w life (Whole frame) Over m e r q = absurd cc
+marked_in s marks c place w life TooLong ph m e r q = cond_true (reads ph) (close c w) w q
 
-pub starved_arrive : (s : Setting) (c place : ℕ) (w : World) (life : Life) (arrival : Arrival) → present c w ≡ Some life → reads life.phase ≡ true → arrive s (starved c (Judging place)) c w (place, arrival) ≡ close c w
+pub marked_arrive : (s : Setting) (marks : List Mark) (c place : ℕ) (w : World) (life : Life) (arrival : Arrival) → is_marked marks c (Judging place) ≡ true → present c w ≡ Some life → reads life.phase ≡ true → arrive s marks c w (place, arrival) ≡ close c w
 unfolding arrive
-starved_arrive s c place w life arrival e r =
-    ap (arrive_at s (starved c (Judging place)) c w place arrival) e ∙ starved_in s c place w life arrival life.phase e (ap reads_life e ∙ r) r
+marked_arrive s marks c place w life arrival m e r =
+    ap (arrive_at s marks c w place arrival) e ∙ marked_in s marks c place w life arrival life.phase m e (ap reads_life e ∙ r) r
 
-pub starved_rest : (s : Setting) (c place : ℕ) (w : World) (life : Life) (all : List Arrival) → present c w ≡ Some life → reads life.phase ≡ true
-    → take_step (starved c (Judging place)) c Ending (λ v. v) (fold (arrive s (starved c (Judging place)) c) w (enumerate_from place all)) ≡ close c w
-starved_rest s c place w life [] e r = step_marked (starved c (Judging place)) c Ending (λ v. v) w (ap reads_life e ∙ r) (marked_end c place)
-starved_rest s c place w life (arrival ∷ all) e r =
-    let marks = starved c (Judging place) in
+pub at_once_rest : (s : Setting) (c place : ℕ) (w : World) (life : Life) (all : List Arrival) → present c w ≡ Some life → reads life.phase ≡ true
+    → take_step (at_once c place) c Ending (λ v. v) (fold (arrive s (at_once c place) c) w (enumerate_from place all)) ≡ close c w
+at_once_rest s c place w life [] e r = step_marked (at_once c place) c Ending (λ v. v) w (ap reads_life e ∙ r) (marked_end c place)
+at_once_rest s c place w life (arrival ∷ all) e r =
+    let marks = at_once c place in
     let shut_ = closed_reads c w life e in
-    ap (λ (v : World). take_step marks c Ending (λ u. u) (fold (arrive s marks c) v (enumerate_from (place + 1) all))) (starved_arrive s c place w life arrival e r)
+    ap (λ (v : World). take_step marks c Ending (λ u. u) (fold (arrive s marks c) v (enumerate_from (place + 1) all))) (marked_arrive s marks c place w life arrival (marked_there c place) e r)
     ∙ ap (take_step marks c Ending (λ u. u)) (idle_all s marks c (place + 1) (close c w) all shut_)
     ∙ step_idle marks c Ending (λ u. u) (close c w) shut_

@@ -1,26 +1,19 @@
 -- What taking a frame makes of the machine, as the code has it, is what it makes of a target.
-use Rattle.std.proofs.Common.{◌≡◌, ℕ, ◌+◌, ◌<◌, List, length, get_or, true, false, refl, sym, ap, ◌∙◌, arith, inl, inr}
+use Rattle.std.proofs.Common.{◌≡◌, ℕ, ◌<◌, List, length, get_or, true, false, refl, sym, ap, ◌∙◌, arith, inl, inr}
 use Rattle.std.specs.Prelude.{◌⊎◌, Result, Ok, Err, OnOk}
 use Rattle.iscsi_pdu.specs.Frames.{Frame}
 use Rattle.iscsi_login.specs.LoginState.{LoginState}
-use Rattle.iscsi_target.specs.History.{Judging, Whole}
-use Rattle.iscsi_target.specs.World.{present}
 use Rattle.iscsi_target.specs.Acts.{is_login}
-use Rattle.iscsi_target.specs.Machine.{LinkState, Machine, IsSound, IsAlike, link_at, free_link, is_free, is_reading, is_open_at, closed, logged_in}
-use Rattle.iscsi_target.specs.Serving.{KeepsHalf, Takes, Fails}
+use Rattle.iscsi_target.specs.Machine.{LinkState, Machine, IsSound, IsAlike, link_at, free_link, is_reading, closed, logged_in}
+use Rattle.iscsi_target.specs.Serving.{KeepsHalf, Takes}
 use Rattle.iscsi_target.specs.declared.phase.Phase.{Phase}
 use Rattle.iscsi_target.specs.declared.phase.Phase.TheVariants as phases
 use Rattle.iscsi_target.proofs.Asking.{get_or_any}
-use Rattle.iscsi_target.proofs.Choices.{eqb_self}
-use Rattle.iscsi_target.proofs.Serving.{closes}
 use Rattle.iscsi_target.proofs.FrameTaken.{frame_taken, frame_logged_in, idle_taken}
 use Rattle.iscsi_target.proofs.FrameOpens.{open_alike, frame_opens}
 use Rattle.iscsi_target.proofs.Halves.{frame_half}
 use Rattle.iscsi_target.proofs.Acting.{takes}
 use Rattle.iscsi_target.proofs.Sound.{closed_sound, logged_in_sound, sound_as}
-use Rattle.iscsi_target.proofs.Opening.{closed_opens}
-use Rattle.iscsi_target.proofs.Marks.{starved_arrive}
-use Rattle.iscsi_target.proofs.Feeding.{some_reads}
 
 -- ---- as the code has it
 
@@ -80,17 +73,3 @@ takes_closed given after c frame lt is same = takes_as given after c frame lt (�
 pub takes_login : (given after : Machine) (c : ℕ) (frame : Frame) (login : LoginState) → c < length given.links → (link_at given c).phase ≡ phases.Login login → is_login frame ≡ true → after ≡ logged_in given c login frame → Takes c frame given after
 takes_login given after c frame login lt e logs is =
     takes_as given after c frame lt (λ sound. logged_in_sound given c login frame (sound_as after _ is sound)) (is ∙ sym (frame_logged_in given c frame login e logs))
-
--- ---- an allocation failed
-
--- nothing but the connection changed
-pub fails_early : (given after : Machine) (c : ℕ) (frame : Frame) → c < length given.links → is_free (link_at given c).phase ≡ false → closed after c ≡ closed given c → Fails c frame given after
-fails_early given after c frame lt open_ same = record {
-  back = λ sound. closed_sound given c (sound_as (closed after c) _ same sound);
-  opens = λ d. ap (λ (m : Machine). is_open_at m d) same ∙ closed_opens given c lt open_ d;
-  step = λ place. Judging place;
-  of_frame = λ place. eqb_self place;
-  stands = λ sound s sent w place bytes h reads.
-      (let there = some_reads (present c w) reads in
-      rw (starved_arrive s c place w there.0 (Whole frame) there.1 there.2, same) (closes c place (place + 1) bytes s sent w given there.0 h there.1));
-}

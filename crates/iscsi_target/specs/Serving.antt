@@ -2,7 +2,7 @@
 -- frame does to it, and what is left where an allocation fails.
 use Rattle.std.specs.Prelude.{◌≡◌, ◌≢◌, ℕ, ◌+◌, ◌<◌, ◌≤◌, List, [], ◌∷◌, length, drop, true, false, Option, Some, None, ⊤}
 use Rattle.iscsi_pdu.specs.Frames.{Frame}
-use Rattle.iscsi_target.specs.History.{Mark, Step, Ending, is_of, Whole, connection_limit}
+use Rattle.iscsi_target.specs.History.{Mark, Step, is_of, Whole, connection_limit}
 use Rattle.iscsi_target.specs.Life.{Life}
 use Rattle.iscsi_target.specs.World.{Setting, World, present, reads_life, is_marked, arrive}
 use Rattle.iscsi_target.specs.Output.{out_now}
@@ -51,19 +51,21 @@ pub record KeepsHalf (half : List ℕ) (link : LinkState) : Type 0 where
 -- What taking a frame of connection c makes of a target.
 pub record Takes (c : ℕ) (frame : Frame) (given after : Machine) : Type 0 where
   pub back : IsSound after → IsSound given
+  -- of the bytes behind the frame
   pub keeps : is_reading (link_at given c).phase ≡ true → KeepsHalf (link_at given c).half (link_at after c)
+  -- it opens no connection and ends none
   pub opens : (d : ℕ) → is_open_at after d ≡ is_open_at given d
-  -- where the code stood with the World, it stands with the World that took the frame
+  -- where the code stood with the World, it stands with the World that took the frame, if no mark names a step of it
   pub stands : IsSound after → (s : Setting) (sent : ℕ → ℕ) (w : World) (place : ℕ) (bytes : List ℕ) (marks : List Mark) → Unmarked marks c place → Serves c bytes s sent w given
       → Serves c bytes s sent (arrive s marks c w (place, Whole frame)) after
 
 -- ---- an allocation fails
 
--- it failed before this step, or at the event's end where the step does not come
-unfoldable pub starved : ℕ → Step → List Mark
-starved c step = record { connection = c; step = step } ∷ record { connection = c; step = Ending } ∷ []
+-- it failed before this step
+abbrev pub starved : ℕ → Step → List Mark
+starved c step = record { connection = c; step = step } ∷ []
 
--- An allocation failed while a frame of connection c was taken: what that makes of a target once the
+-- An allocation failed while a frame of connection c was taken: what that makes of a target, once the
 -- connection is closed.
 pub record Fails (c : ℕ) (frame : Frame) (given after : Machine) : Type 0 where
   pub back : IsSound (closed after c) → IsSound given

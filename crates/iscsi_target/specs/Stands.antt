@@ -3,7 +3,7 @@ use Rattle.std.specs.Prelude.{◌≡◌, ◌⊎◌, ℕ, ◌+◌, ◌<◌, ◌�
 use Rattle.iscsi_pdu.specs.Frames.{frames, rest, is_long}
 use Rattle.iscsi_login.specs.Login.{remembered}
 use Rattle.iscsi_session.specs.State.{IsLawful, remembered as session_remembered}
-use Rattle.iscsi_target.specs.History.{History, Mark, is_of, arrivals, connection_limit}
+use Rattle.iscsi_target.specs.History.{History, Mark, Judging, Ending, is_of, arrivals, connection_limit}
 use Rattle.iscsi_target.specs.Life.{Life, Phase, LoggingIn, FullFeature, Closing, Over, reads, statuses}
 use Rattle.iscsi_target.specs.World.{Setting, World, present, world}
 use Rattle.iscsi_target.specs.Output.{out_now}
@@ -91,9 +91,13 @@ abbrev pub frames_with : Option Life → List ℕ → ℕ
 frames_with None piece = 0
 frames_with (Some life) piece = frames_before (Some life) + length (frames (rest life.bytes ++ piece))
 
--- An allocation failed in a piece's event: before a step of a frame that the piece brings, or at once,
--- before the piece was kept.
+-- it failed before the frame of this place is judged, or at the event's end where that frame does not come
+abbrev pub at_once : ℕ → ℕ → List Mark
+at_once c place = record { connection = c; step = Judging place } ∷ record { connection = c; step = Ending } ∷ []
+
+-- An allocation failed in a piece's event: at once, before the piece was kept, or before a step of a frame
+-- that the piece brings. Of a step there is one mark, so that the connection closes only where the step comes.
 pub record IsStarved (c : ℕ) (life : Option Life) (piece : List ℕ) (marks : List Mark) : Type 0 where
   pub place : ℕ
   pub first : NamesFirst c place marks
-  pub reached : (place ≡ frames_before life) ⊎ (place < frames_with life piece)
+  pub reached : ((place ≡ frames_before life) × (marks ≡ at_once c place)) ⊎ ((frames_before life ≤ place) × (place < frames_with life piece) × (length marks ≡ 1))

@@ -291,7 +291,7 @@ impl<S: Store> Target<S> {
     }
 
     /// One frame of a connection, in its phase. Where an allocation fails the connection is to be
-    /// closed.
+    /// closed, as just before one of the frame's steps.
     #[tactic(auto, unfolding(crate::specs::Acts::is_login))]
     fn take_frame(&mut self, c: usize, frame: Frame) -> Result<(), Memory>
         requires { c < 64 }

@@ -7,7 +7,7 @@ use Rattle.iscsi_target.proofs.Opening.{half_opens, closed_opens, reading_is_ope
 use Rattle.iscsi_target.proofs.Standing.{stands_machine}
 use Rattle.iscsi_target.proofs.Bringing.{begins, goes_on, with_half}
 use Rattle.iscsi_target.proofs.Feeding.{ends_whole, ends_closed, ends_long, ends_idle, ends_empty, progress_from, closing_there, first_sound, first_opens, taken_is_shorter}
-use Rattle.iscsi_target.proofs.Starving.{ends_starved, ends_failed, ends_at_once, starved_machine, some_frame}
+use Rattle.iscsi_target.proofs.Starving.{ends_starved, ends_failed, ends_at_once, starved_machine}
 use Rattle.iscsi_target.proofs.target.Target.feed.Goals as goal
 
 pub returns-then-is_empty-clause-stands : goal.returns-then-is_empty-clause-stands
@@ -50,13 +50,14 @@ loop-self-init g c =
 pub returns-in-Err-take_frame-clause-starved : goal.returns-in-Err-take_frame-clause-starved
 returns-in-Err-take_frame-clause-starved g c = λ s sent h at sound.
     (let given = rw c.in-Ok-Some.field-0-is at c.in-Ok-Some.ensures.same in
+    let gives : GivesFrame c.in-Ok-Some.frame _ _ = rw c.in-Ok-Some.field-0-is at c.in-Ok-Some.ensures.given in
     let same = c.starve-in-Err-take_frame.ensures.closed in
     let stopped = sound_as c.starve-in-Err-take_frame.new.self _ same sound in
     let now_sound = sound_as c.next_frame.new.self _ given (c.in-Err-take_frame.ensures.err.back stopped) in
     starved_machine c.args.c s sent h c.args.piece.now (closed c.take_frame.new.self c.args.c) c.starve-in-Err-take_frame.new.self (sym same)
-    (ends_failed c.args.c s sent c.args.self.now c.loop-self.self c.next_frame.new.self c.take_frame.new.self h c.args.piece.now c.in-Ok-Some.frame c.requires.in_range (at (first_sound c.args.c c.args.self.now c.keep.new.self c.loop-self.self c.args.piece.now c.in_default.ensures.ok c.loop-self.invariant now_sound)) (sym c.reads.ensures.value ∙ c.if-not-reads.false)
+    (ends_failed c.args.c s sent c.args.self.now c.loop-self.self c.next_frame.new.self c.take_frame.new.self h c.args.piece.now c.in-Ok-Some.frame _ _ c.requires.in_range (at (first_sound c.args.c c.args.self.now c.keep.new.self c.loop-self.self c.args.piece.now c.in_default.ensures.ok c.loop-self.invariant now_sound)) (sym c.reads.ensures.value ∙ c.if-not-reads.false)
     (progress_from c.args.c c.keep.new.self _ c.loop-self.self c.in_default.ensures.ok c.loop-self.invariant) (sym c.reads-in-loop-self.ensures.value ∙ c.loop-self-test.true)
-    (rw c.in-Ok-Some.field-0-is at c.in-Ok-Some.ensures.given) given c.in-Err-take_frame.ensures.err stopped))
+    gives.first given c.in-Err-take_frame.ensures.err stopped))
 
 pub returns-in-Err-take_frame-clause-closing : goal.returns-in-Err-take_frame-clause-closing
 returns-in-Err-take_frame-clause-closing g c =
@@ -96,11 +97,13 @@ returns-in-Err-TooLong-clause-stands g c = λ s sent h at sound.
 pub returns-in-Err-Memory-clause-starved : goal.returns-in-Err-Memory-clause-starved
 returns-in-Err-Memory-clause-starved g c = λ s sent h at sound.
     (let same : closed c.loop-self.self c.args.c ≡ c.starve-in-Err-Memory.new.self = ap (λ (m : Machine). closed m c.args.c) (sym c.in-Err-Memory.ensures.err) ∙ sym c.starve-in-Err-Memory.ensures.closed in
-    let now_sound = closed_sound c.loop-self.self c.args.c (sound_as c.starve-in-Err-Memory.new.self _ (sym same) sound) in
+    let lt : c.args.c < length c.loop-self.self.links = (let below = c.requires.in_range in omega (arith, c.reads-in-loop-self.ensures.count)) in
+    let stopped = sound_as c.starve-in-Err-Memory.new.self _ (sym same) sound in
+    let now_sound = closed_sound c.loop-self.self c.args.c stopped in
     starved_machine c.args.c s sent h c.args.piece.now (closed c.loop-self.self c.args.c) c.starve-in-Err-Memory.new.self same
     (ends_starved c.args.c s sent c.args.self.now c.loop-self.self h c.args.piece.now c.requires.in_range (at (first_sound c.args.c c.args.self.now c.keep.new.self c.loop-self.self c.args.piece.now c.in_default.ensures.ok c.loop-self.invariant now_sound)) (sym c.reads.ensures.value ∙ c.if-not-reads.false)
-    (progress_from c.args.c c.keep.new.self _ c.loop-self.self c.in_default.ensures.ok c.loop-self.invariant) now_sound (sym c.reads-in-loop-self.ensures.value ∙ c.loop-self-test.true)
-    (some_frame _ ((rw c.in-Err-Memory.field-0-is at c.in-Err-Memory.ensures.memory) refl))))
+    (progress_from c.args.c c.keep.new.self _ c.loop-self.self c.in_default.ensures.ok c.loop-self.invariant) lt (sym c.reads-in-loop-self.ensures.value ∙ c.loop-self-test.true)
+    ((rw c.in-Err-Memory.field-0-is at c.in-Err-Memory.ensures.memory) refl) stopped))
 
 pub returns-in-Err-Memory-clause-closing : goal.returns-in-Err-Memory-clause-closing
 returns-in-Err-Memory-clause-closing g c =

@@ -6,7 +6,8 @@ use Rattle.iscsi_target.specs.declared.session.Verdict.TheVariants.{Accepted, Vi
 use Rattle.iscsi_target.specs.declared.phase.Phase.TheVariants.{FullFeature}
 use Rattle.iscsi_target.proofs.Asking.{login_there}
 use Rattle.iscsi_target.proofs.FrameTaken.{frame_taken, frame_judged, frame_refused}
-use Rattle.iscsi_target.proofs.OneFrame.{on_ok_both, link_read, takes_so, idle_either, takes_none, takes_login, takes_closed, fails_early}
+use Rattle.iscsi_target.proofs.OneFrame.{on_ok_both, link_read, takes_so, idle_either, takes_none, takes_login, takes_closed}
+use Rattle.iscsi_target.proofs.Starving.{fails_early}
 use Rattle.iscsi_target.proofs.target.Target.take_frame.Goals as goal
 
 -- ---- a connection that does not read
