@@ -7,9 +7,7 @@ pub mod Served
 pub mod Numbers
 pub mod Requests
 pub mod Serving
-pub mod FrameTaken
 pub mod LoggingIn
-pub mod Acting
 pub mod Standing
 pub mod Asking
 pub mod Opening
@@ -17,6 +15,7 @@ pub mod Marks
 pub mod Bringing
 pub mod Feeding
 pub mod Starving
+pub mod FrameTaken
 pub mod Halves
 pub mod FrameOpens
 pub mod OneFrame
