@@ -2,9 +2,10 @@ mod Room
 mod Numbered
 mod Due
 pub mod Acted
-mod Parts
+pub mod Parts
 mod Remembered
 mod Moving
+pub mod Fewer
 mod Answered
 pub mod Finished
 mod Lines

@@ -1,5 +1,5 @@
 -- Whose turn it is to act.
-use Rattle.std.specs.Prelude.{◌≡◌, ℕ, List, [], ◌∷◌, Option, Some, option_map, slice_get}
+use Rattle.std.specs.Prelude.{◌≡◌, ℕ, ◌+◌, List, [], ◌∷◌, length, Option, Some, option_map, slice_get}
 use Rattle.iscsi_pdu.specs.Frames.{Frame}
 use Rattle.iscsi_order.specs.Window as order
 use Rattle.iscsi_session.specs.declared.acting.Turn.{Turn}
@@ -24,3 +24,7 @@ frame_at (Numbered n) lists = named_by n lists.held
 pub record IsTurn (turn : Turn) (past : Past) (request : Request) (others : List Request) : Type 0 where
   pub here : turn_of past ≡ Some turn
   pub due : due past ≡ request ∷ others
+
+-- how many requests wait to act
+abbrev pub waiting_count : TaskLists → ℕ
+waiting_count lists = length lists.held + length lists.arrived

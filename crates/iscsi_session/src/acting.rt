@@ -1,13 +1,13 @@
 //! The requests that are taken act.
 
-ghost use Rattle.std.specs.Prelude.{◌≡◌, ◌≤◌, ◌+◌, ◌++◌, ℕ, List, length, flat_map, true, false, if◌then◌else◌, IfOk, OnOk, OnErr, IfSome, IfNone};
+ghost use Rattle.std.specs.Prelude.{◌≡◌, ◌≢◌, ◌≤◌, ◌<◌, ◌+◌, ◌++◌, ℕ, List, [], Some, length, flat_map, true, false, if◌then◌else◌, IfOk, OnOk, OnErr, IfSome, IfNone};
 ghost use Rattle.iscsi_pdu.specs.Answer.{spelling};
 ghost use Rattle.iscsi_pdu.specs.Frames as pdu;
 ghost use Rattle.iscsi_session.specs.Requests.{Request, Past, is_command, acted, bearing, due, stamp};
 ghost use Rattle.iscsi_session.specs.Acts.{act_answers, act_by, acted_by, answers_by, closes, ends, logout_answer, ping_answers};
 ghost use Rattle.iscsi_session.specs.Room.{room_to_act};
 ghost use Rattle.iscsi_session.specs.State.{Stands};
-ghost use Rattle.iscsi_session.specs.Turns.{turn_of, frame_at, IsTurn};
+ghost use Rattle.iscsi_session.specs.Turns.{turn_of, frame_at, IsTurn, waiting_count};
 
 use crate::act::Act;
 use crate::answers::{put, rejected};
@@ -52,7 +52,9 @@ impl Session {
             → Stands (answered + bearing (answers_by (due past) answered past)) (acted_by (due past) past) self.new) }
         ensures out { OnOk result ((answered : ℕ) (past : Past) → Stands answered past self.old
             → out.new.items ≡ out.old.items ++ flat_map spelling (answers_by (due past) answered past)) }
+        ensures fewer { IfOk result (λ a. a ≡ Act.Taken → waiting_count self.new.tasks < waiting_count self.old.tasks) }
         ensures params { self.new.params ≡ self.old.params }
+        ensures due { OnErr result ((answered : ℕ) (past : Past) → Stands answered past self.old → due past ≢ []) }
         ensures err { OnErr result (self.new ≡ self.old) }
         ensures out_err { OnErr result (out.new.items ≡ out.old.items) }
     {
@@ -97,6 +99,7 @@ impl Session {
     fn queue(&mut self, turn: Turn) -> Result<(), Memory>
         ensures ok { OnOk result ((answered : ℕ) (past : Past) (request : Request) (others : List Request) → Stands answered past self.old → IsTurn turn past request others
             → is_command request.frame ≡ true → Stands answered (acted request past) self.new) }
+        ensures fewer { OnOk result ((frame : pdu.Frame) → frame_at turn self.old.tasks ≡ Some frame → waiting_count self.new.tasks < waiting_count self.old.tasks) }
         ensures params { self.new.params ≡ self.old.params }
         ensures err { OnErr result (self.new ≡ self.old) }
     {
@@ -115,6 +118,7 @@ impl Session {
         ensures frame { result ≡ frame_at turn self.old.tasks }
         ensures stands { (answered : ℕ) (past : Past) (request : Request) (others : List Request) → Stands answered past self.old → IsTurn turn past request others
             → is_command request.frame ≡ false → Stands answered (acted request past) self.new }
+        ensures fewer { IfSome result (λ _. waiting_count self.new.tasks < waiting_count self.old.tasks) }
         ensures params { self.new.params ≡ self.old.params }
     {
         match turn {
@@ -136,6 +140,7 @@ impl Session {
             → is_command request.frame ≡ false → Stands (answered + bearing (act_answers answered request past)) (acted request past) self.new }
         ensures out { (answered : ℕ) (past : Past) (request : Request) (others : List Request) → Stands answered past self.old → IsTurn turn past request others
             → is_command request.frame ≡ false → out.new.items ≡ out.old.items ++ flat_map spelling (act_answers answered request past) }
+        ensures fewer { result ≡ Act.Taken → waiting_count self.new.tasks < waiting_count self.old.tasks }
         ensures params { self.new.params ≡ self.old.params }
     {
         let Some(frame) = self.take_out(turn) else {
@@ -157,6 +162,7 @@ impl Session {
             → Stands (answered + bearing (ping_answers (stamp answered past) past.params.values frame.now)) past self.new }
         ensures out { (answered : ℕ) (past : Past) → Stands answered past self.old
             → out.new.items ≡ out.old.items ++ flat_map spelling (ping_answers (stamp answered past) past.params.values frame.now) }
+        ensures tasks { self.new.tasks ≡ self.old.tasks }
         ensures params { self.new.params ≡ self.old.params }
     {
         let header = &frame.header;
@@ -191,6 +197,7 @@ impl Session {
         ensures stands { (answered : ℕ) (past : Past) → Stands answered past self.old → Stands (answered + 1) past self.new }
         ensures out { (answered : ℕ) (past : Past) → Stands answered past self.old
             → out.new.items ≡ out.old.items ++ spelling (logout_answer (stamp answered past) past.params frame.now) }
+        ensures tasks { self.new.tasks ≡ self.old.tasks }
         ensures params { self.new.params ≡ self.old.params }
     {
         let stamp = self.next_stamp();

@@ -1,6 +1,6 @@
 //! A command that is done is answered.
 
-ghost use Rattle.std.specs.Prelude.{◌≡◌, ◌≤◌, ◌<◌, ◌+◌, ◌++◌, ◌∷◌, ℕ, List, [], flat_map, length, true, false, vec_capacity};
+ghost use Rattle.std.specs.Prelude.{◌≡◌, ◌≤◌, ◌<◌, ◌+◌, ◌++◌, ◌∷◌, ℕ, List, [], drop, flat_map, length, true, false, vec_capacity};
 ghost use Rattle.iscsi_pdu.specs.Answer.{spelling};
 ghost use Rattle.iscsi_pdu.specs.Frames as pdu;
 ghost use Rattle.iscsi_pdu.specs.Header.{is_immediate};
@@ -34,6 +34,7 @@ impl Session {
             → Stands (answered + 1) (finished command past) self.new }
         ensures out { (answered : ℕ) (past : Past) (command : Request) (others : List Request) → Stands answered past self.old → queue past ≡ command ∷ others
             → out.new.items ≡ out.old.items ++ flat_map spelling (command_answers (stamp answered (finished command past)) past.params.values command.frame done.now) }
+        ensures queue { self.new.tasks.queue ≡ drop 1 self.old.tasks.queue }
         ensures params { self.new.params ≡ self.old.params }
     {
         let Some(frame) = self.tasks.first() else {

@@ -7,6 +7,9 @@ pub mod Served
 pub mod Numbers
 pub mod Requests
 pub mod Serving
+pub mod SessionSteps
+pub mod Turns
+pub mod FrameServed
 pub mod LoggingIn
 pub mod Standing
 pub mod Asking
@@ -18,6 +21,9 @@ pub mod Starving
 pub mod FrameTaken
 pub mod Halves
 pub mod FrameOpens
+pub mod Staying
+pub mod AllTurns
+pub mod SessionLinks
 pub mod OneFrame
 pub mod Tables
 pub mod Keeping

@@ -1,53 +1,91 @@
--- A command at one connection of the code.
-use Rattle.std.proofs.Common.{◌≡◌, ℕ, ◌<◌, List, [], ◌++◌, length, set, get_or, refl, sym, ap, ◌∙◌, subst, arith, inl, inr}
-use Rattle.std.specs.Prelude.{All, flat_map}
-use Rattle.std.proofs.lemmas.Bool.Decides.{eqb_tells}
-use Rattle.std.proofs.lemmas.List.{length-set, get_or_default, get_or-set_same, get_or-set_other}
+-- A step of a session at one connection of the code.
+use Rattle.std.proofs.Common.{◌≡◌, ◌≢◌, ℕ, ◌+◌, ◌<◌, List, [], ◌∷◌, ◌++◌, length, map, set, get_or, Bool, true, false, Result, Ok, Err, OnOk, refl, sym, ap, ◌∙◌, subst, arith}
+use Rattle.std.specs.Prelude.{All, filter, flat_map, is_err}
+use Rattle.std.proofs.lemmas.List.{length-set, get_or_default, get_or-set_same}
+use Rattle.std.proofs.lemmas.List.Elements.{filter-append}
+use Rattle.std.specs.List.{enumerate_from}
 use Rattle.scsi_sense.specs.Done.{Outcome}
 use Rattle.scsi_unit.specs.Units.{UnitStates, AreSound}
 use Rattle.iscsi_pdu.specs.Answer.{spelling}
 use Rattle.iscsi_pdu.specs.Frames.{Frame}
+use Rattle.iscsi_pdu.specs.declared.answer.Answer.{Answer}
 use Rattle.iscsi_pdu.specs.declared.stamp.Stamp.{Stamp}
 use Rattle.iscsi_login.specs.declared.params.Params.{Params}
-use Rattle.iscsi_target.specs.Acts.{carried_out, command_answers}
-use Rattle.iscsi_target.specs.Machine.{LinkState, IsAlike, counted, finished_one, served_in, served_phase, free_link}
+use Rattle.iscsi_login.specs.declared.values.Values.{Values}
+use Rattle.iscsi_transfer.specs.declared.data_in.Piece.{Piece}
+use Rattle.iscsi_session.specs.Requests.{Request, Past, queue, finished, stamp, bears_status, bearing}
+use Rattle.iscsi_session.specs.Answers.{data_in, data_sent, data_answers, scsi_answer, sent_pieces, command_answers}
+use Rattle.iscsi_session.specs.State.{SessionState, frames_of, remembered, Stands}
+use Rattle.iscsi_session.proofs.Parts.{parts}
+use Rattle.iscsi_target.specs.Acts.{carried_out}
+use Rattle.iscsi_target.specs.Machine.{LinkState}
+use Rattle.iscsi_target.specs.Sessions.{IsSessionOf, StepsTo, FinishesTo}
 use Rattle.iscsi_target.specs.declared.phase.Phase.{Phase}
-use Rattle.iscsi_target.specs.declared.phase.Phase.TheVariants.{Free, Login, FullFeature, Closing}
+use Rattle.iscsi_target.specs.declared.phase.Phase.TheVariants.{FullFeature}
 
--- it did what its target's units should do, where these are sound
-pub served_so : (link : LinkState) (all : List UnitStates) (frame : Frame) (session : Params) (numbers : Stamp) (units d : UnitStates) (done : Outcome) (items : List ℕ)
-    → link.phase ≡ FullFeature session numbers → session.target < length all → All AreSound (set all session.target units)
-    → (AreSound units → (units, done) ≡ carried_out (get_or all session.target d) session.nexus frame)
-    → items ≡ link.waiting ++ flat_map spelling (command_answers (finished_one numbers) session.values frame done)
-    → (record link { phase = FullFeature session (counted (finished_one numbers)); waiting = items }, set all session.target units) ≡ served_in link all frame link.phase
-served_so link all frame session numbers units d done items phase lt sound performed written =
-    let at = session.target in
-    let there : AreSound units = subst AreSound (get_or-set_same all at units [] lt) (sound at [] (omega (arith, lt, length-set all at units))) in
-    let same : (units, done) ≡ carried_out (get_or all at []) session.nexus frame = performed there ∙ ap (λ (before : UnitStates). carried_out before session.nexus frame) (get_or_default all at d [] lt) in
-    let full : LinkState × List UnitStates = served_in link all frame (FullFeature session numbers) in
-    ap (λ (x : List ℕ). (record link { phase = FullFeature session (counted (finished_one numbers)); waiting = x }, set all at units)) written
-    ∙ ap (λ (p : UnitStates × Outcome). (record link { phase = FullFeature session (counted (finished_one numbers)); waiting = link.waiting ++ flat_map spelling (command_answers (finished_one numbers) session.values frame p.1) }, set all at p.0)) same
-    ∙ ap (served_in link all frame) (sym phase)
+pub ok_known : {T E P : Type 0} (r : Result T E) → is_err r ≡ false → OnOk r P → P
+ok_known (Ok x) e known = known
+ok_known (Err fault) e known = absurd cc
 
--- whatever the units did, it keeps the same bytes, in the phase that it should have
-pub served_alike : (new old : LinkState) (all : List UnitStates) (frame : Frame) (phase : Phase) → old.phase ≡ phase → new ≡ record old { phase = served_phase old.phase; waiting = new.waiting } → IsAlike new (served_in old all frame phase).0
-served_alike new old all frame Free e is = record { half = ap (λ (l : LinkState). l.half) is; phase = ap (λ (l : LinkState). l.phase) is ∙ ap served_phase e ∙ sym e }
-served_alike new old all frame (Login login) e is = record { half = ap (λ (l : LinkState). l.half) is; phase = ap (λ (l : LinkState). l.phase) is ∙ ap served_phase e ∙ sym e }
-served_alike new old all frame (FullFeature session numbers) e is = record { half = ap (λ (l : LinkState). l.half) is; phase = ap (λ (l : LinkState). l.phase) is ∙ ap served_phase e }
-served_alike new old all frame Closing e is = record { half = ap (λ (l : LinkState). l.half) is; phase = ap (λ (l : LinkState). l.phase) is ∙ ap served_phase e ∙ sym e }
+-- ---- where a session stands
 
-alike_same : (link : LinkState) → IsAlike link link
-alike_same link = record { half = refl; phase = refl }
+-- the session of this connection
+abbrev pub with_session : List ℕ → SessionState → List ℕ → LinkState
+with_session half session waiting = record { half = half; phase = FullFeature session; waiting = waiting }
 
--- one connection is set to one that is alike
-pub set_alike : (links others : List LinkState) (c : ℕ) (new other : LinkState) → links ≡ others → c < length others → IsAlike new other → (d : ℕ) → IsAlike (get_or (set links c new) d free_link) (get_or (set others c other) d free_link)
-set_alike links others c new other e lt alike d = rw e (elim (eqb_tells d c) [
-  | inl same ↦ (
-      let here : get_or (set others c new) c free_link ≡ new = get_or-set_same others c new free_link lt in
-      let there : get_or (set others c other) c free_link ≡ other = get_or-set_same others c other free_link lt in
-      rw same.1 (rw (here, there) alike))
-  | inr differ ↦ (
-      let here : get_or (set others c new) d free_link ≡ get_or others d free_link = get_or-set_other others c d new free_link differ.1 in
-      let there : get_or (set others c other) d free_link ≡ get_or others d free_link = get_or-set_other others c d other free_link differ.1 in
-      rw (here, there) (alike_same (get_or others d free_link)))
-])
+pub session_stands : (answered : ℕ) (past : Past) (half waiting : List ℕ) (session : SessionState) → IsSessionOf answered past (with_session half session waiting) → Stands answered past session
+session_stands answered past half waiting session is =
+    let phase : FullFeature session ≡ FullFeature (remembered answered past) = is.phase in
+    let same : session ≡ remembered answered past = cc in
+    record { lawful = is.lawful; remembered = same }
+
+pub steps_so : (answered : ℕ) (more : List Answer) (past : Past) (half old new : List ℕ) (session state : SessionState) → Stands (answered + bearing more) past state → new ≡ old ++ flat_map spelling more
+    → StepsTo answered more past (with_session half session old) (with_session half state new)
+steps_so answered more past half old new session state s written = record { lawful = s.lawful; is = rw (s.remembered, written) refl }
+
+-- ---- a command is done
+
+data_bears_none : (numbers : Stamp) (frame : Frame) (sent : List ℕ) (pieces : List (ℕ × Piece)) → filter bears_status (map (data_in numbers frame sent) pieces) ≡ []
+data_bears_none numbers frame sent [] = refl
+data_bears_none numbers frame sent (piece ∷ pieces) = data_bears_none numbers frame sent pieces
+
+-- of its answers one bears status
+pub command_bears : (numbers : Stamp) (values : Values) (frame : Frame) (done : Outcome) → bearing (command_answers numbers values frame done) ≡ 1
+unfolding data_answers scsi_answer
+command_bears numbers values frame done =
+    let sent = data_sent frame done in
+    let response = scsi_answer numbers frame done (length (sent_pieces values sent)) in
+    ap (λ (l : List Answer). length l) (filter-append bears_status (data_answers numbers values frame sent) (response ∷ []))
+    ∙ ap (λ (l : List Answer). length (l ++ filter bears_status (response ∷ []))) (data_bears_none numbers frame sent (enumerate_from 0 (sent_pieces values sent)))
+
+pub none_done : (requests : List Request) (answered : ℕ) (past : Past) (old new : LinkState) (units : List UnitStates) → frames_of requests ≡ [] → new ≡ old → FinishesTo requests answered past false old new units units
+none_done [] answered past old new units e same = (refl, same, refl)
+none_done (command ∷ others) answered past old new units e same = absurd cc
+
+-- the first command was done on its target's units, where these are sound
+pub one_done : (requests : List Request) (answered : ℕ) (past : Past) (half old new : List ℕ) (session state : SessionState) (params : Params) (before : List UnitStates) (units d : UnitStates) (frame : Frame) (rest : List Frame) (done : Outcome)
+    → queue past ≡ requests → frames_of requests ≡ frame ∷ rest → params ≡ past.params → params.target < length before → All AreSound (set before params.target units)
+    → (AreSound units → (units, done) ≡ carried_out (get_or before params.target d) params.nexus frame)
+    → ((command : Request) (others : List Request) → queue past ≡ command ∷ others → Stands (answered + 1) (finished command past) state)
+    → ((command : Request) (others : List Request) → queue past ≡ command ∷ others → new ≡ old ++ flat_map spelling (command_answers (stamp answered (finished command past)) past.params.values command.frame done))
+    → FinishesTo requests answered past true (with_session half session old) (with_session half state new) before (set before params.target units)
+one_done [] answered past half old new session state params before units d frame rest done is e with within sound performed stands written = absurd cc
+one_done (command ∷ others) answered past half old new session state params before units d frame rest done is e with within sound performed stands written =
+    let at = params.target in
+    let first : frame ≡ command.frame = cc in
+    let there : AreSound units = subst AreSound (get_or-set_same before at units [] within) (sound at [] (omega (arith, within, length-set before at units))) in
+    let same : (units, done) ≡ carried_out (get_or before past.params.target []) past.params.nexus command.frame =
+    performed there ∙ ap (λ (u : UnitStates). carried_out u params.nexus frame) (get_or_default before at d [] within)
+    ∙ ap (λ (f : Frame). carried_out (get_or before at []) params.nexus f) first ∙ ap (λ (p : Params). carried_out (get_or before p.target []) p.nexus command.frame) with in
+    let numbers = stamp answered (finished command past) in
+    let bears = command_bears numbers past.params.values command.frame done in
+    let standing : Stands (answered + bearing (command_answers numbers past.params.values command.frame done)) (finished command past) state =
+    subst (λ (n : ℕ). Stands (answered + n) (finished command past) state) (sym bears) (stands command others is) in
+    let steps = steps_so answered (command_answers numbers past.params.values command.frame done) (finished command past) half old new session state standing (written command others is) in
+    let after : set before at units ≡ set before past.params.target (carried_out (get_or before past.params.target []) past.params.nexus command.frame).0 =
+    ap (λ (p : Params). set before p.target units) with ∙ ap (λ (p : UnitStates × Outcome). set before past.params.target p.0) same in
+    (refl, after, subst (λ (p : UnitStates × Outcome). StepsTo answered (command_answers numbers past.params.values command.frame p.1) (finished command past) (with_session half session old) (with_session half state new)) same steps)
+
+pub queue_there : (answered : ℕ) (past : Past) (session : SessionState) (frame : Frame) (rest : List Frame) → Stands answered past session → session.tasks.queue ≡ frame ∷ rest → queue past ≢ []
+queue_there answered past session frame rest s e none =
+    absurd (let empty : [] ≡ frame ∷ rest = sym (ap frames_of none) ∙ sym (parts answered past session s).queue_is ∙ e in cc)

@@ -13,9 +13,9 @@ use Rattle.iscsi_session.specs.declared.act.Act.{Act}
 use Rattle.iscsi_session.specs.declared.verdict.Verdict.{Verdict}
 use Rattle.iscsi_target.specs.Acts.{carried_out}
 use Rattle.iscsi_target.specs.World.{Setting, World, present, reads_life, judge, act, act_all, finish, settle, serve, due_of, queue_of, is_marked}
-use Rattle.iscsi_target.specs.History.{Mark, Step, Judging, Taking, Doing, is_of}
+use Rattle.iscsi_target.specs.History.{Mark, Step}
 use Rattle.iscsi_target.specs.Machine.{LinkState, Machine, IsSound, link_at, closed, is_reading, is_open_at, is_in_session, session_in_phase}
-use Rattle.iscsi_target.specs.Serving.{Serves, KeepsHalf, Unmarked, starved}
+use Rattle.iscsi_target.specs.Serving.{Serves, KeepsHalf, starved}
 use Rattle.iscsi_target.specs.declared.phase.Phase.TheVariants.{FullFeature}
 
 -- ---- on the connection
@@ -94,14 +94,17 @@ HasDue c given = (s : Setting) (sent : ℕ → ℕ) (w : World) (bytes : List �
 abbrev pub HasQueue : ℕ → Machine → Type 0
 HasQueue c given = (s : Setting) (sent : ℕ → ℕ) (w : World) (bytes : List ℕ) → Serves c bytes s sent w given → IsSome (queue_of (present c w))
 
+-- no mark names one of these steps of the frame of this place
+abbrev pub IsUnnamed : (ℕ → ℕ → Step) → List Mark → ℕ → ℕ → Type 0
+IsUnnamed kind marks c place = (turn : ℕ) → is_marked marks c (kind place turn) ≡ false
+
 -- all that is due acted, or the queue is done, unless a mark names one of these steps
-abbrev pub StepsAll : (List Mark → ℕ → World → World) → ℕ → Machine → Machine → Type 0
-StepsAll all c given after = IsSound after → (s : Setting) (sent : ℕ → ℕ) (w : World) (place : ℕ) (bytes : List ℕ) (marks : List Mark) → Unmarked marks c place → Serves c bytes s sent w given
+abbrev pub StepsAll : (ℕ → ℕ → Step) → (List Mark → ℕ → World → World) → ℕ → Machine → Machine → Type 0
+StepsAll kind all c given after = IsSound after → (s : Setting) (sent : ℕ → ℕ) (w : World) (place : ℕ) (bytes : List ℕ) (marks : List Mark) → IsUnnamed kind marks c place → Serves c bytes s sent w given
     → Serves c bytes s sent (all marks place w) after
 
 -- an allocation failed before one of these steps
-pub record StopsAt (all : List Mark → ℕ → World → World) (c : ℕ) (given after : Machine) : Type 0 where
-  pub step : ℕ → Step
-  pub of_frame : (place : ℕ) → is_of place (step place) ≡ true
+pub record StopsAt (kind : ℕ → ℕ → Step) (all : List Mark → ℕ → World → World) (c : ℕ) (given after : Machine) : Type 0 where
+  pub turn : ℕ
   pub stands : IsSound (closed after c) → (s : Setting) (sent : ℕ → ℕ) (w : World) (place : ℕ) (bytes : List ℕ) → Serves c bytes s sent w given
-      → Serves c bytes s sent (all (starved c (step place)) place w) (closed after c)
+      → Serves c bytes s sent (all (starved c (kind place turn)) place w) (closed after c)

@@ -1,6 +1,6 @@
 //! One connection: its bytes, its phase and what waits to be sent.
 
-ghost use Rattle.std.specs.Prelude.{All, ◌≡◌, ◌<◌, ◌≤◌, ◌+◌, ◌++◌, ◌∷◌, ℕ, List, [], true, false, None, length, map, string_bytes, drop, IsOk, IfOk, IfSome, IfNone, OnOk, OnErr, IfErr};
+ghost use Rattle.std.specs.Prelude.{All, ◌≡◌, ◌≢◌, ◌<◌, ◌≤◌, ◌+◌, ◌++◌, ◌∷◌, ℕ, List, [], true, false, None, length, map, string_bytes, drop, IsOk, IfOk, IfSome, IfNone, OnOk, OnErr, IfErr};
 ghost use Rattle.std.specs.Result.{IsErrOf};
 ghost use Rattle.iscsi_pdu.specs.Frames.{frames, rest, has_frame, is_long, frame_length, wanted};
 ghost use Rattle.scsi_unit.specs.Commands.{most_given};
@@ -12,7 +12,7 @@ ghost use Rattle.iscsi_login.specs.Lookup.{lookup_in};
 ghost use Rattle.iscsi_login.specs.LoginState.{LoginState};
 ghost use Rattle.iscsi_login.specs.Login.{advanced, reply_of};
 ghost use Rattle.iscsi_target.specs.Machine.{LinkState, is_reading, is_logging_in, session_in_phase, free_link, opened_link, shut_link, begun_link, is_in_session, waiting_requests, waiting_commands, IsAnswered, IsWithin, sent_link};
-ghost use Rattle.iscsi_session.specs.Requests.{Past, queue};
+ghost use Rattle.iscsi_session.specs.Requests.{Past, due, queue};
 ghost use Rattle.iscsi_session.specs.declared.act.Act.TheVariants.{Taken};
 ghost use Rattle.iscsi_target.specs.Sessions.{IsSessionOf, JudgesTo, ActsTo, FinishesTo, StaysSession};
 ghost use Rattle.iscsi_target.specs.declared.phase.Phase.TheVariants.{Login as UnderWay};
@@ -220,6 +220,7 @@ impl Link {
         requires { is_in_session self.old.phase ≡ true }
         ensures acts { IfOk result (λ a. (answered : ℕ) (past : Past) → IsSessionOf answered past self.old → ActsTo answered past a self.old self.new) }
         ensures fewer { IfOk result (λ a. a ≡ Taken → waiting_requests self.new.phase < waiting_requests self.old.phase) }
+        ensures due { OnErr result ((answered : ℕ) (past : Past) → IsSessionOf answered past self.old → due past ≢ []) }
         ensures stays { StaysSession self.old self.new }
         ensures err { OnErr result (self.new ≡ self.old) }
     {
@@ -243,6 +244,7 @@ impl Link {
         ensures finishes { IfOk result (λ more. All AreSound units.new → (answered : ℕ) (past : Past) → IsSessionOf answered past self.old
             → FinishesTo (queue past) answered past more self.old self.new units.old units.new) }
         ensures fewer { IfOk result (λ more. more ≡ true → waiting_commands self.new.phase < waiting_commands self.old.phase) }
+        ensures queue { OnErr result ((answered : ℕ) (past : Past) → IsSessionOf answered past self.old → queue past ≢ []) }
         ensures back { All AreSound units.new → All AreSound units.old }
         ensures stays { StaysSession self.old self.new }
         ensures within { IsWithin (length units.old) self.new.phase }

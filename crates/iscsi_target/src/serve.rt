@@ -2,6 +2,7 @@
 //! taken are done.
 
 ghost use Rattle.std.specs.Prelude.{◌≡◌, ◌<◌, true, length, IfOk, OnOk, OnErr};
+ghost use Rattle.iscsi_target.specs.History.{Taking, Doing};
 ghost use Rattle.iscsi_target.specs.World.{judge, act_all, settle};
 ghost use Rattle.iscsi_target.specs.Machine.{link_at, is_in_session, waiting_requests, waiting_commands};
 ghost use Rattle.iscsi_target.specs.Serving.{Takes, Fails};
@@ -46,8 +47,8 @@ impl<S: Store> Target<S> {
     /// allocation fails those before have acted.
     fn act_all(&mut self, c: usize) -> Result<(), Memory>
         requires { c < 64 }
-        ensures steps { OnOk result (StepsAll (λ marks place. act_all marks c place) c self.old self.new) }
-        ensures stops { OnErr result (StopsAt (λ marks place. act_all marks c place) c self.old self.new) }
+        ensures steps { OnOk result (StepsAll Taking (λ marks place. act_all marks c place) c self.old self.new) }
+        ensures stops { OnErr result (StopsAt Taking (λ marks place. act_all marks c place) c self.old self.new) }
         ensures stays { Stays c self.old self.new }
     {
         while self.act(c)? {}
@@ -82,8 +83,8 @@ impl<S: Store> Target<S> {
     /// those before were.
     fn settle(&mut self, c: usize) -> Result<(), Memory>
         requires { c < 64 }
-        ensures steps { OnOk result (StepsAll (λ marks place. settle marks c place) c self.old self.new) }
-        ensures stops { OnErr result (StopsAt (λ marks place. settle marks c place) c self.old self.new) }
+        ensures steps { OnOk result (StepsAll Doing (λ marks place. settle marks c place) c self.old self.new) }
+        ensures stops { OnErr result (StopsAt Doing (λ marks place. settle marks c place) c self.old self.new) }
         ensures stays { Stays c self.old self.new }
     {
         while self.finish(c)? {}

@@ -1,10 +1,13 @@
-use Rattle.std.proofs.Common.{◌++◌, ℕ, List, sym, ap, ◌∙◌}
+use Rattle.std.proofs.Common.{◌≢◌, ◌++◌, ℕ, List, [], sym, ap, ◌∙◌}
 use Rattle.std.specs.Prelude.{flat_map}
 use Rattle.iscsi_pdu.specs.Answer.{spelling}
 use Rattle.iscsi_session.specs.Acts.{act_answers}
+use Rattle.iscsi_session.specs.Requests.{Past, due}
+use Rattle.iscsi_session.specs.State.{Stands}
 use Rattle.iscsi_session.proofs.Acted.{no_turn}
 use Rattle.iscsi_session.proofs.Remembered.{has_turn, acting}
 use Rattle.iscsi_session.proofs.Answered.{idle_act, idle_stands, idle_out, one_act, one_stands, one_out, command_act, command_stands, command_out}
+use Rattle.iscsi_session.proofs.Fewer.{some_due, on_err_known}
 use Rattle.iscsi_session.proofs.session.Session.act.Goals as goal
 
 -- ---- no request acts
@@ -64,3 +67,15 @@ returns-in_ok-reserve-in-Some-2-clause-out c answered past s =
     let a = acting answered past _ c.in-Some.turn _ _ _ s (c.in-Some.ensures answered past s) c.in-Some-due.ensures.some c.is_command.ensures c.if-is_command.false in
     one_out answered past a.request a.others _ _ a.is_turn.due (c.answer.ensures.out answered past a.request a.others s a.is_turn a.is_kind
     ∙ ap (λ (bytes : List ℕ). bytes ++ flat_map spelling (act_answers answered a.request past)) c.in_ok-reserve-in-Some-2.ensures.items)
+
+-- ---- an allocation fails
+
+pub returns-in_err-queue-in-Some-due-clause-due : goal.returns-in_err-queue-in-Some-due-clause-due
+returns-in_err-queue-in-Some-due-clause-due c =
+    let known : (answered : ℕ) (past : Past) → Stands answered past c.args.self.now → due past ≢ [] = λ answered past s. some_due answered past _ c.in-Some.turn s (c.in-Some.ensures answered past s) in
+    on_err_known _ known
+
+pub returns-in_err-reserve-in-Some-2-clause-due : goal.returns-in_err-reserve-in-Some-2-clause-due
+returns-in_err-reserve-in-Some-2-clause-due c =
+    let known : (answered : ℕ) (past : Past) → Stands answered past c.args.self.now → due past ≢ [] = λ answered past s. some_due answered past _ c.in-Some.turn s (c.in-Some.ensures answered past s) in
+    on_err_known _ known
