@@ -169,3 +169,9 @@ ready_answer =
 -- the same as the third answer of a connection: StatSN 2
 abbrev pub attention_third : List ℕ
 attention_third = take 27 attention ++ 0x02 ∷ drop 28 attention
+
+-- ---- numbers out of order (RFC 7143 §4.2.2.1)
+
+-- both commands are taken at once, so ExpCmdSN is 125 in the first answer too
+abbrev pub attention_late : List ℕ
+attention_late = take 31 attention ++ 0x7d ∷ drop 32 attention

@@ -2,7 +2,7 @@
 use Rattle.std.specs.Prelude.{◌≡◌, ℕ, List, [], ◌∷◌, ◌++◌, take, drop, true, false, refl}
 use Rattle.iscsi_target.specs.History.{Open, Bytes, Gone, Step, Judging, Taking, Doing, Ending, History, plain, marked}
 use Rattle.iscsi_target.specs.Output.{outputs}
-use Rattle.iscsi_target.specs.ExamplesBytes.{computed, one_target, are_read, login_as, login_request, login_response, logged_in, refused, first_request, second_request, first_answer, second_answer, first_test, second_test, attention, attention_third, ready_answer}
+use Rattle.iscsi_target.specs.ExamplesBytes.{computed, one_target, are_read, login_as, login_request, login_response, logged_in, refused, first_request, second_request, first_answer, second_answer, first_test, second_test, attention, attention_third, attention_late, ready_answer}
 
 -- ---- one connection
 
@@ -15,6 +15,15 @@ in_one_piece = refl
 in_two_pieces : outputs one_target (plain (Open 0) ∷ plain (Bytes 0 (login_request ++ take 20 first_test)) ∷ plain (Bytes 0 (drop 20 first_test ++ second_test)) ∷ []) ≡ (logged_in ++ attention ++ ready_answer) ∷ []
 unfolding computed
 in_two_pieces = refl
+
+-- the second command comes first: it waits for the number before its own
+out_of_order : outputs one_target (plain (Open 0) ∷ plain (Bytes 0 (login_request ++ second_test ++ first_test)) ∷ []) ≡ (logged_in ++ attention_late ++ ready_answer) ∷ []
+unfolding computed
+out_of_order = refl
+
+nothing_yet : outputs one_target (plain (Open 0) ∷ plain (Bytes 0 (login_request ++ second_test)) ∷ []) ≡ logged_in ∷ []
+unfolding computed
+nothing_yet = refl
 
 -- a login in two requests, and a command
 in_two_requests : outputs one_target (plain (Open 0) ∷ plain (Bytes 0 first_request) ∷ plain (Bytes 0 (second_request ++ first_test)) ∷ []) ≡ (first_answer ++ second_answer ++ attention_third) ∷ []
@@ -98,6 +107,11 @@ before_it_is_done = refl
 before_a_second_is_done : outputs one_target (failed_at (Doing 1 1)) ≡ (logged_in ++ attention) ∷ (login_response 0x01 0x02 ++ attention) ∷ []
 unfolding computed
 before_a_second_is_done = refl
+
+-- an allocation fails before the second of two commands is done that the frame of place 2 lets be taken
+before_the_held_one_is_done : outputs one_target (plain (Open 0) ∷ plain (Bytes 0 (login_request ++ second_test)) ∷ marked (record { connection = 0; step = Doing 2 1 } ∷ []) (Bytes 0 first_test) ∷ []) ≡ (logged_in ++ attention_late) ∷ []
+unfolding computed
+before_the_held_one_is_done = refl
 
 -- an allocation fails before the second of two Login requests is answered: it closes the connection
 before_it_is_answered : outputs one_target (plain (Open 0) ∷ plain (Bytes 0 first_request) ∷ marked (record { connection = 0; step = Judging 1 } ∷ []) (Bytes 0 (second_request ++ first_test)) ∷ []) ≡ first_answer ∷ []

@@ -330,7 +330,7 @@ impl<S: Store> Target<S> {
 
     /// Full feature phase begins, and an older session of the same nexus with the same target is
     /// ended. Where an allocation fails nothing changes.
-    #[tactic(auto, unfolding(crate::specs::World::changed_units))]
+    #[tactic(auto, unfolding(crate::specs::World::changed_units, iscsi_session::specs::State::remembered))]
     fn begin(&mut self, c: usize, session: Params, answer: &Answer) -> Result<(), Memory>
         requires in_range { c < 64 }
         requires reads { is_reading (link_at self.old c).phase ≡ true }
