@@ -1,5 +1,5 @@
--- A frame opens no connection and ends none.
-use Rattle.std.proofs.Common.{◌≡◌, ℕ, ◌<◌, List, length, set, get_or, Bool, true, false, cond, not, Option, Some, None, refl, sym, ap, ◌∙◌, arith}
+-- A Login request opens no connection and ends none.
+use Rattle.std.proofs.Common.{◌≡◌, ℕ, ◌<◌, List, length, set, get_or, Bool, true, false, not, Option, Some, None, refl, sym, ap, ◌∙◌, arith}
 use Rattle.std.proofs.lemmas.List.{length-set, length-map, get_or-map}
 use Rattle.std.proofs.lemmas.List.Quantifiers.{position-Some}
 use Rattle.iscsi_pdu.specs.Frames.{Frame}
@@ -12,19 +12,11 @@ use Rattle.iscsi_login.specs.Login.{advanced, reply_of}
 use Rattle.iscsi_login.specs.declared.params.Params.{Params}
 use Rattle.iscsi_login.specs.declared.reply.Reply.{Reply}
 use Rattle.iscsi_login.specs.declared.reply.Reply.TheVariants.{GoOn, Full, Refused}
-use Rattle.iscsi_target.specs.Acts.{is_login, verdict}
 use Rattle.iscsi_target.specs.World.{changed_units, lookup_for}
-use Rattle.iscsi_target.specs.Machine.{LinkState, Machine, IsAlike, link_at, is_free, is_open_at, free_link, shut_link, gone_on_link, refused_link, begun_link, closed, shut_older, begun, replied, logged_in, session_in_phase, sessions, served_in, judged}
-use Rattle.iscsi_target.specs.declared.session.Verdict.{Verdict}
-use Rattle.iscsi_target.specs.declared.session.Verdict.TheVariants.{Accepted, Violating}
+use Rattle.iscsi_target.specs.Machine.{LinkState, Machine, link_at, is_free, is_open_at, free_link, shut_link, gone_on_link, refused_link, begun_link, shut_older, begun, replied, logged_in, session_in_phase, sessions}
 use Rattle.iscsi_target.specs.declared.phase.Phase.{Phase}
 use Rattle.iscsi_target.specs.declared.phase.Phase.TheVariants as phases
-use Rattle.iscsi_target.proofs.FrameTaken.{frame_in, frame_taken}
-use Rattle.iscsi_target.proofs.Opening.{open_set, closed_opens}
-
--- a connection that keeps the same phase
-pub open_alike : (a b : Machine) (d : ℕ) → IsAlike (link_at a d) (link_at b d) → is_open_at a d ≡ is_open_at b d
-open_alike a b d alike = ap (λ (phase : Phase). not (is_free phase)) alike.phase
+use Rattle.iscsi_target.proofs.Opening.{open_set}
 
 none_of : (session : Params) (o : Option Params) → is_of session.nexus session.target o ≡ true → o ≡ None → ⊥
 none_of session None e n = absurd cc
@@ -33,7 +25,7 @@ none_of session (Some x) e n = absurd cc
 has_session : (session : Params) (phase : Phase) → is_of session.nexus session.target (session_in_phase phase) ≡ true → is_free phase ≡ false
 has_session session phases.Free e = absurd (none_of session None e refl)
 has_session session (phases.Login login) e = refl
-has_session session (phases.FullFeature s numbers) e = refl
+has_session session (phases.FullFeature s) e = refl
 has_session session phases.Closing e = refl
 
 record IsOlder (machine : Machine) (d : ℕ) : Type 0 where
@@ -81,33 +73,7 @@ replied_opens (GoOn response) login c machine lt free d = open_set machine machi
 replied_opens (Refused response) login c machine lt free d = open_set machine machine.units c (refused_link (answers.LoginResponse response) (link_at machine c)) lt (sym free) d
 replied_opens (Full response session) login c machine lt free d = begun_opens session (answers.LoginResponse response) c machine lt free d
 
-logged_in_opens : (machine : Machine) (c : ℕ) (login : LoginState) (frame : Frame) → c < length machine.links → is_free (link_at machine c).phase ≡ false → (d : ℕ) → is_open_at (logged_in machine c login frame) d ≡ is_open_at machine d
+pub logged_in_opens : (machine : Machine) (c : ℕ) (login : LoginState) (frame : Frame) → c < length machine.links → is_free (link_at machine c).phase ≡ false → (d : ℕ) → is_open_at (logged_in machine c login frame) d ≡ is_open_at machine d
 unfolding logged_in
 logged_in_opens machine c login frame lt free d =
     replied_opens (reply_of login (lookup_for machine.names (sessions machine.links) frame) frame) (advanced machine.names login frame) c machine lt free d
-
-served_open : (link : LinkState) (all : List UnitStates) (frame : Frame) (phase : Phase) → link.phase ≡ phase → is_free (served_in link all frame phase).0.phase ≡ is_free link.phase
-served_open link all frame phases.Free e = refl
-served_open link all frame (phases.Login login) e = refl
-served_open link all frame (phases.FullFeature session numbers) e = sym (ap is_free e)
-served_open link all frame phases.Closing e = refl
-
-judged_opens : (v : Verdict) (machine : Machine) (c : ℕ) (frame : Frame) → c < length machine.links → is_free (link_at machine c).phase ≡ false → (d : ℕ) → is_open_at (judged v machine c frame) d ≡ is_open_at machine d
-judged_opens Violating machine c frame lt free d = closed_opens machine c lt free d
-judged_opens Accepted machine c frame lt free d =
-    let p = served_in (link_at machine c) machine.units frame (link_at machine c).phase in
-    open_set machine p.1 c p.0 lt (served_open (link_at machine c) machine.units frame (link_at machine c).phase refl) d
-
-frame_in_opens : (phase : Phase) (machine : Machine) (c : ℕ) (frame : Frame) → c < length machine.links → (link_at machine c).phase ≡ phase → (d : ℕ) → is_open_at (frame_in machine c frame phase) d ≡ is_open_at machine d
-frame_in_opens phases.Free machine c frame lt e d = refl
-frame_in_opens (phases.Login login) machine c frame lt e d = login_opens (is_login frame)
-  where
-    login_opens : (b : Bool) → is_open_at (cond b (logged_in machine c login frame) (closed machine c)) d ≡ is_open_at machine d
-    login_opens true = logged_in_opens machine c login frame lt (ap is_free e) d
-    login_opens false = closed_opens machine c lt (ap is_free e) d
-frame_in_opens (phases.FullFeature session numbers) machine c frame lt e d = judged_opens (verdict numbers.exp_cmd_sn frame) machine c frame lt (ap is_free e) d
-frame_in_opens phases.Closing machine c frame lt e d = refl
-
-pub frame_opens : (machine : Machine) (c : ℕ) (frame : Frame) → c < length machine.links → (d : ℕ) → is_open_at (frame_taken machine c frame) d ≡ is_open_at machine d
-unfolding frame_taken
-frame_opens machine c frame lt d = frame_in_opens (link_at machine c).phase machine c frame lt refl d

@@ -1,5 +1,5 @@
--- What a frame leaves of a connection's bytes.
-use Rattle.std.proofs.Common.{◌≡◌, ◌≢◌, ℕ, ◌<◌, List, length, set, get_or, Bool, true, false, cond, Option, Some, None, refl, sym, ap, ◌∙◌}
+-- What a Login request, and the end of a connection, leave of a connection's bytes.
+use Rattle.std.proofs.Common.{◌≡◌, ◌≢◌, ℕ, ◌<◌, List, length, set, get_or, true, false, Option, Some, None, refl, sym, ap, ◌∙◌}
 use Rattle.std.proofs.lemmas.List.{get_or-map, get_or-set_same, get_or-set_other}
 use Rattle.std.proofs.lemmas.List.Quantifiers.{position-Some}
 use Rattle.iscsi_pdu.specs.Frames.{Frame}
@@ -9,23 +9,18 @@ use Rattle.iscsi_login.specs.Login.{advanced, reply_of}
 use Rattle.iscsi_pdu.specs.declared.answer.Answer.{Answer}
 use Rattle.iscsi_pdu.specs.declared.answer.Answer.TheVariants as answers
 use Rattle.iscsi_target.specs.World.{lookup_for}
-use Rattle.iscsi_target.specs.Acts.{is_login, verdict}
-use Rattle.iscsi_target.specs.Machine.{LinkState, Machine, link_at, shut_link, closed, free_link, is_reading, session_in_phase, sessions, gone_on_link, refused_link, begun_link, shut_older, replied, logged_in, served_in, judged}
+use Rattle.iscsi_target.specs.Machine.{LinkState, Machine, link_at, shut_link, closed, free_link, session_in_phase, sessions, gone_on_link, refused_link, begun_link, shut_older, replied, logged_in}
 use Rattle.iscsi_target.specs.Serving.{KeepsHalf}
 use Rattle.iscsi_login.specs.declared.params.Params.{Params}
-use Rattle.iscsi_target.specs.declared.session.Verdict.{Verdict}
-use Rattle.iscsi_target.specs.declared.session.Verdict.TheVariants.{Accepted, Violating}
 use Rattle.iscsi_login.specs.declared.reply.Reply.{Reply}
 use Rattle.iscsi_login.specs.declared.reply.Reply.TheVariants.{GoOn, Full, Refused}
-use Rattle.iscsi_target.specs.declared.phase.Phase.{Phase}
-use Rattle.iscsi_target.specs.declared.phase.Phase.TheVariants.{Free, Login, FullFeature, Closing}
+use Rattle.iscsi_target.specs.declared.phase.Phase.TheVariants.{Login}
 use Rattle.iscsi_target.proofs.Opening.{closed_link_at}
-use Rattle.iscsi_target.proofs.FrameTaken.{frame_in, frame_taken}
 
 shut_half : (half : List ℕ) (link : LinkState) → KeepsHalf half (shut_link link)
 shut_half half link = record { reading = λ e. absurd cc; idle = λ e. refl }
 
-closed_half : (machine : Machine) (c : ℕ) → c < length machine.links → KeepsHalf (link_at machine c).half (link_at (closed machine c) c)
+pub closed_half : (machine : Machine) (c : ℕ) → c < length machine.links → KeepsHalf (link_at machine c).half (link_at (closed machine c) c)
 closed_half machine c lt = rw (closed_link_at machine c lt) (shut_half (link_at machine c).half (link_at machine c))
 
 none_of : (session : Params) (o : Option Params) → is_of session.nexus session.target o ≡ true → o ≡ None → ⊥
@@ -61,24 +56,8 @@ replied_half (Refused response) after machine c login lt logs =
 replied_half (Full response session) after machine c login lt logs =
     begun_half c (older session (sessions machine.links)) session (answers.LoginResponse response) machine lt (λ d e. other_older machine c d session login lt logs e) _ refl
 
-judged_half : (v : Verdict) (machine : Machine) (c : ℕ) (frame : Frame) (session : Params) → c < length machine.links → (numbers : _) → (link_at machine c).phase ≡ FullFeature session numbers → KeepsHalf (link_at machine c).half (link_at (judged v machine c frame) c)
-judged_half Violating machine c frame session lt numbers full = closed_half machine c lt
-judged_half Accepted machine c frame session lt numbers full =
-    let link = (served_in (link_at machine c) machine.units frame (link_at machine c).phase).0 in
-    let here : get_or (set machine.links c link) c free_link ≡ link = get_or-set_same machine.links c link free_link lt in
-    rw here (rw full record { reading = λ r. refl; idle = λ r. absurd cc })
-
-frame_half_in : (ph : Phase) (machine : Machine) (c : ℕ) (frame : Frame) → c < length machine.links → (link_at machine c).phase ≡ ph → is_reading ph ≡ true → KeepsHalf (link_at machine c).half (link_at (frame_in machine c frame ph) c)
+-- a Login request
+pub logged_in_half : (machine : Machine) (c : ℕ) (login : LoginState) (frame : Frame) → c < length machine.links → (link_at machine c).phase ≡ Login login → KeepsHalf (link_at machine c).half (link_at (logged_in machine c login frame) c)
 unfolding logged_in
-frame_half_in Free machine c frame lt e r = absurd cc
-frame_half_in (Login login) machine c frame lt e r = login_half (is_login frame)
-  where
-    login_half : (b : Bool) → KeepsHalf (link_at machine c).half (link_at (cond b (logged_in machine c login frame) (closed machine c)) c)
-    login_half true = replied_half (reply_of login (lookup_for machine.names (sessions machine.links) frame) frame) (advanced machine.names login frame) machine c login lt e
-    login_half false = closed_half machine c lt
-frame_half_in (FullFeature session numbers) machine c frame lt e r = judged_half (verdict numbers.exp_cmd_sn frame) machine c frame session lt numbers e
-frame_half_in Closing machine c frame lt e r = absurd cc
-
-pub frame_half : (machine : Machine) (c : ℕ) (frame : Frame) → c < length machine.links → is_reading (link_at machine c).phase ≡ true → KeepsHalf (link_at machine c).half (link_at (frame_taken machine c frame) c)
-unfolding frame_taken
-frame_half machine c frame lt r = frame_half_in (link_at machine c).phase machine c frame lt refl r
+logged_in_half machine c login frame lt logs =
+    replied_half (reply_of login (lookup_for machine.names (sessions machine.links) frame) frame) (advanced machine.names login frame) machine c login lt logs

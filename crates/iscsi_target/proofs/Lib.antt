@@ -10,9 +10,7 @@ pub mod Serving
 pub mod SessionSteps
 pub mod Turns
 pub mod FrameServed
-pub mod FrameTaken
 pub mod LoggingIn
-pub mod Acting
 pub mod Standing
 pub mod Asking
 pub mod Opening
@@ -20,8 +18,12 @@ pub mod Marks
 pub mod Bringing
 pub mod Feeding
 pub mod Starving
+pub mod FrameTaken
 pub mod Halves
 pub mod FrameOpens
+pub mod Staying
+pub mod AllTurns
+pub mod SessionLinks
 pub mod OneFrame
 pub mod Tables
 pub mod Keeping

@@ -108,12 +108,16 @@ left_due b marks c place turn w request others f e is = by b e
   where
     life : Life → Life
     life = acted_life request f.past
+
     v : World
     v = changed life c w
+
     world : (b : Bool) → ends f.past.params request.frame ≡ b → act c request w ≡ ended_if b c v
     world b e = act_is c request w f.past (ap past_of f.at ∙ ap past_in f.full) ∙ ap (λ (x : Bool). ended_if x c v) e
+
     there : present c v ≡ Some (goes_on (acted request f.past) (act_answers (statuses f.life) request f.past) f.life)
     there = present-goes_on c w v f.life (acted request f.past) (act_answers (statuses f.life) request f.past) f.at (record { f = life; stays = λ x. refl; is = refl; lives = refl })
+
     by : (b : Bool) → ends f.past.params request.frame ≡ b → steps_from marks c (Taking place) (act c) turn others (act c request w) ≡ act_from marks c place turn (act c request w)
     by false e =
         let left : due_of (present c (act c request w)) ≡ others = ap (λ (u : World). due_of (present c u)) (world false e) ∙ ap due_of there ∙ due_after f.past request others f.lawful is in

@@ -33,7 +33,7 @@ returns-in_err-pieces-clause-queue g c =
     let same : link ≡ c.args.self.now =
     ap (λ (phase : Phase). record { half = cond (is_reading phase) c.self.inside.framer []; phase = phase; waiting = c.self.inside.waiting.items }) (sym c.in-FullFeature.is) ∙ c.self.view_is in
     let known : (answered : ℕ) (past : Past) → IsSessionOf answered past c.args.self.now → queue past ≢ [] = λ answered past is.
-        queue_there answered past session _ _ (session_stands answered past c.self.inside.framer c.self.inside.waiting.items session (subst (λ (l : LinkState). IsSessionOf answered past l) (sym same) is)) c.in-Some.ensures.some in
+    queue_there answered past session _ _ (session_stands answered past c.self.inside.framer c.self.inside.waiting.items session (subst (λ (l : LinkState). IsSessionOf answered past l) (sym same) is)) c.in-Some.ensures.some in
     on_err_known _ known
 
 pub returns-in_err-done-clause-queue : goal.returns-in_err-done-clause-queue
@@ -43,7 +43,7 @@ returns-in_err-done-clause-queue g c =
     let same : link ≡ c.args.self.now =
     ap (λ (phase : Phase). record { half = cond (is_reading phase) c.self.inside.framer []; phase = phase; waiting = c.self.inside.waiting.items }) (sym c.in-FullFeature.is) ∙ c.self.view_is in
     let known : (answered : ℕ) (past : Past) → IsSessionOf answered past c.args.self.now → queue past ≢ [] = λ answered past is.
-        queue_there answered past session _ _ (session_stands answered past c.self.inside.framer c.self.inside.waiting.items session (subst (λ (l : LinkState). IsSessionOf answered past l) (sym same) is)) c.in-Some.ensures.some in
+    queue_there answered past session _ _ (session_stands answered past c.self.inside.framer c.self.inside.waiting.items session (subst (λ (l : LinkState). IsSessionOf answered past l) (sym same) is)) c.in-Some.ensures.some in
     on_err_known _ known
 
 pub returns-in_err-done-clause-back : goal.returns-in_err-done-clause-back

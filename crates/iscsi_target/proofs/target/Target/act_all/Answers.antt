@@ -1,34 +1,26 @@
-use Rattle.std.proofs.Common.{rules, ◌≡◌, ◌<◌, true, length, IfOk, OnOk, OnErr, ℕ, ◌+◌, ◌-◌, ◌*◌, ◌≤◌, ◌/◌, ◌%◌, Bool, false, nat_eq, nat_lt, List, [], ◌∷◌, ◌++◌, slice_index_or, slice_set, bit_and, bit_or, Fits, w8, w32, w64, Bor, MutBor}
-use Rattle.iscsi_target.specs.World.{judge, act_all, settle}
-use Rattle.iscsi_target.specs.Machine.{link_at, is_in_session, waiting_requests, waiting_commands}
-use Rattle.iscsi_target.specs.Serving.{Takes, Fails}
-use Rattle.iscsi_target.specs.Sessions.{Stays, Steps, ActsOne, FinishesOne, HasDue, HasQueue, StepsAll, StopsAt}
+use Rattle.std.proofs.Common.{rules, ◌≡◌, ◌<◌, ◌+◌, true, sym, ap, ◌∙◌}
+use Rattle.iscsi_target.proofs.Asking.{on_err}
+use Rattle.iscsi_target.proofs.Staying.{stays_as, stays_then}
+use Rattle.iscsi_target.proofs.AllTurns.{none_acted, acted_more, all_acted, acting_stops}
 use Rattle.iscsi_target.proofs.target.Target.act_all.Goals as goal
 
--- src/serve.rt:53:9
 pub loop-init : goal.loop-init
-loop-init g c = ?
+loop-init g c = (0, none_acted c.args.c c.args.self.now)
 
--- src/serve.rt:53:15
 pub returns-in_err-act-clause-stops : goal.returns-in_err-act-clause-stops
-returns-in_err-act-clause-stops g c = ?
+returns-in_err-act-clause-stops g c = on_err c.from_residual.result (acting_stops c.args.c c.loop.invariant.0 c.args.self.now c.loop.self c.act.new.self c.loop.invariant.1 c.in_err-act.ensures.err c.in_err-act.ensures.due)
 
--- src/serve.rt:53:15
 pub returns-in_err-act-clause-stays : goal.returns-in_err-act-clause-stays
-returns-in_err-act-clause-stays g c = ?
+returns-in_err-act-clause-stays g c = stays_then c.args.c c.args.self.now c.loop.self c.act.new.self c.loop.invariant.1.stays (stays_as c.args.c c.loop.self c.act.new.self c.in_err-act.ensures.err)
 
--- src/serve.rt:53:9
 pub loop-smaller : goal.loop-smaller
-loop-smaller g c = ?
+loop-smaller g c = c.in_ok-act.ensures.fewer c.if-branch.true
 
--- src/serve.rt:53:9
 pub loop-preserved : goal.loop-preserved
-loop-preserved g c = ?
+loop-preserved g c = (c.loop.invariant.0 + 1, acted_more c.args.c c.loop.invariant.0 c.in_ok-act.field-0 c.args.self.now c.loop.self c.act.new.self c.loop.invariant.1 c.in_ok-act.ensures.stays c.in_ok-act.ensures.steps c.if-branch.true)
 
--- src/serve.rt:47:5
 pub returns-clause-steps : goal.returns-clause-steps
-returns-clause-steps g c = ?
+returns-clause-steps g c = all_acted c.args.c c.loop.invariant.0 c.in_ok-act.field-0 c.args.self.now c.loop.self c.act.new.self c.loop.invariant.1 c.in_ok-act.ensures.stays c.in_ok-act.ensures.steps c.if-branch.false
 
--- src/serve.rt:47:5
 pub returns-clause-stays : goal.returns-clause-stays
-returns-clause-stays g c = ?
+returns-clause-stays g c = stays_then c.args.c c.args.self.now c.loop.self c.act.new.self c.loop.invariant.1.stays c.in_ok-act.ensures.stays
