@@ -1,5 +1,6 @@
 -- A step of a session at one connection of the code, as the code reads it from its list.
 use Rattle.std.proofs.Common.{◌≡◌, ◌≢◌, All, ℕ, ◌<◌, List, [], length, set, Bool, true, false, refl, sym, ap, ◌∙◌, subst}
+use Rattle.std.specs.Prelude.{Result, Ok, Err, IfOk}
 use Rattle.scsi_unit.specs.Units.{UnitStates, AreSound}
 use Rattle.iscsi_pdu.specs.Frames.{Frame}
 use Rattle.iscsi_session.specs.Requests.{Past, due, queue}
@@ -60,6 +61,13 @@ finished_here c given machine link new more units here inside finishes =
     let P : Machine → Type 0 = λ m. FinishesOne c more m (record machine { units = units; links = set machine.links c new }) in
     subst P here.same (finishes_one c machine more new units (inside_of c given machine link here inside) (subst F here.is finishes))
 
+pub finishes_here : {E : Type 0} (r : Result Bool E) (c : ℕ) (given machine : Machine) (link new : LinkState) (before units : List UnitStates) → IsHere c given machine link → is_in_session link.phase ≡ true → before ≡ machine.units
+    → IfOk r (λ more. All AreSound units → FinishesOn link more new before units) → IfOk r (λ more. FinishesOne c more given (record machine { units = units; links = set machine.links c new }))
+finishes_here (Ok more) c given machine link new before units here inside e finishes =
+    let F : List UnitStates → Type 0 = λ us. All AreSound units → FinishesOn link more new us units in
+    finished_here c given machine link new more units here inside (subst F e finishes)
+finishes_here (Err fault) c given machine link new before units here inside e finishes = tt
+
 pub queue_here : (c : ℕ) (given machine : Machine) (link : LinkState) → IsHere c given machine link → is_in_session link.phase ≡ true → ((answered : ℕ) (past : Past) → IsSessionOf answered past link → queue past ≢ []) → HasQueue c given
 queue_here c given machine link here inside some =
     let D : LinkState → Type 0 = λ l. (answered : ℕ) (past : Past) → IsSessionOf answered past l → queue past ≢ [] in
@@ -74,12 +82,13 @@ stays_here c given machine link new here inside stays =
     let P : Machine → Type 0 = λ m. Stays c m (with_link machine c new) in
     subst P here.same (stays_link c machine new here.below (inside_of c given machine link here inside) (subst S here.is stays))
 
-pub stays_units : (c : ℕ) (given machine : Machine) (link new : LinkState) (units : List UnitStates) → IsHere c given machine link → is_in_session link.phase ≡ true → StaysSession link new → (All AreSound units → All AreSound machine.units)
+pub stays_units : (c : ℕ) (given machine : Machine) (link new : LinkState) (units : List UnitStates) → IsHere c given machine link → is_in_session link.phase ≡ true → StaysSession link new → (before : List UnitStates) → before ≡ machine.units → (All AreSound units → All AreSound before)
     → Stays c given (record machine { units = units; links = set machine.links c new })
-stays_units c given machine link new units here inside stays back =
+stays_units c given machine link new units here inside stays before e back =
+    let U : List UnitStates → Type 0 = λ us. All AreSound us in
     let S : LinkState → Type 0 = λ l. StaysSession l new in
     let P : Machine → Type 0 = λ m. Stays c m (record machine { units = units; links = set machine.links c new }) in
-    subst P here.same (stays_session c machine new units here.below (inside_of c given machine link here inside) (subst S here.is stays) back)
+    subst P here.same (stays_session c machine new units here.below (inside_of c given machine link here inside) (subst S here.is stays) (λ sound. subst U e (back sound)))
 
 pub ended_here : (c : ℕ) (given machine : Machine) (link new : LinkState) → IsHere c given machine link → is_in_session link.phase ≡ true → StaysSession link new → Stays c given (closed (with_link machine c new) c)
 ended_here c given machine link new here inside stays =
