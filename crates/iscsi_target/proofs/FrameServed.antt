@@ -116,17 +116,17 @@ pub fails_acting : (c : ℕ) (frame : Frame) (given judged_ after : Machine) →
 fails_acting c frame given judged_ after inside judges p stops q =
     let lt = is_within c after (stays_open c given after inside (stays_then c given judged_ after p q)) in
     record {
-  back = λ sound. p.back (q.back (closed_sound after c sound));
-  opens = stopped_opens c given after inside (stays_then c given judged_ after p q);
-  step = λ place. Taking place stops.turn;
-  of_frame = λ place. eqb_self place;
-  stands = λ sound s sent w place bytes h reads_w.
-      (let marks = starved c (Taking place stops.turn) in
-      let first = judges (q.back (closed_sound after c sound)) s sent w bytes h reads_w in
-      let second = stops.stands sound s sent (judge c frame w) place bytes first in
-      let third = serves_world c bytes s sent (act_all marks c place (judge c frame w)) (served marks c place frame w) (closed after c) (sym (closed_settles marks c place bytes s sent (act_all marks c place (judge c frame w)) after lt second)) second in
-      arrives s marks c place frame bytes sent w given (closed after c) inside h (taking_judged c place stops.turn) third);
-}
+      back = λ sound. p.back (q.back (closed_sound after c sound));
+      opens = stopped_opens c given after inside (stays_then c given judged_ after p q);
+      step = λ place. Taking place stops.turn;
+      of_frame = λ place. eqb_self place;
+      stands = λ sound s sent w place bytes h reads_w.
+          (let marks = starved c (Taking place stops.turn) in
+          let first = judges (q.back (closed_sound after c sound)) s sent w bytes h reads_w in
+          let second = stops.stands sound s sent (judge c frame w) place bytes first in
+          let third = serves_world c bytes s sent (act_all marks c place (judge c frame w)) (served marks c place frame w) (closed after c) (sym (closed_settles marks c place bytes s sent (act_all marks c place (judge c frame w)) after lt second)) second in
+          arrives s marks c place frame bytes sent w given (closed after c) inside h (taking_judged c place stops.turn) third);
+    }
 
 -- before a command is done
 pub fails_settling : (c : ℕ) (frame : Frame) (given judged_ acted_ after : Machine) → is_in_session (link_at given c).phase ≡ true → Steps c (judge c frame) given judged_ → Stays c given judged_
