@@ -259,8 +259,6 @@ def answer_to(relay, request):
 def must_answer(relay, request, answer):
     """The request is answered so, and the initiator had no need to connect again."""
     first = answer_to(relay, request)
-    if first == "closed":
-        raise NotYet(f"{request} closes the connection")
     must(first == answer, f"{request} is answered {first}")
     must(all(event.connection == 0 for event in relay.events), "it connected again")
 
