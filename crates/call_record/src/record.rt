@@ -1,0 +1,35 @@
+//! A list of calls that only clauses read.
+
+ghost use Rattle.std.specs.Prelude.{◌≡◌, List, [], ◌∷◌};
+ghost use Rattle.std.specs.Borrow.{ftrue};
+ghost use Rattle.call_record.specs.Noted.{Noted};
+
+use std::marker::{Model, PhantomData};
+
+/// The calls that were noted, the newest first. It has no bytes.
+#[derive(Drop)]
+pub struct Record {
+    marker: PhantomData<u8>,
+    pub ghost calls: { List Noted },
+}
+
+impl Model for Record {
+    ghost also_owns = { λ _. ftrue };
+}
+
+impl Record {
+    /// A record with no call in it.
+    pub fn new() -> Record
+        ensures { result.calls ≡ [] }
+    {
+        Record {
+            marker: PhantomData,
+        }
+    }
+
+    /// Notes a call: numbers, bytes and flags that say what it was and what it answered, in an order that the one who
+    /// notes it chooses. The body is empty.
+    pub fn note(&mut self, _numbers: &[u64], _bytes: &[u8], _flags: &[bool])
+        ensures { self.new.calls ≡ record { numbers = _numbers.now; bytes = _bytes.now; flags = _flags.now } ∷ self.old.calls }
+    {}
+}

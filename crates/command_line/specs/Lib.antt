@@ -1,0 +1,4 @@
+pub mod App
+pub mod Turns
+pub mod Words
+pub mod ExamplesWords

@@ -1,0 +1,23 @@
+//! The command line of `targetd`, read by `clap`:
+//!
+//! ```text
+//! replay --config F
+//! serve --config F [--turns N]
+//! ```
+//!
+//! The options come in any order, each once, and may have their value behind an equals sign. F is
+//! not empty. N is a number in decimal digits, below 2^64.
+//!
+//! Promised, and proved: [`mode_of`] gives the command exactly where the words are one, and tells
+//! other words as [`WordsFault::Usage`]. Only where an allocation fails does it give neither.
+#![tactic(auto)]
+
+mod app;
+mod fault;
+mod mode;
+mod turns;
+mod words;
+
+pub use fault::WordsFault;
+pub use mode::Mode;
+pub use words::mode_of;

@@ -1,0 +1,5 @@
+pub mod Texts
+pub mod Lists
+pub mod Files
+pub mod Entries
+pub mod Faults

@@ -1,0 +1,10 @@
+use Rattle.std.proofs.Common.{◌≡◌, drop, map}
+use Rattle.toml.specs.View.{items_view}
+use Rattle.target_config.specs.Document.{each, unit_of}
+use Rattle.target_config.specs.Configuration.{unit_view}
+use Rattle.target_config.proofs.Entries.{behind}
+use Rattle.target_config.proofs.fields.units.Given as goal
+
+-- those that were read, and then the rest, are all
+abbrev pub invariant-loop-value : goal.invariant-loop-value
+invariant-loop-value l = behind (map unit_view l.units.items) (each unit_of (items_view (drop l.value-index l.values))) ≡ each unit_of (items_view l.values)

@@ -1,0 +1,43 @@
+-- Names, LUNs and files that come once, and LUN 0.
+use Rattle.std.specs.Prelude.{ℤ, pos, List, [], ◌∷◌, map, flat_map, Bool, true, false, not, ◌&&◌, ◌||◌, bytes_eq}
+use Rattle.std.specs.List.{list_all, list_any}
+use Rattle.std.specs.Ordering.{int_eq}
+use Rattle.target_config.specs.Configuration.{MediumEntry, FileDisk, UnitEntry, TargetEntry, names_of}
+
+-- nothing comes twice
+abbrev pub is_distinct : {X : Type 0} → (X → X → Bool) → List X → Bool
+is_distinct same [] = true
+is_distinct same (x ∷ xs) = not (list_any (λ y. same y x) xs) && is_distinct same xs
+
+-- nothing in the first list comes again in it, or in the second
+abbrev pub is_distinct_before : {X : Type 0} → (X → X → Bool) → List X → List X → Bool
+is_distinct_before same [] behind = true
+is_distinct_before same (x ∷ xs) behind = not (list_any (λ y. same y x) xs || list_any (λ y. same y x) behind) && is_distinct_before same xs behind
+
+abbrev pub luns_of : List UnitEntry → List ℤ
+luns_of units = map (λ unit. unit.lun) units
+
+abbrev pub has_distinct_luns : TargetEntry → Bool
+has_distinct_luns target = is_distinct int_eq (luns_of target.units)
+
+abbrev pub has_lun_zero : TargetEntry → Bool
+has_lun_zero target = list_any (λ lun. int_eq lun (pos 0)) (luns_of target.units)
+
+-- the units of all targets
+abbrev pub units_in : List TargetEntry → List UnitEntry
+units_in targets = flat_map (λ target. target.units) targets
+
+-- both are in the file at one path
+abbrev pub is_in_one_file : MediumEntry → MediumEntry → Bool
+is_in_one_file (FileDisk path) (FileDisk other) = bytes_eq path other
+is_in_one_file medium other = false
+
+abbrev pub shares_file : UnitEntry → UnitEntry → Bool
+shares_file unit other = is_in_one_file unit.medium other.medium
+
+abbrev pub has_distinct_files : List TargetEntry → Bool
+has_distinct_files targets = is_distinct shares_file (units_in targets)
+
+-- profile: no two targets of one name, no two units of one LUN in a target, and no two units in one file
+abbrev pub comes_each_once : List TargetEntry → Bool
+comes_each_once targets = is_distinct bytes_eq (names_of targets) && list_all has_distinct_luns targets && has_distinct_files targets

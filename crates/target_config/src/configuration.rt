@@ -1,0 +1,42 @@
+//! What the program is configured to be.
+
+use crate::block_count::BlockCount;
+
+/// A target portal and the targets behind it.
+#[derive(Debug, Drop)]
+pub struct Configuration {
+    /// The address that initiators connect to: 1 to 253 bytes.
+    pub listen: String,
+    /// At most 8.
+    pub targets: Vec<TargetConfiguration>,
+}
+
+/// A target and its logical units.
+#[derive(Debug, Drop)]
+pub struct TargetConfiguration {
+    /// Its iSCSI name: 1 to 223 bytes.
+    pub name: String,
+    /// 1 to 16, one of them with LUN 0.
+    pub units: Vec<UnitConfiguration>,
+}
+
+/// A logical unit.
+#[derive(Debug, Drop)]
+pub struct UnitConfiguration {
+    /// 0 to 255.
+    pub lun: i64,
+    /// 1 to 32 printable ASCII bytes.
+    pub serial: String,
+    pub medium: MediumConfiguration,
+}
+
+/// What a logical unit keeps its data on.
+#[derive(Debug, Drop)]
+pub enum MediumConfiguration {
+    /// A disk in memory, of zero blocks.
+    MemoryDisk(BlockCount),
+    /// A disk in the file at this path.
+    FileDisk(String),
+    /// A tape in memory that holds at most `capacity` bytes, and that warns behind `early` of them.
+    MemoryTape { capacity: u64, early: u64 },
+}

@@ -1,0 +1,37 @@
+//! The configuration of a target: a TOML document, its fields, and what they have to keep.
+//!
+//! ```text
+//! listen = "127.0.0.1:3260"
+//!
+//! [[target]]
+//! name = "iqn.2001-04.com.example:disks"
+//!
+//! [[target.unit]]
+//! lun = 0
+//! kind = "disk"
+//! serial = "D0"
+//! blocks = 8
+//! ```
+//!
+//! A unit is a disk in memory (`blocks`), a disk in a file (`file`), or a tape in memory
+//! (`kind = "tape"`, with `capacity` and `early`).
+//!
+//! Promised, and proved: [`file_config`] gives exactly the configuration that the contents of a file
+//! describe, or the first fault that they have, in the order of [`ConfigFault`]. What it gives keeps
+//! every limit. The one other end is that an allocation failed.
+#![tactic(auto)]
+
+mod block_count;
+mod config_file;
+mod configuration;
+mod distinct;
+mod fault;
+mod fields;
+mod limits;
+
+pub use block_count::BlockCount;
+pub use config_file::{MOST_BYTES, config, file_config};
+pub use configuration::{
+    Configuration, MediumConfiguration, TargetConfiguration, UnitConfiguration,
+};
+pub use fault::ConfigFault;
