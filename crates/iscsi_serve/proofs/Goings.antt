@@ -1,33 +1,19 @@
--- What each connection's turn does, from one moment to the next.
-use Rattle.std.proofs.Common.{◌≡◌, ◌⊎◌, ℕ, ◌+◌, ◌<◌, ◌≤◌, List, [], ◌∷◌, ◌++◌, length, take, drop, set, get_or, Bool, true, false, ◌||◌, ◌&&◌, eqb, refl, sym, ap, ◌∙◌, subst, inl, inr, arith, append_assoc, append-nil}
+-- What each connection's step in a turn does.
+use Rattle.std.proofs.Common.{◌≡◌, ℕ, ◌<◌, ◌≤◌, List, [], ◌∷◌, ◌++◌, length, take, drop, set, get_or, Bool, true, false, ◌||◌, ◌&&◌, eqb, refl, sym, ap, ◌∙◌, subst, inl, inr, arith}
 use Rattle.std.specs.Prelude.{nat_lt}
 use Rattle.std.specs.List.{list_any}
 use Rattle.std.proofs.lemmas.Bool.{lt-ltb}
 use Rattle.std.proofs.lemmas.Bool.Decides.{eqb_tells}
-use Rattle.std.proofs.lemmas.List.{get_or-set_same, get_or-set_other, length-append, take-append-drop, length-take-le}
+use Rattle.std.proofs.lemmas.List.{get_or-set_same, get_or-set_other, get_or-replicate, length-take-le, take-append-drop}
 use Rattle.std.proofs.lemmas.List.Folds.{list_any-append}
-use Rattle.iscsi_target.specs.History as history
-use Rattle.iscsi_target.specs.History.{Happening, History, Mark, plain, marked, connection_limit}
-use Rattle.iscsi_target.specs.World.{Setting, present, world}
-use Rattle.iscsi_target.specs.Machine.{Machine, LinkState, link_at, is_open_at, is_closing}
-use Rattle.iscsi_target.specs.Stands.{Stands, with_sent, IsStarved}
+use Rattle.iscsi_target.specs.History.{connection_limit}
+use Rattle.iscsi_target.specs.Machine.{Machine, Feeds, link_at, with_link, is_open_at, is_closing, opened_link, sent_link, closed, free_link}
 use Rattle.iscsi_target.proofs.Choices.{and_false, cond_true}
-use Rattle.iscsi_target.proofs.Standing.{is_open_there, is_free_there}
-use Rattle.iscsi_serve.specs.Log.{Carried, Bytes, End, Fault, Entry, Open, NobodyCame, AcceptFailed, Read, Wrote, Close, is_number, event_of, Written, written_after}
-use Rattle.iscsi_serve.specs.Served.{IsServed}
-use Rattle.iscsi_serve.specs.Turn.{Moment, log_of, told, happened, link_in, IfElse, opened, free_number, HasAccepted, is_read, room_for, HasRead, Reads, piece_in, is_written, HasWritten, Writes, is_end, ends, is_closed, Closes}
-use Rattle.iscsi_serve.specs.Progress.{AreEnded, IsAt, IsDue}
+use Rattle.iscsi_serve.specs.Log.{Carried, Bytes, Entry, Open, NobodyCame, Read, Wrote, Close, is_number}
+use Rattle.iscsi_serve.specs.Turn.{Moment, moment, changed, told, IfElse, opened, free_number, HasAccepted, is_read, room_for, HasFed, HasRead, Reads, piece_in, is_written, after_write, HasWritten, Writes, is_end, ends, is_closed, Closes}
+use Rattle.iscsi_serve.specs.Progress.{AreEnded, none_ended, IsDue, Goes}
 use Rattle.iscsi_serve.specs.declared.told.Named.{Named}
-use Rattle.iscsi_serve.proofs.Steps.{sent_by, told_served, open_served, read_served, wrote_served, close_served}
-use Rattle.iscsi_serve.proofs.Moments.{link_same}
-
--- what has come of a step
-abbrev pub Gone : (Setting → Moment → Moment → Type 0) → Setting → Moment → List Entry → Machine → List Bool → Type 0
-Gone R s m log target ended = (n : Moment) × IsAt s n log target × AreEnded ended n.turn × R s m n
-
-and_so : (a b : Bool) → b ≡ true → (a && b) ≡ a
-and_so true b e = e
-and_so false b e = refl
+use Rattle.iscsi_serve.proofs.Moments.{none_more, one_more}
 
 where_due : (b : Bool) (A B : Type 0) → b ≡ true → A → IfElse b A B
 where_due true A B e a = a
@@ -37,12 +23,9 @@ where_not : (b : Bool) (A B : Type 0) → b ≡ false → B → IfElse b A B
 where_not true A B e a = absurd cc
 where_not false A B e a = a
 
--- ---- one more entry of a turn
+-- ---- who has ended
 
-entry_logged : (m : Moment) (log after : List Entry) (entry : Entry) → log ≡ log_of m → after ≡ log ++ entry ∷ [] → after ≡ m.before ++ (m.turn ++ entry ∷ [])
-entry_logged m log after entry e f = f ∙ ap (λ (log : List Entry). log ++ entry ∷ []) e ∙ append_assoc m.before m.turn (entry ∷ [])
-
-pub ends_not : (d : ℕ) (turn : List Entry) (entry : Entry) → ends d entry ≡ false → list_any (ends d) (turn ++ entry ∷ []) ≡ list_any (ends d) turn
+ends_not : (d : ℕ) (turn : List Entry) (entry : Entry) → ends d entry ≡ false → list_any (ends d) (turn ++ entry ∷ []) ≡ list_any (ends d) turn
 ends_not d turn entry e =
     list_any-append (ends d) turn (entry ∷ []) ∙ ap (λ (b : Bool). list_any (ends d) turn || (b || false)) e ∙ or_none (list_any (ends d) turn)
   where
@@ -50,222 +33,204 @@ ends_not d turn entry e =
     or_none true = refl
     or_none false = refl
 
-ended_same : (ended : List Bool) (turn : List Entry) (entry : Entry) → ((d : ℕ) → ends d entry ≡ false) → AreEnded ended turn → AreEnded ended (turn ++ entry ∷ [])
-ended_same ended turn entry none are d lt = are d lt ∙ sym (ends_not d turn entry (none d))
+pub ended_same : (ended : List Bool) (entry : Entry) → ((d : ℕ) → ends d entry ≡ false) → (turn : List Entry) → AreEnded ended turn
+    → AreEnded ended (turn ++ entry ∷ [])
+ended_same ended entry none turn are d lt = are d lt ∙ sym (ends_not d turn entry (none d))
 
-ended_now : (ended : List Bool) (turn : List Entry) (entry : Entry) (c : ℕ) → length ended ≡ 64 → c < 64 → ((d : ℕ) → ends d entry ≡ eqb c d) → AreEnded ended turn → AreEnded (set ended c true) (turn ++ entry ∷ [])
-ended_now ended turn entry c len lt one are d below = elim (eqb_tells c d) [
+ended_now : (ended : List Bool) (entry : Entry) (c : ℕ) → length ended ≡ 64 → c < 64 → ((d : ℕ) → ends d entry ≡ (eqb c d && true))
+    → (turn : List Entry) → AreEnded ended turn → AreEnded (set ended c true) (turn ++ entry ∷ [])
+ended_now ended entry c len lt one turn are d below = elim (eqb_tells c d) [
   | inl same ↦ (
-      let here : list_any (ends d) (turn ++ entry ∷ []) ≡ true = list_any-append (ends d) turn (entry ∷ []) ∙ ap (λ (b : Bool). list_any (ends d) turn || (b || false)) (one d ∙ same.0) ∙ or_true (list_any (ends d) turn) in
+      let here : list_any (ends d) (turn ++ entry ∷ []) ≡ true =
+      list_any-append (ends d) turn (entry ∷ []) ∙ ap (λ (b : Bool). list_any (ends d) turn || (b || false))
+      (one d ∙ ap (λ (b : Bool). b && true) same.0) ∙ or_true (list_any (ends d) turn) in
       ap (λ (k : ℕ). get_or (set ended c true) k false) (sym same.1) ∙ get_or-set_same ended c true false (omega (arith, len)) ∙ sym here)
-  | inr differ ↦ get_or-set_other ended c d true false (λ e. differ.1 (sym e)) ∙ are d below ∙ sym (ends_not d turn entry (one d ∙ differ.0))
+  | inr differ ↦ get_or-set_other ended c d true false (λ e. differ.1 (sym e)) ∙ are d below ∙ sym
+      (ends_not d turn entry (one d ∙ ap (λ (b : Bool). b && true) differ.0))
 ]
   where
     or_true : (b : Bool) → (b || true) ≡ true
     or_true true = refl
     or_true false = refl
 
--- nothing happened to the target, and nothing was written
-pub quiet : (s : Setting) (m : Moment) (log after : List Entry) (target : Machine) (entry : Entry) → event_of entry ≡ [] → ((rows : List Written) → written_after rows entry ≡ rows) → IsAt s m log target → after ≡ log ++ entry ∷ [] → IsAt s (told entry m) after target
-quiet s m log after target entry none silent at e = record {
-  logged = entry_logged m log after entry at.logged e;
-  served = subst (λ (log : List Entry). IsServed s m.history log target) (append_assoc m.before m.turn (entry ∷ [])) (told_served s m.history (log_of m) target entry none silent at.served);
-}
-
--- ---- writes
-
-link_is : {X : Type 0} (f : LinkState → X) (s : Setting) (m : Moment) (log : List Entry) (target : Machine) (c : ℕ) (x : X) → c < connection_limit → IsAt s m log target → f (link_at target c) ≡ x → f (link_in s m c) ≡ x
-link_is f s m log target c x lt at e = ap f (sym (link_same s m log target c lt at)) ∙ e
-
-no_write : (s : Setting) (m : Moment) (log : List Entry) (target : Machine) (c : ℕ) → c < connection_limit → IsAt s m log target → is_written (link_at target c) ≡ false → Writes s c m m
-no_write s m log target c lt at e = where_not (is_written (link_in s m c)) (HasWritten c (link_in s m c).waiting m m) (m ≡ m) (link_is is_written s m log target c false lt at e) refl
-
-pub free_write : (s : Setting) (m : Moment) (log : List Entry) (target : Machine) (c : ℕ) → c < connection_limit → IsAt s m log target → is_open_at target c ≡ false → Writes s c m m
-free_write s m log target c lt at e = no_write s m log target c lt at (ap (λ (b : Bool). b && nat_lt 0 (length (link_at target c).waiting)) e)
-
-pub empty_write : (s : Setting) (m : Moment) (log : List Entry) (target : Machine) (c : ℕ) → c < connection_limit → IsAt s m log target → (link_at target c).waiting ≡ [] → Writes s c m m
-empty_write s m log target c lt at e = no_write s m log target c lt at (ap (λ (waiting : List ℕ). is_open_at target c && nat_lt 0 (length waiting)) e ∙ and_false (is_open_at target c))
-
-due_write : (s : Setting) (m : Moment) (log : List Entry) (target : Machine) (c : ℕ) (offered : List ℕ) → c < connection_limit → IsAt s m log target → is_open_at target c ≡ true → (link_at target c).waiting ≡ offered → 0 < length offered
-    → is_written (link_in s m c) ≡ true
-due_write s m log target c offered lt at is_open_ waiting some =
-    link_is is_written s m log target c true lt at
-    (ap (λ (b : Bool). b && nat_lt 0 (length (link_at target c).waiting)) is_open_ ∙ ap (λ (waiting : List ℕ). nat_lt 0 (length waiting)) waiting ∙ lt-ltb 0 (length offered) some)
-
-nothing_more : (xs : List ℕ) → xs ≡ xs ++ []
-nothing_more xs = sym (append-nil xs)
-
-take_front : (n : ℕ) (xs : List ℕ) → (more : List ℕ) × (xs ≡ take n xs ++ more)
-take_front n xs = (drop n xs, sym (take-append-drop n xs))
-
--- all that waits was offered, and this is what came of it
-has_written : (s : Setting) (m : Moment) (log : List Entry) (target : Machine) (c : ℕ) (offered unwritten : List ℕ) (carried : Carried) → c < connection_limit → IsAt s m log target → is_open_at target c ≡ true
-    → (link_at target c).waiting ≡ offered → 0 < length offered → offered ≡ piece_in carried ++ unwritten → Writes s c m (told (Wrote c (length offered) carried) m)
-has_written s m log target c offered unwritten carried lt at open_ waiting some front =
-    let n : Moment = told (Wrote c (length offered) carried) m in
-    let does : HasWritten c (link_in s m c).waiting m n =
-    subst (λ (bytes : List ℕ). HasWritten c bytes m n) (sym (link_is (λ link. link.waiting) s m log target c offered lt at waiting)) (carried, unwritten, front, refl) in
-    where_due (is_written (link_in s m c)) (HasWritten c (link_in s m c).waiting m n) (n ≡ m) (due_write s m log target c offered lt at open_ waiting some) does
-
--- bytes were written
-pub write_some : (s : Setting) (m : Moment) (log after : List Entry) (target then_ : Machine) (ended : List Bool) (c n : ℕ) (offered : List ℕ) → c < connection_limit → IsAt s m log target → AreEnded ended m.turn → is_open_at target c ≡ true
-    → (link_at target c).waiting ≡ offered → 0 < length offered → n ≤ length offered → after ≡ log ++ Wrote c (length offered) (Bytes (take n offered)) ∷ []
-    → ((s : Setting) (sent : ℕ → ℕ) (h : History) → Stands s sent target h → Stands s (with_sent sent c (sent c + n)) then_ h) → Gone (λ s. Writes s c) s m after then_ ended
-write_some s m log after target then_ ended c n offered lt at are open_ waiting some le e stands =
-    let piece = take n offered in
-    let entry : Entry = Wrote c (length offered) (Bytes piece) in
-    let front = take_front n offered in
-    let there = is_open_there s (sent_by (log_of m)) (world s m.history) target c lt at.served.stands open_ in
-    let count : n ≡ length piece = sym (length-take-le n offered le) in
-    let now : IsServed s m.history (log_of m ++ entry ∷ []) then_ =
-    wrote_served s m.history (log_of m) target then_ c (length offered) piece front.0 there.0 lt there.1 (waiting ∙ front.1) at.served
-    (subst (λ (n : ℕ). Stands s (with_sent (sent_by (log_of m)) c (sent_by (log_of m) c + n)) then_ m.history) count (stands s (sent_by (log_of m)) m.history at.served.stands)) in
-    let n_at : IsAt s (told entry m) after then_ = record {
-      logged = entry_logged m log after entry at.logged e;
-      served = subst (λ (log : List Entry). IsServed s m.history log then_) (append_assoc m.before m.turn (entry ∷ [])) now;
-    } in
-    (told entry m, n_at, ended_same ended m.turn entry (λ d. and_false (eqb c d)) are, has_written s m log target c offered front.0 (Bytes piece) lt at open_ waiting some front.1)
-
--- the write told an end or a fault
-pub write_failed : (s : Setting) (m : Moment) (log after : List Entry) (target : Machine) (ended : List Bool) (c : ℕ) (carried : Carried) (offered : List ℕ) → c < connection_limit → IsAt s m log target → AreEnded ended m.turn → length ended ≡ 64 → is_open_at target c ≡ true
-    → (link_at target c).waiting ≡ offered → 0 < length offered → is_end carried ≡ true → piece_in carried ≡ [] → ((rows : List Written) → written_after rows (Wrote c (length offered) carried) ≡ rows)
-    → after ≡ log ++ Wrote c (length offered) carried ∷ [] → Gone (λ s. Writes s c) s m after target (set ended c true)
-write_failed s m log after target ended c carried offered lt at are len open_ waiting some over none silent e =
-    let entry : Entry = Wrote c (length offered) carried in (
-      told entry m,
-      quiet s m log after target entry refl silent at e,
-      ended_now ended m.turn entry c len lt (λ d. and_so (eqb c d) (is_end carried) over) are,
-      has_written s m log target c offered offered carried lt at open_ waiting some (ap (λ (piece : List ℕ). piece ++ offered) (sym none)),
-    )
+pub none_ended_by : (turn : List Entry) → ((c : ℕ) → list_any (ends c) turn ≡ false) → AreEnded none_ended turn
+none_ended_by turn none c lt = get_or-replicate 64 c false false lt ∙ sym (none c)
 
 -- ---- reads
 
-pub no_read : (s : Setting) (m : Moment) (log : List Entry) (target : Machine) (named : Named) (c : ℕ) → c < connection_limit → IsAt s m log target → is_read named c (link_at target c) ≡ false → Reads s named c m m
-no_read s m log target named c lt at e = where_not (is_read named c (link_in s m c)) (HasRead s c (room_for (link_in s m c)) m m) (m ≡ m) (link_is (is_read named c) s m log target c false lt at e) refl
+pub no_read : (log : List Entry) (target : Machine) (ended : List Bool) (named : Named) (c : ℕ) → is_read named c (link_at target c) ≡ false
+    → Goes (Reads named c) log log target target ended ended
+no_read log target ended named c e =
+    none_more (Reads named c) log target ended
+    (λ before turn are.
+    let m = moment target before turn in
+    where_not (is_read named c (link_at target c)) (HasRead c (room_for (link_at target c)) m m) (m ≡ m) e refl)
 
-read_due : (s : Setting) (m n : Moment) (log : List Entry) (target : Machine) (named : Named) (c room : ℕ) → c < connection_limit → IsAt s m log target → IsDue named c room target → HasRead s c room m n → Reads s named c m n
-read_due s m n log target named c room lt at due does =
-    where_due (is_read named c (link_in s m c)) (HasRead s c (room_for (link_in s m c)) m n) (n ≡ m)
-    (link_is (is_read named c) s m log target c true lt at due.due)
-    (subst (λ (room : ℕ). HasRead s c room m n) (sym (link_is room_for s m log target c room lt at (sym due.is_room))) does)
+read_due : (m n : Moment) (named : Named) (c room : ℕ) → IsDue named c room m.target → HasRead c room m n → Reads named c m n
+read_due m n named c room due does =
+    where_due (is_read named c (link_at m.target c)) (HasRead c (room_for (link_at m.target c)) m n) (n ≡ m) due.due
+    (subst (λ (room : ℕ). HasRead c room m n) due.is_room does)
+
+fed : (m n : Moment) (c room : ℕ) (piece : List ℕ) (after : Machine) → 0 < length piece → Feeds c m.target after
+    → n ≡ changed (Read c room (Bytes piece)) after m → HasFed c (Read c room (Bytes piece)) (Bytes piece) m n
+fed m n c room [] after some feeds e = absurd (omega (arith, some))
+fed m n c room (byte ∷ piece) after some feeds e = (after, feeds, e)
 
 -- it gave bytes, which were fed
-read_some : (s : Setting) (m : Moment) (log after : List Entry) (target then_ : Machine) (named : Named) (ended : List Bool) (c room byte : ℕ) (piece : List ℕ) → c < connection_limit → IsAt s m log target → AreEnded ended m.turn → IsDue named c room target
-    → length (byte ∷ piece) ≤ room → after ≡ log ++ Read c room (Bytes (byte ∷ piece)) ∷ []
-    → ((s : Setting) (sent : ℕ → ℕ) (h : History) → Stands s sent target h → (marks : List Mark) × ((marks ≡ []) ⊎ IsStarved c (present c (world s h)) (byte ∷ piece) marks) × Stands s sent then_ (h ++ marked marks (history.Bytes c (byte ∷ piece)) ∷ []))
-    → Gone (λ s. Reads s named c) s m after then_ ended
-read_some s m log after target then_ named ended c room byte piece lt at are due fits e feeds =
-    let entry : Entry = Read c room (Bytes (byte ∷ piece)) in
-    let fed = feeds s (sent_by (log_of m)) m.history at.served.stands in
-    let x : Happening = marked fed.0 (history.Bytes c (byte ∷ piece)) in
-    let n = happened entry x m in
-    let now : IsServed s (m.history ++ x ∷ []) (log_of m ++ entry ∷ []) then_ = read_served s m.history (log_of m) target then_ c room byte piece fed.0 at.served fed.2 in
-    let n_at : IsAt s n after then_ = record {
-      logged = entry_logged m log after entry at.logged e;
-      served = subst (λ (log : List Entry). IsServed s (m.history ++ x ∷ []) log then_) (append_assoc m.before m.turn (entry ∷ [])) now;
-    } in
-    (n, n_at, ended_same ended m.turn entry (λ d. and_false (eqb c d)) are, read_due s m n log target named c room lt at due (Bytes (byte ∷ piece), fits, (fed.0, fed.1, refl)))
-
-pub read_bytes : (s : Setting) (m : Moment) (log after : List Entry) (target then_ : Machine) (named : Named) (ended : List Bool) (c room : ℕ) (piece : List ℕ) → c < connection_limit → IsAt s m log target → AreEnded ended m.turn → IsDue named c room target
-    → 0 < length piece → length piece ≤ room → after ≡ log ++ Read c room (Bytes piece) ∷ []
-    → ((s : Setting) (sent : ℕ → ℕ) (h : History) → Stands s sent target h → (marks : List Mark) × ((marks ≡ []) ⊎ IsStarved c (present c (world s h)) piece marks) × Stands s sent then_ (h ++ marked marks (history.Bytes c piece) ∷ []))
-    → Gone (λ s. Reads s named c) s m after then_ ended
-read_bytes s m log after target then_ named ended c room [] lt at are due some fits e feeds = absurd (omega (arith, some))
-read_bytes s m log after target then_ named ended c room (byte ∷ piece) lt at are due some fits e feeds = read_some s m log after target then_ named ended c room byte piece lt at are due fits e feeds
+pub read_some : (log log_then : List Entry) (target after : Machine) (named : Named) (ended : List Bool) (c room : ℕ) (piece : List ℕ)
+    → IsDue named c room target → 0 < length piece → length piece ≤ room
+    → log_then ≡ log ++ Read c room (Bytes piece) ∷ [] → Feeds c target after → Goes (Reads named c) log log_then target after ended ended
+read_some log log_then target after named ended c room piece due some fits e feeds =
+    let entry : Entry = Read c room (Bytes piece) in
+    one_more (Reads named c) log log_then target after ended ended entry (ended_same ended entry (λ d. and_false (eqb c d))) e
+    (λ before turn are.
+    let m = moment target before turn in let n = changed entry after m in
+    read_due m n named c room due (Bytes piece, fits, fed m n c room piece after some feeds refl))
 
 -- it would have waited
-pub read_none : (s : Setting) (m : Moment) (log after : List Entry) (target : Machine) (named : Named) (ended : List Bool) (c room : ℕ) → c < connection_limit → IsAt s m log target → AreEnded ended m.turn → IsDue named c room target
-    → after ≡ log ++ Read c room (Bytes []) ∷ [] → Gone (λ s. Reads s named c) s m after target ended
-read_none s m log after target named ended c room lt at are due e =
-    let entry : Entry = Read c room (Bytes []) in (
-      told entry m,
-      quiet s m log after target entry refl (λ rows. refl) at e,
-      ended_same ended m.turn entry (λ d. and_false (eqb c d)) are,
-      read_due s m (told entry m) log target named c room lt at due (Bytes [], omega arith, refl),
-    )
+pub read_none : (log log_then : List Entry) (target : Machine) (named : Named) (ended : List Bool) (c room : ℕ) → IsDue named c room target
+    → log_then ≡ log ++ Read c room (Bytes []) ∷ [] → Goes (Reads named c) log log_then target target ended ended
+read_none log log_then target named ended c room due e =
+    let entry : Entry = Read c room (Bytes []) in
+    one_more (Reads named c) log log_then target target ended ended entry (ended_same ended entry (λ d. and_false (eqb c d))) e
+    (λ before turn are. let m = moment target before turn in read_due m (told entry m) named c room due (Bytes [], omega arith, refl))
 
 -- it told an end or a fault
-pub read_end : (s : Setting) (m : Moment) (log after : List Entry) (target : Machine) (named : Named) (ended : List Bool) (c room : ℕ) → c < connection_limit → IsAt s m log target → AreEnded ended m.turn → length ended ≡ 64 → IsDue named c room target
-    → after ≡ log ++ Read c room End ∷ [] → Gone (λ s. Reads s named c) s m after target (set ended c true)
-read_end s m log after target named ended c room lt at are len due e =
-    let entry : Entry = Read c room End in (
-      told entry m,
-      quiet s m log after target entry refl (λ rows. refl) at e,
-      ended_now ended m.turn entry c len lt (λ d. and_so (eqb c d) true refl) are,
-      read_due s m (told entry m) log target named c room lt at due (End, omega arith, refl),
-    )
+pub read_ended : (log log_then : List Entry) (target : Machine) (named : Named) (ended : List Bool) (c room : ℕ) (carried : Carried)
+    → c < connection_limit → length ended ≡ 64 → IsDue named c room target → is_end carried ≡ true
+    → log_then ≡ log ++ Read c room carried ∷ [] → Goes (Reads named c) log log_then target target ended (set ended c true)
+read_ended log log_then target named ended c room (Bytes piece) lt len due over e = absurd cc
+read_ended log log_then target named ended c room carried lt len due over e =
+    let entry : Entry = Read c room carried in
+    one_more (Reads named c) log log_then target target ended (set ended c true) entry (ended_now ended entry c len lt (λ d. refl)) e
+    (λ before turn are. let m = moment target before turn in read_due m (told entry m) named c room due (carried, omega arith, refl))
 
-pub read_fault : (s : Setting) (m : Moment) (log after : List Entry) (target : Machine) (named : Named) (ended : List Bool) (c room : ℕ) → c < connection_limit → IsAt s m log target → AreEnded ended m.turn → length ended ≡ 64 → IsDue named c room target
-    → after ≡ log ++ Read c room Fault ∷ [] → Gone (λ s. Reads s named c) s m after target (set ended c true)
-read_fault s m log after target named ended c room lt at are len due e =
-    let entry : Entry = Read c room Fault in (
-      told entry m,
-      quiet s m log after target entry refl (λ rows. refl) at e,
-      ended_now ended m.turn entry c len lt (λ d. and_so (eqb c d) true refl) are,
-      read_due s m (told entry m) log target named c room lt at due (Fault, omega arith, refl),
-    )
+-- ---- writes
+
+no_write : (log : List Entry) (target : Machine) (ended : List Bool) (c : ℕ) → is_written (link_at target c) ≡ false
+    → Goes (Writes c) log log target target ended ended
+no_write log target ended c e =
+    none_more (Writes c) log target ended
+    (λ before turn are.
+    let m = moment target before turn in
+    where_not (is_written (link_at target c)) (HasWritten c (link_at target c).waiting m m) (m ≡ m) e refl)
+
+pub free_write : (log : List Entry) (target : Machine) (ended : List Bool) (c : ℕ) → is_open_at target c ≡ false
+    → Goes (Writes c) log log target target ended ended
+free_write log target ended c e = no_write log target ended c (ap (λ (b : Bool). b && nat_lt 0 (length (link_at target c).waiting)) e)
+
+pub empty_write : (log : List Entry) (target : Machine) (ended : List Bool) (c : ℕ) → (link_at target c).waiting ≡ []
+    → Goes (Writes c) log log target target ended ended
+empty_write log target ended c e =
+    no_write log target ended c (ap (λ (waiting : List ℕ). is_open_at target c && nat_lt 0 (length waiting)) e ∙ and_false (is_open_at target c))
+
+-- all that waits was offered, and this is what came of it
+written : (m n : Moment) (c : ℕ) (offered unwritten : List ℕ) (carried : Carried) → is_open_at m.target c ≡ true
+    → (link_at m.target c).waiting ≡ offered → 0 < length offered → offered ≡ piece_in carried ++ unwritten
+    → n ≡ changed (Wrote c (length offered) carried) (after_write c carried m.target) m → Writes c m n
+written m n c offered unwritten carried open_ waiting some front e =
+    let due : is_written (link_at m.target c) ≡ true =
+    ap (λ (b : Bool). b && nat_lt 0 (length (link_at m.target c).waiting)) open_ ∙ ap (λ (waiting : List ℕ). nat_lt 0 (length waiting)) waiting ∙
+    lt-ltb 0 (length offered) some in
+    where_due (is_written (link_at m.target c)) (HasWritten c (link_at m.target c).waiting m n) (n ≡ m) due
+    (subst (λ (bytes : List ℕ). HasWritten c bytes m n) (sym waiting) (carried, unwritten, front, e))
+
+-- bytes were written
+pub write_some : (log log_then : List Entry) (target after : Machine) (ended : List Bool) (c n : ℕ) (offered : List ℕ) → is_open_at target c ≡ true
+    → (link_at target c).waiting ≡ offered → 0 < length offered → n ≤ length offered
+    → log_then ≡ log ++ Wrote c (length offered) (Bytes (take n offered)) ∷ [] → after ≡ with_link target c (sent_link (link_at target c) n) → Goes
+    (Writes c) log log_then target after ended ended
+write_some log log_then target after ended c n offered open_ waiting some le e now =
+    let piece = take n offered in
+    let entry : Entry = Wrote c (length offered) (Bytes piece) in
+    let all : after ≡ after_write c (Bytes piece) target = now ∙ ap (λ (n : ℕ). with_link target c (sent_link (link_at target c) n))
+    (sym (length-take-le n offered le)) in
+    one_more (Writes c) log log_then target after ended ended entry (ended_same ended entry (λ d. and_false (eqb c d))) e
+    (λ before turn are.
+    written (moment target before turn) (moment after before (turn ++ entry ∷ [])) c offered (drop n offered) (Bytes piece) open_ waiting some
+    (sym (take-append-drop n offered))
+    (ap (λ (after : Machine). moment after before (turn ++ entry ∷ [])) all))
+
+-- the write told an end or a fault
+pub write_ended : (log log_then : List Entry) (target : Machine) (ended : List Bool) (c : ℕ) (carried : Carried) (offered : List ℕ)
+    → c < connection_limit → length ended ≡ 64 → is_open_at target c ≡ true
+    → (link_at target c).waiting ≡ offered → 0 < length offered → is_end carried ≡ true → log_then ≡ log ++ Wrote c (length offered) carried ∷ [] →
+    Goes (Writes c) log log_then target target ended (set ended c true)
+write_ended log log_then target ended c (Bytes piece) offered lt len open_ waiting some over e = absurd cc
+write_ended log log_then target ended c carried offered lt len open_ waiting some over e =
+    let entry : Entry = Wrote c (length offered) carried in
+    one_more (Writes c) log log_then target target ended (set ended c true) entry (ended_now ended entry c len lt (λ d. refl)) e
+    (λ before turn are. let m = moment target before turn in written m (told entry m) c offered offered carried open_ waiting some refl refl)
 
 -- ---- closes
 
-no_close : (s : Setting) (m : Moment) (log : List Entry) (target : Machine) (c : ℕ) → c < connection_limit → IsAt s m log target → is_closed c m.turn (link_at target c) ≡ false → Closes s c m m
-no_close s m log target c lt at e = where_not (is_closed c m.turn (link_in s m c)) (m ≡ happened (Close c) (plain (history.Gone c)) m) (m ≡ m) (link_is (is_closed c m.turn) s m log target c false lt at e) refl
+no_close : (log : List Entry) (target : Machine) (ended : List Bool) (c : ℕ)
+    → ((turn : List Entry) → AreEnded ended turn → is_closed c turn (link_at target c) ≡ false) → Goes (Closes c) log log target target ended ended
+no_close log target ended c e =
+    none_more (Closes c) log target ended
+    (λ before turn are.
+    let m = moment target before turn in
+    where_not (is_closed c turn (link_at target c)) (m ≡ changed (Close c) (with_link (closed target c) c free_link) m) (m ≡ m) (e turn are) refl)
 
-pub free_close : (s : Setting) (m : Moment) (log : List Entry) (target : Machine) (c : ℕ) → c < connection_limit → IsAt s m log target → is_open_at target c ≡ false → Closes s c m m
-free_close s m log target c lt at e = no_close s m log target c lt at (ap (λ (b : Bool). b && (list_any (ends c) m.turn || is_closing (link_at target c).phase && eqb (length (link_at target c).waiting) 0)) e)
+pub free_close : (log : List Entry) (target : Machine) (ended : List Bool) (c : ℕ) → is_open_at target c ≡ false
+    → Goes (Closes c) log log target target ended ended
+free_close log target ended c e =
+    no_close log target ended c
+    (λ turn are. ap (λ (b : Bool). b && (list_any (ends c) turn || is_closing (link_at target c).phase && eqb (length (link_at target c).waiting) 0)) e)
 
-pub open_close : (s : Setting) (m : Moment) (log : List Entry) (target : Machine) (ended : List Bool) (c : ℕ) → c < connection_limit → IsAt s m log target → AreEnded ended m.turn
-    → (get_or ended c false || is_closing (link_at target c).phase && eqb (length (link_at target c).waiting) 0) ≡ false → Closes s c m m
-open_close s m log target ended c lt at are e =
-    no_close s m log target c lt at
-    (ap (λ (b : Bool). is_open_at target c && (b || is_closing (link_at target c).phase && eqb (length (link_at target c).waiting) 0)) (sym (are c lt))
-    ∙ ap (λ (b : Bool). is_open_at target c && b) e ∙ and_false (is_open_at target c))
+-- it has ended, or the target has closed it and nothing waits on it
+abbrev pub is_done : List Bool → Machine → ℕ → Bool
+is_done ended target c = get_or ended c false || is_closing (link_at target c).phase && eqb (length (link_at target c).waiting) 0
 
-pub close_due : (s : Setting) (m : Moment) (log after : List Entry) (target then_ : Machine) (ended : List Bool) (c : ℕ) → c < connection_limit → IsAt s m log target → AreEnded ended m.turn → is_open_at target c ≡ true
-    → (get_or ended c false || is_closing (link_at target c).phase && eqb (length (link_at target c).waiting) 0) ≡ true → after ≡ log ++ Close c ∷ []
-    → ((s : Setting) (sent : ℕ → ℕ) (h : History) → Stands s sent target h → Stands s (with_sent sent c 0) then_ (h ++ plain (history.Gone c) ∷ [])) → Gone (λ s. Closes s c) s m after then_ ended
-close_due s m log after target then_ ended c lt at are open_ why e stands =
+done_is : (target : Machine) (ended : List Bool) (c : ℕ) (done : Bool) (turn : List Entry) → c < connection_limit → AreEnded ended turn
+    → is_done ended target c ≡ done → is_closed c turn (link_at target c) ≡ (is_open_at target c && done)
+done_is target ended c done turn lt are e =
+    ap (λ (b : Bool). is_open_at target c && (b || is_closing (link_at target c).phase && eqb (length (link_at target c).waiting) 0)) (sym (are c lt))
+    ∙ ap (λ (b : Bool). is_open_at target c && b) e
+
+pub open_close : (log : List Entry) (target : Machine) (ended : List Bool) (c : ℕ) → c < connection_limit → is_done ended target c ≡ false
+    → Goes (Closes c) log log target target ended ended
+open_close log target ended c lt e = no_close log target ended c (λ turn are. done_is target ended c false turn lt are e ∙ and_false (is_open_at target c))
+
+pub close_due : (log log_then : List Entry) (target after : Machine) (ended : List Bool) (c : ℕ) → c < connection_limit → is_open_at target c ≡ true
+    → is_done ended target c ≡ true
+    → log_then ≡ log ++ Close c ∷ [] → after ≡ with_link (closed target c) c free_link → Goes (Closes c) log log_then target after ended ended
+close_due log log_then target after ended c lt open_ done e now =
     let entry : Entry = Close c in
-    let x : Happening = plain (history.Gone c) in
-    let n = happened entry x m in
-    let number : is_number c ≡ true = lt-ltb c connection_limit lt in
-    let now : IsServed s (m.history ++ x ∷ []) (log_of m ++ entry ∷ []) then_ = close_served s m.history (log_of m) target then_ c number at.served (stands s (sent_by (log_of m)) m.history at.served.stands) in
-    let n_at : IsAt s n after then_ = record {
-      logged = entry_logged m log after entry at.logged e;
-      served = subst (λ (log : List Entry). IsServed s (m.history ++ x ∷ []) log then_) (append_assoc m.before m.turn (entry ∷ [])) now;
-    } in
-    let due : is_closed c m.turn (link_in s m c) ≡ true =
-    link_is (is_closed c m.turn) s m log target c true lt at
-    (ap (λ (b : Bool). b && (list_any (ends c) m.turn || is_closing (link_at target c).phase && eqb (length (link_at target c).waiting) 0)) open_
-    ∙ ap (λ (b : Bool). b || is_closing (link_at target c).phase && eqb (length (link_at target c).waiting) 0) (sym (are c lt)) ∙ why) in
-    (n, n_at, ended_same ended m.turn entry (λ d. refl) are, where_due (is_closed c m.turn (link_in s m c)) (n ≡ happened entry x m) (n ≡ m) due refl)
+    one_more (Closes c) log log_then target after ended ended entry (ended_same ended entry (λ d. refl)) e
+    (λ before turn are.
+    let m = moment target before turn in let n = moment after before (turn ++ entry ∷ []) in
+    where_due (is_closed c turn (link_at target c)) (n ≡ changed entry (with_link (closed target c) c free_link) m) (n ≡ m)
+    (done_is target ended c true turn lt are done ∙ ap (λ (b : Bool). b && true) open_)
+    (ap (λ (after : Machine). moment after before (turn ++ entry ∷ [])) now))
 
 -- ---- a connection comes
 
-pub nobody : (s : Setting) (m : Moment) (log after : List Entry) (target : Machine) → IsAt s m log target → after ≡ log ++ NobodyCame ∷ [] → (n : Moment) × IsAt s n after target × HasAccepted s m n
-nobody s m log after target at e = (told NobodyCame m, quiet s m log after target NobodyCame refl (λ rows. refl) at e, inr refl)
+pub nobody : (log log_then : List Entry) (target : Machine) → log_then ≡ log ++ NobodyCame ∷ []
+    → Goes HasAccepted log log_then target target none_ended none_ended
+nobody log log_then target e =
+    one_more HasAccepted log log_then target target none_ended none_ended NobodyCame (ended_same none_ended NobodyCame (λ d. refl)) e
+    (λ before turn are. inr refl)
 
-pub accept_failed : (s : Setting) (m : Moment) (log after : List Entry) (target : Machine) → IsAt s m log target → after ≡ log ++ AcceptFailed ∷ [] → IsAt s (told AcceptFailed m) after target
-accept_failed s m log after target at e = quiet s m log after target AcceptFailed refl (λ rows. refl) at e
+pub somebody : (log log_then : List Entry) (target after : Machine) (c : ℕ) → c < connection_limit → c ≡ free_number target
+    → log_then ≡ log ++ Open c ∷ [] → after ≡ with_link target c (opened_link c)
+    → Goes HasAccepted log log_then target after none_ended none_ended
+somebody log log_then target after c lt free e now =
+    one_more HasAccepted log log_then target after none_ended none_ended (Open c) (ended_same none_ended (Open c) (λ d. refl)) e
+    (λ before turn are.
+    let m = moment target before turn in let n = moment after before (turn ++ Open c ∷ []) in
+    let does : n ≡ opened c m = ap (λ (after : Machine). moment after before (turn ++ Open c ∷ [])) now ∙ sym
+    (cond_true (is_number c) _ _ (lt-ltb c connection_limit lt)) in
+    inl (subst (λ (c : ℕ). n ≡ opened c m) free does))
 
-pub somebody : (s : Setting) (m : Moment) (log after : List Entry) (target then_ : Machine) (c : ℕ) → c < connection_limit → IsAt s m log target → c ≡ free_number s m → is_open_at target c ≡ false → after ≡ log ++ Open c ∷ []
-    → ((s : Setting) (sent : ℕ → ℕ) (h : History) → Stands s sent target h → Stands s (with_sent sent c 0) then_ (h ++ plain (history.Open c) ∷ [])) → (n : Moment) × IsAt s n after then_ × HasAccepted s m n
-somebody s m log after target then_ c lt at free closed e stands =
-    let entry : Entry = Open c in
-    let x : Happening = plain (history.Open c) in
-    let n = happened entry x m in
-    let number : is_number c ≡ true = lt-ltb c connection_limit lt in
-    let none = is_free_there s (sent_by (log_of m)) (world s m.history) target c lt at.served.stands closed in
-    let now : IsServed s (m.history ++ x ∷ []) (log_of m ++ entry ∷ []) then_ = open_served s m.history (log_of m) target then_ c number none at.served (stands s (sent_by (log_of m)) m.history at.served.stands) in
-    let n_at : IsAt s n after then_ = record {
-      logged = entry_logged m log after entry at.logged e;
-      served = subst (λ (log : List Entry). IsServed s (m.history ++ x ∷ []) log then_) (append_assoc m.before m.turn (entry ∷ [])) now;
-    } in
-    let does : n ≡ opened (free_number s m) m = subst (λ (c : ℕ). n ≡ opened c m) free (sym (cond_true (is_number c) n _ number)) in
-    (n, n_at, inl does)
-
-pub too_many : (s : Setting) (m : Moment) (log middle after : List Entry) (target : Machine) (c : ℕ) → c ≡ 64 → IsAt s m log target → c ≡ free_number s m → middle ≡ log ++ Open c ∷ [] → after ≡ middle ++ Close c ∷ [] → (n : Moment) × IsAt s n after target × HasAccepted s m n
-too_many s m log middle after target c is at free e f =
-    let first : IsAt s (told (Open 64) m) middle target = quiet s m log middle target (Open 64) refl (λ rows. refl) at (e ∙ ap (λ (c : ℕ). log ++ Open c ∷ []) is) in
-    let then_ : IsAt s (told (Close 64) (told (Open 64) m)) after target = quiet s (told (Open 64) m) middle after target (Close 64) refl (λ rows. refl) first (f ∙ ap (λ (c : ℕ). middle ++ Close c ∷ []) is) in
-    let does : told (Close 64) (told (Open 64) m) ≡ opened (free_number s m) m = ap (λ (c : ℕ). opened c m) (sym is ∙ free) in
-    (told (Close 64) (told (Open 64) m), then_, inl does)
+pub too_many : (log middle log_then : List Entry) (target : Machine) (c : ℕ) → c ≡ 64 → c ≡ free_number target → middle ≡ log ++ Open c ∷ []
+    → log_then ≡ middle ++ Close c ∷ [] → Goes HasAccepted log log_then target target none_ended none_ended
+too_many log middle log_then target c is free e f =
+    let same : (m : Moment) → told (Close c) (told (Open c) m) ≡ opened (free_number target) m = λ m.
+    ap (λ (c : ℕ). told (Close c) (told (Open c) m)) is ∙ ap (λ (c : ℕ). opened c m) (sym is ∙ free) in
+    λ before turn at are.
+    (let first = one_more (λ m n. n ≡ told (Open c) m) log middle target target none_ended none_ended (Open c) (ended_same none_ended (Open c) (λ d. refl))
+    e (λ before turn are. refl) before turn at are in
+    let second = one_more (λ m n. n ≡ told (Close c) m) middle log_then target target none_ended none_ended (Close c)
+    (ended_same none_ended (Close c) (λ d. refl)) f (λ before turn are. refl) before first.0 first.1 first.2 in
+    (second.0, second.1, second.2, inl (second.3 ∙ ap (told (Close c)) first.3 ∙ same (moment target before turn))))

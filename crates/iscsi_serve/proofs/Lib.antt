@@ -2,4 +2,5 @@ pub mod Rows
 pub mod Steps
 pub mod Moments
 pub mod Goings
+pub mod Keeping
 pub mod Turning

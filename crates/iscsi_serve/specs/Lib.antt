@@ -8,6 +8,7 @@ pub mod Fault
 pub mod Log
 pub mod Told
 pub mod Entries
+pub mod Calls
 pub mod Served
 pub mod Turn
 pub mod Progress

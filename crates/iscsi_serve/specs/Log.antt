@@ -13,6 +13,10 @@ pub data Carried : Type 0 where
   Fault : Carried
 
 pub data Entry : Type 0 where
+  -- a listener was made at the address that this text spells, and where it listens, as the system told: the bytes of
+  -- its address, and its port
+  Listened : (text : List ℕ) → Entry
+  Located : (octets : List ℕ) (port : ℕ) → Entry
   -- a poll, and whom it named; none where it failed
   Polled : (named : Option Named) → Entry
   -- a connection came, and has this number; 64 where no number is free

@@ -1,12 +1,14 @@
--- How far the loop has come in a turn.
-use Rattle.std.specs.Prelude.{◌≡◌, ◌<◌, ℕ, List, Bool, true, false, slice_index_or}
+-- How far the loop has come in a turn, and what each of its steps keeps.
+use Rattle.std.specs.Prelude.{◌≡◌, ◌⊎◌, ◌<◌, ℕ, List, [], ◌∷◌, ◌++◌, Bool, true, false, replicate, slice_index_or}
 use Rattle.std.specs.List.{list_any}
-use Rattle.iscsi_target.specs.History.{connection_limit}
-use Rattle.iscsi_target.specs.World.{Setting}
-use Rattle.iscsi_target.specs.Machine.{Machine, link_at, is_open_at}
+use Rattle.iscsi_target.specs.History as history
+use Rattle.iscsi_target.specs.History.{History, Mark, marked, connection_limit}
+use Rattle.iscsi_target.specs.World.{Setting, present, world}
+use Rattle.iscsi_target.specs.Stands.{Stands, IsStarved}
+use Rattle.iscsi_target.specs.Machine.{Machine, IsSound, IsSure, link_at, is_open_at}
 use Rattle.iscsi_serve.specs.Log.{Entry}
-use Rattle.iscsi_serve.specs.Served.{IsServed}
-use Rattle.iscsi_serve.specs.Turn.{Moment, log_of, is_read, room_for, ends}
+use Rattle.iscsi_serve.specs.Served.{StaysServed}
+use Rattle.iscsi_serve.specs.Turn.{Moment, moment, is_read, room_for, ends}
 use Rattle.iscsi_serve.specs.declared.told.Named.{Named}
 
 -- the test at each number is whether the connection ended in this turn
@@ -14,13 +16,8 @@ abbrev pub AreEnded : List Bool → List Entry → Type 0
 AreEnded ended turn = (c : ℕ) → c < connection_limit → slice_index_or ended c false ≡ list_any (ends c) turn
 
 -- none did
-abbrev pub HasNoEnd : List Entry → Type 0
-HasNoEnd turn = (c : ℕ) → list_any (ends c) turn ≡ false
-
--- the ports and the target are at this moment
-pub record IsAt (s : Setting) (m : Moment) (log : List Entry) (target : Machine) : Type 0 where
-  pub logged : log ≡ log_of m
-  pub served : IsServed s m.history (log_of m) target
+abbrev pub none_ended : List Bool
+none_ended = replicate connection_limit false
 
 -- a read is due, with so much room
 pub record IsDue (named : Named) (c room : ℕ) (target : Machine) : Type 0 where
@@ -28,7 +25,29 @@ pub record IsDue (named : Named) (c room : ℕ) (target : Machine) : Type 0 wher
   pub open_ : is_open_at target c ≡ true
   pub is_room : room ≡ room_for (link_at target c)
 
--- from one moment to another, by R
-abbrev pub Goes : (Setting → Moment → Moment → Type 0) → List Entry → List Entry → Machine → Machine → List Bool → List Bool → Type 0
+-- a piece of a connection was fed: the target stands where the World of it does, and where an allocation failed in it,
+-- that is told by marks
+abbrev pub StandsFed : ℕ → List ℕ → Machine → Machine → Type 0
+StandsFed c piece target target_then =
+    (s : Setting) (sent : ℕ → ℕ) (h : History) → Stands s sent target h
+    → (marks : List Mark) × ((marks ≡ []) ⊎ IsStarved c (present c (world s h)) piece marks)
+    × Stands s sent target_then (h ++ marked marks (history.Bytes c piece) ∷ [])
+
+-- in the turn that began at this log, from one moment to another by R
+abbrev pub Goes : (Moment → Moment → Type 0) → List Entry → List Entry → Machine → Machine → List Bool → List Bool → Type 0
 Goes R log log_then target target_then ended ended_then =
-    (s : Setting) (m : Moment) → IsAt s m log target → AreEnded ended m.turn → (n : Moment) × IsAt s n log_then target_then × AreEnded ended_then n.turn × R s m n
+    (before turn : List Entry) → log ≡ before ++ turn → AreEnded ended turn
+    → (after : List Entry) × (log_then ≡ before ++ after) × AreEnded ended_then after × R (moment target before turn) (moment target_then before after)
+
+-- what each step keeps, whatever it does
+pub record Keeps (tells tells_then : Bool) (log log_then : List Entry) (target target_then : Machine) : Type 0 where
+  pub back : tells_then ≡ true → tells ≡ true
+  pub sound : IsSound target_then → IsSound target
+  pub sure : IsSure target → IsSure target_then
+  pub served : tells_then ≡ true → IsSound target_then → StaysServed log log_then target target_then
+
+-- what a step by R does, and keeps
+pub record Does (R : Moment → Moment → Type 0) (tells tells_then : Bool) (log log_then : List Entry)
+    (target target_then : Machine) (ended ended_then : List Bool) : Type 0 where
+  pub keeps : Keeps tells tells_then log log_then target target_then
+  pub goes : tells_then ≡ true → Goes R log log_then target target_then ended ended_then

@@ -1,11 +1,12 @@
--- What the running loop keeps.
-use Rattle.std.specs.Prelude.{◌≡◌, ◌<◌, ℕ, List, [], ◌∷◌, ◌++◌, length, map, ⊤}
-use Rattle.iscsi_target.specs.History.{History, connection_limit}
+-- What the running loop keeps of a sound target.
+use Rattle.std.specs.Prelude.{◌≡◌, ◌⊎◌, ◌<◌, ℕ, List, [], ◌∷◌, ◌++◌, length, map, ⊤}
+use Rattle.iscsi_target.specs.History as history
+use Rattle.iscsi_target.specs.History.{Event, Happening, History, Mark, connection_limit}
 use Rattle.iscsi_target.specs.Life.{Life, is_over, out_of}
-use Rattle.iscsi_target.specs.World.{Setting, present, world}
+use Rattle.iscsi_target.specs.World.{Setting, World, present, world}
 use Rattle.iscsi_target.specs.Output.{out_now}
 use Rattle.iscsi_target.specs.Machine.{Machine, link_at}
-use Rattle.iscsi_target.specs.Stands.{Stands}
+use Rattle.iscsi_target.specs.Stands.{Stands, IsStarved}
 use Rattle.iscsi_serve.specs.Log.{Entry, Written, events, written, written_on}
 
 -- what was written on a connection is a front of what the World answers in its life
@@ -28,3 +29,23 @@ pub record IsServed (s : Setting) (history : History) (log : List Entry) (target
   pub stands : Stands s (λ c. length (written_on c log)) target history
   pub fronts : AreFronts (written log) (world s history).lives
   pub waits : (c : ℕ) → c < connection_limit → written_on c log ++ (link_at target c).waiting ≡ out_now (present c (world s history))
+
+-- an allocation failed in a piece's event
+abbrev pub HasStarved : World → List Mark → Event → Type 0
+HasStarved w marks (history.Bytes c piece) = IsStarved c (present c w) piece marks
+HasStarved w marks _ = ⊥
+
+-- no allocation failed in what happens to this World, or one did in a piece's event
+abbrev pub MayHappen : World → Happening → Type 0
+MayHappen w x = (x.marks ≡ []) ⊎ HasStarved w x.marks x.event
+
+-- each further happening may come where those before it lead
+abbrev pub MayFollow : Setting → History → History → Type 0
+MayFollow s h [] = ⊤
+MayFollow s h (x ∷ more) = MayHappen (world s h) x × MayFollow s (h ++ x ∷ []) more
+
+-- what is served stays so, whatever has happened in between
+abbrev pub StaysServed : List Entry → List Entry → Machine → Machine → Type 0
+StaysServed log log_then target target_then =
+    (s : Setting) (h : History) → IsServed s h log target
+    → (more : History) × MayFollow s h more × IsServed s (h ++ more) log_then target_then

@@ -1,21 +1,26 @@
 //! The loop that carries bytes between an iSCSI target and its connections, on one thread.
 //!
 //! A [`turn`] asks the [`Ports`] whom to serve, accepts, reads, writes and closes what is due, and
-//! [`turns`] makes many. Whatever the ports tell, what was written on a connection is what the
-//! machine of `iscsi_target` answers there, without what still waits (the clauses `served`), as long
-//! as the log of the ports tells all (`Ports::tells`) and the target is sound.
+//! [`turns`] makes many. As long as the log of the ports tells all (`Ports::tells`), it says of every
+//! target what was done and what the target is then (the clauses `turned`), and of a sound one that
+//! what was written on a connection is what the machine of `iscsi_target` answers there, without what
+//! still waits (the clauses `served`), whatever the ports told.
 //!
-//! [`MioPorts`] are the system's sockets; [`MemPorts`] follow a script and keep a log, for tests.
+//! [`MioPorts`] are the system's sockets, whose calls and their answers are noted in a record that
+//! only clauses read; [`MemPorts`] follow a script and keep a log, for tests.
 #![tactic(auto)]
 
 mod bind_fault;
 mod entry;
 mod fault;
 mod mem_ports;
-mod mio_ports;
+mod mio_sockets;
 mod places;
 mod ports;
 mod serving;
+mod socket_calls;
+mod socket_failure;
+mod socket_ports;
 #[cfg(test)]
 mod tests;
 mod told;
@@ -24,7 +29,10 @@ pub use bind_fault::BindFault;
 pub use entry::{Carried, Entry};
 pub use fault::ServeFault;
 pub use mem_ports::{MemPorts, Script, Step};
-pub use mio_ports::MioPorts;
+pub use mio_sockets::MioSockets;
 pub use ports::Ports;
 pub use serving::{turn, turns};
+pub use socket_calls::SocketCalls;
+pub use socket_failure::SocketFailure;
+pub use socket_ports::{MioPorts, SocketPorts};
 pub use told::{Accepted, Named, PortFault, Told};

@@ -1,14 +1,12 @@
 //! The loop: one turn after the other.
 
-ghost use Rattle.std.specs.Prelude.{◌≡◌, ◌⊎◌, ◌<◌, ◌≤◌, ◌++◌, ◌∷◌, [], List, ℕ, true, false, ◌||◌, ◌&&◌, ◌==◌, not, find, length, slice_index_or, unwrap_or, OnOk, IfErr};
-ghost use Rattle.iscsi_target.specs.History.{History, Mark, Bytes, marked, connections};
-ghost use Rattle.iscsi_target.specs.World.{Setting, present, world};
-ghost use Rattle.iscsi_target.specs.Stands.{Stands, IsStarved};
-ghost use Rattle.iscsi_target.specs.Machine.{IsSound, link_at, is_open_at, is_closing};
-ghost use Rattle.iscsi_serve.specs.Log.{AcceptFailed};
-ghost use Rattle.iscsi_serve.specs.Served.{IsServed};
-ghost use Rattle.iscsi_serve.specs.Turn.{Moment, log_of, beginning, told, HasAccepted, is_read, Accepts, Reads, Writes, Closes, Along, Carries, EndsTurn, EndsTurns};
-ghost use Rattle.iscsi_serve.specs.Progress.{HasNoEnd, IsAt, IsDue, Goes};
+ghost use Rattle.std.specs.Prelude.{◌≡◌, ◌<◌, ◌≤◌, ◌++◌, ◌∷◌, [], List, true, false, ◌||◌, ◌&&◌, ◌==◌, length, slice_index_or, OnOk, IfErr};
+ghost use Rattle.iscsi_target.specs.History.{connections};
+ghost use Rattle.iscsi_target.specs.Machine.{Feeds, IsSound, IsSure, link_at, is_open_at, is_closing};
+ghost use Rattle.iscsi_serve.specs.Log.{Entry, AcceptFailed};
+ghost use Rattle.iscsi_serve.specs.Served.{StaysServed};
+ghost use Rattle.iscsi_serve.specs.Turn.{Moment, moment, log_of, beginning, free_number as lowest_free, HasAccepted, is_read, Accepts, Reads, Writes, Closes, Along, Carries, EndsTurn, EndsTurns};
+ghost use Rattle.iscsi_serve.specs.Progress.{AreEnded, none_ended, IsDue, StandsFed, Goes, Keeps, Does};
 ghost use Rattle.iscsi_serve.specs.declared.told.Named.{Named};
 
 use crate::fault::ServeFault;
@@ -22,7 +20,7 @@ const MOST_READ: usize = 65_536;
 
 /// The lowest number that is free, or 64.
 fn free_number<S: Store>(target: &Target<S>) -> usize
-    ensures value { result ≡ unwrap_or (find (λ c. not (is_open_at target.now c)) connections) 64 }
+    ensures value { result ≡ lowest_free target.now }
     ensures free { result < 64 → is_open_at target.now result ≡ false }
     ensures range { result ≤ 64 }
 {
@@ -36,13 +34,11 @@ fn free_number<S: Store>(target: &Target<S>) -> usize
 
 /// Accepts a connection that waits, and closes it at once where no number is free for it.
 fn accept_one<P: Ports, S: Store>(ports: &mut P, target: &mut Target<S>) -> Result<(), ServeFault>
-    ensures ok { OnOk result (P.tells ports.new ≡ true → IsSound target.new → (s : Setting) (m : Moment) → IsAt s m (P.log ports.old) target.old
-        → (n : Moment) × IsAt s n (P.log ports.new) target.new × HasAccepted s m n) }
-    ensures err { IfErr result (λ fault. fault ≡ ServeFault.Accept) }
-    ensures failed { IfErr result (λ _. P.tells ports.new ≡ true → IsSound target.new → (s : Setting) (m : Moment) → IsAt s m (P.log ports.old) target.old
-        → IsAt s (told AcceptFailed m) (P.log ports.new) target.new) }
-    ensures back { P.tells ports.new ≡ true → P.tells ports.old ≡ true }
-    ensures sound { IsSound target.new → IsSound target.old }
+    ensures ok { OnOk result (P.tells ports.new ≡ true
+        → Goes HasAccepted (P.log ports.old) (P.log ports.new) target.old target.new none_ended none_ended) }
+    ensures failed { IfErr result (λ fault. (fault ≡ ServeFault.Accept) × (target.new ≡ target.old)
+        × (P.tells ports.new ≡ true → P.log ports.new ≡ P.log ports.old ++ AcceptFailed ∷ [])) }
+    ensures keeps { Keeps (P.tells ports.old) (P.tells ports.new) (P.log ports.old) (P.log ports.new) target.old target.new }
 {
     let c = free_number(target);
     match ports.accept(c) {
@@ -63,9 +59,10 @@ fn accept_one<P: Ports, S: Store>(ports: &mut P, target: &mut Target<S>) -> Resu
 fn feed<S: Store>(target: &mut Target<S>, c: usize, piece: &[u8])
     requires in_range { c < 64 }
     requires open { is_open_at target.old c ≡ true }
-    ensures stands { IsSound target.new → (s : Setting) (sent : ℕ → ℕ) (h : History) → Stands s sent target.old h
-        → (marks : List Mark) × ((marks ≡ []) ⊎ IsStarved c (present c (world s h)) piece.now marks) × Stands s sent target.new (h ++ marked marks (Bytes c piece.now) ∷ []) }
+    ensures stands { IsSound target.new → StandsFed c piece.now target.old target.new }
+    ensures feeds { Feeds c target.old target.new }
     ensures sound { IsSound target.new → IsSound target.old }
+    ensures sure { IsSure target.old → IsSure target.new }
 {
     match target.feed(c, piece) {
         Ok(()) => {}
@@ -96,9 +93,8 @@ fn read_piece<P: Ports, S: Store>(
 )
     requires in_range { c < 64 }
     requires open { is_open_at target.old c ≡ true }
-    ensures goes { P.tells ports.new ≡ true → IsSound target.new → (named : Named) → IsDue named c (length piece.old) target.old → Goes (λ s. Reads s named c) (P.log ports.old) (P.log ports.new) target.old target.new ended.old ended.new }
-    ensures back { P.tells ports.new ≡ true → P.tells ports.old ≡ true }
-    ensures sound { IsSound target.new → IsSound target.old }
+    ensures { (named : Named) → IsDue named c (length piece.old) target.old → Does (Reads named c) (P.tells ports.old) (P.tells ports.new)
+        (P.log ports.old) (P.log ports.new) target.old target.new ended.old ended.new }
 {
     match ports.read(c, piece) {
         Told::Bytes(0) => {}
@@ -117,9 +113,8 @@ fn read_one<P: Ports, S: Store>(
     c: usize,
 )
     requires { c < 64 }
-    ensures goes { P.tells ports.new ≡ true → IsSound target.new → Goes (λ s. Reads s named.now c) (P.log ports.old) (P.log ports.new) target.old target.new ended.old ended.new }
-    ensures back { P.tells ports.new ≡ true → P.tells ports.old ≡ true }
-    ensures sound { IsSound target.new → IsSound target.old }
+    ensures { Does (Reads named.now c) (P.tells ports.old) (P.tells ports.new)
+        (P.log ports.old) (P.log ports.new) target.old target.new ended.old ended.new }
 {
     let room = room_for(target, named, c);
     if room > 0 {
@@ -135,9 +130,7 @@ fn write_one<P: Ports, S: Store>(
     c: usize,
 )
     requires { c < 64 }
-    ensures goes { P.tells ports.new ≡ true → IsSound target.new → Goes (λ s. Writes s c) (P.log ports.old) (P.log ports.new) target.old target.new ended.old ended.new }
-    ensures back { P.tells ports.new ≡ true → P.tells ports.old ≡ true }
-    ensures sound { IsSound target.new → IsSound target.old }
+    ensures { Does (Writes c) (P.tells ports.old) (P.tells ports.new) (P.log ports.old) (P.log ports.new) target.old target.new ended.old ended.new }
 {
     if !target.is_open(c) {
         return;
@@ -169,9 +162,7 @@ fn close_one<P: Ports, S: Store>(
     c: usize,
 )
     requires { c < 64 }
-    ensures goes { P.tells ports.new ≡ true → IsSound target.new → Goes (λ s. Closes s c) (P.log ports.old) (P.log ports.new) target.old target.new ended.now ended.now }
-    ensures back { P.tells ports.new ≡ true → P.tells ports.old ≡ true }
-    ensures sound { IsSound target.new → IsSound target.old }
+    ensures { Does (Closes c) (P.tells ports.old) (P.tells ports.new) (P.log ports.old) (P.log ports.new) target.old target.new ended.now ended.now }
 {
     if !target.is_open(c) {
         return;
@@ -190,9 +181,8 @@ fn read_all<P: Ports, S: Store>(
     buffer: &mut [u8; MOST_READ],
     ended: &mut [bool; CONNECTIONS],
 )
-    ensures goes { P.tells ports.new ≡ true → IsSound target.new → Goes (λ s. Along (Reads s named.now) connections) (P.log ports.old) (P.log ports.new) target.old target.new ended.old ended.new }
-    ensures back { P.tells ports.new ≡ true → P.tells ports.old ≡ true }
-    ensures sound { IsSound target.new → IsSound target.old }
+    ensures { Does (Along (Reads named.now) connections) (P.tells ports.old) (P.tells ports.new)
+        (P.log ports.old) (P.log ports.new) target.old target.new ended.old ended.new }
 {
     for c in 0..CONNECTIONS {
         read_one(ports, target, named, buffer, ended, c);
@@ -205,9 +195,8 @@ fn write_all<P: Ports, S: Store>(
     target: &mut Target<S>,
     ended: &mut [bool; CONNECTIONS],
 )
-    ensures goes { P.tells ports.new ≡ true → IsSound target.new → Goes (λ s. Along (Writes s) connections) (P.log ports.old) (P.log ports.new) target.old target.new ended.old ended.new }
-    ensures back { P.tells ports.new ≡ true → P.tells ports.old ≡ true }
-    ensures sound { IsSound target.new → IsSound target.old }
+    ensures { Does (Along Writes connections) (P.tells ports.old) (P.tells ports.new)
+        (P.log ports.old) (P.log ports.new) target.old target.new ended.old ended.new }
 {
     for c in 0..CONNECTIONS {
         write_one(ports, target, ended, c);
@@ -216,9 +205,8 @@ fn write_all<P: Ports, S: Store>(
 
 /// All closes that are due.
 fn close_all<P: Ports, S: Store>(ports: &mut P, target: &mut Target<S>, ended: &[bool; CONNECTIONS])
-    ensures goes { P.tells ports.new ≡ true → IsSound target.new → Goes (λ s. Along (Closes s) connections) (P.log ports.old) (P.log ports.new) target.old target.new ended.now ended.now }
-    ensures back { P.tells ports.new ≡ true → P.tells ports.old ≡ true }
-    ensures sound { IsSound target.new → IsSound target.old }
+    ensures { Does (Along Closes connections) (P.tells ports.old) (P.tells ports.new)
+        (P.log ports.old) (P.log ports.new) target.old target.new ended.now ended.now }
 {
     for c in 0..CONNECTIONS {
         close_one(ports, target, ended, c);
@@ -231,13 +219,11 @@ fn accept_named<P: Ports, S: Store>(
     target: &mut Target<S>,
     named: &Named,
 ) -> Result<(), ServeFault>
-    ensures ok { OnOk result (P.tells ports.new ≡ true → IsSound target.new → (s : Setting) (m : Moment) → IsAt s m (P.log ports.old) target.old
-        → (n : Moment) × IsAt s n (P.log ports.new) target.new × Accepts s named.now m n) }
-    ensures err { IfErr result (λ fault. (fault ≡ ServeFault.Accept) × (named.now.listener ≡ true)) }
-    ensures failed { IfErr result (λ _. P.tells ports.new ≡ true → IsSound target.new → (s : Setting) (m : Moment) → IsAt s m (P.log ports.old) target.old
-        → IsAt s (told AcceptFailed m) (P.log ports.new) target.new) }
-    ensures back { P.tells ports.new ≡ true → P.tells ports.old ≡ true }
-    ensures sound { IsSound target.new → IsSound target.old }
+    ensures ok { OnOk result (P.tells ports.new ≡ true
+        → Goes (Accepts named.now) (P.log ports.old) (P.log ports.new) target.old target.new none_ended none_ended) }
+    ensures failed { IfErr result (λ fault. (fault ≡ ServeFault.Accept) × (named.now.listener ≡ true) × (target.new ≡ target.old)
+        × (P.tells ports.new ≡ true → P.log ports.new ≡ P.log ports.old ++ AcceptFailed ∷ [])) }
+    ensures keeps { Keeps (P.tells ports.old) (P.tells ports.new) (P.log ports.old) (P.log ports.new) target.old target.new }
 {
     if !named.listener {
         return Ok(());
@@ -252,10 +238,9 @@ fn carry<P: Ports, S: Store>(
     named: &Named,
     buffer: &mut [u8; MOST_READ],
 )
-    ensures carries { P.tells ports.new ≡ true → IsSound target.new → (s : Setting) (m : Moment) → IsAt s m (P.log ports.old) target.old → HasNoEnd m.turn
-        → (n : Moment) × IsAt s n (P.log ports.new) target.new × Carries s named.now m n }
-    ensures back { P.tells ports.new ≡ true → P.tells ports.old ≡ true }
-    ensures sound { IsSound target.new → IsSound target.old }
+    ensures carries { P.tells ports.new ≡ true → (before turn : List Entry) → P.log ports.old ≡ before ++ turn → AreEnded none_ended turn
+        → (after : List Entry) × (P.log ports.new ≡ before ++ after) × Carries named.now (moment target.old before turn) (moment target.new before after) }
+    ensures keeps { Keeps (P.tells ports.old) (P.tells ports.new) (P.log ports.old) (P.log ports.new) target.old target.new }
 {
     let mut ended = [false; CONNECTIONS];
     read_all(ports, target, named, buffer, &mut ended);
@@ -269,10 +254,9 @@ fn turn_with<P: Ports, S: Store>(
     target: &mut Target<S>,
     buffer: &mut [u8; MOST_READ],
 ) -> Result<(), ServeFault>
-    ensures served { P.tells ports.new ≡ true → IsSound target.new → (s : Setting) (h : History) → IsServed s h (P.log ports.old) target.old
-        → (m : Moment) × (P.log ports.new ≡ log_of m) × IsServed s m.history (log_of m) target.new × EndsTurn s (beginning h (P.log ports.old)) result m }
-    ensures back { P.tells ports.new ≡ true → P.tells ports.old ≡ true }
-    ensures sound { IsSound target.new → IsSound target.old }
+    ensures turned { P.tells ports.new ≡ true
+        → (m : Moment) × (P.log ports.new ≡ log_of m) × (target.new ≡ m.target) × EndsTurn (beginning target.old (P.log ports.old)) result m }
+    ensures keeps { Keeps (P.tells ports.old) (P.tells ports.new) (P.log ports.old) (P.log ports.new) target.old target.new }
 {
     let named = match ports.poll() {
         Ok(named) => named,
@@ -294,10 +278,12 @@ fn turn_with<P: Ports, S: Store>(
 /// A fault comes only where the poll or the accept failed. A failed allocation closes one connection
 /// and is no fault.
 pub fn turn<P: Ports, S: Store>(ports: &mut P, target: &mut Target<S>) -> Result<(), ServeFault>
-    ensures served { P.tells ports.new ≡ true → IsSound target.new → (s : Setting) (h : History) → IsServed s h (P.log ports.old) target.old
-        → (m : Moment) × (P.log ports.new ≡ log_of m) × IsServed s m.history (log_of m) target.new × EndsTurn s (beginning h (P.log ports.old)) result m }
+    ensures turned { P.tells ports.new ≡ true
+        → (m : Moment) × (P.log ports.new ≡ log_of m) × (target.new ≡ m.target) × EndsTurn (beginning target.old (P.log ports.old)) result m }
+    ensures served { P.tells ports.new ≡ true → IsSound target.new → StaysServed (P.log ports.old) (P.log ports.new) target.old target.new }
     ensures back { P.tells ports.new ≡ true → P.tells ports.old ≡ true }
     ensures sound { IsSound target.new → IsSound target.old }
+    ensures sure { IsSure target.old → IsSure target.new }
 {
     let mut buffer = [0; MOST_READ];
     turn_with(ports, target, &mut buffer)
@@ -309,10 +295,12 @@ pub fn turns<P: Ports, S: Store>(
     target: &mut Target<S>,
     count: u64,
 ) -> Result<(), ServeFault>
-    ensures served { P.tells ports.new ≡ true → IsSound target.new → (s : Setting) (h : History) → IsServed s h (P.log ports.old) target.old
-        → (m : Moment) × (P.log ports.new ≡ log_of m) × IsServed s m.history (log_of m) target.new × EndsTurns s count (beginning h (P.log ports.old)) result m }
+    ensures turned { P.tells ports.new ≡ true
+        → (m : Moment) × (P.log ports.new ≡ log_of m) × (target.new ≡ m.target) × EndsTurns count (beginning target.old (P.log ports.old)) result m }
+    ensures served { P.tells ports.new ≡ true → IsSound target.new → StaysServed (P.log ports.old) (P.log ports.new) target.old target.new }
     ensures back { P.tells ports.new ≡ true → P.tells ports.old ≡ true }
     ensures sound { IsSound target.new → IsSound target.old }
+    ensures sure { IsSure target.old → IsSure target.new }
 {
     let mut buffer = [0; MOST_READ];
     for _ in 0..count {

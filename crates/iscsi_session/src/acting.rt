@@ -52,6 +52,7 @@ impl Session {
             → Stands (answered + bearing (answers_by (due past) answered past)) (acted_by (due past) past) self.new) }
         ensures out { OnOk result ((answered : ℕ) (past : Past) → Stands answered past self.old
             → out.new.items ≡ out.old.items ++ flat_map spelling (answers_by (due past) answered past)) }
+        ensures grows { (more : List ℕ) × (out.new.items ≡ out.old.items ++ more) }
         ensures fewer { IfOk result (λ a. a ≡ Act.Taken → waiting_count self.new.tasks < waiting_count self.old.tasks) }
         ensures params { self.new.params ≡ self.old.params }
         ensures due { OnErr result ((answered : ℕ) (past : Past) → Stands answered past self.old → due past ≢ []) }
@@ -140,6 +141,7 @@ impl Session {
             → is_command request.frame ≡ false → Stands (answered + bearing (act_answers answered request past)) (acted request past) self.new }
         ensures out { (answered : ℕ) (past : Past) (request : Request) (others : List Request) → Stands answered past self.old → IsTurn turn past request others
             → is_command request.frame ≡ false → out.new.items ≡ out.old.items ++ flat_map spelling (act_answers answered request past) }
+        ensures grows { (more : List ℕ) × (out.new.items ≡ out.old.items ++ more) }
         ensures fewer { result ≡ Act.Taken → waiting_count self.new.tasks < waiting_count self.old.tasks }
         ensures params { self.new.params ≡ self.old.params }
     {
@@ -162,6 +164,7 @@ impl Session {
             → Stands (answered + bearing (ping_answers (stamp answered past) past.params.values frame.now)) past self.new }
         ensures out { (answered : ℕ) (past : Past) → Stands answered past self.old
             → out.new.items ≡ out.old.items ++ flat_map spelling (ping_answers (stamp answered past) past.params.values frame.now) }
+        ensures grows { (more : List ℕ) × (out.new.items ≡ out.old.items ++ more) }
         ensures tasks { self.new.tasks ≡ self.old.tasks }
         ensures params { self.new.params ≡ self.old.params }
     {
@@ -197,6 +200,7 @@ impl Session {
         ensures stands { (answered : ℕ) (past : Past) → Stands answered past self.old → Stands (answered + 1) past self.new }
         ensures out { (answered : ℕ) (past : Past) → Stands answered past self.old
             → out.new.items ≡ out.old.items ++ spelling (logout_answer (stamp answered past) past.params frame.now) }
+        ensures grows { (more : List ℕ) × (out.new.items ≡ out.old.items ++ more) }
         ensures tasks { self.new.tasks ≡ self.old.tasks }
         ensures params { self.new.params ≡ self.old.params }
     {

@@ -34,6 +34,7 @@ impl Session {
             → Stands (answered + 1) (finished command past) self.new }
         ensures out { (answered : ℕ) (past : Past) (command : Request) (others : List Request) → Stands answered past self.old → queue past ≡ command ∷ others
             → out.new.items ≡ out.old.items ++ flat_map spelling (command_answers (stamp answered (finished command past)) past.params.values command.frame done.now) }
+        ensures grows { (more : List ℕ) × (out.new.items ≡ out.old.items ++ more) }
         ensures queue { self.new.tasks.queue ≡ drop 1 self.old.tasks.queue }
         ensures params { self.new.params ≡ self.old.params }
     {

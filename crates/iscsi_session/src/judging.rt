@@ -1,6 +1,6 @@
 //! The judging of a frame.
 
-ghost use Rattle.std.specs.Prelude.{◌≡◌, ◌+◌, ◌++◌, ℕ, true, flat_map, IfOk, OnOk, OnErr};
+ghost use Rattle.std.specs.Prelude.{◌≡◌, ◌+◌, ◌++◌, ℕ, List, true, flat_map, IfOk, OnOk, OnErr};
 ghost use Rattle.iscsi_pdu.specs.Answer.{spelling};
 ghost use Rattle.iscsi_pdu.specs.Frames as pdu;
 ghost use Rattle.iscsi_session.specs.Requests.{Past, unfinished, accepted, bearing, stamp};
@@ -30,6 +30,7 @@ impl Session {
             → Stands (answered + bearing (judged_answers (verdict past frame) (stamp answered past) frame)) (judged (verdict past frame) frame past) self.new) }
         ensures out { OnOk result ((answered : ℕ) (past : Past) → Stands answered past self.old
             → out.new.items ≡ out.old.items ++ flat_map spelling (judged_answers (verdict past frame) (stamp answered past) frame)) }
+        ensures grows { (more : List ℕ) × (out.new.items ≡ out.old.items ++ more) }
         ensures params { self.new.params ≡ self.old.params }
         ensures err { OnErr result (self.new ≡ self.old) }
         ensures out_err { OnErr result (out.new.items ≡ out.old.items) }
@@ -124,6 +125,7 @@ impl Session {
         ensures stands { OnOk result ((answered : ℕ) (past : Past) → Stands answered past self.old → Stands (answered + 1) past self.new) }
         ensures out { OnOk result ((answered : ℕ) (past : Past) (frame : pdu.Frame) → Stands answered past self.old → frame.header ≡ header
             → out.new.items ≡ out.old.items ++ spelling (reject reason (stamp answered past) frame)) }
+        ensures grows { (more : List ℕ) × (out.new.items ≡ out.old.items ++ more) }
         ensures params { self.new.params ≡ self.old.params }
         ensures err { OnErr result (self.new ≡ self.old) }
         ensures out_err { OnErr result (out.new.items ≡ out.old.items) }

@@ -5,12 +5,12 @@ use Rattle.std.proofs.lemmas.List.{length-append, length-map, map-append, get_or
 use Rattle.iscsi_pdu.specs.Frames.{Frame, frames, rest}
 use Rattle.iscsi_target.specs.History.{Mark, Arrival, Whole}
 use Rattle.iscsi_target.specs.World.{Setting, World, arrive}
-use Rattle.iscsi_target.specs.Machine.{LinkState, Machine, link_at, with_link, IsSound, is_open_at, is_reading, free_link, GivesFrame}
+use Rattle.iscsi_target.specs.Machine.{LinkState, Machine, link_at, with_link, IsSound, IsSure, Feeds, is_reading, free_link, GivesFrame}
 use Rattle.iscsi_target.specs.Serving.{Serves, Unmarked, KeepsHalf, Takes}
 use Rattle.iscsi_target.proofs.Arrivals.{fold-places}
 use Rattle.iscsi_target.proofs.Serving.{replaced}
-use Rattle.iscsi_target.proofs.Sound.{sound_as}
-use Rattle.iscsi_target.proofs.Opening.{half_opens}
+use Rattle.iscsi_target.proofs.Sound.{sound_as, sure_as}
+use Rattle.iscsi_target.proofs.Opening.{feeds_same, feeds_then, feeds_as, feeds_half}
 
 pub record Progress (c : ℕ) (first machine : Machine) : Type 0 where
   -- the frames so far, and the bytes behind them
@@ -20,7 +20,8 @@ pub record Progress (c : ℕ) (first machine : Machine) : Type 0 where
   pub behind : rest (link_at first c).half ≡ rest more
   pub kept : KeepsHalf more (link_at machine c)
   pub back : IsSound machine → IsSound first
-  pub opens : (d : ℕ) → is_open_at machine d ≡ is_open_at first d
+  pub sure : IsSure first → IsSure machine
+  pub feeds : Feeds c first machine
   -- the code is where the World is after them, if no mark names one of them and the target is sound
   pub stands : IsSound machine → (s : Setting) (sent : ℕ → ℕ) (w : World) (place : ℕ) (bytes : List ℕ) (marks : List Mark) → ((q : ℕ) → q < place + length done → Unmarked marks c q) → Serves c bytes s sent w first
       → Serves c bytes s sent (fold (arrive s marks c) w (enumerate_from place (map Whole done))) machine
@@ -36,7 +37,8 @@ begins c machine r = record {
   behind = refl;
   kept = record { reading = λ e. refl; idle = λ i. reads_not (link_at machine c) r i };
   back = λ sound. sound;
-  opens = λ d. refl;
+  sure = λ sure. sure;
+  feeds = feeds_same c machine;
   stands = λ sound s sent w place bytes marks un h. h;
 }
 
@@ -76,7 +78,9 @@ goes_on c first machine given after frame lt p r gives is taken =
       behind = p.behind ∙ ap rest (sym here) ∙ sym gives.behind;
       kept = taken.keeps given_reads;
       back = λ sound. p.back (sound_as given _ is (taken.back sound));
-      opens = λ d. taken.opens d ∙ ap (λ (m : Machine). is_open_at m d) is ∙ half_opens machine c (link_at given c).half lt d ∙ p.opens d;
+      sure = λ sure. taken.sure (sure_as _ given (sym is) (p.sure sure));
+      feeds = feeds_then c first machine after p.feeds
+          (feeds_then c machine given after (feeds_as c machine _ given is (feeds_half machine c (link_at given c).half lt)) taken.feeds);
       stands = λ sound s sent w place bytes marks un h.
           (let before = p.stands (sound_as given _ is (taken.back sound)) s sent w place bytes marks (λ q below. un q (omega (arith, one_further p.done frame))) h in
           let v = fold (arrive s marks c) w (enumerate_from place (map Whole p.done)) in

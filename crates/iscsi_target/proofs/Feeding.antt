@@ -1,7 +1,7 @@
 -- A whole event of bytes keeps the code where the World is: each way in which it ends.
 use Rattle.std.proofs.Common.{◌≡◌, ◌≢◌, ℕ, ◌+◌, ◌<◌, List, [], ◌∷◌, ◌++◌, length, drop, map, set, get_or, Bool, true, false, Option, Some, None, refl, sym, ap, ◌∙◌, subst, arith, append_assoc, inl, inr}
 use Rattle.std.specs.List.{fold, enumerate_from}
-use Rattle.std.proofs.lemmas.List.{append-nil, length-append, length-map, map-append, length-set, set-get_or, get_or-set_same, get_or-set_other, drop_all}
+use Rattle.std.proofs.lemmas.List.{append-nil, length-map, map-append, length-set, set-get_or, get_or-set_same, get_or-set_other, drop_all}
 use Rattle.std.proofs.lemmas.Bool.Decides.{eqb_tells}
 use Rattle.std.proofs.lemmas.List.FromFn.{length-enumerate_from}
 use Rattle.iscsi_pdu.specs.Frames.{Frame, frames, rest, is_long, has_frame}
@@ -10,16 +10,16 @@ use Rattle.iscsi_pdu.proofs.Cuts.{rest_in_pieces, long_is_no_frame}
 use Rattle.iscsi_target.specs.History.{Bytes, Mark, Step, Ending, History, plain, Arrival, Whole, TooLong, arrivals, new_arrivals, connection_limit}
 use Rattle.iscsi_target.specs.Life.{Life, Phase, LoggingIn, FullFeature, Closing, Over, reads, out_of}
 use Rattle.iscsi_target.specs.World.{Setting, World, present, changed, reads_life, close, is_marked, take_step, arrive, arrive_at, brought, longer, bring, world}
-use Rattle.iscsi_target.specs.Machine.{LinkState, Machine, link_at, with_link, closed, IsSound, is_reading, is_closing, is_open_at, free_link, GivesFrame}
+use Rattle.iscsi_target.specs.Machine.{LinkState, Machine, link_at, with_link, closed, IsSound, IsSure, Feeds, is_reading, is_closing, is_open_at, free_link, GivesFrame}
 use Rattle.iscsi_target.specs.Stands.{phase_of, phase_for, half_of, IsQuiet, IsSettled, IsLinkOf, StandsAt, Stands}
 use Rattle.iscsi_target.proofs.Choices.{cond_true, cond_false}
-use Rattle.iscsi_target.proofs.Arrivals.{long_end, fold-places, joined_arrivals, new_is}
+use Rattle.iscsi_target.proofs.Arrivals.{long_end, fold-places, new_is}
 use Rattle.iscsi_target.proofs.Lives.{present-changed, present-changed_other, present_is}
 use Rattle.iscsi_target.specs.Serving.{IsServing, Serves, Unmarked, KeepsHalf, Takes}
 use Rattle.iscsi_target.proofs.Serving.{closes, present-close, step_done, step_idle}
 use Rattle.iscsi_target.proofs.Standing.{stands_as, stands_from, is_open_there}
-use Rattle.iscsi_target.proofs.Sound.{sound_as}
-use Rattle.iscsi_target.proofs.Opening.{half_opens, closed_link_at}
+use Rattle.iscsi_target.proofs.Sound.{sound_as, sure_as}
+use Rattle.iscsi_target.proofs.Opening.{feeds_then, feeds_as, feeds_half, closed_link_at}
 use Rattle.iscsi_target.proofs.Marks.{unmarked_plain, idle, idle_all}
 use Rattle.iscsi_target.proofs.Bringing.{Progress, with_half}
 
@@ -347,11 +347,16 @@ taken_is_shorter c machine given after frame lt r gives is taken =
     let k : KeepsHalf (link_at given c).half (link_at after c) = taken.keeps (ap (λ (l : LinkState). is_reading l.phase) given_link ∙ r) in
     shorter_by (is_reading (link_at after c).phase) after given c (length (link_at machine c).half) refl k gives.shorter
 
--- ---- sound, and open, before and after
+-- ---- sound, sure and open before and after
 
 -- from the machine that kept the piece
 pub first_sound : (c : ℕ) (machine kept now : Machine) (piece : List ℕ) → kept ≡ kept_first machine c piece → Progress c kept now → IsSound now → IsSound machine
 first_sound c machine kept now piece same p sound = sound_as kept (kept_first machine c piece) same (p.back sound)
 
-pub first_opens : (c : ℕ) (machine kept now : Machine) (piece : List ℕ) → c < length machine.links → kept ≡ kept_first machine c piece → Progress c kept now → (d : ℕ) → is_open_at now d ≡ is_open_at machine d
-first_opens c machine kept now piece lt same p d = p.opens d ∙ ap (λ (m : Machine). is_open_at m d) same ∙ half_opens machine c ((link_at machine c).half ++ piece) lt d
+pub first_sure : (c : ℕ) (machine kept now : Machine) (piece : List ℕ) → kept ≡ kept_first machine c piece → Progress c kept now → IsSure machine → IsSure now
+first_sure c machine kept now piece same p sure = p.sure (sure_as (kept_first machine c piece) kept (sym same) sure)
+
+pub first_feeds : (c : ℕ) (machine kept now : Machine) (piece : List ℕ) → c < length machine.links → kept ≡ kept_first machine c piece
+    → Progress c kept now → Feeds c machine now
+first_feeds c machine kept now piece lt same p =
+    feeds_then c machine kept now (feeds_as c machine _ kept same (feeds_half machine c ((link_at machine c).half ++ piece) lt)) p.feeds

@@ -8,13 +8,13 @@ use Rattle.iscsi_session.specs.Requests.{Past}
 use Rattle.iscsi_target.specs.History.{Mark, Judging, Taking, Doing, Whole}
 use Rattle.iscsi_target.specs.Life.{Life, FullFeature, reads}
 use Rattle.iscsi_target.specs.World.{Setting, World, present, reads_life, close, judge, act, act_all, due_of, finish, settle, queue_of, serve, arrive, arrive_at, arrive_in, is_marked}
-use Rattle.iscsi_target.specs.Machine.{LinkState, Machine, link_at, closed, free_link, is_free, is_reading, is_open_at, is_in_session}
+use Rattle.iscsi_target.specs.Machine.{LinkState, Machine, Feeds, link_at, closed, free_link, is_free, is_reading, is_in_session}
 use Rattle.iscsi_target.specs.Serving.{Serves, starved, Takes, Fails}
 use Rattle.iscsi_target.specs.Sessions.{Stays, Steps, StepsAll, StopsAt}
 use Rattle.iscsi_target.proofs.Choices.{eqb_self, and_false, not_true}
 use Rattle.iscsi_target.proofs.Serving.{closes, present-close, step_done, step_marked}
-use Rattle.iscsi_target.proofs.Opening.{closed_opens, closed_link_at}
-use Rattle.iscsi_target.proofs.Sound.{closed_sound}
+use Rattle.iscsi_target.proofs.Opening.{feeds_then, feeds_closed, closed_link_at}
+use Rattle.iscsi_target.proofs.Sound.{closed_sound, closed_sure}
 use Rattle.iscsi_target.proofs.Feeding.{reads_there}
 use Rattle.iscsi_target.proofs.Staying.{session_open, never, stays_same, stays_then}
 use Rattle.iscsi_target.proofs.SessionSteps.{session_here, serves_world}
@@ -79,8 +79,9 @@ takes_served c frame given judged_ acted_ after inside judges p acts q settles r
     let all : Stays c given after = stays_then c given acted_ after (stays_then c given judged_ acted_ p q) r in
     record {
       back = all.back;
+      sure = all.sure;
+      feeds = all.feeds;
       keeps = all.keeps;
-      opens = all.opens;
       stands = λ sound s sent w place bytes marks un h.
           (let first = judges (q.back (r.back sound)) s sent w bytes h (reads_in c bytes s sent w given inside h) in
           let second = acts (r.back sound) s sent (judge c frame w) place bytes marks (λ turn. un (Taking place turn) (eqb_self place)) first in
@@ -98,11 +99,11 @@ is_within c machine e = elim (leb_tells (suc c) (length machine.links)) [
 ]
 
 stays_open : (c : ℕ) (given after : Machine) → is_in_session (link_at given c).phase ≡ true → Stays c given after → is_free (link_at after c).phase ≡ false
-stays_open c given after inside p = not_true (is_free (link_at after c).phase) (p.opens c ∙ ap not (session_open (link_at given c).phase inside))
+stays_open c given after inside p = not_true (is_free (link_at after c).phase) (p.feeds.opens c ∙ ap not (session_open (link_at given c).phase inside))
 
-stopped_opens : (c : ℕ) (given after : Machine) → is_in_session (link_at given c).phase ≡ true → Stays c given after → (d : ℕ) → is_open_at (closed after c) d ≡ is_open_at given d
-stopped_opens c given after inside p d =
-    let open_ = stays_open c given after inside p in closed_opens after c (is_within c after open_) open_ d ∙ p.opens d
+stopped_feeds : (c : ℕ) (given after : Machine) → is_in_session (link_at given c).phase ≡ true → Stays c given after → Feeds c given (closed after c)
+stopped_feeds c given after inside p =
+    let open_ = stays_open c given after inside p in feeds_then c given after (closed after c) p.feeds (feeds_closed after c (is_within c after open_) open_)
 
 -- what is closed settles nothing
 closed_settles : (marks : List Mark) (c place : ℕ) (bytes : List ℕ) (s : Setting) (sent : ℕ → ℕ) (w : World) (after : Machine) → c < length after.links → Serves c bytes s sent w (closed after c) → settle marks c place w ≡ w
@@ -117,7 +118,8 @@ fails_acting c frame given judged_ after inside judges p stops q =
     let lt = is_within c after (stays_open c given after inside (stays_then c given judged_ after p q)) in
     record {
       back = λ sound. p.back (q.back (closed_sound after c sound));
-      opens = stopped_opens c given after inside (stays_then c given judged_ after p q);
+      sure = λ sure. closed_sure after c (q.sure (p.sure sure));
+      feeds = stopped_feeds c given after inside (stays_then c given judged_ after p q);
       step = λ place. Taking place stops.turn;
       of_frame = λ place. eqb_self place;
       stands = λ sound s sent w place bytes h reads_w.
@@ -133,7 +135,8 @@ pub fails_settling : (c : ℕ) (frame : Frame) (given judged_ acted_ after : Mac
     → StepsAll Taking (λ marks place. act_all marks c place) c judged_ acted_ → Stays c judged_ acted_ → StopsAt Doing (λ marks place. settle marks c place) c acted_ after → Stays c acted_ after → Fails c frame given after
 fails_settling c frame given judged_ acted_ after inside judges p acts q stops r = record {
   back = λ sound. p.back (q.back (r.back (closed_sound after c sound)));
-  opens = stopped_opens c given after inside (stays_then c given acted_ after (stays_then c given judged_ acted_ p q) r);
+  sure = λ sure. closed_sure after c (r.sure (q.sure (p.sure sure)));
+  feeds = stopped_feeds c given after inside (stays_then c given acted_ after (stays_then c given judged_ acted_ p q) r);
   step = λ place. Doing place stops.turn;
   of_frame = λ place. eqb_self place;
   stands = λ sound s sent w place bytes h reads_w.
@@ -149,7 +152,8 @@ fails_settling c frame given judged_ acted_ after inside judges p acts q stops r
 pub fails_judging : (c : ℕ) (frame : Frame) (given after : Machine) → is_in_session (link_at given c).phase ≡ true → after ≡ given → Fails c frame given after
 fails_judging c frame given after inside same = let P : Machine → Type 0 = λ m. Fails c frame given m in subst P (sym same) record {
   back = closed_sound given c;
-  opens = stopped_opens c given given inside (stays_same c given);
+  sure = closed_sure given c;
+  feeds = stopped_feeds c given given inside (stays_same c given);
   step = λ place. Judging place;
   of_frame = λ place. eqb_self place;
   stands = λ sound s sent w place bytes h reads_w.

@@ -1,18 +1,18 @@
 -- A step of a session at one connection of the code, as the code reads it from its list.
-use Rattle.std.proofs.Common.{◌≡◌, ◌≢◌, All, ℕ, ◌<◌, List, [], length, set, Bool, true, false, refl, sym, ap, ◌∙◌, subst}
+use Rattle.std.proofs.Common.{◌≡◌, ◌≢◌, All, ℕ, ◌<◌, List, [], length, set, Bool, true, sym, ap, ◌∙◌, subst}
 use Rattle.std.specs.Prelude.{Result, Ok, Err, IfOk}
-use Rattle.scsi_unit.specs.Units.{UnitStates, AreSound}
+use Rattle.std.proofs.lemmas.List.{set-get_or}
+use Rattle.scsi_unit.specs.Units.{UnitStates, AreSound, AreSure}
 use Rattle.iscsi_pdu.specs.Frames.{Frame}
 use Rattle.iscsi_session.specs.Requests.{Past, due, queue}
 use Rattle.iscsi_session.specs.declared.act.Act.{Act}
-use Rattle.iscsi_session.specs.declared.act.Act.TheVariants.{Idle, Taken, Ended}
 use Rattle.iscsi_session.specs.declared.verdict.Verdict.{Verdict}
 use Rattle.iscsi_session.specs.declared.verdict.Verdict.TheVariants as verdicts
 use Rattle.iscsi_target.specs.World.{judge}
-use Rattle.iscsi_target.specs.Machine.{LinkState, Machine, IsSound, link_at, with_link, closed, is_in_session}
+use Rattle.iscsi_target.specs.Machine.{LinkState, Machine, free_link, link_at, with_link, closed, is_in_session}
 use Rattle.iscsi_target.specs.Sessions.{IsSessionOf, Steps, Stays, StaysSession, ActsOne, FinishesOne, HasDue, HasQueue}
 use Rattle.iscsi_target.proofs.Staying.{stays_session, stays_link, stays_ended, stays_as}
-use Rattle.iscsi_target.proofs.SessionSteps.{JudgesOn, ActsOn, FinishesOn, judge_steps, judge_closes, goes_further, acted_machine, acts_one, acts_none, finishes_one, finishes_none, has_due, has_queue}
+use Rattle.iscsi_target.proofs.SessionSteps.{JudgesOn, ActsOn, FinishesOn, judge_steps, judge_closes, goes_further, acted_machine, acts_one, finishes_one, has_due, has_queue}
 
 -- the connection that the code reads
 pub record IsHere (c : ℕ) (given machine : Machine) (link : LinkState) : Type 0 where
@@ -76,19 +76,28 @@ queue_here c given machine link here inside some =
 
 -- ---- what is left
 
+-- the connection is written back as it was
+pub stays_put : (c : ℕ) (given machine : Machine) (link : LinkState) → IsHere c given machine link → Stays c given (with_link machine c link)
+stays_put c given machine link here =
+    stays_as c given (with_link machine c link)
+    (ap (λ (l : LinkState). with_link machine c l) here.is ∙ ap (λ (ls : List LinkState). record machine { links = ls }) (set-get_or machine.links c free_link) ∙ here.same)
+
 pub stays_here : (c : ℕ) (given machine : Machine) (link new : LinkState) → IsHere c given machine link → is_in_session link.phase ≡ true → StaysSession link new → Stays c given (with_link machine c new)
 stays_here c given machine link new here inside stays =
     let S : LinkState → Type 0 = λ l. StaysSession l new in
     let P : Machine → Type 0 = λ m. Stays c m (with_link machine c new) in
     subst P here.same (stays_link c machine new here.below (inside_of c given machine link here inside) (subst S here.is stays))
 
-pub stays_units : (c : ℕ) (given machine : Machine) (link new : LinkState) (units : List UnitStates) → IsHere c given machine link → is_in_session link.phase ≡ true → StaysSession link new → (before : List UnitStates) → before ≡ machine.units → (All AreSound units → All AreSound before)
+pub stays_units : (c : ℕ) (given machine : Machine) (link new : LinkState) (units : List UnitStates) → IsHere c given machine link
+    → is_in_session link.phase ≡ true → StaysSession link new → (before : List UnitStates) → before ≡ machine.units
+    → (All AreSound units → All AreSound before) → (All AreSure before → All AreSure units)
     → Stays c given (record machine { units = units; links = set machine.links c new })
-stays_units c given machine link new units here inside stays before e back =
+stays_units c given machine link new units here inside stays before e back sure =
     let U : List UnitStates → Type 0 = λ us. All AreSound us in
+    let V : List UnitStates → Type 0 = λ us. All AreSure us in
     let S : LinkState → Type 0 = λ l. StaysSession l new in
     let P : Machine → Type 0 = λ m. Stays c m (record machine { units = units; links = set machine.links c new }) in
-    subst P here.same (stays_session c machine new units here.below (inside_of c given machine link here inside) (subst S here.is stays) (λ sound. subst U e (back sound)))
+    subst P here.same (stays_session c machine new units here.below (inside_of c given machine link here inside) (subst S here.is stays) (λ sound. subst U e (back sound)) (λ known. sure (subst V (sym e) known)))
 
 pub ended_here : (c : ℕ) (given machine : Machine) (link new : LinkState) → IsHere c given machine link → is_in_session link.phase ≡ true → StaysSession link new → Stays c given (closed (with_link machine c new) c)
 ended_here c given machine link new here inside stays =

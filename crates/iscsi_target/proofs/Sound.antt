@@ -1,10 +1,13 @@
--- A target that is sound after a step was so before it.
-use Rattle.std.proofs.Common.{◌≡◌, ℕ, ◌<◌, List, [], length, set, get_or, Option, Some, None, sym, subst, arith, inl, inr}
+-- A target that is sound after a step was so before it, and one that is sure stays so.
+use Rattle.std.proofs.Common.{◌≡◌, ℕ, ◌<◌, List, [], ◌∷◌, length, map, set, get_or, Option, Some, None, refl, sym, ap, ◌∙◌, subst, arith, inl, inr}
 use Rattle.std.specs.Prelude.{All, slice_index_or, slice_set}
+use Rattle.std.proofs.Math.Seq.{map-set_same}
 use Rattle.std.proofs.lemmas.Bool.Decides.{eqb_tells}
-use Rattle.std.proofs.lemmas.List.{length-set, get_or_default, get_or-set_same, get_or-set_other}
-use Rattle.scsi_unit.specs.Units.{UnitStates, AreSound, join, leave}
-use Rattle.scsi_unit.proofs.Sound.{AreSound-join, AreSound-leave}
+use Rattle.std.proofs.lemmas.List.{length-set, length-map, get_or-map, get_or_default, get_or-set_same, get_or-set_other}
+use Rattle.std.proofs.lemmas.List.Elements.{All-map}
+use Rattle.scsi_unit.specs.Medium.{MediumState}
+use Rattle.scsi_unit.specs.Unit.{UnitState, joined_unit, left_unit}
+use Rattle.scsi_unit.specs.Units.{UnitStates, AreSound, AreSure, IsSoundMedium, IsSureMedium, join, leave}
 use Rattle.iscsi_pdu.specs.declared.answer.Answer.{Answer}
 use Rattle.iscsi_pdu.specs.declared.answer.Answer.TheVariants as answers
 use Rattle.iscsi_pdu.specs.Frames.{Frame}
@@ -15,7 +18,7 @@ use Rattle.iscsi_login.specs.declared.params.Params.{Params}
 use Rattle.iscsi_login.specs.declared.reply.Reply.{Reply}
 use Rattle.iscsi_login.specs.declared.reply.Reply.TheVariants.{GoOn, Full, Refused}
 use Rattle.iscsi_target.specs.World.{left, changed_units, lookup_for}
-use Rattle.iscsi_target.specs.Machine.{Machine, IsSound, link_at, closed, session_in_phase, sessions, shut_older, begun, replied, logged_in}
+use Rattle.iscsi_target.specs.Machine.{Machine, IsSound, IsSure, link_at, with_link, begun_link, closed, session_in_phase, sessions, shut_older, begun, replied, logged_in}
 
 -- one target's units are set to others, which are sound only where they were
 pub sound_set : (all : List UnitStates) (at : ℕ) (units : UnitStates) → (at < length all → AreSound units → AreSound (slice_index_or all at [])) → All AreSound (slice_set all at units) → All AreSound all
@@ -31,38 +34,93 @@ sound_set all at units back sound k d lt = elim (eqb_tells k at) [
       subst AreSound there (sound k d (omega (arith, lt, length-set all at units))))
 ]
 
-left_sound : (o : Option Params) (all : List UnitStates) → All AreSound (left o all) → All AreSound all
+-- ---- the media stay as they are when a nexus joins or leaves
+
+abbrev media : UnitStates → List MediumState
+media units = map (λ (unit : UnitState). unit.medium) units
+
+media_map : (f : UnitState → UnitState) (units : UnitStates) → ((unit : UnitState) → (f unit).medium ≡ unit.medium) → media (map f units) ≡ media units
+media_map f [] same = refl
+media_map f (unit ∷ units) same = cc (same unit, media_map f units same)
+
+media_changed : (f : UnitStates → UnitStates) (target : ℕ) (all : List UnitStates) → ((units : UnitStates) → media (f units) ≡ media units)
+    → map media (changed_units f target all) ≡ map media all
 unfolding changed_units
-left_sound None all sound = sound
-left_sound (Some session) all sound =
-    sound_set all session.target (leave session.nexus (slice_index_or all session.target [])) (λ lt after. AreSound-leave session.nexus (slice_index_or all session.target []) after) sound
+media_changed f target all same = map-set_same media all target (f (slice_index_or all target [])) [] (same (slice_index_or all target []))
+
+media_left : (o : Option Params) (all : List UnitStates) → map media (left o all) ≡ map media all
+unfolding leave
+media_left None all = refl
+media_left (Some session) all = media_changed (leave session.nexus) session.target all (λ units. media_map (left_unit session.nexus) units (λ unit. refl))
+
+media_older : (o : Option ℕ) (machine : Machine) → (shut_older o machine).units ≡ machine.units
+media_older None machine = refl
+media_older (Some d) machine = refl
+
+media_begun : (session : Params) (answer : Answer) (c : ℕ) (machine : Machine) → map media (begun session answer c machine).units ≡ map media machine.units
+unfolding join
+media_begun session answer c machine =
+    let link = begun_link session answer (link_at machine c) in
+    let now : Machine = record (with_link machine c link) { units = changed_units (join session.nexus) session.target machine.units } in
+    ap (map media) (media_older (older session (sessions machine.links)) now)
+    ∙ media_changed (join session.nexus) session.target machine.units (λ units. media_map (joined_unit session.nexus) units (λ unit. refl))
+
+media_replied : (reply : Reply) (login : LoginState) (c : ℕ) (machine : Machine) → map media (replied reply login c machine).units ≡ map media machine.units
+media_replied (GoOn response) login c machine = refl
+media_replied (Refused response) login c machine = refl
+media_replied (Full response session) login c machine = media_begun session (answers.LoginResponse response) c machine
+
+media_logged_in : (machine : Machine) (c : ℕ) (login : LoginState) (request : Frame)
+    → map media (logged_in machine c login request).units ≡ map media machine.units
+unfolding logged_in
+media_logged_in machine c login request =
+    media_replied (reply_of login (lookup_for machine.names (sessions machine.links) request) request) (advanced machine.names login request) c machine
+
+media_closed : (machine : Machine) (c : ℕ) → map media (closed machine c).units ≡ map media machine.units
+unfolding closed
+media_closed machine c = media_left (session_in_phase (link_at machine c).phase) machine.units
+
+-- ---- so what holds of each medium stays
+
+of_media : (P : MediumState → Type 0) (units : UnitStates) → All P (media units) → All (λ unit. P unit.medium) units
+of_media P units all i d lt = subst P (get_or-map (λ (unit : UnitState). unit.medium) units i d d.medium lt) (all i d.medium (simp length-map lt))
+
+of_all_media : (P : MediumState → Type 0) (all : List UnitStates) → All (All P) (map media all) → All (All (λ unit. P unit.medium)) all
+of_all_media P all h i d lt = of_media P (get_or all i d) (subst (All P) (get_or-map media all i d (media d) lt) (h i (media d) (simp length-map lt)))
+
+to_all_media : (P : MediumState → Type 0) (all : List UnitStates) → All (All (λ unit. P unit.medium)) all → All (All P) (map media all)
+to_all_media P all h = All-map (All P) media all (λ i d lt. All-map P (λ (unit : UnitState). unit.medium) (get_or all i d) (h i d lt))
+
+over_media : (P : MediumState → Type 0) (a b : List UnitStates) → map media a ≡ map media b → All (All (λ unit. P unit.medium)) a
+    → All (All (λ unit. P unit.medium)) b
+over_media P a b e h = of_all_media P b (subst (All (All P)) e (to_all_media P a h))
 
 pub closed_sound : (machine : Machine) (c : ℕ) → IsSound (closed machine c) → IsSound machine
-unfolding closed
-closed_sound machine c sound = left_sound (session_in_phase (link_at machine c).phase) machine.units sound
+closed_sound machine c sound = over_media IsSoundMedium (closed machine c).units machine.units (media_closed machine c) sound
 
-older_sound : (o : Option ℕ) (machine : Machine) → IsSound (shut_older o machine) → IsSound machine
-older_sound None machine sound = sound
-older_sound (Some d) machine sound = sound
-
-joined_sound : (session : Params) (all : List UnitStates) → All AreSound (changed_units (join session.nexus) session.target all) → All AreSound all
-unfolding changed_units
-joined_sound session all sound =
-    sound_set all session.target (join session.nexus (slice_index_or all session.target [])) (λ lt after. AreSound-join session.nexus (slice_index_or all session.target []) after) sound
-
-begun_sound : (session : Params) (answer : Answer) (c : ℕ) (machine : Machine) → IsSound (begun session answer c machine) → IsSound machine
-begun_sound session answer c machine sound =
-    joined_sound session machine.units (older_sound (older session (sessions machine.links)) _ sound)
-
-replied_sound : (reply : Reply) (login : LoginState) (c : ℕ) (machine : Machine) → IsSound (replied reply login c machine) → IsSound machine
-replied_sound (GoOn response) login c machine sound = sound
-replied_sound (Refused response) login c machine sound = sound
-replied_sound (Full response session) login c machine sound = begun_sound session (answers.LoginResponse response) c machine sound
+pub closed_sure : (machine : Machine) (c : ℕ) → IsSure machine → IsSure (closed machine c)
+closed_sure machine c sure = over_media IsSureMedium machine.units (closed machine c).units (sym (media_closed machine c)) sure
 
 pub logged_in_sound : (machine : Machine) (c : ℕ) (login : LoginState) (request : Frame) → IsSound (logged_in machine c login request) → IsSound machine
-unfolding logged_in
 logged_in_sound machine c login request sound =
-    replied_sound (reply_of login (lookup_for machine.names (sessions machine.links) request) request) (advanced machine.names login request) c machine sound
+    over_media IsSoundMedium (logged_in machine c login request).units machine.units (media_logged_in machine c login request) sound
+
+pub logged_in_sure : (machine : Machine) (c : ℕ) (login : LoginState) (request : Frame) → IsSure machine → IsSure (logged_in machine c login request)
+logged_in_sure machine c login request sure =
+    over_media IsSureMedium machine.units (logged_in machine c login request).units (sym (media_logged_in machine c login request)) sure
+
+pub sure_set : (all : List UnitStates) (at : ℕ) (d units : UnitStates) → (AreSure (get_or all at d) → AreSure units) → All AreSure all
+    → All AreSure (set all at units)
+sure_set all at d units forth sure k e lt = elim (eqb_tells k at) [
+  | inl same ↦ (
+      let below : at < length all = omega (arith, same.1, length-set all at units) in
+      let here : get_or (set all at units) k e ≡ units = ap (λ (n : ℕ). get_or (set all at units) n e) same.1 ∙ get_or-set_same all at units e below in
+      subst AreSure (sym here) (forth (sure at d below)))
+  | inr differ ↦ subst AreSure (sym (get_or-set_other all at k units e differ.1)) (sure k e (omega (arith, length-set all at units)))
+]
+
+pub sound_of_sure : (machine : Machine) → IsSure machine → IsSound machine
+sound_of_sure machine sure = λ i d lt j e below. (sure i d lt j e below).sound
 
 -- however the machine is written
 pub sound_as : (a b : Machine) → a ≡ b → IsSound a → IsSound b
@@ -70,3 +128,6 @@ sound_as a b e sound = let P : Machine → Type 0 = λ m. IsSound m in subst P e
 
 pub sound_units : (units : List UnitStates) (machine : Machine) → units ≡ machine.units → All AreSound units → IsSound machine
 sound_units units machine e sound = let P : List UnitStates → Type 0 = λ us. All AreSound us in subst P e sound
+
+pub sure_as : (a b : Machine) → a ≡ b → IsSure a → IsSure b
+sure_as a b e sure = let P : Machine → Type 0 = λ m. IsSure m in subst P e sure

@@ -7,7 +7,7 @@ use Rattle.iscsi_pdu.proofs.Frames.{frames_step}
 use Rattle.iscsi_target.specs.History.{Bytes, Mark, Judging, Ending, History, marked, Arrival, Whole, arrivals, connection_limit}
 use Rattle.iscsi_target.specs.Life.{Life}
 use Rattle.iscsi_target.specs.World.{Setting, World, present, changed, reads_life, close, take_step, arrive, brought, longer, bring, world}
-use Rattle.iscsi_target.specs.Machine.{LinkState, Machine, link_at, with_link, closed, free_link, IsSound, is_free, is_open_at, is_reading}
+use Rattle.iscsi_target.specs.Machine.{LinkState, Machine, link_at, with_link, closed, free_link, IsSound, is_free, is_reading}
 use Rattle.iscsi_target.specs.Stands.{Stands, IsStarved, at_once, frames_with}
 use Rattle.iscsi_target.specs.Serving.{Serves, starved, Fails}
 use Rattle.iscsi_target.proofs.Arrivals.{long_end, new_is}
@@ -15,8 +15,8 @@ use Rattle.iscsi_target.proofs.Choices.{eqb_self}
 use Rattle.iscsi_target.proofs.Lives.{present-changed, present_is}
 use Rattle.iscsi_target.proofs.Serving.{closes, step_idle}
 use Rattle.iscsi_target.proofs.Standing.{stands_as}
-use Rattle.iscsi_target.proofs.Sound.{closed_sound, sound_as}
-use Rattle.iscsi_target.proofs.Opening.{reading_is_open, closed_opens, closed_count, closed_link_at}
+use Rattle.iscsi_target.proofs.Sound.{closed_sound, closed_sure, sound_as, sure_as}
+use Rattle.iscsi_target.proofs.Opening.{reading_is_open, feeds_as, feeds_closed, closed_count, closed_link_at}
 use Rattle.iscsi_target.proofs.Marks.{unmarked_before, marked_before, marked_arrive, idle_all, names_first, at_once_rest}
 use Rattle.iscsi_target.proofs.Bringing.{Progress, rehalved, subst_machine}
 use Rattle.iscsi_target.proofs.Feeding.{some_reads, reads_there, idle_stands, closed_stands, Fed, fed, longer_serves, kept_first, first_half, is_short, left_over, so_far, brings, serves_so_far, same_link}
@@ -27,7 +27,8 @@ use Rattle.iscsi_target.proofs.Feeding.{some_reads, reads_there, idle_stands, cl
 pub fails_early : (given after : Machine) (c : ℕ) (frame : Frame) → c < length given.links → is_free (link_at given c).phase ≡ false → closed after c ≡ closed given c → Fails c frame given after
 fails_early given after c frame lt open_ same = record {
   back = λ sound. closed_sound given c (sound_as (closed after c) _ same sound);
-  opens = λ d. ap (λ (m : Machine). is_open_at m d) same ∙ closed_opens given c lt open_ d;
+  sure = λ sure. sure_as _ (closed after c) (sym same) (closed_sure given c sure);
+  feeds = feeds_as c given _ (closed after c) same (feeds_closed given c lt open_);
   step = λ place. Judging place;
   of_frame = λ place. eqb_self place;
   stands = λ sound s sent w place bytes h reads.

@@ -21,7 +21,7 @@ use Rattle.iscsi_target.specs.Output.{outputs}
 
 -- a disk of 4096 zero blocks
 abbrev pub zero_disk : MediumState
-zero_disk = Disk (record { blocks = replicate 4096 (replicate 512 0); synced = false; failures = 0; honest = true })
+zero_disk = Disk (record { blocks = replicate 4096 (replicate 512 0); synced = false; failures = 0; honest = true; steady = true })
 
 -- the target `t1` with LUN 0, a disk, and LUN 1, a tape
 abbrev pub one_target : Setting

@@ -3,6 +3,7 @@ use Rattle.std.specs.Prelude.{◌≡◌, ℕ, List, [], ◌∷◌, ◌++◌, tru
 use Rattle.iscsi_target.specs.History.{Bytes, Mark, History, marked}
 use Rattle.iscsi_target.specs.Life.{Life, is_over, out_of}
 use Rattle.iscsi_target.specs.World.{Setting, world}
+use Rattle.iscsi_target.specs.Machine.{Machine, IsSound, IsSure}
 
 -- a life before and after bytes came, on any connection: it was answered more, unless it was over
 pub record GoesOn (before after : Life) : Type 0 where
@@ -20,3 +21,7 @@ LivesGoOn _ _ = ⊥
 -- where allocations failed.
 abbrev pub AnswersStay : Type 0
 AnswersStay = (s : Setting) (h : History) (marks : List Mark) (c : ℕ) (piece : List ℕ) → LivesGoOn (world s h).lives (world s (h ++ marked marks (Bytes c piece) ∷ [])).lives
+
+-- A target whose stores cannot fail is sound.
+abbrev pub SureIsSound : Type 0
+SureIsSound = (machine : Machine) → IsSure machine → IsSound machine

@@ -1,13 +1,13 @@
 -- What a clause sees of the target: for each connection the bytes that are no whole frame yet, its phase
 -- and what waits to be sent, and the units of each target.
-use Rattle.std.specs.Prelude.{◌≡◌, All, ℕ, ◌+◌, ◌-◌, ◌^◌, ◌%◌, ◌<◌, List, [], ◌∷◌, ◌++◌, length, drop, map, flat_map, replicate, Bool, true, false, ◌||◌, not, nat_lt, Option, Some, None, slice_index_or, slice_set, if◌then◌else◌, ⊤}
+use Rattle.std.specs.Prelude.{◌≡◌, ◌≢◌, ◌⊎◌, All, ℕ, ◌+◌, ◌-◌, ◌^◌, ◌%◌, ◌<◌, List, [], ◌∷◌, ◌++◌, length, drop, map, flat_map, replicate, Bool, true, false, ◌||◌, not, nat_lt, Option, Some, None, slice_index_or, slice_set, if◌then◌else◌, ⊤}
 use Rattle.iscsi_pdu.specs.Frames.{Frame, frames, rest, wanted}
 use Rattle.iscsi_pdu.specs.Answer.{spelling}
 use Rattle.iscsi_pdu.specs.declared.answer.Answer.{Answer}
 use Rattle.iscsi_pdu.specs.declared.answer.Answer.TheVariants as answers
 use Rattle.iscsi_pdu.specs.declared.login_response.LoginResponse.{LoginResponse}
 use Rattle.iscsi_target.specs.History.{connection_limit}
-use Rattle.scsi_unit.specs.Units.{UnitStates, AreSound, join}
+use Rattle.scsi_unit.specs.Units.{UnitStates, AreSound, AreSure, join}
 use Rattle.iscsi_login.specs.Session.{Live, older}
 use Rattle.iscsi_login.specs.LoginState.{LoginState, AsksBelow, new_login}
 use Rattle.iscsi_login.specs.Login.{advanced, reply_of}
@@ -40,6 +40,10 @@ IsSound machine = All AreSound machine.units
 
 abbrev pub WhereSound : Machine → Type 0 → Type 0
 WhereSound machine P = IsSound machine → P
+
+-- The store of each unit is so, and stays so whatever is asked of it (own): true of stores in memory.
+abbrev pub IsSure : Machine → Type 0
+IsSure machine = All AreSure machine.units
 
 abbrev pub free_link : LinkState
 free_link = record { half = []; phase = Free; waiting = [] }
@@ -108,6 +112,17 @@ opened_link c = record { half = []; phase = Login (new_login (c + 1)); waiting =
 -- nothing more is read
 abbrev pub shut_link : LinkState → LinkState
 shut_link link = record { half = []; phase = Closing; waiting = link.waiting }
+
+-- a connection stays as it is, or nothing more is read on it
+abbrev pub StaysOrShuts : LinkState → LinkState → Type 0
+StaysOrShuts old new = (new ≡ old) ⊎ (new ≡ shut_link old)
+
+-- What a piece of a connection's bytes does to every target, whatever its stores do: no connection is opened or ends,
+-- another one stays as it is or closes, and what waited still waits.
+pub record Feeds (c : ℕ) (old new : Machine) : Type 0 where
+  pub opens : (d : ℕ) → is_open_at new d ≡ is_open_at old d
+  pub others : (d : ℕ) → d ≢ c → StaysOrShuts (link_at old d) (link_at new d)
+  pub waits : (more : List ℕ) × ((link_at new c).waiting ≡ (link_at old c).waiting ++ more)
 
 -- a login is answered, and goes on
 abbrev pub gone_on_link : LoginState → Answer → LinkState → LinkState

@@ -1,12 +1,12 @@
 -- While the frames of one connection are taken, the code stands where the World does: what taking one
 -- frame does to it, and what is left where an allocation fails.
-use Rattle.std.specs.Prelude.{◌≡◌, ◌≢◌, ℕ, ◌+◌, ◌<◌, ◌≤◌, List, [], ◌∷◌, length, drop, true, false, Option, Some, None, ⊤}
+use Rattle.std.specs.Prelude.{◌≡◌, ◌≢◌, ℕ, ◌<◌, ◌≤◌, List, [], ◌∷◌, length, drop, true, false, Option, Some, None, ⊤}
 use Rattle.iscsi_pdu.specs.Frames.{Frame}
 use Rattle.iscsi_target.specs.History.{Mark, Step, is_of, Whole, connection_limit}
 use Rattle.iscsi_target.specs.Life.{Life}
 use Rattle.iscsi_target.specs.World.{Setting, World, present, reads_life, is_marked, arrive}
 use Rattle.iscsi_target.specs.Output.{out_now}
-use Rattle.iscsi_target.specs.Machine.{LinkState, Machine, IsSound, link_at, closed, is_reading, is_open_at}
+use Rattle.iscsi_target.specs.Machine.{LinkState, Machine, IsSound, IsSure, Feeds, link_at, closed, is_reading}
 use Rattle.iscsi_target.specs.Stands.{phase_of, IsQuiet, IsLinkOf}
 
 -- ---- between two frames of a connection
@@ -51,10 +51,10 @@ pub record KeepsHalf (half : List ℕ) (link : LinkState) : Type 0 where
 -- What taking a frame of connection c makes of a target.
 pub record Takes (c : ℕ) (frame : Frame) (given after : Machine) : Type 0 where
   pub back : IsSound after → IsSound given
+  pub sure : IsSure given → IsSure after
+  pub feeds : Feeds c given after
   -- of the bytes behind the frame
   pub keeps : is_reading (link_at given c).phase ≡ true → KeepsHalf (link_at given c).half (link_at after c)
-  -- it opens no connection and ends none
-  pub opens : (d : ℕ) → is_open_at after d ≡ is_open_at given d
   -- where the code stood with the World, it stands with the World that took the frame, if no mark names a step of it
   pub stands : IsSound after → (s : Setting) (sent : ℕ → ℕ) (w : World) (place : ℕ) (bytes : List ℕ) (marks : List Mark) → Unmarked marks c place → Serves c bytes s sent w given
       → Serves c bytes s sent (arrive s marks c w (place, Whole frame)) after
@@ -69,7 +69,8 @@ starved c step = record { connection = c; step = step } ∷ []
 -- connection is closed.
 pub record Fails (c : ℕ) (frame : Frame) (given after : Machine) : Type 0 where
   pub back : IsSound (closed after c) → IsSound given
-  pub opens : (d : ℕ) → is_open_at (closed after c) d ≡ is_open_at given d
+  pub sure : IsSure given → IsSure (closed after c)
+  pub feeds : Feeds c given (closed after c)
   -- the step before which it failed, where the frame has this place
   pub step : ℕ → Step
   pub of_frame : (place : ℕ) → is_of place (step place) ≡ true

@@ -1,20 +1,20 @@
 -- What one step of a session does to its connection, and to the target.
-use Rattle.std.specs.Prelude.{◌≡◌, ℕ, ◌+◌, List, [], ◌∷◌, ◌++◌, flat_map, Bool, true, false, not, Option, Some, None, slice_index_or, slice_set, ⊤}
+use Rattle.std.specs.Prelude.{◌≡◌, ℕ, ◌+◌, List, [], ◌∷◌, ◌++◌, flat_map, Bool, true, false, slice_index_or, slice_set}
 use Rattle.iscsi_pdu.specs.Frames.{Frame}
 use Rattle.iscsi_pdu.specs.Answer.{spelling}
 use Rattle.iscsi_pdu.specs.declared.answer.Answer.{Answer}
 use Rattle.scsi_unit.specs.Units.{UnitStates}
-use Rattle.iscsi_session.specs.Requests.{Request, Past, due, queue, acted, finished, stamp, bearing}
+use Rattle.iscsi_session.specs.Requests.{Request, Past, due, finished, stamp, bearing}
 use Rattle.iscsi_session.specs.Judging.{verdict, judged, judged_answers}
-use Rattle.iscsi_session.specs.Acts.{act_by, acted_by, answers_by, ends}
+use Rattle.iscsi_session.specs.Acts.{act_by, acted_by, answers_by}
 use Rattle.iscsi_session.specs.Answers.{command_answers}
 use Rattle.iscsi_session.specs.State.{IsLawful, remembered}
 use Rattle.iscsi_session.specs.declared.act.Act.{Act}
 use Rattle.iscsi_session.specs.declared.verdict.Verdict.{Verdict}
 use Rattle.iscsi_target.specs.Acts.{carried_out}
-use Rattle.iscsi_target.specs.World.{Setting, World, present, reads_life, judge, act, act_all, finish, settle, serve, due_of, queue_of, is_marked}
+use Rattle.iscsi_target.specs.World.{Setting, World, present, reads_life, act, finish, due_of, queue_of, is_marked}
 use Rattle.iscsi_target.specs.History.{Mark, Step}
-use Rattle.iscsi_target.specs.Machine.{LinkState, Machine, IsSound, link_at, closed, is_reading, is_open_at, is_in_session, session_in_phase}
+use Rattle.iscsi_target.specs.Machine.{LinkState, Machine, IsSound, IsSure, Feeds, link_at, closed, is_reading, is_in_session, session_in_phase}
 use Rattle.iscsi_target.specs.Serving.{Serves, KeepsHalf, starved}
 use Rattle.iscsi_target.specs.declared.phase.Phase.TheVariants.{FullFeature}
 
@@ -46,19 +46,21 @@ FinishesTo (command ∷ others) answered past more old new before after =
     (more ≡ true) × (after ≡ slice_set before past.params.target p.0)
     × StepsTo answered (command_answers (stamp answered (finished command past)) past.params.values command.frame p.1) (finished command past) old new
 
--- whatever its session remembers, it stays one with the same parameters, and keeps its bytes
+-- whatever its session remembers: it stays one with the same parameters, keeps its bytes, and more waits behind what did
 pub record StaysSession (old new : LinkState) : Type 0 where
   pub in_session : is_in_session new.phase ≡ true
   pub session : session_in_phase new.phase ≡ session_in_phase old.phase
   pub half : new.half ≡ old.half
+  pub waits : (more : List ℕ) × (new.waiting ≡ old.waiting ++ more)
 
 -- ---- on the target
 
--- whatever it is, the step keeps what it reads and which connections are open, and it was sound before if it is now
+-- whatever it is, the step keeps what it reads, and it was sound before if it is now
 pub record Stays (c : ℕ) (given after : Machine) : Type 0 where
   pub back : IsSound after → IsSound given
+  pub sure : IsSure given → IsSure after
+  pub feeds : Feeds c given after
   pub keeps : is_reading (link_at given c).phase ≡ true → KeepsHalf (link_at given c).half (link_at after c)
-  pub opens : (d : ℕ) → is_open_at after d ≡ is_open_at given d
   pub idle : is_reading (link_at given c).phase ≡ false → link_at after c ≡ link_at given c
 
 -- where the code stood with the World, it stands with what the step makes of it

@@ -1,7 +1,7 @@
 //! What holds of the definitions. The functions do nothing: their contracts are the laws.
 
 ghost use Rattle.iscsi_target.specs.History.{ArrivalsInPieces};
-ghost use Rattle.iscsi_target.specs.Laws.{AnswersStay};
+ghost use Rattle.iscsi_target.specs.Laws.{AnswersStay, SureIsSound};
 
 /// However the bytes of a connection are cut into pieces, the frames that become whole are those of
 /// the joined bytes, in order, and then comes at most one header that names too much data.
@@ -13,4 +13,9 @@ pub fn arrivals_in_pieces()
 /// answered what it was answered before, and perhaps more.
 pub fn answers_stay()
     ensures { AnswersStay }
+{}
+
+/// A target whose stores cannot fail is sound.
+pub fn sure_is_sound()
+    ensures { SureIsSound }
 {}

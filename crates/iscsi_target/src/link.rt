@@ -4,7 +4,7 @@ ghost use Rattle.std.specs.Prelude.{All, ◌≡◌, ◌≢◌, ◌<◌, ◌≤�
 ghost use Rattle.std.specs.Result.{IsErrOf};
 ghost use Rattle.iscsi_pdu.specs.Frames.{frames, rest, has_frame, is_long, frame_length, wanted};
 ghost use Rattle.scsi_unit.specs.Commands.{most_given};
-ghost use Rattle.scsi_unit.specs.Units.{AreSound, join as join_units};
+ghost use Rattle.scsi_unit.specs.Units.{AreSound, AreSure, join as join_units};
 ghost use Rattle.iscsi_login.specs.Values.{AreInRange};
 ghost use Rattle.iscsi_target.specs.Acts.{carried_out};
 ghost use Rattle.iscsi_pdu.specs.Answer.{spelling};
@@ -57,6 +57,7 @@ fn carry_out<S: Store>(
 ) -> Result<Done, Memory>
     ensures done { IfOk result (λ done. AreSound units.new → (units.new, done) ≡ carried_out units.old nexus.now frame.now) }
     ensures back { AreSound units.new → AreSound units.old }
+    ensures sure { AreSure units.old → AreSure units.new }
     ensures given { IfOk result (λ done. length done.given ≤ most_given) }
     ensures err { OnErr result (units.new ≡ units.old) }
 {
@@ -246,6 +247,7 @@ impl Link {
         ensures fewer { IfOk result (λ more. more ≡ true → waiting_commands self.new.phase < waiting_commands self.old.phase) }
         ensures queue { OnErr result ((answered : ℕ) (past : Past) → IsSessionOf answered past self.old → queue past ≢ []) }
         ensures back { All AreSound units.new → All AreSound units.old }
+        ensures sure { All AreSure units.old → All AreSure units.new }
         ensures stays { StaysSession self.old self.new }
         ensures within { IsWithin (length units.old) self.new.phase }
         ensures err { OnErr result (self.new ≡ self.old) }

@@ -1,13 +1,14 @@
 //! A target put through a whole history.
 
-ghost use Rattle.std.specs.Prelude.{◌≡◌, ℕ, List, [], ◌∷◌, ◌++◌, true, length, map, IfOk, OnOk, string_bytes};
+ghost use Rattle.std.specs.Prelude.{All, ◌≡◌, ℕ, List, [], ◌∷◌, ◌++◌, true, length, map, IfOk, OnOk, string_bytes};
 ghost use Rattle.iscsi_target.specs.History.{History, well_formed as is_well_formed, open_after, plain};
 ghost use Rattle.iscsi_target.specs.Events.{event_view, events_view, plain_history};
 ghost use Rattle.iscsi_target.specs.World.{Setting};
 ghost use Rattle.iscsi_target.specs.Output.{outputs as outputs_of, media_in, media};
 ghost use Rattle.iscsi_target.specs.Stands.{Stands};
 ghost use Rattle.iscsi_target.specs.Runs.{Runs, MayCome, AreOpen, seen, finished, ended};
-ghost use Rattle.iscsi_target.specs.Machine.{WhereSound};
+ghost use Rattle.iscsi_target.specs.Machine.{WhereSound, IsSure};
+ghost use Rattle.scsi_unit.specs.Units.{AreSure};
 
 use crate::config::Config;
 use crate::event::Event;
@@ -107,6 +108,7 @@ fn take_event<S: Store>(
     requires { MayCome target.old (event_view event.now) }
     ensures runs { OnOk result ((s : Setting) (before : List ℕ) (h : History) → WhereSound target.old (Runs s target.old (map seen rows.old.items) before h)
         → WhereSound target.new (Runs s target.new (map seen rows.new.items) (open_after before (event_view event.now)) (h ++ plain (event_view event.now) ∷ []))) }
+    ensures sure { OnOk result (IsSure target.old → IsSure target.new) }
     ensures open { OnOk result ((before : List ℕ) → AreOpen target.old before → AreOpen target.new (open_after before (event_view event.now))) }
 {
     match event {
@@ -138,6 +140,7 @@ impl<S: Store + Drop> Target<S> {
     ) -> Result<(Outputs, Target<S>), Memory>
         requires units { length units.items ≡ length config.targets.items }
         requires well_formed { is_well_formed (events_view events.now) ≡ true }
+        ensures sure { IfOk result (λ r. All AreSure (units.items) → IsSure r.1) }
         ensures stands { IfOk result (λ r. WhereSound r.1 (Stands (record { names = map string_bytes config.targets.items; units = units.items }) (λ _. 0) r.1 (plain_history events.now))) }
         ensures outputs { IfOk result (λ r. WhereSound r.1 (map (λ output. output.items) r.0.items ≡ outputs_of (record { names = map string_bytes config.targets.items; units = units.items }) (plain_history events.now))) }
         ensures media { IfOk result (λ r. WhereSound r.1 ((number : ℕ) → media_in r.1.units number ≡ media (record { names = map string_bytes config.targets.items; units = units.items }) (plain_history events.now) number)) }

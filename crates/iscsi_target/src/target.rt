@@ -5,7 +5,7 @@ ghost use Rattle.std.specs.Result.{IsErrOf};
 ghost use Rattle.iscsi_pdu.specs.Frames.{has_frame, is_long};
 ghost use Rattle.iscsi_target.specs.History.{Open, Bytes, Gone, Mark, History, plain, marked};
 ghost use Rattle.iscsi_target.specs.World.{Setting, present, world};
-ghost use Rattle.iscsi_target.specs.Machine.{LinkState, IsSound, WhereSound, free_link, opened_link, sent_link, new_machine, link_at, with_link, closed, begun, logged_in, is_logging_in, GivesFrame, is_reading, is_open_at, is_closing, want_of};
+ghost use Rattle.iscsi_target.specs.Machine.{LinkState, IsSound, WhereSound, IsSure, Feeds, free_link, opened_link, sent_link, new_machine, link_at, with_link, closed, begun, logged_in, is_logging_in, GivesFrame, is_reading, is_open_at, is_closing, want_of};
 ghost use Rattle.iscsi_target.specs.declared.phase.Phase.TheVariants.{Login};
 ghost use Rattle.iscsi_login.specs.LoginState.{LoginState};
 ghost use Rattle.iscsi_login.specs.Values.{AreInRange};
@@ -95,6 +95,7 @@ impl<S: Store> Target<S> {
         ensures now { self.new ≡ with_link self.old c (opened_link c) }
         ensures count { length self.old.links ≡ 64 }
         ensures sound { IsSound self.new → IsSound self.old }
+        ensures sure { IsSure self.old → IsSure self.new }
         ensures stands { (s : Setting) (sent : ℕ → ℕ) (h : History) → WhereSound self.old (Stands s sent self.old h)
             → WhereSound self.new (Stands s (with_sent sent c 0) self.new (h ++ plain (Open c) ∷ [])) }
     {
@@ -115,6 +116,8 @@ impl<S: Store> Target<S> {
         ensures starved { OnErr result ((s : Setting) (sent : ℕ → ℕ) (h : History) → WhereSound self.old (Stands s sent self.old h)
             → WhereSound self.new ((marks : List Mark) × IsStarved c (present c (world s h)) piece.now marks × Stands s sent self.new (h ++ marked marks (Bytes c piece.now) ∷ []))) }
         ensures sound { IsSound self.new → IsSound self.old }
+        ensures sure { IsSure self.old → IsSure self.new }
+        ensures feeds { Feeds c self.old self.new }
         ensures open { (d : ℕ) → is_open_at self.new d ≡ is_open_at self.old d }
         ensures names { IfErr result (λ starved. starved.connection ≡ c) }
         ensures closing { OnErr result (is_closing (link_at self.new c).phase ≡ true) }
@@ -155,6 +158,7 @@ impl<S: Store> Target<S> {
         ensures now { self.new ≡ with_link (closed self.old c) c free_link }
         ensures count { length self.old.links ≡ 64 }
         ensures sound { IsSound self.new → IsSound self.old }
+        ensures sure { IsSure self.old → IsSure self.new }
         ensures stands { (s : Setting) (sent : ℕ → ℕ) (h : History) → WhereSound self.old (Stands s sent self.old h)
             → WhereSound self.new (Stands s (with_sent sent c 0) self.new (h ++ plain (Gone c) ∷ [])) }
     {
@@ -188,6 +192,7 @@ impl<S: Store> Target<S> {
         requires waits { n ≤ length (link_at self.old c).waiting }
         ensures now { self.new ≡ with_link self.old c (sent_link (link_at self.old c) n) }
         ensures sound { IsSound self.new → IsSound self.old }
+        ensures sure { IsSure self.old → IsSure self.new }
         ensures stands { (s : Setting) (sent : ℕ → ℕ) (h : History) → WhereSound self.old (Stands s sent self.old h)
             → WhereSound self.new (Stands s (with_sent sent c (sent c + n)) self.new h) }
     {

@@ -1,7 +1,8 @@
 -- What calls on a store do to the blocks of its content.
-use Rattle.std.proofs.Common.{◌≡◌, ℕ, ◌+◌, ◌-◌, ◌*◌, ◌≤◌, min, nat_lt, true, List, [], ◌∷◌, ◌++◌, length, take, drop, slice_range, refl, ap, sym, ◌∙◌, arith, rules, Result, Ok, Err, OnOk, OnErr}
-use Rattle.std.proofs.lemmas.List.{append-nil, take-append-drop, length-append, length-take, length-drop}
+use Rattle.std.proofs.Common.{◌≡◌, ℕ, ◌+◌, ◌-◌, ◌*◌, ◌≤◌, min, nat_lt, true, List, [], ◌∷◌, ◌++◌, length, take, drop, slice_range, refl, ap, sym, ◌∙◌, arith, rules, Bool, Result, Ok, Err, is_ok, OnOk, OnErr}
+use Rattle.std.proofs.lemmas.List.{append-nil, take_all, take-append-drop, length-append, length-take, length-drop}
 use Rattle.media_store.specs.Content.{written, KeepsOutside}
+use Rattle.media_store.specs.Honesty.{HasAgreed}
 use Rattle.media_block.specs.Blocks.{block_length, blocks_of, data_of, replaced, KeepsOthers}
 use Rattle.media_block.proofs.Blocks.{data_of-blocks_of, blocks_of-replaced, KeepsOthers-blocks_of}
 
@@ -24,10 +25,10 @@ length-torn : (at n : ℕ) (old new : List ℕ) → at + n ≤ length old → Ke
 length-torn at n old new within kept = omega (arith, kept.no_shorter, kept.no_longer)
 
 -- a write within the content keeps its length, also where it failed
-pub length-kept : {E H : Type 0} (result : Result (Unit {0}) E) (at : ℕ) (bytes old new : List ℕ) → at + length bytes ≤ length old
-    → OnOk result (H → new ≡ written at bytes old) → OnErr result (H → KeepsOutside at (length bytes) old new) → H → length new ≡ length old
-length-kept (Ok value) at bytes old new within said torn premise = ap length (said premise) ∙ length-written at bytes old within
-length-kept (Err fault) at bytes old new within said torn premise = length-torn at (length bytes) old new within (torn premise)
+pub length-kept : {E : Type 0} (result : Result (Unit {0}) E) (at : ℕ) (bytes old new : List ℕ) → at + length bytes ≤ length old
+    → OnOk result (new ≡ written at bytes old) → OnErr result (KeepsOutside at (length bytes) old new) → length new ≡ length old
+length-kept (Ok value) at bytes old new within said torn = ap length said ∙ length-written at bytes old within
+length-kept (Err fault) at bytes old new within said torn = length-torn at (length bytes) old new within torn
 
 -- the bytes that are read
 pub read-blocks : (first count n long : ℕ) (content : List ℕ) → first + count ≤ n → long ≡ block_length * count
@@ -35,6 +36,20 @@ pub read-blocks : (first count n long : ℕ) (content : List ℕ) → first + co
 read-blocks first count n long content within is =
     let many : block_length * first + long - block_length * first ≡ block_length * count = omega arith in
     rw many (sym (data_of-blocks_of first count n content within))
+
+-- a whole read that agrees with the blocks agrees with the content
+pub read-agreed : {E : Type 0} (result : Result (Unit {0}) E) (first count n : ℕ) (content buffer : List ℕ) (old new : Bool)
+    → first + count ≤ n → length buffer ≡ block_length * count
+    → HasAgreed content (block_length * first) buffer (is_ok result) old new
+    → OnOk result (buffer ≡ data_of (blocks_of n content) first count → new ≡ old)
+read-agreed (Ok value) first count n content buffer old new within is agreed = λ same.
+    let all : agreed.count ≡ length buffer = agreed.whole refl in
+    let front : take agreed.count buffer ≡ buffer = take_all agreed.count buffer (omega arith) in
+    let place = block_length * first in
+    let slice : slice_range content place (place + agreed.count) ≡ data_of (blocks_of n content) first count =
+    read-blocks first count n agreed.count content within (all ∙ is) in
+    agreed.same (front ∙ same ∙ sym slice)
+read-agreed (Err fault) first count n content buffer old new within is agreed = tt
 
 -- a write of whole blocks
 pub written-blocks : (first count n : ℕ) (bytes old new : List ℕ) → first + count ≤ n → length old ≡ block_length * n → length bytes ≡ block_length * count

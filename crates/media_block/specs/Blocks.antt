@@ -45,3 +45,4 @@ pub record DiskState : Type 0 where
   pub synced : Bool
   pub failures : ℕ
   pub honest : Bool
+  pub steady : Bool

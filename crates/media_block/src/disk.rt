@@ -26,7 +26,7 @@ impl<S: Store> Model for Disk<S> {
 
     ghost Value = { DiskState };
 
-    ghost view = { λ disk. record { blocks = blocks_of disk.block_count (S.Store.content disk.store); synced = S.Store.synced disk.store; failures = S.Store.failures disk.store; honest = S.Store.honest disk.store } };
+    ghost view = { λ disk. record { blocks = blocks_of disk.block_count (S.Store.content disk.store); synced = S.Store.synced disk.store; failures = S.Store.failures disk.store; honest = S.Store.honest disk.store; steady = S.Store.steady disk.store } };
 
     ghost invariant = { λ disk. (block_length * disk.block_count < 2 ^ 64) × (IsTrue (S.Store.honest disk.store) → length (S.Store.content disk.store) ≡ block_length * disk.block_count) × (0 < disk.block_count) };
 }
@@ -34,17 +34,20 @@ impl<S: Store> Model for Disk<S> {
 impl<S: Store> Disk<S> {
     /// Opens a store as a disk, or gives it back.
     pub fn open(mut store: S) -> Result<Disk<S>, NotOpened<S>>
-        ensures blocks { IfOk result (λ disk. IsTrue (S.Store.honest store) → disk.blocks ≡ disk_of (S.Store.content store)) }
-        ensures disk { OnOk result (IsTrue (S.Store.honest store) → is_disk (S.Store.content store) ≡ true) }
+        ensures blocks { IfOk result (λ disk. IsTrue disk.honest → disk.blocks ≡ disk_of (S.Store.content store)) }
+        ensures disk { IfOk result (λ disk. IsTrue disk.honest → is_disk (S.Store.content store) ≡ true) }
         ensures synced { IfOk result (λ disk. disk.synced ≡ S.Store.synced store) }
         ensures failures { IfOk result (λ disk. disk.failures ≡ S.Store.failures store) }
-        ensures honest { IfOk result (λ disk. disk.honest ≡ S.Store.honest store) }
+        ensures back { IfOk result (λ disk. IsTrue disk.honest → IsTrue (S.Store.honest store)) }
+        ensures steady { IfOk result (λ disk. disk.steady ≡ S.Store.steady store) }
+        ensures stays { IfOk result (λ disk. IsTrue (S.Store.steady store) → disk.honest ≡ S.Store.honest store) }
+        ensures succeeds { IsTrue (S.Store.steady store) → IsTrue (S.Store.honest store) → is_disk (S.Store.content store) ≡ true → IsOk result }
         ensures length { IfErr result (λ refused. refused.fault ≡ DiskOpenFault.Length
-            → IsTrue (S.Store.honest store) → is_disk (S.Store.content store) ≡ false) }
+            → IsTrue (S.Store.honest refused.store) → is_disk (S.Store.content store) ≡ false) }
         ensures counted { IfErr result (λ refused. S.Store.failures refused.store ≡ failures_after refused.fault (S.Store.failures store)) }
-        ensures given_back { IfErr result (λ refused. IsTrue (S.Store.honest store) → S.Store.content refused.store ≡ S.Store.content store) }
+        ensures given_back { IfErr result (λ refused. S.Store.content refused.store ≡ S.Store.content store) }
         ensures synced_back { IfErr result (λ refused. S.Store.synced refused.store ≡ S.Store.synced store) }
-        ensures honest_back { IfErr result (λ refused. S.Store.honest refused.store ≡ S.Store.honest store) }
+        ensures back_refused { IfErr result (λ refused. IsTrue (S.Store.honest refused.store) → IsTrue (S.Store.honest store)) }
     {
         let Ok(length) = store.len() else {
             return Err(NotOpened {
@@ -76,13 +79,12 @@ impl<S: Store> Disk<S> {
     pub fn read(&mut self, first: u64, count: u64, bytes: &mut [u8]) -> Result<(), StoreFault>
         requires range { first + count ≤ length self.old.blocks }
         requires room { length bytes.old ≡ block_length * count }
-        ensures read { OnOk result (IsTrue self.old.honest → bytes.new ≡ data_of self.old.blocks first count) }
-        ensures none { count ≡ 0 → IsOk result }
-        ensures blocks { IsTrue self.old.honest → self.new.blocks ≡ self.old.blocks }
-        ensures length { length self.new.blocks ≡ length self.old.blocks }
-        ensures synced { self.new.synced ≡ self.old.synced }
-        ensures failures { self.new.failures ≡ counted result self.old.failures }
-        ensures honest { self.new.honest ≡ self.old.honest }
+        ensures read { OnOk result (IsTrue self.new.honest → bytes.new ≡ data_of self.old.blocks first count) }
+        ensures agreed { OnOk result (bytes.new ≡ data_of self.old.blocks first count → self.new.honest ≡ self.old.honest) }
+        ensures none { count ≡ 0 → IsOk result × (self.new ≡ self.old) }
+        ensures back { IsTrue self.new.honest → IsTrue self.old.honest }
+        ensures disk { self.new ≡ record self.old { failures = counted result self.old.failures; honest = self.new.honest } }
+        ensures succeeds { IsTrue self.old.steady → IsTrue self.old.honest → IsOk result × (self.new ≡ self.old) }
     {
         if count == 0 {
             return Ok(());
@@ -97,11 +99,13 @@ impl<S: Store> Disk<S> {
         ensures written { OnOk result (IsTrue self.old.honest
             → self.new.blocks ≡ replaced first (blocks_of count bytes.now) self.old.blocks) }
         ensures torn { OnErr result (IsTrue self.old.honest → KeepsOthers first count self.old.blocks self.new.blocks) }
-        ensures none { count ≡ 0 → IsOk result }
+        ensures none { count ≡ 0 → IsOk result × (self.new ≡ self.old) }
         ensures length { length self.new.blocks ≡ length self.old.blocks }
         ensures synced { self.new.synced ≡ (if count == 0 then self.old.synced else false) }
         ensures failures { self.new.failures ≡ counted result self.old.failures }
         ensures honest { self.new.honest ≡ self.old.honest }
+        ensures steady { self.new.steady ≡ self.old.steady }
+        ensures succeeds { IsTrue self.old.steady → IsTrue self.old.honest → IsOk result }
     {
         if count == 0 {
             return Ok(());
@@ -118,14 +122,12 @@ impl<S: Store> Disk<S> {
     ) -> Result<Option<usize>, StoreFault>
         requires range { first + count ≤ length self.old.blocks }
         requires whole { length bytes.now ≡ block_length * count }
-        ensures compared { IfOk result (λ at. IsTrue self.old.honest
+        ensures compared { IfOk result (λ at. IsTrue self.new.honest
             → at ≡ first_difference (data_of self.old.blocks first count) bytes.now) }
         ensures none { count ≡ 0 → IsOk result }
-        ensures blocks { IsTrue self.old.honest → self.new.blocks ≡ self.old.blocks }
-        ensures length { length self.new.blocks ≡ length self.old.blocks }
-        ensures synced { self.new.synced ≡ self.old.synced }
-        ensures failures { self.new.failures ≡ counted result self.old.failures }
-        ensures honest { self.new.honest ≡ self.old.honest }
+        ensures back { IsTrue self.new.honest → IsTrue self.old.honest }
+        ensures disk { self.new ≡ record self.old { failures = counted result self.old.failures; honest = self.new.honest } }
+        ensures succeeds { IsTrue self.old.steady → IsTrue self.old.honest → IsOk result × (self.new ≡ self.old) }
     {
         // So the place of each block fits a u64.
         let _ = &self.block_count;
@@ -152,6 +154,8 @@ impl<S: Store> Disk<S> {
         ensures synced { self.new.synced ≡ (if count == 0 then self.old.synced else false) }
         ensures failures { self.new.failures ≡ counted result self.old.failures }
         ensures honest { self.new.honest ≡ self.old.honest }
+        ensures steady { self.new.steady ≡ self.old.steady }
+        ensures succeeds { IsTrue self.old.steady → IsTrue self.old.honest → IsOk result }
     {
         // So the place of each block fits a u64.
         let _ = &self.block_count;
@@ -163,11 +167,8 @@ impl<S: Store> Disk<S> {
 
     /// Waits until what was written is on the medium.
     pub fn sync(&mut self) -> Result<(), StoreFault>
-        ensures synced { self.new.synced ≡ (if is_ok result then true else self.old.synced) }
-        ensures blocks { IsTrue self.old.honest → self.new.blocks ≡ self.old.blocks }
-        ensures length { length self.new.blocks ≡ length self.old.blocks }
-        ensures failures { self.new.failures ≡ counted result self.old.failures }
-        ensures honest { self.new.honest ≡ self.old.honest }
+        ensures disk { self.new ≡ record self.old { synced = if is_ok result then true else self.old.synced; failures = counted result self.old.failures } }
+        ensures succeeds { IsTrue self.old.steady → IsOk result }
     {
         self.store.sync()
     }

@@ -6,11 +6,12 @@
 //! 0         512       1024      1536      bytes of the store
 //! ```
 //!
-//! Promised of a disk whose store is honest, where the store did not fail in the call: a read gives a
-//! slice of the blocks, a write puts other blocks in the place of a slice, a comparison tells the least
-//! index at which bytes differ, and after [`Disk::sync`] the store is synced. Where the store failed, a
-//! write has touched no block outside its range, and any other call none. A fault is told only where
-//! the store's count of failures rose in that call.
+//! Promised of a disk whose store is honest after a call and did not fail in it: a read gives a slice of
+//! the blocks, a write puts other blocks in the place of a slice, a comparison tells the least index at
+//! which bytes differ, and after [`Disk::sync`] the store is synced. Where the store failed, a write has
+//! touched no block outside its range, and any other call none. A fault is told only where the store's
+//! count of failures rose in that call. Over a steady store that is honest, as one in memory, no call
+//! fails, and it stays honest.
 //!
 //! The blocks joined are the content of the store ([`laws::blocks_are_the_content`]).
 #![tactic(auto)]

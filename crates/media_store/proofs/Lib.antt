@@ -1,1 +1,5 @@
 pub mod Writes
+pub mod Joined
+pub mod PartsRead
+pub mod PartsWritten
+pub mod Outcomes

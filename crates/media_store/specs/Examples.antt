@@ -1,7 +1,9 @@
 -- Contents of a store after calls, computed.
-use Rattle.std.specs.Prelude.{◌≡◌, ◌-◌, ◌^◌, [], ◌∷◌, refl}
+use Rattle.std.specs.Prelude.{◌≡◌, ◌-◌, ◌^◌, true, false, [], ◌∷◌, refl}
 use Rattle.media_store.specs.Content.{resized, written}
 use Rattle.media_store.specs.Failures.{risen}
+use Rattle.media_store.specs.Calls.{Measured, Read, Wrote, NotWritten, NotResized, NotSynced, call_of}
+use Rattle.media_store.specs.Replay.{Origin, content_of, is_honest}
 
 -- within the content, over its end, and behind it
 written_within : written 1 (8 ∷ 9 ∷ []) (1 ∷ 2 ∷ 3 ∷ 4 ∷ []) ≡ 1 ∷ 8 ∷ 9 ∷ 4 ∷ []
@@ -26,3 +28,31 @@ filled_up = refl
 -- a count rises by one, and stays at its greatest value
 counts : (risen 7 ≡ 8) × (risen (2 ^ 64 - 1) ≡ 2 ^ 64 - 1)
 counts = (refl, refl)
+
+-- ---- a file that held 1, 2, 3, where a failed call leaves 8, 9, 7
+abbrev opened : Origin
+opened = record { held = 1 ∷ 2 ∷ 3 ∷ []; torn = λ _. 8 ∷ 9 ∷ 7 ∷ [] }
+
+-- the newest call stands first
+written_and_read : is_honest opened (Read 1 (5 ∷ 3 ∷ []) ∷ Wrote 1 (5 ∷ []) ∷ Read 0 (1 ∷ 2 ∷ []) ∷ Measured 3 ∷ []) ≡ true
+written_and_read = refl
+
+-- the old byte is read, one byte is read behind the end, the length is wrong
+lies : (is_honest opened (Read 1 (2 ∷ 3 ∷ []) ∷ Wrote 1 (5 ∷ []) ∷ []) ≡ false)
+    × (is_honest opened (Read 2 (3 ∷ 0 ∷ []) ∷ []) ≡ false) × (is_honest opened (Measured 4 ∷ []) ≡ false)
+lies = (refl, refl, refl)
+
+-- an honest answer does not mend what was told before
+never_again : is_honest opened (Measured 3 ∷ Measured 4 ∷ []) ≡ false
+never_again = refl
+
+-- a front of the range was torn; the end lies between
+torn : (content_of opened (NotWritten 1 2 ∷ []) ≡ 1 ∷ 8 ∷ 9 ∷ []) × (content_of opened (NotResized 5 ∷ []) ≡ 1 ∷ 2 ∷ 3 ∷ [])
+    × (content_of opened (NotResized 1 ∷ []) ≡ 1 ∷ 2 ∷ 3 ∷ [])
+torn = (refl, refl, refl)
+
+-- notes, read as calls
+notes : (call_of (record { numbers = 1 ∷ 7 ∷ []; bytes = 5 ∷ 6 ∷ []; flags = true ∷ [] }) ≡ Read 7 (5 ∷ 6 ∷ []))
+    × (call_of (record { numbers = 2 ∷ 7 ∷ 4 ∷ []; bytes = []; flags = false ∷ [] }) ≡ NotWritten 7 4)
+    × (call_of (record { numbers = 4 ∷ []; bytes = []; flags = false ∷ [] }) ≡ NotSynced)
+notes = (refl, refl, refl)

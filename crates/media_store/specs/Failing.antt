@@ -1,5 +1,5 @@
 -- What a store that fails shows of itself.
-use Rattle.std.specs.Prelude.{◌≡◌, ℕ, Bool, true, false, ◌==◌, Option, Some, None}
+use Rattle.std.specs.Prelude.{◌≡◌, ℕ, ◌-◌, Bool, true, false, ◌==◌, ◌&&◌, if◌then◌else◌, Option, Some, None}
 use Rattle.media_store.specs.declared.fail.Call.{Call}
 use Rattle.media_store.specs.declared.fail.Call.TheVariants.{Len, ReadAt, WriteAt, SetLen, Sync}
 use Rattle.media_store.specs.declared.fail.FailStore.{FailStore}
@@ -7,6 +7,13 @@ use Rattle.media_store.specs.declared.fail.FailStore.{FailStore}
 -- own: the store that it passes calls on to
 abbrev pub store_of : {S : Type 0} → FailStore S → S
 store_of failing = failing.store
+
+-- own: how many calls it failed, and whether a write or a cut was refused behind which nothing was synced
+abbrev pub failures_of : {S : Type 0} → FailStore S → ℕ
+failures_of failing = failing.failures
+
+abbrev pub is_torn : {S : Type 0} → FailStore S → Bool
+is_torn failing = failing.torn
 
 -- own: it refuses these calls from this many on, and has refused none
 pub record IsFresh {S : Type 0} (only : Option Call) (left : ℕ) (failing : FailStore S) : Type 0 where
@@ -27,3 +34,12 @@ call_number Sync = 4
 abbrev pub is_counted : Option Call → Call → Bool
 is_counted None call = true
 is_counted (Some only) call = call_number only == call_number call
+
+-- own: whether a call is refused: it is one of those that are counted, and none is left to be passed on
+abbrev pub is_refused : {S : Type 0} → Call → FailStore S → Bool
+is_refused call failing = is_counted failing.only call && failing.left == 0
+
+-- own: after a call, one fewer is left where it is one of those that are counted
+pub record HasCounted {S : Type 0} (call : Call) (old new : FailStore S) : Type 0 where
+  pub only : new.only ≡ old.only
+  pub left : new.left ≡ (if is_counted old.only call then old.left - 1 else old.left)

@@ -1,5 +1,10 @@
 pub mod Content
 pub mod Failures
+pub mod Honesty
+pub mod Calls
+pub mod Replay
+pub mod Whole
 pub mod States
 pub mod Failing
+pub mod Lying
 pub mod Examples

@@ -9,7 +9,9 @@ pub record MemoryState : Type 0 where
   pub synced : Bool
   pub failures : ℕ
 
--- own: a store in a file, of whose content nothing is known
+-- own: a store in a file; its content and its honesty follow from the record of its calls
 pub record FileState : Type 0 where
+  pub content : List ℕ
+  pub honest : Bool
   pub synced : Bool
   pub failures : ℕ

@@ -1,7 +1,10 @@
 //! A store that fails when it is told to.
 
-ghost use Rattle.std.specs.Prelude.{◌≡◌, ◌-◌, ◌==◌, ◌&&◌, not, false, if◌then◌else◌};
-ghost use Rattle.media_store.specs.Failing.{store_of, IsFresh, is_counted};
+ghost use Rattle.std.specs.Prelude.{◌≡◌, ◌+◌, ◌-◌, ◌≤◌, ◌==◌, ◌&&◌, not, true, false, is_ok, if◌then◌else◌, length, IsTrue, IsOk, IsErr, IfOk, OnOk, OnErr, slice_range};
+ghost use Rattle.media_store.specs.Content.{resized, written, KeepsOutside, KeepsFront};
+ghost use Rattle.media_store.specs.Failures.{counted as counted_calls};
+ghost use Rattle.media_store.specs.Honesty.{HasAgreed};
+ghost use Rattle.media_store.specs.Failing.{store_of, failures_of, is_torn, IsFresh, is_counted, is_refused, HasCounted};
 
 use crate::fault::{StoreFault, count, counted};
 use crate::store::Store;
@@ -80,7 +83,26 @@ impl<S: Store> Store for FailStore<S> {
 
     ghost honest = { λ store. S.Store.honest store.store };
 
-    fn len(&mut self) -> Result<u64, StoreFault> {
+    ghost steady = { λ _. false };
+
+    fn len(&mut self) -> Result<u64, StoreFault>
+        ensures len { IfOk result (λ n. IsTrue (S.Store.honest (store_of self.new))
+            → n ≡ length (S.Store.content (store_of self.old))) }
+        ensures agreed { IfOk result (λ n. n ≡ length (S.Store.content (store_of self.old))
+            → S.Store.honest (store_of self.new) ≡ S.Store.honest (store_of self.old)) }
+        ensures failed { OnErr result (S.Store.honest (store_of self.new) ≡ S.Store.honest (store_of self.old)) }
+        ensures back { IsTrue (S.Store.honest (store_of self.new)) → IsTrue (S.Store.honest (store_of self.old)) }
+        ensures content { S.Store.content (store_of self.new) ≡ S.Store.content (store_of self.old) }
+        ensures synced { (S.Store.synced (store_of self.new) && not (is_torn self.new))
+            ≡ (S.Store.synced (store_of self.old) && not (is_torn self.old)) }
+        ensures failures { failures_of self.new ≡ counted_calls result (failures_of self.old) }
+        ensures counted { HasCounted Call.Len self.old self.new }
+        ensures refused { is_refused Call.Len self.old ≡ true → IsErr result × (store_of self.new ≡ store_of self.old) }
+        ensures passed { is_refused Call.Len self.old ≡ false
+            → S.Store.failures (store_of self.new) ≡ counted_calls result (S.Store.failures (store_of self.old)) }
+        ensures passed_succeeds { is_refused Call.Len self.old ≡ false → IsTrue (S.Store.steady (store_of self.old))
+            → IsOk result }
+    {
         if refuses(self.only, Call::Len, &mut self.left) {
             return Err(count(&mut self.failures));
         }
@@ -88,7 +110,22 @@ impl<S: Store> Store for FailStore<S> {
         counted(len, &mut self.failures)
     }
 
-    fn read_at(&mut self, at: u64, buf: &mut [u8]) -> Result<(), StoreFault> {
+    fn read_at(&mut self, at: u64, buf: &mut [u8]) -> Result<(), StoreFault>
+        ensures read { OnOk result (IsTrue (S.Store.honest (store_of self.new))
+            → buf.new ≡ slice_range (S.Store.content (store_of self.old)) at (at + length buf.old)) }
+        ensures agreed { HasAgreed (S.Store.content (store_of self.old)) at buf.new (is_ok result) (S.Store.honest (store_of self.old)) (S.Store.honest (store_of self.new)) }
+        ensures back { IsTrue (S.Store.honest (store_of self.new)) → IsTrue (S.Store.honest (store_of self.old)) }
+        ensures content { S.Store.content (store_of self.new) ≡ S.Store.content (store_of self.old) }
+        ensures synced { (S.Store.synced (store_of self.new) && not (is_torn self.new))
+            ≡ (S.Store.synced (store_of self.old) && not (is_torn self.old)) }
+        ensures failures { failures_of self.new ≡ counted_calls result (failures_of self.old) }
+        ensures counted { HasCounted Call.ReadAt self.old self.new }
+        ensures refused { is_refused Call.ReadAt self.old ≡ true → IsErr result × (store_of self.new ≡ store_of self.old) }
+        ensures passed { is_refused Call.ReadAt self.old ≡ false
+            → S.Store.failures (store_of self.new) ≡ counted_calls result (S.Store.failures (store_of self.old)) }
+        ensures passed_succeeds { is_refused Call.ReadAt self.old ≡ false → IsTrue (S.Store.steady (store_of self.old))
+            → at + length buf.old ≤ length (S.Store.content (store_of self.old)) → IsOk result }
+    {
         if refuses(self.only, Call::ReadAt, &mut self.left) {
             return Err(count(&mut self.failures));
         }
@@ -96,7 +133,20 @@ impl<S: Store> Store for FailStore<S> {
         counted(read, &mut self.failures)
     }
 
-    fn write_at(&mut self, at: u64, bytes: &[u8]) -> Result<(), StoreFault> {
+    fn write_at(&mut self, at: u64, bytes: &[u8]) -> Result<(), StoreFault>
+        ensures written { OnOk result (S.Store.content (store_of self.new)
+            ≡ written at bytes.now (S.Store.content (store_of self.old))) }
+        ensures torn { OnErr result (KeepsOutside at (length bytes.now) (S.Store.content (store_of self.old)) (S.Store.content (store_of self.new))) }
+        ensures honest { S.Store.honest (store_of self.new) ≡ S.Store.honest (store_of self.old) }
+        ensures synced { (S.Store.synced (store_of self.new) && not (is_torn self.new)) ≡ false }
+        ensures failures { failures_of self.new ≡ counted_calls result (failures_of self.old) }
+        ensures counted { HasCounted Call.WriteAt self.old self.new }
+        ensures refused { is_refused Call.WriteAt self.old ≡ true → IsErr result × (store_of self.new ≡ store_of self.old) }
+        ensures passed { is_refused Call.WriteAt self.old ≡ false
+            → S.Store.failures (store_of self.new) ≡ counted_calls result (S.Store.failures (store_of self.old)) }
+        ensures passed_succeeds { is_refused Call.WriteAt self.old ≡ false → IsTrue (S.Store.steady (store_of self.old))
+            → at + length bytes.now ≤ length (S.Store.content (store_of self.old)) → IsOk result }
+    {
         if refuses(self.only, Call::WriteAt, &mut self.left) {
             self.torn = true;
             return Err(count(&mut self.failures));
@@ -105,7 +155,19 @@ impl<S: Store> Store for FailStore<S> {
         counted(written, &mut self.failures)
     }
 
-    fn set_len(&mut self, len: u64) -> Result<(), StoreFault> {
+    fn set_len(&mut self, len: u64) -> Result<(), StoreFault>
+        ensures resized { OnOk result (S.Store.content (store_of self.new) ≡ resized len (S.Store.content (store_of self.old))) }
+        ensures torn { OnErr result (KeepsFront len (S.Store.content (store_of self.old)) (S.Store.content (store_of self.new))) }
+        ensures honest { S.Store.honest (store_of self.new) ≡ S.Store.honest (store_of self.old) }
+        ensures synced { (S.Store.synced (store_of self.new) && not (is_torn self.new)) ≡ false }
+        ensures failures { failures_of self.new ≡ counted_calls result (failures_of self.old) }
+        ensures counted { HasCounted Call.SetLen self.old self.new }
+        ensures refused { is_refused Call.SetLen self.old ≡ true → IsErr result × (store_of self.new ≡ store_of self.old) }
+        ensures passed { is_refused Call.SetLen self.old ≡ false
+            → S.Store.failures (store_of self.new) ≡ counted_calls result (S.Store.failures (store_of self.old)) }
+        ensures passed_succeeds { is_refused Call.SetLen self.old ≡ false → IsTrue (S.Store.steady (store_of self.old))
+            → len ≤ length (S.Store.content (store_of self.old)) → IsOk result }
+    {
         if refuses(self.only, Call::SetLen, &mut self.left) {
             self.torn = true;
             return Err(count(&mut self.failures));
@@ -114,7 +176,19 @@ impl<S: Store> Store for FailStore<S> {
         counted(resized, &mut self.failures)
     }
 
-    fn sync(&mut self) -> Result<(), StoreFault> {
+    fn sync(&mut self) -> Result<(), StoreFault>
+        ensures content { S.Store.content (store_of self.new) ≡ S.Store.content (store_of self.old) }
+        ensures honest { S.Store.honest (store_of self.new) ≡ S.Store.honest (store_of self.old) }
+        ensures synced { (S.Store.synced (store_of self.new) && not (is_torn self.new)) ≡ (if is_ok result then true
+            else (S.Store.synced (store_of self.old) && not (is_torn self.old))) }
+        ensures failures { failures_of self.new ≡ counted_calls result (failures_of self.old) }
+        ensures counted { HasCounted Call.Sync self.old self.new }
+        ensures refused { is_refused Call.Sync self.old ≡ true → IsErr result × (store_of self.new ≡ store_of self.old) }
+        ensures passed { is_refused Call.Sync self.old ≡ false
+            → S.Store.failures (store_of self.new) ≡ counted_calls result (S.Store.failures (store_of self.old)) }
+        ensures passed_succeeds { is_refused Call.Sync self.old ≡ false → IsTrue (S.Store.steady (store_of self.old))
+            → IsOk result }
+    {
         if refuses(self.only, Call::Sync, &mut self.left) {
             return Err(count(&mut self.failures));
         }

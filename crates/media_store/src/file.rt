@@ -1,81 +1,94 @@
 //! A store in a file.
 
-ghost use Rattle.std.specs.Prelude.{◌≡◌, [], false};
+ghost use Rattle.std.specs.Prelude.{◌≡◌, [], true, false, string_bytes};
 
 use crate::fault::{StoreFault, counted};
+use crate::file_calls::FileCalls;
+use crate::start::Start;
 use crate::store::Store;
-use std::fs::File;
-use std::io::{Seek, SeekFrom};
-use std::marker::Model;
-use std::os::unix::fs::FileExt;
+use crate::whole::{read_whole, write_whole};
+use std::marker::{Model, PhantomData};
 
 /// The bytes of an open file, or of a block device. Each call is one call of the system, or a few
 /// where the system does a part only.
 ///
-/// That the file gives back what was written to it is a premise that no contract shows: `honest` is
-/// not proved of any `FileStore`.
+/// Its content is what the file held when it was opened, as `S` says, after the calls so far. It is
+/// honest as long as every length and every byte that the system told agrees with that content.
 #[derive(Drop)]
-pub struct FileStore {
-    file: File,
+pub struct FileStore<C: FileCalls, S: Start> {
+    calls: C,
+    /// Where the file was opened. Only clauses read it.
+    path: String,
     synced: bool,
     failures: u64,
+    start: PhantomData<S>,
 }
 
-impl Model for FileStore {
+impl<C: FileCalls, S: Start> Model for FileStore<C, S> {
+    ghost use Rattle.std.specs.Prelude.{string_bytes};
     ghost use Rattle.media_store.specs.States.{FileState};
+    ghost use Rattle.media_store.specs.Replay.{origin_at, content_of, is_honest};
 
     ghost Value = { FileState };
 
-    ghost view = { λ store. record { synced = store.synced; failures = store.failures } };
+    ghost view = { λ store. record {
+      content = content_of (origin_at S.Start.held S.Start.torn (string_bytes store.path)) (C.FileCalls.calls store.calls);
+      honest = is_honest (origin_at S.Start.held S.Start.torn (string_bytes store.path)) (C.FileCalls.calls store.calls);
+      synced = store.synced;
+      failures = store.failures;
+    } };
 }
 
-impl FileStore {
-    /// The store of a file that is open for reading and writing.
-    pub fn new(file: File) -> FileStore
-        ensures { result ≡ record { synced = false; failures = 0 } }
+impl<C: FileCalls, S: Start> FileStore<C, S> {
+    /// The store of a file that was opened at this path for reading and writing.
+    pub fn new(calls: C, path: String) -> FileStore<C, S>
+        ensures { C.FileCalls.calls calls ≡ [] → result ≡ record { content = S.Start.held (string_bytes path); honest = true; synced = false; failures = 0 } }
     {
         FileStore {
-            file,
+            calls,
+            path,
             synced: false,
             failures: 0,
+            start: PhantomData,
         }
     }
 }
 
-impl Store for FileStore {
-    ghost content = { λ _. [] };
+impl<C: FileCalls, S: Start> Store for FileStore<C, S> {
+    ghost content = { λ store. store.content };
 
     ghost synced = { λ store. store.synced };
 
     ghost failures = { λ store. store.failures };
 
-    ghost honest = { λ _. false };
+    ghost honest = { λ store. store.honest };
+
+    ghost steady = { λ _. false };
 
     fn len(&mut self) -> Result<u64, StoreFault> {
-        // The end, and not the length that the file system tells: a block device tells none.
-        let end = self.file.seek(SeekFrom::End(0));
+        let end = self.calls.end();
         counted(end, &mut self.failures)
     }
 
     fn read_at(&mut self, at: u64, buf: &mut [u8]) -> Result<(), StoreFault> {
-        let read = self.file.read_exact_at(buf, at);
+        let read = read_whole(&mut self.calls, at, buf);
         counted(read, &mut self.failures)
     }
 
     fn write_at(&mut self, at: u64, bytes: &[u8]) -> Result<(), StoreFault> {
         self.synced = false;
-        let written = self.file.write_all_at(bytes, at);
+        let written = write_whole(&mut self.calls, at, bytes);
         counted(written, &mut self.failures)
     }
 
     fn set_len(&mut self, len: u64) -> Result<(), StoreFault> {
         self.synced = false;
-        let resized = self.file.set_len(len);
+        let resized = self.calls.set_len(len);
         counted(resized, &mut self.failures)
     }
 
     fn sync(&mut self) -> Result<(), StoreFault> {
-        let synced = self.file.sync_data();
+        let synced = self.calls.sync();
         counted(synced, &mut self.failures)?;
         self.synced = true;
         Ok(())

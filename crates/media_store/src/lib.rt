@@ -1,13 +1,15 @@
 //! Stores: where the bytes of a medium are kept.
 //!
 //! A store is a list of bytes that is read, written, cut and synced, and whose calls may fail. The
-//! trait [`Store`] says what each call does to these bytes. Its promises on bytes are made of a store
-//! that is honest, that is, one which gives back what was written to it:
+//! trait [`Store`] says what each call does to these bytes. What it says of bytes that were read is said
+//! where the store is honest after the call: every answer so far agreed with the content.
 //!
-//! - [`MemStore`] keeps the bytes in memory. It is honest, and this is proved.
-//! - [`FileStore`] keeps them in a file. No contract of the standard library says what a file gives
-//!   back, so that it is honest is a premise.
+//! - [`MemStore`] keeps the bytes in memory. It is always honest, and calls within its content succeed.
+//! - [`FileStore`] keeps them in a file. It notes each call of the system with its answer ([`FileCalls`]),
+//!   so its content is what the file held when it was opened ([`Start`]), after these calls, and it is
+//!   honest exactly as long as the answers agree with that.
 //! - [`FailStore`] is another store that fails from some call on, and is as honest as that store.
+//! - [`LyingStore`] is another store that gives wrong bytes once.
 //!
 //! Promised of every store: a call that fails raises the count of failures by one, and no other does.
 //! A failed write changes nothing outside its range, a failed read nothing at all.
@@ -16,13 +18,22 @@
 mod fail;
 mod fault;
 mod file;
+mod file_calls;
+mod lying;
 mod memory;
+mod start;
 mod store;
+mod system_file;
 #[cfg(test)]
 mod tests;
+mod whole;
 
 pub use fail::{Call, FailStore};
 pub use fault::StoreFault;
 pub use file::FileStore;
+pub use file_calls::FileCalls;
+pub use lying::LyingStore;
 pub use memory::MemStore;
+pub use start::{Start, Unknown};
 pub use store::Store;
+pub use system_file::SystemFile;

@@ -28,7 +28,7 @@ impl Model for MemStore {
 
     ghost view = { λ store. record { content = store.content.items; most = store.most; synced = store.synced; failures = store.failures } };
 
-    ghost invariant = { λ store. store.most ≤ vec_capacity store.content };
+    ghost invariant = { λ store. (length store.content.items ≤ store.most) × (store.most ≤ vec_capacity store.content) };
 }
 
 impl MemStore {
@@ -99,6 +99,8 @@ impl Store for MemStore {
 
     ghost honest = { λ _. true };
 
+    ghost steady = { λ _. true };
+
     fn len(&mut self) -> Result<u64, StoreFault>
         ensures value { result ≡ Ok (length self.old.content) }
         ensures after { self.new ≡ self.old }
@@ -122,6 +124,7 @@ impl Store for MemStore {
 
     fn write_at(&mut self, at: u64, bytes: &[u8]) -> Result<(), StoreFault>
         ensures within { IsOk result ↔ (at + length bytes.now ≤ self.old.most) }
+        ensures room { length self.old.content ≤ self.old.most }
         ensures ok { OnOk result (self.new ≡ record self.old { content = written at bytes.now self.old.content; synced = false }) }
         ensures err { OnErr result (self.new ≡ record self.old { synced = false; failures = risen self.old.failures }) }
     {
@@ -135,6 +138,7 @@ impl Store for MemStore {
 
     fn set_len(&mut self, len: u64) -> Result<(), StoreFault>
         ensures within { IsOk result ↔ (len ≤ self.old.most) }
+        ensures room { length self.old.content ≤ self.old.most }
         ensures ok { OnOk result (self.new ≡ record self.old { content = resized len self.old.content; synced = false }) }
         ensures err { OnErr result (self.new ≡ record self.old { synced = false; failures = risen self.old.failures }) }
     {

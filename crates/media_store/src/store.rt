@@ -1,15 +1,18 @@
 //! What every store does.
 
-ghost use Rattle.std.specs.Prelude.{◌≡◌, ◌+◌, ℕ, List, length, Bool, true, false, is_ok, if◌then◌else◌, IsTrue, IfOk, OnOk, OnErr, slice_range};
+ghost use Rattle.std.specs.Prelude.{◌≡◌, ◌+◌, ◌≤◌, ℕ, List, length, Bool, true, false, is_ok, if◌then◌else◌, IsTrue, IsOk, IfOk, OnOk, OnErr, slice_range};
 ghost use Rattle.media_store.specs.Content.{resized, written, KeepsOutside, KeepsFront};
 ghost use Rattle.media_store.specs.Failures.{counted};
+ghost use Rattle.media_store.specs.Honesty.{HasAgreed};
 
 use crate::fault::StoreFault;
 
 /// A list of bytes that is kept somewhere. Offsets and lengths are in bytes.
 ///
-/// Each call takes `&mut self`, for it may raise the count of failures. What is said of the content is
-/// said of an honest store.
+/// `content` is what the calls so far have made of the bytes. A store is honest as long as every answer
+/// agreed with it: what was read, and the length. So what is said of bytes that were read is said where
+/// the store is honest after the call. Each call takes `&mut self`, for it may raise the count of
+/// failures, and a store may lose its honesty in it.
 pub trait Store {
     /// The bytes.
     ghost content: { Self → List ℕ };
@@ -20,52 +23,66 @@ pub trait Store {
     /// How many calls have failed. It stays at the greatest value of a `u64`.
     ghost failures: { Self → ℕ };
 
-    /// Whether it gives back what was written.
+    /// Whether every answer so far agreed with the content. It falls only where one did not, and once it
+    /// has fallen it stays so.
     ghost honest: { Self → Bool };
+
+    /// Whether calls within the content always succeed, and agree with it.
+    ghost steady: { Self → Bool };
 
     /// How many bytes there are.
     fn len(&mut self) -> Result<u64, StoreFault>
-        ensures len { IfOk result (λ n. IsTrue (honest self.old) → n ≡ length (content self.old)) }
-        ensures content { IsTrue (honest self.old) → content self.new ≡ content self.old }
+        ensures len { IfOk result (λ n. IsTrue (honest self.new) → n ≡ length (content self.old)) }
+        ensures agreed { IfOk result (λ n. n ≡ length (content self.old) → honest self.new ≡ honest self.old) }
+        ensures failed { OnErr result (honest self.new ≡ honest self.old) }
+        ensures back { IsTrue (honest self.new) → IsTrue (honest self.old) }
+        ensures content { content self.new ≡ content self.old }
         ensures synced { synced self.new ≡ synced self.old }
         ensures failures { failures self.new ≡ counted result (failures self.old) }
-        ensures honest { honest self.new ≡ honest self.old };
+        ensures steady { steady self.new ≡ steady self.old }
+        ensures succeeds { IsTrue (steady self.old) → IsOk result × (honest self.new ≡ honest self.old) };
 
     /// Fills a buffer with the bytes from an offset on. It fails where there are fewer.
     fn read_at(&mut self, at: u64, buf: &mut [u8]) -> Result<(), StoreFault>
-        ensures read { OnOk result (IsTrue (honest self.old)
+        ensures read { OnOk result (IsTrue (honest self.new)
             → buf.new ≡ slice_range (content self.old) at (at + length buf.old)) }
-        ensures content { IsTrue (honest self.old) → content self.new ≡ content self.old }
+        ensures agreed { HasAgreed (content self.old) at buf.new (is_ok result) (honest self.old) (honest self.new) }
+        ensures back { IsTrue (honest self.new) → IsTrue (honest self.old) }
+        ensures content { content self.new ≡ content self.old }
         ensures synced { synced self.new ≡ synced self.old }
         ensures failures { failures self.new ≡ counted result (failures self.old) }
-        ensures honest { honest self.new ≡ honest self.old };
+        ensures steady { steady self.new ≡ steady self.old }
+        ensures succeeds { IsTrue (steady self.old) → at + length buf.old ≤ length (content self.old)
+            → IsOk result × (honest self.new ≡ honest self.old) };
 
     /// Writes bytes from an offset on, past the end too. Where it fails, any bytes may stand in the
     /// range.
     fn write_at(&mut self, at: u64, bytes: &[u8]) -> Result<(), StoreFault>
-        ensures written { OnOk result (IsTrue (honest self.old)
-            → content self.new ≡ written at bytes.now (content self.old)) }
-        ensures torn { OnErr result (IsTrue (honest self.old)
-            → KeepsOutside at (length bytes.now) (content self.old) (content self.new)) }
+        ensures written { OnOk result (content self.new ≡ written at bytes.now (content self.old)) }
+        ensures torn { OnErr result (KeepsOutside at (length bytes.now) (content self.old) (content self.new)) }
+        ensures honest { honest self.new ≡ honest self.old }
         ensures synced { synced self.new ≡ false }
         ensures failures { failures self.new ≡ counted result (failures self.old) }
-        ensures honest { honest self.new ≡ honest self.old };
+        ensures steady { steady self.new ≡ steady self.old }
+        ensures succeeds { IsTrue (steady self.old) → at + length bytes.now ≤ length (content self.old) → IsOk result };
 
     /// Cuts the content to a length, or fills it up with zeros. Where it fails, the end may lie
     /// anywhere between.
     fn set_len(&mut self, len: u64) -> Result<(), StoreFault>
-        ensures resized { OnOk result (IsTrue (honest self.old)
-            → content self.new ≡ resized len (content self.old)) }
-        ensures torn { OnErr result (IsTrue (honest self.old)
-            → KeepsFront len (content self.old) (content self.new)) }
+        ensures resized { OnOk result (content self.new ≡ resized len (content self.old)) }
+        ensures torn { OnErr result (KeepsFront len (content self.old) (content self.new)) }
+        ensures honest { honest self.new ≡ honest self.old }
         ensures synced { synced self.new ≡ false }
         ensures failures { failures self.new ≡ counted result (failures self.old) }
-        ensures honest { honest self.new ≡ honest self.old };
+        ensures steady { steady self.new ≡ steady self.old }
+        ensures succeeds { IsTrue (steady self.old) → len ≤ length (content self.old) → IsOk result };
 
     /// Waits until what was written is on the medium.
     fn sync(&mut self) -> Result<(), StoreFault>
-        ensures content { IsTrue (honest self.old) → content self.new ≡ content self.old }
+        ensures content { content self.new ≡ content self.old }
+        ensures honest { honest self.new ≡ honest self.old }
         ensures synced { synced self.new ≡ (if is_ok result then true else synced self.old) }
         ensures failures { failures self.new ≡ counted result (failures self.old) }
-        ensures honest { honest self.new ≡ honest self.old };
+        ensures steady { steady self.new ≡ steady self.old }
+        ensures succeeds { IsTrue (steady self.old) → IsOk result };
 }

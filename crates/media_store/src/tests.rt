@@ -1,21 +1,20 @@
 //! What no contract says: that a file gives back what was written, and which calls a `FailStore`
 //! refuses.
 
-use crate::{Call, FailStore, FileStore, MemStore, Store, StoreFault};
-use std::fs::{self, OpenOptions};
+use crate::{
+    Call, FailStore, FileStore, LyingStore, MemStore, Store, StoreFault, SystemFile, Unknown,
+};
+use std::fs;
 use std::test::Fail;
 
 const PATH: &str = "media_store_test";
 
 #[test]
 fn file_gives_back_what_was_written(rt: HostRuntime) -> Result<(), Fail> {
-    let _ = fs::remove_file(&rt, PATH);
-    let file = OpenOptions::new()
-        .read(true)
-        .write(true)
-        .create_new(true)
-        .open(&rt, PATH)?;
-    let mut store = FileStore::new(file);
+    fs::write(&rt, PATH, b"".as_slice())?;
+    let path = String::from_str(rt.alloc(), PATH)?;
+    let opened = SystemFile::open(&rt, PATH)?;
+    let mut store: FileStore<SystemFile, Unknown> = FileStore::new(opened, path);
     assert_eq!(rt; store.len(), Ok(0));
     assert_eq!(rt; store.write_at(3, b"abc"), Ok(()));
     assert_eq!(rt; store.write_at(4, b"x"), Ok(()));
@@ -74,5 +73,22 @@ fn fails_at_one_kind_of_call(rt: HostRuntime) -> Result<(), Fail> {
         assert_eq!(rt; calls(&mut failing), [true; 5]);
         assert_eq!(rt; calls(&mut failing), done);
     }
+    Ok(())
+}
+
+#[test]
+fn a_lie_is_seen_at_its_call_and_the_store_goes_on(rt: HostRuntime) -> Result<(), Fail> {
+    let mut store = LyingStore::new(MemStore::new(rt.alloc(), 4, 4)?, 1);
+    let mut back = [9; 2];
+    assert_eq!(rt; store.write_at(0, b"abcd"), Ok(()));
+    assert_eq!(rt; store.read_at(0, &mut back), Ok(()));
+    assert_eq!(rt; back, *b"ab");
+    assert_eq!(rt; store.read_at(3, &mut back), Err(StoreFault));
+    assert_eq!(rt; store.read_at(0, &mut []), Ok(()));
+    assert_eq!(rt; store.read_at(1, &mut back), Ok(()));
+    assert_eq!(rt; back, *b"cc");
+    assert_eq!(rt; store.read_at(1, &mut back), Ok(()));
+    assert_eq!(rt; back, *b"bc");
+    assert_eq!(rt; store.len(), Ok(4));
     Ok(())
 }

@@ -1,6 +1,6 @@
 //! The data of MODE SENSE.
 
-ghost use Rattle.std.specs.Prelude.{◌≡◌, ◌+◌, ◌*◌, ◌++◌, ◌≤◌, length, IfOk, OnOk, IfSome};
+ghost use Rattle.std.specs.Prelude.{◌≡◌, ◌+◌, ◌*◌, ◌++◌, ◌≤◌, length, None, is_some, IsOk, IfOk, OnOk, IfSome};
 ghost use Rattle.std.specs.Option.{option_map};
 ghost use Rattle.std.specs.Vec.{vec_items};
 ghost use Rattle.std.specs.List.{flat_map};
@@ -98,6 +98,13 @@ fn parameter_data(
     Ok(bytes)
 }
 
+/// Whether a unit with these parameters has the pages that a page code asks for. It takes no memory.
+pub fn has_pages(code: u8, parameters: Parameters) -> bool
+    ensures { result ≡ is_some (pages_of code parameters) }
+{
+    asked_pages(code, parameters).is_some()
+}
+
 /// The data of MODE SENSE for a unit with these parameters, or none where there is no such page (SPC-4
 /// "MODE SENSE (6) command", "MODE SENSE (10) command"). It fails only where an allocation fails.
 pub fn sense(
@@ -107,6 +114,7 @@ pub fn sense(
 ) -> Result<Option<Vec<u8>>, AllocError>
     ensures parameters { IfOk result (λ bytes. option_map vec_items bytes ≡ mode_data fields parameters) }
     ensures short { IfOk result (λ bytes. IfSome bytes (λ some. length some.items ≤ 56)) }
+    ensures none { mode_data fields parameters ≡ None → IsOk result }
 {
     let Some(asked) = asked_pages(fields.page, parameters) else {
         return Ok(None);

@@ -20,7 +20,7 @@ mod list_fault;
 mod page;
 mod parameters;
 
-pub use data::sense;
+pub use data::{has_pages, sense};
 pub use list::select;
 pub use list_fault::ListFault;
 pub use page::ModePage;

@@ -1,25 +1,27 @@
--- Units whose stores are honest and have not failed: they were so before.
-use Rattle.std.proofs.Common.{◌≡◌, ℕ, ◌<◌, List, length, map, set, get_or, Bool, true, false, Some, Result, Ok, Err, IfOk, OnErr, IsTrue, refl, sym, ap, ◌∙◌, subst, arith, inl, inr}
+-- What follows for all units from what the unit that a LUN names answered.
+use Rattle.std.proofs.Common.{◌≡◌, ℕ, ◌<◌, List, [], ◌∷◌, length, map, get_or, Bool, true, false, Option, Some, None, Result, Ok, Err, IfOk, OnErr, IsTrue, refl, sym, ap, ◌∙◌, subst, arith, ◌⊎◌, inl, inr}
 use Rattle.std.proofs.lemmas.Bool.Decides.{eqb_tells}
-use Rattle.std.proofs.lemmas.List.{get_or-map, length-map, length-set, get_or_default, ext_get_or, get_or-set_same, get_or-set_other}
-use Rattle.media_store.specs.Failures.{risen}
+use Rattle.std.proofs.lemmas.List.{get_or-map, length-map, length-set, get_or_default, get_or-set_same, get_or-set_other}
+use Rattle.std.proofs.lemmas.List.Elements.{All-set}
+use Rattle.std.proofs.lemmas.Option.{slice_get-get_or}
+use Rattle.media_store.specs.Failures.{risen, NoneFailed}
 use Rattle.scsi_sense.specs.Done.{Outcome}
 use Rattle.scsi_sense.specs.Nexus.{NexusName}
 use Rattle.scsi_unit.specs.Medium.{MediumState, Disk, Tape, IsSameMedium, failures_of, honest_of}
 use Rattle.scsi_unit.specs.Commands.{is_read_fault, failures_told}
-use Rattle.scsi_unit.specs.Identity.{is_report_luns}
-use Rattle.scsi_unit.specs.Unit.{UnitState, unit_view, lun_number, perform_at, IsPerformed, joined_unit, left_unit}
-use Rattle.scsi_unit.specs.Units.{UnitStates, unit_of, perform, join, leave, failures_in, NoUnitFailed, IsSoundMedium, AreSound, IsAnsweredAt}
-use Rattle.scsi_unit.specs.declared.logical_unit.LogicalUnit.{LogicalUnit}
-use Rattle.scsi_unit.proofs.Found.{units_performed, unit_answered}
-use Rattle.scsi_unit.proofs.Performed.{perform_at_keeps}
+use Rattle.scsi_unit.specs.Identity.{is_report_luns, reported_luns}
+use Rattle.scsi_unit.specs.Unit.{UnitState, lun_number, perform_at, reads_of, IsPerformed, joined_unit, left_unit}
+use Rattle.scsi_unit.specs.Units.{UnitStates, unit_of, numbers_of, performed_at, perform, join, leave, IsSoundMedium, AreSound, IsSureMedium, AreSure, IsAnsweredAt, AreAnswered, IsTrusted}
+use Rattle.scsi_unit.proofs.Performed.{perform_at_keeps, as_it_should}
 
--- two stores of a medium are honest alike
-honest_same : (old new : MediumState) → IsSameMedium old new → honest_of new ≡ honest_of old
-honest_same (Disk old) (Disk new) same = same.honest
-honest_same (Disk old) Tape same = absurd same
-honest_same Tape (Disk new) same = absurd same
-honest_same Tape Tape same = refl
+-- ---- one unit
+
+-- a medium that is still honest was so before
+honest_back : (old new : MediumState) → IsSameMedium old new → IsTrue (honest_of new) → IsTrue (honest_of old)
+honest_back (Disk old) (Disk new) kept honest = kept.back honest
+honest_back (Disk old) Tape kept honest = absurd kept
+honest_back Tape (Disk new) kept honest = absurd kept
+honest_back Tape Tape kept honest = refl
 
 risen_some : (count : ℕ) → risen count ≡ 0 → ⊥
 risen_some count e = omega arith
@@ -30,22 +32,44 @@ none_told true done count e told = let more : failures_told done count ≡ risen
 none_told false done count e told = let same : failures_told done count ≡ count = rw e refl in sym same ∙ told
 
 -- a unit whose store is sound after a command was so before
-unit_back : (nexus : NexusName) (cdb bytes : List ℕ) (old new : UnitState) (done : Outcome) → IsPerformed (perform_at nexus cdb bytes old) old new done → IsSoundMedium new.medium → IsSoundMedium old.medium
-unit_back nexus cdb bytes old new done performed sound =
-    let kept : (perform_at nexus cdb bytes old).0.medium ≡ old.medium = perform_at_keeps nexus cdb bytes old in
-    let same : honest_of new.medium ≡ honest_of old.medium = honest_same _ new.medium performed.medium ∙ ap honest_of kept in
-    record {
-      honest = subst IsTrue same sound.honest;
-      unfailed = none_told (is_read_fault done) done (failures_of old.medium) refl (sym performed.counted ∙ sound.unfailed);
-    }
+unit_back : (nexus : NexusName) (cdb bytes : List ℕ) (old new : UnitState) (done : Outcome)
+    → IsPerformed (reads_of cdb old) (perform_at nexus cdb bytes old) old new done
+    → IsSoundMedium new.medium → IsSoundMedium old.medium
+unit_back nexus cdb bytes old new done performed sound = record {
+  honest = rw (← perform_at_keeps nexus cdb bytes old) (honest_back _ new.medium performed.medium sound.honest);
+  unfailed = none_told (is_read_fault done) done (failures_of old.medium) refl (sym performed.counted ∙ sound.unfailed);
+}
 
--- where the unit at a place did a command
-at_back : (nexus : NexusName) (cdb bytes : List ℕ) (at : ℕ) (old new : UnitStates) (done : Outcome) → at < length old → IsAnsweredAt nexus cdb bytes at old new done → AreSound new → AreSound old
+-- a unit whose store cannot fail stays so
+unit_sure : (nexus : NexusName) (cdb bytes : List ℕ) (old new : UnitState) (done : Outcome)
+    → IsPerformed (reads_of cdb old) (perform_at nexus cdb bytes old) old new done
+    → IsSureMedium old.medium → IsSureMedium new.medium
+unit_sure nexus cdb bytes old new done performed sure =
+    let same = performed.sure (record { honest = sure.sound.honest; steady = sure.steady }) in
+    let medium : new.medium ≡ old.medium = ap (λ (p : UnitState × Outcome). p.0.medium) same ∙ perform_at_keeps nexus cdb bytes old in
+    subst IsSureMedium (sym medium) sure
+
+-- a unit does as defined where its command reads no block, or its store is still honest and did not fail
+unit_exact : (reads : Bool) (nexus : NexusName) (cdb bytes : List ℕ) (old new : UnitState) (done : Outcome) → reads_of cdb old ≡ reads
+    → IsPerformed (reads_of cdb old) (perform_at nexus cdb bytes old) old new done
+    → (reads_of cdb old ≡ true → IsTrue (honest_of new.medium) × NoneFailed (failures_of old.medium) (failures_of new.medium))
+    → (new, done) ≡ perform_at nexus cdb bytes old
+unit_exact true nexus cdb bytes old new done reads performed trusted =
+    as_it_should _ (perform_at nexus cdb bytes old) old new done (perform_at_keeps nexus cdb bytes old) performed (trusted reads).0 (trusted reads).1
+unit_exact false nexus cdb bytes old new done reads performed trusted = performed.calm reads
+
+-- ---- the unit at a place
+
+unit_here : (nexus : NexusName) (cdb bytes : List ℕ) (at : ℕ) (old new : UnitStates) (done : Outcome) (answered : IsAnsweredAt nexus cdb bytes at old new done) (d : UnitState) → at < length old
+    → get_or new at d ≡ answered.unit
+unit_here nexus cdb bytes at old new done answered d lt = ap (λ (units : UnitStates). get_or units at d) answered.units ∙ get_or-set_same old at answered.unit d lt
+
+at_back : (nexus : NexusName) (cdb bytes : List ℕ) (at : ℕ) (old new : UnitStates) (done : Outcome) → at < length old
+    → IsAnsweredAt nexus cdb bytes at old new done → AreSound new → AreSound old
 at_back nexus cdb bytes at old new done lt answered sound i d below = elim (eqb_tells i at) [
   | inl same ↦ (
-      let here : get_or new at d ≡ answered.unit = ap (λ (units : UnitStates). get_or units at d) answered.units ∙ get_or-set_same old at answered.unit d lt in
       let long : at < length new = rw answered.units (simp length-set lt) in
-      let after : IsSoundMedium answered.unit.medium = subst (λ (unit : UnitState). IsSoundMedium unit.medium) here (sound at d long) in
+      let after : IsSoundMedium answered.unit.medium = subst (λ (unit : UnitState). IsSoundMedium unit.medium) (unit_here nexus cdb bytes at old new done answered d lt) (sound at d long) in
       let before = unit_back nexus cdb bytes (get_or old at answered.unit) answered.unit done answered.performed after in
       subst (λ (k : ℕ). IsSoundMedium (get_or old k d).medium) (sym same.1) (subst (λ (unit : UnitState). IsSoundMedium unit.medium) (get_or_default old at answered.unit d lt) before))
   | inr differ ↦ (
@@ -54,47 +78,109 @@ at_back nexus cdb bytes at old new done lt answered sound i d below = elim (eqb_
       subst (λ (unit : UnitState). IsSoundMedium unit.medium) there (sound i d long))
 ]
 
--- a sound list of units counts no failures
-none_counted : (units : UnitStates) (i : ℕ) (d : UnitState) → i < length units → AreSound units → get_or (failures_in units) i 0 ≡ 0
-none_counted units i d lt sound = get_or-map (λ unit. failures_of unit.medium) units i d 0 lt ∙ (sound i d lt).unfailed
+at_sure : (nexus : NexusName) (cdb bytes : List ℕ) (at : ℕ) (old new : UnitStates) (done : Outcome) → at < length old
+    → IsAnsweredAt nexus cdb bytes at old new done → AreSure old → AreSure new
+at_sure nexus cdb bytes at old new done lt answered sure =
+    let after = unit_sure nexus cdb bytes (get_or old at answered.unit) answered.unit done answered.performed (sure at answered.unit lt) in
+    subst AreSure (sym answered.units) (All-set (λ (unit : UnitState). IsSureMedium unit.medium) old at answered.unit after sure)
 
-none_between : (old new : UnitStates) (d : UnitState) → length new ≡ length old → AreSound old → AreSound new → NoUnitFailed old new
-none_between old new d len before sound =
-    let count : UnitState → ℕ = λ unit. failures_of unit.medium in
-    let same_length : length (map count new) ≡ length (map count old) = length-map new count ∙ len ∙ sym (length-map old count) in
-    record {
-      same = ext_get_or 0 (failures_in new) (failures_in old) same_length (λ i lt.
-          (let below : i < length new = simp length-map at lt in
-          none_counted new i d below sound ∙ sym (none_counted old i d (omega arith) before)));
-      known = λ i e lt.
-          (let below : i < length new = simp length-map at lt in
-          let none : get_or (failures_in new) i e ≡ 0 = get_or_default (failures_in new) i e 0 lt ∙ none_counted new i d below sound in
-          rw none (omega arith));
-    }
+at_exact : (nexus : NexusName) (cdb bytes : List ℕ) (at : ℕ) (old new : UnitStates) (done : Outcome) → at < length old → is_report_luns cdb ≡ false
+    → IsAnsweredAt nexus cdb bytes at old new done → IsTrusted cdb (Some at) old new → (new, done) ≡ performed_at old nexus cdb bytes (Some at)
+at_exact nexus cdb bytes at old new done lt other answered trusted =
+    let u = answered.unit in
+    let here : get_or new at u ≡ u = unit_here nexus cdb bytes at old new done answered u lt in
+    let exact = unit_exact (reads_of cdb (get_or old at u)) nexus cdb bytes (get_or old at u) u done refl answered.performed
+    (subst (λ (unit : UnitState). reads_of cdb (get_or old at u) ≡ true → IsTrue (honest_of unit.medium) × NoneFailed (failures_of (get_or old at u).medium) (failures_of unit.medium)) here (trusted u)) in
+    rw (slice_get-get_or old at u lt, other, ← exact, answered.units) refl
 
--- the unit that the LUN names did the command, and the stores are sound
-pub units_back : {S : Type 0} (units : UnitStates) (items : List (LogicalUnit S)) (nexus : NexusName) (cdb bytes : List ℕ) (at : ℕ) (d after : LogicalUnit S) (done : Outcome)
-    → map unit_view items ≡ units → at < length items
-    → IsPerformed (perform_at nexus cdb bytes (unit_view (get_or items at d))) (unit_view (get_or items at d)) (unit_view after) done
-    → AreSound (map unit_view (set items at after)) → AreSound units
-units_back units items nexus cdb bytes at d after done u lt performed sound =
-    let long : at < length units = rw (← u) (simp length-map lt) in
-    at_back nexus cdb bytes at units (map unit_view (set items at after)) done long (unit_answered units items nexus cdb bytes at d after done u lt performed) sound
+-- REPORT LUNS
+luns_exact : (units : UnitStates) (nexus : NexusName) (cdb bytes : List ℕ) (at : ℕ) (done : Outcome) → at < length units → is_report_luns cdb ≡ true
+    → done ≡ reported_luns (numbers_of units) cdb → (units, done) ≡ performed_at units nexus cdb bytes (Some at)
+luns_exact [] nexus cdb bytes at done lt report answer = absurd (omega arith)
+luns_exact (d ∷ units) nexus cdb bytes at done lt report answer = rw (slice_get-get_or (d ∷ units) at d lt, report, answer) refl
 
-pub units_sound : {S : Type 0} (units : UnitStates) (items : List (LogicalUnit S)) (nexus : NexusName) (lun cdb bytes : List ℕ) (at : ℕ) (d after : LogicalUnit S) (done : Outcome)
-    → map unit_view items ≡ units → unit_of units (lun_number lun) ≡ Some at → at < length items → is_report_luns cdb ≡ false
-    → IsPerformed (perform_at nexus cdb bytes (unit_view (get_or items at d))) (unit_view (get_or items at d)) (unit_view after) done
-    → AreSound (map unit_view (set items at after)) → (map unit_view (set items at after), done) ≡ perform units nexus lun cdb bytes
-units_sound {S} units items nexus lun cdb bytes at d after done u named lt other performed sound =
-    let before : AreSound units = units_back units items nexus cdb bytes at d after done u lt performed sound in
-    let len : length (map unit_view (set items at after)) ≡ length units = length-map (set items at after) (λ (unit : LogicalUnit S). unit_view unit) ∙ length-set items at after ∙ sym (length-map items (λ (unit : LogicalUnit S). unit_view unit)) ∙ ap length u in
-    units_performed units items nexus lun cdb bytes at d after done u named lt other performed (λ i e below. (before i e below).honest)
-    (none_between units (map unit_view (set items at after)) (unit_view d) len before sound)
+-- ---- the unit that a LUN names, if any
 
--- where it was done, or nothing changed
-pub back_by : {E : Type 0} (r : Result Outcome E) (old new : UnitStates) → IfOk r (λ done. AreSound new → AreSound old) → OnErr r (new ≡ old) → AreSound new → AreSound old
-back_by (Ok done) old new ok err sound = ok sound
-back_by (Err e) old new ok err sound = subst AreSound err sound
+-- a place that was found
+abbrev IsPlace : Option ℕ → UnitStates → Type 0
+IsPlace place units = (at : ℕ) → place ≡ Some at → at < length units
+
+some_exact : (report : Bool) (nexus : NexusName) (cdb bytes : List ℕ) (at : ℕ) (old new : UnitStates) (done : Outcome) → is_report_luns cdb ≡ report
+    → at < length old
+    → AreAnswered nexus cdb bytes (Some at) old new done → IsTrusted cdb (Some at) old new → (new, done) ≡ performed_at old nexus cdb bytes (Some at)
+some_exact true nexus cdb bytes at old new done report lt answered trusted =
+    let both = rw report at answered in rw (both.0) (luns_exact old nexus cdb bytes at done lt report both.1)
+some_exact false nexus cdb bytes at old new done report lt answered trusted = at_exact nexus cdb bytes at old new done lt report (rw report at answered) trusted
+
+exact_at : (place : Option ℕ) (nexus : NexusName) (cdb bytes : List ℕ) (old new : UnitStates) (done : Outcome) → IsPlace place old
+    → AreAnswered nexus cdb bytes place old new done
+    → IsTrusted cdb place old new → (new, done) ≡ performed_at old nexus cdb bytes place
+exact_at None nexus cdb bytes old new done found answered trusted = rw (answered.0, answered.1) refl
+exact_at (Some at) nexus cdb bytes old new done found answered trusted = some_exact (is_report_luns cdb) nexus cdb bytes at old new done refl (found at refl) answered trusted
+
+-- nothing changed, or the unit at a place did the command
+abbrev IsSameOrAt : NexusName → List ℕ → List ℕ → UnitStates → UnitStates → Outcome → Type 0
+IsSameOrAt nexus cdb bytes old new done = (new ≡ old) ⊎ ((at : ℕ) × (at < length old) × IsAnsweredAt nexus cdb bytes at old new done)
+
+some_changed : (report : Bool) (nexus : NexusName) (cdb bytes : List ℕ) (at : ℕ) (old new : UnitStates) (done : Outcome)
+    → is_report_luns cdb ≡ report → at < length old → AreAnswered nexus cdb bytes (Some at) old new done → IsSameOrAt nexus cdb bytes old new done
+some_changed true nexus cdb bytes at old new done report lt answered = let both = rw report at answered in inl (both.0)
+some_changed false nexus cdb bytes at old new done report lt answered = inr (at, lt, rw report at answered)
+
+changed_at : (place : Option ℕ) (nexus : NexusName) (cdb bytes : List ℕ) (old new : UnitStates) (done : Outcome)
+    → IsPlace place old → AreAnswered nexus cdb bytes place old new done → IsSameOrAt nexus cdb bytes old new done
+changed_at None nexus cdb bytes old new done found answered = inl (answered.0)
+changed_at (Some at) nexus cdb bytes old new done found answered = some_changed (is_report_luns cdb) nexus cdb bytes at old new done refl (found at refl) answered
+
+back_at : (place : Option ℕ) (nexus : NexusName) (cdb bytes : List ℕ) (old new : UnitStates) (done : Outcome)
+    → IsPlace place old → AreAnswered nexus cdb bytes place old new done → AreSound new → AreSound old
+back_at place nexus cdb bytes old new done found answered sound = elim (changed_at place nexus cdb bytes old new done found answered) [
+  | inl same ↦ subst AreSound same sound
+  | inr there ↦ at_back nexus cdb bytes (there.0) old new done (there.1) (there.2) sound
+]
+
+sure_at : (place : Option ℕ) (nexus : NexusName) (cdb bytes : List ℕ) (old new : UnitStates) (done : Outcome)
+    → IsPlace place old → AreAnswered nexus cdb bytes place old new done → AreSure old → AreSure new
+sure_at place nexus cdb bytes old new done found answered sure = elim (changed_at place nexus cdb bytes old new done found answered) [
+  | inl same ↦ subst AreSure (sym same) sure
+  | inr there ↦ at_sure nexus cdb bytes (there.0) old new done (there.1) (there.2) sure
+]
+
+-- a store that was sound and is sound did not fail
+sound_between : (old new : MediumState) → IsSoundMedium old → IsSoundMedium new → IsTrue (honest_of new) × NoneFailed (failures_of old) (failures_of new)
+sound_between old new before sound = (sound.honest, record { same = sound.unfailed ∙ sym before.unfailed; known = rw sound.unfailed (omega arith) })
+
+trusted_at : (place : Option ℕ) (cdb : List ℕ) (old new : UnitStates) → IsPlace place old → IsPlace place new → AreSound old → AreSound new
+    → IsTrusted cdb place old new
+trusted_at None cdb old new was found before sound = tt
+trusted_at (Some at) cdb old new was found before sound = λ unit reads. sound_between _ _ (before at unit (was at refl)) (sound at unit (found at refl))
+
+-- ---- the clauses
+
+pub answered_exact : (nexus : NexusName) (lun cdb bytes : List ℕ) (old new : UnitStates) (done : Outcome) → IsPlace (unit_of old (lun_number lun)) old
+    → AreAnswered nexus cdb bytes (unit_of old (lun_number lun)) old new done → IsTrusted cdb (unit_of old (lun_number lun)) old new
+    → (new, done) ≡ perform old nexus lun cdb bytes
+unfolding perform
+answered_exact nexus lun cdb bytes old new done found answered trusted = exact_at (unit_of old (lun_number lun)) nexus cdb bytes old new done found answered trusted
+
+pub answered_sound : (nexus : NexusName) (lun cdb bytes : List ℕ) (old new : UnitStates) (done : Outcome)
+    → IsPlace (unit_of old (lun_number lun)) old → length new ≡ length old
+    → AreAnswered nexus cdb bytes (unit_of old (lun_number lun)) old new done → AreSound new → (new, done) ≡ perform old nexus lun cdb bytes
+answered_sound nexus lun cdb bytes old new done found len answered sound =
+    let place = unit_of old (lun_number lun) in
+    let before = back_at place nexus cdb bytes old new done found answered sound in
+    answered_exact nexus lun cdb bytes old new done found answered (trusted_at place cdb old new found (λ at is. rw len (found at is)) before sound)
+
+-- where it was answered, or nothing changed
+pub answered_back : {E : Type 0} (r : Result Outcome E) (place : Option ℕ) (nexus : NexusName) (cdb bytes : List ℕ) (old new : UnitStates) → IsPlace place old
+    → IfOk r (AreAnswered nexus cdb bytes place old new) → OnErr r (new ≡ old) → AreSound new → AreSound old
+answered_back (Ok done) place nexus cdb bytes old new found answered same sound = back_at place nexus cdb bytes old new done found answered sound
+answered_back (Err e) place nexus cdb bytes old new found answered same sound = subst AreSound same sound
+
+pub answered_sure : {E : Type 0} (r : Result Outcome E) (place : Option ℕ) (nexus : NexusName) (cdb bytes : List ℕ) (old new : UnitStates) → IsPlace place old
+    → IfOk r (AreAnswered nexus cdb bytes place old new) → OnErr r (new ≡ old) → AreSure old → AreSure new
+answered_sure (Ok done) place nexus cdb bytes old new found answered same sure = sure_at place nexus cdb bytes old new done found answered sure
+answered_sure (Err e) place nexus cdb bytes old new found answered same sure = subst AreSure (sym same) sure
 
 -- ---- who is joined does not count
 

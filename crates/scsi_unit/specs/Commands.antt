@@ -1,5 +1,5 @@
 -- What a command answers once the checks before it are passed, and whether its medium failed.
-use Rattle.std.specs.Prelude.{◌≡◌, ℕ, ◌+◌, ◌-◌, ◌^◌, ◌≤◌, min, nat_lt, List, ◌++◌, length, take, replicate, Bool, false, ◌==◌, ◌&&◌, IsTrue, Option, Some, None, if◌then◌else◌}
+use Rattle.std.specs.Prelude.{◌≡◌, ℕ, ◌+◌, ◌-◌, ◌^◌, ◌≤◌, min, nat_lt, nat_le, List, ◌++◌, length, take, replicate, Bool, false, ◌==◌, ◌&&◌, IsTrue, Option, Some, None, if◌then◌else◌}
 use Rattle.std.specs.Int.{w32, w64, to_be_bytes}
 use Rattle.media_store.specs.Failures.{risen, NoneFailed}
 use Rattle.media_block.specs.Blocks.{block_length, data_of}
@@ -13,8 +13,8 @@ use Rattle.scsi_sense.specs.declared.done.Status.TheVariants.{Good}
 use Rattle.scsi_cdb.specs.Operation.{invalid_operation_code}
 use Rattle.scsi_cdb.specs.Command.{most_blocks}
 use Rattle.scsi_cdb.specs.declared.command.Command.{Command}
-use Rattle.scsi_cdb.specs.declared.command.Command.TheVariants.{TestUnitReady, Read, ReadCapacity10, ReadCapacity16}
-use Rattle.scsi_unit.specs.Medium.{MediumState, Disk, Tape, failures_of, honest_of}
+use Rattle.scsi_cdb.specs.declared.command.Command.TheVariants.{TestUnitReady, RequestSense, Inquiry, ModeSelect, ModeSense, ReportLuns, Read, ReadCapacity10, ReadCapacity16}
+use Rattle.scsi_unit.specs.Medium.{MediumState, Disk, Tape, failures_of, honest_of, IsSteady}
 
 -- GOOD with data
 abbrev pub good_with : List ℕ → Outcome
@@ -79,8 +79,28 @@ failures_told done count = if is_read_fault done then risen count else count
 abbrev pub most_given : ℕ
 most_given = 1048576
 
--- own: what a medium may answer to a command: it does what is asked, or its store fails and this is told
+-- SBC-3 "READ (10) command": whether a command reads blocks of its medium: a READ of one or more that the disk has
+abbrev pub reads_disk : List (List ℕ) → Command → Bool
+reads_disk blocks (Read first count) = nat_lt 0 count && nat_le (first + count) (length blocks)
+reads_disk blocks TestUnitReady = false
+reads_disk blocks (RequestSense allocation_length) = false
+reads_disk blocks (Inquiry page allocation_length) = false
+reads_disk blocks (ModeSelect fields) = false
+reads_disk blocks (ModeSense fields) = false
+reads_disk blocks (ReportLuns select allocation_length) = false
+reads_disk blocks ReadCapacity10 = false
+reads_disk blocks (ReadCapacity16 allocation_length) = false
+
+abbrev pub reads_medium : MediumState → Command → Bool
+reads_medium (Disk disk) command = reads_disk disk.blocks command
+reads_medium Tape command = false
+
+-- own: What a medium may answer to a command. One that reads no block is answered as defined, and so is every one
+-- where the medium cannot fail. A read that succeeds gives the blocks where its store is still honest; one that fails
+-- is told so. Nothing else changes.
 pub record IsAnswered (command : Command) (old new : MediumState) (done : Outcome) : Type 0 where
-  pub answer : IsTrue (honest_of old) → NoneFailed (failures_of old) (failures_of new) → done ≡ command_outcome old command
+  pub calm : reads_medium old command ≡ false → (new ≡ old) × (done ≡ command_outcome old command)
+  pub sure : IsSteady old → (new ≡ old) × (done ≡ command_outcome old command)
+  pub answer : IsTrue (honest_of new) → NoneFailed (failures_of old) (failures_of new) → done ≡ command_outcome old command
   pub counted : failures_of new ≡ failures_told done (failures_of old)
   pub fault : IsTrue (is_read_fault done) → done ≡ check_condition unrecovered_read

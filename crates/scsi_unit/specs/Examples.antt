@@ -17,7 +17,7 @@ use Rattle.scsi_unit.specs.Commands.{good_with, out_of_range, capacity_10, capac
 use Rattle.scsi_unit.specs.Joined.{told, told_before, raised_for_others, newly_joined}
 use Rattle.scsi_unit.specs.Identity.{inquiry_outcome, luns_outcome, sense_outcome, without_unit, reported_luns}
 use Rattle.scsi_unit.specs.Modes.{mode_sense_outcome, list_taken}
-use Rattle.scsi_unit.specs.Unit.{UnitState, commanded, perform_at, lun_number}
+use Rattle.scsi_unit.specs.Unit.{UnitState, commanded, perform_at, reads_of, lun_number}
 use Rattle.scsi_unit.specs.Units.{perform}
 use Rattle.scsi_unit.specs.declared.joined.Joined.{Joined}
 
@@ -35,7 +35,7 @@ abbrev b : NexusName
 b = record { initiator_name = 98 ∷ []; isid = replicate 6 0 }
 
 abbrev disk : MediumState
-disk = Disk (record { blocks = replicate 4096 (replicate 2 0x61); synced = false; failures = 0; honest = true })
+disk = Disk (record { blocks = replicate 4096 (replicate 2 0x61); synced = false; failures = 0; honest = true; steady = true })
 
 abbrev unit_with : MediumState → List Joined → UnitState
 unit_with medium joined = record { lun = 0; serial = []; medium = medium; write_protect = false; joined = joined }
@@ -65,6 +65,15 @@ reads : ((perform_at a (read_10 0x0f 0xff 0 2) [] (unit_with disk (a_was_told �
     × ((perform_at a (read_10 0x0f 0xff 0 1) [] (unit_with disk (a_was_told ∷ []))).1 ≡ good_with (replicate 2 0x61))
 unfolding perform_at told_before told commanded
 reads = (refl, refl, refl, refl, refl)
+
+-- a READ of the last block reads, and one of 0 blocks, one past the end, one that is refused and a TEST UNIT READY do not
+reads_blocks : (reads_of (read_10 0x0f 0xff 0 1) (unit_with disk []) ≡ true)
+    × (reads_of (read_10 0x10 0 0 0) (unit_with disk []) ≡ false)
+    × (reads_of (read_10 0x0f 0xff 0 2) (unit_with disk []) ≡ false)
+    × (reads_of (read_10 0x0f 0xff 0x08 0x01) (unit_with disk []) ≡ false)
+    × (reads_of (read_10 0 0 0 1) (unit_with Tape []) ≡ false)
+    × (reads_of test_unit_ready (unit_with disk []) ≡ false)
+reads_blocks = (refl, refl, refl, refl, refl, refl)
 
 -- a tape is ready; it has no READ (10) of disks, which is told before the attention is
 tapes : ((perform_at a test_unit_ready [] (unit_with Tape (a_was_told ∷ []))).1 ≡ good)

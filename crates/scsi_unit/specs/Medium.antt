@@ -1,5 +1,5 @@
 -- The medium of a logical unit.
-use Rattle.std.specs.Prelude.{◌≡◌, ℕ, Bool, true, IsTrue, length}
+use Rattle.std.specs.Prelude.{◌≡◌, ℕ, Bool, true, IsTrue}
 use Rattle.media_block.specs.Blocks.{DiskState}
 use Rattle.scsi_cdb.specs.declared.command.Kind.{Kind}
 use Rattle.scsi_cdb.specs.declared.command.Kind.TheVariants as kind
@@ -26,19 +26,28 @@ abbrev pub failures_of : MediumState → ℕ
 failures_of (Disk disk) = disk.failures
 failures_of Tape = 0
 
--- own: whether its store gives back what was written
+-- own: whether every answer of its store so far agreed with what was written
 abbrev pub honest_of : MediumState → Bool
 honest_of (Disk disk) = disk.honest
 honest_of Tape = true
 
--- own: a disk is as before but for its count of failures; of one whose store is not honest the number of blocks is
-pub record IsSameDisk (old new : DiskState) : Type 0 where
-  pub honest : new.honest ≡ old.honest
-  pub block_count : length new.blocks ≡ length old.blocks
-  pub content : IsTrue old.honest → new ≡ record old { failures = new.failures }
+-- own: whether calls of its store always succeed, and agree
+abbrev pub steady_of : MediumState → Bool
+steady_of (Disk disk) = disk.steady
+steady_of Tape = true
 
--- own: a medium is as before but for its count of failures
+-- own: a disk is as before but for its count of failures, and it may have lost its honesty
+pub record IsSameDisk (old new : DiskState) : Type 0 where
+  pub same : new ≡ record old { failures = new.failures; honest = new.honest }
+  pub back : IsTrue new.honest → IsTrue old.honest
+
+-- own: a medium is as before but for its count of failures, and it may have lost its honesty
 abbrev pub IsSameMedium : MediumState → MediumState → Type 0
 IsSameMedium (Disk old) (Disk new) = IsSameDisk old new
 IsSameMedium Tape Tape = Unit {0}
 IsSameMedium old new = ⊥
+
+-- own: a medium that cannot fail: its store is honest and steady
+pub record IsSteady (medium : MediumState) : Type 0 where
+  pub honest : IsTrue (honest_of medium)
+  pub steady : IsTrue (steady_of medium)

@@ -9,7 +9,7 @@ use Rattle.scsi_sense.specs.declared.code.SenseKey.TheVariants.{UnitAttention}
 use Rattle.scsi_sense.specs.declared.code.AdditionalSense.{AdditionalSense}
 use Rattle.scsi_sense.specs.declared.code.AdditionalSense.TheVariants.{ModeParametersChanged}
 use Rattle.scsi_cdb.specs.Operation.{operation_of}
-use Rattle.scsi_cdb.specs.Command.{fields_of}
+use Rattle.scsi_cdb.specs.Command.{fields_of, command_of}
 use Rattle.scsi_cdb.specs.declared.command.Command.{Command}
 use Rattle.scsi_cdb.specs.declared.command.Command.TheVariants.{RequestSense, Inquiry, ReportLuns, ModeSense, ModeSelect}
 use Rattle.scsi_cdb.specs.declared.operation.Operation.{Operation}
@@ -20,8 +20,8 @@ use Rattle.scsi_mode.specs.declared.parameters.Parameters.{Parameters}
 use Rattle.scsi_unit.specs.Joined.{with_nexus, without_nexus, told, told_before, raised_for_others}
 use Rattle.scsi_unit.specs.Identity.{inquiry_outcome, luns_outcome, sense_outcome, pending_sense, without_unit}
 use Rattle.scsi_unit.specs.Modes.{parameters_of, mode_sense_outcome, differ, list_taken}
-use Rattle.scsi_unit.specs.Medium.{MediumState, medium_state, kind_of, failures_of, honest_of, IsSameMedium}
-use Rattle.scsi_unit.specs.Commands.{command_outcome, unrecovered_read, is_read_fault, failures_told}
+use Rattle.scsi_unit.specs.Medium.{MediumState, medium_state, kind_of, failures_of, honest_of, IsSteady, IsSameMedium}
+use Rattle.scsi_unit.specs.Commands.{command_outcome, reads_medium, unrecovered_read, is_read_fault, failures_told}
 use Rattle.scsi_unit.specs.declared.joined.Joined.{Joined}
 use Rattle.scsi_unit.specs.declared.logical_unit.LogicalUnit.{LogicalUnit}
 
@@ -97,12 +97,24 @@ operated nexus cdb bytes unit (Ok operation) = let p = told_before operation nex
 unfoldable pub perform_at : NexusName → List ℕ → List ℕ → UnitState → UnitState × Outcome
 perform_at nexus cdb bytes unit = operated nexus cdb bytes unit (operation_of cdb (kind_of unit.medium))
 
--- own: what may come of a command: what should, where the store is honest and no call of it failed.
--- Where one failed this is told, and nothing changes but the count of failures.
-pub record IsPerformed (should : UnitState × Outcome) (old new : UnitState) (done : Outcome) : Type 0 where
+-- own: whether a command that comes to its fields reads blocks of the medium
+abbrev pub reads_by : MediumState → Result Command Sense → Bool
+reads_by medium (Err sense) = false
+reads_by medium (Ok command) = reads_medium medium command
+
+-- own: whether a command reads blocks of the medium, where no attention is told in its place
+abbrev pub reads_of : List ℕ → UnitState → Bool
+reads_of cdb unit = reads_by unit.medium (command_of cdb (kind_of unit.medium))
+
+-- own: What may come of a command. One that reads no block does as defined, whatever its store is, and so does every
+-- one where the medium cannot fail. A read that succeeds gives the blocks where its store is still honest; one that
+-- fails is told so. Nothing else changes.
+pub record IsPerformed (reads : Bool) (should : UnitState × Outcome) (old new : UnitState) (done : Outcome) : Type 0 where
+  pub calm : reads ≡ false → (new, done) ≡ should
+  pub sure : IsSteady old.medium → (new, done) ≡ should
   pub unit : new ≡ record (should.0) { medium = new.medium }
   pub medium : IsSameMedium (should.0.medium) new.medium
-  pub answer : IsTrue (honest_of old.medium) → NoneFailed (failures_of old.medium) (failures_of new.medium) → done ≡ should.1
+  pub answer : IsTrue (honest_of new.medium) → NoneFailed (failures_of old.medium) (failures_of new.medium) → done ≡ should.1
   pub counted : failures_of new.medium ≡ failures_told done (failures_of old.medium)
   pub fault : IsTrue (is_read_fault done) → done ≡ check_condition unrecovered_read
 

@@ -1,10 +1,11 @@
 -- The logical units of one target, and what a command does to them.
-use Rattle.std.specs.Prelude.{◌≡◌, ℕ, ◌-◌, ◌^◌, ◌<◌, All, IsTrue, List, map, position, ◌==◌, Option, Some, None, option_and_then, slice_get, slice_set, slice_index_or, MatchBool, if◌then◌else◌}
+use Rattle.std.specs.Prelude.{◌≡◌, ℕ, All, IsTrue, List, map, Bool, true, false, position, ◌==◌, Option, Some, None, option_and_then, slice_get, slice_set, slice_index_or, MatchBool, if◌then◌else◌}
 use Rattle.scsi_sense.specs.Done.{Outcome}
 use Rattle.scsi_sense.specs.Nexus.{NexusName}
-use Rattle.scsi_unit.specs.Medium.{MediumState, failures_of, honest_of}
+use Rattle.media_store.specs.Failures.{NoneFailed}
+use Rattle.scsi_unit.specs.Medium.{MediumState, failures_of, honest_of, steady_of}
 use Rattle.scsi_unit.specs.Identity.{without_unit, is_report_luns, reported_luns}
-use Rattle.scsi_unit.specs.Unit.{UnitState, joined_unit, left_unit, perform_at, lun_number, IsPerformed}
+use Rattle.scsi_unit.specs.Unit.{UnitState, joined_unit, left_unit, perform_at, lun_number, reads_of, IsPerformed}
 
 abbrev pub UnitStates : Type 0
 UnitStates = List UnitState
@@ -41,20 +42,16 @@ performed_at units nexus cdb bytes (Some at) = performed_by units nexus cdb byte
 unfoldable pub perform : UnitStates → NexusName → List ℕ → List ℕ → List ℕ → UnitStates × Outcome
 perform units nexus lun cdb bytes = performed_at units nexus cdb bytes (unit_of units (lun_number lun))
 
--- own: the stores of all units give back what was written
-abbrev pub AreHonest : UnitStates → Type 0
-AreHonest units = All (λ unit. IsTrue (honest_of unit.medium)) units
+-- own: whether a command reads blocks of the unit that stands at a place
+abbrev pub reads_there : List ℕ → Option UnitState → Bool
+reads_there cdb None = false
+reads_there cdb (Some unit) = reads_of cdb unit
 
--- own: how many calls of the store of each unit have failed
-abbrev pub failures_in : UnitStates → List ℕ
-failures_in units = map (λ unit. failures_of unit.medium) units
+-- own: whether a command reads blocks of the unit that a LUN names, where it names one
+abbrev pub reads_at : List ℕ → UnitStates → Option ℕ → Bool
+reads_at cdb units at = reads_there cdb (option_and_then (slice_get units) at)
 
--- own: no call of a store failed between some units and as many later ones
-pub record NoUnitFailed (before after : UnitStates) : Type 0 where
-  pub same : failures_in after ≡ failures_in before
-  pub known : All (λ count. count < 2 ^ 64 - 1) (failures_in after)
-
--- own: a store that gives back what was written, and of which no call has failed
+-- own: a store of which every answer agreed, and of which no call has failed
 pub record IsSoundMedium (medium : MediumState) : Type 0 where
   pub honest : IsTrue (honest_of medium)
   pub unfailed : failures_of medium ≡ 0
@@ -63,14 +60,31 @@ pub record IsSoundMedium (medium : MediumState) : Type 0 where
 abbrev pub AreSound : UnitStates → Type 0
 AreSound units = All (λ unit. IsSoundMedium unit.medium) units
 
+-- own: a store that is so, and stays so whatever is asked of it
+pub record IsSureMedium (medium : MediumState) : Type 0 where
+  pub sound : IsSoundMedium medium
+  pub steady : IsTrue (steady_of medium)
+
+-- own: the stores of all units are so
+abbrev pub AreSure : UnitStates → Type 0
+AreSure units = All (λ unit. IsSureMedium unit.medium) units
+
 -- own: what may come of a command to the unit at a place, whatever its medium does. The other units are as before.
 pub record IsAnsweredAt (nexus : NexusName) (cdb bytes : List ℕ) (at : ℕ) (old new : UnitStates) (done : Outcome) : Type 0 where
   pub unit : UnitState
   pub units : new ≡ slice_set old at unit
-  pub performed : IsPerformed (perform_at nexus cdb bytes (slice_index_or old at unit)) (slice_index_or old at unit) unit done
+  pub performed : IsPerformed (reads_of cdb (slice_index_or old at unit)) (perform_at nexus cdb bytes (slice_index_or old at unit)) (slice_index_or old at unit) unit done
 
 -- own: what may come of a command to the unit that a LUN names, or where it names none
 abbrev pub AreAnswered : NexusName → List ℕ → List ℕ → Option ℕ → UnitStates → UnitStates → Outcome → Type 0
 AreAnswered nexus cdb bytes None old new done = (new ≡ old) × (done ≡ without_unit cdb)
 AreAnswered nexus cdb bytes (Some at) old new done =
     MatchBool (is_report_luns cdb) ((new ≡ old) × (done ≡ reported_luns (numbers_of old) cdb)) (IsAnsweredAt nexus cdb bytes at old new done)
+
+-- own: the store of the unit that a LUN names, where it names one and the command reads of it, is still honest, and no
+-- call of it failed
+abbrev pub IsTrusted : List ℕ → Option ℕ → UnitStates → UnitStates → Type 0
+IsTrusted cdb None old new = Unit {0}
+IsTrusted cdb (Some at) old new =
+    (unit : UnitState) → reads_of cdb (slice_index_or old at unit) ≡ true
+    → IsTrue (honest_of (slice_index_or new at unit).medium) × NoneFailed (failures_of (slice_index_or old at unit).medium) (failures_of (slice_index_or new at unit).medium)

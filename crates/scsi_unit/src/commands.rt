@@ -1,12 +1,12 @@
 //! The commands to the media of disks and tapes.
 
-ghost use Rattle.std.specs.Prelude.{◌≡◌, ◌^◌, ◌<◌, ◌≤◌, length, take, true, IsTrue, IfOk, OnErr};
-ghost use Rattle.media_store.specs.Failures.{NoneFailed};
+ghost use Rattle.std.specs.Prelude.{◌≡◌, ◌^◌, ◌<◌, ◌≤◌, [], length, take, false, IsOk, IfOk, OnErr};
 ghost use Rattle.scsi_sense.specs.Done.{check_condition};
 ghost use Rattle.scsi_cdb.specs.Operation.{invalid_operation_code};
 ghost use Rattle.scsi_cdb.specs.Command.{most_blocks};
-ghost use Rattle.scsi_unit.specs.Medium.{IsSameDisk};
-ghost use Rattle.scsi_unit.specs.Commands.{good_with, unrecovered_read, read_outcome, capacity_10 as capacity_10_data, capacity_16 as capacity_16_data, disk_outcome, tape_outcome, IsShort, is_read_fault, failures_told, most_given};
+ghost use Rattle.scsi_cdb.specs.declared.command.Command.TheVariants.{Read};
+ghost use Rattle.scsi_unit.specs.Medium.{Disk as DiskMedium, IsSameDisk};
+ghost use Rattle.scsi_unit.specs.Commands.{good_with, read_outcome, capacity_10 as capacity_10_data, capacity_16 as capacity_16_data, disk_outcome, tape_outcome, reads_disk, IsShort, IsAnswered, most_given};
 
 use crate::fault::Memory;
 use media_block::{BLOCK_LENGTH, Disk};
@@ -19,7 +19,7 @@ use std::alloc::Global;
 const NO_PROTECTION: [u8; 20] = [0; 20];
 
 /// GOOD with data.
-fn done_with(given: Vec<u8>) -> Done
+pub(crate) fn done_with(given: Vec<u8>) -> Done
     requires { length given.items < 2 ^ 32 }
     ensures { result ≡ good_with given.items }
 {
@@ -40,6 +40,33 @@ pub(crate) fn done_with_cut(mut given: Vec<u8>, allocation_length: u32) -> Done
 {
     given.truncate(allocation_length as usize);
     done_with(given)
+}
+
+/// The bytes in front, so many at most.
+pub(crate) fn front(bytes: &[u8], most: usize) -> &[u8]
+    ensures value { result.now ≡ take most bytes.now }
+    ensures short { length result.now ≤ most }
+{
+    if bytes.len() > most {
+        &bytes[..most]
+    } else {
+        bytes
+    }
+}
+
+/// GOOD with these bytes, of which no more are given than the allocation length. It takes no memory where
+/// none are given.
+pub(crate) fn done_with_front(
+    alloc: Global,
+    bytes: &[u8],
+    allocation_length: u32,
+) -> Result<Done, Memory>
+    ensures done { IfOk result (λ done. done ≡ good_with (take allocation_length bytes.now)) }
+    ensures nothing { take allocation_length bytes.now ≡ [] → IsOk result }
+{
+    let mut given = Vec::new(alloc);
+    given.extend_from_slice(front(bytes, allocation_length as usize))?;
+    Ok(done_with(given))
 }
 
 /// READ CAPACITY (10) data of a disk of so many blocks.
@@ -67,7 +94,7 @@ fn capacity_16(alloc: Global, block_count: u64) -> Result<Vec<u8>, Memory>
 }
 
 /// READ of so many blocks from the first one on. The room for the data is made first, so that where
-/// an allocation fails nothing changes.
+/// an allocation fails nothing changes. It takes no memory where no block is read.
 fn read<S: Store>(
     alloc: Global,
     disk: &mut Disk<S>,
@@ -75,12 +102,10 @@ fn read<S: Store>(
     blocks: u32,
 ) -> Result<Done, Memory>
     requires { blocks ≤ most_blocks }
-    ensures done { IfOk result (λ done. IsTrue disk.old.honest → NoneFailed disk.old.failures disk.new.failures
-        → done ≡ read_outcome disk.old.blocks first blocks) }
+    ensures done { IfOk result (IsAnswered (Read first blocks) (DiskMedium disk.old) (DiskMedium disk.new)) }
     ensures disk { IsSameDisk disk.old disk.new }
-    ensures counted { IfOk result (λ done. disk.new.failures ≡ failures_told done disk.old.failures) }
-    ensures fault { IfOk result (λ done. IsTrue (is_read_fault done) → done ≡ check_condition unrecovered_read) }
     ensures given { IfOk result (λ done. length done.given ≤ most_given) }
+    ensures nothing { reads_disk disk.old.blocks (Read first blocks) ≡ false → IsOk result }
     ensures err { OnErr result (disk.new ≡ disk.old) }
 {
     let count = u64::from(blocks);
@@ -104,12 +129,10 @@ pub(crate) fn to_disk<S: Store>(
     command: Command,
 ) -> Result<Done, Memory>
     requires { IsShort command }
-    ensures done { IfOk result (λ done. IsTrue disk.old.honest → NoneFailed disk.old.failures disk.new.failures
-        → done ≡ disk_outcome disk.old.blocks command) }
+    ensures done { IfOk result (IsAnswered command (DiskMedium disk.old) (DiskMedium disk.new)) }
     ensures disk { IsSameDisk disk.old disk.new }
-    ensures counted { IfOk result (λ done. disk.new.failures ≡ failures_told done disk.old.failures) }
-    ensures fault { IfOk result (λ done. IsTrue (is_read_fault done) → done ≡ check_condition unrecovered_read) }
     ensures given { IfOk result (λ done. length done.given ≤ most_given) }
+    ensures nothing { reads_disk disk.old.blocks command ≡ false → (disk_outcome disk.old.blocks command).given ≡ [] → IsOk result }
     ensures err { OnErr result (disk.new ≡ disk.old) }
 {
     match command {
@@ -117,6 +140,9 @@ pub(crate) fn to_disk<S: Store>(
         Command::Read { first, blocks } => read(alloc, disk, first, blocks),
         Command::ReadCapacity10 => Ok(done_with(capacity_10(alloc, disk.block_count())?)),
         Command::ReadCapacity16 { allocation_length } => {
+            if allocation_length == 0 {
+                return Ok(done_with(Vec::new(alloc)));
+            }
             let bytes = capacity_16(alloc, disk.block_count())?;
             Ok(done_with_cut(bytes, allocation_length))
         }

@@ -1,14 +1,14 @@
 //! INQUIRY, REPORT LUNS and the data of REQUEST SENSE, also where there is no unit.
 
-ghost use Rattle.std.specs.Prelude.{◌≡◌, ◌≤◌, length, take, IfOk};
+ghost use Rattle.std.specs.Prelude.{◌≡◌, ◌≤◌, [], length, take, IsOk, IfOk};
 ghost use Rattle.scsi_sense.specs.Done.{check_condition};
 ghost use Rattle.scsi_cdb.specs.Command.{invalid_field};
 ghost use Rattle.scsi_inquiry.specs.Standard.{standard_data};
 ghost use Rattle.scsi_inquiry.specs.VpdPages.{most_serial, page_of};
 ghost use Rattle.scsi_unit.specs.Commands.{good_with, most_given};
-ghost use Rattle.scsi_unit.specs.Identity.{told_serial, page_outcome, inquiry_outcome, luns_outcome, reported_luns, sense_outcome, unsupported, without_unit};
+ghost use Rattle.scsi_unit.specs.Identity.{told_serial, page_outcome, inquiry_outcome, luns_outcome, sense_outcome, unsupported, without_unit};
 
-use crate::commands::done_with_cut;
+use crate::commands::{done_with, done_with_cut, done_with_front, front};
 use crate::fault::Memory;
 use scsi_cdb::{Command, Kind, Operation, SelectReport};
 use scsi_inquiry::{Peripheral, VpdPage, luns, page, standard};
@@ -38,21 +38,9 @@ fn standard_inquiry(
 ) -> Result<Done, Memory>
     ensures done { IfOk result (λ done. done ≡ good_with (take allocation_length (standard_data peripheral))) }
     ensures given { IfOk result (λ done. length done.given ≤ most_given) }
+    ensures nothing { take allocation_length (standard_data peripheral) ≡ [] → IsOk result }
 {
-    let bytes = Vec::from_slice(alloc, &standard(peripheral))?;
-    Ok(done_with_cut(bytes, allocation_length))
-}
-
-/// The bytes in front, so many at most.
-fn front(bytes: &[u8], most: usize) -> &[u8]
-    ensures value { result.now ≡ take most bytes.now }
-    ensures short { length result.now ≤ most }
-{
-    if bytes.len() > most {
-        &bytes[..most]
-    } else {
-        bytes
-    }
+    done_with_front(alloc, &standard(peripheral), allocation_length)
 }
 
 /// The part of a serial number that is told.
@@ -73,10 +61,14 @@ fn page_inquiry(
 ) -> Result<Done, Memory>
     ensures done { IfOk result (λ done. done ≡ page_outcome kind (told_serial serial.now) allocation_length (page_of code kind)) }
     ensures given { IfOk result (λ done. length done.given ≤ most_given) }
+    ensures nothing { (page_outcome kind (told_serial serial.now) allocation_length (page_of code kind)).given ≡ [] → IsOk result }
 {
     let Some(asked) = VpdPage::of(code, kind) else {
         return Ok(field_refused(alloc));
     };
+    if allocation_length == 0 {
+        return Ok(done_with(Vec::new(alloc)));
+    }
     let bytes = page(alloc, kind, told_serial(serial), asked)?;
     Ok(done_with_cut(bytes, allocation_length))
 }
@@ -92,6 +84,7 @@ pub(crate) fn inquiry(
 ) -> Result<Done, Memory>
     ensures done { IfOk result (λ done. done ≡ inquiry_outcome kind serial.now page allocation_length) }
     ensures given { IfOk result (λ done. length done.given ≤ most_given) }
+    ensures nothing { (inquiry_outcome kind serial.now page allocation_length).given ≡ [] → IsOk result }
 {
     match page {
         Some(code) => page_inquiry(alloc, kind, serial, code, allocation_length),
@@ -109,27 +102,13 @@ pub(crate) fn report_luns(
 ) -> Result<Done, Memory>
     ensures done { IfOk result (λ done. done ≡ luns_outcome numbers.now select allocation_length) }
     ensures given { IfOk result (λ done. length done.given ≤ most_given) }
+    ensures nothing { (luns_outcome numbers.now select allocation_length).given ≡ [] → IsOk result }
 {
+    if allocation_length == 0 {
+        return Ok(done_with(Vec::new(alloc)));
+    }
     let bytes = luns(alloc, select, numbers)?;
     Ok(done_with_cut(bytes, allocation_length))
-}
-
-/// REPORT LUNS with these bytes, to units with these numbers.
-#[tactic(auto, unfolding(crate::specs::Identity::reported_luns))]
-pub(crate) fn reported_luns(alloc: Global, numbers: &[u8], cdb: [u8; 16]) -> Result<Done, Memory>
-    ensures done { IfOk result (λ done. done ≡ reported_luns numbers.now cdb) }
-    ensures given { IfOk result (λ done. length done.given ≤ most_given) }
-{
-    match Operation::ReportLuns.command(cdb) {
-        Ok(
-            Command::ReportLuns {
-                select,
-                allocation_length,
-            },
-        ) => report_luns(alloc, numbers, select, allocation_length),
-        Ok(_) => Ok(field_refused(alloc)),
-        Err(sense) => Ok(Done::check_condition(alloc, sense)),
-    }
 }
 
 /// Sense data, given as data with GOOD.
@@ -141,9 +120,9 @@ pub(crate) fn sense_data(
 ) -> Result<Done, Memory>
     ensures done { IfOk result (λ done. done ≡ sense_outcome sense allocation_length) }
     ensures given { IfOk result (λ done. length done.given ≤ most_given) }
+    ensures nothing { (sense_outcome sense allocation_length).given ≡ [] → IsOk result }
 {
-    let bytes = Vec::from_slice(alloc, &sense.bytes())?;
-    Ok(done_with_cut(bytes, allocation_length))
+    done_with_front(alloc, &sense.bytes(), allocation_length)
 }
 
 /// LOGICAL UNIT NOT SUPPORTED.
@@ -162,6 +141,7 @@ fn not_supported() -> Sense
 pub(crate) fn without_unit(alloc: Global, cdb: [u8; 16]) -> Result<Done, Memory>
     ensures done { IfOk result (λ done. done ≡ without_unit cdb) }
     ensures given { IfOk result (λ done. length done.given ≤ most_given) }
+    ensures nothing { (without_unit cdb).given ≡ [] → IsOk result }
 {
     let command = match cdb[0] {
         INQUIRY => Operation::Inquiry.command(cdb),

@@ -10,10 +10,14 @@
 //! descriptor block, the range of blocks, the data, the medium. INQUIRY, REPORT LUNS and REQUEST SENSE pass
 //! the attentions by, and INQUIRY and REQUEST SENSE the first check too.
 //!
-//! Promised: where the store is honest and none of its calls failed, [`Unit::perform`] and
-//! [`Units::perform`] do exactly what the definition `perform` says, to the unit and in their answer.
-//! UNRECOVERED READ ERROR is told only where the store's count of failures rose, and then nothing else
-//! changes. Where an allocation fails nothing changes.
+//! Promised: a command that reads no block does exactly what the definition `perform` says, to the unit and
+//! in its answer, whatever the stores are, and so does every command to a unit whose store is honest and
+//! steady. A READ of one block or more does so where the store of the unit that it is addressed to is still
+//! honest after it and no call of it failed. UNRECOVERED READ ERROR is told by such a READ alone, and only
+//! where that store's count of failures rose. The other units are as before.
+//!
+//! Where an allocation fails nothing changes. No allocation can fail for a command that reads no block and
+//! gives no data: what is refused, what has an allocation length of 0, and a READ of no block.
 #![tactic(auto)]
 
 mod commands;

@@ -1,10 +1,10 @@
 //! A logical unit as it lies in memory.
 
-ghost use Rattle.std.specs.Prelude.{◌≡◌, ◌≤◌, [], length, IfOk, OnOk, OnErr};
+ghost use Rattle.std.specs.Prelude.{◌≡◌, ◌≤◌, [], length, false, IsOk, IfOk, OnOk, OnErr};
 ghost use Rattle.scsi_mode.specs.ParameterList.{selected};
 ghost use Rattle.scsi_unit.specs.Medium.{medium_state, IsSameMedium};
-ghost use Rattle.scsi_unit.specs.Commands.{IsShort, IsAnswered, most_given};
-ghost use Rattle.scsi_unit.specs.Unit.{unit_view, HasRoom, joined_unit, left_unit, parameters_of_unit, mode_selected, commanded, perform_at, names_unit, IsPerformed, lun_number as number_of_lun};
+ghost use Rattle.scsi_unit.specs.Commands.{IsShort, IsAnswered, command_outcome, reads_medium, most_given};
+ghost use Rattle.scsi_unit.specs.Unit.{unit_view, HasRoom, joined_unit, left_unit, parameters_of_unit, mode_selected, commanded, perform_at, reads_of, names_unit, IsPerformed, lun_number as number_of_lun};
 ghost use Rattle.scsi_unit.specs.Joined.{told};
 ghost use Rattle.scsi_unit.specs.Identity.{sense_outcome, pending_sense};
 
@@ -50,6 +50,7 @@ impl<S: Store> Medium<S> {
         ensures done { IfOk result (IsAnswered command (medium_state self.old) (medium_state self.new)) }
         ensures medium { IsSameMedium (medium_state self.old) (medium_state self.new) }
         ensures given { IfOk result (λ done. length done.given ≤ most_given) }
+        ensures nothing { reads_medium (medium_state self.old) command ≡ false → (command_outcome (medium_state self.old) command).given ≡ [] → IsOk result }
         ensures err { OnErr result (medium_state self.new ≡ medium_state self.old) }
     {
         match self {
@@ -117,6 +118,7 @@ impl<S: Store> LogicalUnit<S> {
         ensures ok { OnOk result (unit_view self.new ≡ record (unit_view self.old) { joined = (told nexus.now self.old.joined.items).0 }) }
         ensures done { IfOk result (λ done. done ≡ sense_outcome (pending_sense (told nexus.now self.old.joined.items).1) allocation_length) }
         ensures given { IfOk result (λ done. length done.given ≤ most_given) }
+        ensures nothing { (sense_outcome (pending_sense (told nexus.now self.old.joined.items).1) allocation_length).given ≡ [] → IsOk result }
         ensures err { OnErr result (unit_view self.new ≡ unit_view self.old) }
     {
         let sense = match pending(self.joined.as_slice(), nexus) {
@@ -172,8 +174,9 @@ impl<S: Store> LogicalUnit<S> {
         data: &[u8],
     ) -> Result<Done, Memory>
         requires { IsShort command }
-        ensures done { IfOk result (IsPerformed (commanded nexus.now «data».now (unit_view self.old) command) (unit_view self.old) (unit_view self.new)) }
+        ensures done { IfOk result (IsPerformed (reads_medium (medium_state self.old.medium) command) (commanded nexus.now «data».now (unit_view self.old) command) (unit_view self.old) (unit_view self.new)) }
         ensures given { IfOk result (λ done. length done.given ≤ most_given) }
+        ensures nothing { reads_medium (medium_state self.old.medium) command ≡ false → (commanded nexus.now «data».now (unit_view self.old) command).1.given ≡ [] → IsOk result }
         ensures err { OnErr result (unit_view self.new ≡ unit_view self.old) }
     {
         match command {
@@ -210,8 +213,9 @@ impl<S: Store> LogicalUnit<S> {
         cdb: [u8; 16],
         data: &[u8],
     ) -> Result<Done, Memory>
-        ensures done { IfOk result (IsPerformed (perform_at nexus.now cdb «data».now (unit_view self.old)) (unit_view self.old) (unit_view self.new)) }
+        ensures done { IfOk result (IsPerformed (reads_of cdb (unit_view self.old)) (perform_at nexus.now cdb «data».now (unit_view self.old)) (unit_view self.old) (unit_view self.new)) }
         ensures given { IfOk result (λ done. length done.given ≤ most_given) }
+        ensures nothing { reads_of cdb (unit_view self.old) ≡ false → (perform_at nexus.now cdb «data».now (unit_view self.old)).1.given ≡ [] → IsOk result }
         ensures err { OnErr result (unit_view self.new ≡ unit_view self.old) }
     {
         let operation = match Cdb::operation(cdb, self.medium.kind()) {

@@ -1,10 +1,9 @@
 //! One logical unit.
 
-ghost use Rattle.std.specs.Prelude.{◌≡◌, ◌≤◌, length, IsTrue, IfOk, OnOk, OnErr, string_bytes};
-ghost use Rattle.media_store.specs.Failures.{NoneFailed};
-ghost use Rattle.scsi_unit.specs.Medium.{Disk as DiskMedium, Tape as TapeMedium, failures_of, honest_of};
+ghost use Rattle.std.specs.Prelude.{◌≡◌, ◌≤◌, ◌&&◌, [], length, false, IsOk, IfOk, OnOk, OnErr, string_bytes};
+ghost use Rattle.scsi_unit.specs.Medium.{Disk as DiskMedium, Tape as TapeMedium};
 ghost use Rattle.scsi_unit.specs.Commands.{most_given};
-ghost use Rattle.scsi_unit.specs.Unit.{unit_view, free_unit, joined_unit, left_unit, perform as performed, IsPerformed};
+ghost use Rattle.scsi_unit.specs.Unit.{unit_view, free_unit, joined_unit, left_unit, names_unit, reads_of, perform as performed, IsPerformed};
 
 use crate::fault::Memory;
 use crate::identity::without_unit;
@@ -94,7 +93,7 @@ impl<S: Store> Unit<S> {
     /// order: the LUN names this unit, it has the operation, the nexus has no attention to be told, the
     /// fields of the command descriptor block, the range, the data, the medium. A store that fails is told
     /// as UNRECOVERED READ ERROR, and nothing else changes. REPORT LUNS reports this unit alone. Where an
-    /// allocation fails nothing changes.
+    /// allocation fails nothing changes. A command that reads no block and gives no data takes no memory.
     #[tactic(auto, unfolding(crate::specs::Unit::perform))]
     pub fn perform(
         &mut self,
@@ -103,10 +102,9 @@ impl<S: Store> Unit<S> {
         cdb: [u8; 16],
         data: &[u8],
     ) -> Result<Done, Memory>
-        ensures exact { IfOk result (λ done. IsTrue (honest_of self.old.medium) → NoneFailed (failures_of self.old.medium) (failures_of self.new.medium)
-            → (self.new, done) ≡ performed nexus.now lun cdb «data».now self.old) }
+        ensures done { IfOk result (IsPerformed (names_unit lun self.old && reads_of cdb self.old) (performed nexus.now lun cdb «data».now self.old) self.old self.new) }
         ensures given { IfOk result (λ done. length done.given ≤ most_given) }
-        ensures done { IfOk result (IsPerformed (performed nexus.now lun cdb «data».now self.old) self.old self.new) }
+        ensures nothing { (names_unit lun self.old && reads_of cdb self.old) ≡ false → (performed nexus.now lun cdb «data».now self.old).1.given ≡ [] → IsOk result }
         ensures err { OnErr result (self.new ≡ self.old) }
     {
         if !self.unit.is_named(lun) {

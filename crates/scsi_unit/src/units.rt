@@ -1,16 +1,19 @@
 //! The logical units of one target.
 
-ghost use Rattle.std.specs.Prelude.{All, ◌≡◌, ◌<◌, ◌≤◌, ◌+◌, ◌++◌, ◌∷◌, ℕ, List, [], length, map, replicate, IfSome, IfOk, OnOk, OnErr, slice_set};
+ghost use Rattle.std.specs.Prelude.{All, ◌≡◌, ◌<◌, ◌≤◌, ◌+◌, ◌++◌, ◌∷◌, ℕ, List, [], length, map, replicate, false, IsOk, IfSome, IfOk, OnOk, OnErr, slice_set};
 ghost use Rattle.scsi_sense.specs.Nexus.{NexusName};
 ghost use Rattle.scsi_unit.specs.Commands.{most_given};
 ghost use Rattle.scsi_unit.specs.Unit.{unit_view, HasRoom, joined_unit, left_unit, lun_number as number_of_lun};
-ghost use Rattle.scsi_unit.specs.Units.{join, leave, perform as performed, unit_of, AreHonest, NoUnitFailed, AreSound, AreAnswered};
+ghost use Rattle.scsi_unit.specs.Units.{join, leave, perform as performed, unit_of, AreSound, AreSure, AreAnswered, IsTrusted, reads_at};
+ghost use Rattle.scsi_unit.specs.Identity.{reported_luns};
 
+use crate::commands::done_with;
 use crate::fault::Memory;
-use crate::identity::{reported_luns, without_unit};
+use crate::identity::{field_refused, report_luns, without_unit};
 use crate::logical_unit::{LogicalUnit, lun_number};
 use crate::unit::Unit;
 use media_store::Store;
+use scsi_cdb::{Command, Operation};
 use scsi_sense::{Done, Nexus};
 use std::alloc::Global;
 use std::marker::Model;
@@ -81,6 +84,35 @@ fn numbers<S: Store>(alloc: Global, units: &[LogicalUnit<S>]) -> Result<Vec<u8>,
     Ok(numbers)
 }
 
+/// REPORT LUNS with these bytes, to these units. It takes no memory where no data is given.
+#[tactic(auto, unfolding(crate::specs::Identity::reported_luns, crate::specs::Identity::luns_outcome))]
+fn reported_luns<S: Store>(
+    alloc: Global,
+    units: &[LogicalUnit<S>],
+    cdb: [u8; 16],
+) -> Result<Done, Memory>
+    ensures done { IfOk result (λ done. done ≡ reported_luns (map (λ unit. unit.lun) units.now) cdb) }
+    ensures given { IfOk result (λ done. length done.given ≤ most_given) }
+    ensures nothing { (reported_luns (map (λ unit. unit.lun) units.now) cdb).given ≡ [] → IsOk result }
+{
+    match Operation::ReportLuns.command(cdb) {
+        Ok(
+            Command::ReportLuns {
+                select,
+                allocation_length,
+            },
+        ) => {
+            if allocation_length == 0 {
+                return Ok(done_with(Vec::new(alloc)));
+            }
+            let numbers = numbers(alloc, units)?;
+            report_luns(alloc, numbers.as_slice(), select, allocation_length)
+        }
+        Ok(_) => Ok(field_refused(alloc)),
+        Err(sense) => Ok(Done::check_condition(alloc, sense)),
+    }
+}
+
 impl<S: Store + Drop> Units<S> {
     /// These units.
     pub fn new(alloc: Global, units: Vec<Unit<S>>) -> Result<Units<S>, Memory>
@@ -129,7 +161,8 @@ impl<S: Store> Units<S> {
     }
 
     /// A command with this data to the unit that the LUN names. REPORT LUNS reports all units. It gives
-    /// 1,048,576 bytes at most. Where an allocation fails nothing changes.
+    /// 1,048,576 bytes at most. Where an allocation fails nothing changes. A command that reads no block and
+    /// gives no data takes no memory.
     #[tactic(auto, unfolding(crate::specs::Units::perform))]
     pub fn perform(
         &mut self,
@@ -138,20 +171,22 @@ impl<S: Store> Units<S> {
         cdb: [u8; 16],
         data: &[u8],
     ) -> Result<Done, Memory>
-        ensures exact { IfOk result (λ done. AreHonest self.old → NoUnitFailed self.old self.new
+        ensures answered { IfOk result (AreAnswered nexus.now cdb «data».now (unit_of self.old (number_of_lun lun)) self.old self.new) }
+        ensures exact { IfOk result (λ done. IsTrusted cdb (unit_of self.old (number_of_lun lun)) self.old self.new
             → (self.new, done) ≡ performed self.old nexus.now lun cdb «data».now) }
         ensures sound { IfOk result (λ done. AreSound self.new → (self.new, done) ≡ performed self.old nexus.now lun cdb «data».now) }
         ensures back { AreSound self.new → AreSound self.old }
+        ensures sure { AreSure self.old → AreSure self.new }
         ensures given { IfOk result (λ done. length done.given ≤ most_given) }
-        ensures answered { IfOk result (AreAnswered nexus.now cdb «data».now (unit_of self.old (number_of_lun lun)) self.old self.new) }
+        ensures nothing { reads_at cdb self.old (unit_of self.old (number_of_lun lun)) ≡ false
+            → (performed self.old nexus.now lun cdb «data».now).1.given ≡ [] → IsOk result }
         ensures err { OnErr result (self.new ≡ self.old) }
     {
         let Some(at) = self.position(lun) else {
             return without_unit(self.alloc, cdb);
         };
         if cdb[0] == REPORT_LUNS {
-            let numbers = numbers(self.alloc, self.units.as_slice())?;
-            return reported_luns(self.alloc, numbers.as_slice(), cdb);
+            return reported_luns(self.alloc, self.units.as_slice(), cdb);
         }
         let unit = &mut self.units[at];
         unit.perform(self.alloc, nexus, cdb, data)

@@ -1,13 +1,3 @@
-pub mod Texts
-pub mod Lists
-pub mod Files
 pub mod OpenedUnits
-pub mod Entries
-pub mod Joint
-pub mod Connections
-pub mod Replies
-pub mod LineLemmas
-pub mod Taking
-pub mod Faults
 pub mod Ending
-pub mod Options
+pub mod Contents

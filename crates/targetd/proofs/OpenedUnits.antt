@@ -1,22 +1,20 @@
 -- Units of a configuration as they are opened, one after the other.
-use Rattle.std.proofs.Common.{◌≡◌, ℕ, zero, suc, ◌-◌, ◌*◌, ◌/◌, List, [], ◌∷◌, ◌++◌, length, map, refl, sym, ap, ◌∙◌, Bool, true, false, ◌&&◌, ◌||◌, arith}
+use Rattle.std.proofs.Common.{◌≡◌, ℕ, zero, suc, ◌-◌, ◌*◌, ◌/◌, ◌%◌, ◌<◌, List, [], ◌∷◌, ◌++◌, length, map, refl, sym, ap, subst, ◌∙◌, Bool, true, false, ◌&&◌, ◌||◌, IsTrue, arith}
 use Rattle.std.specs.Prelude.{replicate, String, string_bytes}
 use Rattle.std.specs.declared.alloc.Global.{Global}
 use Rattle.std.specs.List.{list_all}
+use Rattle.std.proofs.lemmas.Bool.{lt-ltb, eq-eqb}
 use Rattle.std.proofs.lemmas.List.{take-replicate, drop-replicate, length-replicate, length-map, map-append}
-use Rattle.media_block.specs.Blocks.{DiskState, block_length, blocks_of, disk_of}
-use Rattle.scsi_unit.specs.Medium.{MediumState, Disk}
+use Rattle.media_block.specs.Blocks.{DiskState, block_length, blocks_of, is_disk, disk_of}
+use Rattle.scsi_unit.specs.Medium.{MediumState}
 use Rattle.scsi_unit.specs.Unit.{UnitState, free_unit}
 use Rattle.scsi_unit.specs.Units.{UnitStates}
-use Rattle.targetd.specs.declared.store.MediumStore.{MediumStore}
-use Rattle.targetd.specs.declared.block_count.BlockCount.{BlockCount}
-use Rattle.targetd.specs.declared.configuration.MediumConfiguration.TheVariants as media
-use Rattle.targetd.specs.declared.configuration.UnitConfiguration.{UnitConfiguration}
-use Rattle.targetd.specs.Configuration.{TargetEntry, natural, names_of, unit_view, units_view, target_view, targets_view}
-use Rattle.targetd.specs.Limits.{unit_keeps, target_keeps}
-use Rattle.targetd.specs.declared.configuration.TargetConfiguration.{TargetConfiguration}
-use Rattle.targetd.specs.Store.{zero_store}
-use Rattle.targetd.specs.Opened.{zero_disk, IsUnitOf, AreEach, IsDiskOf, IsDiskUnit, has_lun, has_unit, AreUnitsOf}
+use Rattle.target_config.specs.declared.configuration.UnitConfiguration.{UnitConfiguration}
+use Rattle.target_config.specs.declared.configuration.TargetConfiguration.{TargetConfiguration}
+use Rattle.target_config.specs.Configuration.{UnitEntry, TargetEntry, natural, names_of, unit_view, units_view, target_view, targets_view}
+use Rattle.target_config.specs.Limits.{unit_keeps, target_keeps}
+use Rattle.targetd.specs.Opened.{Held, zero_disk, IsMediumOf, IsUnitOf, AreEach, AreUnitsOf}
+use Rattle.targetd.specs.Unopened.{has_file_unit, has_file_unit_at}
 
 -- the blocks of zeros are blocks of zeros
 zero_blocks : (count : ℕ) → blocks_of count (replicate (block_length * count) 0) ≡ replicate count (replicate block_length 0)
@@ -31,25 +29,32 @@ zero_content count =
     let whole : (block_length * count) / block_length ≡ count = omega arith in
     rw (length-replicate {A = ℕ} (block_length * count) 0, whole) (zero_blocks count)
 
-zero_opened : (count : ℕ) (disk : DiskState) → IsDiskOf (zero_store count) disk → disk ≡ zero_disk count
-zero_opened count disk h =
-    let blocks = h.blocks refl ∙ zero_content count in
-    ap (λ (blocks : List (List ℕ)). record { blocks = blocks; synced = disk.synced; failures = disk.failures; honest = disk.honest }) blocks
-    ∙ ap (λ (synced : Bool). record { blocks = replicate count (replicate block_length 0); synced = synced; failures = disk.failures; honest = disk.honest }) h.synced
-    ∙ ap (λ (failures : ℕ). record { blocks = replicate count (replicate block_length 0); synced = false; failures = failures; honest = disk.honest }) h.failures
-    ∙ ap (λ (honest : Bool). record { blocks = replicate count (replicate block_length 0); synced = false; failures = 0; honest = honest }) h.honest
+-- zero blocks, one at least, are a disk
+pub zeros_are_a_disk : (count : ℕ) → 0 < count → is_disk (replicate (block_length * count) 0) ≡ true
+zeros_are_a_disk count some =
+    let long : 0 < block_length * count = omega arith in
+    let whole : (block_length * count) % block_length ≡ 0 = omega arith in
+    rw (length-replicate {A = ℕ} (block_length * count) 0, lt-ltb 0 (block_length * count) long) (eq-eqb ((block_length * count) % block_length) 0 whole)
 
--- a unit over its own medium
-over : (unit : UnitState) (lun : ℕ) (serial : List ℕ) (medium : MediumState) → unit ≡ free_unit lun serial medium → unit ≡ free_unit lun serial unit.medium
-over unit lun serial medium e = e ∙ ap (λ (medium : MediumState). free_unit lun serial medium) (sym (ap (λ (unit : UnitState). unit.medium) e))
+-- a disk that was opened over zero blocks
+pub zero_opened : (count : ℕ) (disk : DiskState) → (IsTrue disk.honest → disk.blocks ≡ disk_of (replicate (block_length * count) 0)) → disk.synced ≡ false
+    → disk.failures ≡ 0 → disk.honest ≡ true → disk.steady ≡ true → disk ≡ zero_disk count
+zero_opened count disk said synced failures honest steady =
+    let blocks = said honest ∙ zero_content count in
+    ap (λ (blocks : List (List ℕ)). record disk { blocks = blocks }) blocks
+    ∙ ap (λ (b : Bool). record disk { blocks = replicate count (replicate block_length 0); synced = b }) synced
+    ∙ ap (λ (n : ℕ). record disk { blocks = replicate count (replicate block_length 0); synced = false; failures = n }) failures
+    ∙ ap (λ (b : Bool). record disk { blocks = replicate count (replicate block_length 0); synced = false; failures = 0; honest = b }) honest
+    ∙ ap (λ (b : Bool). record disk { blocks = replicate count (replicate block_length 0); synced = false; failures = 0; honest = true; steady = b }) steady
 
-pub memory_disk_unit : (entry : UnitConfiguration) (blocks : BlockCount) (lun : ℕ) (store : MediumStore) (unit : UnitState) → entry.medium ≡ media.MemoryDisk blocks → store ≡ zero_store blocks.number → lun ≡ natural entry.lun
-    → IsDiskUnit lun (string_bytes entry.serial) store unit → IsUnitOf (unit_view entry) unit
-memory_disk_unit entry blocks lun store unit is made number h =
-    let opened = zero_opened blocks.number h.disk (rw made at h.opened) in
+-- a unit over its medium
+pub unit_over : (held : Held) (entry : UnitEntry) (lun : ℕ) (medium : MediumState) (unit : UnitState) → unit ≡ free_unit lun entry.serial medium → lun ≡ natural entry.lun
+    → IsMediumOf held entry.medium medium → IsUnitOf held entry unit
+unit_over held entry lun medium unit free number is =
+    let same : unit.medium ≡ medium = ap (λ (unit : UnitState). unit.medium) free in
     record {
-      free = over unit (natural entry.lun) (string_bytes entry.serial) (Disk h.disk) (rw (← number) h.free);
-      medium = rw is (ap (λ (unit : UnitState). unit.medium) h.free ∙ ap Disk opened);
+      free = free ∙ ap (λ (n : ℕ). free_unit n entry.serial medium) number ∙ ap (λ (m : MediumState). free_unit (natural entry.lun) entry.serial m) (sym same);
+      medium = subst (λ (m : MediumState). IsMediumOf held entry.medium m) (sym same) is;
     }
 
 -- one more of each
@@ -74,18 +79,18 @@ true_or false b e = e
 
 -- the units behind one keep their limits, and have no LUN that those from it on lack
 pub units_next : (now rest : List UnitConfiguration) (unit : UnitConfiguration) (all : List UnitConfiguration) → now ≡ unit ∷ rest → list_all unit_keeps (units_view now) ≡ true
-    → ((lun : ℕ) → has_lun lun (units_view now) ≡ true → has_lun lun (units_view all) ≡ true)
-    → (list_all unit_keeps (units_view rest) ≡ true) × ((lun : ℕ) → has_lun lun (units_view rest) ≡ true → has_lun lun (units_view all) ≡ true)
+    → ((lun : ℕ) → has_file_unit lun (units_view now) ≡ true → has_file_unit lun (units_view all) ≡ true)
+    → (list_all unit_keeps (units_view rest) ≡ true) × ((lun : ℕ) → has_file_unit lun (units_view rest) ≡ true → has_file_unit lun (units_view all) ≡ true)
 units_next now rest unit all taken kept named =
-    ((both (unit_keeps (unit_view unit)) (list_all unit_keeps (units_view rest)) (rw taken at kept)).1, λ lun found. named lun (rw taken (true_or _ (has_lun lun (units_view rest)) found)))
+    ((both (unit_keeps (unit_view unit)) (list_all unit_keeps (units_view rest)) (rw taken at kept)).1, λ lun found. named lun (rw taken (true_or _ (has_file_unit lun (units_view rest)) found)))
 
 -- the same of targets
 pub targets_next : (now rest : List TargetConfiguration) (target : TargetConfiguration) (all : List TargetEntry) → now ≡ target ∷ rest → list_all target_keeps (targets_view now) ≡ true
-    → ((name : List ℕ) (lun : ℕ) → has_unit name lun (targets_view now) ≡ true → has_unit name lun all ≡ true)
-    → (list_all target_keeps (targets_view rest) ≡ true) × ((name : List ℕ) (lun : ℕ) → has_unit name lun (targets_view rest) ≡ true → has_unit name lun all ≡ true)
+    → ((name : List ℕ) (lun : ℕ) → has_file_unit_at name lun (targets_view now) ≡ true → has_file_unit_at name lun all ≡ true)
+    → (list_all target_keeps (targets_view rest) ≡ true) × ((name : List ℕ) (lun : ℕ) → has_file_unit_at name lun (targets_view rest) ≡ true → has_file_unit_at name lun all ≡ true)
 targets_next now rest target all taken kept named = (
   (both (target_keeps (target_view target)) (list_all target_keeps (targets_view rest)) (rw taken at kept)).1,
-  λ name lun found. named name lun (rw taken (true_or _ (has_unit name lun (targets_view rest)) found)),
+  λ name lun found. named name lun (rw taken (true_or _ (has_file_unit_at name lun (targets_view rest)) found)),
 )
 
 -- one more name
@@ -95,11 +100,11 @@ names_next targets target names now pushed e =
     rw (pushed, map-append string_bytes names (target.name ∷ []), e, map-append target_view targets (target ∷ [])) (sym (map-append (λ (target : TargetEntry). target.name) (targets_view targets) (target_view target ∷ [])))
 
 -- a target is made with units for each of its names
-pub as_many : (targets : List TargetEntry) (units : List UnitStates) (names : List (String Global)) → AreUnitsOf targets units → map string_bytes names ≡ names_of targets → length units ≡ length names
-as_many targets units names opened e =
+pub as_many : (held : Held) (targets : List TargetEntry) (units : List UnitStates) (names : List (String Global)) → AreUnitsOf held targets units → map string_bytes names ≡ names_of targets → length units ≡ length names
+as_many held targets units names opened e =
     as_long targets units opened ∙ sym (length-map targets (λ target. target.name)) ∙ sym (ap length e) ∙ length-map names string_bytes
   where
-    as_long : (targets : List TargetEntry) (units : List UnitStates) → AreUnitsOf targets units → length units ≡ length targets
+    as_long : (targets : List TargetEntry) (units : List UnitStates) → AreUnitsOf held targets units → length units ≡ length targets
     as_long [] [] h = refl
     as_long [] (u ∷ us) h = absurd h
     as_long (t ∷ ts) [] h = absurd h

@@ -1,11 +1,17 @@
--- The exit statuses.
-use Rattle.std.specs.Prelude.{ℕ, Result, Ok, Err}
-use Rattle.targetd.specs.declared.fault.Fault.{Fault}
-use Rattle.targetd.specs.declared.fault.Fault.TheVariants as faults
+-- The exit statuses, and what the faults of the parts are told as.
+use Rattle.std.specs.Prelude.{ℕ, Option, Some, None, Result, Ok, Err}
+use Rattle.command_line.specs.declared.fault.WordsFault.{WordsFault}
+use Rattle.command_line.specs.declared.fault.WordsFault.TheVariants as words
 use Rattle.iscsi_serve.specs.declared.bind_fault.BindFault.{BindFault}
 use Rattle.iscsi_serve.specs.declared.bind_fault.BindFault.TheVariants as binds
+use Rattle.target_config.specs.Fault.{number_of}
+use Rattle.target_config.specs.declared.fault.ConfigFault.{ConfigFault}
+use Rattle.target_replay.specs.declared.fault.ReplayFault.{ReplayFault}
+use Rattle.target_replay.specs.declared.fault.ReplayFault.TheVariants as replays
+use Rattle.targetd.specs.declared.fault.Fault.{Fault}
+use Rattle.targetd.specs.declared.fault.Fault.TheVariants as faults
 
--- profile: 0 is the end of input, 1 the configuration, 2 what the caller wrote, 3 what failed around the program
+-- profile: 0 is the end of input or turns, 1 the configuration, 2 what the caller wrote, 3 what failed around the program
 abbrev pub status_of : Result (Unit {0}) Fault → ℕ
 status_of (Ok end) = 0
 status_of (Err (faults.Configuration number)) = 1
@@ -16,6 +22,26 @@ status_of (Err faults.Socket) = 3
 status_of (Err faults.Input) = 3
 status_of (Err faults.Output) = 3
 status_of (Err faults.OutOfMemory) = 3
+
+-- why the words are no command
+abbrev pub words_fault : WordsFault → Fault
+words_fault words.Usage = faults.Usage
+words_fault words.Memory = faults.OutOfMemory
+
+abbrev pub numbered : Option ℕ → Fault
+numbered (Some number) = faults.Configuration number
+numbered None = faults.OutOfMemory
+
+-- why the configuration cannot be used
+abbrev pub config_fault : ConfigFault → Fault
+config_fault fault = numbered (number_of fault)
+
+-- why a replay ended
+abbrev pub replay_fault : ReplayFault → Fault
+replay_fault (replays.Refused line) = faults.Refused line
+replay_fault replays.Input = faults.Input
+replay_fault replays.Output = faults.Output
+replay_fault replays.OutOfMemory = faults.OutOfMemory
 
 -- why nothing listens
 abbrev pub bind_fault : BindFault → Fault

@@ -1,20 +1,28 @@
 -- How a run of the program ends.
-use Rattle.std.specs.Prelude.{◌≡◌, ◌≢◌, ◌⊎◌, ℕ, List, map, IsErrAnd, Option, None, Some, Result, Ok, Err}
+use Rattle.std.specs.Prelude.{◌≡◌, ◌⊎◌, ℕ, true, List, [], ◌∷◌, IsErrAnd, Option, None, Some, Result, Ok, Err}
 use Rattle.std.specs.Io.KnownBytes.{Keeps}
-use Rattle.iscsi_target.specs.World.{Setting}
-use Rattle.targetd.specs.declared.config.fault.ConfigFault.{ConfigFault}
-use Rattle.targetd.specs.declared.config.fault.ConfigFault.TheVariants.{Unreadable}
-use Rattle.targetd.specs.declared.fault.Fault.{Fault}
-use Rattle.targetd.specs.declared.fault.Fault.TheVariants.{Usage, OutOfMemory}
-use Rattle.targetd.specs.Configuration.{Document, names_of}
-use Rattle.targetd.specs.Config.{program_fault, file_config_of}
+use Rattle.std.specs.Net.Socket.{socket_ip, socket_port}
+use Rattle.std.specs.declared.net.socket_addr.SocketAddr.{SocketAddr}
+use Rattle.call_record.specs.Noted.{Noted}
+use Rattle.command_line.specs.Words.{Command, Replay, Serve}
 use Rattle.scsi_unit.specs.Units.{UnitStates}
-use Rattle.iscsi_target.specs.Machine.{WhereSound}
-use Rattle.targetd.specs.declared.engine.Engine.{Engine}
-use Rattle.targetd.specs.Opened.{AreUnitsOf, IsUnopened}
-use Rattle.targetd.specs.Words.{Command, Replay, Serve}
-use Rattle.targetd.specs.Replay.{Ends, EndsBy}
-use Rattle.targetd.specs.Serve.{Serves}
+use Rattle.iscsi_target.specs.World.{Setting}
+use Rattle.iscsi_target.specs.Machine.{Machine, WhereSound, IsSound, new_machine}
+use Rattle.iscsi_serve.specs.Log.{Entry, Listened, Located}
+use Rattle.iscsi_serve.specs.Calls.{ip_octets}
+use Rattle.target_config.specs.Configuration.{Document, names_of, keeps_in_memory}
+use Rattle.target_config.specs.Config.{file_config_of}
+use Rattle.target_config.specs.declared.fault.ConfigFault.{ConfigFault}
+use Rattle.target_config.specs.declared.fault.ConfigFault.TheVariants.{Unreadable}
+use Rattle.target_replay.specs.Replay.{Ends, EndsBy}
+use Rattle.target_replay.specs.declared.fault.ReplayFault.{ReplayFault}
+use Rattle.targetd.specs.declared.fault.Fault.{Fault}
+use Rattle.targetd.specs.declared.fault.Fault.TheVariants.{Usage, Socket, OutOfMemory}
+use Rattle.targetd.specs.Fault.{config_fault, replay_fault}
+use Rattle.targetd.specs.ConfigFile.{told_of}
+use Rattle.targetd.specs.Opened.{Held, AreUnitsOf}
+use Rattle.targetd.specs.Unopened.{IsUnopened}
+use Rattle.targetd.specs.Serve.{listening_line, Serves}
 
 -- what the target of a configuration is made with, where these are its units
 abbrev pub setting_of : Document → List UnitStates → Setting
@@ -25,7 +33,49 @@ abbrev pub configured_by : Option (List ℕ) → Result Document ConfigFault
 configured_by None = Err Unreadable
 configured_by (Some contents) = file_config_of contents
 
-module _ (left : Option Engine) (unread unread_then printed printed_then : Option (List ℕ)) where
+-- what ports tell before they are served: the address that they were asked for, and where they listen
+abbrev pub listening : List ℕ → SocketAddr → List Entry
+listening text address = Listened text ∷ Located (ip_octets (socket_ip address)) (socket_port address) ∷ []
+
+-- what serving left: what its ports told, and its target
+pub record ServedState : Type 0 where
+  pub log : List Entry
+  pub target : Machine
+
+-- what a run left: what was told of the configuration's file, the target of a replay, what serving left
+pub record LeftState : Type 0 where
+  pub told : List Noted
+  pub replayed : Option Machine
+  pub served : Option ServedState
+
+-- why a run ends before it has made a target: its configuration, a unit in a file, or an allocation
+abbrev pub FailsEarly : Result Document ConfigFault → Fault → Type 0
+FailsEarly (Ok document) fault = IsUnopened document.targets fault
+FailsEarly (Err why) fault = (fault ≡ OutOfMemory) ⊎ (fault ≡ config_fault why)
+
+module _ (held : Held) (left : LeftState) (printed printed_then : Option (List ℕ)) where
+  -- Serving at these units, from a new target, by ports that were asked for the configured address and told where they
+  -- listen. It leaves both; a target of which no unit is in a file is sound.
+  pub record IsServing (document : Document) (count : ℕ) (result : Result (Unit {0}) Fault) : Type 0 where
+    pub units : List UnitStates
+    pub opened : AreUnitsOf held document.targets units
+    pub served : ServedState
+    pub is_left : left.served ≡ Some served
+    pub sure : keeps_in_memory document ≡ true → IsSound served.target
+    -- where they listen
+    pub address : SocketAddr
+    pub serves : Serves (listening_line address) count true (listening document.listen address) served.log (new_machine (names_of document.targets) units) served.target printed printed_then result
+
+  abbrev pub IsServingAt : ℕ → Result Document ConfigFault → Result (Unit {0}) Fault → Type 0
+  IsServingAt count (Ok document) result = IsServing document count result
+  IsServingAt count (Err why) result = ⊥
+
+  -- how serving at this configuration ends: before it listens, or by its turns
+  abbrev pub ServesAt : ℕ → Result Document ConfigFault → Result (Unit {0}) Fault → Type 0
+  ServesAt count configured result =
+      (Keeps printed printed_then × IsErrAnd result (λ fault. (fault ≡ Socket) ⊎ FailsEarly configured fault)) ⊎ IsServingAt count configured result
+
+module _ (held : Held) (left : LeftState) (unread unread_then printed printed_then : Option (List ℕ)) where
   -- nothing was read or printed
   abbrev pub IsUntouched : Type 0
   IsUntouched = Keeps unread unread_then × Keeps printed printed_then
@@ -33,24 +83,34 @@ module _ (left : Option Engine) (unread unread_then printed printed_then : Optio
   -- how the lines of a replay end
   abbrev pub CarriesOut : Setting → Result (Unit {0}) Fault → Type 0
   CarriesOut s (Ok end) = Ends unread unread_then printed printed_then s
-  CarriesOut s (Err fault) = EndsBy unread unread_then printed printed_then s fault
+  CarriesOut s (Err fault) = (why : ReplayFault) × (fault ≡ replay_fault why) × EndsBy unread unread_then printed printed_then s why
 
-  -- a replay at these units, which leaves a target: where that is sound, the lines were carried out
+  -- a replay at these units, which leaves a target: where that is sound, as it is if no unit is in a file, the lines
+  -- were carried out
   pub record IsReplay (document : Document) (result : Result (Unit {0}) Fault) : Type 0 where
     pub units : List UnitStates
-    pub opened : AreUnitsOf document.targets units
-    pub engine : Engine
-    pub is_left : left ≡ Some engine
-    pub carried : WhereSound engine.target (CarriesOut (setting_of document units) result)
+    pub opened : AreUnitsOf held document.targets units
+    pub target : Machine
+    pub is_left : left.replayed ≡ Some target
+    pub sure : keeps_in_memory document ≡ true → IsSound target
+    pub carried : WhereSound target (CarriesOut (setting_of document units) result)
 
-  -- how a replay at this configuration ends
+  abbrev pub IsReplayAt : Result Document ConfigFault → Result (Unit {0}) Fault → Type 0
+  IsReplayAt (Ok document) result = IsReplay document result
+  IsReplayAt (Err why) result = ⊥
+
+  -- how a replay at this configuration ends: before its first line, or by its lines
   abbrev pub Replays : Result Document ConfigFault → Result (Unit {0}) Fault → Type 0
-  Replays (Ok document) result = (IsUntouched × IsErrAnd result (IsUnopened document.targets)) ⊎ IsReplay document result
-  Replays (Err why) (Ok end) = ⊥
-  Replays (Err why) (Err fault) = IsUntouched × (fault ≢ OutOfMemory → fault ≡ program_fault why)
+  Replays configured result = (IsUntouched × IsErrAnd result (FailsEarly configured)) ⊎ IsReplayAt configured result
 
-  -- how a run by these words ends, whatever the file of the configuration holds
-  abbrev pub Runs : Option Command → Result (Unit {0}) Fault → Type 0
-  Runs None result = IsUntouched × (result ≡ Err Usage)
-  Runs (Some (Replay config)) result = (file : Option (List ℕ)) × Replays (configured_by file) result
-  Runs (Some (Serve config turns)) result = Keeps unread unread_then × ((file : Option (List ℕ)) × Serves printed printed_then (configured_by file) result)
+  -- an allocation failed before anything was read or printed
+  abbrev pub IsStarved : Result (Unit {0}) Fault → Type 0
+  IsStarved result = (result ≡ Err OutOfMemory) × IsUntouched
+
+  -- How a run by these words ends. What the file of the configuration holds is what was told of it, by its path.
+  abbrev pub Runs : List Noted → Option Command → Result (Unit {0}) Fault → Type 0
+  Runs told None result = IsUntouched × IsErrAnd result (λ fault. (fault ≡ Usage) ⊎ (fault ≡ OutOfMemory))
+  Runs told (Some (Replay path)) result = IsStarved result ⊎ ((file : Option (List ℕ)) × (left.told ≡ told_of path file told) × Replays (configured_by file) result)
+  Runs told (Some (Serve path turns)) result =
+      IsStarved result
+      ⊎ (Keeps unread unread_then × ((file : Option (List ℕ)) × (left.told ≡ told_of path file told) × ServesAt held left printed printed_then turns (configured_by file) result))

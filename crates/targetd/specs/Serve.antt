@@ -1,32 +1,40 @@
--- What serving prints.
-use Rattle.std.specs.Prelude.{◌≡◌, ◌≢◌, ◌⊎◌, ℕ, ◌++◌, IsErrAnd, List, codes, Option, Result, Ok, Err}
+-- What serving prints, and what its loop did.
+use Rattle.std.specs.Prelude.{◌≡◌, ◌⊎◌, ℕ, List, ◌++◌, codes, Bool, true, Option, Result, Ok, Err, IsErrAnd}
 use Rattle.std.specs.Io.KnownBytes.{Appends, Keeps}
-use Rattle.targetd.specs.Config.{program_fault}
-use Rattle.targetd.specs.Configuration.{Document}
-use Rattle.targetd.specs.Opened.{IsUnopened}
-use Rattle.targetd.specs.declared.config.fault.ConfigFault.{ConfigFault}
+use Rattle.std.specs.Net.Text.{socket_text}
+use Rattle.std.specs.declared.net.socket_addr.SocketAddr.{SocketAddr}
+use Rattle.iscsi_target.specs.Machine.{Machine, IsSound, IsSure}
+use Rattle.iscsi_serve.specs.Log.{Entry}
+use Rattle.iscsi_serve.specs.Served.{StaysServed}
+use Rattle.iscsi_serve.specs.Turn.{Moment, log_of, beginning, EndsTurns}
+use Rattle.iscsi_serve.specs.declared.fault.ServeFault.{ServeFault}
 use Rattle.targetd.specs.declared.fault.Fault.{Fault}
 use Rattle.targetd.specs.declared.fault.Fault.TheVariants as faults
 
 -- profile: the line that says where the target listens
-abbrev pub listening_line : List ℕ → List ℕ
-listening_line address = codes "listening on " ++ address ++ codes "\n"
+abbrev pub listening_line : SocketAddr → List ℕ
+listening_line address = codes "listening on " ++ socket_text address ++ codes "\n"
 
-module _ (printed printed_then : Option (List ℕ)) where
-  -- a front of that line was printed
-  abbrev pub HasBegun : Type 0
-  HasBegun = (address : List ℕ) × (front : List ℕ) × (unprinted : List ℕ) × (listening_line address ≡ front ++ unprinted) × Appends printed printed_then front
+-- profile: a fault of the loop ends the program as one of the sockets
+abbrev pub ended_by : Result (Unit {0}) ServeFault → Result (Unit {0}) Fault
+ended_by (Ok end) = Ok end
+ended_by (Err fault) = Err faults.Socket
 
-  -- serving ends by its turns, by sockets that fail, by output that does, or where an allocation fails
-  abbrev pub Announces : Result (Unit {0}) Fault → Type 0
-  Announces (Ok end) = (address : List ℕ) × Appends printed printed_then (listening_line address)
-  Announces (Err faults.Socket) = HasBegun
-  Announces (Err faults.OutOfMemory) = HasBegun
-  Announces (Err faults.Output) = HasBegun
-  Announces (Err fault) = ⊥
+module _ (line : List ℕ) (count : ℕ) (tells : Bool) (log log_then : List Entry) (target target_then : Machine) (printed printed_then : Option (List ℕ)) where
+  -- the line was not printed whole: an allocation failed, or the output
+  abbrev pub FailsToPrint : Fault → Type 0
+  FailsToPrint fault = ((fault ≡ faults.OutOfMemory) × Keeps printed printed_then)
+      ⊎ ((fault ≡ faults.Output) × ((front : List ℕ) × (unprinted : List ℕ) × (line ≡ front ++ unprinted) × Appends printed printed_then front))
 
-  -- how serving at this configuration ends
-  abbrev pub Serves : Result Document ConfigFault → Result (Unit {0}) Fault → Type 0
-  Serves (Ok document) result = (Keeps printed printed_then × IsErrAnd result (IsUnopened document.targets)) ⊎ Announces result
-  Serves (Err why) (Ok end) = ⊥
-  Serves (Err why) (Err fault) = Keeps printed printed_then × (fault ≢ faults.OutOfMemory → fault ≡ program_fault why)
+  -- the line was printed, and the loop made so many turns, or those up to its first fault: of every target what it did
+  -- turn by turn, and of a sound one that what was written is what the World answers
+  pub record HasServed (ended : Result (Unit {0}) ServeFault) : Type 0 where
+    pub announced : Appends printed printed_then line
+    pub turned : tells ≡ true → (m : Moment) × (log_then ≡ log_of m) × (target_then ≡ m.target) × EndsTurns count (beginning target log) ended m
+    pub served : tells ≡ true → IsSound target_then → StaysServed log log_then target target_then
+    pub sure : IsSure target → IsSure target_then
+
+  -- nothing was served where the line was not printed; otherwise the program ends as the loop did
+  abbrev pub Serves : Result (Unit {0}) Fault → Type 0
+  Serves result = (IsErrAnd result FailsToPrint × (log_then ≡ log) × (target_then ≡ target))
+      ⊎ ((ended : Result (Unit {0}) ServeFault) × (result ≡ ended_by ended) × HasServed ended)

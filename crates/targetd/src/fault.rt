@@ -1,12 +1,15 @@
-//! How a run ends that does not reach the end of its input.
+//! How a run ends that does not reach the end of its input or of its turns.
 
 ghost use Rattle.std.specs.Prelude.{◌≡◌, Result};
-ghost use Rattle.targetd.specs.Fault.{status_of as exit_status, bind_fault};
+ghost use Rattle.targetd.specs.Fault.{status_of as exit_status, words_fault, config_fault, replay_fault, bind_fault};
 ghost use Rattle.targetd.specs.declared.fault.Fault.TheVariants.{OutOfMemory, Socket};
 
+use command_line::WordsFault;
 use iscsi_serve::{BindFault, ServeFault};
 use iscsi_target::Memory;
 use std::alloc::{AllocError, AllocFailed};
+use target_config::ConfigFault;
+use target_replay::ReplayFault;
 use thiserror::Error;
 
 /// Why the run ended. Its text is its line on standard error.
@@ -72,6 +75,41 @@ impl From<Memory> for Fault {
 
     fn from(_error: Memory) -> Fault {
         Fault::OutOfMemory
+    }
+}
+
+impl From<WordsFault> for Fault {
+    ghost from_gives = { λ error fault. fault ≡ words_fault error };
+
+    fn from(error: WordsFault) -> Fault {
+        match error {
+            WordsFault::Usage => Fault::Usage,
+            WordsFault::Memory => Fault::OutOfMemory,
+        }
+    }
+}
+
+impl From<ConfigFault> for Fault {
+    ghost from_gives = { λ error fault. fault ≡ config_fault error };
+
+    fn from(error: ConfigFault) -> Fault {
+        match error.number() {
+            Some(number) => Fault::Configuration { number },
+            None => Fault::OutOfMemory,
+        }
+    }
+}
+
+impl From<ReplayFault> for Fault {
+    ghost from_gives = { λ error fault. fault ≡ replay_fault error };
+
+    fn from(error: ReplayFault) -> Fault {
+        match error {
+            ReplayFault::Refused { line } => Fault::Refused { line },
+            ReplayFault::Input => Fault::Input,
+            ReplayFault::Output => Fault::Output,
+            ReplayFault::OutOfMemory => Fault::OutOfMemory,
+        }
     }
 }
 

@@ -23,21 +23,15 @@
 //! 0 closed           the target has closed it
 //! ```
 //!
-//! A run that ends with its input has status 0. Any other prints its [`Fault`], and ends with the
-//! fault's status.
+//! A run that ends with its input or its turns has status 0. Any other prints its [`Fault`], and ends
+//! with the fault's status.
 #![tactic(auto)]
 
 mod arguments;
-mod block_count;
-mod config;
-mod configuration;
-mod engine;
+mod config_file;
 mod fault;
-mod line;
+mod left;
 mod opening;
-mod printing;
-mod replay;
-mod reply;
 mod run;
 mod serve;
 mod store;
@@ -45,6 +39,8 @@ mod words;
 
 use arguments::arguments;
 use fault::{Fault, status_of};
+use left::Left;
+use media_store::Unknown;
 use run::run;
 use std::io;
 use std::process::ExitCode;
@@ -52,10 +48,10 @@ use std::process::ExitCode;
 /// Does what the words of the command line say.
 fn carry_out(rt: &HostRuntime) -> Result<(), Fault> {
     let words = arguments(rt)?;
-    run(
+    run::<Unknown, _, _>(
         rt,
         words.as_slice(),
-        &mut None,
+        &mut Left::new(),
         &mut rt.reader(),
         &mut io::writer(rt),
     )

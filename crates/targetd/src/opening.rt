@@ -3,39 +3,37 @@
 ghost use Rattle.std.specs.Prelude.{◌≡◌, ◌≢◌, IfOk, IfErr, true, map, string_bytes};
 ghost use Rattle.std.specs.IoError.{error_kind};
 ghost use Rattle.std.specs.List.{list_all};
-ghost use Rattle.targetd.specs.Configuration.{natural, names_of, unit_view, units_view, targets_view, configuration_view};
-ghost use Rattle.targetd.specs.Limits.{is_lun, unit_keeps, keeps_limits};
-ghost use Rattle.targetd.specs.Store.{zero_store, opened_file};
-ghost use Rattle.targetd.specs.Opened.{IsUnitOf, IsDiskUnit, AreEach, AreUnitsOf, IsUnopened};
-ghost use Rattle.targetd.specs.Unopened.{IsFaultAt, IsFaultIn};
+ghost use Rattle.target_config.specs.Configuration.{natural, names_of, unit_view, units_view, targets_view, configuration_view};
+ghost use Rattle.target_config.specs.Limits.{is_lun, unit_keeps, keeps_limits};
+ghost use Rattle.targetd.specs.Opened.{zero_disk, IsFileDisk, IsUnitOf, AreEach, AreUnitsOf};
+ghost use Rattle.targetd.specs.Unopened.{IsFaultAt, IsFaultIn, IsUnopened};
 ghost use Rattle.targetd.specs.declared.opening.Unopened.TheVariants.{Device, Memory as OutOfMemory};
 
-use crate::block_count::BlockCount;
-use crate::configuration::{Configuration, MediumConfiguration, UnitConfiguration};
 use crate::fault::Fault;
-use crate::store::MediumStore;
+use crate::store::{MediumStore, SystemStore};
 use iscsi_target::Config;
 use media_block::{BLOCK_LENGTH, Disk};
-use media_store::{FileStore, MemStore};
+use media_store::{FileStore, MemStore, Start, Store, SystemFile};
 use scsi_unit::{Memory, Unit, Units};
 use std::alloc::{AllocError, AllocFailed, Global};
-use std::fs::{File, OpenOptions};
+use std::fs::File;
 use std::io;
 use std::io::ErrorKind;
 use std::rt::Files;
+use target_config::{BlockCount, Configuration, MediumConfiguration, UnitConfiguration};
 
 /// What a target is made with.
 #[derive(Drop)]
-pub struct Setup {
+pub struct Setup<S: Start> {
     pub config: Config,
     /// Of each target, in order.
-    pub units: Vec<Units<MediumStore>>,
+    pub units: Vec<Units<SystemStore<S>>>,
 }
 
 /// Why a unit is not opened.
 #[derive(Clone, Copy, Debug, PartialEq, Eq)]
 enum Unopened {
-    /// Its medium cannot be read and written, or is no disk.
+    /// Its file cannot be read and written, or is no disk.
     Device { lun: u8 },
     /// An allocation failed.
     Memory,
@@ -65,37 +63,16 @@ impl From<Memory> for Unopened {
     }
 }
 
-/// A store of zero blocks in memory.
-fn memory_store(alloc: Global, blocks: BlockCount) -> Result<MediumStore, AllocError>
-    ensures { IfOk result (λ store. store ≡ zero_store blocks.number) }
+/// A disk of zero blocks in memory. Such a store is a disk and does not fail, so only an allocation can.
+fn memory_disk<F: Store + Drop>(
+    alloc: Global,
+    blocks: BlockCount,
+) -> Result<Disk<MediumStore<F>>, AllocError>
+    ensures { IfOk result (λ disk. disk ≡ zero_disk blocks.number) }
 {
     let length = BLOCK_LENGTH * blocks.number as usize;
     let store = MemStore::new(alloc, length, length)?;
-    Ok(MediumStore::Memory(store))
-}
-
-/// A file that is opened for reading and writing. None is made.
-fn open_file(rt: &impl Files<File = File>, path: &str) -> io::Result<MediumStore>
-    ensures { IfOk result (λ store. store ≡ opened_file) }
-{
-    let file = OpenOptions::new().read(true).write(true).open(rt, path)?;
-    Ok(MediumStore::File(FileStore::new(file)))
-}
-
-/// A disk over a store.
-fn disk_unit(
-    alloc: Global,
-    lun: u8,
-    serial: String,
-    store: MediumStore,
-) -> Result<Unit<MediumStore>, Unopened>
-    ensures unit { IfOk result (IsDiskUnit lun (string_bytes serial) store) }
-    ensures fault { IfErr result (λ why. why ≡ Device lun) }
-{
-    match Disk::open(store) {
-        Ok(disk) => Ok(Unit::disk(alloc, lun, serial, disk)),
-        Err(_) => Err(Unopened::Device { lun }),
-    }
+    Ok(Disk::open(MediumStore::Memory(store)).unwrap())
 }
 
 /// What an error of the system at the file of a unit is told as.
@@ -109,14 +86,32 @@ fn fault_of(error: &io::Error, lun: u8) -> Unopened
     }
 }
 
+/// A disk in the file at a path, which is opened for reading and writing. None is made.
+fn file_disk<S: Start>(
+    rt: &impl Files<File = File>,
+    path: String,
+    lun: u8,
+) -> Result<Disk<SystemStore<S>>, Unopened>
+    ensures disk { IfOk result (IsFileDisk (S.held (string_bytes path))) }
+    ensures fault { IfErr result (λ why. why ≢ OutOfMemory → why ≡ Device lun) }
+{
+    match SystemFile::open(rt, path.as_str()) {
+        Ok(file) => match Disk::open(MediumStore::File(FileStore::new(file, path))) {
+            Ok(disk) => Ok(disk),
+            Err(_) => Err(Unopened::Device { lun }),
+        },
+        Err(error) => Err(fault_of(&error, lun)),
+    }
+}
+
 /// A unit over its medium.
-fn open_unit(
+fn open_unit<S: Start>(
     rt: &(impl Files<File = File> + AllocGlobal),
     unit: UnitConfiguration,
-) -> Result<Unit<MediumStore>, Unopened>
+) -> Result<Unit<SystemStore<S>>, Unopened>
     requires { is_lun unit.lun ≡ true }
-    ensures unit { IfOk result (IsUnitOf (unit_view unit)) }
-    ensures fault { IfErr result (IsFaultAt (natural unit.lun)) }
+    ensures unit { IfOk result (IsUnitOf S.held (unit_view unit)) }
+    ensures fault { IfErr result (IsFaultAt (unit_view unit)) }
 {
     let alloc = rt.alloc();
     let UnitConfiguration {
@@ -127,23 +122,22 @@ fn open_unit(
     let lun = lun as u8;
     match medium {
         MediumConfiguration::MemoryDisk(blocks) => {
-            disk_unit(alloc, lun, serial, memory_store(alloc, blocks)?)
+            Ok(Unit::disk(alloc, lun, serial, memory_disk(alloc, blocks)?))
         }
-        MediumConfiguration::FileDisk(path) => match open_file(rt, path.as_str()) {
-            Ok(store) => disk_unit(alloc, lun, serial, store),
-            Err(error) => Err(fault_of(&error, lun)),
-        },
+        MediumConfiguration::FileDisk(path) => {
+            Ok(Unit::disk(alloc, lun, serial, file_disk(rt, path, lun)?))
+        }
         MediumConfiguration::MemoryTape { .. } => Ok(Unit::tape(alloc, lun, serial)),
     }
 }
 
 /// The units of a target, opened in their order.
-fn open_units(
+fn open_units<S: Start>(
     rt: &(impl Files<File = File> + AllocGlobal),
     units: Vec<UnitConfiguration>,
-) -> Result<Units<MediumStore>, Unopened>
+) -> Result<Units<SystemStore<S>>, Unopened>
     requires { list_all unit_keeps (units_view units.items) ≡ true }
-    ensures units { IfOk result (AreEach IsUnitOf (units_view units.items)) }
+    ensures units { IfOk result (AreEach (IsUnitOf S.held) (units_view units.items)) }
     ensures fault { IfErr result (IsFaultIn (units_view units.items)) }
 {
     let alloc = rt.alloc();
@@ -155,14 +149,14 @@ fn open_units(
 }
 
 /// Opens the units of all targets, in the order of the configuration.
-pub fn open(
+pub fn open<S: Start>(
     rt: &(impl Files<File = File> + AllocGlobal),
     configuration: Configuration,
-) -> Result<Setup, Fault>
+) -> Result<Setup<S>, Fault>
     requires { keeps_limits (configuration_view configuration) ≡ true }
     ensures listen { IfOk result (λ setup. string_bytes setup.config.listen ≡ string_bytes configuration.listen) }
     ensures names { IfOk result (λ setup. map string_bytes setup.config.targets.items ≡ names_of (targets_view configuration.targets.items)) }
-    ensures units { IfOk result (λ setup. AreUnitsOf (targets_view configuration.targets.items) setup.units.items) }
+    ensures units { IfOk result (λ setup. AreUnitsOf S.held (targets_view configuration.targets.items) setup.units.items) }
     ensures fault { IfErr result (IsUnopened (targets_view configuration.targets.items)) }
 {
     let mut targets = Vec::new(rt.alloc());

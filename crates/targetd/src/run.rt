@@ -1,71 +1,38 @@
-//! A whole run: its words, its configuration, its target, its lines.
+//! A whole run: its words, its configuration, its target, its lines or its turns.
 
-ghost use Rattle.std.specs.Prelude.{◌≡◌, ◌≢◌, IfOk, IfErr, IfSome, map, string_bytes, take};
-ghost use Rattle.std.specs.IoError.{error_kind};
-ghost use Rattle.targetd.specs.Config.{file_config_of};
-ghost use Rattle.targetd.specs.Words.{mode_in};
-ghost use Rattle.targetd.specs.Run.{Replays, Runs};
-ghost use Rattle.targetd.specs.Serve.{Serves};
+ghost use Rattle.std.specs.Prelude.{◌≡◌, map, string_bytes};
+ghost use Rattle.command_line.specs.Words.{mode_in};
+ghost use Rattle.target_config.specs.Config.{file_config_of};
+ghost use Rattle.targetd.specs.Left.{left_view};
+ghost use Rattle.targetd.specs.Run.{Replays, ServesAt, Runs};
 
-use crate::config::fault::ConfigFault;
-use crate::config::{MOST_BYTES, file_config};
-use crate::engine::Engine;
+use crate::config_file::load;
 use crate::fault::Fault;
+use crate::left::{Left, Served};
 use crate::opening::{Setup, open};
-use crate::replay::replay;
 use crate::serve::serve;
-use crate::words::{Mode, mode_of};
-use iscsi_serve::MioPorts;
+use crate::words::texts;
+use command_line::{Mode, mode_of};
+use iscsi_serve::{MioPorts, Ports};
 use iscsi_target::Target;
-use std::alloc::Global;
+use media_store::Start;
 use std::fs::File;
-use std::io;
-use std::io::{ErrorKind, Read, Write};
+use std::io::{Read, Write};
 use std::net::Net;
 use std::rt::Files;
-
-/// What an error of the system at the configuration's file is told as.
-fn unreadable(error: io::Error) -> ConfigFault
-    ensures memory { error_kind error ≡ ErrorKind.OutOfMemory → result ≡ ConfigFault.OutOfMemory }
-    ensures other { error_kind error ≢ ErrorKind.OutOfMemory → result ≡ ConfigFault.Unreadable }
-{
-    match error.kind() {
-        ErrorKind::OutOfMemory => ConfigFault::OutOfMemory,
-        _ => ConfigFault::Unreadable,
-    }
-}
-
-/// What a file holds, up to one byte more than a configuration may have.
-fn contents<F: Read + Drop>(alloc: Global, file: F) -> Result<Vec<u8>, ConfigFault>
-    ensures contents { IfOk result (λ contents. IfSome (F.remaining file) (λ all. contents.items ≡ take 1048577 all)) }
-    ensures fault { IfErr result (λ fault. fault ≢ ConfigFault.OutOfMemory → fault ≡ ConfigFault.Unreadable) }
-{
-    let mut contents = Vec::new(alloc);
-    match file.take(MOST_BYTES as u64 + 1).read_to_end(&mut contents) {
-        Ok(_) => Ok(contents),
-        Err(error) => Err(unreadable(error)),
-    }
-}
-
-/// The contents of the configuration's file, up to one byte more than it may have.
-fn load(rt: &(impl Files + AllocGlobal), path: &str) -> Result<Vec<u8>, ConfigFault>
-    ensures { IfErr result (λ fault. fault ≢ ConfigFault.OutOfMemory → fault ≡ ConfigFault.Unreadable) }
-{
-    match File::open(rt, path) {
-        Ok(file) => contents(rt.alloc(), file),
-        Err(error) => Err(unreadable(error)),
-    }
-}
+use target_config::file_config;
+use target_replay::{Engine, replay};
 
 /// Replays the input at the target of the configuration whose file has these contents.
-fn replay_at<R: Read, W: Write>(
+fn replay_at<S: Start, R: Read, W: Write>(
     rt: &(impl Files<File = File> + AllocGlobal),
     contents: &[u8],
-    left: &mut Option<Engine>,
+    left: &mut Left<S>,
     reader: &mut R,
     writer: &mut W,
 ) -> Result<(), Fault>
-    ensures { Replays left.new (R.remaining reader.old) (R.remaining reader.new) (W.contents writer.old) (W.contents writer.new) (file_config_of contents.now) result }
+    ensures told { left.new.told.calls ≡ left.old.told.calls }
+    ensures ends { Replays S.held (left_view ⟦<MioPorts as Ports>⟧.log left.new) (R.remaining reader.old) (R.remaining reader.new) (W.contents writer.old) (W.contents writer.new) (file_config_of contents.now) result }
 {
     let alloc = rt.alloc();
     let configuration = file_config(alloc, contents)?;
@@ -73,46 +40,56 @@ fn replay_at<R: Read, W: Write>(
     let target = Target::new(alloc, config, units)?;
     let mut engine = Engine::new(alloc, target);
     let ended = replay(&mut engine, reader, writer);
-    *left = Some(engine);
-    ended
+    left.replayed = Some(engine.into_target());
+    ended?;
+    Ok(())
 }
 
 /// Serves at the configuration whose file has these contents, for so many turns.
-fn serve_at<W: Write>(
+fn serve_at<S: Start, W: Write>(
     rt: &(impl Files<File = File> + AllocGlobal + Net),
     contents: &[u8],
     count: u64,
+    left: &mut Left<S>,
     writer: &mut W,
 ) -> Result<(), Fault>
-    ensures { Serves (W.contents writer.old) (W.contents writer.new) (file_config_of contents.now) result }
+    ensures told { left.new.told.calls ≡ left.old.told.calls }
+    ensures ends { ServesAt S.held (left_view ⟦<MioPorts as Ports>⟧.log left.new) (W.contents writer.old) (W.contents writer.new) count (file_config_of contents.now) result }
 {
     let alloc = rt.alloc();
     let configuration = file_config(alloc, contents)?;
     let Setup { config, units } = open(rt, configuration)?;
-    let ports = MioPorts::new(rt, alloc, config.listen.as_str(), None)?;
-    let target = Target::new(alloc, config, units)?;
-    serve(alloc, ports, target, count, writer)
+    let mut ports = MioPorts::new(rt, alloc, config.listen.as_str(), None)?;
+    let Ok(address) = ports.address() else {
+        return Err(Fault::Socket);
+    };
+    let mut target = Target::new(alloc, config, units)?;
+    let ended = serve(alloc, address, &mut ports, &mut target, count, writer);
+    left.served = Some(Served { ports, target });
+    ended
 }
 
 /// Does what the words say that stand behind the program's name, from the first to the end of the
-/// input. What a replay leaves is in `left`, so that it can be said of it whether it is sound.
-pub fn run<R: Read, W: Write>(
+/// input or of the turns. `S` stands for what the files hold as they are opened.
+pub fn run<S: Start, R: Read, W: Write>(
     rt: &(impl Files<File = File> + AllocGlobal + Net),
     words: &[String],
-    left: &mut Option<Engine>,
+    left: &mut Left<S>,
     reader: &mut R,
     writer: &mut W,
 ) -> Result<(), Fault>
-    ensures { Runs left.new (R.remaining reader.old) (R.remaining reader.new) (W.contents writer.old) (W.contents writer.new) (mode_in (map string_bytes words.now)) result }
+    ensures { Runs S.held (left_view ⟦<MioPorts as Ports>⟧.log left.new) (R.remaining reader.old) (R.remaining reader.new) (W.contents writer.old) (W.contents writer.new) left.old.told.calls (mode_in (map string_bytes words.now)) result }
 {
-    match mode_of(words)? {
+    let alloc = rt.alloc();
+    let texts = texts(alloc, words)?;
+    match mode_of(alloc, texts.as_slice())? {
         Mode::Replay { config } => {
-            let contents = load(rt, config)?;
+            let contents = load(rt, config, &mut left.told)?;
             replay_at(rt, contents.as_slice(), left, reader, writer)
         }
         Mode::Serve { config, turns } => {
-            let contents = load(rt, config)?;
-            serve_at(rt, contents.as_slice(), turns, writer)
+            let contents = load(rt, config, &mut left.told)?;
+            serve_at(rt, contents.as_slice(), turns, left, writer)
         }
     }
 }

@@ -1,41 +1,39 @@
 //! Serving: the target listens, and initiators connect to it.
 
-ghost use Rattle.std.specs.Prelude.{◌≡◌, ℕ, List, IfOk, string_bytes};
-ghost use Rattle.targetd.specs.Serve.{listening_line, Announces};
+ghost use Rattle.std.specs.Prelude.{◌≡◌, ◌++◌, ◌∷◌, [], IfOk, string_bytes};
+ghost use Rattle.targetd.specs.Serve.{listening_line, Serves};
 
 use crate::fault::Fault;
-use crate::printing::print_all;
-use crate::store::MediumStore;
-use iscsi_serve::{MioPorts, turns};
+use iscsi_serve::{Ports, turns};
 use iscsi_target::Target;
+use media_store::Store;
 use std::alloc::{AllocError, Global};
 use std::io::Write;
 use std::net::SocketAddr;
+use target_replay::print_all;
 
 /// The line that says where the target listens.
 fn announcement(alloc: Global, address: SocketAddr) -> Result<String, AllocError>
-    ensures { IfOk result (λ line. (text : List ℕ) × (string_bytes line ≡ listening_line text)) }
+    ensures { IfOk result (λ line. string_bytes line ≡ listening_line address) }
 {
     let mut line = String::new(alloc);
     writeln!(line, "listening on {address}")?;
     Ok(line)
 }
 
-/// Serves for so many turns, and prints first where the target listens.
-pub fn serve<W: Write>(
+/// Prints the address that is listened on, and then serves for so many turns, or up to the first fault.
+pub fn serve<P: Ports, S: Store, W: Write>(
     alloc: Global,
-    mut ports: MioPorts,
-    mut target: Target<MediumStore>,
+    address: SocketAddr,
+    ports: &mut P,
+    target: &mut Target<S>,
     count: u64,
     writer: &mut W,
 ) -> Result<(), Fault>
-    ensures { Announces (W.contents writer.old) (W.contents writer.new) result }
+    ensures { Serves (listening_line address) count (P.tells ports.new) (P.log ports.old) (P.log ports.new) target.old target.new (W.contents writer.old) (W.contents writer.new) result }
 {
-    let Ok(address) = ports.address() else {
-        return Err(Fault::Socket);
-    };
     let line = announcement(alloc, address)?;
     print_all(line.as_bytes(), writer)?;
-    turns(&mut ports, &mut target, count)?;
+    turns(ports, target, count)?;
     Ok(())
 }

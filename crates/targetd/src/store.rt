@@ -1,26 +1,30 @@
 //! Where the bytes of a disk are kept.
 
-ghost use Rattle.std.specs.Prelude.{◌≡◌};
+use media_store::{FileStore, MemStore, Store, StoreFault, SystemFile};
 
-use media_store::{FileStore, MemStore, Store, StoreFault};
-
-/// A store in memory, or in a file.
+/// A store in memory, or in a file. `S` stands for what the files hold as they are opened.
 #[derive(Drop)]
-pub enum MediumStore {
+pub enum MediumStore<F: Store> {
     Memory(MemStore),
-    File(FileStore),
+    File(F),
 }
 
-impl Store for MediumStore {
-    ghost use Rattle.targetd.specs.Store.{content_of, is_synced, failures_of, is_honest};
+/// A store in memory, or in a file of the system.
+pub type SystemStore<S> = MediumStore<FileStore<SystemFile, S>>;
 
-    ghost content = { content_of };
+impl<F: Store> Store for MediumStore<F> {
+    ghost use Rattle.targetd.specs.Store.{by_kind};
+    ghost use Rattle.std.specs.Prelude.{true};
 
-    ghost synced = { is_synced };
+    ghost content = { by_kind (λ store. store.content) F.Store.content };
 
-    ghost failures = { failures_of };
+    ghost synced = { by_kind (λ store. store.synced) F.Store.synced };
 
-    ghost honest = { is_honest };
+    ghost failures = { by_kind (λ store. store.failures) F.Store.failures };
+
+    ghost honest = { by_kind (λ _. true) F.Store.honest };
+
+    ghost steady = { by_kind (λ _. true) F.Store.steady };
 
     fn len(&mut self) -> Result<u64, StoreFault> {
         match self {

@@ -2,7 +2,8 @@ use Rattle.std.proofs.Common.{[], refl, inl, inr}
 use Rattle.iscsi_serve.proofs.serving.feed.Goals as goal
 
 pub returns-in-Err-clause-stands : goal.returns-in-Err-clause-stands
-returns-in-Err-clause-stands g c = λ sound s sent h stands. (let starved = c.in-Err.ensures.starved s sent h (λ was. stands) sound in (starved.0, inr starved.1, starved.2))
+returns-in-Err-clause-stands g c = λ sound s sent h stands.
+    (let starved = c.in-Err.ensures.starved s sent h (λ was. stands) sound in (starved.0, inr starved.1, starved.2))
 
 pub returns-in-Ok-clause-stands : goal.returns-in-Ok-clause-stands
 returns-in-Ok-clause-stands g c = λ sound s sent h stands. ([], inl refl, c.in-Ok.ensures.stands s sent h (λ was. stands) sound)

@@ -1,29 +1,63 @@
-use Rattle.std.proofs.Common.{◌≡◌, ◌<◌, length, take, rules, arith, inl, inr}
+use Rattle.std.proofs.Common.{◌≡◌, ◌<◌, ◌≤◌, [], length, take, rules, arith, inl, inr, refl}
 use Rattle.std.proofs.lemmas.List.{length-take-le}
-use Rattle.iscsi_serve.proofs.Goings.{read_bytes, read_none, read_end, read_fault}
+use Rattle.iscsi_serve.specs.Log.{Read, Bytes, End, Fault}
+use Rattle.iscsi_serve.proofs.Goings.{read_some, read_none, read_ended}
+use Rattle.iscsi_serve.proofs.Keeping.{keeps_told, read_stays}
 use Rattle.iscsi_serve.proofs.serving.read_piece.Goals as goal
 
-pub returns-in-Bytes-eq0-clause-goes : goal.returns-in-Bytes-eq0-clause-goes
-returns-in-Bytes-eq0-clause-goes g c = λ tells sound named due s m at are.
+pub returns-in-Bytes-eq0 : goal.returns-in-Bytes-eq0
+returns-in-Bytes-eq0 g c = λ named due.
     (let same : length c.read.new.buffer ≡ length c.args.piece.now = search rules in
-    read_none s m _ _ _ named _ c.args.c (length c.args.piece.now) c.requires.in_range at are due (rw (c.in-Bytes-eq0.field-0-test, same) at (c.in-Bytes-eq0.ensures.log tells)))
+    record {
+      keeps =
+          keeps_told _ _ _ _ _ (Read c.args.c (length c.args.piece.now) (Bytes [])) refl (λ rows. refl) c.read.ensures.back
+          (λ tells. rw (c.in-Bytes-eq0.field-0-test, same) at (c.in-Bytes-eq0.ensures.log tells));
+      goes = λ tells.
+          read_none _ _ _ named _ c.args.c (length c.args.piece.now) due
+          (rw (c.in-Bytes-eq0.field-0-test, same) at (c.in-Bytes-eq0.ensures.log tells));
+    })
 
-pub returns-in-Bytes-clause-goes : goal.returns-in-Bytes-clause-goes
-returns-in-Bytes-clause-goes g c = λ tells sound named due s m at are.
+pub returns-in-Bytes : goal.returns-in-Bytes
+returns-in-Bytes g c = λ named due.
     (let same : length c.read.new.buffer ≡ length c.args.piece.now = search rules in
-    let some : 0 < c.in-Bytes.count = search rules in
-    let count : length (take c.in-Bytes.count c.read.new.buffer) ≡ c.in-Bytes.count = length-take-le c.in-Bytes.count c.read.new.buffer c.in-Bytes.ensures.count in
-    read_bytes s m _ _ _ _ named _ c.args.c (length c.args.piece.now) _ c.requires.in_range at are due (omega (arith, some, count)) (omega (arith, count, same, c.in-Bytes.ensures.count)) (rw same at (c.in-Bytes.ensures.log tells)) (c.feed.ensures.stands sound))
+    let piece = take c.in-Bytes.count c.read.new.buffer in
+    let count : length piece ≡ c.in-Bytes.count = length-take-le c.in-Bytes.count c.read.new.buffer c.in-Bytes.ensures.count in
+    let below : 0 < c.in-Bytes.count = search rules in
+    let some : 0 < length piece = omega (arith, below, count) in
+    let fits : length piece ≤ length c.args.piece.now = omega (arith, count, same, c.in-Bytes.ensures.count) in
+    record {
+      keeps = record {
+        back = c.read.ensures.back;
+        sound = c.feed.ensures.sound;
+        sure = c.feed.ensures.sure;
+        served = λ tells sound.
+            read_stays _ _ _ _ c.args.c (length c.args.piece.now) piece some (rw same at (c.in-Bytes.ensures.log tells))
+            (c.feed.ensures.stands sound);
+      };
+      goes = λ tells.
+          read_some _ _ _ _ named _ c.args.c (length c.args.piece.now) piece due some fits (rw same at (c.in-Bytes.ensures.log tells))
+          c.feed.ensures.feeds;
+    })
 
 pub returns-in-End : goal.returns-in-End
-returns-in-End g c =
-    let long : length c.args.ended.now ≡ 64 = search rules in
+returns-in-End g c = λ named due.
+    (let long : length c.args.ended.now ≡ 64 = search rules in
     let same : length c.read.new.buffer ≡ length c.args.piece.now = search rules in
-    record {
-      goes = λ tells sound named due s m at are. elim c.in-End.is [
-        | inl end ↦ read_end s m _ _ _ named _ c.args.c (length c.args.piece.now) c.requires.in_range at are long due (rw (end, same) at (c.read.ensures.log tells))
-        | inr fault ↦ read_fault s m _ _ _ named _ c.args.c (length c.args.piece.now) c.requires.in_range at are long due (rw (fault, same) at (c.read.ensures.log tells))
-      ];
-      back = c.read.ensures.back;
-      sound = λ sound. sound;
-    }
+    elim c.in-End.is [
+      | inl is ↦ record {
+        keeps =
+            keeps_told _ _ _ _ _ (Read c.args.c (length c.args.piece.now) End) refl (λ rows. refl) c.read.ensures.back
+            (λ tells. rw (is, same) at (c.read.ensures.log tells));
+        goes = λ tells.
+            read_ended _ _ _ named _ c.args.c (length c.args.piece.now) End c.requires.in_range long due refl
+            (rw (is, same) at (c.read.ensures.log tells));
+      }
+      | inr is ↦ record {
+        keeps =
+            keeps_told _ _ _ _ _ (Read c.args.c (length c.args.piece.now) Fault) refl (λ rows. refl) c.read.ensures.back
+            (λ tells. rw (is, same) at (c.read.ensures.log tells));
+        goes = λ tells.
+            read_ended _ _ _ named _ c.args.c (length c.args.piece.now) Fault c.requires.in_range long due refl
+            (rw (is, same) at (c.read.ensures.log tells));
+      }
+    ])

@@ -1,35 +1,42 @@
-use Rattle.std.proofs.Common.{◌∙◌, List, sym, subst, ap, Err}
+use Rattle.std.proofs.Common.{◌∙◌, refl, sym, ap, append-nil, Err}
 use Rattle.std.proofs.lemmas.Result.{err_from_is_err_and}
-use Rattle.iscsi_serve.specs.Log.{Entry}
-use Rattle.iscsi_serve.specs.Served.{IsServed}
 use Rattle.iscsi_serve.specs.Turn.{beginning}
+use Rattle.iscsi_serve.proofs.Keeping.{keeps_same, keeps_then}
 use Rattle.iscsi_serve.proofs.Turning.{turn_next, turns_end}
 use Rattle.iscsi_serve.proofs.serving.turns.Goals as goal
 
-pub loop-preserved : goal.loop-preserved
-loop-preserved g c = record {
-  served = λ tells sound s h served.
-      (let before = g.P.Ports.log c.loop.ports in
-      let so_far = c.loop.invariant.served (c.turn_with.ensures.back tells) (c.turn_with.ensures.sound sound) s h served in
-      let m = so_far.0 in
-      let turn = c.in_ok-turn_with.ensures.served tells sound s m.history (subst (λ (log : List Entry). IsServed s m.history log c.loop.target) (sym so_far.1) so_far.2) in
-      (turn.0, turn.1, turn.2, turn_next s c.loop.counter (beginning h (g.P.Ports.log c.args.ports.now)) m turn.0 before so_far.1 so_far.3 turn.3));
-  back = λ tells. c.loop.invariant.back (c.turn_with.ensures.back tells);
-  sound = λ sound. c.loop.invariant.sound (c.turn_with.ensures.sound sound);
+pub loop-init : goal.loop-init
+loop-init g c = record {
+  turned = λ tells. (beginning c.args.target.now (g.P.Ports.log c.args.ports.now), sym (append-nil (g.P.Ports.log c.args.ports.now)), refl, refl);
+  keeps = keeps_same _ _ _;
 }
 
-pub returns-in_err-turn_with-clause-served : goal.returns-in_err-turn_with-clause-served
-returns-in_err-turn_with-clause-served g c = λ tells sound s h served.
-    (let before = g.P.Ports.log c.loop.ports in
-    let so_far = c.loop.invariant.served (c.turn_with.ensures.back tells) (c.turn_with.ensures.sound sound) s h served in
-    let m = so_far.0 in
-    let turn = c.in_err-turn_with.ensures.served tells sound s m.history (subst (λ (log : List Entry). IsServed s m.history log c.loop.target) (sym so_far.1) so_far.2) in
-    let fault = err_from_is_err_and c.from_residual.result c.from_residual.ensures.1 in
-    let field = c.in_err-turn_with.field-0.0 in
-    (turn.0, turn.1, turn.2, turns_end s c.args.count c.loop.counter (beginning h (g.P.Ports.log c.args.ports.now)) m turn.0 before field c.from_residual.result (fault.1 ∙ ap Err fault.2) so_far.1 c.loop-test.true so_far.3 turn.3))
+pub loop-preserved : goal.loop-preserved
+loop-preserved g c = record {
+  turned = λ tells.
+      (let so_far = c.loop.invariant.turned (c.turn_with.ensures.keeps.back tells) in
+      let turn = c.in_ok-turn_with.ensures.turned tells in
+      (turn.0, turn.1, turn.2, turn_next c.loop.counter _ so_far.0 turn.0 _ _ so_far.1 so_far.2 so_far.3 turn.3));
+  keeps = keeps_then _ _ _ _ _ _ _ _ _ c.loop.invariant.keeps c.turn_with.ensures.keeps;
+}
 
-pub returns-in_err-turn_with-clause-back : goal.returns-in_err-turn_with-clause-back
-returns-in_err-turn_with-clause-back g c = λ tells. c.loop.invariant.back (c.turn_with.ensures.back tells)
-
-pub returns-in_err-turn_with-clause-sound : goal.returns-in_err-turn_with-clause-sound
-returns-in_err-turn_with-clause-sound g c = λ sound. c.loop.invariant.sound (c.turn_with.ensures.sound sound)
+pub returns-in_err-turn_with : goal.returns-in_err-turn_with
+returns-in_err-turn_with g c =
+    let keeps = keeps_then _ _ _ _ _ _ _ _ _ c.loop.invariant.keeps c.turn_with.ensures.keeps in
+    record {
+      turned = λ tells.
+          (let so_far = c.loop.invariant.turned (c.turn_with.ensures.keeps.back tells) in
+          let turn = c.in_err-turn_with.ensures.turned tells in
+          let fault = err_from_is_err_and c.from_residual.result c.from_residual.ensures.1 in
+          let is = fault.1 ∙ ap Err fault.2 in (
+            turn.0,
+            turn.1,
+            turn.2,
+            turns_end c.args.count c.loop.counter _ so_far.0 turn.0 _ _ c.in_err-turn_with.field-0.0 c.from_residual.result is so_far.1 so_far.2
+                c.loop-test.true so_far.3 turn.3,
+          ));
+      served = keeps.served;
+      back = keeps.back;
+      sound = keeps.sound;
+      sure = keeps.sure;
+    }

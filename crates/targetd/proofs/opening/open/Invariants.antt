@@ -2,9 +2,10 @@ use Rattle.std.proofs.Common.{◌≡◌, ℕ, List, true, map}
 use Rattle.std.specs.Prelude.{string_bytes}
 use Rattle.std.specs.List.{list_all}
 use Rattle.std.specs.Vec.Iter.{into_iter_items}
-use Rattle.targetd.specs.Configuration.{names_of, targets_view}
-use Rattle.targetd.specs.Limits.{target_keeps}
-use Rattle.targetd.specs.Opened.{AreUnitsOf, has_unit}
+use Rattle.target_config.specs.Configuration.{names_of, targets_view}
+use Rattle.target_config.specs.Limits.{target_keeps}
+use Rattle.targetd.specs.Opened.{AreUnitsOf}
+use Rattle.targetd.specs.Unopened.{has_file_unit_at}
 use Rattle.targetd.proofs.opening.open.Given as goal
 
 -- the units of those that were taken are opened, and the rest are targets of the configuration that keep their limits
@@ -12,6 +13,6 @@ abbrev pub invariant-loop-target : goal.invariant-loop-target
 invariant-loop-target g l =
     (goal.iterator-loop-target g).can_next l.target-iterator × (goal.iterator-loop-target g).is_finite l.target-iterator
     × (list_all target_keeps (targets_view (into_iter_items l.target-iterator)) ≡ true)
-    × ((name : List ℕ) (lun : ℕ) → has_unit name lun (targets_view (into_iter_items l.target-iterator)) ≡ true → has_unit name lun (targets_view l.fn.configuration.targets.items) ≡ true)
+    × ((name : List ℕ) (lun : ℕ) → has_file_unit_at name lun (targets_view (into_iter_items l.target-iterator)) ≡ true → has_file_unit_at name lun (targets_view l.fn.configuration.targets.items) ≡ true)
     × (map string_bytes l.targets.items ≡ names_of (targets_view l.yielded))
-    × AreUnitsOf (targets_view l.yielded) l.units.items
+    × AreUnitsOf g.S.Start.held (targets_view l.yielded) l.units.items

@@ -1,9 +1,33 @@
-use Rattle.std.proofs.Common.{Some}
-use Rattle.targetd.proofs.Ending.{runs_replay, runs_serve}
+use Rattle.std.proofs.Common.{inr, Some, ap, sym, ◌∙◌, List, ℕ}
+use Rattle.std.proofs.KnownBytes.{Keeps-refl}
+use Rattle.targetd.specs.ConfigFile.{told_of}
+use Rattle.targetd.proofs.Ending.{run_starves, run_unnamed, serve_unread}
 use Rattle.targetd.proofs.run.run.Goals as goal
 
-pub returns-in_ok-contents-in-Replay : goal.returns-in_ok-contents-in-Replay
-returns-in_ok-contents-in-Replay g c = rw c.in_ok-config.ensures (rw c.in-Replay.is (runs_replay c.in-Replay.config (Some c.as_slice.result.now) c.replay_at.result _ _ _ _ _ c.replay_at.ensures))
+pub returns-in_err-texts : goal.returns-in_err-texts
+returns-in_err-texts g c = run_starves _ _ _ _ _ _ c.from_residual.result c.from_residual.ensures.1
 
-pub returns-in_ok-contents-in-Serve : goal.returns-in_ok-contents-in-Serve
-returns-in_ok-contents-in-Serve g c = rw c.in_ok-config.ensures (rw c.in-Serve.is (runs_serve c.in-Serve.config c.in-Serve.turns (Some c.as_slice-in-Serve.result.now) c.serve_at.result c.args.left.now _ _ _ c.serve_at.ensures))
+pub returns-in_err-config : goal.returns-in_err-config
+returns-in_err-config g c =
+    rw (← c.in_ok-texts.ensures, ← c.as_slice.ensures.value)
+    (run_unnamed _ _ _ _ _ _ c.from_residual-in_err-config.result c.in_err-config.field-0.0 c.from_residual-in_err-config.ensures.1 c.in_err-config.ensures)
+
+pub returns-in-Replay : goal.returns-in-Replay
+returns-in-Replay g c =
+    let told = c.replay_at.ensures.told ∙ c.in_ok-contents-in-Replay.ensures
+    ∙ ap (λ (bytes : List ℕ). told_of c.in-Replay.config.now (Some bytes) c.args.left.now.told.calls) (sym c.as_slice-in-Replay.ensures.value) in
+    rw (← c.in_ok-texts.ensures, ← c.as_slice.ensures.value, c.in_ok-config.ensures, c.in-Replay.is)
+    (inr (Some c.as_slice-in-Replay.result.now, told, c.replay_at.ensures.ends))
+
+pub returns-in_err-contents-in-Serve : goal.returns-in_err-contents-in-Serve
+returns-in_err-contents-in-Serve g c =
+    rw (← c.in_ok-texts.ensures, ← c.as_slice.ensures.value, c.in_ok-config.ensures, c.in-Serve.is)
+    (serve_unread _ _ _ _ _ c.in-Serve.config.now c.in-Serve.turns c.from_residual-in_err-contents-in-Serve.result c.in_err-contents-in-Serve.field-0.0
+    c.from_residual-in_err-contents-in-Serve.ensures.1 c.in_err-contents-in-Serve.ensures)
+
+pub returns : goal.returns
+returns g c =
+    let told = c.serve_at.ensures.told ∙ c.in_ok-contents-in-Serve.ensures
+    ∙ ap (λ (bytes : List ℕ). told_of c.in-Serve.config.now (Some bytes) c.args.left.now.told.calls) (sym c.as_slice-in-Serve.ensures.value) in
+    rw (← c.in_ok-texts.ensures, ← c.as_slice.ensures.value, c.in_ok-config.ensures, c.in-Serve.is)
+    (inr (Keeps-refl _, (Some c.as_slice-in-Serve.result.now, told, c.serve_at.ensures.ends)))

@@ -1,13 +1,31 @@
-use Rattle.std.proofs.Common.{◌∙◌}
-use Rattle.targetd.proofs.Ending.{memory_announces, socket_announces}
+use Rattle.std.proofs.Common.{inr, refl, Ok, ◌∙◌}
+use Rattle.targetd.proofs.Ending.{fails_to_print, serving_fails}
 use Rattle.targetd.proofs.serve.serve.Goals as goal
 
-pub returns-in_err-line : goal.returns-in_err-line
-returns-in_err-line g c = memory_announces c.from_residual.result _ c.from_residual.ensures.1
+pub returns-in_err-print_all : goal.returns-in_err-print_all
+returns-in_err-print_all g c =
+    fails_to_print _ _ _ _ _ _ _ c.from_residual-in_err-print_all.result c.in_err-print_all.field-0.0 c.as_bytes.result.now c.from_residual-in_err-print_all.ensures.1
+    c.in_err-print_all.ensures.fault (c.as_bytes.ensures.value ∙ c.in_ok-line.ensures) c.in_err-print_all.ensures.part
 
 pub returns-in_err-turns : goal.returns-in_err-turns
 returns-in_err-turns g c =
-    socket_announces c.from_residual-in_err-turns.result _ _ c.in_ok-line.ensures.0 c.as_bytes.result.now c.from_residual-in_err-turns.ensures.1 (c.as_bytes.ensures.value ∙ c.in_ok-line.ensures.1) c.in_ok-print_all.ensures.whole
+    serving_fails _ _ _ _ _ _ _ _ _ c.from_residual-in_err-turns.result c.in_err-turns.field-0.0 c.from_residual-in_err-turns.ensures.1
+    (record {
+      announced = rw (c.as_bytes.ensures.value, c.in_ok-line.ensures) at c.in_ok-print_all.ensures.whole;
+      turned = c.in_err-turns.ensures.turned;
+      served = c.in_err-turns.ensures.served;
+      sure = c.in_err-turns.ensures.sure;
+    })
 
 pub returns : goal.returns
-returns g c = (c.in_ok-line.ensures.0, rw (c.as_bytes.ensures.value, c.in_ok-line.ensures.1) at c.in_ok-print_all.ensures.whole)
+returns g c =
+    inr (
+      Ok tt,
+      refl,
+      record {
+        announced = rw (c.as_bytes.ensures.value, c.in_ok-line.ensures) at c.in_ok-print_all.ensures.whole;
+        turned = c.in_ok-turns.ensures.turned;
+        served = c.in_ok-turns.ensures.served;
+        sure = c.in_ok-turns.ensures.sure;
+      },
+    )

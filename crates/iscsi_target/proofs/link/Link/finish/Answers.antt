@@ -1,4 +1,4 @@
-use Rattle.std.proofs.Common.{◌≡◌, ◌≢◌, ◌<◌, ℕ, List, [], ◌++◌, length, set, cond, false, true, refl, subst, sym, ap, ◌∙◌, drop}
+use Rattle.std.proofs.Common.{◌≡◌, ◌≢◌, ◌<◌, ℕ, List, [], ◌++◌, length, set, cond, true, refl, subst, sym, ap, ◌∙◌}
 use Rattle.std.proofs.lemmas.List.{get_or_default}
 use Rattle.scsi_unit.specs.Units.{AreSound}
 use Rattle.iscsi_login.specs.declared.params.Params.{Params}
@@ -6,14 +6,13 @@ use Rattle.std.specs.Prelude.{flat_map}
 use Rattle.iscsi_pdu.specs.Answer.{spelling}
 use Rattle.iscsi_session.specs.Answers.{command_answers}
 use Rattle.iscsi_session.specs.Requests.{Past, queue, stamp, finished}
-use Rattle.iscsi_session.specs.State.{frames_of}
 use Rattle.iscsi_session.proofs.Fewer.{on_err_known}
 use Rattle.iscsi_session.proofs.Parts.{parts}
 use Rattle.iscsi_target.specs.Machine.{LinkState, IsWithin, is_reading}
 use Rattle.iscsi_target.specs.Sessions.{IsSessionOf, FinishesTo}
 use Rattle.iscsi_target.specs.declared.phase.Phase.{Phase}
 use Rattle.iscsi_target.specs.declared.phase.Phase.TheVariants.{FullFeature}
-use Rattle.iscsi_target.proofs.Sound.{sound_set}
+use Rattle.iscsi_target.proofs.Sound.{sound_set, sure_set}
 use Rattle.iscsi_target.proofs.Served.{with_session, session_stands, none_done, one_done, queue_there}
 use Rattle.iscsi_target.proofs.link.Link.finish.Goals as goal
 
@@ -55,6 +54,14 @@ pub returns-clause-back : goal.returns-clause-back
 returns-clause-back g c = λ sound.
     sound_set c.args.units.now c.params-params.result.now.target c.carry_out.new.units
     (λ lt after. subst AreSound (get_or_default c.args.units.now c.params-params.result.now.target c.index-units-params.result [] lt) (c.carry_out.ensures.back after)) sound
+
+pub returns-in_err-done-clause-sure : goal.returns-in_err-done-clause-sure
+returns-in_err-done-clause-sure g c = λ sure.
+    sure_set c.args.units.now c.params-params.result.now.target c.index-units-params.result c.carry_out.new.units c.carry_out.ensures.sure sure
+
+pub returns-clause-sure : goal.returns-clause-sure
+returns-clause-sure g c = λ sure.
+    sure_set c.args.units.now c.params-params.result.now.target c.index-units-params.result c.carry_out.new.units c.carry_out.ensures.sure sure
 
 pub returns-clause-finishes : goal.returns-clause-finishes
 returns-clause-finishes g c sound answered past is =

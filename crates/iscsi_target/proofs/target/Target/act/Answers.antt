@@ -1,10 +1,16 @@
-use Rattle.std.proofs.Common.{rules, ◌≡◌, ℕ, ◌<◌, length, map, true, false, string_bytes, arith, subst, sym, ap, ◌∙◌}
+use Rattle.std.proofs.Common.{◌<◌, length, map, false, string_bytes, arith, subst, sym, ap, ◌∙◌}
 use Rattle.iscsi_session.specs.declared.act.Act.TheVariants.{Idle, Taken, Ended}
-use Rattle.iscsi_target.specs.Machine.{LinkState, Machine, free_link, link_at, with_link, closed, is_in_session}
-use Rattle.iscsi_target.specs.Sessions.{Stays, Steps, ActsOne}
+use Rattle.iscsi_target.specs.Machine.{LinkState, Machine, free_link, with_link, closed, is_in_session}
+use Rattle.iscsi_target.specs.Sessions.{Stays, ActsOne}
 use Rattle.iscsi_target.proofs.Asking.{get_or_any, on_err}
-use Rattle.iscsi_target.proofs.SessionLinks.{IsHere, acted_here, due_here, stays_here, ended_here}
+use Rattle.iscsi_target.proofs.SessionLinks.{IsHere, acted_here, due_here, stays_put, ended_here}
 use Rattle.iscsi_target.proofs.target.Target.act.Goals as goal
+
+pub returns-then-not-is_in_session-clause-stays : goal.returns-then-not-is_in_session-clause-stays
+returns-then-not-is_in_session-clause-stays g c =
+    let machine : Machine = record { names = map string_bytes c.self.inside.config.targets.items; units = c.self.inside.units.items; links = c.self.inside.links.items } in
+    let lt : c.args.c < length c.self.inside.links.items = (let below = c.requires in let count = c.self.invariant.0 in omega arith) in
+    stays_put c.args.c c.args.self.now machine c.index_mut-link.result.now (record { same = c.self.view_is; below = lt; is = c.index_mut-link.ensures.value ∙ get_or_any c.self.inside.links.items c.args.c _ free_link lt })
 
 pub returns-in_err-act-clause-due : goal.returns-in_err-act-clause-due
 returns-in_err-act-clause-due g c =

@@ -3,7 +3,7 @@ use Rattle.std.proofs.lemmas.List.{length-set}
 use Rattle.std.proofs.lemmas.List.Elements.{All-set}
 use Rattle.iscsi_target.specs.Machine.{LinkState, Machine, IsWithin}
 use Rattle.iscsi_target.proofs.Opening.{closed_count}
-use Rattle.iscsi_target.proofs.Sound.{closed_sound, sound_as, sound_units}
+use Rattle.iscsi_target.proofs.Sound.{closed_sound, closed_sure, sound_as, sure_as, sound_units}
 use Rattle.iscsi_target.proofs.Standing.{gone_stands, stands_machine}
 use Rattle.iscsi_target.proofs.target.Target.gone.Goals as goal
 
@@ -17,6 +17,9 @@ invariant_of-self g c =
 
 pub returns-clause-sound : goal.returns-clause-sound
 returns-clause-sound g c = λ sound. closed_sound c.args.self.now c.args.c (sound_as c.close.new.self _ c.close.ensures.closed (sound_units _ c.close.new.self (ap (λ (m : Machine). m.units) c.self.view_is) sound))
+
+pub returns-clause-sure : goal.returns-clause-sure
+returns-clause-sure g c = λ sure. sure_as c.close.new.self _ (sym c.self.view_is) (sure_as _ c.close.new.self (sym c.close.ensures.closed) (closed_sure c.args.self.now c.args.c sure))
 
 pub returns-clause-stands : goal.returns-clause-stands
 returns-clause-stands g c = λ s sent h at sound.

@@ -10,6 +10,7 @@ use Rattle.iscsi_target.specs.declared.event.Event.{Event}
 use Rattle.iscsi_target.proofs.Choices.{and_true}
 use Rattle.iscsi_target.proofs.Tables.{follows}
 use Rattle.iscsi_target.proofs.Rows.{history_more}
+use Rattle.iscsi_target.proofs.Sound.{sure_as}
 use Rattle.iscsi_target.proofs.Running.{new_runs, finished_outputs}
 use Rattle.iscsi_target.proofs.Tracking.{comes, none_open}
 use Rattle.iscsi_target.proofs.target.Target.run.Goals as goal
@@ -20,6 +21,7 @@ loop-event-init g c = (
   λ sound. rw c.new-rows.ensures.items (new_runs _ c.in_ok-target.target c.in_ok-target.ensures.stands),
   none_open c.in_ok-target.target _ _ c.in_ok-target.ensures.made,
   c.requires.well_formed,
+  λ sure. sure_as _ c.in_ok-target.target (sym c.in_ok-target.ensures.made) sure,
 )
 
 pub take_event-requires : goal.take_event-requires
@@ -38,7 +40,7 @@ loop-event-preserved g c =
     let i = c.loop-event.invariant in
     let both = and_true _ _ (sym (follows es at e i.0 lt c.event-item.is) ∙ i.3) in
     let r = c.in_ok-take_event.ensures.runs _ i.0 (plain_history (take at es)) i.1 in
-    (open_after i.0 (event_view e), rw (history_more es at e lt c.event-item.is) r, c.in_ok-take_event.ensures.«open» i.0 i.2, both.1)
+    (open_after i.0 (event_view e), rw (history_more es at e lt c.event-item.is) r, c.in_ok-take_event.ensures.«open» i.0 i.2, both.1, λ sure. c.in_ok-take_event.ensures.sure (i.4 sure))
 
 pub returns-clause-stands : goal.returns-clause-stands
 returns-clause-stands g c = λ sound.

@@ -1,8 +1,9 @@
 use Rattle.std.proofs.Common.{◌≡◌, ℕ, List, true, map, take, drop}
-use Rattle.std.specs.Prelude.{string_bytes}
+use Rattle.std.specs.Prelude.{All, string_bytes}
+use Rattle.scsi_unit.specs.Units.{AreSure}
 use Rattle.iscsi_target.specs.History.{may_follow}
 use Rattle.iscsi_target.specs.Events.{events_view, plain_history}
-use Rattle.iscsi_target.specs.Machine.{WhereSound}
+use Rattle.iscsi_target.specs.Machine.{WhereSound, IsSure}
 use Rattle.iscsi_target.specs.Runs.{seen, AreOpen, Runs}
 use Rattle.iscsi_target.proofs.target.Target.run.Given as goal
 
@@ -13,3 +14,4 @@ invariant-loop-event g l =
     × WhereSound l.target (Runs (record { names = map string_bytes l.fn.config.targets.items; units = l.fn.units.items }) l.target (map seen l.rows.items) before (plain_history (take l.event-index l.events)))
     × AreOpen l.target before
     × (may_follow before (events_view (drop l.event-index l.events)) ≡ true)
+    × (All AreSure l.fn.units.items → IsSure l.target)

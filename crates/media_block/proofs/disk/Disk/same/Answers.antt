@@ -1,4 +1,5 @@
 use Rattle.std.proofs.Common.{◌≡◌, ◌==◌, ◌+◌, ◌<◌, length, false, arith, rules, ◌∙◌}
+use Rattle.std.proofs.lemmas.Bool.{false≢true}
 use Rattle.media_block.proofs.Blocks.{length-blocks_of}
 use Rattle.media_block.proofs.Results.{on_err_always}
 use Rattle.media_block.proofs.Same.{same-more, same-torn}
@@ -24,6 +25,7 @@ loop-number-preserved g c =
     let some : (number + 1 == 0) ≡ false = search rules in
     record {
       honest = c.in_ok-write.ensures.honest ∙ c.loop-number.invariant.honest;
+      steady = search rules;
       failures = search rules;
       as_many = search rules;
       synced = rw some c.in_ok-write.ensures.synced;
@@ -31,3 +33,7 @@ loop-number-preserved g c =
           let now = rw (← c.loop-number.invariant.honest) at honest in
           rw (c.in_ok-write.ensures.written now, c.loop-number.invariant.blocks honest) (same-more c.args.first number c.args.block.now c.args.self.now.blocks below c.requires.whole);
     }
+
+pub returns-in_err-write-clause-succeeds : goal.returns-in_err-write-clause-succeeds
+returns-in_err-write-clause-succeeds g c steady honest =
+    absurd (false≢true (c.in_err-write.ensures.succeeds (c.loop-number.invariant.steady ∙ steady) (c.loop-number.invariant.honest ∙ honest)))

@@ -5,6 +5,7 @@ use Rattle.media_block.proofs.disk.Disk.same.Given as goal
 abbrev pub invariant-loop-number : goal.invariant-loop-number
 invariant-loop-number g l = record {
   honest : l.self.honest ≡ l.initial.self.honest;
+  steady : l.self.steady ≡ l.initial.self.steady;
   failures : l.self.failures ≡ l.initial.self.failures;
   as_many : length l.self.blocks ≡ length l.initial.self.blocks;
   synced : l.self.synced ≡ (if l.number == 0 then l.initial.self.synced else false);

@@ -25,7 +25,7 @@ invariant_of-self g c =
           let was_honest = rw c.write_at.ensures.honest at honest in
           let long = c.self.invariant.1 was_honest in
           let within : block_length * c.args.first + length c.args.bytes.now ≤ length content = omega (arith, count_is, range, long, c.requires.whole) in
-          length-kept c.write_at.result (block_length * c.args.first) c.args.bytes.now content (g.S.Store.content c.write_at.new.self) within c.write_at.ensures.written c.write_at.ensures.torn was_honest ∙ long,
+          length-kept c.write_at.result (block_length * c.args.first) c.args.bytes.now content (g.S.Store.content c.write_at.new.self) within c.write_at.ensures.written c.write_at.ensures.torn ∙ long,
       c.self.invariant.2,
     )
 
@@ -36,7 +36,7 @@ returns-clause-written g c =
     let range = rw (← c.self.view_is) at c.requires.range in
     let within : c.args.first + c.args.count ≤ c.self.inside.block_count = omega (arith, count_is, range) in
     rw (← c.self.view_is) (on_ok_weaker c.write_at.result
-    (λ said honest. written-blocks c.args.first c.args.count c.self.inside.block_count c.args.bytes.now content (g.S.Store.content c.write_at.new.self) within (c.self.invariant.1 honest) c.requires.whole (said honest))
+    (λ said honest. written-blocks c.args.first c.args.count c.self.inside.block_count c.args.bytes.now content (g.S.Store.content c.write_at.new.self) within (c.self.invariant.1 honest) c.requires.whole said)
     c.write_at.ensures.written)
 
 pub returns-clause-torn : goal.returns-clause-torn
@@ -46,10 +46,19 @@ returns-clause-torn g c =
     let range = rw (← c.self.view_is) at c.requires.range in
     let within : c.args.first + c.args.count ≤ c.self.inside.block_count = omega (arith, count_is, range) in
     rw (← c.self.view_is) (on_err_weaker c.write_at.result
-    (λ said honest. torn-blocks c.args.first c.args.count c.self.inside.block_count (length c.args.bytes.now) content (g.S.Store.content c.write_at.new.self) within (c.self.invariant.1 honest) c.requires.whole (said honest))
+    (λ said honest. torn-blocks c.args.first c.args.count c.self.inside.block_count (length c.args.bytes.now) content (g.S.Store.content c.write_at.new.self) within (c.self.invariant.1 honest) c.requires.whole said)
     c.write_at.ensures.torn)
 
 pub returns-clause-length : goal.returns-clause-length
 returns-clause-length g c =
     rw (← c.self.view_is) (length-blocks_of c.self.inside.block_count (g.S.Store.content c.write_at.new.self)
     ∙ sym (length-blocks_of c.self.inside.block_count (g.S.Store.content c.self.inside.store)))
+
+pub returns-clause-succeeds : goal.returns-clause-succeeds
+returns-clause-succeeds g c steady honest =
+    let content = g.S.Store.content c.self.inside.store in
+    let count_is = length-blocks_of c.self.inside.block_count content in
+    let range = rw (← c.self.view_is) at c.requires.range in
+    let is_steady = rw (← c.self.view_is) at steady in
+    let long = c.self.invariant.1 (rw (← c.self.view_is) at honest) in
+    c.write_at.ensures.succeeds is_steady (omega (arith, count_is, range, long, c.requires.whole))

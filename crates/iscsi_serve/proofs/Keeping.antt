@@ -1,0 +1,136 @@
+-- What each step keeps: a sound target stays served.
+use Rattle.std.proofs.Common.{◌≡◌, ℕ, ◌+◌, ◌<◌, ◌≤◌, List, [], ◌∷◌, ◌++◌, length, take, drop, Bool, true, false, refl, sym, ◌∙◌, subst, inl, arith, append_assoc, append-nil}
+use Rattle.std.proofs.lemmas.Bool.{lt-ltb}
+use Rattle.std.proofs.lemmas.List.{length-take-le, take-append-drop}
+use Rattle.std.specs.List.{range_with_len}
+use Rattle.iscsi_target.specs.History as history
+use Rattle.iscsi_target.specs.History.{Happening, History, plain, marked, connection_limit}
+use Rattle.iscsi_target.specs.World.{Setting, world}
+use Rattle.iscsi_target.specs.Machine.{Machine, link_at, is_open_at}
+use Rattle.iscsi_target.specs.Stands.{Stands, with_sent}
+use Rattle.iscsi_target.proofs.Standing.{is_open_there, is_free_there}
+use Rattle.iscsi_serve.specs.Log.{Bytes, Entry, Open, Read, Wrote, Close, event_of, Written, written_after}
+use Rattle.iscsi_serve.specs.Served.{IsServed, MayFollow, StaysServed}
+use Rattle.iscsi_serve.specs.Turn.{Moment, Along}
+use Rattle.iscsi_serve.specs.Progress.{StandsFed, Keeps, Does}
+use Rattle.iscsi_serve.proofs.Moments.{along_next}
+use Rattle.iscsi_serve.proofs.Steps.{sent_by, told_served, open_served, read_served, wrote_served, close_served}
+
+-- ---- one step after the other
+
+follow-append : (s : Setting) (h more others : History) → MayFollow s h more → MayFollow s (h ++ more) others → MayFollow s h (more ++ others)
+follow-append s h [] others first second = subst (λ (h : History). MayFollow s h others) (append-nil h) second
+follow-append s h (x ∷ more) others first second =
+    (first.0, follow-append s (h ++ x ∷ []) more others first.1 (subst (λ (h : History). MayFollow s h others) (sym (append_assoc h (x ∷ []) more)) second))
+
+nothing_more : (s : Setting) (h : History) (log : List Entry) (target : Machine) → IsServed s h log target
+    → (more : History) × MayFollow s h more × IsServed s (h ++ more) log target
+nothing_more s h log target v = ([], tt, subst (λ (h : History). IsServed s h log target) (sym (append-nil h)) v)
+
+pub keeps_same : (tells : Bool) (log : List Entry) (target : Machine) → Keeps tells tells log log target target
+keeps_same tells log target = record {
+  back = λ e. e;
+  sound = λ sound. sound;
+  sure = λ sure. sure;
+  served = λ e sound s h v. nothing_more s h log target v;
+}
+
+pub keeps_then : (tells between tells_then : Bool) (log middle log_then : List Entry) (target after target_then : Machine)
+    → Keeps tells between log middle target after → Keeps between tells_then middle log_then after target_then → Keeps tells tells_then log log_then
+    target target_then
+keeps_then tells between tells_then log middle log_then target after target_then first second = record {
+  back = λ e. first.back (second.back e);
+  sound = λ sound. first.sound (second.sound sound);
+  sure = λ sure. second.sure (first.sure sure);
+  served = λ e sound s h v.
+      (let one = first.served (second.back e) (second.sound sound) s h v in
+      let two = second.served e sound s (h ++ one.0) one.2 in (
+        one.0 ++ two.0,
+        follow-append s h one.0 two.0 one.1 two.1,
+        subst (λ (h : History). IsServed s h log_then target_then) (append_assoc h one.0 two.0) two.2,
+      ));
+}
+
+pub none_does : (R : ℕ → Moment → Moment → Type 0) (tells : Bool) (log : List Entry) (target : Machine) (ended : List Bool)
+    → Does (Along R []) tells tells log log target target ended ended
+none_does R tells log target ended = record { keeps = keeps_same tells log target; goes = λ e before turn at are. (turn, at, are, refl) }
+
+pub one_more_does : (R : ℕ → Moment → Moment → Type 0) (c : ℕ) (tells between tells_then : Bool) (log middle log_then : List Entry)
+    (target after target_then : Machine) (ended now ended_then : List Bool)
+    → Does (Along R (range_with_len 0 c)) tells between log middle target after ended now → Does (R c) between tells_then middle log_then after
+    target_then now ended_then
+    → Does (Along R (range_with_len 0 (c + 1))) tells tells_then log log_then target target_then ended ended_then
+one_more_does R c tells between tells_then log middle log_then target after target_then ended now ended_then so_far step = record {
+  keeps = keeps_then tells between tells_then log middle log_then target after target_then so_far.keeps step.keeps;
+  goes = λ e before turn at are.
+      (let first = so_far.goes (step.keeps.back e) before turn at are in
+      let second = step.goes e before first.0 first.1 first.2 in
+      (second.0, second.1, second.2, along_next R c _ _ _ first.3 second.3));
+}
+
+-- ---- what the ports told alone
+
+pub keeps_told : (tells tells_then : Bool) (log log_then : List Entry) (target : Machine) (entry : Entry) → event_of entry ≡ []
+    → ((rows : List Written) → written_after rows entry ≡ rows)
+    → (tells_then ≡ true → tells ≡ true) → (tells_then ≡ true → log_then ≡ log ++ entry ∷ []) → Keeps tells tells_then log log_then target target
+keeps_told tells tells_then log log_then target entry none silent back e = record {
+  back = back;
+  sound = λ sound. sound;
+  sure = λ sure. sure;
+  served = λ t sound s h v.
+      nothing_more s h log_then target (subst (λ (log : List Entry). IsServed s h log target) (sym (e t)) (told_served s h log target entry none silent v));
+}
+
+-- ---- what happened to the target
+
+-- a connection opened
+pub open_stays : (log log_then : List Entry) (target after : Machine) (c : ℕ) → c < connection_limit → is_open_at target c ≡ false
+    → log_then ≡ log ++ Open c ∷ []
+    → ((s : Setting) (sent : ℕ → ℕ) (h : History) → Stands s sent target h → Stands s (with_sent sent c 0) after (h ++ plain (history.Open c) ∷ [])) →
+    StaysServed log log_then target after
+open_stays log log_then target after c lt is_free e stands = λ s h v.
+    (let x : Happening = plain (history.Open c) in
+    let none = is_free_there s (sent_by log) (world s h) target c lt v.stands is_free in
+    let now : IsServed s (h ++ x ∷ []) (log ++ Open c ∷ []) after = open_served s h log target after c (lt-ltb c connection_limit lt) none v
+    (stands s (sent_by log) h v.stands) in
+    (x ∷ [], (inl refl, tt), subst (λ (log : List Entry). IsServed s (h ++ x ∷ []) log after) (sym e) now))
+
+-- a piece was fed
+read_one_stays : (log log_then : List Entry) (target after : Machine) (c room byte : ℕ) (piece : List ℕ)
+    → log_then ≡ log ++ Read c room (Bytes (byte ∷ piece)) ∷ [] → StandsFed c (byte ∷ piece) target after → StaysServed log log_then target after
+read_one_stays log log_then target after c room byte piece e stands = λ s h v.
+    (let fed = stands s (sent_by log) h v.stands in
+    let x : Happening = marked fed.0 (history.Bytes c (byte ∷ piece)) in
+    let now : IsServed s (h ++ x ∷ []) (log ++ Read c room (Bytes (byte ∷ piece)) ∷ []) after = read_served s h log target after c room byte piece
+    fed.0 v fed.2 in
+    (x ∷ [], (fed.1, tt), subst (λ (log : List Entry). IsServed s (h ++ x ∷ []) log after) (sym e) now))
+
+pub read_stays : (log log_then : List Entry) (target after : Machine) (c room : ℕ) (piece : List ℕ) → 0 < length piece
+    → log_then ≡ log ++ Read c room (Bytes piece) ∷ [] → StandsFed c piece target after → StaysServed log log_then target after
+read_stays log log_then target after c room [] some e stands = absurd (omega (arith, some))
+read_stays log log_then target after c room (byte ∷ piece) some e stands = read_one_stays log log_then target after c room byte piece e stands
+
+-- a front of what waits was written
+pub write_stays : (log log_then : List Entry) (target after : Machine) (c n : ℕ) (offered : List ℕ) → c < connection_limit
+    → is_open_at target c ≡ true → (link_at target c).waiting ≡ offered → n ≤ length offered
+    → log_then ≡ log ++ Wrote c (length offered) (Bytes (take n offered)) ∷ []
+    → ((s : Setting) (sent : ℕ → ℕ) (h : History) → Stands s sent target h → Stands s (with_sent sent c (sent c + n)) after h) → StaysServed log
+    log_then target after
+write_stays log log_then target after c n offered lt is_open_ waiting le e stands = λ s h v.
+    (let piece = take n offered in
+    let there = is_open_there s (sent_by log) (world s h) target c lt v.stands is_open_ in
+    let count : n ≡ length piece = sym (length-take-le n offered le) in
+    let now : IsServed s h (log ++ Wrote c (length offered) (Bytes piece) ∷ []) after =
+    wrote_served s h log target after c (length offered) piece (drop n offered) there.0 lt there.1 (waiting ∙ sym (take-append-drop n offered)) v
+    (subst (λ (n : ℕ). Stands s (with_sent (sent_by log) c (sent_by log c + n)) after h) count (stands s (sent_by log) h v.stands)) in
+    nothing_more s h log_then after (subst (λ (log : List Entry). IsServed s h log after) (sym e) now))
+
+-- a connection ended
+pub close_stays : (log log_then : List Entry) (target after : Machine) (c : ℕ) → c < connection_limit → log_then ≡ log ++ Close c ∷ []
+    → ((s : Setting) (sent : ℕ → ℕ) (h : History) → Stands s sent target h → Stands s (with_sent sent c 0) after (h ++ plain (history.Gone c) ∷ [])) →
+    StaysServed log log_then target after
+close_stays log log_then target after c lt e stands = λ s h v.
+    (let x : Happening = plain (history.Gone c) in
+    let now : IsServed s (h ++ x ∷ []) (log ++ Close c ∷ []) after = close_served s h log target after c (lt-ltb c connection_limit lt) v
+    (stands s (sent_by log) h v.stands) in
+    (x ∷ [], (inl refl, tt), subst (λ (log : List Entry). IsServed s (h ++ x ∷ []) log after) (sym e) now))

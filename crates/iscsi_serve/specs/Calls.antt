@@ -1,0 +1,129 @@
+-- The calls of the system on sockets, how they are noted, and what they tell.
+use Rattle.std.specs.Prelude.{ℕ, zero, suc, List, [], ◌∷◌, ◌++◌, map, take, Bool, true, false, ◌==◌, Option, Some, None, Result, Ok, Err, slice_index, slice_index_or}
+use Rattle.std.specs.declared.io.ErrorKind.{ErrorKind}
+use Rattle.std.specs.declared.io.ErrorKind.TheVariants as kinds
+use Rattle.std.specs.declared.net.ip_addr.IpAddr.{IpAddr}
+use Rattle.std.specs.declared.net.ip_addr.IpAddr.TheVariants as ip
+use Rattle.std.specs.Net.Addr.{ipv4_octets, ipv6_octets}
+use Rattle.call_record.specs.Noted.{Noted}
+use Rattle.iscsi_serve.specs.Log as log
+use Rattle.iscsi_serve.specs.Log.{Entry, Carried, Bytes, End, Fault, Polled, Open, NobodyCame, AcceptFailed, Read, Wrote, Close}
+use Rattle.iscsi_serve.specs.declared.told.Named.{Named}
+use Rattle.iscsi_serve.specs.declared.socket_failure.SocketFailure.{SocketFailure}
+use Rattle.iscsi_serve.specs.declared.socket_failure.SocketFailure.TheVariants.{WouldWait, Interrupted, Passing, Broken}
+
+-- what an error of the system means
+abbrev pub failure_of : ErrorKind → SocketFailure
+failure_of kinds.WouldBlock = WouldWait
+failure_of kinds.Interrupted = Interrupted
+failure_of kinds.ConnectionAborted = Passing
+failure_of kinds.ConnectionReset = Passing
+failure_of kinds.HostUnreachable = Passing
+failure_of kinds.NetworkUnreachable = Passing
+failure_of kinds.NetworkDown = Passing
+failure_of _ = Broken
+
+-- ---- a call, and what the system answered
+
+pub data Call : Type 0 where
+  -- a listener was made at the address that this text spells
+  Listening : (text : List ℕ) → Call
+  -- a poll, and who may be ready behind it
+  Polling : (answer : Result Named SocketFailure) → Call
+  -- an accept under this number, and whether the system watches the connection
+  Accepting : (c : ℕ) (answer : Result Bool SocketFailure) → Call
+  -- a read with so much room, and the bytes that came
+  Reading : (c room : ℕ) (answer : Result (List ℕ) SocketFailure) → Call
+  -- a write of so many bytes, and those that were taken
+  Writing : (c offered : ℕ) (answer : Result (List ℕ) SocketFailure) → Call
+  Closing : (c : ℕ) → Call
+  -- the address that is listened on was asked for, and this is what the system told
+  Located : (octets : List ℕ) (port : ℕ) → Call
+
+-- who may be ready, where the poll succeeded
+abbrev pub named_by : Result (Unit {0}) SocketFailure → Named → Result Named SocketFailure
+named_by (Ok end) named = Ok named
+named_by (Err failure) named = Err failure
+
+-- the bytes that a count counts
+abbrev pub moved : Result ℕ SocketFailure → List ℕ → Result (List ℕ) SocketFailure
+moved (Ok count) buffer = Ok (take count buffer)
+moved (Err failure) buffer = Err failure
+
+abbrev pub ip_octets : IpAddr → List ℕ
+ip_octets (ip.V4 a) = ipv4_octets a
+ip_octets (ip.V6 a) = ipv6_octets a
+
+-- ---- what it tells
+
+-- a read of no bytes is the end; one that would wait, or that a signal ended, gave none
+abbrev pub read_carried : Result (List ℕ) SocketFailure → Carried
+read_carried (Ok []) = End
+read_carried (Ok (byte ∷ piece)) = Bytes (byte ∷ piece)
+read_carried (Err WouldWait) = Bytes []
+read_carried (Err Interrupted) = Bytes []
+read_carried (Err _) = Fault
+
+abbrev pub write_carried : Result (List ℕ) SocketFailure → Carried
+write_carried (Ok piece) = Bytes piece
+write_carried (Err WouldWait) = Bytes []
+write_carried (Err Interrupted) = Bytes []
+write_carried (Err _) = Fault
+
+abbrev pub polled : Result Named SocketFailure → Option Named
+polled (Ok named) = Some named
+polled (Err failure) = None
+
+-- nobody came where none waits, or one who was gone before, or whom the system does not watch
+abbrev pub accepted : ℕ → Result Bool SocketFailure → Entry
+accepted c (Ok true) = Open c
+accepted c (Ok false) = NobodyCame
+accepted c (Err Broken) = AcceptFailed
+accepted c (Err _) = NobodyCame
+
+abbrev pub told_by : Call → List Entry
+told_by (Listening text) = log.Listened text ∷ []
+told_by (Polling answer) = Polled (polled answer) ∷ []
+told_by (Accepting c answer) = accepted c answer ∷ []
+told_by (Reading c room answer) = Read c room (read_carried answer) ∷ []
+told_by (Writing c offered answer) = Wrote c offered (write_carried answer) ∷ []
+told_by (Closing c) = Close c ∷ []
+told_by (Located octets port) = log.Located octets port ∷ []
+
+-- the newest call stands first, and what it told last
+abbrev pub log_by : List Call → List Entry
+log_by [] = []
+log_by (call ∷ earlier) = log_by earlier ++ told_by call
+
+-- ---- how it is noted: which call, its numbers, and 0 or the number of the failure
+
+abbrev pub failure_number : SocketFailure → ℕ
+failure_number WouldWait = 1
+failure_number Interrupted = 2
+failure_number Passing = 3
+failure_number Broken = 4
+
+-- what was answered, by that number
+abbrev pub answered : {X : Type 0} → ℕ → X → Result X SocketFailure
+answered zero x = Ok x
+answered (suc zero) x = Err WouldWait
+answered (suc (suc zero)) x = Err Interrupted
+answered (suc (suc (suc zero))) x = Err Passing
+answered _ x = Err Broken
+
+-- by the number of the call
+abbrev pub call_by : ℕ → List ℕ → List ℕ → List Bool → Call
+call_by zero numbers bytes flags = Listening bytes
+call_by (suc zero) numbers bytes flags =
+    Polling (answered (slice_index numbers 1) (record { listener = slice_index numbers 2 == 1; connections = flags }))
+call_by (suc (suc zero)) numbers bytes flags =
+    Accepting (slice_index numbers 2) (answered (slice_index numbers 1) (slice_index_or flags 0 false))
+call_by (suc (suc (suc zero))) numbers bytes flags =
+    Reading (slice_index numbers 2) (slice_index numbers 3) (answered (slice_index numbers 1) bytes)
+call_by (suc (suc (suc (suc zero)))) numbers bytes flags =
+    Writing (slice_index numbers 2) (slice_index numbers 3) (answered (slice_index numbers 1) bytes)
+call_by (suc (suc (suc (suc (suc zero))))) numbers bytes flags = Closing (slice_index numbers 2)
+call_by _ numbers bytes flags = Located bytes (slice_index numbers 2)
+
+abbrev pub calls_of : List Noted → List Call
+calls_of noted = map (λ n. call_by (slice_index n.numbers 0) n.numbers n.bytes n.flags) noted

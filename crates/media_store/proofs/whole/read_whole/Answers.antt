@@ -1,0 +1,43 @@
+use Rattle.std.proofs.Common.{rules, ◌≡◌, ℕ, ◌+◌, ◌-◌, ◌≤◌, length, List, ◌++◌, take, arith}
+use Rattle.std.proofs.lemmas.List.{places, same_lists}
+use borrow.Rule.Slice.PartMut.{put_mid}
+use Rattle.media_store.proofs.PartsRead.{HasComeTo-more, HasComeTo-again}
+use Rattle.media_store.proofs.whole.read_whole.Goals as goal
+use Rattle.media_store.proofs.whole.read_whole.Goals.{in-Ok, in-Err}
+
+-- a part of a buffer is filled in front
+take-filled : (done n : ℕ) (buffer rest : List ℕ) → done ≤ length buffer → n ≤ length rest → length rest ≡ length buffer - done
+    → take (done + n) (put_mid done (length buffer - done) buffer rest) ≡ take done buffer ++ take n rest
+take-filled done n buffer rest within few long = same_lists _ _ (search (rules, places)) (λ k d h. grind (arith, places))
+
+take-kept : (done : ℕ) (buffer rest : List ℕ) → done ≤ length buffer → length rest ≡ length buffer - done
+    → take done (put_mid done (length buffer - done) buffer rest) ≡ take done buffer
+take-kept done buffer rest within long = same_lists _ _ (search (rules, places)) (λ k d h. grind (arith, places))
+
+pub loop-preserved : goal.loop-preserved
+loop-preserved g c =
+    let done = c.loop.done in
+    let buffer = c.loop.buf in
+    let rest = c.read_some.new.buf in
+    let within : done ≤ length buffer = c.loop.invariant.0 in
+    let is : c.in-Some.from ≡ c.args.at + done = search rules in
+    let left : length rest ≡ length buffer - done = search (rules, places) in
+    let after = put_mid done (length buffer - done) buffer rest in
+    let long : length after ≡ length buffer = search (rules, places) in
+    elim c.match-read_some.branch [
+      | in-Ok w ↦
+          let few : w.in-Ok.count ≤ length rest = w.in-Ok.ensures.count in
+          let part : length (take w.in-Ok.count rest) ≡ w.in-Ok.count = search (rules, places) in
+          let filled : take c.match-read_some.done after ≡ take done buffer ++ take w.in-Ok.count rest =
+          rw w.done-is (take-filled done w.in-Ok.count buffer rest within few left) in (
+            omega arith,
+            λ origin. rw (w.in-Ok.ensures.noted, is) (HasComeTo-more origin c.args.at buffer after
+                (take w.in-Ok.count rest) done c.match-read_some.done _ _ within (omega arith) filled (c.loop.invariant.1 origin)),
+          )
+      | in-Err w ↦
+          let kept : take done after ≡ take done buffer = take-kept done buffer rest within left in (
+            omega arith,
+            λ origin. rw (w.done-is, w.in-Err.ensures.noted)
+                (HasComeTo-again origin c.args.at buffer after done _ _ _ _ kept (c.loop.invariant.1 origin)),
+          )
+    ]

@@ -1,0 +1,35 @@
+//! The calls of the system that a store makes on its file.
+
+ghost use Rattle.std.specs.Prelude.{◌≡◌, ◌≤◌, ◌∷◌, List, length, IfOk};
+ghost use Rattle.media_store.specs.Calls.{FileCall, measuring, reading, writing, resizing, syncing};
+
+use std::io;
+
+/// An open file whose calls are noted. Nothing is promised of what a call does or answers, only that
+/// it is noted with its answer. Offsets and lengths are in bytes.
+pub trait FileCalls {
+    /// The calls so far with their answers, the newest first.
+    ghost calls: { Self → List FileCall };
+
+    /// Where the end is.
+    fn end(&mut self) -> io::Result<u64>
+        ensures { calls self.new ≡ measuring result ∷ calls self.old };
+
+    /// Reads some bytes from an offset on into the front of a buffer. How many, or 0 at the end.
+    fn read_some(&mut self, at: u64, buf: &mut [u8]) -> io::Result<usize>
+        ensures count { IfOk result (λ count. count ≤ length buf.new) }
+        ensures noted { calls self.new ≡ reading at buf.new result ∷ calls self.old };
+
+    /// Writes a front of the bytes from an offset on. How many.
+    fn write_some(&mut self, at: u64, bytes: &[u8]) -> io::Result<usize>
+        ensures count { IfOk result (λ count. count ≤ length bytes.now) }
+        ensures noted { calls self.new ≡ writing at bytes.now result ∷ calls self.old };
+
+    /// Cuts the file to a length, or fills it up with zeros.
+    fn set_len(&mut self, len: u64) -> io::Result<()>
+        ensures { calls self.new ≡ resizing len result ∷ calls self.old };
+
+    /// Waits until what was written is on the medium.
+    fn sync(&mut self) -> io::Result<()>
+        ensures { calls self.new ≡ syncing result ∷ calls self.old };
+}

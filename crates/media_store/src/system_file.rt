@@ -1,0 +1,101 @@
+//! The calls on a file of the operating system. Each method makes its one call and then notes it with
+//! its answer. The clauses pin the notes to the answers; that the call made is the one that is noted, a
+//! reader has to see here.
+
+ghost use Rattle.std.specs.Prelude.{◌≡◌, [], IfOk};
+
+use crate::file_calls::FileCalls;
+use call_record::Record;
+use std::fs::{File, OpenOptions};
+use std::io::{self, Seek, SeekFrom};
+use std::marker::Model;
+use std::os::unix::fs::FileExt;
+use std::rt::Files;
+
+/// The kinds of call, as they are noted.
+const END: u64 = 0;
+
+const READ: u64 = 1;
+
+const WRITE: u64 = 2;
+
+const RESIZE: u64 = 3;
+
+const SYNC: u64 = 4;
+
+/// An open file, or a block device. It is seen as the list of the calls on it, the newest first.
+#[derive(Drop)]
+pub struct SystemFile {
+    file: File,
+    noted: Record,
+}
+
+impl Model for SystemFile {
+    ghost use Rattle.std.specs.Prelude.{List};
+    ghost use Rattle.media_store.specs.Calls.{FileCall, calls_of};
+
+    ghost Value = { List FileCall };
+
+    ghost view = { λ opened. calls_of opened.noted.calls };
+}
+
+impl SystemFile {
+    /// Opens the file at a path for reading and writing. None is made.
+    pub fn open(rt: &impl Files<File = File>, path: &str) -> io::Result<SystemFile>
+        ensures { IfOk result (λ opened. opened ≡ []) }
+    {
+        let file = OpenOptions::new().read(true).write(true).open(rt, path)?;
+        Ok(SystemFile {
+            file,
+            noted: Record::new(),
+        })
+    }
+}
+
+impl FileCalls for SystemFile {
+    ghost calls = { λ opened. opened };
+
+    fn end(&mut self) -> io::Result<u64> {
+        // The end, and not the length that the file system tells: a block device tells none.
+        let answer = self.file.seek(SeekFrom::End(0));
+        match answer {
+            Ok(end) => self.noted.note(&[END, end], &[], &[true]),
+            Err(_) => self.noted.note(&[END], &[], &[false]),
+        }
+        answer
+    }
+
+    fn read_some(&mut self, at: u64, buf: &mut [u8]) -> io::Result<usize> {
+        let answer = self.file.read_at(buf, at);
+        match answer {
+            Ok(count) => self.noted.note(&[READ, at], &buf[..count], &[true]),
+            Err(_) => self
+                .noted
+                .note(&[READ, at, buf.len() as u64], &[], &[false]),
+        }
+        answer
+    }
+
+    fn write_some(&mut self, at: u64, bytes: &[u8]) -> io::Result<usize> {
+        let answer = self.file.write_at(bytes, at);
+        match answer {
+            Ok(count) => self.noted.note(&[WRITE, at], &bytes[..count], &[true]),
+            Err(_) => self
+                .noted
+                .note(&[WRITE, at, bytes.len() as u64], &[], &[false]),
+        }
+        answer
+    }
+
+    fn set_len(&mut self, len: u64) -> io::Result<()> {
+        let answer = self.file.set_len(len);
+        self.noted.note(&[RESIZE, len], &[], &[answer.is_ok()]);
+        answer
+    }
+
+    fn sync(&mut self) -> io::Result<()> {
+        let answer = self.file.sync_data();
+        self.noted.note(&[SYNC], &[], &[answer.is_ok()]);
+        answer
+    }
+}

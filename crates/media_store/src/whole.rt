@@ -1,0 +1,63 @@
+//! Whole reads and writes, by calls of the system that may do a part only.
+
+ghost use Rattle.std.specs.Prelude.{is_ok};
+ghost use Rattle.media_store.specs.Replay.{Origin};
+ghost use Rattle.media_store.specs.Whole.{HasRead, HasWritten};
+
+use crate::fault::StoreFault;
+use crate::file_calls::FileCalls;
+use std::io::ErrorKind;
+
+/// Fills a buffer with the bytes from an offset on. A call that a signal interrupts is made again, and
+/// one that gives no byte fails: there are fewer.
+pub(crate) fn read_whole<C: FileCalls>(
+    calls: &mut C,
+    at: u64,
+    buf: &mut [u8],
+) -> Result<(), StoreFault>
+    ensures { (origin : Origin) → HasRead origin at buf.new (is_ok result) (C.FileCalls.calls calls.old) (C.FileCalls.calls calls.new) }
+{
+    let mut done = 0;
+    for _ in 0..u64::MAX {
+        if done >= buf.len() {
+            return Ok(());
+        }
+        let Some(from) = at.checked_add(done as u64) else {
+            return Err(StoreFault);
+        };
+        match calls.read_some(from, &mut buf[done..]) {
+            Ok(0) => return Err(StoreFault),
+            Ok(count) => done += count,
+            Err(error) if error.kind() == ErrorKind::Interrupted => {}
+            Err(_) => return Err(StoreFault),
+        }
+    }
+    Err(StoreFault)
+}
+
+/// Writes bytes from an offset on. A call that a signal interrupts is made again, and one that takes
+/// no byte fails.
+pub(crate) fn write_whole<C: FileCalls>(
+    calls: &mut C,
+    at: u64,
+    bytes: &[u8],
+) -> Result<(), StoreFault>
+    ensures { (origin : Origin) → HasWritten origin at bytes.now (is_ok result) (C.FileCalls.calls calls.old) (C.FileCalls.calls calls.new) }
+{
+    let mut done = 0;
+    for _ in 0..u64::MAX {
+        if done >= bytes.len() {
+            return Ok(());
+        }
+        let Some(from) = at.checked_add(done as u64) else {
+            return Err(StoreFault);
+        };
+        match calls.write_some(from, &bytes[done..]) {
+            Ok(0) => return Err(StoreFault),
+            Ok(count) => done += count,
+            Err(error) if error.kind() == ErrorKind::Interrupted => {}
+            Err(_) => return Err(StoreFault),
+        }
+    }
+    Err(StoreFault)
+}

@@ -1,0 +1,7 @@
+pub mod Line
+pub mod Printed
+pub mod Printing
+pub mod Lines
+pub mod Reply
+pub mod Engine
+pub mod Replay

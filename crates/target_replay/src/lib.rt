@@ -1,0 +1,30 @@
+//! The lines of a replay, at an iSCSI target over any store.
+//!
+//! A line of the input opens a connection, brings bytes on it, or says that it has ended. What the
+//! target answers is printed behind each:
+//!
+//! ```text
+//! open 0             connection 0 opens
+//! bytes 0 43870000   the next bytes come on it
+//! gone 0             it has ended
+//!
+//! 0 23870000         bytes of the target's answer on connection 0
+//! 0 closed           the target has closed it
+//! ```
+//!
+//! [`replay`] carries out the lines of a reader, with an [`Engine`] that holds the target. What it
+//! prints is a function of what the target was made with and of the lines (the clauses `done` and
+//! `fails`), as long as the target is sound.
+#![tactic(auto)]
+
+mod engine;
+mod fault;
+mod line;
+mod printing;
+mod replaying;
+mod reply;
+
+pub use engine::Engine;
+pub use fault::ReplayFault;
+pub use printing::print_all;
+pub use replaying::replay;

@@ -1,0 +1,80 @@
+//! What a line of the input does to the target, and what is printed after it.
+
+ghost use Rattle.std.specs.Prelude.{◌≡◌, ◌<◌, true, None, IfOk, IfSome, MatchOption, option_map, string_bytes};
+ghost use Rattle.iscsi_target.specs.History.{History};
+ghost use Rattle.iscsi_target.specs.World.{Setting, world};
+ghost use Rattle.iscsi_target.specs.Machine.{IsSound, IsSure};
+ghost use Rattle.iscsi_target.specs.Events.{event_view};
+ghost use Rattle.target_replay.specs.Line.{connection_in};
+ghost use Rattle.target_replay.specs.Printed.{HasSentAll};
+ghost use Rattle.target_replay.specs.Reply.{is_allowed, event_in, HasActed, HasReplied, reply as reply_of};
+
+use crate::line::line;
+use crate::printing::print;
+use iscsi_target::{Event, Memory, Starved, Target};
+use media_store::Store;
+use std::alloc::Global;
+use std::str;
+
+/// Carries out an event where it is allowed, and says whether it is.
+fn act<S: Store>(target: &mut Target<S>, event: &Event) -> Result<bool, Starved>
+    requires { connection_in event.now < 64 }
+    ensures allowed { IfOk result (λ allowed. (s : Setting) (h : History) → HasSentAll s h target.old → allowed ≡ is_allowed (world s h) (event_view event.now)) }
+    ensures acted { IfOk result (λ allowed. allowed ≡ true → IsSound target.new → (s : Setting) (h : History) → HasSentAll s h target.old → HasActed s h (event_view event.now) target.new) }
+    ensures sound { IsSound target.new → IsSound target.old }
+    ensures sure { IsSure target.old → IsSure target.new }
+{
+    match event {
+        Event::Open(c) => {
+            if target.is_open(*c) {
+                return Ok(false);
+            }
+            target.open(*c)?;
+        }
+        Event::Bytes(c, piece) => {
+            if !target.is_open(*c) {
+                return Ok(false);
+            }
+            target.feed(*c, piece.as_slice())?;
+        }
+        Event::Gone(c) => {
+            if !target.is_open(*c) {
+                return Ok(false);
+            }
+            target.gone(*c);
+        }
+    }
+    Ok(true)
+}
+
+/// The event of a line, given without its newline, or `None` where it is of another form.
+fn event(alloc: Global, bytes: &[u8]) -> Result<Option<Event>, Memory>
+    ensures event { IfOk result (λ event. option_map event_view event ≡ event_in bytes.now) }
+    ensures in_range { IfOk result (λ event. IfSome event (λ e. connection_in e < 64)) }
+{
+    match str::from_utf8(bytes) {
+        Ok(text) => line(alloc, text),
+        Err(_) => Ok(None),
+    }
+}
+
+/// Carries out a line, given without its newline, and gives what is then printed: `None` where the
+/// line is of another form or breaks a condition.
+pub fn reply<S: Store>(
+    alloc: Global,
+    target: &mut Target<S>,
+    bytes: &[u8],
+) -> Result<Option<String>, Memory>
+    ensures reply { IfOk result (λ text. IsSound target.new → (s : Setting) (h : History) → HasSentAll s h target.old → MatchOption text (reply_of s h bytes.now ≡ None) (λ text. HasReplied s h bytes.now (string_bytes text) target.new)) }
+    ensures sound { IsSound target.new → IsSound target.old }
+    ensures sure { IsSure target.old → IsSure target.new }
+{
+    let Some(event) = event(alloc, bytes)? else {
+        return Ok(None);
+    };
+    match act(target, &event) {
+        Ok(true) => Ok(Some(print(alloc, target)?)),
+        Ok(false) => Ok(None),
+        Err(Starved { .. }) => Err(Memory),
+    }
+}

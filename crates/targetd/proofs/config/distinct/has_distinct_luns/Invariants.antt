@@ -1,9 +1,0 @@
-use Rattle.std.proofs.Common.{◌≡◌, drop}
-use Rattle.std.specs.Ordering.{int_eq}
-use Rattle.targetd.specs.Configuration.{units_view}
-use Rattle.targetd.specs.Distinct.{is_distinct, luns_of}
-use Rattle.targetd.proofs.config.distinct.has_distinct_luns.Given as goal
-
--- the units from this one on decide
-abbrev pub invariant-loop-i : goal.invariant-loop-i
-invariant-loop-i l = is_distinct int_eq (luns_of (units_view l.units)) ≡ is_distinct int_eq (luns_of (units_view (drop l.i l.units)))

@@ -1,9 +1,0 @@
-use Rattle.std.proofs.Common.{◌≡◌, drop}
-use Rattle.targetd.specs.Configuration.{units_view, targets_view}
-use Rattle.targetd.specs.Distinct.{is_distinct_before, shares_file, units_in}
-use Rattle.targetd.proofs.config.distinct.is_apart.Given as goal
-
--- the units from this one on decide
-abbrev pub invariant-loop-i : goal.invariant-loop-i
-invariant-loop-i l =
-    is_distinct_before shares_file (units_view l.units) (units_in (targets_view l.behind)) ≡ is_distinct_before shares_file (units_view (drop l.i l.units)) (units_in (targets_view l.behind))

@@ -1,6 +1,0 @@
-use Rattle.std.proofs.Common.{rules}
-use Rattle.targetd.proofs.Lists.{targets_decide}
-use Rattle.targetd.proofs.config.limits.keeps_limits.Goals as goal
-
-pub returns : goal.returns
-returns c = rw (targets_decide c.args.configuration.now (search rules) (search rules)) (search rules)

@@ -1,0 +1,35 @@
+//! What a run leaves behind.
+
+use crate::store::SystemStore;
+use call_record::Record;
+use iscsi_serve::MioPorts;
+use iscsi_target::Target;
+use media_store::Start;
+
+/// Ports that were served, and the target that they were served by.
+#[derive(Drop)]
+pub struct Served<S: Start> {
+    pub ports: MioPorts,
+    pub target: Target<SystemStore<S>>,
+}
+
+/// What a run leaves behind, so that it can be said of it what was told, and whether the target is sound.
+#[derive(Drop)]
+pub struct Left<S: Start> {
+    /// What the system told of the configuration's file.
+    pub told: Record,
+    /// The target of a replay.
+    pub replayed: Option<Target<SystemStore<S>>>,
+    pub served: Option<Served<S>>,
+}
+
+impl<S: Start> Left<S> {
+    /// Nothing.
+    pub fn new() -> Left<S> {
+        Left {
+            told: Record::new(),
+            replayed: None,
+            served: None,
+        }
+    }
+}
