@@ -12,7 +12,8 @@ count n k came = length (taken_from (λ a. a) n k came)
 
 -- ---- what finds a number also says that it has come
 
-find_missing_with : (b : Bool) (a k : ℕ) (came : List ℕ) → eqb a k ≡ b → (b || has_come came k) ≡ false → (has_come came k ≡ false → find (λ x. eqb x k) came ≡ None) → find (λ x. eqb x k) (a ∷ came) ≡ None
+find_missing_with : (b : Bool) (a k : ℕ) (came : List ℕ) → eqb a k ≡ b → (b || has_come came k) ≡ false
+    → (has_come came k ≡ false → find (λ x. eqb x k) came ≡ None) → find (λ x. eqb x k) (a ∷ came) ≡ None
 find_missing_with true a k came e h rest = absurd cc
 find_missing_with false a k came e h rest = rw e (rest h)
 
@@ -20,7 +21,8 @@ find_missing : (k : ℕ) (came : List ℕ) → has_come came k ≡ false → fin
 find_missing k [] h = refl
 find_missing k (a ∷ came) h = find_missing_with (eqb a k) a k came refl h (find_missing k came)
 
-find_come_with : (b : Bool) (a k : ℕ) (came : List ℕ) → eqb a k ≡ b → (b || has_come came k) ≡ true → (has_come came k ≡ true → find (λ x. eqb x k) came ≡ Some k) → find (λ x. eqb x k) (a ∷ came) ≡ Some k
+find_come_with : (b : Bool) (a k : ℕ) (came : List ℕ) → eqb a k ≡ b → (b || has_come came k) ≡ true
+    → (has_come came k ≡ true → find (λ x. eqb x k) came ≡ Some k) → find (λ x. eqb x k) (a ∷ came) ≡ Some k
 find_come_with true a k came e h rest = rw e (ap Some (eqb-true a k e))
 find_come_with false a k came e h rest = rw e (rest h)
 
@@ -66,7 +68,8 @@ count_stops (suc n) k came false h lt =
 taken_run : (n k : ℕ) (came : List ℕ) (b : Bool) → has_come came k ≡ b → taken_from (λ a. a) n k came ≡ range_with_len k (count n k came)
 taken_run zero k came b h = refl
 taken_run (suc n) k came true h =
-    rw (find_come k came h) (ap (λ (l : List ℕ). k ∷ l) (taken_run n (suc k) came _ refl ∙ ap (λ (m : ℕ). range_with_len m (count n (suc k) came)) (sym (add-one k))))
+    rw (find_come k came h) (ap (λ (l : List ℕ). k ∷ l) (taken_run n (suc k) came _ refl
+    ∙ ap (λ (m : ℕ). range_with_len m (count n (suc k) came)) (sym (add-one k))))
 taken_run (suc n) k came false h = rw (find_missing k came h) refl
 
 pub front_run : (came : List ℕ) → taken_from (λ a. a) (length came) zero came ≡ range_with_len 0 (count (length came) zero came)
@@ -84,7 +87,8 @@ without_le k (a ∷ came) = elim (eqb_tells a k) [
   | inr differ ↦ rw differ.0 (let le = without_le k came in omega arith)
 ]
 
-without_less_with : (b : Bool) (a k : ℕ) (came : List ℕ) → eqb a k ≡ b → (b || has_come came k) ≡ true → (has_come came k ≡ true → length (without k came) < length came) → length (without k (a ∷ came)) < length (a ∷ came)
+without_less_with : (b : Bool) (a k : ℕ) (came : List ℕ) → eqb a k ≡ b → (b || has_come came k) ≡ true
+    → (has_come came k ≡ true → length (without k came) < length came) → length (without k (a ∷ came)) < length (a ∷ came)
 without_less_with true a k came e h rest = rw e (let le = without_le k came in omega arith)
 without_less_with false a k came e h rest = rw e (let less = rest h in omega arith)
 
@@ -113,6 +117,9 @@ crowded (suc m) came all =
 abbrev pub front : List ℕ → ℕ
 front came = count (length came) zero came
 
+pub front_le : (came : List ℕ) → front came ≤ length came
+front_le came = count_le (length came) zero came _ refl
+
 pub front_come : (came : List ℕ) (i : ℕ) → i < front came → has_come came i ≡ true
 front_come came i lt = let at : i ≡ 0 + i = omega arith in ap (has_come came) at ∙ count_below (length came) zero i came _ refl lt
 
@@ -124,7 +131,8 @@ front_missing_with came true e =
       | inl same ↦ ap (has_come came) same.1 ∙ e
       | inr differ ↦ let ne = differ.1 in front_come came i (omega arith)
     ] in
-    let stopped : front came < length came → ⊥ = λ lt. let at : front came ≡ 0 + front came = omega arith in let h = ap (has_come came) at ∙ count_stops (length came) zero came _ refl lt in absurd cc in
+    let stopped : front came < length came → ⊥ = λ lt. let at : front came ≡ 0 + front came = omega arith in let h = ap (has_come came) at
+    ∙ count_stops (length came) zero came _ refl lt in absurd cc in
     absurd (let many = crowded (suc (front came)) came all in stopped (omega arith))
 
 pub front_missing : (came : List ℕ) → has_come came (front came) ≡ false

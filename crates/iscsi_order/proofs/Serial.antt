@@ -12,5 +12,6 @@ at_most_is a b p q = elim (eqb_tells a b) [
 ]
 
 -- how far a number is ahead of the last one of a window, and how far that is ahead of it
-pub both_ways : (x size n : ℕ) → x < 2 ^ 32 → n < 2 ^ 32 → size ≤ 32 → (nat_lt (distance x n) (2 ^ 31) && nat_lt (distance n ((x + size + (2 ^ 32 - 1)) % 2 ^ 32)) (2 ^ 31)) ≡ nat_lt (distance x n) size
+pub both_ways : (x size n : ℕ) → x < 2 ^ 32 → n < 2 ^ 32 → size ≤ 32
+    → (nat_lt (distance x n) (2 ^ 31) && nat_lt (distance n ((x + size + (2 ^ 32 - 1)) % 2 ^ 32)) (2 ^ 31)) ≡ nat_lt (distance x n) size
 both_ways x size n p q le = grind (arith, nat_tests)

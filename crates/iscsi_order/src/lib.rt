@@ -13,7 +13,7 @@
 //! - A number is new where it is inside ExpCmdSN to MaxCmdSN and has not come before. Every other
 //!   one is ignored ([`Window::arrive`]).
 //! - A number is taken once it and all before it have come, and each of those is handed over once, in
-//!   order ([`Window::take`]).
+//!   order, by the key that it came with ([`Window::take`]).
 //! - ExpCmdSN counts the numbers taken, MaxCmdSN those finished ([`Window::numbers`]).
 //! - What these words mean does not hang on how they are written down ([`laws`]).
 //! - StatSN counts the answers that bear status ([`Stat`]).

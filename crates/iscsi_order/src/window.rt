@@ -1,9 +1,10 @@
 //! The window of a session's command numbers.
 
-ghost use Rattle.std.specs.Prelude.{◌≡◌, ◌<◌, List, Bool, length};
+ghost use Rattle.std.specs.Prelude.{◌≡◌, ◌<◌, ◌-◌, is_some, slice_index_or, length, map, replicate, None, if◌then◌else◌};
 ghost use Rattle.std.specs.List.{prefix_len};
 ghost use Rattle.iscsi_order.specs.Window.{Past, begun, is_new as is_new_in, arrived, arrival_of, handed_over, next_of, finished_one, numbers_of};
-ghost use Rattle.iscsi_order.specs.WindowState.{Stands};
+ghost use Rattle.iscsi_order.specs.WindowState.{Stands, marked, is_vacant, with_key, turned};
+ghost use Rattle.iscsi_order.specs.declared.window.Arrival.TheVariants.{New, Ignored};
 
 use std::marker::Model;
 
@@ -29,98 +30,104 @@ pub struct CommandNumbers {
 }
 
 /// The numbers of a session's requests (RFC 7143 §4.2.2.1): those that came ahead of a missing one are
-/// held until it comes, and at most 32 requests are unfinished. Clauses see it as what it remembers of
-/// all that came and was finished.
+/// held until it comes, and at most 32 requests are unfinished. Each number that has come is held with a
+/// key of the caller's. Clauses see it as what it remembers of all that came and was finished.
 #[derive(Debug, Drop)]
 pub struct Window {
     /// The number that is handed over next.
     next: u32,
     /// How many were handed over and are not finished.
     unfinished: usize,
-    /// Which of the numbers from `next` on have come.
-    held: [bool; WINDOW],
+    /// Of the numbers from `next` on, the keys of those that have come.
+    held: [Option<usize>; WINDOW],
 }
 
 impl Model for Window {
-    ghost use Rattle.iscsi_order.specs.WindowState.{WindowState, IsWithin};
+    ghost use Rattle.std.specs.Prelude.{map, is_some};
+    ghost use Rattle.iscsi_order.specs.WindowState.{WindowKeys, IsWithin};
 
-    ghost Value = { WindowState };
+    ghost Value = { WindowKeys };
 
-    ghost view = { λ w. record { next = w.next; unfinished = w.unfinished; held = w.held } };
+    ghost view = { λ w. record { next = w.next; unfinished = w.unfinished; keys = w.held } };
 
-    ghost invariant = { λ w. IsWithin w.unfinished w.held };
+    ghost invariant = { λ w. IsWithin w.unfinished (map is_some w.held) };
 }
 
 impl Window {
     /// A window before its first request, whose number is to be `first`.
     #[tactic(auto, unfolding(crate::specs::Window::taken, crate::specs::WindowState::remembered))]
     pub fn new(first: u32) -> Window
-        ensures { Stands (begun first) result }
+        ensures stands { Stands (begun first) (marked result) }
+        ensures empty { result ≡ record { next = first; unfinished = 0; keys = replicate 32 None } }
     {
         Window {
             next: first,
             unfinished: 0,
-            held: [false; WINDOW],
+            held: [None; WINDOW],
         }
     }
 
-    /// A request that is not immediate arrives, with CmdSN `n`.
-    pub fn arrive(&mut self, n: u32) -> Arrival
-        ensures arrival { (past : Past) → Stands past self.old → result ≡ arrival_of past n }
-        ensures stands { (past : Past) → Stands past self.old → Stands (arrived past n) self.new }
+    /// A request that is not immediate arrives, with CmdSN `n`. It is held with this key.
+    pub fn arrive(&mut self, n: u32, key: usize) -> Arrival
+        ensures arrival { (past : Past) → Stands past (marked self.old) → result ≡ arrival_of past n }
+        ensures stands { (past : Past) → Stands past (marked self.old) → Stands (arrived past n) (marked self.new) }
+        ensures vacant { result ≡ (if is_vacant self.old n then New else Ignored) }
+        ensures key { self.new ≡ with_key n key self.old }
     {
         let ahead = n.wrapping_sub(self.next) as usize;
-        if ahead >= WINDOW - self.unfinished || self.held[ahead] {
+        if ahead >= WINDOW - self.unfinished || self.held[ahead].is_some() {
             return Arrival::Ignored;
         }
-        self.held[ahead] = true;
+        self.held[ahead] = Some(key);
         Arrival::New
     }
 
     /// Whether a request with CmdSN `n` would be new ([`Window::arrive`]).
     pub fn is_new(&self, n: u32) -> bool
-        ensures { (past : Past) → Stands past self.now → result ≡ is_new_in past n }
+        ensures past { (past : Past) → Stands past (marked self.now) → result ≡ is_new_in past n }
+        ensures vacant { result ≡ is_vacant self.now n }
     {
         let place = n.wrapping_sub(self.next) as usize;
-        place < WINDOW - self.unfinished && !self.held[place]
+        place < WINDOW - self.unfinished && self.held[place].is_none()
     }
 
-    /// The number that [`Window::take`] hands over next.
-    pub fn next(&self) -> Option<u32>
-        ensures { (past : Past) → Stands past self.now → result ≡ next_of past }
+    /// The key of the next number, where it and all before it have come. Each is handed over once, in order.
+    pub fn take(&mut self) -> Option<usize>
+        ensures number { (past : Past) → Stands past (marked self.old) → is_some result ≡ is_some (next_of past) }
+        ensures stands { (past : Past) → Stands past (marked self.old) → Stands (handed_over past) (marked self.new) }
+        ensures key { result ≡ slice_index_or self.old.keys 0 None }
+        ensures turned { self.new ≡ turned self.old }
     {
-        if self.held[0] { Some(self.next) } else { None }
-    }
-
-    /// The next number, where it and all before it have come. Each is handed over once, in order.
-    pub fn take(&mut self) -> Option<u32>
-        ensures number { (past : Past) → Stands past self.old → result ≡ next_of past }
-        ensures stands { (past : Past) → Stands past self.old → Stands (handed_over past) self.new }
-    {
-        if !self.held[0] {
-            return None;
-        }
-        let number = self.next;
-        self.held[0] = false;
+        let key = self.held[0]?;
+        self.held[0] = None;
         self.held.rotate_left(1);
-        self.next = number.wrapping_add(1);
+        self.next = self.next.wrapping_add(1);
         self.unfinished += 1;
-        Some(number)
+        Some(key)
     }
 
     /// A request that was handed over is finished, and one more may come. Where none is unfinished
     /// nothing changes.
     pub fn finish(&mut self)
-        ensures { (past : Past) → Stands past self.old → past.finished < past.handed → Stands (finished_one past) self.new }
+        ensures stands { (past : Past) → Stands past (marked self.old) → past.finished < past.handed → Stands (finished_one past) (marked self.new) }
+        ensures fewer { self.new ≡ record self.old { unfinished = self.old.unfinished - 1 } }
     {
         if self.unfinished > 0 {
             self.unfinished -= 1;
         }
     }
 
+    /// Of the numbers from the one on that is handed over next, the keys of those that have come.
+    pub fn held(&self) -> &[Option<usize>]
+        ensures value { result.now ≡ self.now.keys }
+        ensures len { length self.now.keys ≡ 32 }
+    {
+        &self.held
+    }
+
     /// ExpCmdSN and MaxCmdSN.
     pub fn numbers(&self) -> CommandNumbers
-        ensures { (past : Past) → Stands past self.now → result ≡ numbers_of past }
+        ensures { (past : Past) → Stands past (marked self.now) → result ≡ numbers_of past }
     {
         let ahead = front(&self.held) as u32;
         let room = (WINDOW - self.unfinished) as u32;
@@ -132,8 +139,8 @@ impl Window {
 }
 
 /// How many of these are held, up to the first that is not.
-fn front(held: &[bool]) -> usize
-    ensures { result ≡ prefix_len (λ is_held. is_held) held.now }
+fn front(held: &[Option<usize>]) -> usize
+    ensures { result ≡ prefix_len (λ key. is_some key) held.now }
 {
-    held.iter().take_while(|is_held| **is_held).count()
+    held.iter().take_while(|key| key.is_some()).count()
 }

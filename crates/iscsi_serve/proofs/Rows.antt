@@ -3,9 +3,10 @@ use Rattle.std.proofs.Common.{◌≡◌, ◌≢◌, ℕ, List, [], ◌∷◌, �
 use Rattle.std.specs.Prelude.{find}
 use Rattle.std.proofs.lemmas.Bool.{ne_eqb, eqb-true}
 use Rattle.iscsi_target.specs.Life.{Life, Over, out_of}
-use Rattle.iscsi_target.specs.World.{is_present, changed_life}
+use Rattle.iscsi_target.specs.World.{is_present, over}
 use Rattle.iscsi_target.specs.Laws.{GoesOn, LivesGoOn}
 use Rattle.iscsi_target.proofs.Choices.{and_true}
+use Rattle.iscsi_target.proofs.Linked.{out-ended}
 use Rattle.iscsi_serve.specs.Log.{Written, nothing_written, is_on, wrote, closed_row, bytes_in}
 use Rattle.iscsi_serve.specs.Served.{IsFront, AreFronts}
 
@@ -135,15 +136,11 @@ wrote_there c d piece (row ∷ rows) differ = wrote_there_by (is_on c row) c d p
 
 -- ---- a connection ends
 
-abbrev pub over : Life → Life
-over life = record life { phase = Over }
-
-closed_by : (b : Bool) (c : ℕ) (row : Written) (life : Life) → is_on c row ≡ b → is_present c life ≡ b → IsFront row life → IsFront (closed_row c row) (changed_life over c life)
-unfolding out_of
-closed_by true c row life e g f = rw (e, g) (record { connection = f.connection; closed = refl; front = f.front })
+closed_by : (b : Bool) (c : ℕ) (row : Written) (life : Life) → is_on c row ≡ b → is_present c life ≡ b → IsFront row life → IsFront (closed_row c row) (over c life)
+closed_by true c row life e g f = rw (e, g) (record { connection = f.connection; closed = refl; front = (f.front.0, out-ended life Over refl ∙ f.front.1) })
 closed_by false c row life e g f = rw (e, g) f
 
-pub fronts_closed : (c : ℕ) (rows : List Written) (lives : List Life) → AreFronts rows lives → AreFronts (map (closed_row c) rows) (map (changed_life over c) lives)
+pub fronts_closed : (c : ℕ) (rows : List Written) (lives : List Life) → AreFronts rows lives → AreFronts (map (closed_row c) rows) (map (over c) lives)
 fronts_closed c [] [] h = tt
 fronts_closed c [] (life ∷ lives) h = absurd h
 fronts_closed c (row ∷ rows) [] h = absurd h

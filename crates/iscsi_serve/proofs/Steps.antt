@@ -9,16 +9,16 @@ use Rattle.std.proofs.Math.Seq.{drop-append_seam}
 use Rattle.iscsi_target.specs.History as history
 use Rattle.iscsi_target.specs.History.{Event, Happening, History, Mark, plain, marked, connection_limit}
 use Rattle.iscsi_target.specs.Life.{Life, born, out_of}
-use Rattle.iscsi_target.specs.World.{Setting, World, is_present, present, changed_life, changed, end, world}
+use Rattle.iscsi_target.specs.World.{Setting, World, is_present, present, over, end, world}
 use Rattle.iscsi_target.specs.Output.{out_now}
 use Rattle.iscsi_target.specs.Machine.{Machine, link_at}
 use Rattle.iscsi_target.specs.Stands.{Stands, with_sent}
 use Rattle.iscsi_target.proofs.Choices.{cond_true}
-use Rattle.iscsi_target.proofs.Keeping.{answers_stay}
-use Rattle.iscsi_target.proofs.Standing.{world-push, stands_sent, sent_here, sent_there}
+use Rattle.iscsi_target.proofs.Keeping.{world-push, answers_stay}
+use Rattle.iscsi_target.proofs.Standing.{waits_there, stands_sent, sent_here, sent_there}
 use Rattle.iscsi_serve.specs.Log.{Bytes, Entry, Open, Read, Wrote, Close, is_number, event_of, events, Written, nothing_written, is_on, closed_row, written_after, written, bytes_in, written_on}
 use Rattle.iscsi_serve.specs.Served.{IsFront, AreFronts, IsServed}
-use Rattle.iscsi_serve.proofs.Rows.{AreBeside, HasMore, with_piece, found, fronts_more, found_more, nothing_in, fronts_go, fronts_wrote, wrote_here, wrote_there, over, fronts_closed, none_closed, other_closed}
+use Rattle.iscsi_serve.proofs.Rows.{AreBeside, HasMore, with_piece, found, fronts_more, found_more, nothing_in, fronts_go, fronts_wrote, wrote_here, wrote_there, fronts_closed, none_closed, other_closed}
 
 -- ---- one more entry
 
@@ -61,7 +61,7 @@ served s h log target es stands fronts = record {
   stands = stands;
   fronts = fronts;
   waits = λ c lt.
-      ap (λ (waiting : List ℕ). written_on c log ++ waiting) (stands.links c lt).waiting
+      ap (λ (waiting : List ℕ). written_on c log ++ waiting) (waits_there s (sent_by log) (world s h) target c lt stands)
       ∙ ap (λ (bytes : List ℕ). bytes ++ drop (length bytes) (out_now (present c (world s h)))) (on-is c log)
       ∙ waits_in (find (is_on c) (written log)) (present c (world s h)) (beside c s h log fronts);
 }
@@ -178,8 +178,8 @@ wrote_served s h log target after c offered piece more life lt there waiting v s
 
 -- ---- a connection ends
 
-lives-gone : (s : Setting) (h : History) (c : ℕ) → (world s (h ++ plain (history.Gone c) ∷ [])).lives ≡ map (changed_life over c) (world s h).lives
-unfolding end changed
+lives-gone : (s : Setting) (h : History) (c : ℕ) → (world s (h ++ plain (history.Gone c) ∷ [])).lives ≡ map (over c) (world s h).lives
+unfolding end
 lives-gone s h c = ap (λ (w : World). w.lives) (world-push s h (plain (history.Gone c)))
 
 pub close_served : (s : Setting) (h : History) (log : List Entry) (target after : Machine) (c : ℕ) → is_number c ≡ true → IsServed s h log target

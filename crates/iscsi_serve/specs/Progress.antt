@@ -3,7 +3,7 @@ use Rattle.std.specs.Prelude.{◌≡◌, ◌⊎◌, ◌<◌, ℕ, List, [], ◌�
 use Rattle.std.specs.List.{list_any}
 use Rattle.iscsi_target.specs.History as history
 use Rattle.iscsi_target.specs.History.{History, Mark, marked, connection_limit}
-use Rattle.iscsi_target.specs.World.{Setting, present, world}
+use Rattle.iscsi_target.specs.World.{Setting, world}
 use Rattle.iscsi_target.specs.Stands.{Stands, IsStarved}
 use Rattle.iscsi_target.specs.Machine.{Machine, IsSound, IsSure, link_at, is_open_at}
 use Rattle.iscsi_serve.specs.Log.{Entry}
@@ -30,7 +30,7 @@ pub record IsDue (named : Named) (c room : ℕ) (target : Machine) : Type 0 wher
 abbrev pub StandsFed : ℕ → List ℕ → Machine → Machine → Type 0
 StandsFed c piece target target_then =
     (s : Setting) (sent : ℕ → ℕ) (h : History) → Stands s sent target h
-    → (marks : List Mark) × ((marks ≡ []) ⊎ IsStarved c (present c (world s h)) piece marks)
+    → (marks : List Mark) × ((marks ≡ []) ⊎ ((d : ℕ) × IsStarved s (world s h) (history.Bytes c piece) d marks))
     × Stands s sent target_then (h ++ marked marks (history.Bytes c piece) ∷ [])
 
 -- in the turn that began at this log, from one moment to another by R

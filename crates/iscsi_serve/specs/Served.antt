@@ -30,19 +30,14 @@ pub record IsServed (s : Setting) (history : History) (log : List Entry) (target
   pub fronts : AreFronts (written log) (world s history).lives
   pub waits : (c : ℕ) → c < connection_limit → written_on c log ++ (link_at target c).waiting ≡ out_now (present c (world s history))
 
--- an allocation failed in a piece's event
-abbrev pub HasStarved : World → List Mark → Event → Type 0
-HasStarved w marks (history.Bytes c piece) = IsStarved c (present c w) piece marks
-HasStarved w marks _ = ⊥
-
--- no allocation failed in what happens to this World, or one did in a piece's event
-abbrev pub MayHappen : World → Happening → Type 0
-MayHappen w x = (x.marks ≡ []) ⊎ HasStarved w x.marks x.event
+-- no allocation failed in what happens to this World, or some did at points that were reached, first on one connection
+abbrev pub MayHappen : Setting → World → Happening → Type 0
+MayHappen s w x = (x.marks ≡ []) ⊎ ((c : ℕ) × IsStarved s w x.event c x.marks)
 
 -- each further happening may come where those before it lead
 abbrev pub MayFollow : Setting → History → History → Type 0
 MayFollow s h [] = ⊤
-MayFollow s h (x ∷ more) = MayHappen (world s h) x × MayFollow s (h ++ x ∷ []) more
+MayFollow s h (x ∷ more) = MayHappen s (world s h) x × MayFollow s (h ++ x ∷ []) more
 
 -- what is served stays so, whatever has happened in between
 abbrev pub StaysServed : List Entry → List Entry → Machine → Machine → Type 0

@@ -1,39 +1,54 @@
--- What is read from the past where one more request is accepted.
-use Rattle.std.proofs.Common.{◌≡◌, ◌≢◌, ℕ, ◌+◌, ◌^◌, ◌%◌, ◌<◌, ◌≤◌, List, [], ◌∷◌, ◌++◌, length, drop, Bool, true, false, not, ◌&&◌, ◌||◌, cond, eqb, Some, None, refl, sym, ap, ◌∙◌, subst, arith, add-one, suc}
-use Rattle.std.specs.Prelude.{is_some}
-use Rattle.std.proofs.lemmas.Bool.{le-ltb, eqb-false}
-use Rattle.std.proofs.lemmas.List.{append-nil, length-append, map-append, drop-append-le}
-use Rattle.std.proofs.lemmas.List.Elements.{filter-append, filter_map-append, All-nil, All-push}
-use Rattle.iscsi_pdu.specs.Header.{is_immediate, cmd_sn}
+-- One more request is accepted: what the session remembers, and that its past stays lawful.
+use Rattle.std.proofs.Common.{◌≡◌, ◌≢◌, ℕ, zero, suc, ◌+◌, ◌-◌, ◌^◌, ◌%◌, ◌<◌, ◌≤◌, List, [], ◌∷◌, ◌++◌, length, map, get_or, set, Bool, true, false, not, Option, Some, None, refl, sym, ap, subst, ◌∙◌, arith, length-append, append_assoc, add-one}
+use Rattle.std.specs.Prelude.{filter, filter_map, is_some, All}
+use Rattle.std.specs.List.{range_with_len, prefix_len}
+use Rattle.std.proofs.lemmas.Bool.{ne_eqb, eq-eqb, false_from_ne_true}
+use Rattle.std.proofs.lemmas.List.{append-nil, map-append}
+use Rattle.std.proofs.lemmas.List.Elements.{filter-append, filter_map-append, All-push, All-nil}
+use Rattle.std.proofs.lemmas.List.FromFn.{map-range_with_len_more}
+use Rattle.iscsi_pdu.specs.Header.{is_immediate}
 use Rattle.iscsi_pdu.specs.Frames.{Frame}
 use Rattle.iscsi_login.specs.declared.params.Params.{Params}
 use Rattle.iscsi_order.specs.Window as order
-use Rattle.iscsi_order.specs.WindowState as window
-use Rattle.iscsi_order.specs.Stat.{stat_sn}
-use Rattle.iscsi_order.proofs.Held.{come_before}
-use Rattle.iscsi_session.specs.Requests.{Request, Past, numbered, immediate, is_from, numbers, held, arrived, queue, unfinished, begun, accepted}
-use Rattle.iscsi_session.specs.Judging.{is_fresh}
-use Rattle.iscsi_session.specs.State.{SessionState, frames_of, AreDistinct, HasNumber, IsDelivered, IsLawful, Stands}
-use Rattle.iscsi_session.proofs.Parts.{parts, stands_from}
+use Rattle.iscsi_order.specs.Window.{window, taken as taken_numbers}
+use Rattle.iscsi_order.specs.WindowState as windows
+use Rattle.iscsi_order.specs.Serial.{distance}
+use Rattle.iscsi_order.proofs.Front.{front, front_come, front_missing}
+use Rattle.iscsi_order.proofs.Held.{prefix_range}
+use Rattle.iscsi_order.proofs.Standing.{front_more, front_within, lawful_with as window_with}
+use Rattle.iscsi_session.specs.Requests.{Request, Past, request_at, frame_of, is_in, left, is_command, commands, others, counted, numbered, place_of, taken, taken_at, numbers, due, queue, frames_of, begun}
+use Rattle.iscsi_session.specs.State.{TaskLists, frame_numbered, tasks_with, tasks_of, AreDistinct, IsDelivered, IsLawful, holding, takes_next, takes, takes_all}
+use Rattle.iscsi_session.proofs.Left.{filter_cong, map_cong, distinct_append, left_append, left_all, left_none, in_at, in_front, in_left, in_filter, not_by, below_of, apart_behind}
+use Rattle.iscsi_session.proofs.Taken.{request_before, request_new, taken_more, taken_below, distinct_taken}
+use Rattle.iscsi_session.proofs.Fronts.{first_of, taken_now, frame_missing, frame_marked, frame_other, frame_now, counted_places, frames_come}
 
 -- ---- the past at its beginning
 
 pub begun_lawful : (params : Params) → IsLawful (begun params)
-unfolding queue
+unfolding due queue left taken taken_numbers
 begun_lawful params = record {
-  numbers = record { finished = omega arith; handed = omega arith; within = λ k come. absurd cc };
+  window = record { finished = omega arith; handed = omega arith; within = λ k come. absurd cc };
   distinct = tt;
-  named = All-nil (HasNumber params.first_cmd_sn);
   delivered = All-nil IsDelivered;
-  acted = All-nil IsDelivered;
-  immediate = omega arith;
-  commands = omega arith;
-  unfinished = omega arith;
+  in_order = refl;
+  below = All-nil (λ k. k < 0);
+  acted = All-nil (λ k. is_in k [] ≡ true);
+  queued = refl;
+  at_once = refl;
+  handed = refl;
+  none_removed = refl;
 }
 
--- ---- the past, one request longer
+pub handed_is : (past : Past) → (numbers past).handed ≡ first_of past.came
+unfolding taken_numbers
+handed_is past = refl
 
--- for immediate delivery, and with a number
+pub handed_le : (past : Past) → (numbers past).handed ≤ length (taken_numbers (numbers past))
+unfolding taken_numbers
+handed_le past = omega arith
+
+-- ---- one request more
+
 abbrev pub now : Frame → Request
 now frame = record { number = None; frame = frame }
 
@@ -41,217 +56,306 @@ abbrev pub with : ℕ → Frame → Request
 with k frame = record { number = Some k; frame = frame }
 
 abbrev pub joined : Request → Past → Past
-joined request past = record past { came = past.came ++ request ∷ [] }
+joined x past = record past { came = past.came ++ x ∷ [] }
 
-pub accepted_now : (past : Past) (frame : Frame) → is_immediate frame.header ≡ true → accepted frame past ≡ joined (now frame) past
-accepted_now past frame h = rw h refl
+abbrev Below : Past → List ℕ → Type 0
+Below past names = All (λ k. k < length past.came) names
 
-pub accepted_with : (past : Past) (frame : Frame) → is_immediate frame.header ≡ false → accepted frame past ≡ joined (with (order.index_of (numbers past) (cmd_sn frame.header)) frame) past
-accepted_with past frame h = rw h refl
+frames_same : (past : Past) (x : Request) (names : List ℕ) → Below past names → frames_of (past.came ++ x ∷ []) names ≡ frames_of past.came names
+frames_same past x names below = map_cong _ _ names (λ i d lt. ap (λ (r : Request). r.frame) (request_before past.came x _ (below i d lt)))
 
-pub fresh_is : (past : Past) (frame : Frame) → is_immediate frame.header ≡ false → is_fresh past frame ≡ order.is_new (numbers past) (cmd_sn frame.header)
-fresh_is past frame h = rw h refl
+commands_same : (past : Past) (x : Request) (names : List ℕ) → Below past names → commands (past.came ++ x ∷ []) names ≡ commands past.came names
+commands_same past x names below = filter_cong _ _ names (λ i d lt. ap (λ (r : Request). is_command r.frame) (request_before past.came x _ (below i d lt)))
 
--- ---- one for immediate delivery
+others_same : (past : Past) (x : Request) (names : List ℕ) → Below past names → others (past.came ++ x ∷ []) names ≡ others past.came names
+others_same past x names below = filter_cong _ _ names (λ i d lt. ap (λ (r : Request). not (is_command r.frame)) (request_before past.came x _ (below i d lt)))
 
-numbered_now : (came : List Request) (frame : Frame) → numbered (came ++ now frame ∷ []) ≡ numbered came
-numbered_now came frame = filter_map-append (λ (r : Request). r.number) came (now frame ∷ []) ∙ append-nil (numbered came)
+counted_same : (past : Past) (x : Request) (names : List ℕ) → Below past names → counted (past.came ++ x ∷ []) names ≡ counted past.came names
+counted_same past x names below =
+    ap (λ (l : List ℕ). length l) (filter_cong _ _ names (λ i d lt. ap (λ (r : Request). is_some r.number) (request_before past.came x _ (below i d lt))))
 
-pub numbers_now : (past : Past) (frame : Frame) → numbers (joined (now frame) past) ≡ numbers past
-numbers_now past frame = ap (λ (ks : List ℕ). record (numbers past) { came = ks }) (numbered_now past.came frame)
+pub counted_append : (came : List Request) (a b : List ℕ) → counted came (a ++ b) ≡ counted came a + counted came b
+counted_append came a b =
+    let q : ℕ → Bool = λ k. is_some (request_at came k).number in
+    ap (λ (l : List ℕ). length l) (filter-append q a b) ∙ length-append (filter q a) (filter q b)
 
-immediate_now : (came : List Request) (frame : Frame) → immediate (came ++ now frame ∷ []) ≡ immediate came ++ now frame ∷ []
-immediate_now came frame = filter-append (λ (r : Request). not (is_some r.number)) came (now frame ∷ [])
+-- ---- a table of what is held, one of which is set
 
-pub held_now : (past : Past) (frame : Frame) → held (joined (now frame) past) ≡ held past
-unfolding held
-held_now past frame = filter-append (λ (r : Request). is_from (length (numbered past.acted)) r.number) past.came (now frame ∷ []) ∙ append-nil (held past)
+same_range : {A : Type 0} (f h : ℕ → A) (a n : ℕ) → ((j : ℕ) → a ≤ j → h j ≡ f j) → map f (range_with_len a n) ≡ map h (range_with_len a n)
+same_range f h a zero same = refl
+same_range f h a (suc n) same = rw (same a (omega arith), same_range f h (a + 1) n (λ j le. same j (omega arith))) refl
 
-pub arrived_now : (past : Past) (frame : Frame) → length (immediate past.acted) ≤ length (immediate past.came) → arrived (joined (now frame) past) ≡ arrived past ++ now frame ∷ []
-unfolding arrived
-arrived_now past frame le =
-    ap (drop (length (immediate past.acted))) (immediate_now past.came frame)
-    ∙ drop-append-le (length (immediate past.acted)) (immediate past.came) (now frame ∷ []) le
+set_range : {A : Type 0} (f h : ℕ → A) (v : A) (a n i k : ℕ) → i < n → k ≡ a + i → h k ≡ v → ((j : ℕ) → j ≢ k → h j ≡ f j)
+    → set (map f (range_with_len a n)) i v ≡ map h (range_with_len a n)
+set_range f h v a zero i k lt at is same = absurd (omega arith)
+set_range f h v a (suc n) zero k lt at is same =
+    let here : a ≡ k = omega arith in
+    rw (ap h here ∙ is, same_range f h (a + 1) n (λ j le. same j (λ e. omega arith))) refl
+set_range f h v a (suc n) (suc i) k lt at is same =
+    rw (same a (λ e. omega arith), set_range f h v (a + 1) n i k (omega arith) (omega arith) is same) refl
 
-pub unfinished_now : (past : Past) (frame : Frame) → length (immediate past.acted) ≤ length (immediate past.came) → unfinished (joined (now frame) past) ≡ frames_of (held past ++ (arrived past ++ now frame ∷ []) ++ queue past)
-unfolding queue
-unfinished_now past frame le =
-    ap (λ (rs : List Request). frames_of (rs ++ arrived (joined (now frame) past) ++ queue past)) (held_now past frame)
-    ∙ ap (λ (rs : List Request). frames_of (held past ++ rs ++ queue past)) (arrived_now past frame le)
+prefix_some : (l : List (Option Frame)) → prefix_len (λ o. is_some o) l ≡ prefix_len (λ b. b) (map is_some l)
+prefix_some [] = refl
+prefix_some (None ∷ l) = refl
+prefix_some (Some frame ∷ l) = rw (prefix_some l) refl
 
--- ---- one with a number
+map_map : (f : ℕ → Option Frame) (l : List ℕ) → map is_some (map f l) ≡ map (λ k. is_some (f k)) l
+map_map f [] = refl
+map_map f (k ∷ l) = ap (λ (rest : List Bool). is_some (f k) ∷ rest) (map_map f l)
 
-numbered_with : (came : List Request) (k : ℕ) (frame : Frame) → numbered (came ++ with k frame ∷ []) ≡ numbered came ++ k ∷ []
-numbered_with came k frame = filter_map-append (λ (r : Request). r.number) came (with k frame ∷ [])
+-- which of them have come
+pub marks_are : (came : List Request) (a n : ℕ) → map is_some (map (frame_numbered came) (range_with_len a n)) ≡ map (order.has_come (numbered came))
+    (range_with_len a n)
+marks_are came a n =
+    map_map (frame_numbered came) (range_with_len a n)
+    ∙ map_cong (λ k. is_some (frame_numbered came k)) (order.has_come (numbered came)) (range_with_len a n)
+    (λ i d lt. frame_marked came (get_or (range_with_len a n) i d))
 
-pub numbers_with : (past : Past) (k : ℕ) (frame : Frame) → numbers (joined (with k frame) past) ≡ record (numbers past) { came = numbered past.came ++ k ∷ [] }
-numbers_with past k frame = ap (λ (ks : List ℕ). record (numbers past) { came = ks }) (numbered_with past.came k frame)
+-- ---- numbers are taken
 
-immediate_with : (came : List Request) (k : ℕ) (frame : Frame) → immediate (came ++ with k frame ∷ []) ≡ immediate came
-immediate_with came k frame = filter-append (λ (r : Request). not (is_some r.number)) came (with k frame ∷ []) ∙ append-nil (immediate came)
+takes_one : (past : Past) (h : ℕ) (line : List Frame) → counted past.came past.finished ≤ h → order.has_come (numbered past.came) (h + window) ≡ false
+    → takes_next (tasks_with past h line) ≡ tasks_with past (suc h) (line ++ filter_map (λ o. o) (frame_numbered past.came h ∷ []))
+takes_one past h line few beyond =
+    let next : ((past.params.first_cmd_sn + h) % 2 ^ 32 + 1) % 2 ^ 32 ≡ (past.params.first_cmd_sn + suc h) % 2 ^ 32 = omega arith in
+    let more : h - counted past.came past.finished + 1 ≡ suc h - counted past.came past.finished = omega arith in
+    let turned : map (frame_numbered past.came) (range_with_len (h + 1) 31) ++ None ∷ [] ≡ map (frame_numbered past.came) (range_with_len (suc h) window) =
+    ap (λ (o : Option Frame). map (frame_numbered past.came) (range_with_len (h + 1) 31) ++ o ∷ []) (sym (frame_missing past.came (h + window) beyond))
+    ∙ sym (map-range_with_len_more (frame_numbered past.came) (h + 1) 31 (h + window) (omega arith))
+    ∙ ap (λ (k : ℕ). map (frame_numbered past.came) (range_with_len k window)) (add-one h) in
+    rw (next, more, turned) refl
 
-pub held_with : (past : Past) (k : ℕ) (frame : Frame) → length (numbered past.acted) ≤ k → held (joined (with k frame) past) ≡ held past ++ with k frame ∷ []
-unfolding held
-held_with past k frame le =
-    let handed = length (numbered past.acted) in
-    filter-append (λ (r : Request). is_from handed r.number) past.came (with k frame ∷ [])
-    ∙ ap (λ (b : Bool). held past ++ cond (not b) (with k frame ∷ []) []) (le-ltb k handed le)
+pub takes_many : (past : Past) (d h : ℕ) (line : List Frame) → counted past.came past.finished ≤ h
+    → ((k : ℕ) → h ≤ k → order.has_come (numbered past.came) (k + window) ≡ false)
+    → takes d (tasks_with past h line) ≡ tasks_with past (h + d) (line ++ filter_map (λ o. o) (map (frame_numbered past.came) (range_with_len h d)))
+takes_many past zero h line few beyond =
+    let same : h ≡ h + 0 = omega arith in
+    ap (λ (l : List Frame). tasks_with past h l) (sym (append-nil line)) ∙ ap (λ (n : ℕ). tasks_with past n (line ++ [])) same
+takes_many past (suc d) h line few beyond =
+    let more = line ++ filter_map (λ o. o) (frame_numbered past.came h ∷ []) in
+    let at : suc h + d ≡ h + suc d = omega arith in
+    let frames : more ++ filter_map (λ o. o) (map (frame_numbered past.came) (range_with_len (suc h) d)) ≡ line ++ filter_map (λ o. o)
+    (map (frame_numbered past.came) (range_with_len h (suc d))) =
+    append_assoc line (filter_map (λ o. o) (frame_numbered past.came h ∷ [])) (filter_map (λ o. o) (map (frame_numbered past.came) (range_with_len (suc h) d)))
+    ∙ ap (λ (l : List Frame). line ++ l)
+    (sym (filter_map-append (λ (o : Option Frame). o) (frame_numbered past.came h ∷ []) (map (frame_numbered past.came) (range_with_len (suc h) d)))
+    ∙ ap (λ (k : ℕ). filter_map (λ (o : Option Frame). o) (frame_numbered past.came h ∷ map (frame_numbered past.came) (range_with_len k d)))
+    (sym (add-one h))) in
+    ap (takes d) (takes_one past h line few (beyond h (omega arith)))
+    ∙ takes_many past d (suc h) more (omega arith) (λ k le. beyond k (omega arith))
+    ∙ ap (λ (l : List Frame). tasks_with past (suc h + d) l) frames
+    ∙ ap (λ (n : ℕ). tasks_with past n (line ++ filter_map (λ o. o) (map (frame_numbered past.came) (range_with_len h (suc d))))) at
 
-pub arrived_with : (past : Past) (k : ℕ) (frame : Frame) → arrived (joined (with k frame) past) ≡ arrived past
-unfolding arrived
-arrived_with past k frame = ap (drop (length (immediate past.acted))) (immediate_with past.came k frame)
+module _ (past : Past) (lawful : IsLawful past) where
+  pub finished_below : Below past past.finished
+  finished_below = λ i d lt. below_of (length past.came) _ past.acted lawful.below (lawful.acted i d lt)
 
-pub unfinished_with : (past : Past) (k : ℕ) (frame : Frame) → length (numbered past.acted) ≤ k → unfinished (joined (with k frame) past) ≡ frames_of ((held past ++ with k frame ∷ []) ++ arrived past ++ queue past)
-unfolding queue
-unfinished_with past k frame le =
-    ap (λ (rs : List Request). frames_of (rs ++ arrived (joined (with k frame) past) ++ queue past)) (held_with past k frame le)
-    ∙ ap (λ (rs : List Request). frames_of ((held past ++ with k frame ∷ []) ++ rs ++ queue past)) (arrived_with past k frame)
+  pub due_is : due past ≡ left past.acted (taken past.came)
+  unfolding due
+  due_is = left_none past.removed _ lawful.none_removed
 
--- the commands that are to be done are the same
-pub queue_same : (past : Past) (frame : Frame) → queue (accepted frame past) ≡ queue past
-unfolding queue
-queue_same past frame = refl
+  pub queue_is : queue past ≡ left past.finished (commands past.came past.acted)
+  unfolding queue
+  queue_is = left_none past.removed _ lawful.none_removed
 
--- ---- it stays lawful
+  pub acted_taken : (k : ℕ) → is_in k past.acted ≡ true → is_in k (taken past.came) ≡ true
+  acted_taken k e = ap (λ (l : List ℕ). is_in k l) lawful.in_order ∙ in_front k past.acted (due past) e
 
-distinct_more_with : (a k : ℕ) (ks : List ℕ) (b : Bool) → eqb a k ≡ b → (b || order.has_come ks k) ≡ false → (a ≢ k) × (order.has_come ks k ≡ false)
-distinct_more_with a k ks true e h = absurd cc
-distinct_more_with a k ks false e h = (eqb-false a k e, h)
+  -- what it takes is due behind what was due
+  pub due_more : (x : Request) → due (joined x past) ≡ due past ++ taken_at (past.came ++ x ∷ []) (length past.came)
+  unfolding due
+  due_more x =
+      let new = taken_at (past.came ++ x ∷ []) (length past.came) in
+      let distinct : AreDistinct (taken past.came ++ new) = subst AreDistinct (taken_more past.came x) (distinct_taken (past.came ++ x ∷ [])) in
+      let fresh : All (λ k. is_in k past.acted ≡ false) new =
+      λ i d lt. not_by _ past.acted (taken past.came) (acted_taken _) (apart_behind _ (taken past.came) new distinct (in_at new i d lt)) in
+      left_none past.removed _ lawful.none_removed ∙ ap (left past.acted) (taken_more past.came x) ∙ left_append past.acted (taken past.came) new
+      ∙ ap (λ (l : List ℕ). l ++ left past.acted new) (sym due_is) ∙ ap (λ (l : List ℕ). due past ++ l) (left_all past.acted new fresh)
 
-distinct_more : (ks : List ℕ) (k : ℕ) → AreDistinct ks → order.has_come ks k ≡ false → AreDistinct (ks ++ k ∷ [])
-distinct_more [] k d h = (refl, tt)
-distinct_more (a ∷ ks) k d h =
-    let other = distinct_more_with a k ks (eqb a k) refl h in
-    (come_before ks k a other.0 ∙ d.0, distinct_more ks k d.1 other.1)
+  pub queue_same : (x : Request) → queue (joined x past) ≡ queue past
+  unfolding queue
+  queue_same x = ap (λ (l : List ℕ). left past.removed (left past.finished l)) (commands_same past x past.acted lawful.below)
 
--- the index of a CmdSN is equal to it modulo 2^32
-index_is : (past : order.Past) (n : ℕ) → n < 2 ^ 32 → n ≡ (past.first + order.index_of past n) % 2 ^ 32
-index_is past n fits = omega arith
+  pub in_queue : (k : ℕ) → is_in k (queue past) ≡ true → is_in k past.acted ≡ true
+  in_queue k e = in_commands k past.acted (in_left k past.finished _ (ap (λ (l : List ℕ). is_in k l) (sym queue_is) ∙ e))
+    where
+      in_commands : (k : ℕ) (names : List ℕ) → is_in k (commands past.came names) ≡ true → is_in k names ≡ true
+      in_commands k names h = in_filter k (λ a. is_command (frame_of past.came a)) names h
 
-pub lawful_now : (past : Past) (frame : Frame) → is_immediate frame.header ≡ true → IsLawful past → IsLawful (joined (now frame) past)
-unfolding queue
-lawful_now past frame h lawful =
-    record {
-      numbers = subst (λ (p : order.Past). window.IsLawful p) (sym (numbers_now past frame)) lawful.numbers;
-      distinct = subst AreDistinct (sym (numbered_now past.came frame)) lawful.distinct;
-      named = All-push (HasNumber past.params.first_cmd_sn) past.came (now frame) lawful.named (λ k e. absurd cc);
-      delivered = All-push IsDelivered past.came (now frame) lawful.delivered (rw h refl);
-      acted = lawful.acted;
-      immediate = (let le = lawful.immediate in omega (arith, ap (λ (rs : List Request). length rs) (immediate_now past.came frame), length-append (immediate past.came) (now frame ∷ [])));
-      commands = lawful.commands;
-      unfinished = lawful.unfinished;
-    }
+  queue_below : Below past (queue past)
+  queue_below = λ i d lt. below_of (length past.came) _ past.acted lawful.below (in_queue _ (in_at (queue past) i d lt))
 
--- its number is counted from the session's first, and has not come
-pub lawful_with : (past : Past) (k : ℕ) (frame : Frame) → is_immediate frame.header ≡ false → cmd_sn frame.header ≡ (past.params.first_cmd_sn + k) % 2 ^ 32
-    → order.has_come (numbered past.came) k ≡ false → window.IsLawful (record (numbers past) { came = numbered past.came ++ k ∷ [] }) → IsLawful past → IsLawful (joined (with k frame) past)
-unfolding queue
-lawful_with past k frame h named missing numbers_lawful lawful =
-    record {
-      numbers = subst (λ (p : order.Past). window.IsLawful p) (sym (numbers_with past k frame)) numbers_lawful;
-      distinct = subst AreDistinct (sym (numbered_with past.came k frame)) (distinct_more (numbered past.came) k lawful.distinct missing);
-      named = All-push (HasNumber past.params.first_cmd_sn) past.came (with k frame) lawful.named (λ j e. let same : k ≡ j = cc in named ∙ ap (λ (x : ℕ). (past.params.first_cmd_sn + x) % 2 ^ 32) same);
-      delivered = All-push IsDelivered past.came (with k frame) lawful.delivered (rw h refl);
-      acted = lawful.acted;
-      immediate = (let le = lawful.immediate in omega (arith, ap (λ (rs : List Request). length rs) (immediate_with past.came k frame)));
-      commands = lawful.commands;
-      unfinished = lawful.unfinished;
-    }
+  due_below : Below past (due past)
+  due_below = λ i d lt. below_of (length past.came) _ (taken past.came) (taken_below past.came)
+      (in_left _ past.acted (taken past.came) (ap (λ (l : List ℕ). is_in (get_or (due past) i d) l) (sym due_is) ∙ in_at (due past) i d lt))
 
--- ---- what a session remembers
+  -- ---- it stays lawful
 
-pub stat_is : (answered : ℕ) (past : Past) (state : SessionState) → Stands answered past state → state.stat ≡ stat_sn answered
-stat_is answered past state s = (parts answered past state s).stat_is
+  lawful_joined : (x : Request) → windows.IsLawful (numbers (joined x past)) → AreDistinct (numbered (past.came ++ x ∷ [])) → IsDelivered x
+      → counted (past.came ++ x ∷ []) (taken_at (past.came ++ x ∷ []) (length past.came)) + first_of past.came ≡ first_of (past.came ++ x ∷ [])
+      → IsLawful (joined x past)
+  lawful_joined x window distinct delivered more =
+      let came = past.came ++ x ∷ [] in
+      let new = taken_at came (length past.came) in
+      record {
+        window = window;
+        distinct = distinct;
+        delivered = All-push IsDelivered past.came x lawful.delivered delivered;
+        in_order = taken_more past.came x ∙ ap (λ (l : List ℕ). l ++ new) lawful.in_order ∙ append_assoc past.acted (due past) new
+            ∙ ap (λ (l : List ℕ). past.acted ++ l) (sym (due_more x));
+        below = λ i d lt. (let le = lawful.below i d lt in omega (arith, length-append past.came (x ∷ [])));
+        acted = lawful.acted;
+        queued = rw (commands_same past x past.finished finished_below, queue_same x, commands_same past x past.acted lawful.below) lawful.queued;
+        at_once = rw (others_same past x past.finished finished_below, others_same past x past.acted lawful.below) lawful.at_once;
+        handed = ap (counted came) (taken_more past.came x) ∙ counted_append came (taken past.came) new
+            ∙ (let same = counted_same past x (taken past.came) (taken_below past.came)
+            in omega (arith, same, lawful.handed, handed_is past, handed_is (joined x past), more));
+        none_removed = lawful.none_removed;
+      }
 
--- its requests are those that are not finished
-pub open_is : (answered : ℕ) (past : Past) (state : SessionState) → Stands answered past state → state.tasks.held ++ state.tasks.arrived ++ state.tasks.queue ≡ unfinished past
-open_is answered past state s =
-    let r = parts answered past state s in
-    ap (λ (fs : List Frame). fs ++ state.tasks.arrived ++ state.tasks.queue) r.held_is
-    ∙ ap (λ (fs : List Frame). frames_of (held past) ++ fs ++ state.tasks.queue) r.arrived_is
-    ∙ ap (λ (fs : List Frame). frames_of (held past) ++ frames_of (arrived past) ++ fs) r.queue_is
-    ∙ ap (λ (fs : List Frame). fs ++ frames_of (queue past)) (sym (map-append (λ (r : Request). r.frame) (held past) (arrived past)))
-    ∙ sym (map-append (λ (r : Request). r.frame) (held past ++ arrived past) (queue past))
+  -- ---- what is remembered, where so many numbers are taken
 
--- ---- a session, one step further on
+  -- the numbers and the queue are the same
+  same_tasks : (x : Request) (handed : ℕ) (line : List Frame)
+      → tasks_with past handed line ≡ record (tasks_with (joined x past) handed line) { held = map (frame_numbered past.came) (range_with_len handed window) }
+  same_tasks x handed line =
+      let finished = counted_same past x past.finished finished_below in
+      let queued : frames_of (past.came ++ x ∷ []) (queue (joined x past)) ≡ frames_of past.came (queue past) = ap (frames_of (past.came ++ x ∷ []))
+      (queue_same x) ∙ frames_same past x (queue past) queue_below in
+      rw (finished, queued) refl
 
--- one more answer bore status
-pub answers_one : (answered : ℕ) (past : Past) (state : SessionState) (stat : ℕ) → Stands answered past state → stat ≡ stat_sn (suc answered) → Stands (answered + 1) past (record state { stat = stat })
-answers_one answered past state stat s e =
-    let r = parts answered past state s in
-    stands_from (answered + 1) past state.params state.window stat state.tasks.held state.tasks.arrived state.tasks.queue s.lawful (record {
-      params_is = r.params_is;
-      window_is = r.window_is;
-      stat_is = e ∙ ap stat_sn (sym (add-one answered));
-      held_is = r.held_is;
-      arrived_is = r.arrived_is;
-      queue_is = r.queue_is;
-    })
+  -- ---- one for immediate delivery
 
--- a request for immediate delivery waits
-pub admits : (answered : ℕ) (past : Past) (state : SessionState) (frame : Frame) → is_immediate frame.header ≡ true → Stands answered past state
-    → Stands answered (accepted frame past) (record state { tasks = record state.tasks { arrived = state.tasks.arrived ++ frame ∷ [] } })
-unfolding queue
-admits answered past state frame h s =
-    let r = parts answered past state s in
-    let after = joined (now frame) past in
-    let arrived_after : state.tasks.arrived ++ frame ∷ [] ≡ frames_of (arrived after) =
-    ap (λ (fs : List Frame). fs ++ frame ∷ []) r.arrived_is
-    ∙ sym (map-append (λ (r : Request). r.frame) (arrived past) (now frame ∷ []))
-    ∙ ap frames_of (sym (arrived_now past frame s.lawful.immediate)) in
-    subst (λ (p : Past). Stands answered p (record state { tasks = record state.tasks { arrived = state.tasks.arrived ++ frame ∷ [] } })) (sym (accepted_now past frame h))
-    (stands_from answered after state.params state.window state.stat state.tasks.held (state.tasks.arrived ++ frame ∷ []) state.tasks.queue (lawful_now past frame h s.lawful) (record {
-      params_is = r.params_is;
-      window_is = r.window_is ∙ ap window.remembered (sym (numbers_now past frame));
-      stat_is = r.stat_is;
-      held_is = r.held_is ∙ ap frames_of (sym (held_now past frame));
-      arrived_is = arrived_after;
-      queue_is = r.queue_is;
-    }))
+  numbered_now : (frame : Frame) → numbered (past.came ++ now frame ∷ []) ≡ numbered past.came
+  numbered_now frame = filter_map-append (λ (r : Request). r.number) past.came (now frame ∷ []) ∙ append-nil (numbered past.came)
 
--- ---- a request with a number waits
+  first_now : (frame : Frame) → first_of (past.came ++ now frame ∷ []) ≡ first_of past.came
+  first_now frame = ap front (numbered_now frame)
 
-missing_if : (inside come : Bool) → (inside && not come) ≡ true → come ≡ false
-missing_if true true e = absurd cc
-missing_if true false e = refl
-missing_if false come e = absurd cc
+  taken_just : (frame : Frame) → taken_at (past.came ++ now frame ∷ []) (length past.came) ≡ length past.came ∷ []
+  taken_just frame =
+      let e = first_now frame in
+      let none : first_of (past.came ++ now frame ∷ []) - first_of past.came ≡ 0 = omega arith in
+      taken_now past.came (now frame) (omega arith) ∙ ap
+      (λ (n : ℕ). length past.came ∷ map (place_of (past.came ++ now frame ∷ [])) (range_with_len (first_of past.came) n)) none
 
--- at the index of its CmdSN
-record Holds (past : Past) (n k : ℕ) : Type 0 where
-  arrives : order.arrived (numbers past) n ≡ record (numbers past) { came = numbered past.came ++ k ∷ [] }
-  missing : order.has_come (numbered past.came) k ≡ false
-  named : n ≡ (past.params.first_cmd_sn + k) % 2 ^ 32
-  waits : length (numbered past.acted) ≤ k
+  counted_now : (frame : Frame) → counted (past.came ++ now frame ∷ []) (length past.came ∷ []) ≡ 0
+  counted_now frame = rw (request_new past.came (now frame)) refl
 
-holds_at : (past : Past) (n : ℕ) → n < 2 ^ 32 → order.is_new (numbers past) n ≡ true → IsLawful past → Holds past n (order.index_of (numbers past) n)
-holds_at past n fits new lawful = record {
-  arrives = rw new refl;
-  missing = missing_if (order.in_window (numbers past) n) (order.has_come (numbered past.came) (order.index_of (numbers past) n)) new;
-  named = index_is (numbers past) n fits;
-  waits = (let handed = lawful.numbers.handed in omega arith);
-}
+  numbers_now : (frame : Frame) → numbers (joined (now frame) past) ≡ numbers past
+  unfolding taken_numbers
+  numbers_now frame = rw (numbered_now frame, counted_same past (now frame) past.finished finished_below) refl
 
-pub holds : (answered : ℕ) (past : Past) (state : SessionState) (frame : Frame) (w : window.WindowState) → is_immediate frame.header ≡ false → cmd_sn frame.header < 2 ^ 32
-    → order.is_new (numbers past) (cmd_sn frame.header) ≡ true → window.Stands (order.arrived (numbers past) (cmd_sn frame.header)) w → Stands answered past state
-    → Stands answered (accepted frame past) (record state { window = w; tasks = record state.tasks { held = state.tasks.held ++ frame ∷ [] } })
-unfolding queue
-holds answered past state frame w h fits new ws s =
-    let r = parts answered past state s in
-    let k = order.index_of (numbers past) (cmd_sn frame.header) in
-    let at = holds_at past (cmd_sn frame.header) fits new s.lawful in
-    let after = joined (with k frame) past in
-    let numbers_after : order.arrived (numbers past) (cmd_sn frame.header) ≡ numbers after = at.arrives ∙ sym (numbers_with past k frame) in
-    let held_after : state.tasks.held ++ frame ∷ [] ≡ frames_of (held after) =
-    ap (λ (fs : List Frame). fs ++ frame ∷ []) r.held_is
-    ∙ sym (map-append (λ (r : Request). r.frame) (held past) (with k frame ∷ []))
-    ∙ ap frames_of (sym (held_with past k frame at.waits)) in
-    subst (λ (p : Past). Stands answered p (record state { window = w; tasks = record state.tasks { held = state.tasks.held ++ frame ∷ [] } })) (sym (accepted_with past frame h))
-    (stands_from answered after state.params w state.stat (state.tasks.held ++ frame ∷ []) state.tasks.arrived state.tasks.queue
-    (lawful_with past k frame h at.named at.missing (subst (λ (p : order.Past). window.IsLawful p) at.arrives ws.lawful) s.lawful) (record {
-      params_is = r.params_is;
-      window_is = ws.remembered ∙ ap window.remembered numbers_after;
-      stat_is = r.stat_is;
-      held_is = held_after;
-      arrived_is = r.arrived_is ∙ ap frames_of (sym (arrived_with past k frame));
-      queue_is = r.queue_is;
-    }))
+  pub lawful_now : (frame : Frame) → is_immediate frame.header ≡ true → IsLawful (joined (now frame) past)
+  lawful_now frame h =
+      lawful_joined (now frame) (subst windows.IsLawful (sym (numbers_now frame)) lawful.window)
+      (subst AreDistinct (sym (numbered_now frame)) lawful.distinct) (rw h refl)
+      (let none = ap (counted (past.came ++ now frame ∷ [])) (taken_just frame) ∙ counted_now frame in let e = first_now frame in omega arith)
+
+  pub admitted : (frame : Frame) → record (tasks_of past) { due = (tasks_of past).due ++ frame ∷ [] } ≡ tasks_of (joined (now frame) past)
+  unfolding tasks_of
+  admitted frame =
+      let came = past.came ++ now frame ∷ [] in
+      let line = frames_of past.came (due past) in
+      let handed : (numbers past).handed ≡ (numbers (joined (now frame) past)).handed = ap (λ (p : order.Past). p.handed) (sym (numbers_now frame)) in
+      let dues : line ++ frame ∷ [] ≡ frames_of came (due (joined (now frame) past)) =
+      ap (λ (l : List Frame). l ++ frame ∷ []) (sym (frames_same past (now frame) (due past) due_below))
+      ∙ ap (λ (r : Request). frames_of came (due past) ++ r.frame ∷ []) (sym (request_new past.came (now frame)))
+      ∙ sym (map-append (frame_of came) (due past) (length past.came ∷ []))
+      ∙ ap (frames_of came) (sym (due_more (now frame) ∙ ap (λ (l : List ℕ). due past ++ l) (taken_just frame))) in
+      let held : map (frame_numbered past.came) (range_with_len (numbers past).handed window) ≡ map (frame_numbered came)
+      (range_with_len (numbers past).handed window) =
+      map_cong (frame_numbered past.came) (frame_numbered came) (range_with_len (numbers past).handed window)
+      (λ i d lt. sym (frame_other past.came (now frame) (get_or (range_with_len (numbers past).handed window) i d) refl)) in
+      ap (λ (t : TaskLists). record t { due = line ++ frame ∷ [] }) (same_tasks (now frame) (numbers past).handed line)
+      ∙ ap (λ (l : List (Option Frame)). record (tasks_with (joined (now frame) past) (numbers past).handed (line ++ frame ∷ [])) { held = l }) held
+      ∙ ap (λ (l : List Frame). tasks_with (joined (now frame) past) (numbers past).handed l) dues
+      ∙ ap (λ (n : ℕ). tasks_with (joined (now frame) past) n (frames_of came (due (joined (now frame) past)))) handed
+
+  -- ---- one with a number
+
+  -- the number of so many ahead of those taken, which has not come
+  pub record IsAhead (k ahead : ℕ) : Type 0 where
+    pub number : k ≡ (numbers past).handed + ahead
+    pub near : ahead + ((numbers past).handed - (numbers past).finished) < window
+    pub missing : order.has_come (numbered past.came) k ≡ false
+
+  numbered_with : (k : ℕ) (frame : Frame) → numbered (past.came ++ with k frame ∷ []) ≡ numbered past.came ++ k ∷ []
+  numbered_with k frame = filter_map-append (λ (r : Request). r.number) past.came (with k frame ∷ [])
+
+  first_with : (k : ℕ) (frame : Frame) → first_of past.came ≤ first_of (past.came ++ with k frame ∷ [])
+  first_with k frame = omega (arith, ap front (numbered_with k frame), front_more (numbered past.came) k)
+
+  window_lawful : (k ahead : ℕ) (frame : Frame) → IsAhead k ahead → windows.IsLawful (numbers (joined (with k frame) past))
+  window_lawful k ahead frame at =
+      let before = window_with (numbers past) ahead lawful.window at.near in
+      let more = first_with k frame in
+      let e = handed_is past in
+      let e' = handed_is (joined (with k frame) past) in
+      let same = counted_same past (with k frame) past.finished finished_below in
+      let few = lawful.window.finished in
+      record {
+        finished = omega arith;
+        handed = handed_le (joined (with k frame) past);
+        within = λ j come. (let lt = before.within j (ap (λ (l : List ℕ). order.has_come l j) (ap (λ (n : ℕ). numbered past.came ++ n ∷ []) (sym at.number)
+            ∙ sym (numbered_with k frame)) ∙ come) in omega arith);
+      }
+
+  distinct_more : (ks : List ℕ) (k : ℕ) → AreDistinct ks → order.has_come ks k ≡ false → AreDistinct (ks ++ k ∷ [])
+  distinct_more ks k distinct missing = distinct_append ks (k ∷ []) distinct (refl, tt)
+      (λ i d lt. differs (get_or ks i d) (λ same. let h = sym (in_at ks i d lt) ∙ ap (λ (n : ℕ). is_in n ks) same ∙ missing in cc))
+    where
+      differs : (a : ℕ) → (a ≡ k → ⊥) → is_in a (k ∷ []) ≡ false
+      differs a ne = rw (ne_eqb k a (λ e. absurd (ne (sym e)))) refl
+
+  pub lawful_with : (k ahead : ℕ) (frame : Frame) → is_immediate frame.header ≡ false → IsAhead k ahead → IsLawful (joined (with k frame) past)
+  lawful_with k ahead frame h at =
+      let came = past.came ++ with k frame ∷ [] in
+      let more = first_with k frame in
+      let d = first_of came - first_of past.came in
+      let each = counted_places came (first_of past.came) d (λ j le lt. front_come (numbered came) j (omega arith)) in
+      let new : counted came (taken_at came (length past.came)) ≡ d = ap (counted came) (taken_now past.came (with k frame) more) ∙ each in
+      lawful_joined (with k frame) (window_lawful k ahead frame at)
+      (subst AreDistinct (sym (numbered_with k frame)) (distinct_more (numbered past.came) k lawful.distinct at.missing)) (rw h refl) (omega arith)
+
+  pub held_now : (k ahead n : ℕ) (frame : Frame) → IsAhead k ahead → ahead ≡ distance (tasks_of past).next n
+      → takes_all (holding n frame (tasks_of past)) ≡ tasks_of (joined (with k frame) past)
+  unfolding tasks_of taken_numbers
+  held_now k ahead n frame at place =
+      let x = with k frame in
+      let came = past.came ++ x ∷ [] in
+      let f = (numbers past).handed in
+      let g = (numbers (joined x past)).handed in
+      let line = frames_of past.came (due past) in
+      let more = first_with k frame in
+      let e = handed_is past in
+      let e' = handed_is (joined x past) in
+      let after = window_lawful k ahead frame at in
+      let few = lawful.window.finished in
+      let same = counted_same past x past.finished finished_below in
+      let all : (j : ℕ) → f ≤ j → j < g → order.has_come (numbered came) j ≡ true = λ j le lt. front_come (numbered came) j (omega arith) in
+      let beyond : (j : ℕ) → f ≤ j → order.has_come (numbered came) (j + window) ≡ false = λ j le.
+      false_from_ne_true (order.has_come (numbered came) (j + window)) (λ h. let lt = after.within (j + window) h in absurd (omega arith)) in
+      let none : frame_numbered past.came k ≡ None = frame_missing past.came k at.missing in
+      let held : set (map (frame_numbered past.came) (range_with_len f window)) ahead (Some frame) ≡ map (frame_numbered came) (range_with_len f window) =
+      set_range (frame_numbered past.came) (frame_numbered came) (Some frame) f window ahead k (let near = at.near in omega arith) at.number
+      (frame_now past.came x k (eq-eqb k k refl) none) (λ j ne. frame_other past.came x j (ne_eqb k j (λ e. absurd (ne (sym e))))) in
+      let start : holding n frame (tasks_with past f line) ≡ tasks_with (joined x past) f line =
+      ap (λ (i : ℕ). record (tasks_with past f line) { held = set (map (frame_numbered past.came) (range_with_len f window)) i (Some frame) }) (sym place)
+      ∙ ap (λ (t : TaskLists). record t { held = set (map (frame_numbered past.came) (range_with_len f window)) ahead (Some frame) }) (same_tasks x f line)
+      ∙ ap (λ (l : List (Option Frame)). record (tasks_with (joined x past) f line) { held = l }) held in
+      let count : prefix_len (λ o. is_some o) (map (frame_numbered came) (range_with_len f window)) ≡ g - f =
+      prefix_some (map (frame_numbered came) (range_with_len f window)) ∙ ap (prefix_len (λ b. b)) (marks_are came f window)
+      ∙ prefix_range (order.has_come (numbered came)) f window (g - f) (let short = front_within (numbers (joined x past)) after
+      in omega arith) (λ j lt. front_come (numbered came) j (omega arith))
+      (λ lt. ap (order.has_come (numbered came)) (let sum : f + (g - f) ≡ first_of came = omega arith in sum) ∙ front_missing (numbered came)) in
+      let frames : line ++ filter_map (λ o. o) (map (frame_numbered came) (range_with_len f (g - f))) ≡ frames_of came (due (joined x past)) =
+      ap (λ (l : List Frame). line ++ l) (frames_come came f (g - f) (λ j le lt. all j (omega arith) (omega arith)))
+      ∙ ap (λ (l : List Frame). l ++ map (frame_of came) (map (place_of came) (range_with_len f (g - f)))) (sym (frames_same past x (due past) due_below))
+      ∙ sym (map-append (frame_of came) (due past) (map (place_of came) (range_with_len f (g - f))))
+      ∙ ap (frames_of came) (ap (λ (l : List ℕ). due past ++ l) (sym (taken_now past.came x more)) ∙ sym (due_more x)) in
+      ap takes_all start
+      ∙ ap (λ (m : ℕ). takes m (tasks_with (joined x past) f line)) count
+      ∙ takes_many (joined x past) (g - f) f line (omega arith) beyond
+      ∙ ap (λ (m : ℕ). tasks_with (joined x past) m (line ++ filter_map (λ o. o) (map (frame_numbered came) (range_with_len f (g - f)))))
+      (let sum : f + (g - f) ≡ g = omega arith in sum)
+      ∙ ap (λ (l : List Frame). tasks_with (joined x past) g l) frames

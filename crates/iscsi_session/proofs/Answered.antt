@@ -1,6 +1,6 @@
--- What a request is answered, by its opcode.
-use Rattle.std.proofs.Common.{◌≡◌, ◌≢◌, ℕ, min, List, [], ◌∷◌, ◌++◌, length, take, Bool, true, false, cond, ◌==◌, eqb, Option, Some, ◌+◌, refl, sym, ap, ◌∙◌, subst, arith, append-nil, add-zero}
-use Rattle.std.specs.Prelude.{flat_map}
+-- What a request is answered, by its opcode, and what its act leaves of the session.
+use Rattle.std.proofs.Common.{◌≡◌, inl, inr, ℕ, min, List, [], ◌∷◌, ◌++◌, length, take, drop, Bool, true, false, cond, ◌==◌, eqb, refl, sym, ap, ◌∙◌, subst, arith, append-nil}
+use Rattle.std.specs.Prelude.{◌⊎◌, flat_map}
 use Rattle.std.proofs.lemmas.Bool.{eqb-true}
 use Rattle.std.proofs.lemmas.List.{take_min}
 use Rattle.iscsi_pdu.specs.Header.{opcode_of, opcode_number, initiator_task_tag}
@@ -18,89 +18,94 @@ use Rattle.iscsi_pdu.specs.declared.stamp.Stamp.{Stamp}
 use Rattle.iscsi_login.specs.declared.params.Params.{Params}
 use Rattle.iscsi_login.specs.declared.values.Values.{Values}
 use Rattle.iscsi_session.specs.Judging.{reserved_tag, reject}
-use Rattle.iscsi_session.specs.Requests.{Request, Past, is_command, due, acted, bears_status, bearing, stamp}
+use Rattle.iscsi_session.specs.Requests.{Past, frame_of, frames_of, is_command, due, queue, finished, moved, bears_status, bearing, stamp, answering}
+use Rattle.iscsi_session.specs.State.{SessionState, TaskLists, Stands, one_fewer}
 use Rattle.iscsi_session.specs.declared.act.Act.{Act}
 use Rattle.iscsi_session.specs.declared.act.Act.TheVariants.{Idle, Taken, Ended}
-use Rattle.iscsi_session.specs.State.{SessionState, Stands}
-use Rattle.iscsi_session.specs.Acts.{act_answers, act_answers_by, ends, ends_by, act_by, acted_by, answers_by, closes, logout_response, logout_answer, ping_answers}
-use Rattle.iscsi_session.proofs.Due.{acted_other}
+use Rattle.iscsi_session.specs.Acts.{acted, act_answers, act_by, acted_by, answers_by, act_answers_by, ends, ends_by, closes, logout_response, logout_answer, ping_answers}
+use Rattle.iscsi_session.proofs.Parts.{parts, due_is, queue_is, stands_tasks}
+use Rattle.iscsi_session.proofs.Moved.{lawful_command, tasks_command, lawful_other, tasks_other, lawful_finished, tasks_finished}
 
--- ---- a SCSI Command
+-- ---- a request is counted as acted
 
-pub command_answers_none : (answered : ℕ) (request : Request) (past : Past) → is_command request.frame ≡ true → act_answers answered request past ≡ []
+same_by : (b : Bool) (past p q : Past) → p.params ≡ past.params → q.params ≡ past.params → p.answers ≡ past.answers → q.answers ≡ past.answers
+    → ((cond b p q).params ≡ past.params) × ((cond b p q).answers ≡ past.answers)
+same_by true past p q pp qp pa qa = (pp, pa)
+same_by false past p q pp qp pa qa = (qp, qa)
+
+pub moved_same : (k : ℕ) (past : Past) → ((moved k past).params ≡ past.params) × ((moved k past).answers ≡ past.answers)
+moved_same k past =
+    same_by (is_command (frame_of past.came k)) past (record past { acted = past.acted ++ k ∷ [] })
+    (record past { acted = past.acted ++ k ∷ []; finished = past.finished ++ k ∷ [] }) refl refl refl refl
+
+-- ---- by the opcode
+
+pub command_answers_none : (k : ℕ) (past : Past) → is_command (frame_of past.came k) ≡ true → act_answers k past ≡ []
 unfolding act_answers
-command_answers_none answered request past e =
-    ap (λ (n : ℕ). act_answers_by (opcode_of n) (stamp answered (acted request past)) past.params request.frame) (eqb-true (opcode_number request.frame.header) 0x01 e)
+command_answers_none k past e =
+    ap (λ (n : ℕ). act_answers_by (opcode_of n) (stamp (moved k past)) past.params (frame_of past.came k))
+    (eqb-true (opcode_number (frame_of past.came k).header) 0x01 e)
 
 pub command_goes_on : (params : Params) (frame : Frame) → is_command frame ≡ true → ends params frame ≡ false
 unfolding ends
 command_goes_on params frame e = ap (λ (n : ℕ). ends_by (opcode_of n) params frame) (eqb-true (opcode_number frame.header) 0x01 e)
 
--- ---- a NOP-Out
+abbrev pub kind_of : Frame → Opcode
+kind_of frame = opcode_of (opcode_number frame.header)
 
-pub params_same : (past : Past) (request : Request) → is_command request.frame ≡ false → (acted request past).params ≡ past.params
-params_same past request e = ap (λ (p : Past). p.params) (acted_other past request e)
-
-pub ping_is : (answered : ℕ) (request : Request) (past : Past) → is_command request.frame ≡ false → opcode_of (opcode_number request.frame.header) ≡ opcodes.NopOut
-    → act_answers answered request past ≡ ping_answers (stamp answered (acted request past)) (acted request past).params.values request.frame
+pub ping_is : (k : ℕ) (past : Past) → kind_of (frame_of past.came k) ≡ opcodes.NopOut
+    → act_answers k past ≡ ping_answers (stamp (moved k past)) (moved k past).params.values (frame_of past.came k)
 unfolding act_answers
-ping_is answered request past e is =
-    ap (λ (o : Opcode). act_answers_by o (stamp answered (acted request past)) past.params request.frame) is
-    ∙ ap (λ (p : Params). ping_answers (stamp answered (acted request past)) p.values request.frame) (sym (params_same past request e))
+ping_is k past is =
+    ap (λ (o : Opcode). act_answers_by o (stamp (moved k past)) past.params (frame_of past.came k)) is
+    ∙ ap (λ (p : Params). ping_answers (stamp (moved k past)) p.values (frame_of past.came k)) (sym (moved_same k past).0)
 
-pub ping_goes_on : (params : Params) (frame : Frame) → opcode_of (opcode_number frame.header) ≡ opcodes.NopOut → ends params frame ≡ false
+pub ping_goes_on : (params : Params) (frame : Frame) → kind_of frame ≡ opcodes.NopOut → ends params frame ≡ false
 unfolding ends
 ping_goes_on params frame is = ap (λ (o : Opcode). ends_by o params frame) is
 
--- ---- a Logout
-
-apart : (b : Bool) (x y : Opcode) → x ≢ opcodes.ScsiCommand → y ≢ opcodes.ScsiCommand → cond b x y ≢ opcodes.ScsiCommand
-apart true x y p q = p
-apart false x y p q = q
-
--- no other opcode is that of a SCSI Command
-no_command : (n : ℕ) → eqb n 0x01 ≡ false → opcode_of n ≢ opcodes.ScsiCommand
-no_command n e =
-    rw e (apart (eqb n 0x00) opcodes.NopOut _ (λ h. cc)
-    (apart (eqb n 0x02) opcodes.TaskManagement _ (λ h. cc)
-    (apart (eqb n 0x03) opcodes.Login _ (λ h. cc)
-    (apart (eqb n 0x04) opcodes.Text _ (λ h. cc)
-    (apart (eqb n 0x05) opcodes.DataOut _ (λ h. cc)
-    (apart (eqb n 0x06) opcodes.Logout _ (λ h. cc)
-    (apart (eqb n 0x10) opcodes.Snack (opcodes.Other n) (λ h. cc) (λ h. cc))))))))
-
-answers_logout : (o : Opcode) (numbers_now : Stamp) (params : Params) (frame : Frame) → o ≢ opcodes.ScsiCommand → o ≢ opcodes.NopOut → act_answers_by o numbers_now params frame ≡ logout_answer numbers_now params frame ∷ []
-answers_logout opcodes.ScsiCommand numbers_now params frame p q = absurd (p refl)
-answers_logout opcodes.NopOut numbers_now params frame p q = absurd (q refl)
-answers_logout opcodes.TaskManagement numbers_now params frame p q = refl
-answers_logout opcodes.Login numbers_now params frame p q = refl
-answers_logout opcodes.Text numbers_now params frame p q = refl
-answers_logout opcodes.DataOut numbers_now params frame p q = refl
-answers_logout opcodes.Logout numbers_now params frame p q = refl
-answers_logout opcodes.Snack numbers_now params frame p q = refl
-answers_logout (opcodes.Other n) numbers_now params frame p q = refl
-
-ends_logout : (o : Opcode) (params : Params) (frame : Frame) → o ≢ opcodes.ScsiCommand → o ≢ opcodes.NopOut → ends_by o params frame ≡ closes params frame
-ends_logout opcodes.ScsiCommand params frame p q = absurd (p refl)
-ends_logout opcodes.NopOut params frame p q = absurd (q refl)
-ends_logout opcodes.TaskManagement params frame p q = refl
-ends_logout opcodes.Login params frame p q = refl
-ends_logout opcodes.Text params frame p q = refl
-ends_logout opcodes.DataOut params frame p q = refl
-ends_logout opcodes.Logout params frame p q = refl
-ends_logout opcodes.Snack params frame p q = refl
-ends_logout (opcodes.Other n) params frame p q = refl
-
-pub logout_is : (answered : ℕ) (request : Request) (past : Past) → is_command request.frame ≡ false → opcode_of (opcode_number request.frame.header) ≢ opcodes.NopOut
-    → act_answers answered request past ≡ logout_answer (stamp answered (acted request past)) (acted request past).params request.frame ∷ []
+pub logout_is : (k : ℕ) (past : Past) → kind_of (frame_of past.came k) ≡ opcodes.Logout
+    → act_answers k past ≡ logout_answer (stamp (moved k past)) (moved k past).params (frame_of past.came k) ∷ []
 unfolding act_answers
-logout_is answered request past e other =
-    answers_logout (opcode_of (opcode_number request.frame.header)) (stamp answered (acted request past)) past.params request.frame (no_command (opcode_number request.frame.header) e) other
-    ∙ ap (λ (p : Params). logout_answer (stamp answered (acted request past)) p request.frame ∷ []) (sym (params_same past request e))
+logout_is k past is =
+    ap (λ (o : Opcode). act_answers_by o (stamp (moved k past)) past.params (frame_of past.came k)) is
+    ∙ ap (λ (p : Params). logout_answer (stamp (moved k past)) p (frame_of past.came k) ∷ []) (sym (moved_same k past).0)
 
-pub logout_ends : (params : Params) (frame : Frame) → is_command frame ≡ false → opcode_of (opcode_number frame.header) ≢ opcodes.NopOut → ends params frame ≡ closes params frame
+pub logout_ends : (params : Params) (frame : Frame) → kind_of frame ≡ opcodes.Logout → ends params frame ≡ closes params frame
 unfolding ends
-logout_ends params frame e other = ends_logout (opcode_of (opcode_number frame.header)) params frame (no_command (opcode_number frame.header) e) other
+logout_ends params frame is = ap (λ (o : Opcode). ends_by o params frame) is
+
+-- no request of any other kind is answered, and none ends the session
+abbrev pub IsOther : Opcode → Type 0
+IsOther o =
+    (o ≡ opcodes.ScsiCommand) ⊎ ((o ≡ opcodes.TaskManagement) ⊎ ((o ≡ opcodes.Login) ⊎ ((o ≡ opcodes.Text)
+    ⊎ ((o ≡ opcodes.DataOut) ⊎ ((o ≡ opcodes.Snack) ⊎ ((n : ℕ) × (o ≡ opcodes.Other n)))))))
+
+other_answers : (o : Opcode) (numbers_now : Stamp) (params : Params) (frame : Frame) → IsOther o → act_answers_by o numbers_now params frame ≡ []
+other_answers o numbers_now params frame (inl e) = rw e refl
+other_answers o numbers_now params frame (inr (inl e)) = rw e refl
+other_answers o numbers_now params frame (inr (inr (inl e))) = rw e refl
+other_answers o numbers_now params frame (inr (inr (inr (inl e)))) = rw e refl
+other_answers o numbers_now params frame (inr (inr (inr (inr (inl e))))) = rw e refl
+other_answers o numbers_now params frame (inr (inr (inr (inr (inr (inl e)))))) = rw e refl
+other_answers o numbers_now params frame (inr (inr (inr (inr (inr (inr (n, e))))))) = rw e refl
+
+other_ends : (o : Opcode) (params : Params) (frame : Frame) → IsOther o → ends_by o params frame ≡ false
+other_ends o params frame (inl e) = rw e refl
+other_ends o params frame (inr (inl e)) = rw e refl
+other_ends o params frame (inr (inr (inl e))) = rw e refl
+other_ends o params frame (inr (inr (inr (inl e)))) = rw e refl
+other_ends o params frame (inr (inr (inr (inr (inl e))))) = rw e refl
+other_ends o params frame (inr (inr (inr (inr (inr (inl e)))))) = rw e refl
+other_ends o params frame (inr (inr (inr (inr (inr (inr (n, e))))))) = rw e refl
+
+pub other_is : (k : ℕ) (past : Past) → IsOther (kind_of (frame_of past.came k)) → act_answers k past ≡ []
+unfolding act_answers
+other_is k past is = other_answers (kind_of (frame_of past.came k)) (stamp (moved k past)) past.params (frame_of past.came k) is
+
+pub other_goes_on : (params : Params) (frame : Frame) → IsOther (kind_of frame) → ends params frame ≡ false
+unfolding ends
+other_goes_on params frame is = other_ends (kind_of frame) params frame is
 
 bears_by : (b : Bool) (x y : Answer) → bears_status x ≡ true → bears_status y ≡ true → bears_status (cond b x y) ≡ true
 bears_by true x y p q = p
@@ -126,101 +131,201 @@ pub record PingIs (values : Values) (frame : Frame) (tag : ℕ) (body : List ℕ
   pub tag_is : tag ≡ initiator_task_tag frame.header
   pub body_is : body ≡ take (min values.max_recv_data_segment_length most_data) frame.body
 
-pub ping_written : (old new body : List ℕ) (tag : ℕ) (numbers_now given : Stamp) (values : Values) (frame : Frame) → PingIs values frame tag body → given ≡ numbers_now
-    → new ≡ old ++ spelling (answers.NopIn (record { initiator_task_tag = tag; stamp = given; body = body })) → new ≡ old ++ flat_map spelling (ping_answers numbers_now values frame)
+pub ping_written : (old new body : List ℕ) (tag : ℕ) (numbers_now given : Stamp) (values : Values) (frame : Frame) → PingIs values frame tag body
+    → given ≡ numbers_now
+    → new ≡ old ++ spelling (answers.NopIn (record { initiator_task_tag = tag; stamp = given; body = body }))
+    → new ≡ old ++ flat_map spelling (ping_answers numbers_now values frame)
 ping_written old new body tag numbers_now given values frame is same written =
-    let answer : Answer = answers.NopIn (record { initiator_task_tag = initiator_task_tag frame.header; stamp = numbers_now; body = take (min values.max_recv_data_segment_length most_data) frame.body }) in
+    let answer : Answer = answers.NopIn
+    (record {
+      initiator_task_tag = initiator_task_tag frame.header;
+      stamp = numbers_now;
+      body = take (min values.max_recv_data_segment_length most_data)
+          frame.body;
+    }) in
     let answer_is : ping_answers numbers_now values frame ≡ answer ∷ [] = rw is.asks refl in
-    let spelled : spelling (answers.NopIn (record { initiator_task_tag = tag; stamp = given; body = body })) ≡ spelling answer = rw (is.tag_is, same, is.body_is) refl in
-    written ∙ ap (λ (bytes : List ℕ). old ++ bytes) (spelled ∙ sym (append-nil (spelling answer))) ∙ ap (λ (l : List Answer). old ++ flat_map spelling l) (sym answer_is)
+    let spelled : spelling (answers.NopIn (record { initiator_task_tag = tag; stamp = given; body = body })) ≡ spelling answer = rw
+    (is.tag_is, same, is.body_is) refl in
+    written ∙ ap (λ (bytes : List ℕ). old ++ bytes) (spelled ∙ sym (append-nil (spelling answer)))
+    ∙ ap (λ (l : List Answer). old ++ flat_map spelling l) (sym answer_is)
 
 -- no more than there is, no more than the initiator takes, and no more than a PDU bears
 pub ping_data : (length_is n most : ℕ) (body : List ℕ) → length_is ≡ length body → take (min (min length_is n) most) body ≡ take (min n most) body
 ping_data length_is n most body e =
     ap (λ (k : ℕ). take k body) (let same : min (min length_is n) most ≡ min (min n most) (length body) = omega arith in same) ∙ take_min (min n most) body
 
+-- ---- what is left of the session
+
+answering_none : (past : Past) (more : List Answer) → more ≡ [] → past ≡ answering more past
+answering_none past more e = ap (λ (l : List Answer). record past { answers = l }) (sym (append-nil past.answers))
+    ∙ ap (λ (l : List Answer). answering l past) (sym e)
+
+moved_command : (k : ℕ) (past : Past) → is_command (frame_of past.came k) ≡ true → record past { acted = past.acted ++ k ∷ [] } ≡ moved k past
+moved_command k past e = rw e refl
+
+moved_other : (k : ℕ) (past : Past) → is_command (frame_of past.came k) ≡ false
+    → record past { acted = past.acted ++ k ∷ []; finished = past.finished ++ k ∷ [] } ≡ moved k past
+moved_other k past e = rw e refl
+
+-- the first that is due, in the code
+pub first_due : (past : Past) (state : SessionState) (k : ℕ) (rest : List ℕ) → Stands past state → due past ≡ k ∷ rest
+    → state.tasks.due ≡ frame_of past.came k ∷ frames_of past.came rest
+first_due past state k rest s is = due_is past state s ∙ ap (frames_of past.came) is
+
+pub stands_command : (past : Past) (state : SessionState) (k : ℕ) (rest : List ℕ) → Stands past state → due past ≡ k ∷ rest
+    → is_command (frame_of past.came k) ≡ true
+    → Stands (acted k past)
+    (record state { tasks = record state.tasks { due = frames_of past.came rest; queue = state.tasks.queue ++ frame_of past.came k ∷ [] } })
+stands_command past state k rest s is e =
+    let after : Past = record past { acted = past.acted ++ k ∷ [] } in
+    let same : after ≡ acted k past = moved_command k past e ∙ answering_none (moved k past) (act_answers k past) (command_answers_none k past e) in
+    subst (λ (p : Past). Stands p
+    (record state { tasks = record state.tasks { due = frames_of past.came rest; queue = state.tasks.queue ++ frame_of past.came k ∷ [] } })) same
+    (stands_tasks past after state _ s (lawful_command past s.lawful k rest is e) refl refl
+    (ap (λ (t : TaskLists). record t { due = frames_of past.came rest; queue = t.queue ++ frame_of past.came k ∷ [] }) (parts past state s).tasks_is
+    ∙ tasks_command past s.lawful k rest is e))
+
+pub stands_queued : (past : Past) (state : SessionState) (k : ℕ) (rest : List ℕ) (frame : Frame) (others : List Frame) (tasks : TaskLists)
+    → Stands past state → due past ≡ k ∷ rest → is_command (frame_of past.came k) ≡ true
+    → frame ≡ frame_of past.came k → others ≡ frames_of past.came rest
+    → tasks ≡ record state.tasks { due = others; queue = state.tasks.queue ++ frame ∷ [] } → Stands (acted k past) (record state { tasks = tasks })
+stands_queued past state k rest frame others tasks s is e here left same = rw (same, here, left) (stands_command past state k rest s is e)
+
+pub stands_other : (past : Past) (state : SessionState) (k : ℕ) (rest : List ℕ) → Stands past state → due past ≡ k ∷ rest
+    → is_command (frame_of past.came k) ≡ false
+    → Stands (moved k past) (record state { tasks = one_fewer (frame_of past.came k) (record state.tasks { due = drop 1 state.tasks.due }) })
+stands_other past state k rest s is e =
+    let after : Past = record past { acted = past.acted ++ k ∷ []; finished = past.finished ++ k ∷ [] } in
+    let dropped : drop 1 state.tasks.due ≡ frames_of past.came rest = ap (drop 1) (first_due past state k rest s is) in
+    subst (λ (p : Past). Stands p (record state { tasks = one_fewer (frame_of past.came k) (record state.tasks { due = drop 1 state.tasks.due }) }))
+    (moved_other k past e)
+    (stands_tasks past after state _ s (lawful_other past s.lawful k rest is e) refl refl
+    (ap (λ (l : List Frame). one_fewer (frame_of past.came k) (record state.tasks { due = l })) dropped
+    ∙ ap (λ (t : TaskLists). one_fewer (frame_of past.came k) (record t { due = frames_of past.came rest })) (parts past state s).tasks_is
+    ∙ tasks_other past s.lawful k rest is e))
+
+pub same_head : (a b : Frame) (x y l : List Frame) → l ≡ a ∷ x → l ≡ b ∷ y → a ≡ b
+same_head a b x y l p q = let both : a ∷ x ≡ b ∷ y = sym p ∙ q in cc
+
+-- the first that is due is finished, in the code
+pub finished_here : (past : Past) (state : SessionState) (k : ℕ) (rest : List ℕ) (frame : Frame) (tasks : TaskLists) → Stands past state
+    → due past ≡ k ∷ rest → is_command (frame_of past.came k) ≡ false
+    → state.tasks.due ≡ frame ∷ drop 1 state.tasks.due → tasks ≡ one_fewer frame (record state.tasks { due = drop 1 state.tasks.due })
+    → (frame ≡ frame_of past.came k) × Stands (moved k past) (record state { tasks = tasks })
+finished_here past state k rest frame tasks s is e some same =
+    let here = same_head frame (frame_of past.came k) (drop 1 state.tasks.due) (frames_of past.came rest) state.tasks.due some
+    (first_due past state k rest s is) in
+    (here, rw (same, here) (stands_other past state k rest s is e))
+
+pub ping_act : (k : ℕ) (past : Past) → kind_of (frame_of past.came k) ≡ opcodes.NopOut → Taken ≡ cond (ends past.params (frame_of past.came k)) Ended Taken
+ping_act k past is = ap (λ (b : Bool). cond b Ended Taken) (sym (ping_goes_on past.params (frame_of past.came k) is))
+
+pub other_act : (k : ℕ) (past : Past) → IsOther (kind_of (frame_of past.came k)) → Taken ≡ cond (ends past.params (frame_of past.came k)) Ended Taken
+other_act k past is = ap (λ (b : Bool). cond b Ended Taken) (sym (other_goes_on past.params (frame_of past.came k) is))
+
+pub logout_act : (k : ℕ) (past : Past) (frame : Frame) (params : Params) (act : Act) → frame ≡ frame_of past.came k → params ≡ past.params
+    → kind_of (frame_of past.came k) ≡ opcodes.Logout
+    → act ≡ cond (closes params frame) Ended Taken → act ≡ cond (ends past.params (frame_of past.came k)) Ended Taken
+logout_act k past frame params act same agreed kind is =
+    is ∙ ap (λ (p : Params). cond (closes p frame) Ended Taken) agreed ∙ ap (λ (f : Frame). cond (closes past.params f) Ended Taken) same
+    ∙ ap (λ (b : Bool). cond b Ended Taken) (sym (logout_ends past.params (frame_of past.came k) kind))
+
+pub ping_same : (k : ℕ) (past : Past) (frame : Frame) → frame ≡ frame_of past.came k → kind_of (frame_of past.came k) ≡ opcodes.NopOut
+    → ping_answers (stamp (moved k past)) (moved k past).params.values frame ≡ act_answers k past
+ping_same k past frame same kind = ap (ping_answers (stamp (moved k past)) (moved k past).params.values) same ∙ sym (ping_is k past kind)
+
+pub logout_same : (k : ℕ) (past : Past) (frame : Frame) → frame ≡ frame_of past.came k → kind_of (frame_of past.came k) ≡ opcodes.Logout
+    → logout_answer (stamp (moved k past)) (moved k past).params frame ∷ [] ≡ act_answers k past
+logout_same k past frame same kind = ap (λ (f : Frame). logout_answer (stamp (moved k past)) (moved k past).params f ∷ []) same ∙ sym (logout_is k past kind)
+
+pub one_spelled : (old : List ℕ) (answer : Answer) (all : List Answer) → answer ∷ [] ≡ all → old ++ spelling answer ≡ old ++ flat_map spelling all
+one_spelled old answer all e = ap (λ (bytes : List ℕ). old ++ bytes) (sym (append-nil (spelling answer)))
+    ∙ ap (λ (l : List Answer). old ++ flat_map spelling l) e
+
+pub none_spelled : (old : List ℕ) (all : List Answer) → all ≡ [] → old ≡ old ++ flat_map spelling all
+none_spelled old all e = sym (append-nil old) ∙ ap (λ (l : List Answer). old ++ flat_map spelling l) (sym e)
+
+pub stands_silent : (k : ℕ) (past : Past) (state : SessionState) → act_answers k past ≡ [] → Stands (moved k past) state → Stands (acted k past) state
+stands_silent k past state e s = subst (λ (p : Past). Stands p state) (answering_none (moved k past) (act_answers k past) e) s
+
+pub some_due : (past : Past) (state : SessionState) (k : ℕ) (rest : List ℕ) → Stands past state → due past ≡ k ∷ rest → state.tasks.due ≡ [] → ⊥
+some_due past state k rest s is none = let both : frame_of past.came k ∷ frames_of past.came rest ≡ [] = sym (first_due past state k rest s is) ∙ none in cc
+
 -- ---- the next act
 
+no_names : (past : Past) (l : List ℕ) → frames_of past.came l ≡ [] → l ≡ []
+no_names past [] e = refl
+no_names past (k ∷ l) e = absurd cc
+
+pub none_due : (past : Past) (state : SessionState) → Stands past state → state.tasks.due ≡ [] → due past ≡ []
+none_due past state s e = no_names past (due past) (sym (due_is past state s) ∙ e)
+
+some_names : (past : Past) (l : List ℕ) (frame : Frame) (others : List Frame) → frames_of past.came l ≡ frame ∷ others
+    → (k : ℕ) × (rest : List ℕ) × (l ≡ k ∷ rest) × (frame ≡ frame_of past.came k) × (others ≡ frames_of past.came rest)
+some_names past [] frame others e = absurd cc
+some_names past (k ∷ l) frame others e = (k, l, refl, cc, cc)
+
+pub due_first : (past : Past) (state : SessionState) (frame : Frame) (others : List Frame) → Stands past state → state.tasks.due ≡ frame ∷ others
+    → (k : ℕ) × (rest : List ℕ) × (due past ≡ k ∷ rest) × (frame ≡ frame_of past.came k) × (others ≡ frames_of past.came rest)
+due_first past state frame others s e = some_names past (due past) frame others (sym (due_is past state s) ∙ e)
+
 pub idle_act : (past : Past) → due past ≡ [] → Idle ≡ act_by (due past) past
-idle_act past e = ap (λ (l : List Request). act_by l past) (sym e)
+idle_act past e = ap (λ (l : List ℕ). act_by l past) (sym e)
 
-pub idle_stands : (answered : ℕ) (past : Past) (state : SessionState) → due past ≡ [] → Stands answered past state → Stands (answered + bearing (answers_by (due past) answered past)) (acted_by (due past) past) state
-idle_stands answered past state e s =
-    subst (λ (l : List Request). Stands (answered + bearing (answers_by l answered past)) (acted_by l past) state) (sym e) (subst (λ (n : ℕ). Stands n past state) (sym (add-zero answered)) s)
+pub idle_stands : (past : Past) (state : SessionState) → due past ≡ [] → Stands past state → Stands (acted_by (due past) past) state
+idle_stands past state e s = subst (λ (l : List ℕ). Stands (acted_by l past) state) (sym e) s
 
-pub idle_out : (answered : ℕ) (past : Past) (items : List ℕ) → due past ≡ [] → items ≡ items ++ flat_map spelling (answers_by (due past) answered past)
-idle_out answered past items e = sym (append-nil items) ∙ ap (λ (l : List Request). items ++ flat_map spelling (answers_by l answered past)) (sym e)
+pub idle_out : (past : Past) (items : List ℕ) → due past ≡ [] → items ≡ items ++ flat_map spelling (answers_by (due past) past)
+idle_out past items e = none_spelled items (answers_by (due past) past) (ap (λ (l : List ℕ). answers_by l past) e)
 
-pub one_act : (past : Past) (request : Request) (others : List Request) (act : Act) → due past ≡ request ∷ others → act ≡ cond (ends past.params request.frame) Ended Taken → act ≡ act_by (due past) past
-one_act past request others act e is = is ∙ ap (λ (l : List Request). act_by l past) (sym e)
+pub one_act : (past : Past) (k : ℕ) (rest : List ℕ) (act : Act) → due past ≡ k ∷ rest → act ≡ cond (ends past.params (frame_of past.came k)) Ended Taken
+    → act ≡ act_by (due past) past
+one_act past k rest act e is = is ∙ ap (λ (l : List ℕ). act_by l past) (sym e)
 
-pub one_stands : (answered : ℕ) (past : Past) (request : Request) (others : List Request) (state : SessionState) → due past ≡ request ∷ others
-    → Stands (answered + bearing (act_answers answered request past)) (acted request past) state → Stands (answered + bearing (answers_by (due past) answered past)) (acted_by (due past) past) state
-one_stands answered past request others state e s = subst (λ (l : List Request). Stands (answered + bearing (answers_by l answered past)) (acted_by l past) state) (sym e) s
+pub one_stands : (past : Past) (k : ℕ) (rest : List ℕ) (state : SessionState) → due past ≡ k ∷ rest → Stands (acted k past) state
+    → Stands (acted_by (due past) past) state
+one_stands past k rest state e s = subst (λ (l : List ℕ). Stands (acted_by l past) state) (sym e) s
 
-pub one_out : (answered : ℕ) (past : Past) (request : Request) (others : List Request) (old new : List ℕ) → due past ≡ request ∷ others
-    → new ≡ old ++ flat_map spelling (act_answers answered request past) → new ≡ old ++ flat_map spelling (answers_by (due past) answered past)
-one_out answered past request others old new e is = is ∙ ap (λ (l : List Request). old ++ flat_map spelling (answers_by l answered past)) (sym e)
+pub one_out : (past : Past) (k : ℕ) (rest : List ℕ) (old new : List ℕ) → due past ≡ k ∷ rest → new ≡ old ++ flat_map spelling (act_answers k past)
+    → new ≡ old ++ flat_map spelling (answers_by (due past) past)
+one_out past k rest old new e is = is ∙ ap (λ (l : List ℕ). old ++ flat_map spelling (answers_by l past)) (sym e)
 
--- a SCSI Command is not answered yet
-pub command_act : (past : Past) (request : Request) → is_command request.frame ≡ true → Taken ≡ cond (ends past.params request.frame) Ended Taken
-command_act past request e = ap (λ (b : Bool). cond b Ended Taken) (sym (command_goes_on past.params request.frame e))
+pub command_act : (k : ℕ) (past : Past) → is_command (frame_of past.came k) ≡ true → Taken ≡ cond (ends past.params (frame_of past.came k)) Ended Taken
+command_act k past e = ap (λ (b : Bool). cond b Ended Taken) (sym (command_goes_on past.params (frame_of past.came k) e))
 
-pub command_stands : (answered : ℕ) (past : Past) (request : Request) (state : SessionState) → is_command request.frame ≡ true → Stands answered (acted request past) state
-    → Stands (answered + bearing (act_answers answered request past)) (acted request past) state
-command_stands answered past request state e s =
-    subst (λ (l : List Answer). Stands (answered + bearing l) (acted request past) state) (sym (command_answers_none answered request past e)) (subst (λ (n : ℕ). Stands n (acted request past) state) (sym (add-zero answered)) s)
+-- ---- the first of the queue is finished
 
-pub command_out : (answered : ℕ) (past : Past) (request : Request) (items : List ℕ) → is_command request.frame ≡ true → items ≡ items ++ flat_map spelling (act_answers answered request past)
-command_out answered past request items e = sym (append-nil items) ∙ ap (λ (l : List Answer). items ++ flat_map spelling l) (sym (command_answers_none answered request past e))
+pub queue_first : (past : Past) (state : SessionState) (frame : Frame) (others : List Frame) → Stands past state → state.tasks.queue ≡ frame ∷ others
+    → (k : ℕ) × (rest : List ℕ) × (queue past ≡ k ∷ rest) × (frame ≡ frame_of past.came k) × (others ≡ frames_of past.came rest)
+queue_first past state frame others s e = some_names past (queue past) frame others (sym (queue_is past state s) ∙ e)
 
--- ---- the request that acted
+pub none_queued : (past : Past) (state : SessionState) → Stands past state → state.tasks.queue ≡ [] → queue past ≡ []
+none_queued past state s e = no_names past (queue past) (sym (queue_is past state s) ∙ e)
 
-pub same_frame : (o : Option Frame) (frame given : Frame) → Some given ≡ o → o ≡ Some frame → given ≡ frame
-same_frame o frame given p q = let both : Some given ≡ Some frame = p ∙ q in cc
+pub some_queued : (past : Past) (state : SessionState) (k : ℕ) (rest : List ℕ) → Stands past state → queue past ≡ k ∷ rest → state.tasks.queue ≡ [] → ⊥
+some_queued past state k rest s is none = let both : frame_of past.came k ∷ frames_of past.came rest ≡ [] = sym (queue_is past state s
+    ∙ ap (frames_of past.came) is) ∙ none in cc
 
-pub opcode_same : (given frame : Frame) (header : List ℕ) → header ≡ given.header → given ≡ frame → opcode_of (opcode_number header) ≡ opcode_of (opcode_number frame.header)
-opcode_same given frame header e same = ap (λ (h : List ℕ). opcode_of (opcode_number h)) (e ∙ ap (λ (f : Frame). f.header) same)
-
-pub ping_stands : (answered : ℕ) (past : Past) (request : Request) (frame : Frame) (state : SessionState) → is_command request.frame ≡ false → frame ≡ request.frame → opcode_of (opcode_number request.frame.header) ≡ opcodes.NopOut
-    → Stands (answered + bearing (ping_answers (stamp answered (acted request past)) (acted request past).params.values frame)) (acted request past) state → Stands (answered + bearing (act_answers answered request past)) (acted request past) state
-ping_stands answered past request frame state e same is s =
-    let given : ping_answers (stamp answered (acted request past)) (acted request past).params.values frame ≡ act_answers answered request past =
-    ap (ping_answers (stamp answered (acted request past)) (acted request past).params.values) same ∙ sym (ping_is answered request past e is) in
-    subst (λ (l : List Answer). Stands (answered + bearing l) (acted request past) state) given s
-
-pub ping_out : (answered : ℕ) (past : Past) (request : Request) (frame : Frame) (old new : List ℕ) → is_command request.frame ≡ false → frame ≡ request.frame → opcode_of (opcode_number request.frame.header) ≡ opcodes.NopOut
-    → new ≡ old ++ flat_map spelling (ping_answers (stamp answered (acted request past)) (acted request past).params.values frame) → new ≡ old ++ flat_map spelling (act_answers answered request past)
-ping_out answered past request frame old new e same is written =
-    let given : ping_answers (stamp answered (acted request past)) (acted request past).params.values frame ≡ act_answers answered request past =
-    ap (ping_answers (stamp answered (acted request past)) (acted request past).params.values) same ∙ sym (ping_is answered request past e is) in
-    written ∙ ap (λ (l : List Answer). old ++ flat_map spelling l) given
-
-pub logout_stands : (answered : ℕ) (past : Past) (request : Request) (state : SessionState) → is_command request.frame ≡ false → opcode_of (opcode_number request.frame.header) ≢ opcodes.NopOut
-    → Stands (answered + 1) (acted request past) state → Stands (answered + bearing (act_answers answered request past)) (acted request past) state
-logout_stands answered past request state e other s =
-    let one : 1 ≡ bearing (act_answers answered request past) = sym (ap bearing (logout_is answered request past e other) ∙ logout_bears (stamp answered (acted request past)) (acted request past).params request.frame) in
-    subst (λ (n : ℕ). Stands (answered + n) (acted request past) state) one s
-
-pub logout_out : (answered : ℕ) (past : Past) (request : Request) (frame : Frame) (old new : List ℕ) → is_command request.frame ≡ false → frame ≡ request.frame → opcode_of (opcode_number request.frame.header) ≢ opcodes.NopOut
-    → new ≡ old ++ spelling (logout_answer (stamp answered (acted request past)) (acted request past).params frame) → new ≡ old ++ flat_map spelling (act_answers answered request past)
-logout_out answered past request frame old new e same other written =
-    let answer = logout_answer (stamp answered (acted request past)) (acted request past).params request.frame in
-    written ∙ ap (λ (f : Frame). old ++ spelling (logout_answer (stamp answered (acted request past)) (acted request past).params f)) same
-    ∙ ap (λ (bytes : List ℕ). old ++ bytes) (sym (append-nil (spelling answer))) ∙ ap (λ (l : List Answer). old ++ flat_map spelling l) (sym (logout_is answered request past e other))
-
-pub logout_act : (past : Past) (request : Request) (frame : Frame) (params : Params) (act : Act) → is_command request.frame ≡ false → frame ≡ request.frame → params ≡ past.params → opcode_of (opcode_number request.frame.header) ≢ opcodes.NopOut
-    → act ≡ cond (closes params frame) Ended Taken → act ≡ cond (ends past.params request.frame) Ended Taken
-logout_act past request frame params act e same agreed other is =
-    is ∙ ap (λ (p : Params). cond (closes p frame) Ended Taken) agreed ∙ ap (λ (f : Frame). cond (closes past.params f) Ended Taken) same
-    ∙ ap (λ (b : Bool). cond b Ended Taken) (sym (logout_ends past.params request.frame e other))
-
-pub ping_act : (past : Past) (request : Request) → opcode_of (opcode_number request.frame.header) ≡ opcodes.NopOut → Taken ≡ cond (ends past.params request.frame) Ended Taken
-ping_act past request is = ap (λ (b : Bool). cond b Ended Taken) (sym (ping_goes_on past.params request.frame is))
+pub done_here : (past : Past) (state : SessionState) (k : ℕ) (rest : List ℕ) (frame : Frame) (tasks : TaskLists) → Stands past state
+    → queue past ≡ k ∷ rest → state.tasks.queue ≡ frame ∷ drop 1 state.tasks.queue
+    → tasks ≡ one_fewer frame (record state.tasks { queue = drop 1 state.tasks.queue })
+    → (frame ≡ frame_of past.came k) × Stands (finished k past) (record state { tasks = tasks })
+done_here past state k rest frame tasks s is some same =
+    let first : state.tasks.queue ≡ frame_of past.came k ∷ frames_of past.came rest = queue_is past state s ∙ ap (frames_of past.came) is in
+    let here = same_head frame (frame_of past.came k) (drop 1 state.tasks.queue) (frames_of past.came rest) state.tasks.queue some first in (
+      here,
+      stands_tasks past (finished k past) state tasks s (lawful_finished past s.lawful k rest is) refl refl
+          (same ∙ ap (λ (l : List Frame). one_fewer frame (record state.tasks { queue = l })) (ap (drop 1) first)
+          ∙ ap (λ (f : Frame). one_fewer f (record state.tasks { queue = frames_of past.came rest })) here
+          ∙ ap (λ (t : TaskLists). one_fewer (frame_of past.came k) (record t { queue = frames_of past.came rest })) (parts past state s).tasks_is
+          ∙ tasks_finished past s.lawful k rest is),
+    )
 
 logout_by : (a b c : Bool) (w x y z : Answer) → a ≡ false → b ≡ false → c ≡ false → cond a w (cond b x (cond c y z)) ≡ z
 logout_by a b c w x y z p q r = rw (p, q, r) refl
 
-pub logout_refused : (numbers_now : Stamp) (params : Params) (frame : Frame) (given : Answer) → closes params frame ≡ false → eqb (logout_reason frame.header) 1 ≡ false → eqb (logout_reason frame.header) 2 ≡ false
+pub logout_refused : (numbers_now : Stamp) (params : Params) (frame : Frame) (given : Answer) → closes params frame ≡ false
+    → eqb (logout_reason frame.header) 1 ≡ false → eqb (logout_reason frame.header) 2 ≡ false
     → given ≡ reject reasons.InvalidField numbers_now frame → given ≡ logout_answer numbers_now params frame
-logout_refused numbers_now params frame given open_still no_cid no_recovery is = is ∙ sym (logout_by (closes params frame) (logout_reason frame.header == 1) (logout_reason frame.header == 2) _ _ _ _ open_still no_cid no_recovery)
+logout_refused numbers_now params frame given open_still no_cid no_recovery is = is
+    ∙ sym (logout_by (closes params frame) (logout_reason frame.header == 1) (logout_reason frame.header == 2) _ _ _ _ open_still no_cid no_recovery)

@@ -1,13 +1,15 @@
 mod Room
-mod Numbered
-mod Due
-pub mod Acted
-pub mod Parts
-mod Remembered
-mod Moving
-pub mod Fewer
-mod Answered
-pub mod Finished
-mod Lines
+pub mod Left
+pub mod Taken
+pub mod Fronts
 pub mod Accepted
+pub mod Moved
+mod Lines
+pub mod Parts
 mod Verdicts
+mod Answered
+mod Settled
+mod Served
+pub mod Steps
+pub mod Lawful
+pub mod Runs

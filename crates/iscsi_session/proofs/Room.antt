@@ -21,7 +21,7 @@ use Rattle.iscsi_transfer.proofs.Pieces.{pieces_are_joined}
 use Rattle.iscsi_transfer.proofs.Counts.{pieces_are_counted, less_has_fewer, count_fits}
 use Rattle.iscsi_transfer.proofs.Lying.{pieces_lie}
 use Rattle.scsi_sense.specs.Done.{Outcome}
-use Rattle.iscsi_session.specs.Room.{most_given}
+use Rattle.scsi_unit.specs.DiskCommands.{most_given}
 use Rattle.iscsi_login.specs.Values.{AreInRange}
 use Rattle.iscsi_login.specs.declared.values.Values.{Values}
 use Rattle.iscsi_session.specs.Answers.{expected_length, data_sent, sent_pieces, data_in, data_answers}
@@ -67,15 +67,18 @@ all_long numbers frame sent k (piece ∷ pieces) =
 
 -- ---- so many pieces
 
-pub pieces_counted : (values : Values) (sent : List ℕ) → AreInRange values → length (sent_pieces values sent) ≡ piece_count (length sent) values.max_burst_length values.max_recv_data_segment_length
+pub pieces_counted : (values : Values) (sent : List ℕ) → AreInRange values
+    → length (sent_pieces values sent) ≡ piece_count (length sent) values.max_burst_length values.max_recv_data_segment_length
 pieces_counted values sent range =
-    pieces_are_counted (length sent) values.max_burst_length values.max_recv_data_segment_length (let some = range.burst in omega arith) (let some = range.segment in omega arith)
+    pieces_are_counted (length sent) values.max_burst_length values.max_recv_data_segment_length (let some = range.burst
+    in omega arith) (let some = range.segment in omega arith)
 
 pub answers_long : (numbers : Stamp) (values : Values) (frame : Frame) (sent : List ℕ) → AreInRange values
     → length (flat_map spelling (data_answers numbers values frame sent)) ≤ length (sent_pieces values sent) * 51 + length sent
 unfolding data_answers
 answers_long numbers values frame sent range =
-    let joined = pieces_are_joined sent values.max_burst_length values.max_recv_data_segment_length (let some = range.burst in omega arith) (let some = range.segment in omega arith) in
+    let joined = pieces_are_joined sent values.max_burst_length values.max_recv_data_segment_length (let some = range.burst
+    in omega arith) (let some = range.segment in omega arith) in
     let same : length (flat_map (part_of sent) (sent_pieces values sent)) ≡ length sent = ap (λ (bytes : List ℕ). length bytes) joined in
     let long = all_long numbers frame sent 0 (sent_pieces values sent) in
     omega (arith, long, same)
@@ -89,9 +92,11 @@ sent_short frame done le =
     let short = sent_by (is_read frame.header && not (is_write frame.header)) (length done.given) (expected_transfer_length frame.header) most_given le in
     omega (arith, short, length-take (expected_length frame done) done.given)
 
-pub pieces_within : (values : Values) (frame : Frame) (done : Outcome) → AreInRange values → length done.given ≤ most_given → piece_count (length (data_sent frame done)) values.max_burst_length values.max_recv_data_segment_length ≤ most_pieces values frame
+pub pieces_within : (values : Values) (frame : Frame) (done : Outcome) → AreInRange values → length done.given ≤ most_given
+    → piece_count (length (data_sent frame done)) values.max_burst_length values.max_recv_data_segment_length ≤ most_pieces values frame
 pieces_within values frame done range le =
-    less_has_fewer (length (data_sent frame done)) (most_sent frame) values.max_burst_length values.max_recv_data_segment_length (let some = range.burst in omega arith) (let some = range.segment in omega arith) (sent_short frame done le)
+    less_has_fewer (length (data_sent frame done)) (most_sent frame) values.max_burst_length values.max_recv_data_segment_length (let some = range.burst
+    in omega arith) (let some = range.segment in omega arith) (sent_short frame done le)
 
 -- room for all Data-Ins, and for the SCSI Response behind them
 pub data_fits : (numbers : Stamp) (values : Values) (frame : Frame) (done : Outcome) → AreInRange values → length done.given ≤ most_given
@@ -107,7 +112,8 @@ data_fits numbers values frame done range le =
 -- no more pieces than bytes
 pub most_pieces_fit : (values : Values) (frame : Frame) → AreInRange values → most_sent frame ≤ most_given → most_pieces values frame ≤ most_given
 most_pieces_fit values frame range le =
-    let fits = count_fits (most_sent frame) values.max_burst_length values.max_recv_data_segment_length (let some = range.burst in omega arith) (let some = range.segment in omega arith) in
+    let fits = count_fits (most_sent frame) values.max_burst_length values.max_recv_data_segment_length (let some = range.burst
+    in omega arith) (let some = range.segment in omega arith) in
     omega (arith, fits)
 
 -- ---- one piece
@@ -117,11 +123,13 @@ pub record IsOneOf (values : Values) (sent : List ℕ) (k : ℕ) (piece : Piece)
   pub short : piece.length ≤ 262144
   pub early : k < length sent
 
-pub piece_there : (values : Values) (sent : List ℕ) (k : ℕ) (d : Piece) → AreInRange values → k < length (sent_pieces values sent) → IsOneOf values sent k (get_or (sent_pieces values sent) k d)
+pub piece_there : (values : Values) (sent : List ℕ) (k : ℕ) (d : Piece) → AreInRange values → k < length (sent_pieces values sent)
+    → IsOneOf values sent k (get_or (sent_pieces values sent) k d)
 piece_there values sent k d range lt =
     let burst = values.max_burst_length in
     let segment_ = values.max_recv_data_segment_length in
-    let lies : Lies (get_or (sent_pieces values sent) k d) (length sent) burst = pieces_lie (length sent) burst segment_ (let some = range.burst in omega arith) (let some = range.segment in omega arith) k d lt in
+    let lies : Lies (get_or (sent_pieces values sent) k d) (length sent) burst = pieces_lie (length sent) burst segment_ (let some = range.burst
+    in omega arith) (let some = range.segment in omega arith) k d lt in
     let count = pieces_counted values sent range in
     let fits = count_fits (length sent) burst segment_ (let some = range.burst in omega arith) (let some = range.segment in omega arith) in
     record {
@@ -141,38 +149,47 @@ data_answer_at numbers values frame sent k d p lt =
     get_or-map (data_in numbers frame sent) (enumerate_from 0 pieces) k (0, p) d below
     ∙ ap (data_in numbers frame sent) (get_or-enumerate_from 0 pieces k (0, p) lt ∙ ap (λ (n : ℕ). (n, get_or pieces k p)) (omega arith))
 
-pub data_answers_count : (numbers : Stamp) (values : Values) (frame : Frame) (sent : List ℕ) → length (data_answers numbers values frame sent) ≡ length (sent_pieces values sent)
+pub data_answers_count : (numbers : Stamp) (values : Values) (frame : Frame) (sent : List ℕ)
+    → length (data_answers numbers values frame sent) ≡ length (sent_pieces values sent)
 unfolding data_answers
-data_answers_count numbers values frame sent = length-map (enumerate_from 0 (sent_pieces values sent)) (data_in numbers frame sent) ∙ length-enumerate_from 0 (sent_pieces values sent)
+data_answers_count numbers values frame sent = length-map (enumerate_from 0 (sent_pieces values sent)) (data_in numbers frame sent)
+    ∙ length-enumerate_from 0 (sent_pieces values sent)
 
 -- one more answer is written behind the first k
 pub record IsWritten (all : List Answer) (k : ℕ) (items before : List ℕ) (left room : ℕ) : Type 0 where
   pub written : items ≡ before ++ flat_map spelling (take k all)
   pub spare : left + length (flat_map spelling (take k all)) ≡ room
 
-more_spelled : (all : List Answer) (k : ℕ) (d : Answer) → k < length all → flat_map spelling (take (k + 1) all) ≡ flat_map spelling (take k all) ++ spelling (get_or all k d)
+more_spelled : (all : List Answer) (k : ℕ) (d : Answer) → k < length all
+    → flat_map spelling (take (k + 1) all) ≡ flat_map spelling (take k all) ++ spelling (get_or all k d)
 more_spelled all k d lt =
     ap (flat_map spelling) (take_more all k d lt) ∙ flat_map-append spelling (take k all) (get_or all k d ∷ [])
     ∙ ap (λ (bytes : List ℕ). flat_map spelling (take k all) ++ bytes) (append-nil (spelling (get_or all k d)))
 
-pub written_more : (all : List Answer) (k : ℕ) (items after before : List ℕ) (spare left room : ℕ) (answer : Answer) → k < length all → get_or all k answer ≡ answer → IsWritten all k items before spare room
+pub written_more : (all : List Answer) (k : ℕ) (items after before : List ℕ) (spare left room : ℕ) (answer : Answer) → k < length all
+    → get_or all k answer ≡ answer → IsWritten all k items before spare room
     → after ≡ items ++ spelling answer → left + length (spelling answer) ≡ spare → IsWritten all (k + 1) after before left room
 written_more all k items after before spare left room answer lt is h written used =
-    let more : flat_map spelling (take (k + 1) all) ≡ flat_map spelling (take k all) ++ spelling answer = more_spelled all k answer lt ∙ ap (λ (a : Answer). flat_map spelling (take k all) ++ spelling a) is in
+    let more : flat_map spelling (take (k + 1) all) ≡ flat_map spelling (take k all) ++ spelling answer = more_spelled all k answer lt
+    ∙ ap (λ (a : Answer). flat_map spelling (take k all) ++ spelling a) is in
     record {
-      written = written ∙ ap (λ (bytes : List ℕ). bytes ++ spelling answer) h.written ∙ append_assoc before (flat_map spelling (take k all)) (spelling answer) ∙ ap (λ (bytes : List ℕ). before ++ bytes) (sym more);
+      written = written ∙ ap (λ (bytes : List ℕ). bytes ++ spelling answer) h.written
+          ∙ append_assoc before (flat_map spelling (take k all)) (spelling answer) ∙ ap (λ (bytes : List ℕ). before ++ bytes) (sym more);
       spare = omega (arith, h.spare, used, ap (λ (bytes : List ℕ). length bytes) more, length-append (flat_map spelling (take k all)) (spelling answer));
     }
 
 -- there is room for the next one
-pub next_fits : (all : List Answer) (k : ℕ) (items before : List ℕ) (spare room : ℕ) (answer : Answer) → k < length all → get_or all k answer ≡ answer → IsWritten all k items before spare room
+pub next_fits : (all : List Answer) (k : ℕ) (items before : List ℕ) (spare room : ℕ) (answer : Answer) → k < length all → get_or all k answer ≡ answer
+    → IsWritten all k items before spare room
     → length (flat_map spelling all) ≤ room → length (spelling answer) ≤ spare
 next_fits all k items before spare room answer lt is h le =
     omega (arith, h.spare, le, length-flat_map-take spelling all k answer lt, ap (λ (a : Answer). length (spelling a)) is)
 
 -- the pieces can be counted in four bytes
-pub pieces_few : (values : Values) (frame : Frame) (done : Outcome) → AreInRange values → length done.given ≤ most_given → length (sent_pieces values (data_sent frame done)) ≤ most_given
+pub pieces_few : (values : Values) (frame : Frame) (done : Outcome) → AreInRange values → length done.given ≤ most_given
+    → length (sent_pieces values (data_sent frame done)) ≤ most_given
 pieces_few values frame done range le =
     let sent = data_sent frame done in
-    let fits = count_fits (length sent) values.max_burst_length values.max_recv_data_segment_length (let some = range.burst in omega arith) (let some = range.segment in omega arith) in
+    let fits = count_fits (length sent) values.max_burst_length values.max_recv_data_segment_length (let some = range.burst
+    in omega arith) (let some = range.segment in omega arith) in
     omega (arith, pieces_counted values sent range, fits, length-take (expected_length frame done) done.given, le)

@@ -63,34 +63,41 @@ by_tests fresh over taken with_data =
     if not fresh then Ignored else if over then Rejected reasons.TooManyImmediate else if taken then Violating else if with_data then Violating else Accepted
 
 -- what a session finds of a command is what is read from its past
-pub command_told : (past : Past) (found given : Frame) (frames : List Frame) (fresh over taken with_data : Bool) → found ≡ given → frames ≡ unfinished past → is_fresh past given ≡ fresh
-    → (is_immediate found.header && is_full frames) ≡ over → is_taken frames (initiator_task_tag found.header) ≡ taken → has_data (is_write found.header) (length found.body) ≡ with_data
+pub command_told : (past : Past) (found given : Frame) (fresh full over taken with_data : Bool) → found ≡ given → is_fresh past given ≡ fresh
+    → is_full (unfinished past) ≡ full
+    → (is_immediate found.header && full) ≡ over → is_taken (unfinished past) (initiator_task_tag found.header) ≡ taken
+    → has_data (is_write found.header) (length found.body) ≡ with_data
     → by_tests fresh over taken with_data ≡ command_verdict (is_fresh past given) (unfinished past) given
-command_told past found given frames fresh over taken with_data same all fresh_is over_is taken_is data_is =
+command_told past found given fresh full over taken with_data same fresh_is full_is over_is taken_is data_is =
     ap (λ (b : Bool). by_tests fresh b taken with_data) (sym over_is)
-    ∙ ap (λ (b : Bool). by_tests fresh (is_immediate found.header && is_full frames) b with_data) (sym taken_is)
-    ∙ ap (λ (b : Bool). by_tests fresh (is_immediate found.header && is_full frames) (is_taken frames (initiator_task_tag found.header)) b) (sym data_is)
-    ∙ ap (λ (b : Bool). command_verdict b frames found) (sym fresh_is)
-    ∙ ap (λ (fs : List Frame). command_verdict (is_fresh past given) fs found) all
+    ∙ ap (λ (b : Bool). by_tests fresh (is_immediate found.header && b) taken with_data) (sym full_is)
+    ∙ ap (λ (b : Bool). by_tests fresh (is_immediate found.header && is_full (unfinished past)) b with_data) (sym taken_is)
+    ∙ ap (λ (b : Bool). by_tests fresh (is_immediate found.header && is_full (unfinished past))
+    (is_taken (unfinished past) (initiator_task_tag found.header)) b) (sym data_is)
+    ∙ ap (λ (b : Bool). command_verdict b (unfinished past) found) (sym fresh_is)
     ∙ ap (λ (f : Frame). command_verdict (is_fresh past given) (unfinished past) f) same
 
 -- ---- by the opcode
 
-pub verdict_at : (past : Past) (frame : Frame) (opcode : Opcode) → opcode_of (opcode_number frame.header) ≡ opcode → verdict past frame ≡ verdict_by opcode (is_fresh past frame) (unfinished past) frame
+pub verdict_at : (past : Past) (frame : Frame) (opcode : Opcode) → opcode_of (opcode_number frame.header) ≡ opcode
+    → verdict past frame ≡ verdict_by opcode (is_fresh past frame) (unfinished past) frame
 verdict_at past frame opcode e = ap (λ (o : Opcode). verdict_by o (is_fresh past frame) (unfinished past) frame) e
 
-pub numbered_verdict : (past : Past) (frame : Frame) (opcode : Opcode) (fresh : Bool) → opcode_of (opcode_number frame.header) ≡ opcode → (opcode ≡ opcodes.NopOut) ⊎ (opcode ≡ opcodes.Logout) → is_fresh past frame ≡ fresh
+pub numbered_verdict : (past : Past) (frame : Frame) (opcode : Opcode) (fresh : Bool) → opcode_of (opcode_number frame.header) ≡ opcode
+    → (opcode ≡ opcodes.NopOut) ⊎ (opcode ≡ opcodes.Logout) → is_fresh past frame ≡ fresh
     → verdict past frame ≡ (if fresh then Accepted else Ignored)
 unfolding verdict_by
 numbered_verdict past frame opcode fresh is (inl e) h = verdict_at past frame opcodes.NopOut (is ∙ e) ∙ ap (λ (b : Bool). if b then Accepted else Ignored) h
 numbered_verdict past frame opcode fresh is (inr e) h = verdict_at past frame opcodes.Logout (is ∙ e) ∙ ap (λ (b : Bool). if b then Accepted else Ignored) h
 
-pub data_verdict : (past : Past) (frame : Frame) (live : Bool) → opcode_of (opcode_number frame.header) ≡ opcodes.DataOut → is_live (unfinished past) (initiator_task_tag frame.header) ≡ live
+pub data_verdict : (past : Past) (frame : Frame) (live : Bool) → opcode_of (opcode_number frame.header) ≡ opcodes.DataOut
+    → is_live (unfinished past) (initiator_task_tag frame.header) ≡ live
     → verdict past frame ≡ (if live then Violating else Dropped)
 unfolding verdict_by
 data_verdict past frame live is h = verdict_at past frame opcodes.DataOut is ∙ ap (λ (b : Bool). if b then Violating else Dropped) h
 
-pub refused_verdict : (past : Past) (frame : Frame) (opcode : Opcode) → opcode_of (opcode_number frame.header) ≡ opcode → (opcode ≡ opcodes.TaskManagement) ⊎ ((opcode ≡ opcodes.Text) ⊎ ((n : ℕ) × (opcode ≡ opcodes.Other n)))
+pub refused_verdict : (past : Past) (frame : Frame) (opcode : Opcode) → opcode_of (opcode_number frame.header) ≡ opcode
+    → (opcode ≡ opcodes.TaskManagement) ⊎ ((opcode ≡ opcodes.Text) ⊎ ((n : ℕ) × (opcode ≡ opcodes.Other n)))
     → verdict past frame ≡ Rejected reasons.CommandNotSupported
 unfolding verdict_by
 refused_verdict past frame opcode is (inl e) = verdict_at past frame opcodes.TaskManagement (is ∙ e)

@@ -1,5 +1,5 @@
 -- What a frame in full feature phase is judged to be.
-use Rattle.std.specs.Prelude.{ℕ, List, [], ◌∷◌, length, filter, Bool, ◌&&◌, ◌||◌, not, ◌==◌, nat_lt, if◌then◌else◌}
+use Rattle.std.specs.Prelude.{ℕ, List, [], ◌∷◌, length, filter, Bool, true, false, ◌&&◌, ◌||◌, not, ◌==◌, nat_lt, if◌then◌else◌}
 use Rattle.std.specs.List.{list_any}
 use Rattle.iscsi_pdu.specs.Header.{opcode_of, opcode_number, is_immediate, cmd_sn, initiator_task_tag}
 use Rattle.iscsi_pdu.specs.ScsiCommand.{is_write}
@@ -12,7 +12,7 @@ use Rattle.iscsi_pdu.specs.declared.answer.Answer.{Answer}
 use Rattle.iscsi_pdu.specs.declared.answer.Answer.TheVariants as answers
 use Rattle.iscsi_pdu.specs.declared.stamp.Stamp.{Stamp}
 use Rattle.iscsi_order.specs.Window as order
-use Rattle.iscsi_session.specs.Requests.{Past, numbers, unfinished, is_command, accepted}
+use Rattle.iscsi_session.specs.Requests.{Past, numbers, unfinished, is_command, accepted, answering, stamp}
 use Rattle.iscsi_session.specs.declared.verdict.Verdict.{Verdict}
 use Rattle.iscsi_session.specs.declared.verdict.Verdict.TheVariants.{Ignored, Dropped, Rejected, Violating, Accepted}
 
@@ -62,21 +62,37 @@ verdict_by opcodes.Logout fresh open_requests frame = if fresh then Accepted els
 verdict_by opcodes.Login fresh open_requests frame = Violating
 verdict_by opcodes.DataOut fresh open_requests frame = if is_live open_requests (initiator_task_tag frame.header) then Violating else Dropped
 verdict_by opcodes.Snack fresh open_requests frame = Rejected reasons.Snack
-verdict_by _ fresh open_requests frame = Rejected reasons.CommandNotSupported
+verdict_by opcodes.TaskManagement fresh open_requests frame = Rejected reasons.CommandNotSupported
+verdict_by opcodes.Text fresh open_requests frame = Rejected reasons.CommandNotSupported
+verdict_by (opcodes.Other n) fresh open_requests frame = Rejected reasons.CommandNotSupported
 
 abbrev pub verdict : Past → Frame → Verdict
 verdict past frame = verdict_by (opcode_of (opcode_number frame.header)) (is_fresh past frame) (unfinished past) frame
 
 -- ---- what comes of it
 
-abbrev pub judged : Verdict → Frame → Past → Past
-judged Accepted frame past = accepted frame past
-judged _ frame past = past
-
 -- RFC 7143 §11.17
 abbrev pub reject : RejectReason → Stamp → Frame → Answer
 reject reason numbers_now frame = answers.Reject (record { reason = reason; stamp = numbers_now; header = frame.header })
 
-abbrev pub judged_answers : Verdict → Stamp → Frame → List Answer
-judged_answers (Rejected reason) numbers_now frame = reject reason numbers_now frame ∷ []
-judged_answers _ numbers_now frame = []
+abbrev pub judged_answers : Verdict → Past → Frame → List Answer
+judged_answers (Rejected reason) past frame = reject reason (stamp past) frame ∷ []
+judged_answers Accepted past frame = []
+judged_answers Ignored past frame = []
+judged_answers Dropped past frame = []
+judged_answers Violating past frame = []
+
+abbrev pub judged : Verdict → Frame → Past → Past
+judged (Rejected reason) frame past = answering (reject reason (stamp past) frame ∷ []) past
+judged Accepted frame past = accepted frame past
+judged Ignored frame past = past
+judged Dropped frame past = past
+judged Violating frame past = past
+
+-- the session ends: a violation
+abbrev pub violates : Verdict → Bool
+violates Violating = true
+violates Accepted = false
+violates (Rejected reason) = false
+violates Ignored = false
+violates Dropped = false

@@ -13,8 +13,11 @@ pub mod Requests
 pub mod Judging
 pub mod Acts
 pub mod Answers
+pub mod Commands
+pub mod Steps
 pub mod Room
 pub mod State
-pub mod Turns
+pub mod Runs
 pub mod Tasks
+pub mod Laws
 pub mod Examples

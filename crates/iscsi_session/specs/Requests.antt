@@ -1,6 +1,7 @@
--- The requests of a session in full feature phase: plain lists of what came, what acted and what is
+-- The requests of a session in full feature phase: plain lists of what came, and of what acted and is
 -- finished, and what is read from them.
-use Rattle.std.specs.Prelude.{ℕ, List, [], ◌∷◌, ◌++◌, length, map, filter, filter_map, flat_map, drop, Bool, true, false, not, ◌==◌, nat_lt, Option, Some, None, is_some, if◌then◌else◌}
+use Rattle.std.specs.Prelude.{ℕ, zero, suc, ◌+◌, List, [], ◌∷◌, ◌++◌, length, map, filter, filter_map, flat_map, max, Bool, true, false, not, ◌==◌, Option, Some, None, is_some, slice_index_or, if◌then◌else◌}
+use Rattle.std.specs.List.{position_or_len, range_with_len}
 use Rattle.iscsi_pdu.specs.Header.{opcode_number, is_immediate, cmd_sn}
 use Rattle.iscsi_pdu.specs.Frames.{Frame}
 use Rattle.iscsi_pdu.specs.declared.answer.Answer.{Answer}
@@ -16,76 +17,133 @@ pub record Request : Type 0 where
   pub number : Option ℕ
   pub frame : Frame
 
+-- A request is named by its place among those that came.
 pub record Past : Type 0 where
   pub params : Params
   -- the requests that were accepted, in the order in which they came
   pub came : List Request
-  -- those that acted, in the order in which they did
-  pub acted : List Request
-  -- those that are finished, in the order in which they were
-  pub finished : List Request
+  -- the names of those that acted, are finished, and were removed, each in the order in which they were
+  pub acted : List ℕ
+  pub finished : List ℕ
+  pub removed : List ℕ
+  -- what was answered in full feature phase, in order
+  pub answers : List Answer
 
 abbrev pub begun : Params → Past
-begun params = record { params = params; came = []; acted = []; finished = [] }
+begun params = record { params = params; came = []; acted = []; finished = []; removed = []; answers = [] }
 
--- ---- which requests
+-- ---- names
 
-abbrev pub numbered : List Request → List ℕ
-numbered requests = filter_map (λ r. r.number) requests
+abbrev pub no_request : Request
+no_request = record { number = None; frame = record { header = []; body = [] } }
 
-abbrev pub immediate : List Request → List Request
-immediate requests = filter (λ r. not (is_some r.number)) requests
+abbrev pub request_at : List Request → ℕ → Request
+request_at came k = slice_index_or came k no_request
+
+abbrev pub frame_of : List Request → ℕ → Frame
+frame_of came k = (request_at came k).frame
+
+abbrev pub is_in : ℕ → List ℕ → Bool
+is_in k names = order.has_come names k
+
+-- those that are not among the gone
+unfoldable pub left : List ℕ → List ℕ → List ℕ
+left gone names = filter (λ k. not (is_in k gone)) names
 
 -- RFC 7143 §11.2.1.2: a SCSI Command
 abbrev pub is_command : Frame → Bool
 is_command frame = opcode_number frame.header == 0x01
 
-abbrev pub commands : List Request → List Request
-commands requests = filter (λ r. is_command r.frame) requests
+abbrev pub commands : List Request → List ℕ → List ℕ
+commands came names = filter (λ k. is_command (frame_of came k)) names
+
+abbrev pub others : List Request → List ℕ → List ℕ
+others came names = filter (λ k. not (is_command (frame_of came k))) names
+
+-- how many of these have a number
+abbrev pub counted : List Request → List ℕ → ℕ
+counted came names = length (filter (λ k. is_some (request_at came k).number) names)
+
+-- ---- in which order requests are taken
 
 abbrev pub has_number : ℕ → Option ℕ → Bool
 has_number k None = false
 has_number k (Some number) = number == k
 
-abbrev pub with_number : List Request → ℕ → List Request
-with_number requests k = filter (λ r. has_number k r.number) requests
+-- where the request with this number stands; where there is none, behind all
+abbrev pub place_of : List Request → ℕ → ℕ
+place_of came k = position_or_len (λ r. has_number k r.number) came
+
+-- the moment of a number: the greatest place among those of 0 to k
+abbrev pub moment : List Request → ℕ → ℕ
+moment came zero = place_of came zero
+moment came (suc k) = max (moment came k) (place_of came (suc k))
+
+-- at one place the one for immediate delivery, or numbers rising (no more than there are places)
+unfoldable pub taken_at : List Request → ℕ → List ℕ
+taken_at came p =
+    (if is_some (request_at came p).number then [] else p ∷ []) ++ map (place_of came) (filter (λ k. moment came k == p) (range_with_len 0 (p + 1)))
+
+-- RFC 7143 §4.2.2.1: one for immediate delivery is taken at once, and one with a number when it and all before it have come
+unfoldable pub taken : List Request → List ℕ
+taken came = flat_map (taken_at came) (range_with_len 0 (length came))
 
 -- ---- numbers
 
--- the numbers of a session: a number is handed over when its request acts
+abbrev pub numbered : List Request → List ℕ
+numbered came = filter_map (λ r. r.number) came
+
+-- the numbers of a session: each is handed over when it is taken
 abbrev pub numbers : Past → order.Past
-numbers past = record {
-  first = past.params.first_cmd_sn;
-  came = numbered past.came;
-  handed = length (numbered past.acted);
-  finished = length (numbered past.finished);
-}
+numbers past =
+    let so_far : order.Past = record { first = past.params.first_cmd_sn; came = numbered past.came; handed = 0; finished = counted past.came past.finished } in
+    record so_far { handed = length (order.taken so_far) }
 
 -- ---- what is under way
 
-abbrev pub is_from : ℕ → Option ℕ → Bool
-is_from k None = false
-is_from k (Some number) = not (nat_lt number k)
+-- those that came ahead of a missing number
+unfoldable pub held : Past → List ℕ
+held past = left past.removed (map (place_of past.came) (filter (order.has_come (numbered past.came)) (range_with_len (numbers past).handed order.window)))
 
--- those with a number that wait for the numbers before them, or to act
-unfoldable pub held : Past → List Request
-held past = filter (λ r. is_from (length (numbered past.acted)) r.number) past.came
+-- those that are taken and have not acted, in the order in which they act
+unfoldable pub due : Past → List ℕ
+due past = left past.removed (left past.acted (taken past.came))
 
--- those for immediate delivery that have not acted
-unfoldable pub arrived : Past → List Request
-arrived past = drop (length (immediate past.acted)) (immediate past.came)
+-- the SCSI Commands that acted and are not finished; they are done in this order
+unfoldable pub queue : Past → List ℕ
+queue past = left past.removed (left past.finished (commands past.came past.acted))
 
--- the SCSI Commands that were taken and are not finished; they are done in this order
-unfoldable pub queue : Past → List Request
-queue past = drop (length (commands past.finished)) (commands past.acted)
+abbrev pub frames_of : List Request → List ℕ → List Frame
+frames_of came names = map (frame_of came) names
 
 abbrev pub unfinished : Past → List Frame
-unfinished past = map (λ r. r.frame) (held past ++ arrived past ++ queue past)
+unfinished past = frames_of past.came (held past ++ due past ++ queue past)
 
--- Those that are taken and have not acted, in the order in which they act: one for immediate delivery
--- at once, the others where all numbers before theirs have come.
-unfoldable pub due : Past → List Request
-due past = arrived past ++ flat_map (with_number past.came) (drop (length (numbered past.acted)) (order.taken (numbers past)))
+-- ---- sequence numbers of answers (RFC 7143 §4.2.2)
+
+-- an answer that bears status uses a StatSN; a Data-In does not
+abbrev pub bears_status : Answer → Bool
+bears_status (answers.LoginResponse response) = true
+bears_status (answers.ScsiResponse response) = true
+bears_status (answers.DataIn piece) = false
+bears_status (answers.NopIn ping) = true
+bears_status (answers.LogoutResponse response) = true
+bears_status (answers.Reject refusal) = true
+
+abbrev pub bearing : List Answer → ℕ
+bearing given = length (filter bears_status given)
+
+-- the answers that bore status: those of the login, and those behind it
+abbrev pub statuses : Past → ℕ
+statuses past = past.params.next_stat_sn + bearing past.answers
+
+-- the sequence numbers of the next answer
+unfoldable pub stamp : Past → Stamp
+stamp past = record {
+  stat_sn = stat_sn (statuses past);
+  exp_cmd_sn = order.exp_cmd_sn (numbers past);
+  max_cmd_sn = order.max_cmd_sn (numbers past);
+}
 
 -- ---- what happens
 
@@ -96,29 +154,13 @@ number_for past frame = if is_immediate frame.header then None else Some (order.
 abbrev pub accepted : Frame → Past → Past
 accepted frame past = record past { came = past.came ++ record { number = number_for past frame; frame = frame } ∷ [] }
 
+abbrev pub finished : ℕ → Past → Past
+finished k past = record past { finished = past.finished ++ k ∷ [] }
+
 -- a SCSI Command joins the queue, and every other request is finished at once
-abbrev pub acted : Request → Past → Past
-acted request past =
-    if is_command request.frame then record past { acted = past.acted ++ request ∷ [] }
-    else record past { acted = past.acted ++ request ∷ []; finished = past.finished ++ request ∷ [] }
+abbrev pub moved : ℕ → Past → Past
+moved k past =
+    if is_command (frame_of past.came k) then record past { acted = past.acted ++ k ∷ [] } else finished k (record past { acted = past.acted ++ k ∷ [] })
 
-abbrev pub finished : Request → Past → Past
-finished request past = record past { finished = past.finished ++ request ∷ [] }
-
--- ---- sequence numbers of answers (RFC 7143 §4.2.2)
-
--- an answer that bears status uses a StatSN; a Data-In does not
-abbrev pub bears_status : Answer → Bool
-bears_status (answers.DataIn piece) = false
-bears_status _ = true
-
-abbrev pub bearing : List Answer → ℕ
-bearing given = length (filter bears_status given)
-
--- behind so many answers that bear status
-unfoldable pub stamp : ℕ → Past → Stamp
-stamp answered past = record {
-  stat_sn = stat_sn answered;
-  exp_cmd_sn = order.exp_cmd_sn (numbers past);
-  max_cmd_sn = order.max_cmd_sn (numbers past);
-}
+abbrev pub answering : List Answer → Past → Past
+answering more past = record past { answers = past.answers ++ more }

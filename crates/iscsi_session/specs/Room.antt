@@ -3,11 +3,8 @@ use Rattle.std.specs.Prelude.{ℕ, ◌+◌, ◌*◌, length, min, ◌&&◌, not,
 use Rattle.iscsi_pdu.specs.ScsiCommand.{is_read, is_write, expected_transfer_length}
 use Rattle.iscsi_pdu.specs.Frames.{Frame}
 use Rattle.iscsi_transfer.specs.DataIn.{piece_count}
+use Rattle.scsi_unit.specs.DiskCommands.{most_given}
 use Rattle.iscsi_login.specs.declared.values.Values.{Values}
-
--- own: a command gives no more data than this
-abbrev pub most_given : ℕ
-most_given = 1048576
 
 -- own: the most data that a command may be answered
 abbrev pub most_sent : Frame → ℕ

@@ -1,12 +1,22 @@
 -- How the requests of a session stand in a slab, and their keys in three lines.
-use Rattle.std.specs.Prelude.{◌≡◌, ℕ, ◌+◌, ◌<◌, List, length, filter_map, ◌==◌, is_some, if◌then◌else◌, count_by, slice_index, remove}
+use Rattle.std.specs.Prelude.{◌≡◌, ℕ, zero, suc, ◌+◌, List, filter_map, map, take, ◌++◌, ◌==◌, Option, is_some, option_and_then, if◌then◌else◌, count_by}
+use Rattle.std.specs.List.{prefix_len}
 use Rattle.slab.specs.Slab.{Slab, get}
+use Rattle.iscsi_order.specs.WindowState.{WindowKeys, turned}
 use Rattle.iscsi_pdu.specs.Frames.{Frame}
-use Rattle.iscsi_session.specs.State.{named_by, without}
+use Rattle.iscsi_session.specs.State.{TaskLists}
 
 -- the requests at these keys
 abbrev pub requests_at : Slab Frame → List ℕ → List Frame
 requests_at requests keys = filter_map (get requests) keys
+
+-- the request at a key, where there is one
+abbrev pub held_at : Slab Frame → Option ℕ → Option Frame
+held_at requests key = option_and_then (get requests) key
+
+-- the keys of the window
+abbrev pub keys_in : List (Option ℕ) → List ℕ
+keys_in keys = filter_map (λ k. k) keys
 
 -- how often this key stands there
 abbrev pub times : ℕ → List ℕ → ℕ
@@ -17,11 +27,22 @@ abbrev pub holds : Slab Frame → ℕ → ℕ
 holds requests key = if is_some (get requests key) then 1 else 0
 
 -- each key that has a request stands once in one of the lines, and no other key stands there
-pub record AreLines (requests : Slab Frame) (held arrived queue : List ℕ) : Type 0 where
-  pub once : (key : ℕ) → times key held + times key arrived + times key queue ≡ holds requests key
+pub record AreLines (requests : Slab Frame) (held due queue : List ℕ) : Type 0 where
+  pub once : (key : ℕ) → times key held + times key due + times key queue ≡ holds requests key
 
--- at this place stands the key of the first of these requests with this CmdSN
-pub record IsFirstNamed (n : ℕ) (requests : Slab Frame) (keys : List ℕ) (place : ℕ) : Type 0 where
-  pub within : place < length keys
-  pub named : named_by n (requests_at requests keys) ≡ get requests (slice_index keys place)
-  pub others : without n (requests_at requests keys) ≡ requests_at requests (remove keys place)
+abbrev pub lists_of : Slab Frame → WindowKeys → List ℕ → List ℕ → TaskLists
+lists_of requests window due queue = record {
+  next = window.next;
+  unfinished = window.unfinished;
+  held = map (held_at requests) window.keys;
+  due = requests_at requests due;
+  queue = requests_at requests queue;
+}
+
+-- so many numbers are handed over, and their keys stand behind those that are due
+abbrev pub moves : ℕ → WindowKeys × List ℕ → WindowKeys × List ℕ
+moves zero p = p
+moves (suc n) p = moves n (turned p.0, p.1 ++ keys_in (take 1 p.0.keys))
+
+abbrev pub moves_all : WindowKeys × List ℕ → WindowKeys × List ℕ
+moves_all p = moves (prefix_len (λ k. is_some k) p.0.keys) p

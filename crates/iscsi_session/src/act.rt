@@ -2,7 +2,7 @@
 
 /// What an act came to.
 #[derive(Clone, Copy, Debug, PartialEq, Eq)]
-pub enum Act {
+pub(crate) enum Act {
     /// There was none: no request is taken that has not acted.
     Idle,
     /// A request acted.

@@ -8,7 +8,8 @@ ghost use Rattle.iscsi_login.specs.Values.{AreInRange};
 ghost use Rattle.iscsi_pdu.specs.Segment.{most_data};
 ghost use Rattle.iscsi_session.specs.Answers.{expected_length, data_sent, sent_pieces, data_in as data_in_answer, data_answers, scsi_answer, command_answers, residual_of};
 ghost use Rattle.iscsi_session.specs.Judging.{reject};
-ghost use Rattle.iscsi_session.specs.Room.{most_given, room_for, most_pieces, most_sent as most_data_sent};
+ghost use Rattle.scsi_unit.specs.DiskCommands.{most_given};
+ghost use Rattle.iscsi_session.specs.Room.{room_for, most_pieces, most_sent as most_data_sent};
 
 use crate::fault::Memory;
 use bytes::BytesMut;
@@ -223,7 +224,7 @@ pub(crate) fn rejected(reason: RejectReason, stamp: Stamp, header: Header) -> An
 
 /// Makes room for all that a command is answered: in the buffer, and for the pieces of its data in a
 /// list. Where an allocation fails the buffer holds what it held.
-pub fn make_room(
+pub(crate) fn make_room(
     alloc: Global,
     out: &mut BytesMut,
     values: &Values,

@@ -14,6 +14,12 @@ impl From<AllocError> for Memory {
     }
 }
 
+impl From<scsi_unit::Memory> for Memory {
+    fn from(_e: scsi_unit::Memory) -> Memory {
+        Memory
+    }
+}
+
 impl<T: Drop> From<AllocFailed<T>> for Memory {
     fn from(_e: AllocFailed<T>) -> Memory {
         Memory

@@ -1,21 +1,18 @@
 //! The judging of a frame.
 
-ghost use Rattle.std.specs.Prelude.{◌≡◌, ◌+◌, ◌++◌, ℕ, List, true, flat_map, IfOk, OnOk, OnErr};
+ghost use Rattle.std.specs.Prelude.{◌≡◌, ◌++◌, ◌∷◌, ℕ, List, [], true, flat_map, IfOk, OnOk, OnErr};
 ghost use Rattle.iscsi_pdu.specs.Answer.{spelling};
 ghost use Rattle.iscsi_pdu.specs.Frames as pdu;
-ghost use Rattle.iscsi_session.specs.Requests.{Past, unfinished, accepted, bearing, stamp};
+ghost use Rattle.iscsi_session.specs.Requests.{Past, unfinished, accepted, answering, stamp};
 ghost use Rattle.iscsi_session.specs.Judging.{verdict, is_fresh, command_verdict, judged, judged_answers, reject};
-ghost use Rattle.iscsi_session.specs.State.{Stands};
+ghost use Rattle.iscsi_session.specs.State.{Stands, is_vacant_for};
 
 use crate::answers::{put, rejected};
 use crate::fault::Memory;
-use crate::session::Session;
+use crate::session::{RESERVED_TAG, Session};
 use crate::verdict::Verdict;
 use bytes::BytesMut;
 use iscsi_pdu::{Frame, Header, Opcode, RejectReason};
-
-/// No request that is to be answered bears this tag (RFC 7143 §11.2.1.8).
-const RESERVED_TAG: u32 = 0xffff_ffff;
 
 /// The length of a Reject, in bytes.
 const LONGEST_REJECT: usize = 96;
@@ -24,12 +21,11 @@ impl Session {
     /// A frame is judged: its opcode, its number, the limit of commands for immediate delivery, its tag
     /// and its data, in this order. One that is accepted is kept until it acts, and one that is rejected
     /// is answered at the end of the buffer. Where an allocation fails nothing changes.
-    pub fn take(&mut self, frame: Frame, out: &mut BytesMut) -> Result<Verdict, Memory>
-        ensures verdict { IfOk result (λ v. (answered : ℕ) (past : Past) → Stands answered past self.old → v ≡ verdict past frame) }
-        ensures stands { OnOk result ((answered : ℕ) (past : Past) → Stands answered past self.old
-            → Stands (answered + bearing (judged_answers (verdict past frame) (stamp answered past) frame)) (judged (verdict past frame) frame past) self.new) }
-        ensures out { OnOk result ((answered : ℕ) (past : Past) → Stands answered past self.old
-            → out.new.items ≡ out.old.items ++ flat_map spelling (judged_answers (verdict past frame) (stamp answered past) frame)) }
+    pub(crate) fn take(&mut self, frame: Frame, out: &mut BytesMut) -> Result<Verdict, Memory>
+        ensures verdict { IfOk result (λ v. (past : Past) → Stands past self.old → v ≡ verdict past frame) }
+        ensures stands { OnOk result ((past : Past) → Stands past self.old → Stands (judged (verdict past frame) frame past) self.new) }
+        ensures out { OnOk result ((past : Past) → Stands past self.old
+            → out.new.items ≡ out.old.items ++ flat_map spelling (judged_answers (verdict past frame) past frame)) }
         ensures grows { (more : List ℕ) × (out.new.items ≡ out.old.items ++ more) }
         ensures params { self.new.params ≡ self.old.params }
         ensures err { OnErr result (self.new ≡ self.old) }
@@ -46,7 +42,8 @@ impl Session {
 
     /// What a frame is judged to be.
     fn judge(&self, frame: &Frame) -> Verdict
-        ensures { (answered : ℕ) (past : Past) → Stands answered past self.now → result ≡ verdict past frame.now }
+        ensures verdict { (past : Past) → Stands past self.now → result ≡ verdict past frame.now }
+        ensures vacant { result ≡ Verdict.Accepted → is_vacant_for self.now.tasks frame.now ≡ true }
     {
         let header = &frame.header;
         match header.opcode() {
@@ -73,14 +70,16 @@ impl Session {
 
     /// A request for immediate delivery has no number; every other one is new, or ignored.
     fn is_fresh(&self, frame: &Frame) -> bool
-        ensures { (answered : ℕ) (past : Past) → Stands answered past self.now → result ≡ is_fresh past frame.now }
+        ensures fresh { (past : Past) → Stands past self.now → result ≡ is_fresh past frame.now }
+        ensures vacant { result ≡ is_vacant_for self.now.tasks frame.now }
     {
-        frame.header.is_immediate() || self.window.is_new(frame.header.cmd_sn())
+        frame.header.is_immediate() || self.tasks.is_new(frame.header.cmd_sn())
     }
 
     /// What a SCSI Command is judged to be.
     fn judge_command(&self, frame: &Frame) -> Verdict
-        ensures { (answered : ℕ) (past : Past) → Stands answered past self.now → result ≡ command_verdict (is_fresh past frame.now) (unfinished past) frame.now }
+        ensures verdict { (past : Past) → Stands past self.now → result ≡ command_verdict (is_fresh past frame.now) (unfinished past) frame.now }
+        ensures vacant { result ≡ Verdict.Accepted → is_vacant_for self.now.tasks frame.now ≡ true }
     {
         let header = &frame.header;
         if !self.is_fresh(frame) {
@@ -101,18 +100,15 @@ impl Session {
 
     /// A request that is accepted is kept until it acts. Where an allocation fails nothing changes.
     fn accept(&mut self, frame: Frame) -> Result<(), Memory>
-        ensures stands { OnOk result ((answered : ℕ) (past : Past) → Stands answered past self.old → is_fresh past frame ≡ true → Stands answered (accepted frame past) self.new) }
+        requires { is_vacant_for self.old.tasks frame ≡ true }
+        ensures stands { OnOk result ((past : Past) → Stands past self.old → Stands (accepted frame past) self.new) }
         ensures params { self.new.params ≡ self.old.params }
         ensures err { OnErr result (self.new ≡ self.old) }
     {
         if frame.header.is_immediate() {
             return self.tasks.admit(frame);
         }
-        let number = frame.header.cmd_sn();
-        self.tasks.hold(frame)?;
-        // It is new, so it is not ignored.
-        let _ = self.window.arrive(number);
-        Ok(())
+        self.tasks.hold(frame.header.cmd_sn(), frame)
     }
 
     /// A frame is answered by a Reject. Where an allocation fails nothing changes.
@@ -122,9 +118,10 @@ impl Session {
         header: Header,
         out: &mut BytesMut,
     ) -> Result<(), Memory>
-        ensures stands { OnOk result ((answered : ℕ) (past : Past) → Stands answered past self.old → Stands (answered + 1) past self.new) }
-        ensures out { OnOk result ((answered : ℕ) (past : Past) (frame : pdu.Frame) → Stands answered past self.old → frame.header ≡ header
-            → out.new.items ≡ out.old.items ++ spelling (reject reason (stamp answered past) frame)) }
+        ensures stands { OnOk result ((past : Past) (frame : pdu.Frame) → Stands past self.old → frame.header ≡ header
+            → Stands (answering (reject reason (stamp past) frame ∷ []) past) self.new) }
+        ensures out { OnOk result ((past : Past) (frame : pdu.Frame) → Stands past self.old → frame.header ≡ header
+            → out.new.items ≡ out.old.items ++ spelling (reject reason (stamp past) frame)) }
         ensures grows { (more : List ℕ) × (out.new.items ≡ out.old.items ++ more) }
         ensures params { self.new.params ≡ self.old.params }
         ensures err { OnErr result (self.new ≡ self.old) }

@@ -1,11 +1,18 @@
 //! One iSCSI session in full feature phase (RFC 7143 §4.2): its requests from the frames that bring
 //! them to their answers.
 //!
-//! A frame is judged ([`Session::take`]), the requests that are taken act, one after the other
-//! ([`Session::act`]), and the SCSI Commands at the front of the queue are done by the caller and
-//! answered ([`Session::first`], [`Session::done`]). What each call does is said of the session's
-//! past, the plain lists of `specs/Requests.antt`: a session that stood where one past is stands where
-//! the longer one is.
+//! ```text
+//!   frame   judged   held in the window      due        queue      done
+//!   ----->  --------> behind a missing  ---> acts  ---> SCSI  ---> on the units,
+//!           rejected  number                 │          Commands   and answered
+//!                                            └ NOP-Out, Logout: answered at once
+//! ```
+//!
+//! [`Session::serve`] judges a frame and lets the requests act that it lets be taken, and
+//! [`Session::settle`] does the commands that acted. What each call does is said of the session's past
+//! (`specs/Requests.antt`), plain lists in which a request is named by its place among those that came: a
+//! session that stood where one past is stands where its steps lead (`specs/Steps.antt`), all of them, or
+//! those before an allocation that failed. What holds of every past is in [`laws`].
 #![tactic(auto)]
 
 mod act;
@@ -14,12 +21,11 @@ mod answering;
 mod answers;
 mod fault;
 mod judging;
+pub mod laws;
+mod serving;
 mod session;
 mod tasks;
 mod verdict;
 
-pub use act::Act;
-pub use answers::make_room;
 pub use fault::Memory;
 pub use session::Session;
-pub use verdict::Verdict;

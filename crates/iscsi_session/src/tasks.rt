@@ -1,13 +1,16 @@
-//! The requests of a session that are not finished.
+//! The requests of a session that are not finished, and their numbers.
 
-ghost use Rattle.std.specs.Prelude.{◌≡◌, ◌≤◌, ◌++◌, ◌∷◌, List, [], Some, None, drop, length, filter, IfSome, IfNone, OnOk, OnErr};
+ghost use Rattle.std.specs.Prelude.{◌≡◌, ◌≤◌, ◌<◌, ◌+◌, ◌++◌, ◌∷◌, List, [], true, length, filter, filter_map, map, drop, vec_capacity, IfSome, IfNone, OnOk, OnErr};
+ghost use Rattle.iscsi_order.specs.Window as order;
+ghost use Rattle.iscsi_order.specs.WindowState as window;
 ghost use Rattle.iscsi_pdu.specs.Frames as pdu;
 ghost use Rattle.iscsi_session.specs.Requests.{is_command};
 ghost use Rattle.iscsi_session.specs.Judging.{is_live, is_full, is_immediate_command};
-ghost use Rattle.iscsi_session.specs.State.{no_tasks, named_by, without};
-ghost use Rattle.iscsi_session.specs.Tasks.{requests_at, IsFirstNamed};
+ghost use Rattle.iscsi_session.specs.State.{no_tasks, window_of, is_vacant, holding, takes_all, one_fewer};
+ghost use Rattle.iscsi_session.specs.Tasks.{requests_at, keys_in, held_at, moves_all};
 
 use crate::fault::Memory;
+use iscsi_order::{CommandNumbers, Window};
 use iscsi_pdu::{Frame, Opcode};
 use slab::Slab;
 use std::alloc::Global;
@@ -17,15 +20,15 @@ use std::marker::Model;
 const MOST_IMMEDIATE: usize = 8;
 
 /// The requests of a session that are not finished. They stand in a slab, so that one that moves from
-/// one line to another is not copied. Clauses see the three lines.
+/// one line to another is not copied. Clauses see the three lines, and the window of the numbers.
 #[derive(Drop)]
 pub(crate) struct Tasks {
     requests: Slab<Frame>,
-    /// The keys of those with a number that have not acted.
-    held: Vec<usize>,
-    /// The keys of those for immediate delivery that have not acted.
-    arrived: Vec<usize>,
-    /// The keys of the SCSI Commands that are to be done, in order.
+    /// The keys of those with a number that wait for the numbers before theirs.
+    window: Window,
+    /// The keys of those that are taken and have not acted, in order.
+    due: Vec<usize>,
+    /// The keys of the SCSI Commands that acted, in order.
     queue: Vec<usize>,
 }
 
@@ -34,15 +37,11 @@ impl Model for Tasks {
 
     ghost Value = { TaskLists };
 
-    ghost use Rattle.iscsi_session.specs.Tasks.{requests_at, AreLines};
+    ghost use Rattle.iscsi_session.specs.Tasks.{lists_of, keys_in, AreLines};
 
-    ghost view = { λ t. record {
-      held = requests_at t.requests t.held.items;
-      arrived = requests_at t.requests t.arrived.items;
-      queue = requests_at t.requests t.queue.items;
-    } };
+    ghost view = { λ t. lists_of t.requests t.window t.due.items t.queue.items };
 
-    ghost invariant = { λ t. AreLines t.requests t.held.items t.arrived.items t.queue.items };
+    ghost invariant = { λ t. AreLines t.requests (keys_in t.window.keys) t.due.items t.queue.items };
 }
 
 /// It is a SCSI Command.
@@ -58,6 +57,22 @@ fn has_tag(requests: &Slab<Frame>, keys: &[usize], tag: u32) -> bool
 {
     for key in keys {
         if let Some(frame) = requests.get(*key)
+            && is_command(frame)
+            && frame.header.initiator_task_tag() == tag
+        {
+            return true;
+        }
+    }
+    false
+}
+
+/// One of the requests that are held is a SCSI Command with this tag.
+fn has_held_tag(requests: &Slab<Frame>, keys: &[Option<usize>], tag: u32) -> bool
+    ensures { result ≡ is_live (filter_map (λ o. o) (map (held_at requests.now) keys.now)) tag }
+{
+    for place in keys {
+        if let Some(key) = place
+            && let Some(frame) = requests.get(*key)
             && is_command(frame)
             && frame.header.initiator_task_tag() == tag
         {
@@ -84,143 +99,126 @@ fn immediate_commands(requests: &Slab<Frame>, keys: &[usize]) -> usize
     count
 }
 
-/// Where the key of the first of these requests with this CmdSN stands.
-fn place_of(requests: &Slab<Frame>, keys: &[usize], n: u32) -> Option<usize>
-    ensures some { IfSome result (IsFirstNamed n requests.now keys.now) }
-    ensures none { IfNone result (named_by n (requests_at requests.now keys.now) ≡ None) }
+/// The keys of all numbers that come before the first missing one are handed over, in order. There must be
+/// room for them.
+fn take_ready(window: &mut Window, due: &mut Vec<usize>)
+    requires { length due.old.items + length window.old.keys ≤ vec_capacity due.old }
+    ensures { (window.new, due.new.items) ≡ moves_all (window.old, due.old.items) }
 {
-    for (place, key) in keys.iter().enumerate() {
-        if let Some(frame) = requests.get(*key)
-            && frame.header.cmd_sn() == n
-        {
-            return Some(place);
-        }
+    while let Some(key) = window.take() {
+        due.push_reserved(key);
     }
-    None
 }
 
 impl Tasks {
-    /// No requests. It takes no memory.
-    pub(crate) fn new(alloc: Global) -> Tasks
-        ensures { result ≡ no_tasks }
+    /// No requests, before the first number. It takes no memory.
+    pub(crate) fn new(alloc: Global, first: u32) -> Tasks
+        ensures { result ≡ no_tasks first }
     {
         Tasks {
             requests: Slab::new(alloc),
-            held: Vec::new(alloc),
-            arrived: Vec::new(alloc),
+            window: Window::new(first),
+            due: Vec::new(alloc),
             queue: Vec::new(alloc),
         }
     }
 
-    /// A request with a number waits to act. Where an allocation fails nothing changes.
-    pub(crate) fn hold(&mut self, frame: Frame) -> Result<(), Memory>
-        ensures ok { OnOk result (self.new ≡ record self.old { held = self.old.held ++ frame ∷ [] }) }
+    /// A request for immediate delivery is taken at once. Where an allocation fails nothing changes.
+    pub(crate) fn admit(&mut self, frame: Frame) -> Result<(), Memory>
+        ensures ok { OnOk result (self.new ≡ record self.old { due = self.old.due ++ frame ∷ [] }) }
         ensures err { OnErr result (self.new ≡ self.old) }
     {
-        self.held.reserve(1)?;
+        self.due.reserve(1)?;
         let key = self.requests.insert(frame)?;
-        self.held.push_reserved(key);
+        self.due.push_reserved(key);
         Ok(())
     }
 
-    /// A request for immediate delivery waits to act. Where an allocation fails nothing changes.
-    pub(crate) fn admit(&mut self, frame: Frame) -> Result<(), Memory>
-        ensures ok { OnOk result (self.new ≡ record self.old { arrived = self.old.arrived ++ frame ∷ [] }) }
+    /// A request with a number is held, and all that come before the first missing number are taken. Where
+    /// an allocation fails nothing changes.
+    pub(crate) fn hold(&mut self, number: u32, frame: Frame) -> Result<(), Memory>
+        requires { is_vacant self.old number ≡ true }
+        ensures ok { OnOk result (self.new ≡ takes_all (holding number frame self.old)) }
         ensures err { OnErr result (self.new ≡ self.old) }
     {
-        self.arrived.reserve(1)?;
+        self.due.reserve(self.window.held().len())?;
         let key = self.requests.insert(frame)?;
-        self.arrived.push_reserved(key);
+        // It is new, so it is not ignored.
+        let _ = self.window.arrive(number, key);
+        take_ready(&mut self.window, &mut self.due);
         Ok(())
+    }
+
+    /// A request with this CmdSN would be new.
+    pub(crate) fn is_new(&self, number: u32) -> bool
+        ensures vacant { result ≡ is_vacant self.now number }
+        ensures past { (past : order.Past) → window.Stands past (window_of self.now) → result ≡ order.is_new past number }
+    {
+        self.window.is_new(number)
+    }
+
+    /// ExpCmdSN and MaxCmdSN.
+    pub(crate) fn numbers(&self) -> CommandNumbers
+        ensures { (past : order.Past) → window.Stands past (window_of self.now) → result ≡ order.numbers_of past }
+    {
+        self.window.numbers()
     }
 
     /// A SCSI Command with this tag is not finished.
     pub(crate) fn is_live(&self, tag: u32) -> bool
-        ensures { result ≡ is_live (self.now.held ++ self.now.arrived ++ self.now.queue) tag }
+        ensures { result ≡ is_live (filter_map (λ o. o) self.now.held ++ self.now.due ++ self.now.queue) tag }
     {
-        has_tag(&self.requests, &self.held, tag)
-            || has_tag(&self.requests, &self.arrived, tag)
+        has_held_tag(&self.requests, self.window.held(), tag)
+            || has_tag(&self.requests, &self.due, tag)
             || has_tag(&self.requests, &self.queue, tag)
     }
 
-    /// As many SCSI Commands for immediate delivery as may be are not finished.
+    /// As many SCSI Commands for immediate delivery as may be are not finished. None of them is held.
     pub(crate) fn is_full(&self) -> bool
-        ensures { result ≡ is_full (self.now.held ++ self.now.arrived ++ self.now.queue) }
+        ensures { result ≡ is_full (self.now.due ++ self.now.queue) }
     {
-        let held = immediate_commands(&self.requests, &self.held);
-        let arrived = immediate_commands(&self.requests, &self.arrived);
+        let due = immediate_commands(&self.requests, &self.due);
         let queued = immediate_commands(&self.requests, &self.queue);
-        held + arrived + queued >= MOST_IMMEDIATE
+        due + queued >= MOST_IMMEDIATE
     }
 
-    /// The first of those for immediate delivery.
-    pub(crate) fn arrived(&self) -> Option<&Frame>
-        ensures some { IfSome result (λ frame. self.now.arrived ≡ frame.now ∷ drop 1 self.now.arrived) }
-        ensures none { IfNone result (self.now.arrived ≡ []) }
+    /// The first that is due.
+    pub(crate) fn due(&self) -> Option<&Frame>
+        ensures some { IfSome result (λ frame. self.now.due ≡ frame.now ∷ drop 1 self.now.due) }
+        ensures none { IfNone result (self.now.due ≡ []) }
     {
-        let key = self.arrived.first()?;
+        let key = self.due.first()?;
         self.requests.get(*key)
     }
 
-    /// The first of those held whose CmdSN is `n`.
-    pub(crate) fn held(&self, n: u32) -> Option<&Frame>
-        ensures some { IfSome result (λ frame. named_by n self.now.held ≡ Some frame.now) }
-        ensures none { IfNone result (named_by n self.now.held ≡ None) }
-    {
-        let place = place_of(&self.requests, &self.held, n)?;
-        self.requests.get(self.held[place])
-    }
-
-    /// The first of those for immediate delivery joins the queue. Where an allocation fails nothing changes.
-    pub(crate) fn queue_arrived(&mut self) -> Result<(), Memory>
-        ensures ok { OnOk result ((frame : pdu.Frame) (others : List pdu.Frame) → self.old.arrived ≡ frame ∷ others
-            → self.new ≡ record self.old { arrived = others; queue = self.old.queue ++ frame ∷ [] }) }
+    /// The first that is due joins the queue. Where an allocation fails nothing changes.
+    pub(crate) fn queue_due(&mut self) -> Result<(), Memory>
+        ensures ok { OnOk result ((frame : pdu.Frame) (others : List pdu.Frame) → self.old.due ≡ frame ∷ others
+            → self.new ≡ record self.old { due = others; queue = self.old.queue ++ frame ∷ [] }) }
         ensures err { OnErr result (self.new ≡ self.old) }
     {
         self.queue.reserve(1)?;
-        if !self.arrived.is_empty() {
-            let key = self.arrived.remove(0);
+        if !self.due.is_empty() {
+            let key = self.due.remove(0);
             self.queue.push_reserved(key);
         }
         Ok(())
     }
 
-    /// The first of those held whose CmdSN is `n` joins the queue. Where an allocation fails nothing changes.
-    pub(crate) fn queue_held(&mut self, n: u32) -> Result<(), Memory>
-        ensures ok { OnOk result ((frame : pdu.Frame) → named_by n self.old.held ≡ Some frame
-            → self.new ≡ record self.old { held = without n self.old.held; queue = self.old.queue ++ frame ∷ [] }) }
-        ensures err { OnErr result (self.new ≡ self.old) }
+    /// The first that is due is finished.
+    pub(crate) fn finish_due(&mut self) -> Option<Frame>
+        ensures some { IfSome result (λ frame. self.old.due ≡ frame ∷ drop 1 self.old.due) }
+        ensures same { IfSome result (λ frame. self.new ≡ one_fewer frame (record self.old { due = drop 1 self.old.due })) }
+        ensures none { IfNone result (self.old.due ≡ []) }
+        ensures none_same { IfNone result (self.new ≡ self.old) }
     {
-        self.queue.reserve(1)?;
-        if let Some(place) = place_of(&self.requests, &self.held, n) {
-            let key = self.held.remove(place);
-            self.queue.push_reserved(key);
-        }
-        Ok(())
-    }
-
-    /// The first of those for immediate delivery, taken out.
-    pub(crate) fn take_arrived(&mut self) -> Option<Frame>
-        ensures some { IfSome result (λ frame. self.old.arrived ≡ frame ∷ self.new.arrived) }
-        ensures same { self.new ≡ record self.old { arrived = self.new.arrived } }
-        ensures none { IfNone result (self.old.arrived ≡ []) }
-    {
-        if self.arrived.is_empty() {
+        if self.due.is_empty() {
             return None;
         }
-        let key = self.arrived.remove(0);
-        Some(self.requests.remove(key))
-    }
-
-    /// The first of those held whose CmdSN is `n`, taken out.
-    pub(crate) fn take_held(&mut self, n: u32) -> Option<Frame>
-        ensures some { IfSome result (λ frame. named_by n self.old.held ≡ Some frame) }
-        ensures same { self.new ≡ record self.old { held = without n self.old.held } }
-        ensures none { IfNone result (named_by n self.old.held ≡ None) }
-    {
-        let place = place_of(&self.requests, &self.held, n)?;
-        let key = self.held.remove(place);
-        Some(self.requests.remove(key))
+        let key = self.due.remove(0);
+        let frame = self.requests.remove(key);
+        self.finish_number(&frame);
+        Some(frame)
     }
 
     /// The first of the queue.
@@ -233,12 +231,27 @@ impl Tasks {
     }
 
     /// The first of the queue is finished.
-    pub(crate) fn finish(&mut self)
-        ensures { self.new ≡ record self.old { queue = drop 1 self.old.queue } }
+    pub(crate) fn finish(&mut self) -> Option<Frame>
+        ensures some { IfSome result (λ frame. self.old.queue ≡ frame ∷ drop 1 self.old.queue) }
+        ensures same { IfSome result (λ frame. self.new ≡ one_fewer frame (record self.old { queue = drop 1 self.old.queue })) }
+        ensures none { IfNone result (self.old.queue ≡ []) }
+        ensures none_same { IfNone result (self.new ≡ self.old) }
     {
-        if !self.queue.is_empty() {
-            let key = self.queue.remove(0);
-            self.requests.remove(key);
+        if self.queue.is_empty() {
+            return None;
+        }
+        let key = self.queue.remove(0);
+        let frame = self.requests.remove(key);
+        self.finish_number(&frame);
+        Some(frame)
+    }
+
+    /// A request is finished whose number was taken. One for immediate delivery has none.
+    fn finish_number(&mut self, frame: &Frame)
+        ensures { self.new ≡ one_fewer frame.now self.old }
+    {
+        if !frame.header.is_immediate() {
+            self.window.finish();
         }
     }
 }

@@ -1,6 +1,6 @@
 -- A Login request at one connection of the code, before its answer is sent.
-use Rattle.std.specs.Result.{OnErr}
-use Rattle.std.proofs.Common.{◌≡◌, ℕ, zero, suc, ◌<◌, List, [], ◌∷◌, Result, Ok, Err, arith, length, set, get_or, true, Option, Some, None, refl, sym, ap, ◌∙◌}
+use Rattle.std.specs.Result.{OnErr, OnOk}
+use Rattle.std.proofs.Common.{◌≡◌, ℕ, zero, suc, ◌<◌, List, [], ◌∷◌, Result, Ok, Err, is_err, Bool, false, arith, length, set, get_or, true, Option, Some, None, refl, sym, ap, ◌∙◌}
 use Rattle.std.proofs.lemmas.List.{length-map, get_or-map, get_or-set_same, map-set, set-set, set-get_or}
 use Rattle.iscsi_pdu.specs.Frames.{Frame}
 use Rattle.iscsi_pdu.specs.declared.answer.Answer.{Answer}
@@ -104,3 +104,7 @@ pub get_or_any : {X : Type 0} (xs : List X) (i : ℕ) (d e : X) → i < length x
 get_or_any [] i d e lt = absurd (omega arith)
 get_or_any (x ∷ xs) zero d e lt = refl
 get_or_any (x ∷ xs) (suc i) d e lt = get_or_any xs i d e (omega arith)
+
+pub ok_known : {T E P : Type 0} (r : Result T E) → is_err r ≡ false → OnOk r P → P
+ok_known (Ok x) e known = known
+ok_known (Err fault) e known = absurd cc

@@ -1,102 +1,35 @@
--- A whole event of bytes keeps the code where the World is: each way in which it ends.
-use Rattle.std.proofs.Common.{◌≡◌, ◌≢◌, ℕ, ◌+◌, ◌<◌, List, [], ◌∷◌, ◌++◌, length, drop, map, set, get_or, Bool, true, false, Option, Some, None, refl, sym, ap, ◌∙◌, subst, arith, append_assoc, inl, inr}
-use Rattle.std.specs.List.{fold, enumerate_from}
-use Rattle.std.proofs.lemmas.List.{append-nil, length-map, map-append, length-set, set-get_or, get_or-set_same, get_or-set_other, drop_all}
+-- A whole event of bytes keeps the code where the World is.
+use Rattle.std.proofs.Common.{◌≡◌, ◌≢◌, ℕ, ◌+◌, ◌<◌, ◌≤◌, List, [], ◌∷◌, ◌++◌, length, map, drop, set, get_or, Bool, true, false, not, ◌&&◌, eqb, Option, Some, None, refl, sym, ap, ◌∙◌, subst, arith, inl, inr}
+use Rattle.std.specs.Prelude.{All, nat_lt, Result, Ok, Err, OnOk, IfErr}
+use Rattle.std.specs.List.{fold, enumerate_from, list_all, list_any}
 use Rattle.std.proofs.lemmas.Bool.Decides.{eqb_tells}
+use Rattle.std.proofs.lemmas.List.{append-nil, length-set, set-get_or, get_or-set_same, drop_all}
 use Rattle.std.proofs.lemmas.List.FromFn.{length-enumerate_from}
-use Rattle.iscsi_pdu.specs.Frames.{Frame, frames, rest, is_long, has_frame}
-use Rattle.iscsi_pdu.proofs.Frames.{frames_none, rest_none}
-use Rattle.iscsi_pdu.proofs.Cuts.{rest_in_pieces, long_is_no_frame}
-use Rattle.iscsi_target.specs.History.{Bytes, Mark, Step, Ending, History, plain, Arrival, Whole, TooLong, arrivals, new_arrivals, connection_limit}
-use Rattle.iscsi_target.specs.Life.{Life, Phase, LoggingIn, FullFeature, Closing, Over, reads, out_of}
-use Rattle.iscsi_target.specs.World.{Setting, World, present, changed, reads_life, close, is_marked, take_step, arrive, arrive_at, brought, longer, bring, world}
-use Rattle.iscsi_target.specs.Machine.{LinkState, Machine, link_at, with_link, closed, IsSound, IsSure, Feeds, is_reading, is_closing, is_open_at, free_link, GivesFrame}
-use Rattle.iscsi_target.specs.Stands.{phase_of, phase_for, half_of, IsQuiet, IsSettled, IsLinkOf, StandsAt, Stands}
-use Rattle.iscsi_target.proofs.Choices.{cond_true, cond_false}
-use Rattle.iscsi_target.proofs.Arrivals.{long_end, fold-places, new_is}
-use Rattle.iscsi_target.proofs.Lives.{present-changed, present-changed_other, present_is}
-use Rattle.iscsi_target.specs.Serving.{IsServing, Serves, Unmarked, KeepsHalf, Takes}
-use Rattle.iscsi_target.proofs.Serving.{closes, present-close, step_done, step_idle}
-use Rattle.iscsi_target.proofs.Standing.{stands_as, stands_from, is_open_there}
-use Rattle.iscsi_target.proofs.Sound.{sound_as, sure_as}
-use Rattle.iscsi_target.proofs.Opening.{feeds_then, feeds_as, feeds_half, closed_link_at}
-use Rattle.iscsi_target.proofs.Marks.{unmarked_plain, idle, idle_all}
-use Rattle.iscsi_target.proofs.Bringing.{Progress, with_half}
+use Rattle.iscsi_pdu.specs.Frames.{rest, is_long}
+use Rattle.iscsi_pdu.proofs.Cuts.{rest_in_pieces}
+use Rattle.scsi_unit.specs.Units.{UnitStates, AreSound, AreSure}
+use Rattle.iscsi_target.specs.History.{Bytes, Arriving, Before, AtEnd, Point, Mark, History, Arrival, arrivals, new_arrivals, plain, marked, is_same, connection_limit}
+use Rattle.iscsi_target.specs.Life.{Life, Phase, LoggingIn, FullFeature, Closing, Over, is_over, reads, out_of}
+use Rattle.iscsi_target.specs.World.{Setting, World, is_present, present, changed, reads_life, is_marked, close, reaching, take_step, arrive, brought, longer, bring, world}
+use Rattle.iscsi_target.specs.Output.{out_now}
+use Rattle.iscsi_target.specs.Machine.{LinkState, Machine, IsSound, IsSure, WhereSound, Feeds, link_at, with_link, closed, is_reading, is_open_at, free_link}
+use Rattle.iscsi_target.specs.Stands.{phase_for, link_of, machine_with, half_of, IsQuietIn, IsQuiet, IsShort, IsFirst, IsStarved, StandsAt, Stands, are_reached}
+use Rattle.iscsi_target.specs.Serving.{Serves, first_starved, Begins, with_half, has_place, is_among, KeepsHalf, TakesAll}
+use Rattle.iscsi_target.specs.declared.fault.Starved.{Starved}
+use Rattle.iscsi_target.proofs.Arrivals.{new_is}
+use Rattle.iscsi_target.proofs.Moving.{changes_feeds}
+use Rattle.iscsi_target.proofs.Choices.{eqb_self, cond_true, cond_false, and_true}
+use Rattle.iscsi_target.proofs.Lives.{present-changed, present-changed_other, present-lives, present_is}
+use Rattle.iscsi_target.proofs.Marks.{mark_at, same_self, marked_one, marked_none, unmarked}
+use Rattle.iscsi_target.proofs.Keeping.{Goes, Stays, on-close, on-reaching, on-fold, on-arrive, on-then, on-same, out-longer}
+use Rattle.iscsi_target.proofs.Linked.{link_is, reads_there, some_reads, closes, present-close, present-close_other, serves_as, serves_world, serves_reaching, present-reaching, units_with}
+use Rattle.iscsi_target.proofs.Standing.{fresh, present-fresh, stands_as, machine_same, serving, link_stands, is_open_there, count_stands}
+use Rattle.iscsi_target.proofs.Frames.{idle, idle_step, unmarked_step, marked_step}
+use Rattle.iscsi_target.proofs.Doing.{still_reached}
+use Rattle.iscsi_target.proofs.AtWork.{last_there}
+use Rattle.iscsi_target.proofs.Taking.{halving, rehalved, halves_idle, half_twice, idle_all, serves_halves}
 
--- ---- what reads
-
-reading_in : (names : List (List ℕ)) (life : Life) (phase : Phase) → is_reading (phase_for names life phase) ≡ reads phase
-reading_in names life LoggingIn = refl
-reading_in names life (FullFeature session) = refl
-reading_in names life Closing = refl
-reading_in names life Over = refl
-
-reading_same : (names : List (List ℕ)) (o : Option Life) → is_reading (phase_of names o) ≡ reads_life o
-reading_same names None = refl
-reading_same names (Some life) = reading_in names life life.phase
-
-pub some_reads : (o : Option Life) → reads_life o ≡ true → (life : Life) × (o ≡ Some life) × (reads life.phase ≡ true)
-some_reads None e = absurd cc
-some_reads (Some life) e = (life, refl, e)
-
-pub reads_there : (c : ℕ) (bytes : List ℕ) (s : Setting) (sent : ℕ → ℕ) (w : World) (machine : Machine) → Serves c bytes s sent w machine → is_reading (link_at machine c).phase ≡ reads_life (present c w)
-reads_there c bytes s sent w machine h = ap is_reading h.here.phase ∙ reading_same s.names (present c w)
-
--- a step that no mark names, and that does nothing
-nothing_by : (b : Bool) (c : ℕ) (step : Step) (w : World) → reads_life (present c w) ≡ b → take_step [] c step (λ v. v) w ≡ w
-unfolding is_marked
-nothing_by true c step w r = step_done [] c step (λ v. v) w r refl
-nothing_by false c step w r = step_idle [] c step (λ v. v) w r
-
--- ---- a life that does not read
-
-settled_in : (life : Life) (phase : Phase) → reads phase ≡ false → IsQuiet life phase
-settled_in life LoggingIn r = absurd cc
-settled_in life (FullFeature session) r = absurd cc
-settled_in life Closing r = tt
-settled_in life Over r = tt
-
-settled_idle : (o : Option Life) → reads_life o ≡ false → IsSettled o
-settled_idle None r = tt
-settled_idle (Some life) r = record { quiet = settled_in life life.phase r; short = λ e. absurd (cc (e, r)) }
-
-half_idle : (o : Option Life) → reads_life o ≡ false → half_of o ≡ []
-half_idle None r = refl
-half_idle (Some life) r = cond_false (reads life.phase) (rest life.bytes) [] r
-
-pub idle_stands : (c : ℕ) (bytes : List ℕ) (s : Setting) (sent : ℕ → ℕ) (w : World) (machine : Machine) → Serves c bytes s sent w machine → reads_life (present c w) ≡ false → (link_at machine c).half ≡ [] → StandsAt s sent w machine
-idle_stands c bytes s sent w machine h r half = stands_from c bytes s sent w machine h (record {
-  phase = h.here.phase;
-  half = half ∙ sym (half_idle (present c w) r);
-  answered = h.here.answered;
-  waiting = h.here.waiting;
-  settled = settled_idle (present c w) r;
-})
-
--- one that was closed
-pub closed_stands : (c : ℕ) (bytes : List ℕ) (s : Setting) (sent : ℕ → ℕ) (w : World) (machine : Machine) (life : Life) → Serves c bytes s sent w machine → present c w ≡ Some life → StandsAt s sent (close c w) (closed machine c)
-closed_stands c bytes s sent w machine life h e =
-    let half : (link_at (closed machine c) c).half ≡ [] = ap (λ (l : LinkState). l.half) (closed_link_at machine c (omega (arith, h.count, h.in_range))) in
-    idle_stands c bytes s sent (close c w) (closed machine c) (closes c 0 0 bytes s sent w machine life h e) (ap reads_life (present-close c w life e)) half
-
--- ---- the event
-
--- a connection that reads, and a piece
-pub record Fed (c : ℕ) (s : Setting) (sent : ℕ → ℕ) (w : World) (machine : Machine) : Type 0 where
-  pub in_range : c < connection_limit
-  pub stands : StandsAt s sent w machine
-  pub life : Life
-  pub at : present c w ≡ Some life
-  pub reads_life : reads life.phase ≡ true
-
-pub fed : (c : ℕ) (s : Setting) (sent : ℕ → ℕ) (w : World) (machine : Machine) → c < connection_limit → StandsAt s sent w machine → is_reading (link_at machine c).phase ≡ true → Fed c s sent w machine
-fed c s sent w machine lt h r =
-    let there = some_reads (present c w) (sym (reading_same s.names (present c w)) ∙ ap is_reading (sym (h.links c lt).phase) ∙ r) in
-    record { in_range = lt; stands = h; life = there.0; at = there.1; reads_life = there.2 }
-
-out_longer : (life : Life) (piece : List ℕ) → out_of (longer piece life) ≡ out_of life
-unfolding out_of
-out_longer life piece = refl
+-- ---- the longer bytes
 
 phase_longer : (names : List (List ℕ)) (life : Life) (piece : List ℕ) (phase : Phase) → phase_for names (longer piece life) phase ≡ phase_for names life phase
 phase_longer names life piece LoggingIn = refl
@@ -104,259 +37,305 @@ phase_longer names life piece (FullFeature session) = refl
 phase_longer names life piece Closing = refl
 phase_longer names life piece Over = refl
 
-quiet_longer : (life : Life) (piece : List ℕ) (phase : Phase) → IsQuiet life phase → IsQuiet (longer piece life) phase
-quiet_longer life piece LoggingIn h = h
-quiet_longer life piece (FullFeature session) h = h
-quiet_longer life piece Closing h = tt
-quiet_longer life piece Over h = tt
+abbrev pub piece_came : ℕ → List ℕ → World → World
+piece_came c piece w = changed (longer piece) c (fresh w)
 
-serves_with : (c : ℕ) (bytes : List ℕ) (s : Setting) (sent : ℕ → ℕ) (w v : World) (machine : Machine) (link : LinkState) → c < connection_limit → StandsAt s sent w machine → v.units ≡ w.units
-    → ((d : ℕ) → d ≢ c → present d v ≡ present d w) → IsServing s.names bytes (sent c) link (present c v) → Serves c bytes s sent v (with_link machine c link)
-serves_with c bytes s sent w v machine link lt h u other here =
-    let there : get_or (set machine.links c link) c free_link ≡ link = get_or-set_same machine.links c link free_link (omega (arith, h.count)) in
+units_came : (c : ℕ) (piece : List ℕ) (w : World) → (piece_came c piece w).units ≡ w.units
+unfolding changed
+units_came c piece w = refl
+
+pub came_here : (c : ℕ) (piece : List ℕ) (w : World) (life : Life) → present c w ≡ Some life → present c (piece_came c piece w) ≡ Some (longer piece life)
+came_here c piece w life at = present-changed (longer piece) c (fresh w) life (present-fresh c w ∙ at) (present_is c w life at)
+
+pub came_other : (c d : ℕ) (piece : List ℕ) (w : World) → d ≢ c → present d (piece_came c piece w) ≡ present d w
+came_other c d piece w differ = present-changed_other (longer piece) c d (fresh w) (λ l. refl) differ ∙ present-fresh d w
+
+link_longer : (names : List (List ℕ)) (sent : ℕ) (half : List ℕ) (life : Life) (piece : List ℕ) → link_of names sent half (Some (longer piece life)) ≡ link_of names sent half (Some life)
+link_longer names sent half life piece = rw (phase_longer names life piece life.phase, out-longer life piece) refl
+
+-- the World with the longer bytes is served as the one before
+pub longer_serves : (s : Setting) (sent : ℕ → ℕ) (half : ℕ → List ℕ) (w : World) (machine : Machine) (c : ℕ) (piece : List ℕ) (life : Life) → c < connection_limit → present c w ≡ Some life → Serves s sent half w machine
+    → Serves s sent half (piece_came c piece w) machine
+longer_serves s sent half w machine c piece life lt at h =
+    let v = piece_came c piece w in
+    let here = came_here c piece w life at in
     record {
-      names = h.names;
-      units = h.units ∙ sym u;
-      count = length-set machine.links c link ∙ h.count;
-      in_range = lt;
-      here = rw there here;
-      others = λ d below differ.
-          (let elsewhere : get_or (set machine.links c link) d free_link ≡ link_at machine d = get_or-set_other machine.links c d link free_link differ in
-          rw (elsewhere, other d differ) (h.links d below));
+      is = h.is ∙ sym (machine_same s sent sent half half w v (units_came c piece w) (λ d below. elim (eqb_tells d c) [
+        | inl same ↦ rw same.1 (ap (link_of s.names (sent c) (half c)) here ∙ link_longer s.names (sent c) (half c) life piece ∙ ap (link_of s.names (sent c) (half c)) (sym at))
+        | inr differ ↦ ap (link_of s.names (sent d) (half d)) (came_other c d piece w differ.1)
+      ]));
+      answered = λ d below. elim (eqb_tells d c) [
+        | inl same ↦ rw same.1 (rw (here, out-longer life piece) (let le = h.answered c lt in rw at at le))
+        | inr differ ↦ rw (came_other c d piece w differ.1) (h.answered d below)
+      ];
+      quiet = λ d below. elim (eqb_tells d c) [
+        | inl same ↦ rw same.1 (rw here (let q = h.quiet c lt in rw at at q))
+        | inr differ ↦ rw (came_other c d piece w differ.1) (h.quiet d below)
+      ];
     }
 
--- the World with the longer bytes, before a frame of them is taken
-pub longer_serves : (c : ℕ) (s : Setting) (sent : ℕ → ℕ) (w : World) (machine : Machine) (life : Life) (piece half : List ℕ) → c < connection_limit → StandsAt s sent w machine → present c w ≡ Some life
-    → Serves c (life.bytes ++ piece) s sent (changed (longer piece) c w) (with_link machine c (record (link_at machine c) { half = half }))
-unfolding changed
-longer_serves c s sent w machine life piece half lt h at =
-    let v = changed (longer piece) c w in
-    let at_v : present c v ≡ Some (longer piece life) = present-changed (longer piece) c w life at (present_is c w life at) in
-    let link : IsLinkOf s.names (sent c) (link_at machine c) (Some life) = rw at at (h.links c lt) in
-    serves_with c (life.bytes ++ piece) s sent w v machine (record (link_at machine c) { half = half }) lt h refl
-    (λ d differ. present-changed_other (longer piece) c d w (λ l. refl) differ)
-    (rw at_v record {
-      phase = link.phase ∙ sym (phase_longer s.names life piece life.phase);
-      answered = rw (out_longer life piece) link.answered;
-      waiting = rw (out_longer life piece) link.waiting;
-      quiet = quiet_longer life piece life.phase link.settled.quiet;
-      held = refl;
-    })
+-- ---- between two events again
 
--- the bytes that the code keeps first
-abbrev pub kept_first : Machine → ℕ → List ℕ → Machine
-kept_first machine c piece = with_link machine c (record (link_at machine c) { half = (link_at machine c).half ++ piece })
+-- what is kept of a present life that stayed
+half_kept : (names : List (List ℕ)) (sent : ℕ) (before after : Option Life) → Stays before after → link_of names sent (half_of before) after ≡ link_of names sent (half_of after) after
+half_kept names sent None None s = refl
+half_kept names sent None (Some y) s = absurd s
+half_kept names sent (Some x) None s = refl
+half_kept names sent (Some x) (Some y) s = ap (λ (bytes : List ℕ). link_of names sent (rest bytes) (Some y)) (sym s.0)
 
-pub first_half : (c : ℕ) (s : Setting) (sent : ℕ → ℕ) (w : World) (machine : Machine) (piece : List ℕ) → (f : Fed c s sent w machine) → (link_at (kept_first machine c piece) c).half ≡ rest f.life.bytes ++ piece
-first_half c s sent w machine piece f =
-    let link : IsLinkOf s.names (sent c) (link_at machine c) (Some f.life) = rw f.at at (f.stands.links c f.in_range) in
-    ap (λ (l : LinkState). l.half) (with_half machine c ((link_at machine c).half ++ piece) (omega (arith, f.stands.count, f.in_range)))
-    ∙ ap (λ (b : List ℕ). b ++ piece) (link.half ∙ cond_true (reads f.life.phase) (rest f.life.bytes) [] f.reads_life)
+short_kept : (before after : Option Life) → Stays before after → IsShort before → IsShort after
+short_kept None None s h = tt
+short_kept None (Some y) s h = absurd s
+short_kept (Some x) None s h = tt
+short_kept (Some x) (Some y) s h = λ e. ap (λ (bytes : List ℕ). is_long (rest bytes)) s.0 ∙ h (s.1 e)
 
-pub is_short : (c : ℕ) (s : Setting) (sent : ℕ → ℕ) (w : World) (machine : Machine) → (f : Fed c s sent w machine) → is_long (rest f.life.bytes) ≡ false
-is_short c s sent w machine f =
-    let link : IsLinkOf s.names (sent c) (link_at machine c) (Some f.life) = rw f.at at (f.stands.links c f.in_range) in
-    link.settled.short f.reads_life
+-- the bytes that came on the connection, behind which these are left
+here_kept : (names : List (List ℕ)) (sent : ℕ) (bytes left_ : List ℕ) (x : Life) (after : Option Life) → x.bytes ≡ bytes → rest bytes ≡ left_ → Stays (Some x) after → link_of names sent left_ after ≡ link_of names sent (half_of after) after
+here_kept names sent bytes left_ x None e r s = absurd s
+here_kept names sent bytes left_ x (Some y) e r s = ap (λ (half : List ℕ). link_of names sent half (Some y)) (sym (ap rest (s.0 ∙ e) ∙ r))
 
--- what is left to arrive behind the frames that were taken
-abbrev pub left_over : List ℕ → Bool → List Arrival
-left_over more long = map Whole (frames more) ++ long_end long
+here_short : (bytes left_ : List ℕ) (x : Life) (after : Option Life) → x.bytes ≡ bytes → rest bytes ≡ left_ → Stays (Some x) after → (reads_life after ≡ true → is_long left_ ≡ false) → IsShort after
+here_short bytes left_ x None e r s short = tt
+here_short bytes left_ x (Some y) e r s short = λ reads_y. ap is_long (ap rest (s.0 ∙ e) ∙ r) ∙ short reads_y
 
-abbrev pub so_far : Setting → List Mark → ℕ → ℕ → World → List Frame → World
-so_far s marks c place v done = fold (arrive s marks c) v (enumerate_from place (map Whole done))
+-- where the World that the arrivals made of the longer one is served, it is stood at
+pub stands_again : (s : Setting) (sent : ℕ → ℕ) (w v : World) (machine now : Machine) (c : ℕ) (piece left_ : List ℕ) (life : Life) → c < connection_limit → StandsAt s sent w machine → present c w ≡ Some life
+    → Goes (piece_came c piece w) v → rest (life.bytes ++ piece) ≡ left_ → (reads_life (present c v) ≡ true → is_long left_ ≡ false)
+    → Serves s sent (with_half c left_ (λ d. half_of (present d w))) v now → StandsAt s sent v now
+stands_again s sent w v machine now c piece left_ life lt h at goes r short serves =
+    let here : Stays (Some (longer piece life)) (present c v) = subst (λ (o : Option Life). Stays o (present c v)) (came_here c piece w life at) (goes.stays c) in
+    let other : (d : ℕ) → d ≢ c → Stays (present d w) (present d v) = λ d differ. subst (λ (o : Option Life). Stays o (present d v)) (came_other c d piece w differ) (goes.stays d) in
+    record {
+      is = serves.is ∙ sym (machine_same s sent sent (with_half c left_ (λ d. half_of (present d w))) (λ d. half_of (present d v)) v v refl (λ d below. elim (eqb_tells d c) [
+        | inl same ↦ rw same.1 (sym (ap (λ (b : List ℕ). link_of s.names (sent c) b (present c v)) (cond_true (eqb c c) left_ (half_of (present c w)) (eqb_self c)) ∙ here_kept s.names (sent c) (life.bytes ++ piece) left_ (longer piece life) (present c v) refl r here))
+        | inr differ ↦ sym (ap (λ (b : List ℕ). link_of s.names (sent d) b (present d v)) (cond_false (eqb d c) left_ (half_of (present d w)) differ.0) ∙ half_kept s.names (sent d) (present d w) (present d v) (other d differ.1))
+      ]));
+      answered = serves.answered;
+      quiet = serves.quiet;
+      short = λ d below. elim (eqb_tells d c) [
+        | inl same ↦ rw same.1 (here_short (life.bytes ++ piece) left_ (longer piece life) (present c v) refl r here short)
+        | inr differ ↦ short_kept (present d w) (present d v) (other d differ.1) (h.short d below)
+      ];
+    }
 
-split_arrivals : (done : List Frame) (more first : List ℕ) → frames first ≡ done ++ frames more → rest first ≡ rest more → arrivals first ≡ map Whole done ++ left_over more (is_long (rest more))
-unfolding arrivals
-split_arrivals done more first e r =
-    rw (e, r, map-append Whole done (frames more)) (append_assoc (map Whole done) (map Whole (frames more)) (long_end (is_long (rest more))))
+-- ---- the event's end
 
-pub brings : (c : ℕ) (s : Setting) (sent : ℕ → ℕ) (w : World) (machine now : Machine) (piece : List ℕ) (marks : List Mark) → (f : Fed c s sent w machine) → (p : Progress c (kept_first machine c piece) now)
-    → bring s marks c piece w ≡ take_step marks c Ending (λ v. v) (fold (arrive s marks c) (so_far s marks c (length (arrivals f.life.bytes)) (changed (longer piece) c w) p.done)
-    (enumerate_from (length (arrivals f.life.bytes) + length p.done) (left_over p.more (is_long (rest p.more)))))
-unfolding bring
-brings c s sent w machine now piece marks f p =
-    let v = changed (longer piece) c w in
-    let place = length (arrivals f.life.bytes) in
-    let first = (link_at (kept_first machine c piece) c).half in
-    let half = first_half c s sent w machine piece f in
-    let all : arrivals (rest f.life.bytes ++ piece) ≡ map Whole p.done ++ left_over p.more (is_long (rest p.more)) =
-    ap arrivals (sym half) ∙ split_arrivals p.done p.more first p.front p.behind in
-    ap (λ (o : Option Life). take_step marks c Ending (λ u. u) (fold (arrive s marks c) v (brought o piece))) f.at
-    ∙ ap (λ (l : List (ℕ × Arrival)). take_step marks c Ending (λ u. u) (fold (arrive s marks c) v l)) (new_is f.life.bytes piece (is_short c s sent w machine f) ∙ ap (enumerate_from place) all)
-    ∙ ap (take_step marks c Ending (λ u. u)) (fold-places (arrive s marks c) v place (map Whole p.done) (left_over p.more (is_long (rest p.more)))
-    ∙ ap (λ (n : ℕ). fold (arrive s marks c) (so_far s marks c place v p.done) (enumerate_from (place + n) (left_over p.more (is_long (rest p.more))))) (length-map p.done Whole))
+-- what is left behind the arrivals
+record Ended (s : Setting) (sent : ℕ → ℕ) (half : ℕ → List ℕ) (marks : List Mark) (c : ℕ) (v : World) (machine : Machine) : Type 0 where
+  last : World
+  is : take_step marks c AtEnd (λ u. u) v ≡ last
+  serves : Serves s sent half last machine
+  goes : Goes v last
+  reads_same : reads_life (present c last) ≡ reads_life (present c v)
 
--- where the code is once the frames so far are taken, if no mark names one of them
-pub serves_so_far : (c : ℕ) (s : Setting) (sent : ℕ → ℕ) (w : World) (machine now : Machine) (piece : List ℕ) (marks : List Mark) → (f : Fed c s sent w machine) → (p : Progress c (kept_first machine c piece) now)
-    → IsSound now → ((q : ℕ) → q < length (arrivals f.life.bytes) + length p.done → Unmarked marks c q)
-    → Serves c (f.life.bytes ++ piece) s sent (so_far s marks c (length (arrivals f.life.bytes)) (changed (longer piece) c w) p.done) now
-serves_so_far c s sent w machine now piece marks f p sound un =
-    p.stands sound s sent (changed (longer piece) c w) (length (arrivals f.life.bytes)) (f.life.bytes ++ piece) marks un
-    (longer_serves c s sent w machine f.life piece ((link_at machine c).half ++ piece) f.in_range f.stands f.at)
-
--- ---- the ways in which it ends
-
--- all that was whole was taken, and the connection still reads
-pub ends_whole : (c : ℕ) (s : Setting) (sent : ℕ → ℕ) (machine now : Machine) (history : History) (piece : List ℕ) → c < connection_limit → Stands s sent machine history → is_reading (link_at machine c).phase ≡ true
-    → Progress c (kept_first machine c piece) now → IsSound now → is_reading (link_at now c).phase ≡ true → has_frame (link_at now c).half ≡ false → is_long (link_at now c).half ≡ false → Stands s sent now (history ++ plain (Bytes c piece) ∷ [])
-ends_whole c s sent machine now history piece lt h r p sound reads_now none short =
-    let w = world s history in
-    let f = fed c s sent w machine lt h r in
-    let place = length (arrivals f.life.bytes) in
-    let v = so_far s [] c place (changed (longer piece) c w) p.done in
-    let serves = serves_so_far c s sent w machine now piece [] f p sound (λ q below. unmarked_plain c q) in
-    let half : (link_at now c).half ≡ p.more = p.kept.reading reads_now in
-    let none_ : has_frame p.more ≡ false = ap has_frame (sym half) ∙ none in
-    let short_ : is_long (rest p.more) ≡ false = ap is_long (rest_none p.more none_ ∙ sym half) ∙ short in
-    let nothing : left_over p.more (is_long (rest p.more)) ≡ [] = ap (λ (l : List Frame). map Whole l ++ long_end (is_long (rest p.more))) (frames_none p.more none_) ∙ ap long_end short_ in
-    let e : bring s [] c piece w ≡ v = brings c s sent w machine now piece [] f p
-    ∙ ap (λ (l : List Arrival). take_step [] c Ending (λ u. u) (fold (arrive s [] c) v (enumerate_from (place + length p.done) l))) nothing
-    ∙ nothing_by (reads_life (present c v)) c Ending v refl in
-    let reads_v : reads_life (present c v) ≡ true = sym (reads_there c _ s sent v now serves) ∙ reads_now in
-    let there = some_reads (present c v) reads_v in
-    let here : IsServing s.names (f.life.bytes ++ piece) (sent c) (link_at now c) (Some there.0) = rw there.1 at serves.here in
-    let behind : rest there.0.bytes ≡ p.more = ap rest here.held ∙ rest_in_pieces f.life.bytes piece ∙ ap rest (sym (first_half c s sent w machine piece f)) ∙ p.behind ∙ rest_none p.more none_ in
-    stands_as s sent now history (plain (Bytes c piece)) v e (stands_from c _ s sent v now serves (rw there.1 record {
-      phase = here.phase;
-      half = half ∙ sym behind ∙ sym (cond_true (reads there.0.phase) (rest there.0.bytes) [] there.2);
-      answered = here.answered;
-      waiting = here.waiting;
-      settled = record { quiet = here.quiet; short = λ x. ap (λ (b : List ℕ). is_long b) (behind ∙ sym half) ∙ short };
-    }))
-
--- one of the frames closed the connection
-pub ends_closed : (c : ℕ) (s : Setting) (sent : ℕ → ℕ) (machine now : Machine) (history : History) (piece : List ℕ) → c < connection_limit → Stands s sent machine history → is_reading (link_at machine c).phase ≡ true
-    → Progress c (kept_first machine c piece) now → IsSound now → is_reading (link_at now c).phase ≡ false → Stands s sent now (history ++ plain (Bytes c piece) ∷ [])
-ends_closed c s sent machine now history piece lt h r p sound closed_now =
-    let w = world s history in
-    let f = fed c s sent w machine lt h r in
-    let place = length (arrivals f.life.bytes) in
-    let v = so_far s [] c place (changed (longer piece) c w) p.done in
-    let serves = serves_so_far c s sent w machine now piece [] f p sound (λ q below. unmarked_plain c q) in
-    let reads_v : reads_life (present c v) ≡ false = sym (reads_there c _ s sent v now serves) ∙ closed_now in
-    let e : bring s [] c piece w ≡ v = brings c s sent w machine now piece [] f p
-    ∙ ap (take_step [] c Ending (λ u. u)) (idle_all s [] c (place + length p.done) v (left_over p.more (is_long (rest p.more))) reads_v)
-    ∙ step_idle [] c Ending (λ u. u) v reads_v in
-    stands_as s sent now history (plain (Bytes c piece)) v e (idle_stands c _ s sent v now serves reads_v (p.kept.idle closed_now))
-
-too_long : (s : Setting) (c place : ℕ) (w : World) (life : Life) → present c w ≡ Some life → reads life.phase ≡ true → arrive s [] c w (place, TooLong) ≡ close c w
-unfolding arrive
-too_long s c place w life e r = ap (arrive_at s [] c w place TooLong) e ∙ cond_true (reads life.phase) (close c w) w r
-
--- a header that names too much data closes it
-pub ends_long : (c : ℕ) (s : Setting) (sent : ℕ → ℕ) (machine now : Machine) (history : History) (piece : List ℕ) → c < connection_limit → Stands s sent machine history → is_reading (link_at machine c).phase ≡ true
-    → Progress c (kept_first machine c piece) now → IsSound now → is_reading (link_at now c).phase ≡ true → is_long (link_at now c).half ≡ true → Stands s sent (closed now c) (history ++ plain (Bytes c piece) ∷ [])
-ends_long c s sent machine now history piece lt h r p sound reads_now long =
-    let w = world s history in
-    let f = fed c s sent w machine lt h r in
-    let place = length (arrivals f.life.bytes) in
-    let v = so_far s [] c place (changed (longer piece) c w) p.done in
-    let serves = serves_so_far c s sent w machine now piece [] f p sound (λ q below. unmarked_plain c q) in
-    let half : (link_at now c).half ≡ p.more = p.kept.reading reads_now in
-    let long_ : is_long p.more ≡ true = ap is_long (sym half) ∙ long in
-    let none_ : has_frame p.more ≡ false = long_is_no_frame p.more long_ in
-    let long_rest : is_long (rest p.more) ≡ true = ap is_long (rest_none p.more none_) ∙ long_ in
-    let one : left_over p.more (is_long (rest p.more)) ≡ TooLong ∷ [] = ap (λ (l : List Frame). map Whole l ++ long_end (is_long (rest p.more))) (frames_none p.more none_) ∙ ap long_end long_rest in
-    let there = some_reads (present c v) (sym (reads_there c _ s sent v now serves) ∙ reads_now) in
-    let shut_ : reads_life (present c (close c v)) ≡ false = ap reads_life (present-close c v there.0 there.1) in
-    let e : bring s [] c piece w ≡ close c v = brings c s sent w machine now piece [] f p
-    ∙ ap (λ (l : List Arrival). take_step [] c Ending (λ u. u) (fold (arrive s [] c) v (enumerate_from (place + length p.done) l))) one
-    ∙ ap (take_step [] c Ending (λ u. u)) (too_long s c (place + length p.done) v there.0 there.1 there.2)
-    ∙ step_idle [] c Ending (λ u. u) (close c v) shut_ in
-    stands_as s sent (closed now c) history (plain (Bytes c piece)) (close c v) e (closed_stands c _ s sent v now there.0 serves there.1)
-
--- a link that is written as it is
-pub same_link : (c : ℕ) (bytes : List ℕ) (s : Setting) (sent : ℕ → ℕ) (w : World) (machine : Machine) → c < length machine.links → Serves c bytes s sent w (with_link machine c (record (link_at machine c) { half = (link_at machine c).half })) → Serves c bytes s sent w machine
-same_link c bytes s sent w machine lt h =
-    let P : List LinkState → Type 0 = λ links. Serves c bytes s sent w (record machine { links = links }) in
-    subst P (set-get_or machine.links c free_link) h
-
-idle_places : (s : Setting) (marks : List Mark) (c : ℕ) (w : World) (all : List (ℕ × Arrival)) → reads_life (present c w) ≡ false → fold (arrive s marks c) w all ≡ w
-idle_places s marks c w [] r = refl
-idle_places s marks c w (a ∷ all) r = ap (λ (v : World). fold (arrive s marks c) v all) (idle s marks c a.0 w a.1 r) ∙ idle_places s marks c w all r
-
-units_longer : (c : ℕ) (piece : List ℕ) (w : World) → (changed (longer piece) c w).units ≡ w.units
-unfolding changed
-units_longer c piece w = refl
-
--- two Worlds that are alike in what counts
-same_lives : (c : ℕ) (s : Setting) (sent : ℕ → ℕ) (w v : World) (machine : Machine) → StandsAt s sent w machine → present c v ≡ present c w → ((d : ℕ) → d ≢ c → present d v ≡ present d w) → v.units ≡ w.units → StandsAt s sent v machine
-same_lives c s sent w v machine h here other u = record {
-  names = h.names;
-  units = h.units ∙ sym u;
-  count = h.count;
-  links = λ d lt. elim (eqb_tells d c) [
-    | inl same ↦ rw same.1 (rw here (h.links c (subst (λ (k : ℕ). k < connection_limit) same.1 lt)))
-    | inr differ ↦ rw (other d differ.1) (h.links d lt)
-  ];
+ended_by : (b : Bool) (s : Setting) (sent : ℕ → ℕ) (half : ℕ → List ℕ) (marks : List Mark) (c : ℕ) (v : World) (machine : Machine) → reads_life (present c v) ≡ b → is_marked marks c AtEnd ≡ false → Serves s sent half v machine
+    → Ended s sent half marks c v machine
+ended_by true s sent half marks c v machine r free h = record {
+  last = reaching c (AtEnd ∷ []) v;
+  is = unmarked_step marks c AtEnd (λ u. u) v r free;
+  serves = serves_reaching s sent half v machine c (AtEnd ∷ []) h;
+  goes = on-reaching c (AtEnd ∷ []) v;
+  reads_same = ap reads_life (present-reaching c c (AtEnd ∷ []) v);
+}
+ended_by false s sent half marks c v machine r free h = record {
+  last = v;
+  is = idle_step marks c AtEnd (λ u. u) v r;
+  serves = h;
+  goes = on-same v;
+  reads_same = refl;
 }
 
--- bytes for a connection that does not read
-pub ends_idle : (c : ℕ) (s : Setting) (sent : ℕ → ℕ) (machine : Machine) (history : History) (piece : List ℕ) → c < connection_limit → Stands s sent machine history → is_open_at machine c ≡ true → is_reading (link_at machine c).phase ≡ false
-    → Stands s sent machine (history ++ plain (Bytes c piece) ∷ [])
-unfolding bring
-ends_idle c s sent machine history piece lt h open_ r =
-    let w = world s history in
-    let there = is_open_there s sent w machine c lt h open_ in
-    let v = changed (longer piece) c w in
-    let link : IsLinkOf s.names (sent c) (link_at machine c) (Some there.0) = rw there.1 at (h.links c lt) in
-    let at : present c v ≡ Some (longer piece there.0) = present-changed (longer piece) c w there.0 there.1 (present_is c w there.0 there.1) in
-    let idle_ : reads there.0.phase ≡ false = sym (reading_in s.names there.0 there.0.phase) ∙ ap is_reading (sym link.phase) ∙ r in
-    let reads_v : reads_life (present c v) ≡ false = ap reads_life at ∙ idle_ in
-    let serves : Serves c (there.0.bytes ++ piece) s sent v machine = same_link c (there.0.bytes ++ piece) s sent v machine (omega (arith, h.count, lt)) (longer_serves c s sent w machine there.0 piece (link_at machine c).half lt h there.1) in
-    let e : bring s [] c piece w ≡ v =
-    ap (take_step [] c Ending (λ u. u)) (idle_places s [] c v (brought (present c w) piece) reads_v) ∙ step_idle [] c Ending (λ u. u) v reads_v in
-    stands_as s sent machine history (plain (Bytes c piece)) v e (idle_stands c _ s sent v machine serves reads_v (link.half ∙ half_idle (Some there.0) idle_))
+-- ---- the event
 
--- an empty piece
-pub ends_empty : (c : ℕ) (s : Setting) (sent : ℕ → ℕ) (machine : Machine) (history : History) (piece : List ℕ) → c < connection_limit → Stands s sent machine history → is_open_at machine c ≡ true → piece ≡ []
-    → Stands s sent machine (history ++ plain (Bytes c piece) ∷ [])
-unfolding bring new_arrivals
-ends_empty c s sent machine history piece lt h open_ none =
-    let w = world s history in
-    let there = is_open_there s sent w machine c lt h open_ in
-    let v = changed (longer []) c w in
-    let at : present c v ≡ Some (longer [] there.0) = present-changed (longer []) c w there.0 there.1 (present_is c w there.0 there.1) in
-    let same : longer [] there.0 ≡ there.0 = ap (λ (b : List ℕ). record there.0 { bytes = b }) (append-nil there.0.bytes) in
-    let nothing : new_arrivals there.0.bytes [] ≡ [] =
-    ap (λ (b : List ℕ). drop (length (arrivals there.0.bytes)) (enumerate_from 0 (arrivals b))) (append-nil there.0.bytes)
-    ∙ drop_all (length (arrivals there.0.bytes)) (enumerate_from 0 (arrivals there.0.bytes)) (omega (arith, length-enumerate_from 0 (arrivals there.0.bytes))) in
-    let e : bring s [] c [] w ≡ v =
-    ap (λ (o : Option Life). take_step [] c Ending (λ u. u) (fold (arrive s [] c) v (brought o []))) there.1
-    ∙ ap (λ (l : List (ℕ × Arrival)). take_step [] c Ending (λ u. u) (fold (arrive s [] c) v l)) nothing
-    ∙ nothing_by (reads_life (present c v)) c Ending v refl in
-    rw none (stands_as s sent machine history (plain (Bytes c [])) v e (same_lives c s sent w v machine h (at ∙ ap (λ (l : Life). Some l) same ∙ sym there.1) (λ d differ. present-changed_other (longer []) c d w (λ l. refl) differ) (units_longer c [] w)))
+-- a connection that reads, and a piece that it keeps
+pub record Fed (s : Setting) (sent : ℕ → ℕ) (w : World) (machine first : Machine) (c : ℕ) (piece : List ℕ) : Type 0 where
+  pub in_range : c < connection_limit
+  pub stands : StandsAt s sent w machine
+  pub reads_so : is_reading (link_at machine c).phase ≡ true
+  pub is : first ≡ with_link machine c (record (link_at machine c) { half = (link_at machine c).half ++ piece })
+
+-- what the event makes of both
+pub record Came (s : Setting) (sent : ℕ → ℕ) (w : World) (c : ℕ) (piece : List ℕ) (starved : Option ℕ) (now : Machine) : Type 0 where
+  pub marks : List Mark
+  pub first : Begins starved marks
+  pub reached : are_reached marks (bring s marks c piece (fresh w)) ≡ true
+  pub stands : StandsAt s sent (bring s marks c piece (fresh w)) now
+
+brings : (s : Setting) (marks : List Mark) (c : ℕ) (piece : List ℕ) (w : World) (life : Life) → present c w ≡ Some life → is_long (rest life.bytes) ≡ false
+    → bring s marks c piece (fresh w) ≡ take_step marks c AtEnd (λ u. u) (fold (arrive s marks c) (piece_came c piece w) (enumerate_from (length (arrivals life.bytes)) (arrivals (rest life.bytes ++ piece))))
+unfolding bring
+brings s marks c piece w life at short =
+    ap (λ (l : List (ℕ × Arrival)). take_step marks c AtEnd (λ u. u) (fold (arrive s marks c) (piece_came c piece w) l)) (ap (λ (o : Option Life). brought o piece) (present-fresh c w ∙ at) ∙ new_is life.bytes piece short)
+
+short_there : (o : Option Life) (life : Life) → o ≡ Some life → IsShort o → reads life.phase ≡ true → is_long (rest life.bytes) ≡ false
+short_there o life e h r = (subst IsShort e h) r
+
+pub comes : (s : Setting) (sent : ℕ → ℕ) (w : World) (machine first now : Machine) (c : ℕ) (piece : List ℕ) (starved : Option ℕ) → Fed s sent w machine first c piece → TakesAll c starved first now → IsSound now → Came s sent w c piece starved now
+comes s sent w machine first now c piece starved f takes sound =
+    let half : ℕ → List ℕ = λ d. half_of (present d w) in
+    let serves = serving s sent w machine f.stands in
+    let there = some_reads (present c w) (sym (reads_there s sent half w machine c f.in_range serves) ∙ f.reads_so) in
+    let life = there.0 in
+    let short = short_there (present c w) life there.1 (f.stands.short c f.in_range) there.2 in
+    let link = link_stands s sent w machine c f.in_range f.stands ∙ ap (λ (o : Option Life). link_of s.names (sent c) (half_of o) o) there.1 in
+    let old_half : (link_at machine c).half ≡ rest life.bytes = ap (λ (l : LinkState). l.half) link ∙ cond_true (reads life.phase) (rest life.bytes) [] there.2 in
+    let count = count_stands s sent w machine f.stands in
+    let new_half : (link_at first c).half ≡ rest life.bytes ++ piece =
+    ap (λ (m : Machine). (link_at m c).half) f.is ∙ ap (λ (l : LinkState). l.half) (get_or-set_same machine.links c _ free_link (let lt = f.in_range in omega (arith, count))) ∙ ap (λ (b : List ℕ). b ++ piece) old_half in
+    let n = length (arrivals life.bytes) in
+    let marks = takes.takes.failed n in
+    let bytes = (link_at machine c).half ++ piece in
+    let serves_first = serves_as s sent (with_half c bytes half) w _ first f.is (rehalved s sent half w machine c bytes f.in_range f.reads_so serves) in
+    let v0 = piece_came c piece w in
+    let serves_came = longer_serves s sent (with_half c bytes half) w first c piece life f.in_range there.1 serves_first in
+    let at = takes.takes.stands sound s sent (with_half c bytes half) v0 n marks (λ mark is. refl) serves_came in
+    let left_ = rest (link_at first c).half in
+    let v = fold (arrive s marks c) v0 (enumerate_from n (arrivals (link_at first c).half)) in
+    let serves_v = serves_halves s sent (with_half c left_ (with_half c bytes half)) (with_half c left_ half) v now (half_twice c bytes left_ half) at.0 in
+    let free : is_marked marks c AtEnd ≡ false = unmarked (is_among (length (arrivals (link_at first c).half)) n) marks (mark_at c AtEnd) (takes.takes.of_kind n) refl in
+    let e = ended_by (reads_life (present c v)) s sent (with_half c left_ half) marks c v now refl free serves_v in
+    let whole : bring s marks c piece (fresh w) ≡ e.last =
+    brings s marks c piece w life there.1 short ∙ ap (λ (b : List ℕ). take_step marks c AtEnd (λ u. u) (fold (arrive s marks c) v0 (enumerate_from n (arrivals b)))) (sym new_half) ∙ e.is in
+    let goes = on-then v0 v e.last (on-fold (arrive s marks c) v0 (enumerate_from n (arrivals (link_at first c).half)) (on-arrive s marks c)) e.goes in
+    let behind : rest (life.bytes ++ piece) ≡ left_ = rest_in_pieces life.bytes piece ∙ ap rest (sym new_half) in
+    record {
+      marks = marks;
+      first = takes.takes.first n;
+      reached = ap (are_reached marks) whole ∙ still_reached marks v e.last e.goes at.1;
+      stands = rw whole (stands_again s sent w e.last machine now c piece left_ life f.in_range f.stands there.1 goes behind
+          (λ r. takes.short (reads_there s sent (with_half c left_ half) v now c f.in_range serves_v ∙ sym e.reads_same ∙ r)) e.serves);
+    }
+
+-- ---- the piece could not be kept
+
+-- it failed as the next frame was to come, or at the event's end where none comes
+abbrev first_point : ℕ → List Arrival → Point
+first_point n [] = AtEnd
+first_point n (arrival ∷ arrivals) = Arriving n
+
+starves_by : (s : Setting) (c n : ℕ) (v0 : World) (life : Life) (all : List Arrival) → present c v0 ≡ Some life → reads life.phase ≡ true
+    → (let marks = mark_at c (first_point n all) ∷ [] in take_step marks c AtEnd (λ u. u) (fold (arrive s marks c) v0 (enumerate_from n all))) ≡ close c (reaching c (first_point n all ∷ []) v0)
+unfolding arrive
+starves_by s c n v0 life [] at r = marked_step (mark_at c AtEnd ∷ []) c AtEnd (λ u. u) v0 (ap reads_life at ∙ r) (marked_one c AtEnd)
+starves_by s c n v0 life (arrival ∷ all) at r =
+    let marks = mark_at c (Arriving n) ∷ [] in
+    let v = close c (reaching c (Arriving n ∷ []) v0) in
+    let one : arrive s marks c v0 (n, arrival) ≡ v = marked_step marks c (Arriving n) _ v0 (ap reads_life at ∙ r) (marked_one c (Arriving n)) in
+    let idle_ : reads_life (present c v) ≡ false = ap reads_life (present-close c (reaching c (Arriving n ∷ []) v0) life (present-reaching c c (Arriving n ∷ []) v0 ∙ at)) in
+    ap (λ (u : World). take_step marks c AtEnd (λ x. x) (fold (arrive s marks c) u (enumerate_from (n + 1) all))) one
+    ∙ ap (take_step marks c AtEnd (λ x. x)) (idle_all s marks c v (enumerate_from (n + 1) all) idle_) ∙ idle_step marks c AtEnd (λ x. x) v idle_
+
+pub comes_starved : (s : Setting) (sent : ℕ → ℕ) (w : World) (machine now : Machine) (c : ℕ) (piece : List ℕ) → c < connection_limit → StandsAt s sent w machine → is_reading (link_at machine c).phase ≡ true → now ≡ closed machine c
+    → Came s sent w c piece (Some c) now
+comes_starved s sent w machine now c piece lt stands r is =
+    let half : ℕ → List ℕ = λ d. half_of (present d w) in
+    let serves = serving s sent w machine stands in
+    let there = some_reads (present c w) (sym (reads_there s sent half w machine c lt serves) ∙ r) in
+    let life = there.0 in
+    let short = short_there (present c w) life there.1 (stands.short c lt) there.2 in
+    let n = length (arrivals life.bytes) in
+    let all = arrivals (rest life.bytes ++ piece) in
+    let point = first_point n all in
+    let marks = mark_at c point ∷ [] in
+    let v0 = piece_came c piece w in
+    let v = reaching c (point ∷ []) v0 in
+    let at_v : present c v ≡ Some (longer piece life) = present-reaching c c (point ∷ []) v0 ∙ came_here c piece w life there.1 in
+    let serves_v = serves_reaching s sent half v0 machine c (point ∷ []) (longer_serves s sent half w machine c piece life lt there.1 serves) in
+    let shut_ : reads_life (present c (close c v)) ≡ false = ap reads_life (present-close c v (longer piece life) at_v) in
+    let left_ = rest (life.bytes ++ piece) in
+    let last = halves_idle s sent half (close c v) now c left_ shut_ (serves_as s sent half (close c v) (closed machine c) now is (closes s sent half v machine c (longer piece life) lt serves_v at_v)) in
+    let whole : bring s marks c piece (fresh w) ≡ close c v = brings s marks c piece w life there.1 short ∙ starves_by s c n v0 (longer piece life) all (came_here c piece w life there.1) there.2 in
+    record {
+      marks = marks;
+      first = refl;
+      reached = ap (are_reached marks) whole ∙ still_reached marks v (close c v) (on-close c v) (ap (λ (b : Bool). b && true) (last_there (mark_at c point) v0.reached []));
+      stands = rw whole (stands_again s sent w (close c v) machine now c piece left_ life lt stands there.1 (on-then v0 v (close c v) (on-reaching c (point ∷ []) v0) (on-close c v)) refl
+          (λ e. absurd (cc (e, shut_))) last);
+    }
+
+-- ---- bytes for a connection that does not read, and an empty piece
+
+pub comes_idle : (s : Setting) (sent : ℕ → ℕ) (w : World) (machine : Machine) (c : ℕ) (piece : List ℕ) → c < connection_limit → StandsAt s sent w machine → is_open_at machine c ≡ true → is_reading (link_at machine c).phase ≡ false
+    → StandsAt s sent (bring s [] c piece (fresh w)) machine
+unfolding bring
+comes_idle s sent w machine c piece lt stands open_ r =
+    let half : ℕ → List ℕ = λ d. half_of (present d w) in
+    let there = is_open_there s sent w machine c lt stands open_ in
+    let life = there.0 in
+    let v0 = piece_came c piece w in
+    let here = came_here c piece w life there.1 in
+    let serves = serving s sent w machine stands in
+    let idle_ : reads life.phase ≡ false = ap reads_life (sym there.1) ∙ sym (reads_there s sent half w machine c lt serves) ∙ r in
+    let idle0 : reads_life (present c v0) ≡ false = ap reads_life here ∙ idle_ in
+    let left_ = rest (life.bytes ++ piece) in
+    let whole : take_step [] c AtEnd (λ u. u) (fold (arrive s [] c) v0 (brought (present c (fresh w)) piece)) ≡ v0 =
+    ap (take_step [] c AtEnd (λ u. u)) (idle_all s [] c v0 (brought (present c (fresh w)) piece) idle0) ∙ idle_step [] c AtEnd (λ u. u) v0 idle0 in
+    rw whole (stands_again s sent w v0 machine machine c piece left_ life lt stands there.1 (on-same v0) refl (λ e. absurd (cc (e, idle0)))
+    (halves_idle s sent half v0 machine c left_ idle0 (longer_serves s sent half w machine c piece life lt there.1 serves)))
+
+nothing_new : (bytes : List ℕ) → new_arrivals bytes [] ≡ []
+unfolding new_arrivals
+nothing_new bytes =
+    ap (λ (b : List ℕ). drop (length (arrivals bytes)) (enumerate_from 0 (arrivals b))) (append-nil bytes)
+    ∙ drop_all (length (arrivals bytes)) (enumerate_from 0 (arrivals bytes)) (omega (arith, length-enumerate_from 0 (arrivals bytes)))
+
+pub comes_empty : (s : Setting) (sent : ℕ → ℕ) (w : World) (machine : Machine) (c : ℕ) → c < connection_limit → StandsAt s sent w machine → is_open_at machine c ≡ true → StandsAt s sent (bring s [] c [] (fresh w)) machine
+unfolding bring
+comes_empty s sent w machine c lt stands open_ =
+    let half : ℕ → List ℕ = λ d. half_of (present d w) in
+    let there = is_open_there s sent w machine c lt stands open_ in
+    let life = there.0 in
+    let v0 = piece_came c [] w in
+    let serves = longer_serves s sent half w machine c [] life lt there.1 (serving s sent w machine stands) in
+    let none : brought (present c (fresh w)) [] ≡ [] = ap (λ (o : Option Life). brought o []) (present-fresh c w ∙ there.1) ∙ nothing_new life.bytes in
+    let e = ended_by (reads_life (present c v0)) s sent half [] c v0 machine refl (marked_none c AtEnd) serves in
+    let whole : take_step [] c AtEnd (λ u. u) (fold (arrive s [] c) v0 (brought (present c (fresh w)) [])) ≡ e.last = ap (λ (l : List (ℕ × Arrival)). take_step [] c AtEnd (λ u. u) (fold (arrive s [] c) v0 l)) none ∙ e.is in
+    let left_ = rest life.bytes in
+    let own : (d : ℕ) → half d ≡ with_half c left_ half d = λ d. elim (eqb_tells d c) [
+      | inl same ↦ ap half same.1 ∙ ap half_of there.1 ∙ sym (ap (with_half c left_ half) same.1 ∙ cond_true (eqb c c) left_ (half c) (eqb_self c))
+      | inr differ ↦ sym (cond_false (eqb d c) left_ (half d) differ.0)
+    ] in
+    let same_reads : reads_life (present c v0) ≡ reads life.phase = ap reads_life (came_here c [] w life there.1) in
+    rw whole (stands_again s sent w e.last machine machine c [] left_ life lt stands there.1 e.goes (ap rest (append-nil life.bytes))
+    (λ r. (subst IsShort there.1 (stands.short c lt)) (sym same_reads ∙ sym e.reads_same ∙ r)) (serves_halves s sent half (with_half c left_ half) e.last machine own e.serves))
 
 -- ---- as the code has it
 
-pub progress_from : (c : ℕ) (a b now : Machine) → a ≡ b → Progress c a now → Progress c b now
-progress_from c a b now same p = let P : Machine → Type 0 = λ m. Progress c m now in subst P same p
+abbrev kept_as : Machine → ℕ → List ℕ → Machine
+kept_as machine c piece = with_link machine c (record (link_at machine c) { half = (link_at machine c).half ++ piece })
 
-pub closing_there : (machine : Machine) (c : ℕ) → c < length machine.links → is_closing (link_at (closed machine c) c).phase ≡ true
-closing_there machine c lt = ap (λ (l : LinkState). is_closing l.phase) (closed_link_at machine c lt)
+pub kept_feeds : (machine first : Machine) (c : ℕ) (piece : List ℕ) → c < length machine.links → is_reading (link_at machine c).phase ≡ true → first ≡ kept_as machine c piece → Feeds machine first
+kept_feeds machine first c piece lt r is =
+    let P : Machine → Type 0 = λ m. Feeds machine m in
+    subst P (sym is) (changes_feeds machine machine.units c (record (link_at machine c) { half = (link_at machine c).half ++ piece }) lt (halving (link_at machine c) ((link_at machine c).half ++ piece) r))
 
-shorter_by : (b : Bool) (after given : Machine) (c n : ℕ) → is_reading (link_at after c).phase ≡ b → KeepsHalf (link_at given c).half (link_at after c) → length (link_at given c).half < n → length (link_at after c).half < n
-shorter_by true after given c n r k lt = let same = ap (λ (h : List ℕ). length h) (k.reading r) in omega arith
-shorter_by false after given c n r k lt = let same = ap (λ (h : List ℕ). length h) (k.idle r) in omega arith
+first_sound : (machine first now : Machine) (c : ℕ) (piece : List ℕ) (starved : Option ℕ) → first ≡ kept_as machine c piece → TakesAll c starved first now → IsSound now → IsSound machine
+first_sound machine first now c piece starved is takes sound = subst (λ (us : List UnitStates). All AreSound us) (ap (λ (m : Machine). m.units) is) (takes.back sound)
 
--- a frame that is taken leaves fewer bytes
-pub taken_is_shorter : (c : ℕ) (machine given after : Machine) (frame : Frame) → c < length machine.links → is_reading (link_at machine c).phase ≡ true → GivesFrame frame (link_at machine c).half (link_at given c).half
-    → given ≡ with_link machine c (record (link_at machine c) { half = (link_at given c).half }) → Takes c frame given after → length (link_at after c).half < length (link_at machine c).half
-taken_is_shorter c machine given after frame lt r gives is taken =
-    let given_link = ap (λ (m : Machine). link_at m c) is ∙ with_half machine c (link_at given c).half lt in
-    let k : KeepsHalf (link_at given c).half (link_at after c) = taken.keeps (ap (λ (l : LinkState). is_reading l.phase) given_link ∙ r) in
-    shorter_by (is_reading (link_at after c).phase) after given c (length (link_at machine c).half) refl k gives.shorter
+came : (s : Setting) (sent : ℕ → ℕ) (h : History) (machine first now : Machine) (c : ℕ) (piece : List ℕ) (starved : Option ℕ) → c < connection_limit → is_reading (link_at machine c).phase ≡ true → first ≡ kept_as machine c piece
+    → TakesAll c starved first now → (IsSound machine → Stands s sent machine h) → IsSound now → Came s sent (world s h) c piece starved now
+came s sent h machine first now c piece starved lt r is takes at sound =
+    comes s sent (world s h) machine first now c piece starved (record { in_range = lt; stands = at (first_sound machine first now c piece starved is takes sound); reads_so = r; is = is }) takes sound
 
--- ---- sound, sure and open before and after
+plain_marks : (s : Setting) (sent : ℕ → ℕ) (h : History) (now : Machine) (c : ℕ) (piece : List ℕ) → Came s sent (world s h) c piece None now → Stands s sent now (h ++ plain (Bytes c piece) ∷ [])
+plain_marks s sent h now c piece k = stands_as s sent now h (plain (Bytes c piece)) _ refl (subst (λ (marks : List Mark). StandsAt s sent (bring s marks c piece (fresh (world s h))) now) k.first k.stands)
 
--- from the machine that kept the piece
-pub first_sound : (c : ℕ) (machine kept now : Machine) (piece : List ℕ) → kept ≡ kept_first machine c piece → Progress c kept now → IsSound now → IsSound machine
-first_sound c machine kept now piece same p sound = sound_as kept (kept_first machine c piece) same (p.back sound)
+pub ok_came : (r : Result (Unit {0}) Starved) (machine first now : Machine) (c : ℕ) (piece : List ℕ) → c < connection_limit → is_reading (link_at machine c).phase ≡ true → first ≡ kept_as machine c piece → TakesAll c (first_starved r) first now
+    → OnOk r ((s : Setting) (sent : ℕ → ℕ) (h : History) → WhereSound machine (Stands s sent machine h) → WhereSound now (Stands s sent now (h ++ plain (Bytes c piece) ∷ [])))
+ok_came (Ok u) machine first now c piece lt reads_so is takes = λ s sent h at sound. plain_marks s sent h now c piece (came s sent h machine first now c piece None lt reads_so is takes at sound)
+ok_came (Err e) machine first now c piece lt reads_so is takes = tt
 
-pub first_sure : (c : ℕ) (machine kept now : Machine) (piece : List ℕ) → kept ≡ kept_first machine c piece → Progress c kept now → IsSure machine → IsSure now
-first_sure c machine kept now piece same p sure = p.sure (sure_as (kept_first machine c piece) kept (sym same) sure)
+starved_marks : (s : Setting) (sent : ℕ → ℕ) (h : History) (now : Machine) (c d : ℕ) (piece : List ℕ) → Came s sent (world s h) c piece (Some d) now
+    → (marks : List Mark) × IsStarved s (world s h) (Bytes c piece) d marks × Stands s sent now (h ++ marked marks (Bytes c piece) ∷ [])
+starved_marks s sent h now c d piece k = (k.marks, record { first = k.first; reached = k.reached }, stands_as s sent now h (marked k.marks (Bytes c piece)) _ refl k.stands)
 
-pub first_feeds : (c : ℕ) (machine kept now : Machine) (piece : List ℕ) → c < length machine.links → kept ≡ kept_first machine c piece
-    → Progress c kept now → Feeds c machine now
-first_feeds c machine kept now piece lt same p =
-    feeds_then c machine kept now (feeds_as c machine _ kept same (feeds_half machine c ((link_at machine c).half ++ piece) lt)) p.feeds
+pub err_came : (r : Result (Unit {0}) Starved) (machine first now : Machine) (c : ℕ) (piece : List ℕ) → c < connection_limit → is_reading (link_at machine c).phase ≡ true → first ≡ kept_as machine c piece → TakesAll c (first_starved r) first now
+    → IfErr r (λ starved. (s : Setting) (sent : ℕ → ℕ) (h : History) → WhereSound machine (Stands s sent machine h)
+    → WhereSound now ((marks : List Mark) × IsStarved s (world s h) (Bytes c piece) starved.connection marks × Stands s sent now (h ++ marked marks (Bytes c piece) ∷ [])))
+err_came (Ok u) machine first now c piece lt reads_so is takes = tt
+err_came (Err e) machine first now c piece lt reads_so is takes = λ s sent h at sound. starved_marks s sent h now c e.connection piece (came s sent h machine first now c piece (Some e.connection) lt reads_so is takes at sound)
+
+pub starved_came : (s : Setting) (sent : ℕ → ℕ) (h : History) (machine now : Machine) (c named : ℕ) (piece : List ℕ) → named ≡ c → c < connection_limit → Stands s sent machine h → is_reading (link_at machine c).phase ≡ true → now ≡ closed machine c
+    → (marks : List Mark) × IsStarved s (world s h) (Bytes c piece) named marks × Stands s sent now (h ++ marked marks (Bytes c piece) ∷ [])
+starved_came s sent h machine now c named piece e lt stands r is =
+    starved_marks s sent h now c named piece (subst (λ (d : ℕ). Came s sent (world s h) c piece (Some d) now) (sym e) (comes_starved s sent (world s h) machine now c piece lt stands r is))

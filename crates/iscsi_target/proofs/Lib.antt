@@ -1,32 +1,23 @@
 pub mod Choices
-pub mod Lists
-pub mod Arrivals
+mod Lists
+mod Arrivals
 pub mod Lives
-pub mod Sound
-pub mod Served
-pub mod Numbers
-pub mod Requests
-pub mod Serving
-pub mod SessionSteps
-pub mod Turns
-pub mod FrameServed
-pub mod LoggingIn
-pub mod Standing
-pub mod Asking
-pub mod Opening
-pub mod Marks
-pub mod Bringing
-pub mod Feeding
-pub mod Starving
-pub mod FrameTaken
-pub mod Halves
-pub mod FrameOpens
-pub mod Staying
-pub mod AllTurns
-pub mod SessionLinks
-pub mod OneFrame
-pub mod Tables
+pub mod Linked
+mod Working
+mod LoggingIn
+mod Marks
 pub mod Keeping
-pub mod Running
-pub mod Rows
-pub mod Tracking
+mod Doing
+mod AtWork
+mod Sound
+mod Moving
+mod Asking
+mod Frames
+mod Held
+pub mod Standing
+mod Taking
+mod Feeding
+mod Tables
+mod Rows
+mod Tracking
+mod Running

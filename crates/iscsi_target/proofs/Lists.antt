@@ -1,6 +1,6 @@
 -- Facts about lists that several proofs share.
 use Rattle.std.proofs.Common.{◌≡◌, ℕ, zero, suc, ◌+◌, ◌<◌, List, [], ◌∷◌, map, length, get_or, drop, take, set, ◌++◌, Bool, true, false, cond, not, ◌&&◌, Option, Some, None, refl, ap, sym, ◌∙◌, arith, add-one}
-use Rattle.std.specs.List.{position, position_or_len, list_all, slice_get}
+use Rattle.std.specs.List.{range_with_len, position, position_or_len, list_all, slice_get}
 use Rattle.std.specs.Prelude.{unwrap_or, option_map}
 use Rattle.std.proofs.lemmas.List.{length-map}
 use Rattle.std.proofs.lemmas.List.Edits.{map_over_more}
@@ -46,3 +46,11 @@ list_all_goes_on p xs i x at passes so_far = so_far ∙ list_all_from p xs i x a
 pub unwrap_or_map : {X Y : Type 0} (f : X → Y) (o : Option X) (d : X) → unwrap_or (option_map f o) (f d) ≡ f (unwrap_or o d)
 unwrap_or_map f None d = refl
 unwrap_or_map f (Some x) d = refl
+
+-- the numbers from a on, and one more
+pub range_more : (a n : ℕ) → range_with_len a (suc n) ≡ range_with_len a n ++ (a + n) ∷ []
+range_more a zero = ap (λ (n : ℕ). n ∷ []) (omega arith)
+range_more a (suc n) = ap (λ (ns : List ℕ). a ∷ ns) (range_more (a + 1) n ∙ ap (λ (m : ℕ). range_with_len (a + 1) n ++ m ∷ []) (omega arith))
+
+pub range_next : (n : ℕ) → range_with_len 0 (n + 1) ≡ range_with_len 0 n ++ n ∷ []
+range_next n = let one_more : n + 1 ≡ suc n = omega arith in let same : 0 + n ≡ n = omega arith in ap (range_with_len 0) one_more ∙ range_more 0 n ∙ ap (λ (d : ℕ). range_with_len 0 n ++ d ∷ []) same

@@ -1,120 +1,185 @@
--- What marks do: a step that none names goes on, and the first that one names closes the connection.
-use Rattle.std.proofs.Common.{◌≡◌, ◌≢◌, ℕ, ◌+◌, List, [], ◌∷◌, Bool, true, false, ◌&&◌, eqb, Option, Some, None, refl, sym, ap, ◌∙◌}
-use Rattle.std.specs.List.{fold, enumerate_from}
-use Rattle.std.proofs.lemmas.Bool.{eqb-true, ne_eqb}
-use Rattle.iscsi_pdu.specs.Frames.{Frame}
-use Rattle.iscsi_session.specs.Requests.{Request}
-use Rattle.iscsi_target.specs.History.{Mark, Step, Judging, Taking, Doing, Ending, is_of, Arrival, Whole, TooLong}
-use Rattle.iscsi_target.specs.Life.{Life, Phase, LoggingIn, FullFeature, Closing, Over, reads}
-use Rattle.iscsi_target.specs.World.{Setting, World, present, reads_life, close, is_step, is_marked, take_step, judge, act, act_all, finish, settle, serve, due_of, queue_of, enter, arrive, arrive_at, arrive_in}
-use Rattle.iscsi_target.specs.Stands.{NamesFirst, at_once}
-use Rattle.iscsi_target.specs.Serving.{Unmarked, starved}
-use Rattle.iscsi_target.proofs.Choices.{eqb_self, cond_true, cond_false, and_false}
-use Rattle.iscsi_target.proofs.Serving.{present-close, step_idle, step_marked}
+-- What marks do: which points they name, and which a call looks at.
+use Rattle.std.proofs.Common.{◌≡◌, ◌≢◌, ℕ, List, [], ◌∷◌, ◌++◌, Bool, true, false, ◌&&◌, ◌||◌, eqb, not, refl, sym, ap, ◌∙◌}
+use Rattle.std.specs.List.{list_any, list_all}
+use Rattle.std.proofs.lemmas.Bool.{eqb-true, eq-eqb, ne_eqb}
+use Rattle.std.proofs.lemmas.List.Folds.{list_any-append}
+use Rattle.iscsi_session.specs.Steps.{Step, Judging, Taking, Doing, is_step, is_of, is_doing, is_serving}
+use Rattle.iscsi_target.specs.History.{Point, Arriving, Before, AtEnd, Mark, is_point, is_same, is_within}
+use Rattle.iscsi_target.specs.World.{is_marked}
+use Rattle.iscsi_target.specs.Serving.{Agrees, is_of_frame, has_step, is_done_at, is_taken_at}
+use Rattle.iscsi_target.proofs.Choices.{and_true, and_false, eqb_self}
 
-pub unmarked_plain : (c place : ℕ) → Unmarked [] c place
+-- ---- points
+
+step_true : (a b : Step) → is_step a b ≡ true → a ≡ b
+step_true (Judging p) (Judging q) e = ap Judging (eqb-true p q e)
+step_true (Judging p) (Taking q j) e = absurd cc
+step_true (Judging p) (Doing q j) e = absurd cc
+step_true (Taking p i) (Judging q) e = absurd cc
+step_true (Taking p i) (Taking q j) e = let both = and_true (eqb p q) (eqb i j) e in cc (eqb-true p q both.0, eqb-true i j both.1)
+step_true (Taking p i) (Doing q j) e = absurd cc
+step_true (Doing p i) (Judging q) e = absurd cc
+step_true (Doing p i) (Taking q j) e = absurd cc
+step_true (Doing p i) (Doing q j) e = let both = and_true (eqb p q) (eqb i j) e in cc (eqb-true p q both.0, eqb-true i j both.1)
+
+point_true : (a b : Point) → is_point a b ≡ true → a ≡ b
+point_true (Arriving p) (Arriving q) e = ap Arriving (eqb-true p q e)
+point_true (Arriving p) (Before b) e = absurd cc
+point_true (Arriving p) AtEnd e = absurd cc
+point_true (Before a) (Arriving q) e = absurd cc
+point_true (Before a) (Before b) e = ap Before (step_true a b e)
+point_true (Before a) AtEnd e = absurd cc
+point_true AtEnd (Arriving q) e = absurd cc
+point_true AtEnd (Before b) e = absurd cc
+point_true AtEnd AtEnd e = refl
+
+step_self : (a : Step) → is_step a a ≡ true
+step_self (Judging p) = eqb_self p
+step_self (Taking p i) = rw (eqb_self p, eqb_self i) refl
+step_self (Doing p i) = rw (eqb_self p, eqb_self i) refl
+
+point_self : (a : Point) → is_point a a ≡ true
+point_self (Arriving p) = eqb_self p
+point_self (Before a) = step_self a
+point_self AtEnd = refl
+
+pub same_self : (m : Mark) → is_same m m ≡ true
+same_self m = rw (eqb_self m.connection, point_self m.point) refl
+
+-- ---- one mark
+
+abbrev pub mark_at : ℕ → Point → Mark
+mark_at c point = record { connection = c; point = point }
+
+pub marked_one : (c : ℕ) (point : Point) → is_marked (mark_at c point ∷ []) c point ≡ true
 unfolding is_marked
-unmarked_plain c place = λ step e. refl
+marked_one c point = rw (same_self (mark_at c point)) refl
 
-other_frame : (place q a b : ℕ) → place ≢ q → eqb a q ≡ true → eqb b place ≡ true → eqb a b ≡ false
-other_frame place q a b differ e f = ne_eqb a b (λ same. differ (sym (eqb-true b place f) ∙ sym same ∙ eqb-true a q e))
-
--- steps of two frames are two steps
-other_step : (place q : ℕ) (a b : Step) → place ≢ q → is_of q a ≡ true → is_of place b ≡ true → is_step a b ≡ false
-other_step place q (Judging a) (Judging b) differ e f = other_frame place q a b differ e f
-other_step place q (Taking a i) (Taking b j) differ e f = ap (λ (same : Bool). same && eqb i j) (other_frame place q a b differ e f)
-other_step place q (Doing a i) (Doing b j) differ e f = ap (λ (same : Bool). same && eqb i j) (other_frame place q a b differ e f)
-other_step place q Ending b differ e f = absurd cc
-other_step place q a b differ e f = refl
-
--- a mark of one frame leaves the others as they are
-pub unmarked_before : (c place q : ℕ) (failed : Step) → place ≢ q → is_of q failed ≡ true → Unmarked (starved c failed) c place
+pub marked_none : (c : ℕ) (point : Point) → is_marked [] c point ≡ false
 unfolding is_marked
-unmarked_before c place q failed differ is = λ step e. rw (other_step place q failed step differ is e, and_false (eqb c c)) refl
+marked_none c point = refl
 
-pub marked_before : (c q : ℕ) → is_marked (starved c (Judging q)) c (Judging q) ≡ true
+pub marked_elsewhere : (c d : ℕ) (a b : Point) → c ≢ d → is_marked (mark_at c a ∷ []) d b ≡ false
 unfolding is_marked
-marked_before c q = rw (eqb_self c, eqb_self q) refl
+marked_elsewhere c d a b differ = rw (ne_eqb c d differ) refl
 
-pub names_first : (c q : ℕ) → NamesFirst c q (at_once c q)
-names_first c q = (refl, eqb_self q)
-
-marked_there : (c q : ℕ) → is_marked (at_once c q) c (Judging q) ≡ true
+pub marked_as : (c : ℕ) (a b : Point) → is_marked (mark_at c a ∷ []) c b ≡ is_point a b
 unfolding is_marked
-marked_there c q = rw (eqb_self c, eqb_self q) refl
-
-marked_end : (c q : ℕ) → is_marked (at_once c q) c Ending ≡ true
-unfolding is_marked
-marked_end c q = rw (and_false (eqb c c), eqb_self c) refl
-
--- ---- a connection that does not read
-
-idle_at : (s : Setting) (marks : List Mark) (c place : ℕ) (w : World) (arrival : Arrival) (o : Option Life) → present c w ≡ o → reads_life o ≡ false → arrive_at s marks c w place arrival o ≡ w
-idle_at s marks c place w arrival None e r = refl
-idle_at s marks c place w arrival (Some life) e r = idle_in arrival life.phase r
+marked_as c a b = or_false (eqb c c && is_point a b) ∙ ap (λ (x : Bool). x && is_point a b) (eqb_self c)
   where
-    idle_in : (a : Arrival) (ph : Phase) → reads ph ≡ false → arrive_in s marks c w place a ph ≡ w
-    idle_in (Whole frame) LoggingIn q = absurd cc
-    idle_in (Whole frame) (FullFeature session) q = absurd cc
-    idle_in (Whole frame) Closing q = refl
-    idle_in (Whole frame) Over q = refl
-    idle_in TooLong ph q = cond_false (reads ph) (close c w) w q
+    or_false : (x : Bool) → (x || false) ≡ x
+    or_false true = refl
+    or_false false = refl
 
-pub idle : (s : Setting) (marks : List Mark) (c place : ℕ) (w : World) (arrival : Arrival) → reads_life (present c w) ≡ false → arrive s marks c w (place, arrival) ≡ w
-unfolding arrive
-idle s marks c place w arrival r = idle_at s marks c place w arrival (present c w) refl r
+-- ---- marks of a kind
 
-pub idle_all : (s : Setting) (marks : List Mark) (c place : ℕ) (w : World) (all : List Arrival) → reads_life (present c w) ≡ false → fold (arrive s marks c) w (enumerate_from place all) ≡ w
-idle_all s marks c place w [] r = refl
-idle_all s marks c place w (arrival ∷ all) r =
-    ap (λ (v : World). fold (arrive s marks c) v (enumerate_from (place + 1) all)) (idle s marks c place w arrival r) ∙ idle_all s marks c (place + 1) w all r
+pub marked_append : (a b : List Mark) (c : ℕ) (point : Point) → is_marked (a ++ b) c point ≡ (is_marked a c point || is_marked b c point)
+unfolding is_marked
+marked_append a b c point = list_any-append (λ (m : Mark). is_same m (record { connection = c; point = point })) a b
 
--- nor do the steps of a frame
-idle_turns : (marks : List Mark) (c : ℕ) (step : ℕ → Step) (act_on : Request → World → World) (w : World) (turns : List (ℕ × Request)) → reads_life (present c w) ≡ false
-    → fold (λ v turn. take_step marks c (step turn.0) (act_on turn.1) v) w turns ≡ w
-idle_turns marks c step act_on w [] r = refl
-idle_turns marks c step act_on w (turn ∷ turns) r =
-    ap (λ (v : World). fold (λ u t. take_step marks c (step t.0) (act_on t.1) u) v turns) (step_idle marks c (step turn.0) (act_on turn.1) w r) ∙ idle_turns marks c step act_on w turns r
+same_true : (a b : Mark) → is_same a b ≡ true → a ≡ b
+same_true a b e =
+    let both = and_true (eqb a.connection b.connection) (is_point a.point b.point) e in
+    ap (λ (c : ℕ). record a { connection = c }) (eqb-true a.connection b.connection both.0) ∙ ap (λ (p : Point). record b { point = p }) (point_true a.point b.point both.1)
 
-pub idle_acts : (marks : List Mark) (c place : ℕ) (w : World) → reads_life (present c w) ≡ false → act_all marks c place w ≡ w
-unfolding act_all
-idle_acts marks c place w r = idle_turns marks c (Taking place) (act c) w (enumerate_from 0 (due_of (present c w))) r
+other_by : (b : Bool) (kind : Mark → Bool) (m mark : Mark) → is_same m mark ≡ b → kind m ≡ true → kind mark ≡ false → b ≡ false
+other_by true kind m mark e one other = absurd (cc (one, ap kind (same_true m mark e), other))
+other_by false kind m mark e one other = refl
 
-pub idle_settle : (marks : List Mark) (c place : ℕ) (w : World) → reads_life (present c w) ≡ false → settle marks c place w ≡ w
-unfolding settle
-idle_settle marks c place w r = idle_turns marks c (Doing place) (finish c) w (enumerate_from 0 (queue_of (present c w))) r
+-- marks of a kind name nothing of another
+pub unmarked : (kind : Mark → Bool) (marks : List Mark) (mark : Mark) → list_all kind marks ≡ true → kind mark ≡ false → is_marked marks mark.connection mark.point ≡ false
+unfolding is_marked
+unmarked kind [] mark every other = refl
+unmarked kind (m ∷ marks) mark every other =
+    let both = and_true (kind m) (list_all kind marks) every in
+    ap (λ (b : Bool). b || list_any (λ (n : Mark). is_same n mark) marks) (other_by (is_same m mark) kind m mark refl both.0 other)
+    ∙ unmarked kind marks mark both.1 other
 
--- ---- an allocation that failed before a frame was judged closes the connection, whatever was to come
+or_left : (a : Bool) → (a || false) ≡ a
+or_left true = refl
+or_left false = refl
 
-pub closed_reads : (c : ℕ) (w : World) (life : Life) → present c w ≡ Some life → reads_life (present c (close c w)) ≡ false
-closed_reads c w life e = ap reads_life (present-close c w life e)
+-- two kinds that exclude one another
+abbrev pub Apart : (Mark → Bool) → (Mark → Bool) → Type 0
+Apart one other = (mark : Mark) → one mark ≡ true → other mark ≡ false
 
-marked_serve : (marks : List Mark) (c place : ℕ) (frame : Frame) (w : World) (life : Life) → is_marked marks c (Judging place) ≡ true → present c w ≡ Some life → reads_life (present c w) ≡ true → serve marks c place frame w ≡ close c w
-unfolding serve
-marked_serve marks c place frame w life m e r =
-    let shut_ = closed_reads c w life e in
-    ap (λ (v : World). settle marks c place (act_all marks c place v)) (step_marked marks c (Judging place) (judge c frame) w r m)
-    ∙ ap (settle marks c place) (idle_acts marks c place (close c w) shut_)
-    ∙ idle_settle marks c place (close c w) shut_
+abbrev pub Wider : (Mark → Bool) → (Mark → Bool) → Type 0
+Wider one other = (mark : Mark) → one mark ≡ true → other mark ≡ true
 
-marked_in : (s : Setting) (marks : List Mark) (c place : ℕ) (w : World) (life : Life) (arrival : Arrival) (ph : Phase) → is_marked marks c (Judging place) ≡ true → present c w ≡ Some life → reads_life (present c w) ≡ true → reads ph ≡ true → arrive_in s marks c w place arrival ph ≡ close c w
-marked_in s marks c place w life (Whole frame) LoggingIn m e r q = step_marked marks c (Judging place) (enter s c frame) w r m
-marked_in s marks c place w life (Whole frame) (FullFeature session) m e r q = marked_serve marks c place frame w life m e r
-marked_in s marks c place w life (Whole frame) Closing m e r q = absurd cc
-marked_in s marks c place w life (Whole frame) Over m e r q = absurd cc
-marked_in s marks c place w life TooLong ph m e r q = cond_true (reads ph) (close c w) w q
+-- of two lists of marks of two such kinds, each kind has its own
+pub agrees_left : (one two both : Mark → Bool) (marks a b : List Mark) → Apart one two → Wider one both → list_all two b ≡ true → Agrees both marks (a ++ b) → Agrees one marks a
+agrees_left one two both marks a b apart wider of_b agree = λ mark is.
+    agree mark (wider mark is) ∙ marked_append a b mark.connection mark.point
+    ∙ ap (λ (x : Bool). is_marked a mark.connection mark.point || x) (unmarked two b mark of_b (apart mark is)) ∙ or_left (is_marked a mark.connection mark.point)
 
-pub marked_arrive : (s : Setting) (marks : List Mark) (c place : ℕ) (w : World) (life : Life) (arrival : Arrival) → is_marked marks c (Judging place) ≡ true → present c w ≡ Some life → reads life.phase ≡ true → arrive s marks c w (place, arrival) ≡ close c w
-unfolding arrive
-marked_arrive s marks c place w life arrival m e r =
-    ap (arrive_at s marks c w place arrival) e ∙ marked_in s marks c place w life arrival life.phase m e (ap reads_life e ∙ r) r
+pub agrees_right : (one two both : Mark → Bool) (marks a b : List Mark) → Apart two one → Wider two both → list_all one a ≡ true → Agrees both marks (a ++ b) → Agrees two marks b
+agrees_right one two both marks a b apart wider of_a agree = λ mark is.
+    agree mark (wider mark is) ∙ marked_append a b mark.connection mark.point
+    ∙ ap (λ (x : Bool). x || is_marked b mark.connection mark.point) (unmarked one a mark of_a (apart mark is))
 
-pub at_once_rest : (s : Setting) (c place : ℕ) (w : World) (life : Life) (all : List Arrival) → present c w ≡ Some life → reads life.phase ≡ true
-    → take_step (at_once c place) c Ending (λ v. v) (fold (arrive s (at_once c place) c) w (enumerate_from place all)) ≡ close c w
-at_once_rest s c place w life [] e r = step_marked (at_once c place) c Ending (λ v. v) w (ap reads_life e ∙ r) (marked_end c place)
-at_once_rest s c place w life (arrival ∷ all) e r =
-    let marks = at_once c place in
-    let shut_ = closed_reads c w life e in
-    ap (λ (v : World). take_step marks c Ending (λ u. u) (fold (arrive s marks c) v (enumerate_from (place + 1) all))) (marked_arrive s marks c place w life arrival (marked_there c place) e r)
-    ∙ ap (take_step marks c Ending (λ u. u)) (idle_all s marks c (place + 1) (close c w) all shut_)
-    ∙ step_idle marks c Ending (λ u. u) (close c w) shut_
+pub all_wider : (one other : Mark → Bool) (marks : List Mark) → Wider one other → list_all one marks ≡ true → list_all other marks ≡ true
+all_wider one other [] wider every = refl
+all_wider one other (m ∷ marks) wider every =
+    let both = and_true (one m) (list_all one marks) every in
+    rw (wider m both.0) (all_wider one other marks wider both.1)
+
+pub all_append : (p : Mark → Bool) (a b : List Mark) → list_all p a ≡ true → list_all p b ≡ true → list_all p (a ++ b) ≡ true
+all_append p [] b x y = y
+all_append p (m ∷ a) b x y = let both = and_true (p m) (list_all p a) x in rw both.0 (all_append p a b both.1 y)
+
+-- ---- the kinds
+
+abbrev of_step : (Step → Bool) → Mark → Bool
+of_step p mark = has_step p mark.point
+
+apart_steps : (a b : Bool) (point : Point) → (a && has_step is_serving point) ≡ true → (b && has_step is_doing point) ≡ false
+apart_steps a b (Before (Judging p)) e = and_false b
+apart_steps a b (Before (Taking p i)) e = and_false b
+apart_steps a b (Before (Doing p i)) e = absurd (cc (e, and_false a))
+apart_steps a b (Arriving p) e = absurd (cc (e, and_false a))
+apart_steps a b AtEnd e = absurd (cc (e, and_false a))
+
+steps_apart : (a b : Bool) (point : Point) → (a && has_step is_doing point) ≡ true → (b && has_step is_serving point) ≡ false
+steps_apart a b (Before (Judging p)) e = absurd (cc (e, and_false a))
+steps_apart a b (Before (Taking p i)) e = absurd (cc (e, and_false a))
+steps_apart a b (Before (Doing p i)) e = and_false b
+steps_apart a b (Arriving p) e = absurd (cc (e, and_false a))
+steps_apart a b AtEnd e = absurd (cc (e, and_false a))
+
+pub taken_done : (place : ℕ) → Apart (is_taken_at place) (is_done_at place)
+taken_done place mark e = apart_steps (is_within place mark.point) (is_within place mark.point) mark.point e
+
+pub done_taken : (place : ℕ) → Apart (is_done_at place) (is_taken_at place)
+done_taken place mark e = steps_apart (is_within place mark.point) (is_within place mark.point) mark.point e
+
+-- a step of a session, of either kind
+abbrev any_step : Step → Bool
+any_step step = true
+
+abbrev pub is_step_at : ℕ → Mark → Bool
+is_step_at place mark = is_within place mark.point && has_step any_step mark.point
+
+wider_step : (p : Step → Bool) (a : Bool) (point : Point) → (a && has_step p point) ≡ true → (a && has_step any_step point) ≡ true
+wider_step p a (Arriving q) e = absurd (cc (e, and_false a))
+wider_step p a (Before step) e = rw (and_true a (p step) e).0 refl
+wider_step p a AtEnd e = absurd (cc (e, and_false a))
+
+pub taken_step : (place : ℕ) → Wider (is_taken_at place) (is_step_at place)
+taken_step place mark e = wider_step is_serving (is_within place mark.point) mark.point e
+
+pub done_step : (place : ℕ) → Wider (is_done_at place) (is_step_at place)
+done_step place mark e = wider_step is_doing (is_within place mark.point) mark.point e
+
+pub step_within : (place : ℕ) → Wider (is_step_at place) (is_of_frame place)
+step_within place mark e = (and_true (is_within place mark.point) (has_step any_step mark.point) e).0
+
+of_two : (p q : ℕ) (step : Step) → p ≢ q → is_of p step ≡ true → is_of q step ≡ false
+of_two p q (Judging r) differ e = ne_eqb r q (λ same. differ (sym (eqb-true r p e) ∙ same))
+of_two p q (Taking r i) differ e = ne_eqb r q (λ same. differ (sym (eqb-true r p e) ∙ same))
+of_two p q (Doing r i) differ e = ne_eqb r q (λ same. differ (sym (eqb-true r p e) ∙ same))
+
+-- points of two frames are two points
+pub within_two : (p q : ℕ) (point : Point) → p ≢ q → is_within p point ≡ true → is_within q point ≡ false
+within_two p q (Arriving r) differ e = ne_eqb r q (λ same. differ (sym (eqb-true r p e) ∙ same))
+within_two p q (Before step) differ e = of_two p q step differ e
+within_two p q AtEnd differ e = absurd cc

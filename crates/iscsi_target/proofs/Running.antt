@@ -7,16 +7,17 @@ use Rattle.std.proofs.lemmas.Bool.Decides.{eqb_tells}
 use Rattle.std.proofs.lemmas.List.{map-append}
 use Rattle.std.proofs.lemmas.List.Folds.{list_any-append}
 use Rattle.iscsi_target.specs.History.{Open, Bytes, Gone, History, plain, is_among, open_after, connection_limit}
-use Rattle.iscsi_target.specs.Life.{Life, Over, is_over, born, out_of}
-use Rattle.iscsi_target.specs.World.{Setting, World, is_present, present, changed_life, changed, end, world}
+use Rattle.iscsi_target.specs.Life.{Life, Over, is_over, born, out_of, ended_in}
+use Rattle.iscsi_target.specs.World.{Setting, World, is_present, present, over, end, world}
 use Rattle.iscsi_target.specs.Output.{out_now, outputs}
-use Rattle.iscsi_target.specs.Machine.{Machine, link_at, is_free, is_open_at}
-use Rattle.iscsi_target.specs.Stands.{phase_of, Stands, with_sent}
+use Rattle.iscsi_target.specs.Machine.{LinkState, Machine, link_at, is_free, is_open_at}
+use Rattle.iscsi_target.specs.Stands.{link_of, half_of, Stands, with_sent}
 use Rattle.iscsi_target.specs.Runs.{MayCome, RowState, open_row, over_row, row_of, finished_in, finished, is_on, ended, has, IsFree, AreDistinct, Runs}
 use Rattle.iscsi_target.proofs.Choices.{eqb_self, cond_true, cond_false, and_true, and_false}
-use Rattle.iscsi_target.proofs.Standing.{world-push, present_open, stands_sent}
+use Rattle.iscsi_target.proofs.Standing.{present_open, stands_sent, link_stands, waits_there}
+use Rattle.iscsi_target.proofs.Linked.{out-ended}
 use Rattle.iscsi_target.proofs.Tables.{among-gone, among-gone_other}
-use Rattle.iscsi_target.proofs.Keeping.{rows_in, open_is, is_open_here, rows-bring}
+use Rattle.iscsi_target.proofs.Keeping.{world-push, rows_in, open_is, is_open_here, rows-bring}
 
 -- ---- the rows of a World
 
@@ -91,7 +92,7 @@ life_waits s machine rows before history x r only e =
     let c = x.connection in
     let at : present c (world s history) ≡ Some x = only e in
     let lt : c < connection_limit = r.below c (sym (r.tracks c) ∙ has_row s machine rows before history r c ∙ ap is_there at) in
-    (r.stands.links c lt).waiting ∙ ap out_now at
+    waits_there s (λ k. 0) (world s history) machine c lt r.stands ∙ ap out_now at
 
 all_wait : (s : Setting) (machine : Machine) (rows : List RowState) (before : List ℕ) (history : History) (lives : List Life) → Runs s machine rows before history → AllByRecursion (IsOnly (world s history).lives) lives → AllByRecursion (IsWaiting machine) lives
 all_wait s machine rows before history [] r h = tt
@@ -118,14 +119,14 @@ finished_outputs s machine rows before history r = ap (map (λ (row : RowState).
 
 -- ---- which events may come
 
-open_in : (names : List (List ℕ)) (c : ℕ) (w : World) (o : Option Life) → present c w ≡ o → not (is_free (phase_of names o)) ≡ is_there o
-open_in names c w None e = refl
-open_in names c w (Some life) e = ap not (present_open names c w life e)
+open_in : (names : List (List ℕ)) (sent : ℕ) (half : List ℕ) (c : ℕ) (w : World) (o : Option Life) → present c w ≡ o → not (is_free (link_of names sent half o).phase) ≡ is_there o
+open_in names sent half c w None e = refl
+open_in names sent half c w (Some life) e = ap not (present_open names c w life e)
 
 is_open : (s : Setting) (machine : Machine) (rows : List RowState) (before : List ℕ) (history : History) (c : ℕ) → Runs s machine rows before history → c < connection_limit → is_open_at machine c ≡ is_among c before
 is_open s machine rows before history c r lt =
-    ap (λ phase. not (is_free phase)) (r.stands.links c lt).phase
-    ∙ open_in s.names c (world s history) (present c (world s history)) refl
+    ap (λ (l : LinkState). not (is_free l.phase)) (link_stands s (λ k. 0) (world s history) machine c lt r.stands)
+    ∙ open_in s.names 0 (half_of (present c (world s history))) c (world s history) (present c (world s history)) refl
     ∙ sym (has_row s machine rows before history r c) ∙ r.tracks c
 
 -- ---- the beginning
@@ -201,7 +202,7 @@ pub bytes_runs : (s : Setting) (machine after : Machine) (rows : List RowState) 
     → Runs s after rows before (history ++ plain (Bytes c piece) ∷ [])
 bytes_runs s machine after rows before history c piece r h = record {
   stands = h;
-  kept = r.kept ∙ sym (rows-bring s [] c piece (world s history)) ∙ ap rows_in (sym (world-push s history (plain (Bytes c piece))));
+  kept = r.kept ∙ sym (rows-bring s [] c piece (record (world s history) { reached = [] })) ∙ ap rows_in (sym (world-push s history (plain (Bytes c piece))));
   distinct = r.distinct;
   tracks = r.tracks;
   below = r.below;
@@ -209,30 +210,26 @@ bytes_runs s machine after rows before history c piece r h = record {
 
 -- ---- and ends
 
-abbrev over : Life → Life
-over life = record life { phase = Over }
-
-out-over : (x : Life) → out_of (over x) ≡ out_of x
-unfolding out_of
-out-over x = refl
+out-over : (x : Life) → out_of (ended_in Over x) ≡ out_of x
+out-over x = out-ended x Over refl
 
 -- a life that is present is over then, and one that is not stays as it is
-end_by : (b : Bool) (machine : Machine) (c : ℕ) (x : Life) → IsWaiting machine x → is_present c x ≡ b → ended machine c (row_of x) ≡ row_of (changed_life over c x)
+end_by : (b : Bool) (machine : Machine) (c : ℕ) (x : Life) → IsWaiting machine x → is_present c x ≡ b → ended machine c (row_of x) ≡ row_of (over c x)
 end_by true machine c x waits e =
     let open_ : is_over x.phase ≡ false = is_open_here c x e in
     cond_true (is_on c (row_of x).connection) (finished machine (row_of x)) (row_of x) (on_present c x ∙ e)
     ∙ ap (finished machine) (open_is x open_)
     ∙ ap over_row (waits open_ ∙ sym (out-over x))
-    ∙ ap row_of (sym (cond_true (is_present c x) (over x) x e))
+    ∙ ap row_of (sym (cond_true (is_present c x) (ended_in Over x) x e))
 end_by false machine c x waits e =
     cond_false (is_on c (row_of x).connection) (finished machine (row_of x)) (row_of x) (on_present c x ∙ e)
-    ∙ ap row_of (sym (cond_false (is_present c x) (over x) x e))
+    ∙ ap row_of (sym (cond_false (is_present c x) (ended_in Over x) x e))
 
-end_all : (machine : Machine) (c : ℕ) (lives : List Life) → AllByRecursion (IsWaiting machine) lives → map (ended machine c) (map row_of lives) ≡ map row_of (map (changed_life over c) lives)
+end_all : (machine : Machine) (c : ℕ) (lives : List Life) → AllByRecursion (IsWaiting machine) lives → map (ended machine c) (map row_of lives) ≡ map row_of (map (over c) lives)
 end_all machine c [] h = refl
 end_all machine c (x ∷ lives) h =
     ap (λ (row : RowState). row ∷ map (ended machine c) (map row_of lives)) (end_by (is_present c x) machine c x h.0 refl)
-    ∙ ap (λ (rows : List RowState). row_of (changed_life over c x) ∷ rows) (end_all machine c lives h.1)
+    ∙ ap (λ (rows : List RowState). row_of (over c x) ∷ rows) (end_all machine c lives h.1)
 
 finished_none : (machine : Machine) (bytes : List ℕ) (o : Option ℕ) → (finished_in machine bytes o).connection ≡ None
 finished_none machine bytes None = refl
@@ -286,12 +283,13 @@ distinct_ended machine c [] d = tt
 distinct_ended machine c (row ∷ rows) d =
     (row_free (is_on c row.connection) machine c row (map (ended machine c) rows) refl (still_free machine c row.connection rows d.0), distinct_ended machine c rows d.1)
 
-rows-end : (c : ℕ) (w : World) → rows_in (end c w) ≡ map row_of (map (changed_life over c) w.lives)
-unfolding end changed
+rows-end : (c : ℕ) (w : World) → rows_in (end c w) ≡ map row_of (map (over c) w.lives)
+unfolding end
 rows-end c w = refl
 
 pub gone_runs : (s : Setting) (machine after : Machine) (rows : List RowState) (before : List ℕ) (history : History) (c : ℕ) → Runs s machine rows before history → Stands s (with_sent (λ k. 0) c 0) after (history ++ plain (Gone c) ∷ [])
     → Runs s after (map (ended machine c) rows) (open_after before (Gone c)) (history ++ plain (Gone c) ∷ [])
+unfolding end
 gone_runs s machine after rows before history c r h =
     let w = world s history in
     record {

@@ -5,9 +5,10 @@ use Rattle.std.proofs.Math.Seq.{map-set_same}
 use Rattle.std.proofs.lemmas.Bool.Decides.{eqb_tells}
 use Rattle.std.proofs.lemmas.List.{length-set, length-map, get_or-map, get_or_default, get_or-set_same, get_or-set_other}
 use Rattle.std.proofs.lemmas.List.Elements.{All-map}
-use Rattle.scsi_unit.specs.Medium.{MediumState}
-use Rattle.scsi_unit.specs.Unit.{UnitState, joined_unit, left_unit}
-use Rattle.scsi_unit.specs.Units.{UnitStates, AreSound, AreSure, IsSoundMedium, IsSureMedium, join, leave}
+use Rattle.scsi_unit.specs.Device.{DeviceState}
+use Rattle.scsi_unit.specs.State.{UnitState}
+use Rattle.scsi_unit.specs.Unit.{joined_unit, left_unit}
+use Rattle.scsi_unit.specs.Units.{UnitStates, AreSound, AreSure, IsSoundDevice, IsSureDevice, join, leave}
 use Rattle.iscsi_pdu.specs.declared.answer.Answer.{Answer}
 use Rattle.iscsi_pdu.specs.declared.answer.Answer.TheVariants as answers
 use Rattle.iscsi_pdu.specs.Frames.{Frame}
@@ -36,10 +37,10 @@ sound_set all at units back sound k d lt = elim (eqb_tells k at) [
 
 -- ---- the media stay as they are when a nexus joins or leaves
 
-abbrev media : UnitStates → List MediumState
-media units = map (λ (unit : UnitState). unit.medium) units
+abbrev media : UnitStates → List DeviceState
+media units = map (λ (unit : UnitState). unit.device) units
 
-media_map : (f : UnitState → UnitState) (units : UnitStates) → ((unit : UnitState) → (f unit).medium ≡ unit.medium) → media (map f units) ≡ media units
+media_map : (f : UnitState → UnitState) (units : UnitStates) → ((unit : UnitState) → (f unit).device ≡ unit.device) → media (map f units) ≡ media units
 media_map f [] same = refl
 media_map f (unit ∷ units) same = cc (same unit, media_map f units same)
 
@@ -80,34 +81,43 @@ media_closed : (machine : Machine) (c : ℕ) → map media (closed machine c).un
 unfolding closed
 media_closed machine c = media_left (session_in_phase (link_at machine c).phase) machine.units
 
+as_many : (a b : List UnitStates) → map media a ≡ map media b → length a ≡ length b
+as_many a b e = sym (length-map a media) ∙ ap length e ∙ length-map b media
+
+pub closed_units : (machine : Machine) (c : ℕ) → length (closed machine c).units ≡ length machine.units
+closed_units machine c = as_many (closed machine c).units machine.units (media_closed machine c)
+
+pub logged_in_units : (machine : Machine) (c : ℕ) (login : LoginState) (request : Frame) → length (logged_in machine c login request).units ≡ length machine.units
+logged_in_units machine c login request = as_many (logged_in machine c login request).units machine.units (media_logged_in machine c login request)
+
 -- ---- so what holds of each medium stays
 
-of_media : (P : MediumState → Type 0) (units : UnitStates) → All P (media units) → All (λ unit. P unit.medium) units
-of_media P units all i d lt = subst P (get_or-map (λ (unit : UnitState). unit.medium) units i d d.medium lt) (all i d.medium (simp length-map lt))
+of_media : (P : DeviceState → Type 0) (units : UnitStates) → All P (media units) → All (λ unit. P unit.device) units
+of_media P units all i d lt = subst P (get_or-map (λ (unit : UnitState). unit.device) units i d d.device lt) (all i d.device (simp length-map lt))
 
-of_all_media : (P : MediumState → Type 0) (all : List UnitStates) → All (All P) (map media all) → All (All (λ unit. P unit.medium)) all
+of_all_media : (P : DeviceState → Type 0) (all : List UnitStates) → All (All P) (map media all) → All (All (λ unit. P unit.device)) all
 of_all_media P all h i d lt = of_media P (get_or all i d) (subst (All P) (get_or-map media all i d (media d) lt) (h i (media d) (simp length-map lt)))
 
-to_all_media : (P : MediumState → Type 0) (all : List UnitStates) → All (All (λ unit. P unit.medium)) all → All (All P) (map media all)
-to_all_media P all h = All-map (All P) media all (λ i d lt. All-map P (λ (unit : UnitState). unit.medium) (get_or all i d) (h i d lt))
+to_all_media : (P : DeviceState → Type 0) (all : List UnitStates) → All (All (λ unit. P unit.device)) all → All (All P) (map media all)
+to_all_media P all h = All-map (All P) media all (λ i d lt. All-map P (λ (unit : UnitState). unit.device) (get_or all i d) (h i d lt))
 
-over_media : (P : MediumState → Type 0) (a b : List UnitStates) → map media a ≡ map media b → All (All (λ unit. P unit.medium)) a
-    → All (All (λ unit. P unit.medium)) b
+over_media : (P : DeviceState → Type 0) (a b : List UnitStates) → map media a ≡ map media b → All (All (λ unit. P unit.device)) a
+    → All (All (λ unit. P unit.device)) b
 over_media P a b e h = of_all_media P b (subst (All (All P)) e (to_all_media P a h))
 
 pub closed_sound : (machine : Machine) (c : ℕ) → IsSound (closed machine c) → IsSound machine
-closed_sound machine c sound = over_media IsSoundMedium (closed machine c).units machine.units (media_closed machine c) sound
+closed_sound machine c sound = over_media IsSoundDevice (closed machine c).units machine.units (media_closed machine c) sound
 
 pub closed_sure : (machine : Machine) (c : ℕ) → IsSure machine → IsSure (closed machine c)
-closed_sure machine c sure = over_media IsSureMedium machine.units (closed machine c).units (sym (media_closed machine c)) sure
+closed_sure machine c sure = over_media IsSureDevice machine.units (closed machine c).units (sym (media_closed machine c)) sure
 
 pub logged_in_sound : (machine : Machine) (c : ℕ) (login : LoginState) (request : Frame) → IsSound (logged_in machine c login request) → IsSound machine
 logged_in_sound machine c login request sound =
-    over_media IsSoundMedium (logged_in machine c login request).units machine.units (media_logged_in machine c login request) sound
+    over_media IsSoundDevice (logged_in machine c login request).units machine.units (media_logged_in machine c login request) sound
 
 pub logged_in_sure : (machine : Machine) (c : ℕ) (login : LoginState) (request : Frame) → IsSure machine → IsSure (logged_in machine c login request)
 logged_in_sure machine c login request sure =
-    over_media IsSureMedium machine.units (logged_in machine c login request).units (sym (media_logged_in machine c login request)) sure
+    over_media IsSureDevice machine.units (logged_in machine c login request).units (sym (media_logged_in machine c login request)) sure
 
 pub sure_set : (all : List UnitStates) (at : ℕ) (d units : UnitStates) → (AreSure (get_or all at d) → AreSure units) → All AreSure all
     → All AreSure (set all at units)

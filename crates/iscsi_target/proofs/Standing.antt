@@ -1,63 +1,74 @@
--- The beginning, and the events that open and end a connection, keep the code where the World is.
-use Rattle.std.proofs.Common.{◌≡◌, ◌≢◌, ℕ, ◌<◌, List, [], ◌∷◌, ◌++◌, length, set, get_or, replicate, Bool, true, false, not, ◌&&◌, eqb, Option, Some, None, refl, sym, ap, ◌∙◌, subst, arith, inl, inr}
+-- Between two events: the beginning, and the events that open and end a connection.
+use Rattle.std.proofs.Common.{◌≡◌, ◌≢◌, ℕ, zero, suc, ◌+◌, ◌<◌, ◌≤◌, List, [], ◌∷◌, ◌++◌, length, map, drop, set, get_or, replicate, Bool, true, false, not, ◌&&◌, eqb, Option, Some, None, refl, sym, ap, ◌∙◌, subst, arith, inl, inr}
+use Rattle.std.specs.List.{range_with_len}
 use Rattle.std.proofs.lemmas.Bool.Decides.{eqb_tells}
 use Rattle.std.proofs.lemmas.Bool.{ne_eqb}
-use Rattle.std.proofs.lemmas.List.{length-set, set-set, length-replicate, get_or-replicate, get_or-set_same, get_or-set_other}
-use Rattle.std.proofs.lemmas.List.Sums.{fold-append}
-use Rattle.iscsi_pdu.specs.Frames.{is_long}
+use Rattle.std.proofs.lemmas.List.{length-set, set-set, length-replicate, length-drop, drop-drop, set-get_or, get_or-replicate, get_or-set_same, get_or-set_other}
+use Rattle.std.proofs.Math.Seq.{drop-nil}
+use Rattle.iscsi_pdu.specs.Frames.{is_long, rest}
 use Rattle.iscsi_pdu.proofs.Frames.{no_frame, rest_none}
 use Rattle.iscsi_login.specs.Login.{remembered}
-use Rattle.iscsi_target.specs.History.{Open, Gone, Happening, History, plain, arrivals, connection_limit}
-use Rattle.scsi_unit.specs.Units.{UnitStates}
-use Rattle.iscsi_target.specs.Life.{Life, Phase, LoggingIn, FullFeature, Closing, Over, born, is_over, out_of}
-use Rattle.iscsi_target.specs.World.{Setting, World, present, changed, session_of, left, end, happened, new_world, world}
-use Rattle.iscsi_target.specs.Machine.{LinkState, Machine, link_at, with_link, closed, is_free, is_open_at, free_link, opened_link, shut_link, session_in_phase, new_machine}
-use Rattle.iscsi_target.specs.Stands.{phase_of, phase_for, IsLinkOf, StandsAt, Stands, with_sent}
 use Rattle.iscsi_login.specs.declared.params.Params.{Params}
+use Rattle.scsi_unit.specs.Units.{UnitStates}
+use Rattle.iscsi_target.specs.History.{Open, Gone, Happening, History, plain, connection_limit}
+use Rattle.iscsi_target.specs.Life.{Life, Phase, LoggingIn, FullFeature, Closing, Over, born, is_over, reads, out_of}
+use Rattle.iscsi_target.specs.World.{Setting, World, present, session_of, left, end, happened, new_world, world}
+use Rattle.iscsi_target.specs.Output.{out_now}
+use Rattle.iscsi_target.specs.Machine.{LinkState, Machine, link_at, with_link, closed, is_free, is_reading, is_open_at, free_link, opened_link, shut_link, sent_link, session_in_phase, new_machine}
+use Rattle.iscsi_target.specs.Stands.{phase_for, link_of, machine_with, machine_of, half_of, IsQuiet, IsShort, IsSent, StandsAt, Stands, with_sent}
+use Rattle.iscsi_target.specs.Serving.{Serves}
 use Rattle.iscsi_target.proofs.Choices.{eqb_self, cond_true, cond_false, and_true, not_true}
-use Rattle.iscsi_target.proofs.Lives.{present-over, present-changed_other, present-units, present-born, present-born_other, present_is}
-use Rattle.iscsi_target.specs.Serving.{IsQuietAt, bytes_now, Serves}
-use Rattle.iscsi_target.proofs.Serving.{session_same}
+use Rattle.iscsi_target.proofs.Lives.{present-born, present-born_other, present-end, present-end_other, present-lives, present_is}
+use Rattle.iscsi_target.proofs.Keeping.{world-push}
+use Rattle.iscsi_target.proofs.Linked.{link_there, links_count, units_with, relinked, session_at, link_is, count_there}
 
 -- ---- one more event
 
-pub world-push : (s : Setting) (history : History) (h : Happening) → world s (history ++ h ∷ []) ≡ happened s (world s history) h
-unfolding world
-world-push s history h = fold-append (happened s) (new_world s) history (h ∷ [])
+abbrev pub fresh : World → World
+fresh w = record w { reached = [] }
+
+pub present-fresh : (c : ℕ) (w : World) → present c (fresh w) ≡ present c w
+present-fresh c w = present-lives c (fresh w) w refl
 
 pub stands_as : (s : Setting) (sent : ℕ → ℕ) (machine : Machine) (history : History) (h : Happening) (v : World) → happened s (world s history) h ≡ v → StandsAt s sent v machine → Stands s sent machine (history ++ h ∷ [])
 stands_as s sent machine history h v e at =
     let P : World → Type 0 = λ w. StandsAt s sent w machine in
     subst P (sym (world-push s history h ∙ e)) at
 
--- ---- between two events, and while frames are taken
+-- the machine, however it is written
+pub stands_machine : (s : Setting) (sent : ℕ → ℕ) (history : History) (a b : Machine) → a ≡ b → Stands s sent a history → Stands s sent b history
+stands_machine s sent history a b e h = let P : Machine → Type 0 = λ m. Stands s sent m history in subst P e h
 
-quiet_now : (names : List (List ℕ)) (o : Option Life) (sent : ℕ) (link : LinkState) → IsLinkOf names sent link o → IsQuietAt o
-quiet_now names None sent link h = tt
-quiet_now names (Some life) sent link h = h.settled.quiet
+-- ---- what is remembered
 
-pub serving : (c : ℕ) (s : Setting) (sent : ℕ → ℕ) (w : World) (machine : Machine) → c < connection_limit → StandsAt s sent w machine → Serves c (bytes_now (present c w)) s sent w machine
-serving c s sent w machine lt h =
-    let link = h.links c lt in
-    record {
-      names = h.names;
-      units = h.units;
-      count = h.count;
-      in_range = lt;
-      here = record { phase = link.phase; answered = link.answered; waiting = link.waiting; quiet = quiet_now s.names (present c w) (sent c) (link_at machine c) link; held = refl };
-      others = λ d below differ. h.links d below;
-    }
+-- where each link is the same, so is the machine
+pub machine_same : (s : Setting) (sent sent_then : ℕ → ℕ) (half half_then : ℕ → List ℕ) (w v : World) → v.units ≡ w.units
+    → ((d : ℕ) → d < connection_limit → link_of s.names (sent_then d) (half_then d) (present d v) ≡ link_of s.names (sent d) (half d) (present d w))
+    → machine_with s sent_then half_then v ≡ machine_with s sent half w
+machine_same s sent sent_then half half_then w v u same =
+    let old = machine_with s sent half w in
+    let first : 0 < connection_limit = omega arith in
+    relinked s sent sent_then half half_then w v 0 first (λ d below differ. same d below)
+    ∙ ap (λ (l : LinkState). let m : Machine = record (with_link old 0 l) { units = v.units } in m) (same 0 first ∙ sym (link_there s sent half w 0 first))
+    ∙ ap (λ (links : List LinkState). let m : Machine = record old { links = links; units = v.units } in m) (set-get_or old.links 0 free_link)
+    ∙ ap (λ (us : List UnitStates). let m : Machine = record old { units = us } in m) (u ∙ sym (units_with s sent half w))
 
-pub stands_from : (c : ℕ) (bytes : List ℕ) (s : Setting) (sent : ℕ → ℕ) (w : World) (machine : Machine) → Serves c bytes s sent w machine → IsLinkOf s.names (sent c) (link_at machine c) (present c w) → StandsAt s sent w machine
-stands_from c bytes s sent w machine h here = record {
-  names = h.names;
-  units = h.units;
-  count = h.count;
-  links = λ d lt. elim (eqb_tells d c) [
-    | inl same ↦ rw same.1 here
-    | inr differ ↦ h.others d lt differ.1
-  ];
-}
+pub serving : (s : Setting) (sent : ℕ → ℕ) (w : World) (machine : Machine) → StandsAt s sent w machine → Serves s sent (λ c. half_of (present c w)) w machine
+serving s sent w machine h = record { is = h.is; answered = h.answered; quiet = h.quiet }
+
+pub link_stands : (s : Setting) (sent : ℕ → ℕ) (w : World) (machine : Machine) (c : ℕ) → c < connection_limit → StandsAt s sent w machine → link_at machine c ≡ link_of s.names (sent c) (half_of (present c w)) (present c w)
+link_stands s sent w machine c lt h = link_is s sent (λ k. half_of (present k w)) w machine c lt (serving s sent w machine h)
+
+waiting_of : (names : List (List ℕ)) (sent : ℕ) (half : List ℕ) (o : Option Life) → (link_of names sent half o).waiting ≡ drop sent (out_now o)
+waiting_of names sent half None = sym (drop-nil sent)
+waiting_of names sent half (Some life) = refl
+
+-- what waits is what was answered without what was sent
+pub waits_there : (s : Setting) (sent : ℕ → ℕ) (w : World) (machine : Machine) (c : ℕ) → c < connection_limit → StandsAt s sent w machine → (link_at machine c).waiting ≡ drop (sent c) (out_now (present c w))
+waits_there s sent w machine c lt h = ap (λ (l : LinkState). l.waiting) (link_stands s sent w machine c lt h) ∙ waiting_of s.names (sent c) (half_of (present c w)) (present c w)
+
+pub count_stands : (s : Setting) (sent : ℕ → ℕ) (w : World) (machine : Machine) → StandsAt s sent w machine → length machine.links ≡ connection_limit
+count_stands s sent w machine h = count_there s sent (λ c. half_of (present c w)) w machine (serving s sent w machine h)
 
 -- ---- which connections are open
 
@@ -67,26 +78,28 @@ over_is_free names life (FullFeature session) e = refl
 over_is_free names life Closing e = refl
 over_is_free names life Over e = absurd cc
 
-pub present_open : (names : List (List ℕ)) (c : ℕ) (w : World) (life : Life) → present c w ≡ Some life → is_free (phase_of names (Some life)) ≡ false
+pub present_open : (names : List (List ℕ)) (c : ℕ) (w : World) (life : Life) → present c w ≡ Some life → is_free (phase_for names life life.phase) ≡ false
 present_open names c w life e = over_is_free names life life.phase (not_true (is_over life.phase) (and_true (eqb life.connection c) (not (is_over life.phase)) (present_is c w life e)).1)
 
-open_in : (names : List (List ℕ)) (o : Option Life) → is_free (phase_of names o) ≡ false → (life : Life) × (o ≡ Some life)
-open_in names None e = absurd cc
-open_in names (Some life) e = (life, refl)
+open_in : (names : List (List ℕ)) (sent : ℕ) (half : List ℕ) (o : Option Life) → is_free (link_of names sent half o).phase ≡ false → (life : Life) × (o ≡ Some life)
+open_in names sent half None e = absurd cc
+open_in names sent half (Some life) e = (life, refl)
 
-free_in : (names : List (List ℕ)) (c : ℕ) (w : World) (o : Option Life) → present c w ≡ o → is_free (phase_of names o) ≡ true → o ≡ None
-free_in names c w None e f = refl
-free_in names c w (Some life) e f = let open_ = present_open names c w life e in absurd (cc (open_, f))
+free_in : (names : List (List ℕ)) (sent : ℕ) (half : List ℕ) (c : ℕ) (w : World) (o : Option Life) → present c w ≡ o → is_free (link_of names sent half o).phase ≡ true → o ≡ None
+free_in names sent half c w None e f = refl
+free_in names sent half c w (Some life) e f = let open_ = present_open names c w life e in absurd (cc (open_, f))
 
 free_from : (b : Bool) → not b ≡ false → b ≡ true
 free_from true e = refl
 free_from false e = absurd cc
 
 pub is_free_there : (s : Setting) (sent : ℕ → ℕ) (w : World) (machine : Machine) (c : ℕ) → c < connection_limit → StandsAt s sent w machine → is_open_at machine c ≡ false → present c w ≡ None
-is_free_there s sent w machine c lt h e = free_in s.names c w (present c w) refl (ap is_free (sym (h.links c lt).phase) ∙ free_from _ e)
+is_free_there s sent w machine c lt h e =
+    free_in s.names (sent c) (half_of (present c w)) c w (present c w) refl (ap (λ (l : LinkState). is_free l.phase) (sym (link_stands s sent w machine c lt h)) ∙ free_from _ e)
 
 pub is_open_there : (s : Setting) (sent : ℕ → ℕ) (w : World) (machine : Machine) (c : ℕ) → c < connection_limit → StandsAt s sent w machine → is_open_at machine c ≡ true → (life : Life) × (present c w ≡ Some life)
-is_open_there s sent w machine c lt h e = open_in s.names (present c w) (ap is_free (sym (h.links c lt).phase) ∙ not_true _ e)
+is_open_there s sent w machine c lt h e =
+    open_in s.names (sent c) (half_of (present c w)) (present c w) (ap (λ (l : LinkState). is_free l.phase) (sym (link_stands s sent w machine c lt h)) ∙ not_true _ e)
 
 -- ---- how many bytes were sent
 
@@ -96,22 +109,43 @@ sent_here sent c n = cond_true (eqb c c) n (sent c) (eqb_self c)
 pub sent_there : (sent : ℕ → ℕ) (c n d : ℕ) → d ≢ c → with_sent sent c n d ≡ sent d
 sent_there sent c n d differ = cond_false (eqb d c) n (sent d) (ne_eqb d c differ)
 
--- a link changes, and how much of its answers was sent
-pub relinked : (s : Setting) (sent : ℕ → ℕ) (w v : World) (machine : Machine) (c n : ℕ) (units : List UnitStates) (link : LinkState) → c < connection_limit → StandsAt s sent w machine → v.units ≡ units
-    → ((d : ℕ) → d ≢ c → present d v ≡ present d w) → IsLinkOf s.names n link (present c v) → StandsAt s (with_sent sent c n) v (record machine { units = units; links = set machine.links c link })
-relinked s sent w v machine c n units link lt h u other here = record {
-  names = h.names;
-  units = sym u;
-  count = length-set machine.links c link ∙ h.count;
-  links = λ d below. elim (eqb_tells d c) [
-    | inl same ↦ (
-        let there : get_or (set machine.links c link) c free_link ≡ link = get_or-set_same machine.links c link free_link (omega (arith, h.count)) in
-        rw same.1 (rw (sent_here sent c n, there) here))
-    | inr differ ↦ (
-        let there : get_or (set machine.links c link) d free_link ≡ link_at machine d = get_or-set_other machine.links c d link free_link differ.1 in
-        rw (sent_there sent c n d differ.1, there, other d differ.1) (h.links d below))
-  ];
-}
+-- one connection changes, and how much of its answers was sent
+pub stands_one : (s : Setting) (sent : ℕ → ℕ) (w v : World) (machine : Machine) (c n : ℕ) (units : List UnitStates) (link : LinkState) → c < connection_limit → StandsAt s sent w machine → v.units ≡ units
+    → ((d : ℕ) → d ≢ c → present d v ≡ present d w) → link_of s.names n (half_of (present c v)) (present c v) ≡ link → n ≤ length (out_now (present c v)) → IsQuiet (present c v) → IsShort (present c v)
+    → StandsAt s (with_sent sent c n) v (record (with_link machine c link) { units = units })
+stands_one s sent w v machine c n units link lt h u other l le quiet short =
+    let same : (d : ℕ) → d < connection_limit → d ≢ c → link_of s.names (with_sent sent c n d) (half_of (present d v)) (present d v) ≡ link_of s.names (sent d) (half_of (present d w)) (present d w) =
+    λ d below differ. rw (other d differ, sent_there sent c n d differ) refl in
+    let here : link_of s.names (with_sent sent c n c) (half_of (present c v)) (present c v) ≡ link = ap (λ (k : ℕ). link_of s.names k (half_of (present c v)) (present c v)) (sent_here sent c n) ∙ l in
+    record {
+      is = ap (λ (m : Machine). let x : Machine = record (with_link m c link) { units = units } in x) h.is
+          ∙ ap (λ (x : LinkState). let m : Machine = record (with_link (machine_of s sent w) c x) { units = units } in m) (sym here)
+          ∙ ap (λ (us : List UnitStates). let m : Machine = record (with_link (machine_of s sent w) c (link_of s.names (with_sent sent c n c) (half_of (present c v)) (present c v))) { units = us } in m) (sym u)
+          ∙ sym (relinked s sent (with_sent sent c n) (λ k. half_of (present k w)) (λ k. half_of (present k v)) w v c lt same);
+      answered = λ d below. elim (eqb_tells d c) [
+        | inl e ↦ rw (e.1, sent_here sent c n) le
+        | inr differ ↦ rw (other d differ.1, sent_there sent c n d differ.1) (h.answered d below)
+      ];
+      quiet = λ d below. elim (eqb_tells d c) [
+        | inl e ↦ rw e.1 quiet
+        | inr differ ↦ rw (other d differ.1) (h.quiet d below)
+      ];
+      short = λ d below. elim (eqb_tells d c) [
+        | inl e ↦ rw e.1 short
+        | inr differ ↦ rw (other d differ.1) (h.short d below)
+      ];
+    }
+
+-- only how many bytes were sent on each connection counts, however it is written
+pub stands_sent : (s : Setting) (sent other : ℕ → ℕ) (machine : Machine) (history : History) → ((c : ℕ) → c < connection_limit → sent c ≡ other c) → Stands s sent machine history → Stands s other machine history
+stands_sent s sent other machine history same h =
+    let w = world s history in
+    record {
+      is = h.is ∙ machine_same s other sent (λ c. half_of (present c w)) (λ c. half_of (present c w)) w w refl (λ d below. rw (same d below) refl);
+      answered = λ c lt. (let e = same c lt in rw (← e) (h.answered c lt));
+      quiet = h.quiet;
+      short = h.short;
+    }
 
 -- ---- the beginning
 
@@ -119,24 +153,26 @@ none_at_first : (s : Setting) (c : ℕ) → present c (new_world s) ≡ None
 unfolding present
 none_at_first s c = refl
 
-free_is : (names : List (List ℕ)) → IsLinkOf names 0 free_link None
-free_is names = record { phase = refl; half = refl; answered = omega arith; waiting = refl; settled = tt }
+new_links : (n : ℕ) (link : LinkState) (a : ℕ) → map (λ (c : ℕ). link) (range_with_len a n) ≡ replicate n link
+new_links zero link a = refl
+new_links (suc n) link a = ap (λ (l : List LinkState). link ∷ l) (new_links n link (a + 1))
 
-new_stands_at : (s : Setting) → StandsAt s (λ c. 0) (new_world s) (new_machine s.names s.units)
-new_stands_at s = record {
-  names = refl;
-  units = refl;
-  count = length-replicate connection_limit free_link;
-  links = λ c lt. (let there : get_or (replicate connection_limit free_link) c free_link ≡ free_link = get_or-replicate connection_limit c free_link free_link lt in rw (there, none_at_first s c) (free_is s.names));
-}
+new_is : (s : Setting) → new_machine s.names s.units ≡ machine_of s (λ c. 0) (new_world s)
+unfolding machine_with present
+new_is s = ap (λ (links : List LinkState). let m : Machine = record { names = s.names; units = s.units; links = links } in m) (sym (new_links connection_limit free_link 0))
 
 pub new_stands : (s : Setting) → Stands s (λ c. 0) (new_machine s.names s.units) []
 unfolding world
-new_stands s = new_stands_at s
+new_stands s = record {
+  is = new_is s;
+  answered = λ c lt. rw (none_at_first s c) (omega arith);
+  quiet = λ c lt. rw (none_at_first s c) tt;
+  short = λ c lt. rw (none_at_first s c) tt;
+}
 
 -- ---- Open
 
-nothing_long : is_long [] ≡ false
+pub nothing_long : is_long [] ≡ false
 unfolding is_long
 nothing_long = refl
 
@@ -144,60 +180,62 @@ no_answers : (c : ℕ) → out_of (born c) ≡ []
 unfolding out_of
 no_answers c = refl
 
-born_link : (names : List (List ℕ)) (c : ℕ) → IsLinkOf names 0 (opened_link c) (Some (born c))
-unfolding remembered
-born_link names c = record {
-  phase = refl;
-  half = sym (rest_none [] no_frame);
-  answered = omega arith;
-  waiting = rw (no_answers c) refl;
-  settled = record {
-    quiet = refl;
-    short = λ e. rw (rest_none [] no_frame) nothing_long;
-  };
-}
+born_link : (names : List (List ℕ)) (c : ℕ) → link_of names 0 (half_of (Some (born c))) (Some (born c)) ≡ opened_link c
+unfolding remembered out_of
+born_link names c = ap (λ (half : List ℕ). let l : LinkState = record { half = half; phase = (opened_link c).phase; waiting = [] } in l) (rest_none [] no_frame)
 
-pub open_stands : (s : Setting) (sent : ℕ → ℕ) (machine : Machine) (history : History) (c : ℕ) → c < connection_limit → is_open_at machine c ≡ false → Stands s sent machine history → Stands s (with_sent sent c 0) (with_link machine c (opened_link c)) (history ++ plain (Open c) ∷ [])
+pub open_stands : (s : Setting) (sent : ℕ → ℕ) (machine : Machine) (history : History) (c : ℕ) → c < connection_limit → is_open_at machine c ≡ false → Stands s sent machine history
+    → Stands s (with_sent sent c 0) (with_link machine c (opened_link c)) (history ++ plain (Open c) ∷ [])
 open_stands s sent machine history c lt free h =
     let w = world s history in
-    let v : World = record w { lives = w.lives ++ born c ∷ [] } in
-    let none = is_free_there s sent w machine c lt h free in
-    let born_ : present c v ≡ Some (born c) = present-born c w none in
+    let v : World = record (fresh w) { lives = w.lives ++ born c ∷ [] } in
+    let none = present-fresh c w ∙ is_free_there s sent w machine c lt h free in
+    let born_ : present c v ≡ Some (born c) = present-born c (fresh w) none in
+    let units : v.units ≡ machine.units = sym (ap (λ (m : Machine). m.units) h.is ∙ units_with s sent (λ k. half_of (present k w)) w) in
     stands_as s (with_sent sent c 0) (with_link machine c (opened_link c)) history (plain (Open c)) v refl
-    (relinked s sent w v machine c 0 machine.units (opened_link c) lt h (sym h.units) (λ d differ. present-born_other c d w differ) (rw born_ (born_link s.names c)))
+    (stands_one s sent w v machine c 0 machine.units (opened_link c) lt h units (λ d differ. present-born_other c d (fresh w) differ ∙ present-fresh d w)
+    (rw born_ (born_link s.names c)) (omega arith) (rw born_ tt) (rw born_ (λ e. ap is_long (rest_none [] no_frame) ∙ nothing_long)))
 
 -- ---- Gone
 
-not_present : (b : Bool) → (b && false) ≡ false
-not_present true = refl
-not_present false = refl
+units_end : (c : ℕ) (w : World) → (end c w).units ≡ left (session_of (present c w)) w.units
+unfolding end
+units_end c w = refl
 
-pub gone_stands : (s : Setting) (sent : ℕ → ℕ) (machine : Machine) (history : History) (c : ℕ) → c < connection_limit → Stands s sent machine history → Stands s (with_sent sent c 0) (with_link (closed machine c) c free_link) (history ++ plain (Gone c) ∷ [])
-unfolding closed end
+pub gone_stands : (s : Setting) (sent : ℕ → ℕ) (machine : Machine) (history : History) (c : ℕ) → c < connection_limit → Stands s sent machine history
+    → Stands s (with_sent sent c 0) (with_link (closed machine c) c free_link) (history ++ plain (Gone c) ∷ [])
+unfolding closed
 gone_stands s sent machine history c lt h =
     let w = world s history in
-    let over : Life → Life = λ life. record life { phase = Over } in
-    let v = end c w in
-    let link = h.links c lt in
-    let session : session_of (present c w) ≡ session_in_phase (link_at machine c).phase = sym (session_same s.names (present c w)) ∙ ap session_in_phase (sym link.phase) in
-    let units : v.units ≡ left (session_in_phase (link_at machine c).phase) machine.units = ap (λ (o : Option Params). left o w.units) session ∙ ap (left (session_in_phase (link_at machine c).phase)) (sym h.units) in
-    let none : present c v ≡ None = present-units c v (changed over c w) refl ∙ present-over over c w (λ life. not_present (eqb life.connection c)) in
+    let v = end c (fresh w) in
+    let none : present c v ≡ None = present-end c (fresh w) in
+    let same = ap (λ (m : Machine). m.units) h.is ∙ units_with s sent (λ k. half_of (present k w)) w in
+    let units : v.units ≡ left (session_in_phase (link_at machine c).phase) machine.units =
+    units_end c (fresh w) ∙ ap (λ (o : Option Life). left (session_of o) w.units) (present-fresh c w)
+    ∙ ap (λ (o : Option Params). left o w.units) (sym (session_at s sent (λ k. half_of (present k w)) w machine c lt (serving s sent w machine h)))
+    ∙ ap (left (session_in_phase (link_at machine c).phase)) (sym same) in
     let twice : set (set machine.links c (shut_link (link_at machine c))) c free_link ≡ set machine.links c free_link = set-set machine.links c (shut_link (link_at machine c)) free_link in
     stands_as s (with_sent sent c 0) (with_link (closed machine c) c free_link) history (plain (Gone c)) v refl
-    (rw twice (relinked s sent w v machine c 0 (left (session_in_phase (link_at machine c).phase) machine.units) free_link lt h units
-    (λ d differ. present-units d v (changed over c w) refl ∙ present-changed_other over c d w (λ life. refl) differ)
-    (rw none (free_is s.names))))
+    (rw twice (stands_one s sent w v machine c 0 (left (session_in_phase (link_at machine c).phase) machine.units) free_link lt h units
+    (λ d differ. present-end_other c d (fresh w) differ ∙ present-fresh d w) (rw none refl) (omega arith) (rw none tt) (rw none tt)))
 
--- ---- the machine, however it is written
+-- ---- bytes were sent
 
-pub stands_machine : (s : Setting) (sent : ℕ → ℕ) (history : History) (a b : Machine) → a ≡ b → Stands s sent a history → Stands s sent b history
-stands_machine s sent history a b e h = let P : Machine → Type 0 = λ m. Stands s sent m history in subst P e h
+sent_of : (names : List (List ℕ)) (sent n : ℕ) (half : List ℕ) (o : Option Life) → n ≤ length (link_of names sent half o).waiting → link_of names (sent + n) half o ≡ sent_link (link_of names sent half o) n
+sent_of names sent n half None le = ap (λ (l : List ℕ). let x : LinkState = record free_link { waiting = l } in x) (sym (drop-nil n))
+sent_of names sent n half (Some life) le = ap (λ (l : List ℕ). let x : LinkState = record (link_of names sent half (Some life)) { waiting = l } in x) (sym (drop-drop n sent (out_of life)))
 
--- only how many bytes were sent on each connection counts, however it is written
-pub stands_sent : (s : Setting) (sent other : ℕ → ℕ) (machine : Machine) (history : History) → ((c : ℕ) → c < connection_limit → sent c ≡ other c) → Stands s sent machine history → Stands s other machine history
-stands_sent s sent other machine history same h = record {
-  names = h.names;
-  units = h.units;
-  count = h.count;
-  links = λ c lt. (let e = same c lt in rw (← e) (h.links c lt));
-}
+pub sent_stands : (s : Setting) (sent : ℕ → ℕ) (machine : Machine) (history : History) (c n : ℕ) → c < connection_limit → n ≤ length (link_at machine c).waiting → Stands s sent machine history
+    → Stands s (with_sent sent c (sent c + n)) (with_link machine c (sent_link (link_at machine c) n)) history
+sent_stands s sent machine history c n lt le h =
+    let w = world s history in
+    let link = link_stands s sent w machine c lt h in
+    let units : w.units ≡ machine.units = sym (ap (λ (m : Machine). m.units) h.is ∙ units_with s sent (λ k. half_of (present k w)) w) in
+    let waits = waits_there s sent w machine c lt h in
+    let count : sent c + n ≤ length (out_now (present c w)) = (let was = h.answered c lt in let len = length-drop (sent c) (out_now (present c w)) in let same = ap length waits in omega arith) in
+    stands_one s sent w w machine c (sent c + n) machine.units (sent_link (link_at machine c) n) lt h units (λ d differ. refl)
+    (sent_of s.names (sent c) n (half_of (present c w)) (present c w) (subst (λ (l : LinkState). n ≤ length l.waiting) link le) ∙ ap (λ (l : LinkState). sent_link l n) (sym link))
+    count (h.quiet c lt) (h.short c lt)
+
+pub units_stand : (s : Setting) (sent : ℕ → ℕ) (w : World) (machine : Machine) → StandsAt s sent w machine → machine.units ≡ w.units
+units_stand s sent w machine h = ap (λ (m : Machine). m.units) h.is ∙ units_with s sent (λ c. half_of (present c w)) w

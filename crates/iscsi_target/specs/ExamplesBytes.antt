@@ -4,24 +4,27 @@ use Rattle.std.specs.Prelude.{ℕ, List, [], ◌∷◌, ◌++◌, take, drop, ma
 use Rattle.iscsi_pdu.specs.Frames.{frames, rest, has_frame, is_long, first_frame, frame_length}
 use Rattle.iscsi_target.specs.History.{History, arrivals, new_arrivals}
 use Rattle.scsi_unit.specs.Identity.{without_unit}
-use Rattle.scsi_unit.specs.Joined.{told, told_before}
-use Rattle.scsi_unit.specs.Medium.{MediumState, Disk, Tape}
-use Rattle.scsi_unit.specs.Unit.{free_unit, commanded, perform_at, lun_number}
+use Rattle.scsi_unit.specs.Joined.{told}
+use Rattle.scsi_unit.specs.Device.{DeviceState, opened, Tape}
+use Rattle.scsi_unit.specs.Checks.{judged}
+use Rattle.scsi_unit.specs.Lun.{lun_number}
+use Rattle.scsi_unit.specs.Unit.{free_unit, unit_done, performed_as}
 use Rattle.scsi_unit.specs.Units.{perform, join, leave}
 use Rattle.iscsi_login.specs.ExamplesLogin.{computed as login_computed}
 use Rattle.iscsi_login.specs.Session.{older}
 use Rattle.iscsi_session.specs.Examples.{computed as session_computed}
 use Rattle.iscsi_session.specs.Answers.{data_answers, scsi_answer}
 use Rattle.iscsi_target.specs.Life.{Life, reads, out_of}
-use Rattle.iscsi_target.specs.Acts.{is_login, carried_out}
-use Rattle.iscsi_target.specs.World.{Setting, present, changed, live, changed_units, close, end, is_marked, take_step, log_in, judge, act, act_all, finish, settle, serve, arrive, bring, world}
+use Rattle.iscsi_session.specs.Commands.{carried_out}
+use Rattle.iscsi_session.specs.Steps.{take_step as session_step, judge, act, finish, act_all, served, settled}
+use Rattle.iscsi_target.specs.World.{Setting, present, changed, live, changed_units, close, end, is_marked, take_step, log_in, worked, take_in, settle_one, settle, serve, is_login, arrive, bring, world}
 use Rattle.iscsi_target.specs.Output.{outputs}
 
 -- ---- what the target is made with
 
 -- a disk of 4096 zero blocks
-abbrev pub zero_disk : MediumState
-zero_disk = Disk (record { blocks = replicate 4096 (replicate 512 0); synced = false; failures = 0; honest = true; steady = true })
+abbrev pub zero_disk : DeviceState
+zero_disk = opened (record { blocks = replicate 4096 (replicate 512 0); synced = false; failures = 0; honest = true; steady = true })
 
 -- the target `t1` with LUN 0, a disk, and LUN 1, a tape
 abbrev pub one_target : Setting
@@ -36,7 +39,7 @@ are_read s history = map (λ (life : Life). reads life.phase) (world s history).
 
 -- what an example unfolds
 unfoldable pub computed : Bool
-unfolding frames rest has_frame is_long first_frame frame_length login_computed arrivals new_arrivals perform perform_at commanded told told_before without_unit lun_number join leave older session_computed data_answers scsi_answer out_of is_login carried_out present changed live changed_units close end is_marked take_step log_in judge act act_all finish settle serve arrive bring world outputs
+unfolding frames rest has_frame is_long first_frame frame_length login_computed arrivals new_arrivals perform performed_as judged unit_done told without_unit lun_number join leave older session_computed data_answers scsi_answer out_of carried_out session_step judge act finish act_all served settled present changed live changed_units close end is_marked take_step log_in worked take_in settle_one settle serve is_login arrive bring world outputs
 computed = true
 
 -- ---- Login requests (RFC 7143 §11.12)

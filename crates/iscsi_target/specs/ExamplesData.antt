@@ -1,7 +1,7 @@
 -- What reads are answered, computed from the definitions alone.
 use Rattle.std.specs.Prelude.{◌≡◌, ℕ, List, [], ◌∷◌, ◌++◌, replicate, Bool, true, false, None, refl}
 use Rattle.scsi_sense.specs.Done.{good}
-use Rattle.scsi_unit.specs.Commands.{good_with}
+use Rattle.scsi_sense.specs.Done.{good_with}
 use Rattle.iscsi_pdu.specs.Frames.{Frame}
 use Rattle.iscsi_pdu.specs.declared.answer.Answer.{Answer}
 use Rattle.iscsi_pdu.specs.declared.answer.Answer.TheVariants as answers

@@ -1,6 +1,7 @@
 -- Histories computed from the definitions alone, with the expected bytes written by hand.
 use Rattle.std.specs.Prelude.{◌≡◌, ℕ, List, [], ◌∷◌, ◌++◌, take, drop, true, false, refl}
-use Rattle.iscsi_target.specs.History.{Open, Bytes, Gone, Step, Judging, Taking, Doing, Ending, History, plain, marked}
+use Rattle.iscsi_target.specs.History.{Open, Bytes, Gone, Point, Arriving, Before, AtEnd, History, plain, marked}
+use Rattle.iscsi_session.specs.Steps.{Judging, Taking, Doing}
 use Rattle.iscsi_target.specs.Output.{outputs}
 use Rattle.iscsi_target.specs.ExamplesBytes.{computed, one_target, are_read, login_as, login_request, login_response, logged_in, refused, first_request, second_request, first_answer, second_answer, first_test, second_test, attention, attention_third, attention_late, ready_answer}
 
@@ -83,51 +84,55 @@ session_does_not_exist = refl
 
 -- ---- an allocation fails on connection 0, in the event that brings its first command, the frame of place 1
 
-abbrev failed_at : Step → History
-failed_at step =
-    plain (Open 0) ∷ plain (Open 1) ∷ plain (Bytes 0 login_request) ∷ marked (record { connection = 0; step = step } ∷ []) (Bytes 0 first_test) ∷
+abbrev failed_at : Point → History
+failed_at point =
+    plain (Open 0) ∷ plain (Open 1) ∷ plain (Bytes 0 login_request) ∷ marked (record { connection = 0; point = point } ∷ []) (Bytes 0 first_test) ∷
     plain (Bytes 1 (login_as 0x62 0x01 0x00 ++ first_test)) ∷ []
 
 abbrev unanswered : List (List ℕ)
 unanswered = logged_in ∷ (login_response 0x01 0x02 ++ attention) ∷ []
 
-before_it_is_judged : outputs one_target (failed_at (Judging 1)) ≡ unanswered
+before_it_arrives : outputs one_target (failed_at (Arriving 1)) ≡ unanswered
+unfolding computed
+before_it_arrives = refl
+
+before_it_is_judged : outputs one_target (failed_at (Before (Judging 1))) ≡ unanswered
 unfolding computed
 before_it_is_judged = refl
 
-before_it_is_taken : outputs one_target (failed_at (Taking 1 0)) ≡ unanswered
+before_it_is_taken : outputs one_target (failed_at (Before (Taking 1 0))) ≡ unanswered
 unfolding computed
 before_it_is_taken = refl
 
-before_it_is_done : outputs one_target (failed_at (Doing 1 0)) ≡ unanswered
+before_it_is_done : outputs one_target (failed_at (Before (Doing 1 0))) ≡ unanswered
 unfolding computed
 before_it_is_done = refl
 
 -- the frame sets off one command, so a mark at a second one names no step
-before_a_second_is_done : outputs one_target (failed_at (Doing 1 1)) ≡ (logged_in ++ attention) ∷ (login_response 0x01 0x02 ++ attention) ∷ []
+before_a_second_is_done : outputs one_target (failed_at (Before (Doing 1 1))) ≡ (logged_in ++ attention) ∷ (login_response 0x01 0x02 ++ attention) ∷ []
 unfolding computed
 before_a_second_is_done = refl
 
 -- an allocation fails before the second of two commands is done that the frame of place 2 lets be taken
-before_the_held_one_is_done : outputs one_target (plain (Open 0) ∷ plain (Bytes 0 (login_request ++ second_test)) ∷ marked (record { connection = 0; step = Doing 2 1 } ∷ []) (Bytes 0 first_test) ∷ []) ≡ (logged_in ++ attention_late) ∷ []
+before_the_held_one_is_done : outputs one_target (plain (Open 0) ∷ plain (Bytes 0 (login_request ++ second_test)) ∷ marked (record { connection = 0; point = Before (Doing 2 1) } ∷ []) (Bytes 0 first_test) ∷ []) ≡ (logged_in ++ attention_late) ∷ []
 unfolding computed
 before_the_held_one_is_done = refl
 
 -- an allocation fails before the second of two Login requests is answered: it closes the connection
-before_it_is_answered : outputs one_target (plain (Open 0) ∷ plain (Bytes 0 first_request) ∷ marked (record { connection = 0; step = Judging 1 } ∷ []) (Bytes 0 (second_request ++ first_test)) ∷ []) ≡ first_answer ∷ []
+before_it_is_answered : outputs one_target (plain (Open 0) ∷ plain (Bytes 0 first_request) ∷ marked (record { connection = 0; point = Arriving 1 } ∷ []) (Bytes 0 (second_request ++ first_test)) ∷ []) ≡ first_answer ∷ []
 unfolding computed
 before_it_is_answered = refl
 
 -- that connection alone is closed
-it_is_closed : are_read one_target (failed_at (Doing 1 0)) ≡ false ∷ true ∷ []
+it_is_closed : are_read one_target (failed_at (Before (Doing 1 0))) ≡ false ∷ true ∷ []
 unfolding computed
 it_is_closed = refl
 
 -- at the event's end it has been answered
-at_the_end : outputs one_target (failed_at Ending) ≡ (logged_in ++ attention) ∷ (login_response 0x01 0x02 ++ attention) ∷ []
+at_the_end : outputs one_target (failed_at AtEnd) ≡ (logged_in ++ attention) ∷ (login_response 0x01 0x02 ++ attention) ∷ []
 unfolding computed
 at_the_end = refl
 
-at_the_end_it_is_closed : are_read one_target (failed_at Ending) ≡ false ∷ true ∷ []
+at_the_end_it_is_closed : are_read one_target (failed_at AtEnd) ≡ false ∷ true ∷ []
 unfolding computed
 at_the_end_it_is_closed = refl

@@ -2,33 +2,44 @@
 use Rattle.std.specs.Prelude.{◌≡◌, false, ℕ, List, [], ◌∷◌, ◌++◌, length, drop, map, filter, Bool, true, ◌&&◌, not, ◌==◌, nat_lt, if◌then◌else◌}
 use Rattle.std.specs.List.{list_any, range_with_len, enumerate_from}
 use Rattle.iscsi_pdu.specs.Frames.{Frame, frames, rest, is_long}
+use Rattle.iscsi_session.specs.Steps.{Step, is_step, is_of}
 
 pub data Event : Type 0 where
   Open : (connection : ℕ) → Event
   Bytes : (connection : ℕ) (piece : List ℕ) → Event
   Gone : (connection : ℕ) → Event
 
--- A step of a connection in an event: a frame is judged, or answered where it is a Login request; the
--- act of taking a request; a command is done and answered; and then the event ends. The place is that of
--- the frame that sets off the step, among those of its connection. The turn counts the requests that this
--- frame lets be taken, and then the commands that are done, each from 0 on.
-pub data Step : Type 0 where
-  Judging : (place : ℕ) → Step
-  Taking : (place turn : ℕ) → Step
-  Doing : (place turn : ℕ) → Step
-  Ending : Step
+-- Where in an event an allocation can fail: as the frame of a place, among those of its connection, becomes whole; before
+-- a step of a session that it sets off; or at the event's end.
+pub data Point : Type 0 where
+  Arriving : (place : ℕ) → Point
+  Before : (step : Step) → Point
+  AtEnd : Point
 
--- the frame of this place sets off the step
-abbrev pub is_of : ℕ → Step → Bool
-is_of place (Judging p) = p == place
-is_of place (Taking p turn) = p == place
-is_of place (Doing p turn) = p == place
-is_of place Ending = false
+abbrev pub is_point : Point → Point → Bool
+is_point (Arriving p) (Arriving q) = p == q
+is_point (Arriving p) (Before b) = false
+is_point (Arriving p) AtEnd = false
+is_point (Before a) (Arriving q) = false
+is_point (Before a) (Before b) = is_step a b
+is_point (Before a) AtEnd = false
+is_point AtEnd (Arriving q) = false
+is_point AtEnd (Before b) = false
+is_point AtEnd AtEnd = true
 
--- an allocation failed: just before this step of this connection, it is closed as by a violation
+-- the point is of the frame of this place
+abbrev pub is_within : ℕ → Point → Bool
+is_within place (Arriving p) = p == place
+is_within place (Before step) = is_of place step
+is_within place AtEnd = false
+
+-- a point of a connection; in a history: there an allocation failed, and the connection is closed as by a violation
 pub record Mark : Type 0 where
   pub connection : ℕ
-  pub step : Step
+  pub point : Point
+
+abbrev pub is_same : Mark → Mark → Bool
+is_same a b = a.connection == b.connection && is_point a.point b.point
 
 -- an event, and where allocations failed in it
 pub record Happening : Type 0 where

@@ -16,20 +16,21 @@ pub use Rattle.iscsi_session.specs.Judging
 pub use Rattle.iscsi_session.specs.Acts as SessionActs
 pub use Rattle.iscsi_session.specs.Answers
 pub use Rattle.iscsi_session.specs.State
+pub use Rattle.iscsi_session.specs.Steps
 pub use Rattle.media_block.specs.Blocks
+pub use Rattle.scsi_unit.specs.Device
+pub use Rattle.scsi_unit.specs.State as UnitState
 pub use Rattle.scsi_unit.specs.Medium
 pub use Rattle.scsi_unit.specs.Unit
 pub use Rattle.scsi_unit.specs.Units
 pub mod History
 pub mod Life
-pub mod Acts
 pub mod World
 pub mod Output
 pub mod Events
 pub mod Machine
 pub mod Stands
 pub mod Serving
-pub mod Sessions
 pub mod Runs
 pub mod Laws
 pub mod ExamplesBytes

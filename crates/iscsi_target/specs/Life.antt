@@ -1,16 +1,16 @@
 -- A connection from an Open to its Gone: plain lists of what came and what was answered, and what is
 -- read from them.
-use Rattle.std.specs.Prelude.{ℕ, List, [], flat_map, Bool, true, false, Option, Some, None}
+use Rattle.std.specs.Prelude.{ℕ, List, [], ◌++◌, flat_map, Bool, true, false, Option, Some, None}
 use Rattle.iscsi_pdu.specs.Frames.{Frame}
 use Rattle.iscsi_pdu.specs.Answer.{spelling}
 use Rattle.iscsi_pdu.specs.declared.answer.Answer.{Answer}
 use Rattle.iscsi_login.specs.declared.params.Params.{Params}
-use Rattle.iscsi_session.specs.Requests.{Request, Past, due, queue, bearing}
+use Rattle.iscsi_session.specs.Requests.{Past}
 
 -- where a connection is (RFC 7143 §4.2.4 to §4.2.6)
 pub data Phase : Type 0 where
   LoggingIn : Phase
-  -- what has come of its session's requests
+  -- what has come of its session's requests, and what they were answered
   FullFeature : (session : Past) → Phase
   -- its frames are not read any more, and its session has ended
   Closing : Phase
@@ -24,7 +24,7 @@ pub record Life : Type 0 where
   pub phase : Phase
   -- its Login requests
   pub requests : List Frame
-  -- the stamped answers
+  -- the stamped answers, but for those of the session that goes on
   pub answers : List Answer
 
 abbrev pub born : ℕ → Life
@@ -34,33 +34,41 @@ born c = record { connection = c; bytes = []; phase = LoggingIn; requests = []; 
 abbrev pub reads : Phase → Bool
 reads LoggingIn = true
 reads (FullFeature session) = true
-reads _ = false
+reads Closing = false
+reads Over = false
 
 abbrev pub is_over : Phase → Bool
+is_over LoggingIn = false
+is_over (FullFeature session) = false
+is_over Closing = false
 is_over Over = true
-is_over _ = false
 
 abbrev pub past_in : Phase → Option Past
+past_in LoggingIn = None
 past_in (FullFeature session) = Some session
-past_in _ = None
+past_in Closing = None
+past_in Over = None
 
 abbrev pub session_in : Phase → Option Params
+session_in LoggingIn = None
 session_in (FullFeature session) = Some session.params
-session_in _ = None
+session_in Closing = None
+session_in Over = None
 
--- how many of its answers bore status (RFC 7143 §4.2.2.2)
-abbrev pub statuses : Life → ℕ
-statuses life = bearing life.answers
+abbrev pub session_answers : Phase → List Answer
+session_answers LoggingIn = []
+session_answers (FullFeature session) = session.answers
+session_answers Closing = []
+session_answers Over = []
 
--- the requests that are due to act, and the commands to be done
-abbrev pub due_in : Phase → List Request
-due_in (FullFeature session) = due session
-due_in _ = []
-
-abbrev pub queue_in : Phase → List Request
-queue_in (FullFeature session) = queue session
-queue_in _ = []
+-- all that it was answered
+abbrev pub answers_of : Life → List Answer
+answers_of life = life.answers ++ session_answers life.phase
 
 -- the answers of a life, each spelled, joined
 unfoldable pub out_of : Life → List ℕ
-out_of life = flat_map spelling life.answers
+out_of life = flat_map spelling (answers_of life)
+
+-- it reads no more frames, and its session has ended
+abbrev pub ended_in : Phase → Life → Life
+ended_in phase life = record life { phase = phase; answers = answers_of life }

@@ -55,20 +55,27 @@ link_at machine c = slice_index_or machine.links c free_link
 abbrev pub is_reading : Phase → Bool
 is_reading (Login login) = true
 is_reading (FullFeature session) = true
-is_reading _ = false
+is_reading Free = false
+is_reading Closing = false
 
 abbrev pub is_free : Phase → Bool
 is_free Free = true
-is_free _ = false
+is_free (Login login) = false
+is_free (FullFeature session) = false
+is_free Closing = false
 
 abbrev pub is_closing : Phase → Bool
 is_closing Closing = true
-is_closing _ = false
+is_closing Free = false
+is_closing (Login login) = false
+is_closing (FullFeature session) = false
 
 -- a login is under way
 abbrev pub is_logging_in : Phase → Bool
 is_logging_in (Login login) = true
-is_logging_in _ = false
+is_logging_in Free = false
+is_logging_in (FullFeature session) = false
+is_logging_in Closing = false
 
 -- the connection was opened and its Gone has not come
 abbrev pub is_open_at : Machine → ℕ → Bool
@@ -82,24 +89,12 @@ most_waiting = 1048576
 abbrev pub want_of : LinkState → ℕ
 want_of link = if is_closing link.phase || nat_lt most_waiting (length link.waiting) then 0 else wanted link.half
 
--- full feature phase
-abbrev pub is_in_session : Phase → Bool
-is_in_session (FullFeature session) = true
-is_in_session _ = false
-
--- how many requests of the session have not acted, and how many commands are to be done
-abbrev pub waiting_requests : Phase → ℕ
-waiting_requests (FullFeature session) = length session.tasks.held + length session.tasks.arrived
-waiting_requests _ = 0
-
-abbrev pub waiting_commands : Phase → ℕ
-waiting_commands (FullFeature session) = length session.tasks.queue
-waiting_commands _ = 0
-
 -- the session in full feature phase
 abbrev pub session_in_phase : Phase → Option Params
 session_in_phase (FullFeature session) = Some session.params
-session_in_phase _ = None
+session_in_phase Free = None
+session_in_phase (Login login) = None
+session_in_phase Closing = None
 
 abbrev pub sessions : List LinkState → Live
 sessions links = map (λ link. session_in_phase link.phase) links
@@ -113,16 +108,12 @@ opened_link c = record { half = []; phase = Login (new_login (c + 1)); waiting =
 abbrev pub shut_link : LinkState → LinkState
 shut_link link = record { half = []; phase = Closing; waiting = link.waiting }
 
--- a connection stays as it is, or nothing more is read on it
-abbrev pub StaysOrShuts : LinkState → LinkState → Type 0
-StaysOrShuts old new = (new ≡ old) ⊎ (new ≡ shut_link old)
-
--- What a piece of a connection's bytes does to every target, whatever its stores do: no connection is opened or ends,
--- another one stays as it is or closes, and what waited still waits.
-pub record Feeds (c : ℕ) (old new : Machine) : Type 0 where
+-- What a piece of bytes does to every target, whatever its stores do: no connection is opened or ends, what waited
+-- still waits, and one that is not read stays as it is.
+pub record Feeds (old new : Machine) : Type 0 where
   pub opens : (d : ℕ) → is_open_at new d ≡ is_open_at old d
-  pub others : (d : ℕ) → d ≢ c → StaysOrShuts (link_at old d) (link_at new d)
-  pub waits : (more : List ℕ) × ((link_at new c).waiting ≡ (link_at old c).waiting ++ more)
+  pub waits : (d : ℕ) → (more : List ℕ) × ((link_at new d).waiting ≡ (link_at old d).waiting ++ more)
+  pub still : (d : ℕ) → is_reading (link_at old d).phase ≡ false → link_at new d ≡ link_at old d
 
 -- a login is answered, and goes on
 abbrev pub gone_on_link : LoginState → Answer → LinkState → LinkState
@@ -132,7 +123,7 @@ abbrev pub refused_link : Answer → LinkState → LinkState
 refused_link answer link = record { half = []; phase = Closing; waiting = link.waiting ++ spelling answer }
 
 abbrev pub begun_link : Params → Answer → LinkState → LinkState
-begun_link session answer link = record link { phase = FullFeature (remembered session.next_stat_sn (begun_past session)); waiting = link.waiting ++ spelling answer }
+begun_link session answer link = record link { phase = FullFeature (remembered (begun_past session)); waiting = link.waiting ++ spelling answer }
 
 abbrev pub with_link : Machine → ℕ → LinkState → Machine
 with_link machine c link = record machine { links = slice_set machine.links c link }
@@ -176,7 +167,8 @@ pub record GivesFrame (frame : Frame) (before after : List ℕ) : Type 0 where
 abbrev pub IsWithin : ℕ → Phase → Type 0
 IsWithin count (FullFeature session) = (session.params.target < count) × AreInRange session.params.values
 IsWithin count (Login login) = AsksBelow count login.session × AreInRange login.values
-IsWithin count _ = ⊤
+IsWithin count Free = ⊤
+IsWithin count Closing = ⊤
 
 abbrev pub new_machine : List (List ℕ) → List UnitStates → Machine
 new_machine names units = record { names = names; units = units; links = replicate connection_limit free_link }

@@ -1,79 +1,161 @@
--- While the frames of one connection are taken, the code stands where the World does: what taking one
--- frame does to it, and what is left where an allocation fails.
-use Rattle.std.specs.Prelude.{◌≡◌, ◌≢◌, ℕ, ◌<◌, ◌≤◌, List, [], ◌∷◌, length, drop, true, false, Option, Some, None, ⊤}
-use Rattle.iscsi_pdu.specs.Frames.{Frame}
-use Rattle.iscsi_target.specs.History.{Mark, Step, is_of, Whole, connection_limit}
-use Rattle.iscsi_target.specs.Life.{Life}
-use Rattle.iscsi_target.specs.World.{Setting, World, present, reads_life, is_marked, arrive}
-use Rattle.iscsi_target.specs.Output.{out_now}
-use Rattle.iscsi_target.specs.Machine.{LinkState, Machine, IsSound, IsSure, Feeds, link_at, closed, is_reading}
-use Rattle.iscsi_target.specs.Stands.{phase_of, IsQuiet, IsLinkOf}
+-- While frames are taken, the code stands where the World does: what each call makes of both.
+use Rattle.std.specs.Prelude.{◌≡◌, ℕ, ◌+◌, ◌<◌, List, [], ◌∷◌, length, Bool, true, false, if◌then◌else◌, ◌&&◌, not, ◌==◌, nat_lt, Option, Some, None, Result, Ok, Err}
+use Rattle.std.specs.List.{list_all, fold, enumerate_from}
+use Rattle.iscsi_pdu.specs.Frames.{Frame, rest, is_long}
+use Rattle.iscsi_session.specs.Steps.{Step, Judging, Taking, Doing, is_doing, is_serving}
+use Rattle.iscsi_target.specs.History.{Point, Arriving, Before, AtEnd, Mark, is_within, Arrival, Whole, arrivals, connection_limit}
+use Rattle.iscsi_target.specs.World.{Setting, World, present, is_marked, arrive, settle_one, settle}
+use Rattle.iscsi_target.specs.Machine.{LinkState, Machine, IsSound, IsSure, Feeds, link_at, is_reading, closed}
+use Rattle.iscsi_target.specs.Stands.{IsQuiet, IsSent, IsFirst, machine_with, are_reached}
+use Rattle.iscsi_target.specs.declared.fault.Starved.{Starved}
 
--- ---- between two frames of a connection
+-- As StandsAt, but of the bytes that are no whole frame yet only that these are kept.
+pub record Serves (s : Setting) (sent : ℕ → ℕ) (half : ℕ → List ℕ) (w : World) (machine : Machine) : Type 0 where
+  pub is : machine ≡ machine_with s sent half w
+  pub answered : IsSent sent w
+  pub quiet : (c : ℕ) → c < connection_limit → IsQuiet (present c w)
 
-abbrev pub IsQuietAt : Option Life → Type 0
-IsQuietAt None = ⊤
-IsQuietAt (Some life) = IsQuiet life life.phase
+-- ---- which allocations failed
 
-abbrev pub bytes_now : Option Life → List ℕ
-bytes_now None = []
-bytes_now (Some life) = life.bytes
+-- no connection was closed as starved, or this one was the first
+abbrev pub first_starved : Result (Unit {0}) Starved → Option ℕ
+first_starved (Ok u) = None
+first_starved (Err starved) = Some starved.connection
 
--- as IsLinkOf, but of the bytes that are no whole frame yet nothing is said
-pub record IsServing (names : List (List ℕ)) (bytes : List ℕ) (sent : ℕ) (link : LinkState) (life : Option Life) : Type 0 where
-  pub phase : link.phase ≡ phase_of names life
-  pub answered : sent ≤ length (out_now life)
-  pub waiting : link.waiting ≡ drop sent (out_now life)
-  pub quiet : IsQuietAt life
-  -- what came on it, joined
-  pub held : bytes_now life ≡ bytes
+abbrev pub first_of : Option ℕ → Option ℕ → Option ℕ
+first_of None later = later
+first_of (Some c) later = Some c
 
--- The code stands where this World does, while the frames of connection c are taken.
-pub record Serves (c : ℕ) (bytes : List ℕ) (s : Setting) (sent : ℕ → ℕ) (w : World) (machine : Machine) : Type 0 where
-  pub names : machine.names ≡ s.names
-  pub units : machine.units ≡ w.units
-  pub count : length machine.links ≡ connection_limit
-  pub in_range : c < connection_limit
-  pub here : IsServing s.names bytes (sent c) (link_at machine c) (present c w)
-  pub others : (d : ℕ) → d < connection_limit → d ≢ c → IsLinkOf s.names (sent d) (link_at machine d) (present d w)
+-- what is left where a session's call told whether the session goes on, or that an allocation failed
+abbrev pub starved_by : {E : Type 0} → ℕ → Result Bool E → Option ℕ
+starved_by c (Ok goes_on) = None
+starved_by c (Err e) = Some c
 
--- ---- a frame is taken
+abbrev pub goes_on_by : {E : Type 0} → Result Bool E → Bool
+goes_on_by (Ok goes_on) = goes_on
+goes_on_by (Err e) = false
 
--- no mark names a step of the frame of this place
-abbrev pub Unmarked : List Mark → ℕ → ℕ → Type 0
-Unmarked marks c place = (step : Step) → is_of place step ≡ true → is_marked marks c step ≡ false
+abbrev pub ended_unless : {E : Type 0} → Result Bool E → ℕ → Machine → Machine
+ended_unless result c machine = if goes_on_by result then machine else closed machine c
+
+abbrev pub Begins : Option ℕ → List Mark → Type 0
+Begins None marks = marks ≡ []
+Begins (Some c) marks = IsFirst c marks
+
+-- of the marks of this kind, these are all there are
+abbrev pub Agrees : (Mark → Bool) → List Mark → List Mark → Type 0
+Agrees kind marks these = (mark : Mark) → kind mark ≡ true → is_marked marks mark.connection mark.point ≡ is_marked these mark.connection mark.point
+
+-- ---- what a call does
+
+-- What the call of an act did: where the code stood with a World, it stands with what the act makes of that World, whatever
+-- marks of other kinds there are. The place is that of the frame at work; halves is what is done to the bytes kept.
+pub record Does (kind : ℕ → Mark → Bool) (act : Setting → List Mark → ℕ → World → World) (halves : (ℕ → List ℕ) → ℕ → List ℕ)
+    (starved : Option ℕ) (given after : Machine) : Type 0 where
+  -- where allocations failed
+  pub failed : ℕ → List Mark
+  pub first : (place : ℕ) → Begins starved (failed place)
+  pub of_kind : (place : ℕ) → list_all (kind place) (failed place) ≡ true
+  pub stands : IsSound after → (s : Setting) (sent : ℕ → ℕ) (half : ℕ → List ℕ) (w : World) (place : ℕ) (marks : List Mark)
+      → Agrees (kind place) marks (failed place) → Serves s sent half w given
+      → Serves s sent (halves half) (act s marks place w) after × (are_reached (failed place) (act s marks place w) ≡ true)
+
+abbrev pub kept : (ℕ → List ℕ) → ℕ → List ℕ
+kept half c = half c
 
 -- a connection that still reads has kept its bytes, and one that does not has none
 pub record KeepsHalf (half : List ℕ) (link : LinkState) : Type 0 where
   pub reading : is_reading link.phase ≡ true → link.half ≡ half
   pub idle : is_reading link.phase ≡ false → link.half ≡ []
 
--- What taking a frame of connection c makes of a target.
-pub record Takes (c : ℕ) (frame : Frame) (given after : Machine) : Type 0 where
+-- What any such call makes of every target.
+pub record Moves (given after : Machine) : Type 0 where
   pub back : IsSound after → IsSound given
   pub sure : IsSure given → IsSure after
-  pub feeds : Feeds c given after
-  -- of the bytes behind the frame
-  pub keeps : is_reading (link_at given c).phase ≡ true → KeepsHalf (link_at given c).half (link_at after c)
-  -- where the code stood with the World, it stands with the World that took the frame, if no mark names a step of it
-  pub stands : IsSound after → (s : Setting) (sent : ℕ → ℕ) (w : World) (place : ℕ) (bytes : List ℕ) (marks : List Mark) → Unmarked marks c place → Serves c bytes s sent w given
-      → Serves c bytes s sent (arrive s marks c w (place, Whole frame)) after
+  pub feeds : Feeds given after
+  -- as many targets as before
+  pub units : length after.units ≡ length given.units
+  pub keeps : (c : ℕ) → is_reading (link_at given c).phase ≡ true → KeepsHalf (link_at given c).half (link_at after c)
 
--- ---- an allocation fails
+-- ---- the acts
 
--- it failed before this step
-abbrev pub starved : ℕ → Step → List Mark
-starved c step = record { connection = c; step = step } ∷ []
+-- the frame of this place sets off what is marked: its judging or a request that acts, or a command that is done
+abbrev pub is_of_frame : ℕ → Mark → Bool
+is_of_frame place mark = is_within place mark.point
 
--- An allocation failed while a frame of connection c was taken: what that makes of a target, once the
--- connection is closed.
-pub record Fails (c : ℕ) (frame : Frame) (given after : Machine) : Type 0 where
-  pub back : IsSound (closed after c) → IsSound given
-  pub sure : IsSure given → IsSure (closed after c)
-  pub feeds : Feeds c given (closed after c)
-  -- the step before which it failed, where the frame has this place
-  pub step : ℕ → Step
-  pub of_frame : (place : ℕ) → is_of place (step place) ≡ true
-  -- where the code stood with the World, it stands with the World that closed the connection before this step
-  pub stands : IsSound (closed after c) → (s : Setting) (sent : ℕ → ℕ) (w : World) (place : ℕ) (bytes : List ℕ) → Serves c bytes s sent w given → reads_life (present c w) ≡ true
-      → Serves c bytes s sent (arrive s (starved c (step place)) c w (place, Whole frame)) (closed after c)
+abbrev pub has_step : (Step → Bool) → Point → Bool
+has_step p (Arriving place) = false
+has_step p (Before step) = p step
+has_step p AtEnd = false
+
+abbrev pub is_taken_at : ℕ → Mark → Bool
+is_taken_at place mark = is_within place mark.point && has_step is_serving mark.point
+
+abbrev pub is_done_at : ℕ → Mark → Bool
+is_done_at place mark = is_within place mark.point && has_step is_doing mark.point
+
+-- of one connection, or of those below it
+abbrev pub is_done_by : ℕ → ℕ → Mark → Bool
+is_done_by c place mark = mark.connection == c && is_done_at place mark
+
+abbrev pub is_done_below : ℕ → ℕ → Mark → Bool
+is_done_below c place mark = nat_lt mark.connection c && is_done_at place mark
+
+-- a frame is taken
+abbrev pub Takes : ℕ → Frame → Option ℕ → Machine → Machine → Type 0
+Takes c frame starved given after = Does is_of_frame (λ s marks place w. arrive s marks c w (place, Whole frame)) kept starved given after
+
+-- ---- the frames of a piece
+
+-- of one connection other bytes are kept
+abbrev pub with_half : ℕ → List ℕ → (ℕ → List ℕ) → ℕ → List ℕ
+with_half c bytes half d = if d == c then bytes else half d
+
+-- the first of what is whole is taken
+pub record TakesOne (c : ℕ) (starved : Option ℕ) (old new : Machine) : Type 0 where
+  pub arrival : Arrival
+  -- the bytes behind it
+  pub more : List ℕ
+  pub front : arrivals (link_at old c).half ≡ arrival ∷ arrivals more
+  pub behind : is_reading (link_at new c).phase ≡ true → rest (link_at old c).half ≡ rest more
+  pub shorter : length more < length (link_at old c).half
+  pub kept : KeepsHalf more (link_at new c)
+  pub does : Does is_of_frame (λ s marks place w. arrive s marks c w (place, arrival)) (with_half c more) starved old new
+  pub back : IsSound new → IsSound old
+  pub sure : IsSure old → IsSure new
+  pub feeds : Feeds old new
+
+abbrev pub place_of : Step → ℕ
+place_of (Judging place) = place
+place_of (Taking place turn) = place
+place_of (Doing place turn) = place
+
+abbrev pub has_place : (ℕ → Bool) → Point → Bool
+has_place p (Arriving place) = p place
+has_place p (Before step) = p (place_of step)
+has_place p AtEnd = false
+
+-- the point is of one of so many frames, from a place on
+abbrev pub is_among : ℕ → ℕ → Mark → Bool
+is_among n place mark = has_place (λ p. not (nat_lt p place) && nat_lt p (place + n)) mark.point
+
+-- so many of what is whole are taken, one after the other
+abbrev pub TakesSome : ℕ → List Arrival → List ℕ → Option ℕ → Machine → Machine → Type 0
+TakesSome c done more starved old new =
+    Does (is_among (length done)) (λ s marks place w. fold (arrive s marks c) w (enumerate_from place done)) (with_half c more) starved old new
+
+-- all that is whole is taken
+pub record TakesAll (c : ℕ) (starved : Option ℕ) (old new : Machine) : Type 0 where
+  pub kept : KeepsHalf (rest (link_at old c).half) (link_at new c)
+  pub short : is_reading (link_at new c).phase ≡ true → is_long (rest (link_at old c).half) ≡ false
+  pub takes : TakesSome c (arrivals (link_at old c).half) (rest (link_at old c).half) starved old new
+  pub back : IsSound new → IsSound old
+  pub sure : IsSure old → IsSure new
+  pub feeds : Feeds old new
+
+-- the commands of the sessions of a target are done, or those of one connection
+abbrev pub Settles : ℕ → Option ℕ → Machine → Machine → Type 0
+Settles target starved given after = Does is_done_at (λ s marks place w. settle marks place target w) kept starved given after
+
+abbrev pub SettlesOne : ℕ → ℕ → Option ℕ → Machine → Machine → Type 0
+SettlesOne target c starved given after = Does (is_done_by c) (λ s marks place w. settle_one marks place target w c) kept starved given after

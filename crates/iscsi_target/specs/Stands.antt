@@ -1,73 +1,78 @@
 -- When the code stands where the World does: what it remembers is a function of the past.
-use Rattle.std.specs.Prelude.{◌≡◌, ◌⊎◌, ℕ, ◌+◌, ◌<◌, ◌≤◌, List, [], ◌∷◌, ◌++◌, length, drop, map, filter, true, false, ◌==◌, Option, Some, None, if◌then◌else◌, ⊤}
-use Rattle.iscsi_pdu.specs.Frames.{frames, rest, is_long}
+use Rattle.std.specs.Prelude.{◌≡◌, ℕ, ◌+◌, ◌<◌, ◌≤◌, List, [], ◌∷◌, length, drop, map, Bool, true, false, ◌==◌, Option, Some, None, if◌then◌else◌, ⊤}
+use Rattle.std.specs.List.{list_any, list_all}
+use Rattle.iscsi_pdu.specs.Frames.{rest, is_long}
 use Rattle.iscsi_login.specs.Login.{remembered}
 use Rattle.iscsi_session.specs.State.{IsLawful, remembered as session_remembered}
-use Rattle.iscsi_target.specs.History.{History, Mark, Judging, Ending, is_of, arrivals, connection_limit}
-use Rattle.iscsi_target.specs.Life.{Life, Phase, LoggingIn, FullFeature, Closing, Over, reads, statuses}
-use Rattle.iscsi_target.specs.World.{Setting, World, present, world}
+use Rattle.iscsi_target.specs.History.{Event, History, Point, Mark, is_same, connections, connection_limit}
+use Rattle.iscsi_target.specs.Life.{Life, Phase, LoggingIn, FullFeature, Closing, Over, reads, out_of}
+use Rattle.iscsi_target.specs.World.{Setting, World, present, happen, world}
 use Rattle.iscsi_target.specs.Output.{out_now}
-use Rattle.iscsi_target.specs.Machine.{Machine, LinkState, link_at}
+use Rattle.iscsi_target.specs.Machine.{Machine, LinkState, free_link}
 use Rattle.iscsi_target.specs.declared.phase.Phase as code
 use Rattle.iscsi_target.specs.declared.phase.Phase.TheVariants as phases
 
--- ---- what is remembered of a life
+-- ---- what is remembered
 
--- of a login, with these targets, what is remembered of its requests; of a session, what is remembered of
--- its past, behind the answers of its life
+-- of a login, with these targets, what is remembered of its requests; of a session, what is remembered of its past
 abbrev pub phase_for : List (List ℕ) → Life → Phase → code.Phase
 phase_for names life LoggingIn = phases.Login (remembered names (life.connection + 1) life.requests)
-phase_for names life (FullFeature session) = phases.FullFeature (session_remembered (statuses life) session)
+phase_for names life (FullFeature session) = phases.FullFeature (session_remembered session)
 phase_for names life Closing = phases.Closing
 phase_for names life Over = phases.Free
 
-abbrev pub phase_of : List (List ℕ) → Option Life → code.Phase
-phase_of names None = phases.Free
-phase_of names (Some life) = phase_for names life life.phase
+-- Of a connection's present life: these bytes, while frames are read; and what it was answered, without as many bytes
+-- at the front as were sent.
+abbrev pub link_of : List (List ℕ) → ℕ → List ℕ → Option Life → LinkState
+link_of names sent half None = free_link
+link_of names sent half (Some life) = record {
+  half = if reads life.phase then half else [];
+  phase = phase_for names life life.phase;
+  waiting = drop sent (out_of life);
+}
 
--- the bytes that are no whole frame yet, while frames are read
-abbrev pub half_in : Life → List ℕ
-half_in life = if reads life.phase then rest life.bytes else []
+unfoldable pub machine_with : Setting → (ℕ → ℕ) → (ℕ → List ℕ) → World → Machine
+machine_with s sent half w = record {
+  names = s.names;
+  units = w.units;
+  links = map (λ c. link_of s.names (sent c) (half c) (present c w)) connections;
+}
 
+-- the bytes that are no whole frame yet
 abbrev pub half_of : Option Life → List ℕ
 half_of None = []
-half_of (Some life) = half_in life
+half_of (Some life) = rest life.bytes
+
+abbrev pub machine_of : Setting → (ℕ → ℕ) → World → Machine
+machine_of s sent w = machine_with s sent (λ c. half_of (present c w)) w
 
 -- ---- what is true of each life between two events, whatever the history
 
--- each Login request was answered with status
-abbrev pub IsLogin : Life → Type 0
-IsLogin life = statuses life ≡ length life.requests
+abbrev pub IsQuietIn : Phase → Type 0
+IsQuietIn LoggingIn = ⊤
+IsQuietIn (FullFeature session) = IsLawful session
+IsQuietIn Closing = ⊤
+IsQuietIn Over = ⊤
 
-abbrev pub IsQuiet : Life → Phase → Type 0
-IsQuiet life LoggingIn = IsLogin life
-IsQuiet life (FullFeature session) = IsLawful session
-IsQuiet life Closing = ⊤
-IsQuiet life Over = ⊤
+abbrev pub IsQuiet : Option Life → Type 0
+IsQuiet None = ⊤
+IsQuiet (Some life) = IsQuietIn life.phase
 
-pub record IsSettledLife (life : Life) : Type 0 where
-  pub quiet : IsQuiet life life.phase
-  pub short : reads life.phase ≡ true → is_long (rest life.bytes) ≡ false
+-- where frames are read, no header that names too much data has come
+abbrev pub IsShort : Option Life → Type 0
+IsShort None = ⊤
+IsShort (Some life) = reads life.phase ≡ true → is_long (rest life.bytes) ≡ false
 
-abbrev pub IsSettled : Option Life → Type 0
-IsSettled None = ⊤
-IsSettled (Some life) = IsSettledLife life
-
--- What waits on a connection is what its present life was answered, without as many bytes at the front
--- as were sent.
-pub record IsLinkOf (names : List (List ℕ)) (sent : ℕ) (link : LinkState) (life : Option Life) : Type 0 where
-  pub phase : link.phase ≡ phase_of names life
-  pub half : link.half ≡ half_of life
-  pub answered : sent ≤ length (out_now life)
-  pub waiting : link.waiting ≡ drop sent (out_now life)
-  pub settled : IsSettled life
+-- no more was sent than was answered
+abbrev pub IsSent : (ℕ → ℕ) → World → Type 0
+IsSent sent w = (c : ℕ) → c < connection_limit → sent c ≤ length (out_now (present c w))
 
 -- The code stands where this World does, if of each connection's present life so many bytes were sent.
 pub record StandsAt (s : Setting) (sent : ℕ → ℕ) (w : World) (machine : Machine) : Type 0 where
-  pub names : machine.names ≡ s.names
-  pub units : machine.units ≡ w.units
-  pub count : length machine.links ≡ connection_limit
-  pub links : (c : ℕ) → c < connection_limit → IsLinkOf s.names (sent c) (link_at machine c) (present c w)
+  pub is : machine ≡ machine_of s sent w
+  pub answered : IsSent sent w
+  pub quiet : (c : ℕ) → c < connection_limit → IsQuiet (present c w)
+  pub short : (c : ℕ) → c < connection_limit → IsShort (present c w)
 
 -- The code stands where the World of this history does.
 abbrev pub Stands : Setting → (ℕ → ℕ) → Machine → History → Type 0
@@ -77,27 +82,17 @@ Stands s sent machine history = StandsAt s sent (world s history) machine
 abbrev pub with_sent : (ℕ → ℕ) → ℕ → ℕ → ℕ → ℕ
 with_sent sent c n d = if d == c then n else sent d
 
--- the first of the marks stands before a step of the frame of this place
-abbrev pub NamesFirst : ℕ → ℕ → List Mark → Type 0
-NamesFirst c place [] = ⊥
-NamesFirst c place (mark ∷ marks) = (mark.connection ≡ c) × (is_of place mark.step ≡ true)
+-- ---- allocations that failed
 
--- how many frames have come, and how many come with a further piece
-abbrev pub frames_before : Option Life → ℕ
-frames_before None = 0
-frames_before (Some life) = length (arrivals life.bytes)
+-- the first of the marks is of this connection
+abbrev pub IsFirst : ℕ → List Mark → Type 0
+IsFirst c [] = ⊥
+IsFirst c (mark ∷ marks) = mark.connection ≡ c
 
-abbrev pub frames_with : Option Life → List ℕ → ℕ
-frames_with None piece = 0
-frames_with (Some life) piece = frames_before (Some life) + length (frames (rest life.bytes ++ piece))
+abbrev pub are_reached : List Mark → World → Bool
+are_reached marks w = list_all (λ mark. list_any (is_same mark) w.reached) marks
 
--- it failed before the frame of this place is judged, or at the event's end where that frame does not come
-abbrev pub at_once : ℕ → ℕ → List Mark
-at_once c place = record { connection = c; step = Judging place } ∷ record { connection = c; step = Ending } ∷ []
-
--- An allocation failed in a piece's event: at once, before the piece was kept, or before a step of a frame
--- that the piece brings. Of a step there is one mark, so that the connection closes only where the step comes.
-pub record IsStarved (c : ℕ) (life : Option Life) (piece : List ℕ) (marks : List Mark) : Type 0 where
-  pub place : ℕ
-  pub first : NamesFirst c place marks
-  pub reached : ((place ≡ frames_before life) × (marks ≡ at_once c place)) ⊎ ((frames_before life ≤ place) × (place < frames_with life piece) × (length marks ≡ 1))
+-- Allocations failed at these points of an event, first at one of this connection, and each of the points was reached.
+pub record IsStarved (s : Setting) (w : World) (event : Event) (c : ℕ) (marks : List Mark) : Type 0 where
+  pub first : IsFirst c marks
+  pub reached : are_reached marks (happen s marks (record w { reached = [] }) event) ≡ true

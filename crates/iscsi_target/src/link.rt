@@ -1,20 +1,15 @@
 //! One connection: its bytes, its phase and what waits to be sent.
 
-ghost use Rattle.std.specs.Prelude.{All, ◌≡◌, ◌≢◌, ◌<◌, ◌≤◌, ◌+◌, ◌++◌, ◌∷◌, ℕ, List, [], true, false, None, length, map, string_bytes, drop, IsOk, IfOk, IfSome, IfNone, OnOk, OnErr, IfErr};
+ghost use Rattle.std.specs.Prelude.{◌≡◌, ◌<◌, ◌≤◌, ◌++◌, ◌∷◌, None, true, false, length, map, string_bytes, IfOk, IfSome, IfNone, OnOk, OnErr};
 ghost use Rattle.std.specs.Result.{IsErrOf};
-ghost use Rattle.iscsi_pdu.specs.Frames.{frames, rest, has_frame, is_long, frame_length, wanted};
-ghost use Rattle.scsi_unit.specs.Commands.{most_given};
-ghost use Rattle.scsi_unit.specs.Units.{AreSound, AreSure, join as join_units};
-ghost use Rattle.iscsi_login.specs.Values.{AreInRange};
-ghost use Rattle.iscsi_target.specs.Acts.{carried_out};
+ghost use Rattle.iscsi_pdu.specs.Frames.{frames, rest, has_frame, is_long, wanted};
 ghost use Rattle.iscsi_pdu.specs.Answer.{spelling};
+ghost use Rattle.scsi_unit.specs.Units.{join as join_units};
+ghost use Rattle.iscsi_login.specs.Values.{AreInRange};
 ghost use Rattle.iscsi_login.specs.Lookup.{lookup_in};
 ghost use Rattle.iscsi_login.specs.LoginState.{LoginState};
 ghost use Rattle.iscsi_login.specs.Login.{advanced, reply_of};
-ghost use Rattle.iscsi_target.specs.Machine.{LinkState, is_reading, is_logging_in, session_in_phase, free_link, opened_link, shut_link, begun_link, is_in_session, waiting_requests, waiting_commands, IsAnswered, IsWithin, sent_link};
-ghost use Rattle.iscsi_session.specs.Requests.{Past, due, queue};
-ghost use Rattle.iscsi_session.specs.declared.act.Act.TheVariants.{Taken};
-ghost use Rattle.iscsi_target.specs.Sessions.{IsSessionOf, JudgesTo, ActsTo, FinishesTo, StaysSession};
+ghost use Rattle.iscsi_target.specs.Machine.{LinkState, is_reading, is_logging_in, session_in_phase, free_link, opened_link, shut_link, begun_link, IsAnswered, IsWithin, sent_link};
 ghost use Rattle.iscsi_target.specs.declared.phase.Phase.TheVariants.{Login as UnderWay};
 
 use crate::fault::Memory;
@@ -22,9 +17,8 @@ use crate::phase::Phase;
 use bytes::BytesMut;
 use iscsi_login::{Login, Params, Reply};
 use iscsi_pdu::{Answer, Frame, Framer, LoginResponse, PduFault};
-use iscsi_session::{Act, Session, Verdict, make_room};
+use iscsi_session::Session;
 use media_store::Store;
-use scsi_sense::{AdditionalSense, Done, Nexus, Sense, SenseKey};
 use scsi_unit::Units;
 use std::alloc::Global;
 use std::marker::Model;
@@ -34,7 +28,7 @@ use std::marker::Model;
 pub(crate) struct Link {
     framer: Framer,
     pub phase: Phase,
-    waiting: BytesMut,
+    pub waiting: BytesMut,
 }
 
 impl Model for Link {
@@ -44,30 +38,6 @@ impl Model for Link {
     ghost Value = { LinkState };
 
     ghost view = { λ l. record { half = if is_reading l.phase then l.framer else []; phase = l.phase; waiting = l.waiting.items } };
-}
-
-/// A command with an additional header is answered INVALID FIELD IN CDB in place of being done. Where
-/// an allocation fails nothing changes.
-#[tactic(auto, unfolding(crate::specs::Acts::carried_out))]
-fn carry_out<S: Store>(
-    alloc: Global,
-    units: &mut Units<S>,
-    nexus: &Nexus,
-    frame: &Frame,
-) -> Result<Done, Memory>
-    ensures done { IfOk result (λ done. AreSound units.new → (units.new, done) ≡ carried_out units.old nexus.now frame.now) }
-    ensures back { AreSound units.new → AreSound units.old }
-    ensures sure { AreSure units.old → AreSure units.new }
-    ensures given { IfOk result (λ done. length done.given ≤ most_given) }
-    ensures err { OnErr result (units.new ≡ units.old) }
-{
-    let header = &frame.header;
-    if header.additional_length() > 0 {
-        let sense = Sense::new(SenseKey::IllegalRequest, AdditionalSense::InvalidFieldInCdb);
-        return Ok(Done::check_condition(alloc, sense));
-    }
-    let done = units.perform(nexus, header.lun(), header.cdb(), frame.body.as_slice())?;
-    Ok(done)
 }
 
 impl Link {
@@ -199,73 +169,6 @@ impl Link {
         }
         self.phase = Phase::FullFeature(Session::new(alloc, session));
         Ok(())
-    }
-
-    /// A frame of the session is judged, and answered where it is rejected. Where an allocation fails
-    /// nothing changes.
-    pub(crate) fn judge(&mut self, frame: Frame) -> Result<Verdict, Memory>
-        requires { is_in_session self.old.phase ≡ true }
-        ensures judged { IfOk result (λ v. (answered : ℕ) (past : Past) → IsSessionOf answered past self.old → JudgesTo answered past frame v self.old self.new) }
-        ensures stays { StaysSession self.old self.new }
-        ensures err { OnErr result (self.new ≡ self.old) }
-    {
-        let Phase::FullFeature(session) = &mut self.phase else {
-            return Ok(Verdict::Ignored);
-        };
-        let verdict = session.take(frame, &mut self.waiting)?;
-        Ok(verdict)
-    }
-
-    /// The next request of the session that was taken acts. Where an allocation fails nothing changes.
-    pub(crate) fn act(&mut self) -> Result<Act, Memory>
-        requires { is_in_session self.old.phase ≡ true }
-        ensures acts { IfOk result (λ a. (answered : ℕ) (past : Past) → IsSessionOf answered past self.old → ActsTo answered past a self.old self.new) }
-        ensures fewer { IfOk result (λ a. a ≡ Taken → waiting_requests self.new.phase < waiting_requests self.old.phase) }
-        ensures due { OnErr result ((answered : ℕ) (past : Past) → IsSessionOf answered past self.old → due past ≢ []) }
-        ensures stays { StaysSession self.old self.new }
-        ensures err { OnErr result (self.new ≡ self.old) }
-    {
-        let Phase::FullFeature(session) = &mut self.phase else {
-            return Ok(Act::Idle);
-        };
-        let act = session.act(&mut self.waiting)?;
-        Ok(act)
-    }
-
-    /// The first command of the session's queue is done on its target's units, and answered: whether
-    /// there was one. All room is made before the units act, so that where an allocation fails nothing
-    /// changes.
-    pub(crate) fn finish<S: Store>(
-        &mut self,
-        alloc: Global,
-        units: &mut [Units<S>],
-    ) -> Result<bool, Memory>
-        requires in_session { is_in_session self.old.phase ≡ true }
-        requires within { IsWithin (length units.old) self.old.phase }
-        ensures finishes { IfOk result (λ more. All AreSound units.new → (answered : ℕ) (past : Past) → IsSessionOf answered past self.old
-            → FinishesTo (queue past) answered past more self.old self.new units.old units.new) }
-        ensures fewer { IfOk result (λ more. more ≡ true → waiting_commands self.new.phase < waiting_commands self.old.phase) }
-        ensures queue { OnErr result ((answered : ℕ) (past : Past) → IsSessionOf answered past self.old → queue past ≢ []) }
-        ensures back { All AreSound units.new → All AreSound units.old }
-        ensures sure { All AreSure units.old → All AreSure units.new }
-        ensures stays { StaysSession self.old self.new }
-        ensures within { IsWithin (length units.old) self.new.phase }
-        ensures err { OnErr result (self.new ≡ self.old) }
-        ensures units_err { OnErr result (units.new ≡ units.old) }
-    {
-        let Phase::FullFeature(session) = &mut self.phase else {
-            return Ok(false);
-        };
-        let Some(frame) = session.first() else {
-            return Ok(false);
-        };
-        let params = session.params();
-        let pieces = make_room(alloc, &mut self.waiting, &params.values, frame)?;
-        let target = &mut units[params.target];
-        let done = carry_out(alloc, target, &params.nexus, frame)?;
-        // There is room for the answers, so nothing fails any more.
-        session.done(&mut self.waiting, pieces, &done);
-        Ok(true)
     }
 
     /// All that waits to be sent.

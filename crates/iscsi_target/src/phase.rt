@@ -18,20 +18,13 @@ pub(crate) enum Phase {
 
 impl Phase {
     ghost use Rattle.std.specs.Prelude.{◌≡◌};
-    ghost use Rattle.iscsi_target.specs.Machine.{is_reading, is_in_session, is_free, is_closing};
+    ghost use Rattle.iscsi_target.specs.Machine.{is_reading, is_free, is_closing};
 
     /// Frames are read in this phase.
     pub(crate) fn reads(&self) -> bool
         ensures { result ≡ is_reading self.now }
     {
         matches!(self, Phase::Login(_) | Phase::FullFeature(_))
-    }
-
-    /// Full feature phase.
-    pub(crate) fn is_in_session(&self) -> bool
-        ensures { result ≡ is_in_session self.now }
-    {
-        matches!(self, Phase::FullFeature(_))
     }
 
     /// The connection is not open.

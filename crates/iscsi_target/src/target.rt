@@ -3,19 +3,20 @@
 ghost use Rattle.std.specs.Prelude.{◌≡◌, ◌<◌, ◌≤◌, ◌+◌, ◌++◌, ◌∷◌, ℕ, List, [], true, false, length, map, replicate, IsOk, IfOk, IfErr, IfSome, IfNone, OnOk, OnErr, string_bytes};
 ghost use Rattle.std.specs.Result.{IsErrOf};
 ghost use Rattle.iscsi_pdu.specs.Frames.{has_frame, is_long};
-ghost use Rattle.iscsi_target.specs.History.{Open, Bytes, Gone, Mark, History, plain, marked};
+ghost use Rattle.iscsi_target.specs.History.{Open, Bytes, Gone, Mark, History, arrivals, plain, marked};
 ghost use Rattle.iscsi_target.specs.World.{Setting, present, world};
 ghost use Rattle.iscsi_target.specs.Machine.{LinkState, IsSound, WhereSound, IsSure, Feeds, free_link, opened_link, sent_link, new_machine, link_at, with_link, closed, begun, logged_in, is_logging_in, GivesFrame, is_reading, is_open_at, is_closing, want_of};
 ghost use Rattle.iscsi_target.specs.declared.phase.Phase.TheVariants.{Login};
 ghost use Rattle.iscsi_login.specs.LoginState.{LoginState};
 ghost use Rattle.iscsi_login.specs.Values.{AreInRange};
 ghost use Rattle.iscsi_target.specs.Stands.{Stands, IsStarved, with_sent};
-ghost use Rattle.iscsi_target.specs.Serving.{Takes, Fails};
+ghost use Rattle.iscsi_target.specs.Serving.{Takes, TakesOne, TakesAll, Moves, first_starved, ended_unless, starved_by};
 
 use crate::config::Config;
 use crate::fault::{Memory, Starved};
 use crate::link::Link;
 use crate::phase::Phase;
+use crate::serve::earlier_of;
 use crate::sessions::{named, older};
 use iscsi_login::Params;
 use iscsi_pdu::{Answer, Frame, Opcode, PduFault};
@@ -105,22 +106,21 @@ impl<S: Store> Target<S> {
 
     /// Takes the next piece of a connection's bytes, of any length: each frame that becomes whole
     /// is carried out and answered. Bytes on a closing connection are not read. `Starved`: an
-    /// allocation failed, and the connection is closing from then on; the others go on.
+    /// allocation failed, and the connection that it names is closing from then on; the others go on.
     pub fn feed(&mut self, c: usize, piece: &[u8]) -> Result<(), Starved>
         requires in_range { c < 64 }
         requires open { is_open_at self.old c ≡ true }
         ensures stands { OnOk result ((s : Setting) (sent : ℕ → ℕ) (h : History) → WhereSound self.old (Stands s sent self.old h)
             → WhereSound self.new (Stands s sent self.new (h ++ plain (Bytes c piece.now) ∷ []))) }
 
-        // An allocation that failed is a mark on the event, and nothing but one is.
-        ensures starved { OnErr result ((s : Setting) (sent : ℕ → ℕ) (h : History) → WhereSound self.old (Stands s sent self.old h)
-            → WhereSound self.new ((marks : List Mark) × IsStarved c (present c (world s h)) piece.now marks × Stands s sent self.new (h ++ marked marks (Bytes c piece.now) ∷ []))) }
+        // Allocations that failed are marks on the event, and nothing but these is.
+        ensures starved { IfErr result (λ starved. (s : Setting) (sent : ℕ → ℕ) (h : History) → WhereSound self.old (Stands s sent self.old h)
+            → WhereSound self.new ((marks : List Mark) × IsStarved s (world s h) (Bytes c piece.now) starved.connection marks
+            × Stands s sent self.new (h ++ marked marks (Bytes c piece.now) ∷ []))) }
         ensures sound { IsSound self.new → IsSound self.old }
         ensures sure { IsSure self.old → IsSure self.new }
-        ensures feeds { Feeds c self.old self.new }
+        ensures feeds { Feeds self.old self.new }
         ensures open { (d : ℕ) → is_open_at self.new d ≡ is_open_at self.old d }
-        ensures names { IfErr result (λ starved. starved.connection ≡ c) }
-        ensures closing { OnErr result (is_closing (link_at self.new c).phase ≡ true) }
         ensures empty { piece.now ≡ [] → IsOk result }
         ensures idle { is_closing (link_at self.old c).phase ≡ true → IsOk result }
     {
@@ -133,22 +133,7 @@ impl<S: Store> Target<S> {
         if let Err(Memory) = self.keep(c, piece) {
             return Err(self.starve(c));
         }
-        while self.reads(c) {
-            match self.next_frame(c) {
-                Ok(Some(frame)) => {
-                    if let Err(Memory) = self.take_frame(c, frame) {
-                        return Err(self.starve(c));
-                    }
-                }
-                Ok(None) => return Ok(()),
-                Err(PduFault::TooLong) => {
-                    self.close(c);
-                    return Ok(());
-                }
-                Err(PduFault::Memory) => return Err(self.starve(c)),
-            }
-        }
-        Ok(())
+        self.take_frames(c)
     }
 
     /// A connection has ended, and its number is free again. What waits on it is dropped.
@@ -257,7 +242,7 @@ impl<S: Store> Target<S> {
     }
 
     /// An allocation failed: the connection closes.
-    fn starve(&mut self, c: usize) -> Starved
+    pub(crate) fn starve(&mut self, c: usize) -> Starved
         requires { c < 64 }
         ensures closed { self.new ≡ closed self.old c }
         ensures count { length self.old.links ≡ 64 }
@@ -290,29 +275,107 @@ impl<S: Store> Target<S> {
         ensures too_long { IsErrOf result PduFault.TooLong → is_long (link_at self.old c).half ≡ true }
         ensures memory { IsErrOf result PduFault.Memory → has_frame (link_at self.old c).half ≡ true }
         ensures err { OnErr result (self.new ≡ self.old) }
+        ensures count { length self.old.links ≡ 64 }
     {
         let link = &mut self.links[c];
         link.next_frame()
     }
 
-    /// One frame of a connection, in its phase. Where an allocation fails the connection is to be
-    /// closed, as just before one of the frame's steps.
-    #[tactic(auto, unfolding(crate::specs::Acts::is_login))]
-    fn take_frame(&mut self, c: usize, frame: Frame) -> Result<(), Memory>
-        requires { c < 64 }
-        ensures ok { OnOk result (Takes c frame self.old self.new) }
-        ensures err { OnErr result (Fails c frame self.old self.new) }
+    /// The whole frames of a connection are taken, one after the other.
+    fn take_frames(&mut self, c: usize) -> Result<(), Starved>
+        requires in_range { c < 64 }
+        requires reads { is_reading (link_at self.old c).phase ≡ true }
+        ensures takes { TakesAll c (first_starved result) self.old self.new }
     {
-        match &self.links[c].phase {
-            Phase::Free | Phase::Closing => Ok(()),
-            Phase::Login(_) => {
-                if frame.header.opcode() == Opcode::Login {
-                    return self.log_in(c, &frame);
-                }
+        let mut outcome = Ok(());
+        while self.reads(c) {
+            let Some(taken) = self.take_next(c) else {
+                break;
+            };
+            outcome = earlier_of(outcome, taken);
+        }
+        outcome
+    }
+
+    /// The first whole frame of a connection is taken, where there is one. A header that names too much
+    /// data is a violation.
+    fn take_next(&mut self, c: usize) -> Option<Result<(), Starved>>
+        requires in_range { c < 64 }
+        requires reads { is_reading (link_at self.old c).phase ≡ true }
+        ensures takes { IfSome result (λ taken. TakesOne c (first_starved taken) self.old self.new) }
+        ensures none { IfNone result (self.new ≡ self.old) }
+        ensures whole { IfNone result (arrivals (link_at self.old c).half ≡ []) }
+    {
+        match self.next_frame(c) {
+            Ok(Some(frame)) => Some(self.take_frame(c, frame)),
+            Ok(None) => None,
+            Err(PduFault::TooLong) => {
+                self.close(c);
+                Some(Ok(()))
+            }
+            Err(PduFault::Memory) => Some(Err(self.starve(c))),
+        }
+    }
+
+    /// One frame of a connection, in its phase. Where an allocation fails that connection is closed, as just
+    /// before one of the frame's steps.
+    fn take_frame(&mut self, c: usize, frame: Frame) -> Result<(), Starved>
+        requires { c < 64 }
+        ensures takes { Takes c frame (first_starved result) self.old self.new }
+        ensures moves { Moves self.old self.new }
+    {
+        let link = &mut self.links[c];
+        match &mut link.phase {
+            Phase::Free => Ok(()),
+            Phase::Closing => Ok(()),
+            Phase::Login(_) => self.enter(c, &frame),
+            Phase::FullFeature(session) => {
+                let target = session.params().target;
+                let goes_on = session.serve(frame, &mut link.waiting);
+                let served = self.end_unless(c, goes_on);
+                let settled = self.settle(target);
+                earlier_of(served, settled)
+            }
+        }
+    }
+
+    /// The first frame of a connection is a Login request, or a violation.
+    #[tactic(auto, unfolding(crate::specs::World::is_login))]
+    fn enter(&mut self, c: usize, frame: &Frame) -> Result<(), Starved>
+        requires in_range { c < 64 }
+        requires logs_in { is_logging_in (link_at self.old c).phase ≡ true }
+        ensures takes { Takes c frame.now (first_starved result) self.old self.new }
+        ensures moves { Moves self.old self.new }
+    {
+        if frame.header.opcode() == Opcode::Login {
+            return match self.log_in(c, frame) {
+                Ok(()) => Ok(()),
+                Err(Memory) => Err(self.starve(c)),
+            };
+        }
+        self.close(c);
+        Ok(())
+    }
+
+    /// A session that does not go on is closed.
+    fn end_unless(
+        &mut self,
+        c: usize,
+        goes_on: Result<bool, iscsi_session::Memory>,
+    ) -> Result<(), Starved>
+        requires { c < 64 }
+        ensures value { first_starved result ≡ starved_by c goes_on }
+        ensures same { self.new ≡ ended_unless goes_on c self.old }
+        ensures count { length self.old.links ≡ 64 }
+    {
+        let _ = &self.alloc;
+        match goes_on {
+            Ok(true) => Ok(()),
+            Ok(false) => {
                 self.close(c);
                 Ok(())
             }
-            Phase::FullFeature(_) => self.serve(c, frame),
+            Err(iscsi_session::Memory) => Err(self.starve(c)),
         }
     }
 
@@ -323,6 +386,7 @@ impl<S: Store> Target<S> {
         requires logs_in { is_logging_in (link_at self.old c).phase ≡ true }
         ensures ok { OnOk result ((login : LoginState) → (link_at self.old c).phase ≡ Login login → self.new ≡ logged_in self.old c login request.now) }
         ensures err { OnErr result (closed self.new c ≡ closed self.old c) }
+        ensures count { length self.old.links ≡ 64 }
     {
         let named = named(self.links.as_slice(), request.header.tsih())?;
         let targets = self.config.targets.as_slice();
@@ -335,7 +399,7 @@ impl<S: Store> Target<S> {
 
     /// Full feature phase begins, and an older session of the same nexus with the same target is
     /// ended. Where an allocation fails nothing changes.
-    #[tactic(auto, unfolding(crate::specs::World::changed_units, iscsi_session::specs::State::remembered))]
+    #[tactic(auto, unfolding(crate::specs::World::changed_units))]
     fn begin(&mut self, c: usize, session: Params, answer: &Answer) -> Result<(), Memory>
         requires in_range { c < 64 }
         requires reads { is_reading (link_at self.old c).phase ≡ true }

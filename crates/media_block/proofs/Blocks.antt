@@ -1,9 +1,9 @@
 -- Blocks of a content: how many there are, those before a place, from a place on, and in a range.
-use Rattle.std.proofs.Common.{◌≡◌, ℕ, zero, suc, ◌+◌, ◌-◌, ◌*◌, ◌≤◌, List, ◌∷◌, ◌++◌, length, take, drop, refl, ap, sym, ◌∙◌, arith}
+use Rattle.std.proofs.Common.{◌≡◌, ℕ, zero, suc, ◌+◌, ◌-◌, ◌*◌, ◌≤◌, List, ◌∷◌, ◌++◌, length, take, drop, refl, ap, sym, ◌∙◌, arith, length-drop}
 use Rattle.std.specs.List.{concat}
 use Rattle.std.proofs.Math.Seq.{take-add}
 use Rattle.std.proofs.lemmas.List.{take-take, drop-take, drop-drop, take-append-drop, take_at, drop_at, length-take-le}
-use Rattle.media_block.specs.Blocks.{block_length, blocks_of, data_of, replaced, KeepsOthers}
+use Rattle.media_block.specs.Blocks.{block_length, blocks_of, data_of, replaced, AreWhole, KeepsOthers}
 
 pub length-blocks_of : (count : ℕ) (content : List ℕ) → length (blocks_of count content) ≡ count
 unfolding blocks_of
@@ -60,6 +60,14 @@ data_of-blocks_of first count n content within =
     let many : first + count - first ≡ count = omega arith in
     rw (many, drop-blocks_of first n content (omega arith), take-blocks_of count (n - first) (drop (block_length * first) content) (omega arith))
     (concat-blocks_of count (drop (block_length * first) content))
+
+-- which is as long as so many blocks, where the content is
+pub whole-blocks_of : (n : ℕ) (content : List ℕ) → length content ≡ block_length * n → AreWhole (blocks_of n content)
+whole-blocks_of n content long first count within =
+    let below : first + count ≤ n = omega (arith, within, length-blocks_of n content) in
+    let place = length-drop (block_length * first) content in
+    ap length (data_of-blocks_of first count n content below)
+    ∙ length-take-le (block_length * count) (drop (block_length * first) content) (omega (arith, place, long, below))
 
 -- as many bytes as blocks come first, and then others
 blocks_of-append : (count rest : ℕ) (bytes content : List ℕ) → length bytes ≡ block_length * count

@@ -1,5 +1,5 @@
 -- Where the data of blocks differs from bytes.
-use Rattle.std.proofs.Common.{◌≡◌, ℕ, ◌+◌, ◌-◌, ◌*◌, ◌<◌, List, [], ◌∷◌, ◌++◌, length, take, drop, slice_range, Some, None, option_map, refl, ap, sym, ◌∙◌, arith}
+use Rattle.std.proofs.Common.{◌≡◌, ℕ, ◌+◌, ◌-◌, ◌*◌, ◌≤◌, List, [], ◌∷◌, ◌++◌, length, take, drop, slice_range, Some, None, option_map, refl, ap, sym, ◌∙◌, arith}
 use Rattle.std.specs.List.{concat}
 use Rattle.std.proofs.Math.Seq.{take-add}
 use Rattle.std.proofs.lemmas.List.{append_assoc, drop-drop, take-append-drop, length-append, length-take-le}
@@ -35,57 +35,55 @@ first_difference-front (x ∷ xs) (y ∷ ys) us vs at differ =
     let later = first_difference-front xs ys us vs in
     grind (arith, later)
 
--- bytes in front of a block, those against it, and those behind it
-bytes-parts : (bytes : List ℕ) (k : ℕ)
-    → take (block_length * k) bytes ++ (slice_range bytes (block_length * k) (block_length * k + block_length) ++ drop (block_length * k + block_length) bytes) ≡ bytes
-bytes-parts bytes k =
-    let many : block_length * k + block_length - block_length * k ≡ block_length = omega arith in
-    rw (many, ← drop-drop block_length (block_length * k) bytes, take-append-drop block_length (drop (block_length * k) bytes)) (take-append-drop (block_length * k) bytes)
+-- bytes in front of some blocks, those against them, and those behind them
+bytes-parts : (bytes : List ℕ) (k p : ℕ)
+    → take (block_length * k) bytes ++ (slice_range bytes (block_length * k) (block_length * k + block_length * p) ++ drop (block_length * k + block_length * p) bytes) ≡ bytes
+bytes-parts bytes k p =
+    let many : block_length * k + block_length * p - block_length * k ≡ block_length * p = omega arith in
+    rw (many, ← drop-drop (block_length * p) (block_length * k) bytes, take-append-drop (block_length * p) (drop (block_length * k) bytes)) (take-append-drop (block_length * k) bytes)
 
--- the bytes as far as a block, and those against it
-bytes-more : (bytes : List ℕ) (k : ℕ)
-    → take (block_length * k) bytes ++ slice_range bytes (block_length * k) (block_length * k + block_length) ≡ take (block_length * (k + 1)) bytes
-bytes-more bytes k =
-    let many : block_length * k + block_length - block_length * k ≡ block_length = omega arith in
-    let place : block_length * (k + 1) ≡ block_length * k + block_length = omega arith in
-    rw (many, place) (sym (take-add (block_length * k) block_length bytes))
+-- the bytes as far as some blocks, and those against them
+bytes-more : (bytes : List ℕ) (k p : ℕ)
+    → take (block_length * k) bytes ++ slice_range bytes (block_length * k) (block_length * k + block_length * p) ≡ take (block_length * (k + p)) bytes
+bytes-more bytes k p =
+    let many : block_length * k + block_length * p - block_length * k ≡ block_length * p = omega arith in
+    let place : block_length * (k + p) ≡ block_length * k + block_length * p = omega arith in
+    rw (many, place) (sym (take-add (block_length * k) (block_length * p) bytes))
 
--- none before block k, and one in it
-pub found-difference : (blocks : List (List ℕ)) (first count k at : ℕ) (bytes held : List ℕ) → k < count → length bytes ≡ block_length * count
+-- none before block k, and one in the p blocks from there on
+pub found-difference : (blocks : List (List ℕ)) (first count k p at : ℕ) (bytes : List ℕ) → k + p ≤ count → length bytes ≡ block_length * count
     → length (data_of blocks first k) ≡ block_length * k → first_difference (data_of blocks first k) (take (block_length * k) bytes) ≡ None
-    → held ≡ data_of blocks (first + k) 1
-    → Some at ≡ first_difference held (slice_range bytes (block_length * k) (block_length * k + block_length))
+    → Some at ≡ first_difference (data_of blocks (first + k) p) (slice_range bytes (block_length * k) (block_length * k + block_length * p))
     → Some (block_length * k + at) ≡ first_difference (data_of blocks first count) bytes
-found-difference blocks first count k at bytes held below long long_front same is differ =
-    let part = slice_range bytes (block_length * k) (block_length * k + block_length) in
-    let rest = drop (block_length * k + block_length) bytes in
-    let behind = data_of blocks (first + k + 1) (count - k - 1) in
-    let parts : data_of blocks first count ≡ data_of blocks first k ++ (data_of blocks (first + k) 1 ++ behind) =
-    let counts : count ≡ k + (1 + (count - k - 1)) = omega arith in
-    ap (data_of blocks first) counts ∙ data_of-add blocks first k (1 + (count - k - 1)) ∙ ap (λ (xs : List ℕ). data_of blocks first k ++ xs) (data_of-add blocks (first + k) 1 (count - k - 1)) in
+found-difference blocks first count k p at bytes below long long_front same differ =
+    let part = slice_range bytes (block_length * k) (block_length * k + block_length * p) in
+    let rest = drop (block_length * k + block_length * p) bytes in
+    let behind = data_of blocks (first + k + p) (count - k - p) in
+    let parts : data_of blocks first count ≡ data_of blocks first k ++ (data_of blocks (first + k) p ++ behind) =
+    let counts : count ≡ k + (p + (count - k - p)) = omega arith in
+    ap (data_of blocks first) counts ∙ data_of-add blocks first k (p + (count - k - p)) ∙ ap (λ (xs : List ℕ). data_of blocks first k ++ xs) (data_of-add blocks (first + k) p (count - k - p)) in
     let as_long : length (data_of blocks first k) ≡ length (take (block_length * k) bytes) = long_front ∙ sym (length-take-le (block_length * k) bytes (omega arith)) in
-    let here : first_difference (data_of blocks (first + k) 1 ++ behind) (part ++ rest) ≡ Some at =
-    first_difference-front (data_of blocks (first + k) 1) part behind rest at (rw is at (sym differ)) in
-    let shifted : first_difference (data_of blocks first k ++ (data_of blocks (first + k) 1 ++ behind)) (take (block_length * k) bytes ++ (part ++ rest)) ≡ Some (at + length (data_of blocks first k)) =
-    first_difference-behind (data_of blocks first k) (take (block_length * k) bytes) (data_of blocks (first + k) 1 ++ behind) (part ++ rest) as_long same ∙ rw here refl in
+    let here : first_difference (data_of blocks (first + k) p ++ behind) (part ++ rest) ≡ Some at =
+    first_difference-front (data_of blocks (first + k) p) part behind rest at (sym differ) in
+    let shifted : first_difference (data_of blocks first k ++ (data_of blocks (first + k) p ++ behind)) (take (block_length * k) bytes ++ (part ++ rest)) ≡ Some (at + length (data_of blocks first k)) =
+    first_difference-behind (data_of blocks first k) (take (block_length * k) bytes) (data_of blocks (first + k) p ++ behind) (part ++ rest) as_long same ∙ rw here refl in
     let place : block_length * k + at ≡ at + length (data_of blocks first k) = omega (arith, long_front) in
-    ap (λ (n : ℕ). Some n) place ∙ sym (rw (← parts, bytes-parts bytes k) at shifted)
+    ap (λ (n : ℕ). Some n) place ∙ sym (rw (← parts, bytes-parts bytes k p) at shifted)
 
--- none before block k, and none in it
-pub no-difference : (blocks : List (List ℕ)) (first count k : ℕ) (bytes held : List ℕ) → k < count → length bytes ≡ block_length * count
+-- none before block k, and none in the p blocks from there on
+pub no-difference : (blocks : List (List ℕ)) (first count k p : ℕ) (bytes : List ℕ) → k + p ≤ count → length bytes ≡ block_length * count
     → length (data_of blocks first k) ≡ block_length * k → first_difference (data_of blocks first k) (take (block_length * k) bytes) ≡ None
-    → held ≡ data_of blocks (first + k) 1
-    → None ≡ first_difference held (slice_range bytes (block_length * k) (block_length * k + block_length))
-    → first_difference (data_of blocks first (k + 1)) (take (block_length * (k + 1)) bytes) ≡ None
-no-difference blocks first count k bytes held below long long_front same is none =
-    let part = slice_range bytes (block_length * k) (block_length * k + block_length) in
+    → None ≡ first_difference (data_of blocks (first + k) p) (slice_range bytes (block_length * k) (block_length * k + block_length * p))
+    → first_difference (data_of blocks first (k + p)) (take (block_length * (k + p)) bytes) ≡ None
+no-difference blocks first count k p bytes below long long_front same none =
+    let part = slice_range bytes (block_length * k) (block_length * k + block_length * p) in
     let as_long : length (data_of blocks first k) ≡ length (take (block_length * k) bytes) = long_front ∙ sym (length-take-le (block_length * k) bytes (omega arith)) in
-    let here : first_difference (data_of blocks (first + k) 1) part ≡ None = rw is at (sym none) in
-    rw (data_of-add blocks first k 1, ← bytes-more bytes k)
-    (first_difference-behind (data_of blocks first k) (take (block_length * k) bytes) (data_of blocks (first + k) 1) part as_long same ∙ rw here refl)
+    rw (data_of-add blocks first k p, ← bytes-more bytes k p)
+    (first_difference-behind (data_of blocks first k) (take (block_length * k) bytes) (data_of blocks (first + k) p) part as_long same ∙ rw (← none) refl)
 
--- one block more
-pub length-data_of-more : (blocks : List (List ℕ)) (first k : ℕ) → length (data_of blocks first k) ≡ block_length * k → length (data_of blocks (first + k) 1) ≡ block_length
-    → length (data_of blocks first (k + 1)) ≡ block_length * (k + 1)
-length-data_of-more blocks first k front here =
-    rw (data_of-add blocks first k 1, length-append (data_of blocks first k) (data_of blocks (first + k) 1)) (omega (arith, front, here))
+-- some blocks more
+pub length-data_of-more : (blocks : List (List ℕ)) (first k p : ℕ) → length (data_of blocks first k) ≡ block_length * k
+    → length (data_of blocks (first + k) p) ≡ block_length * p
+    → length (data_of blocks first (k + p)) ≡ block_length * (k + p)
+length-data_of-more blocks first k p front here =
+    rw (data_of-add blocks first k p, length-append (data_of blocks first k) (data_of blocks (first + k) p)) (omega (arith, front, here))

@@ -1,5 +1,5 @@
 -- A disk as a list of blocks (SBC-3 "Logical blocks"), and what commands do to it.
-use Rattle.std.specs.Prelude.{◌≡◌, ℕ, zero, suc, ◌+◌, ◌/◌, ◌%◌, List, [], ◌∷◌, ◌++◌, length, take, drop, Bool, ◌==◌, ◌&&◌, nat_lt, Option, Some, None, option_map, slice_range, if◌then◌else◌}
+use Rattle.std.specs.Prelude.{◌≡◌, ℕ, zero, suc, ◌+◌, ◌*◌, ◌≤◌, ◌/◌, ◌%◌, List, [], ◌∷◌, ◌++◌, length, take, drop, Bool, ◌==◌, ◌&&◌, nat_lt, Option, Some, None, option_map, slice_range, if◌then◌else◌}
 use Rattle.std.specs.List.{concat}
 
 -- profile: the bytes of a block
@@ -22,6 +22,10 @@ disk_of content = blocks_of (length content / block_length) content
 -- SBC-3 "READ (10) command": the data of so many blocks from the first one on
 abbrev pub data_of : List (List ℕ) → ℕ → ℕ → List ℕ
 data_of blocks first count = concat (slice_range blocks first (first + count))
+
+-- own: the data of blocks is as long as so many blocks
+abbrev pub AreWhole : List (List ℕ) → Type 0
+AreWhole blocks = (first count : ℕ) → first + count ≤ length blocks → length (data_of blocks first count) ≡ block_length * count
 
 -- SBC-3 "WRITE (10) command": other blocks in the place of as many from the first one on
 abbrev pub replaced : ℕ → List (List ℕ) → List (List ℕ) → List (List ℕ)

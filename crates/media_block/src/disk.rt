@@ -1,9 +1,9 @@
 //! The calls on a disk.
 
-ghost use Rattle.std.specs.Prelude.{◌≡◌, ◌+◌, ◌*◌, ◌<◌, ◌≤◌, ◌==◌, length, replicate, true, false, is_ok, if◌then◌else◌, IsTrue, IsOk, IfOk, IfErr, OnOk, OnErr};
+ghost use Rattle.std.specs.Prelude.{◌≡◌, ◌+◌, ◌*◌, ◌<◌, ◌≤◌, ◌==◌, length, replicate, true, false, is_ok, if◌then◌else◌, IsTrue, IsOk, IfOk, IfSome, IfErr, OnOk, OnErr};
 ghost use Rattle.media_store.specs.Failures.{counted};
 ghost use Rattle.media_block.specs.Fault.{failures_after};
-ghost use Rattle.media_block.specs.Blocks.{block_length, blocks_of, is_disk, disk_of, data_of, replaced, first_difference, KeepsOthers};
+ghost use Rattle.media_block.specs.Blocks.{block_length, blocks_of, is_disk, disk_of, data_of, replaced, first_difference, AreWhole, KeepsOthers};
 
 use crate::difference::difference;
 use crate::fault::{DiskOpenFault, NotOpened};
@@ -12,6 +12,11 @@ use std::marker::Model;
 
 /// The bytes of a block.
 pub const BLOCK_LENGTH: usize = 512;
+
+/// The most blocks that are compared at a time.
+const PART: u64 = 16;
+
+const PART_LENGTH: usize = 16 * BLOCK_LENGTH;
 
 /// Logical blocks of 512 bytes over a store. Places and lengths are in blocks.
 #[derive(Drop)]
@@ -71,6 +76,7 @@ impl<S: Store> Disk<S> {
     pub fn block_count(&self) -> u64
         ensures count { result ≡ length self.now.blocks }
         ensures some { 0 < result }
+        ensures whole { IsTrue self.now.honest → AreWhole self.now.blocks }
     {
         self.block_count
     }
@@ -113,6 +119,30 @@ impl<S: Store> Disk<S> {
         self.store.write_at(BLOCK_LENGTH as u64 * first, bytes)
     }
 
+    /// The least index at which bytes differ from those of a few blocks.
+    fn compare_part(
+        &mut self,
+        first: u64,
+        count: u64,
+        bytes: &[u8],
+    ) -> Result<Option<usize>, StoreFault>
+        requires few { count ≤ 16 }
+        requires range { first + count ≤ length self.old.blocks }
+        requires whole { length bytes.now ≡ block_length * count }
+        ensures compared { IfOk result (λ at. IsTrue self.new.honest
+            → at ≡ first_difference (data_of self.old.blocks first count) bytes.now) }
+        ensures within { IfOk result (λ at. IfSome at (λ n. n < length bytes.now)) }
+        ensures long { IsOk result → IsTrue self.new.honest → length (data_of self.old.blocks first count) ≡ block_length * count }
+        ensures back { IsTrue self.new.honest → IsTrue self.old.honest }
+        ensures disk { self.new ≡ record self.old { failures = counted result self.old.failures; honest = self.new.honest } }
+        ensures succeeds { IsTrue self.old.steady → IsTrue self.old.honest → IsOk result × (self.new ≡ self.old) }
+    {
+        let mut held = [0; PART_LENGTH];
+        let held = &mut held[..bytes.len()];
+        self.read(first, count, held)?;
+        Ok(difference(held, bytes))
+    }
+
     /// The least index at which bytes differ from those of blocks.
     pub fn compare(
         &mut self,
@@ -131,13 +161,15 @@ impl<S: Store> Disk<S> {
     {
         // So the place of each block fits a u64.
         let _ = &self.block_count;
-        let mut held = [0; BLOCK_LENGTH];
-        for number in 0..count {
-            self.read(first + number, 1, &mut held)?;
+        let mut number = 0;
+        while number < count {
+            let part = (count - number).min(PART);
             let start = BLOCK_LENGTH * number as usize;
-            if let Some(at) = difference(&held, &bytes[start..start + BLOCK_LENGTH]) {
+            let end = start + BLOCK_LENGTH * part as usize;
+            if let Some(at) = self.compare_part(first + number, part, &bytes[start..end])? {
                 return Ok(Some(start + at));
             }
+            number += part;
         }
         Ok(None)
     }

@@ -1,50 +1,49 @@
 -- What a command descriptor block spells: the fields of each operation.
-use Rattle.std.specs.Prelude.{ℕ, List, Bool, ◌&&◌, ◌||◌, ◌==◌, Option, Some, None, nat_le, if◌then◌else◌, Result, Ok, Err, slice_index, bit_and}
+use Rattle.std.specs.Prelude.{ℕ, List, Bool, ◌&&◌, ◌||◌, ◌==◌, Option, Some, None, if◌then◌else◌, Result, Ok, Err, slice_index, bit_and}
 use Rattle.byteorder.specs.Endian.{big_from}
-use Rattle.scsi_sense.specs.Sense.{plain_sense}
 use Rattle.scsi_sense.specs.declared.sense.Sense.{Sense}
-use Rattle.scsi_sense.specs.declared.code.SenseKey.TheVariants.{IllegalRequest}
-use Rattle.scsi_sense.specs.declared.code.AdditionalSense.TheVariants.{InvalidFieldInCdb, SavingParametersNotSupported}
-use Rattle.scsi_cdb.specs.Operation.{operation_of}
+use Rattle.scsi_cdb.specs.Range.{Range, range_of}
+use Rattle.scsi_cdb.specs.Fault.{invalid_operation_code, field_sense}
+use Rattle.scsi_cdb.specs.Operation.{row_for}
+use Rattle.scsi_cdb.specs.declared.operation.Kind.{Kind}
+use Rattle.scsi_cdb.specs.declared.operation.Row.{Row}
 use Rattle.scsi_cdb.specs.declared.command.Command.{Command}
-use Rattle.scsi_cdb.specs.declared.command.Command.TheVariants.{TestUnitReady, RequestSense, Inquiry, ModeSelect, ModeSense, ReportLuns, Read, ReadCapacity10, ReadCapacity16}
-use Rattle.scsi_cdb.specs.declared.command.Kind.{Kind}
+use Rattle.scsi_cdb.specs.declared.command.Command.TheVariants as to
+use Rattle.scsi_cdb.specs.declared.command.UnitCommand.{UnitCommand}
+use Rattle.scsi_cdb.specs.declared.command.UnitCommand.TheVariants.{TestUnitReady, RequestSense, Inquiry, ModeSelect, ModeSense, ReportLuns}
+use Rattle.scsi_cdb.specs.declared.command.DiskCommand.{DiskCommand}
+use Rattle.scsi_cdb.specs.declared.command.DiskCommand.TheVariants.{Read, ReadCapacity10, ReadCapacity16}
+use Rattle.scsi_cdb.specs.declared.fault.FieldFault.{FieldFault}
+use Rattle.scsi_cdb.specs.declared.fault.FieldFault.TheVariants.{InvalidField, SavingNotSupported}
 use Rattle.scsi_cdb.specs.declared.mode.ParameterHeader.{ParameterHeader}
 use Rattle.scsi_cdb.specs.declared.mode.ParameterHeader.TheVariants.{Six, Ten}
 use Rattle.scsi_cdb.specs.declared.mode.PageControl.{PageControl}
 use Rattle.scsi_cdb.specs.declared.mode.PageControl.TheVariants.{Current, Changeable, Default}
+use Rattle.scsi_cdb.specs.declared.report_luns.ReportLunsFields.{ReportLunsFields}
 use Rattle.scsi_cdb.specs.declared.report_luns.SelectReport.{SelectReport}
 use Rattle.scsi_cdb.specs.declared.report_luns.SelectReport.TheVariants.{LogicalUnits, WellKnown, All}
 use Rattle.scsi_cdb.specs.declared.operation.Operation.{Operation}
-use Rattle.scsi_cdb.specs.declared.operation.Operation.TheVariants as operation
+use Rattle.scsi_cdb.specs.declared.operation.Operation.TheVariants.{Unit, Disk}
+use Rattle.scsi_cdb.specs.declared.operation.UnitOperation.{UnitOperation}
+use Rattle.scsi_cdb.specs.declared.operation.UnitOperation.TheVariants as unit
+use Rattle.scsi_cdb.specs.declared.operation.DiskOperation.{DiskOperation}
+use Rattle.scsi_cdb.specs.declared.operation.DiskOperation.TheVariants as disk
 
--- 05/2400
-abbrev pub invalid_field : Sense
-invalid_field = plain_sense IllegalRequest InvalidFieldInCdb
+-- a command where its fields are taken
+abbrev pub command_if : {C : Type 0} → Bool → C → Result C FieldFault
+command_if is_taken command = if is_taken then Ok command else Err InvalidField
 
--- the command where its fields are taken
-abbrev pub command_if : Bool → Command → Result Command Sense
-command_if is_taken command = if is_taken then Ok command else Err invalid_field
-
--- 05/3900
-abbrev pub saving_not_supported : Sense
-saving_not_supported = plain_sense IllegalRequest SavingParametersNotSupported
-
--- SPC-4 "INQUIRY command": the page where EVPD, bit 0 of byte 1, is set
-abbrev pub inquired_page : List ℕ → Option ℕ
-inquired_page cdb = if bit_and (slice_index cdb 1) 0x01 == 0 then None else Some (slice_index cdb 2)
-
--- SPC-4 "INQUIRY command": without EVPD the page code is to be 0
-abbrev pub inquiry_with : Option ℕ → List ℕ → Result Command Sense
-inquiry_with None cdb = command_if (slice_index cdb 2 == 0) (Inquiry None (big_from 3 2 cdb))
-inquiry_with (Some page) cdb = Ok (Inquiry (Some page) (big_from 3 2 cdb))
-
-abbrev pub inquiry_of : List ℕ → Result Command Sense
-inquiry_of cdb = inquiry_with (inquired_page cdb) cdb
+-- SPC-4 "INQUIRY command": the page where EVPD, bit 0 of byte 1, is set; without it the page code is to be 0
+abbrev pub inquiry_of : List ℕ → Result UnitCommand FieldFault
+inquiry_of cdb =
+    if bit_and (slice_index cdb 1) 0x01 == 0
+    then command_if (slice_index cdb 2 == 0) (Inquiry None (big_from 3 2 cdb))
+    else Ok (Inquiry (Some (slice_index cdb 2)) (big_from 3 2 cdb))
 
 -- SPC-4 "MODE SELECT (6) command": SP, bit 0 of byte 1, is 0, since no page is saved (profile)
-abbrev pub mode_select_if : ℕ → ParameterHeader → ℕ → Result Command Sense
-mode_select_if byte_1 header list_length = command_if (bit_and byte_1 0x01 == 0) (ModeSelect (record { header = header; list_length = list_length }))
+abbrev pub mode_select_of : ℕ → ParameterHeader → ℕ → Result UnitCommand FieldFault
+mode_select_of byte_1 header list_length =
+    command_if (bit_and byte_1 0x01 == 0) (ModeSelect (record { header = header; list_length = list_length }))
 
 -- SPC-4 "MODE SENSE (6) command": PC, bits 7 and 6 of byte 2; 11b asks for saved values
 abbrev pub control_of : ℕ → Option PageControl
@@ -57,8 +56,8 @@ abbrev pub is_subpage : ℕ → ℕ → Bool
 is_subpage page subpage = subpage == 0 || (page == 0x3f && subpage == 0xff)
 
 -- SPC-4 "MODE SENSE (6) command": DBD is bit 3 of byte 1, the page code bits 5 to 0 of byte 2, the subpage code byte 3
-abbrev pub mode_sense_with : Option PageControl → List ℕ → ParameterHeader → ℕ → Result Command Sense
-mode_sense_with None cdb header allocation_length = Err saving_not_supported
+abbrev pub mode_sense_with : Option PageControl → List ℕ → ParameterHeader → ℕ → Result UnitCommand FieldFault
+mode_sense_with None cdb header allocation_length = Err SavingNotSupported
 mode_sense_with (Some control) cdb header allocation_length =
     command_if (is_subpage (bit_and (slice_index cdb 2) 0x3f) (slice_index cdb 3))
     (ModeSense (record {
@@ -69,47 +68,74 @@ mode_sense_with (Some control) cdb header allocation_length =
       allocation_length = allocation_length;
     }))
 
-abbrev pub mode_sense_of : List ℕ → ParameterHeader → ℕ → Result Command Sense
+abbrev pub mode_sense_of : List ℕ → ParameterHeader → ℕ → Result UnitCommand FieldFault
 mode_sense_of cdb header allocation_length = mode_sense_with (control_of (slice_index cdb 2)) cdb header allocation_length
 
 -- SPC-4 "REPORT LUNS command": SELECT REPORT
 abbrev pub select_of : ℕ → Option SelectReport
-select_of code = if code == 0x00 then Some LogicalUnits else if code == 0x01 then Some WellKnown else if code == 0x02 then Some All else None
+select_of code =
+    if code == 0x00 then Some LogicalUnits else if code == 0x01 then Some WellKnown else if code == 0x02 then Some All else None
 
-abbrev pub report_luns_with : Option SelectReport → List ℕ → Result Command Sense
-report_luns_with None cdb = Err invalid_field
-report_luns_with (Some select) cdb = Ok (ReportLuns select (big_from 6 4 cdb))
+abbrev pub report_luns_with : Option SelectReport → List ℕ → Result ReportLunsFields FieldFault
+report_luns_with None cdb = Err InvalidField
+report_luns_with (Some select) cdb = Ok (record { select = select; allocation_length = big_from 6 4 cdb })
 
-abbrev pub report_luns_of : List ℕ → Result Command Sense
+abbrev pub report_luns_of : List ℕ → Result ReportLunsFields FieldFault
 report_luns_of cdb = report_luns_with (select_of (slice_index cdb 2)) cdb
 
--- profile: the most blocks of one READ
-abbrev pub most_blocks : ℕ
-most_blocks = 2048
+abbrev pub to_report : Result ReportLunsFields FieldFault → Result UnitCommand FieldFault
+to_report (Ok fields) = Ok (ReportLuns fields)
+to_report (Err fault) = Err fault
+
+abbrev pub read_with : Bool → Option Range → Result DiskCommand FieldFault
+read_with is_taken None = Err InvalidField
+read_with is_taken (Some range) = command_if is_taken (Read range)
 
 -- SBC-3 "READ (10) command": RDPROTECT, bits 7 to 5 of byte 1, is 0, since there is no protection information
-abbrev pub read_if : ℕ → ℕ → ℕ → Result Command Sense
-read_if byte_1 first blocks = command_if (bit_and byte_1 0xe0 == 0 && nat_le blocks most_blocks) (Read first blocks)
+abbrev pub read_of : ℕ → ℕ → ℕ → Result DiskCommand FieldFault
+read_of byte_1 first blocks = read_with (bit_and byte_1 0xe0 == 0) (range_of first blocks)
 
--- SPC-4 "Commands for all device types", SBC-3 "Commands for direct access block devices": the fields of each operation
-abbrev pub fields_of : Operation → List ℕ → Result Command Sense
-fields_of operation.TestUnitReady cdb = Ok TestUnitReady
-fields_of operation.RequestSense cdb = command_if (bit_and (slice_index cdb 1) 0x01 == 0) (RequestSense (slice_index cdb 4))
-fields_of operation.Inquiry cdb = inquiry_of cdb
-fields_of operation.ModeSelect6 cdb = mode_select_if (slice_index cdb 1) Six (slice_index cdb 4)
-fields_of operation.ModeSelect10 cdb = mode_select_if (slice_index cdb 1) Ten (big_from 7 2 cdb)
-fields_of operation.ModeSense6 cdb = mode_sense_of cdb Six (slice_index cdb 4)
-fields_of operation.ModeSense10 cdb = mode_sense_of cdb Ten (big_from 7 2 cdb)
-fields_of operation.ReportLuns cdb = report_luns_of cdb
-fields_of operation.Read10 cdb = read_if (slice_index cdb 1) (big_from 2 4 cdb) (big_from 7 2 cdb)
-fields_of operation.Read16 cdb = read_if (slice_index cdb 1) (big_from 2 8 cdb) (big_from 10 4 cdb)
-fields_of operation.ReadCapacity10 cdb = Ok ReadCapacity10
-fields_of operation.ServiceActionIn16 cdb = command_if (bit_and (slice_index cdb 1) 0x1f == 0x10) (ReadCapacity16 (big_from 10 4 cdb))
+-- SPC-4 "Commands for all device types": the fields of each operation
+abbrev pub unit_fields : UnitOperation → List ℕ → Result UnitCommand FieldFault
+unit_fields unit.TestUnitReady cdb = Ok TestUnitReady
+unit_fields unit.RequestSense cdb = command_if (bit_and (slice_index cdb 1) 0x01 == 0) (RequestSense (slice_index cdb 4))
+unit_fields unit.Inquiry cdb = inquiry_of cdb
+unit_fields unit.ModeSelect6 cdb = mode_select_of (slice_index cdb 1) Six (slice_index cdb 4)
+unit_fields unit.ModeSelect10 cdb = mode_select_of (slice_index cdb 1) Ten (big_from 7 2 cdb)
+unit_fields unit.ModeSense6 cdb = mode_sense_of cdb Six (slice_index cdb 4)
+unit_fields unit.ModeSense10 cdb = mode_sense_of cdb Ten (big_from 7 2 cdb)
+unit_fields unit.ReportLuns cdb = to_report (report_luns_of cdb)
 
-abbrev pub command_for : Result Operation Sense → List ℕ → Result Command Sense
-command_for (Err sense) cdb = Err sense
-command_for (Ok operation) cdb = fields_of operation cdb
+-- SBC-3 "Commands for direct access block devices": the fields of each operation
+abbrev pub disk_fields : DiskOperation → List ℕ → Result DiskCommand FieldFault
+disk_fields disk.Read10 cdb = read_of (slice_index cdb 1) (big_from 2 4 cdb) (big_from 7 2 cdb)
+disk_fields disk.Read16 cdb = read_of (slice_index cdb 1) (big_from 2 8 cdb) (big_from 10 4 cdb)
+disk_fields disk.ReadCapacity10 cdb = Ok ReadCapacity10
+disk_fields disk.ServiceActionIn16 cdb =
+    command_if (bit_and (slice_index cdb 1) 0x1f == 0x10) (ReadCapacity16 (big_from 10 4 cdb))
+
+abbrev pub to_unit : Result UnitCommand FieldFault → Result Command FieldFault
+to_unit (Ok command) = Ok (to.Unit command)
+to_unit (Err fault) = Err fault
+
+abbrev pub to_disk : Result DiskCommand FieldFault → Result Command FieldFault
+to_disk (Ok command) = Ok (to.Disk command)
+to_disk (Err fault) = Err fault
+
+-- the command that the bytes spell for an operation
+abbrev pub fields_of : Operation → List ℕ → Result Command FieldFault
+fields_of (Unit operation) cdb = to_unit (unit_fields operation cdb)
+fields_of (Disk operation) cdb = to_disk (disk_fields operation cdb)
+
+abbrev pub with_sense : Result Command FieldFault → Result Command Sense
+with_sense (Ok command) = Ok command
+with_sense (Err fault) = Err (field_sense fault)
+
+-- own: what a command descriptor block is refused with: first where units of this kind do not have its operation
+abbrev pub command_from : Option Row → List ℕ → Result Command Sense
+command_from None cdb = Err invalid_operation_code
+command_from (Some row) cdb = with_sense (fields_of row.operation cdb)
 
 -- the command that the bytes spell for a unit of this kind
 abbrev pub command_of : List ℕ → Kind → Result Command Sense
-command_of cdb kind = command_for (operation_of cdb kind) cdb
+command_of cdb kind = command_from (row_for kind (slice_index cdb 0)) cdb

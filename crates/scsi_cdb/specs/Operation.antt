@@ -1,55 +1,82 @@
--- What operation codes name: byte 0 is the operation code (SPC-4 "Operation code").
-use Rattle.std.specs.Prelude.{ℕ, List, [], ◌∷◌, Bool, true, false, ◌&&◌, ◌==◌, if◌then◌else◌, Result, Ok, Err, slice_index}
-use Rattle.scsi_sense.specs.Sense.{plain_sense}
-use Rattle.scsi_sense.specs.declared.sense.Sense.{Sense}
-use Rattle.scsi_sense.specs.declared.code.SenseKey.TheVariants.{IllegalRequest}
-use Rattle.scsi_sense.specs.declared.code.AdditionalSense.TheVariants.{InvalidCommandOperationCode}
-use Rattle.scsi_cdb.specs.declared.command.Kind.{Kind}
-use Rattle.scsi_cdb.specs.declared.command.Kind.TheVariants.{Disk, Tape}
+-- The table of operations: what operation codes name (byte 0, SPC-4 "Operation code"), and what a unit tests of each
+-- before its fields.
+use Rattle.std.specs.Prelude.{ℕ, List, [], ◌∷◌, Bool, true, false, ◌==◌, Option, Some, None, if◌then◌else◌}
+use Rattle.scsi_cdb.specs.declared.operation.Kind.{Kind}
+use Rattle.scsi_cdb.specs.declared.operation.Kind.TheVariants as kind
 use Rattle.scsi_cdb.specs.declared.operation.Operation.{Operation}
-use Rattle.scsi_cdb.specs.declared.operation.Operation.TheVariants.{TestUnitReady, RequestSense, Inquiry, ModeSelect6, ModeSelect10, ModeSense6, ModeSense10, ReportLuns, Read10, Read16, ReadCapacity10, ServiceActionIn16}
+use Rattle.scsi_cdb.specs.declared.operation.Operation.TheVariants.{Unit, Disk}
+use Rattle.scsi_cdb.specs.declared.operation.UnitOperation.TheVariants.{TestUnitReady, RequestSense, Inquiry, ModeSelect6, ModeSelect10, ModeSense6, ModeSense10, ReportLuns}
+use Rattle.scsi_cdb.specs.declared.operation.DiskOperation.TheVariants.{Read10, Read16, ReadCapacity10, ServiceActionIn16}
+use Rattle.scsi_cdb.specs.declared.operation.ReservationClass.{ReservationClass}
+use Rattle.scsi_cdb.specs.declared.operation.ReservationClass.TheVariants.{Always, Reading, Writing}
+use Rattle.scsi_cdb.specs.declared.operation.Row.{Row}
 
--- 05/2000
-abbrev pub invalid_operation_code : Sense
-invalid_operation_code = plain_sense IllegalRequest InvalidCommandOperationCode
+abbrev pub row : Operation → Bool → Bool → Bool → ReservationClass → Row
+row operation attention missing ready reservation = record {
+  operation = operation;
+  passes_attention = attention;
+  passes_missing_unit = missing;
+  needs_ready = ready;
+  reservation = reservation;
+}
 
--- a row of the table of operation codes: the code, the kinds of unit that have it, and what it names
-pub record Row : Type 0 where
+-- a row with its operation code
+pub record Entry : Type 0 where
   pub code : ℕ
-  pub disk : Bool
-  pub tape : Bool
-  pub operation : Operation
+  pub row : Row
 
-abbrev pub row : ℕ → Bool → Bool → Operation → Row
-row code disk tape operation = record { code = code; disk = disk; tape = tape; operation = operation }
+abbrev pub entry : ℕ → Row → Entry
+entry code row = record { code = code; row = row }
 
--- SPC-4, SBC-3 and SSC-4, each in "Commands": the code, then whether a disk has it and a tape has it
-abbrev pub operation_codes : List Row
-operation_codes =
-    row 0x00 true true TestUnitReady
-    ∷ row 0x03 true true RequestSense
-    ∷ row 0x12 true true Inquiry
-    ∷ row 0x15 true true ModeSelect6
-    ∷ row 0x55 true true ModeSelect10
-    ∷ row 0x1a true true ModeSense6
-    ∷ row 0x5a true true ModeSense10
-    ∷ row 0xa0 true true ReportLuns
-    ∷ row 0x28 true false Read10
-    ∷ row 0x88 true false Read16
-    ∷ row 0x25 true false ReadCapacity10
-    ∷ row 0x9e true false ServiceActionIn16
+-- SPC-4, SBC-3 and SSC-4, each in "Commands": the code; what it names, of units of every kind or of disks alone; whether
+-- it passes an attention, passes a missing unit, needs the medium ready; its class for reservations
+abbrev pub operation_table : List Entry
+operation_table =
+    --                            passes: attention  missing unit  needs: ready
+    entry 0x00 (row (Unit TestUnitReady) false false true Always)
+    ∷ entry 0x03 (row (Unit RequestSense) true true false Always)
+    ∷ entry 0x12 (row (Unit Inquiry) true true false Always)
+    ∷ entry 0x15 (row (Unit ModeSelect6) false false false Writing)
+    ∷ entry 0x1a (row (Unit ModeSense6) false false false Reading)
+    ∷ entry 0x25 (row (Disk ReadCapacity10) false false false Always)
+    ∷ entry 0x28 (row (Disk Read10) false false true Reading)
+    ∷ entry 0x55 (row (Unit ModeSelect10) false false false Writing)
+    ∷ entry 0x5a (row (Unit ModeSense10) false false false Reading)
+    ∷ entry 0x88 (row (Disk Read16) false false true Reading)
+    ∷ entry 0x9e (row (Disk ServiceActionIn16) false false false Always)
+    ∷ entry 0xa0 (row (Unit ReportLuns) true false false Always)
     ∷ []
 
--- whether the row is for this kind of unit
-abbrev pub is_for : Kind → Row → Bool
-is_for Disk row = row.disk
-is_for Tape row = row.tape
+abbrev pub row_in : List Entry → ℕ → Option Row
+row_in [] code = None
+row_in (entry ∷ entries) code = if code == entry.code then Some entry.row else row_in entries code
 
--- the operation of the first row for this code and kind
-abbrev pub operation_in : List Row → ℕ → Kind → Result Operation Sense
-operation_in [] code kind = Err invalid_operation_code
-operation_in (row ∷ rows) code kind = if code == row.code && is_for kind row then Ok row.operation else operation_in rows code kind
+-- the row of an operation code
+abbrev pub row_of : ℕ → Option Row
+row_of code = row_in operation_table code
 
--- SPC-4 "Operation code"
-abbrev pub operation_of : List ℕ → Kind → Result Operation Sense
-operation_of cdb kind = operation_in operation_codes (slice_index cdb 0) kind
+-- whether units of this kind have an operation
+abbrev pub is_for : Kind → Operation → Bool
+is_for kind (Unit operation) = true
+is_for kind.Disk (Disk operation) = true
+is_for kind.Tape (Disk operation) = false
+
+-- SPC-4 "REPORT LUNS command": it is of the target, and no other operation is
+abbrev pub is_of_target : Operation → Bool
+is_of_target (Unit TestUnitReady) = false
+is_of_target (Unit RequestSense) = false
+is_of_target (Unit Inquiry) = false
+is_of_target (Unit ModeSelect6) = false
+is_of_target (Unit ModeSelect10) = false
+is_of_target (Unit ModeSense6) = false
+is_of_target (Unit ModeSense10) = false
+is_of_target (Unit ReportLuns) = true
+is_of_target (Disk operation) = false
+
+abbrev pub row_if : Kind → Option Row → Option Row
+row_if kind None = None
+row_if kind (Some row) = if is_for kind row.operation then Some row else None
+
+-- the row of an operation code that units of this kind have
+abbrev pub row_for : Kind → ℕ → Option Row
+row_for kind code = row_if kind (row_of code)

@@ -1,17 +1,15 @@
 //! The fields of command descriptor blocks.
 
 ghost use Rattle.std.specs.Prelude.{◌≡◌};
-ghost use Rattle.scsi_cdb.specs.Command.{fields_of, invalid_field, saving_not_supported, command_if, inquiry_of, mode_select_if, control_of, mode_sense_of, report_luns_of, read_if};
+ghost use Rattle.scsi_cdb.specs.Command.{fields_of, unit_fields, disk_fields, command_if, inquiry_of, mode_select_of, control_of, mode_sense_of, read_of};
 
-use crate::command::Command;
+use crate::block_range::BlockRange;
+use crate::command::{Command, DiskCommand, UnitCommand};
+use crate::fault::FieldFault;
 use crate::mode::{ModeSelectFields, ModeSenseFields, PageControl, ParameterHeader};
-use crate::operation::Operation;
-use crate::report_luns::SelectReport;
+use crate::operation::{DiskOperation, Operation, UnitOperation};
+use crate::report_luns::ReportLunsFields;
 use byteorder::{BigEndian, ByteOrder};
-use scsi_sense::{AdditionalSense, Sense, SenseKey};
-
-/// The most blocks of one READ.
-const MOST_BLOCKS: u32 = 2048;
 
 /// DESC of REQUEST SENSE, EVPD of INQUIRY and SP of MODE SELECT, in byte 1.
 const LOWEST_BIT: u8 = 0x01;
@@ -37,78 +35,92 @@ const SERVICE_ACTION: u8 = 0x1F;
 const READ_CAPACITY_16: u8 = 0x10;
 
 impl Operation {
-    /// The command that the bytes spell for this operation, or ILLEGAL REQUEST with INVALID FIELD IN CDB
-    /// or SAVING PARAMETERS NOT SUPPORTED. The control byte is not looked at.
-    pub fn command(self, bytes: [u8; 16]) -> Result<Command, Sense>
+    /// The command that the bytes spell for this operation. The control byte is not looked at.
+    pub fn command(self, bytes: [u8; 16]) -> Result<Command, FieldFault>
         ensures { result ≡ fields_of self bytes }
     {
         match self {
-            Operation::TestUnitReady => Ok(Command::TestUnitReady),
-            Operation::RequestSense => {
+            Operation::Unit(operation) => Ok(Command::Unit(operation.command(&bytes)?)),
+            Operation::Disk(operation) => Ok(Command::Disk(operation.command(&bytes)?)),
+        }
+    }
+}
+
+impl UnitOperation {
+    /// The command that the bytes spell for this operation.
+    pub fn command(self, bytes: &[u8; 16]) -> Result<UnitCommand, FieldFault>
+        ensures { result ≡ unit_fields self bytes.now }
+    {
+        match self {
+            UnitOperation::TestUnitReady => Ok(UnitCommand::TestUnitReady),
+            UnitOperation::RequestSense => {
                 let allocation_length = u32::from(bytes[4]);
-                let command = Command::RequestSense { allocation_length };
+                let command = UnitCommand::RequestSense { allocation_length };
                 command_where(bytes[1] & LOWEST_BIT == 0, command)
             }
-            Operation::Inquiry => inquiry(&bytes),
-            Operation::ModeSelect6 => {
-                let list_length = u32::from(bytes[4]);
-                mode_select(bytes[1], ParameterHeader::Six, list_length)
+            UnitOperation::Inquiry => inquiry(bytes),
+            UnitOperation::ModeSelect6 => {
+                mode_select(bytes[1], ParameterHeader::Six, u32::from(bytes[4]))
             }
-            Operation::ModeSelect10 => {
+            UnitOperation::ModeSelect10 => {
                 let list_length = u32::from(BigEndian::read_u16(&bytes[7..]));
                 mode_select(bytes[1], ParameterHeader::Ten, list_length)
             }
-            Operation::ModeSense6 => {
-                let allocation_length = u32::from(bytes[4]);
-                mode_sense(&bytes, ParameterHeader::Six, allocation_length)
+            UnitOperation::ModeSense6 => {
+                mode_sense(bytes, ParameterHeader::Six, u32::from(bytes[4]))
             }
-            Operation::ModeSense10 => {
+            UnitOperation::ModeSense10 => {
                 let allocation_length = u32::from(BigEndian::read_u16(&bytes[7..]));
-                mode_sense(&bytes, ParameterHeader::Ten, allocation_length)
+                mode_sense(bytes, ParameterHeader::Ten, allocation_length)
             }
-            Operation::ReportLuns => report_luns(&bytes),
-            Operation::Read10 => {
+            UnitOperation::ReportLuns => {
+                Ok(UnitCommand::ReportLuns(ReportLunsFields::read(bytes)?))
+            }
+        }
+    }
+}
+
+impl DiskOperation {
+    /// The command that the bytes spell for this operation.
+    pub fn command(self, bytes: &[u8; 16]) -> Result<DiskCommand, FieldFault>
+        ensures { result ≡ disk_fields self bytes.now }
+    {
+        match self {
+            DiskOperation::Read10 => {
                 let first = BigEndian::read_u32(&bytes[2..]);
                 let blocks = BigEndian::read_u16(&bytes[7..]);
                 read(bytes[1], u64::from(first), u32::from(blocks))
             }
-            Operation::Read16 => {
+            DiskOperation::Read16 => {
                 let first = BigEndian::read_u64(&bytes[2..]);
                 let blocks = BigEndian::read_u32(&bytes[10..]);
                 read(bytes[1], first, blocks)
             }
-            Operation::ReadCapacity10 => Ok(Command::ReadCapacity10),
-            Operation::ServiceActionIn16 => {
+            DiskOperation::ReadCapacity10 => Ok(DiskCommand::ReadCapacity10),
+            DiskOperation::ServiceActionIn16 => {
                 let allocation_length = BigEndian::read_u32(&bytes[10..]);
                 command_where(
                     bytes[1] & SERVICE_ACTION == READ_CAPACITY_16,
-                    Command::ReadCapacity16 { allocation_length },
+                    DiskCommand::ReadCapacity16 { allocation_length },
                 )
             }
         }
     }
 }
 
-/// INVALID FIELD IN CDB.
-fn refused() -> Sense
-    ensures { result ≡ invalid_field }
-{
-    Sense::new(SenseKey::IllegalRequest, AdditionalSense::InvalidFieldInCdb)
-}
-
 /// The command where its fields are taken.
-fn command_where(is_taken: bool, command: Command) -> Result<Command, Sense>
+fn command_where<C: Drop>(is_taken: bool, command: C) -> Result<C, FieldFault>
     ensures { result ≡ command_if is_taken command }
 {
     if is_taken {
         Ok(command)
     } else {
-        Err(refused())
+        Err(FieldFault::InvalidField)
     }
 }
 
 /// INQUIRY: a page is asked for where EVPD is set, and is not to be named where it is not.
-fn inquiry(bytes: &[u8; 16]) -> Result<Command, Sense>
+fn inquiry(bytes: &[u8; 16]) -> Result<UnitCommand, FieldFault>
     ensures { result ≡ inquiry_of bytes.now }
 {
     let allocation_length = u32::from(BigEndian::read_u16(&bytes[3..]));
@@ -119,7 +131,7 @@ fn inquiry(bytes: &[u8; 16]) -> Result<Command, Sense>
     };
     command_where(
         page.is_some() || bytes[2] == 0,
-        Command::Inquiry {
+        UnitCommand::Inquiry {
             page,
             allocation_length,
         },
@@ -127,14 +139,18 @@ fn inquiry(bytes: &[u8; 16]) -> Result<Command, Sense>
 }
 
 /// MODE SELECT, of which nothing is saved.
-fn mode_select(byte_1: u8, header: ParameterHeader, list_length: u32) -> Result<Command, Sense>
-    ensures { result ≡ mode_select_if byte_1 header list_length }
+fn mode_select(
+    byte_1: u8,
+    header: ParameterHeader,
+    list_length: u32,
+) -> Result<UnitCommand, FieldFault>
+    ensures { result ≡ mode_select_of byte_1 header list_length }
 {
     let fields = ModeSelectFields {
         header,
         list_length,
     };
-    command_where(byte_1 & LOWEST_BIT == 0, Command::ModeSelect(fields))
+    command_where(byte_1 & LOWEST_BIT == 0, UnitCommand::ModeSelect(fields))
 }
 
 /// The values that byte 2 of MODE SENSE asks for, or none where they are saved ones.
@@ -154,14 +170,11 @@ fn mode_sense(
     bytes: &[u8; 16],
     header: ParameterHeader,
     allocation_length: u32,
-) -> Result<Command, Sense>
+) -> Result<UnitCommand, FieldFault>
     ensures { result ≡ mode_sense_of bytes.now header allocation_length }
 {
     let Some(control) = control(bytes[2]) else {
-        return Err(Sense::new(
-            SenseKey::IllegalRequest,
-            AdditionalSense::SavingParametersNotSupported,
-        ));
+        return Err(FieldFault::SavingNotSupported);
     };
     let page = bytes[2] & PAGE_CODE;
     let fields = ModeSenseFields {
@@ -173,33 +186,16 @@ fn mode_sense(
     };
     command_where(
         bytes[3] == 0 || (page == ALL_PAGES && bytes[3] == 0xFF),
-        Command::ModeSense(fields),
+        UnitCommand::ModeSense(fields),
     )
-}
-
-/// REPORT LUNS.
-fn report_luns(bytes: &[u8; 16]) -> Result<Command, Sense>
-    ensures { result ≡ report_luns_of bytes.now }
-{
-    let allocation_length = BigEndian::read_u32(&bytes[6..]);
-    let select = match bytes[2] {
-        0x00 => SelectReport::LogicalUnits,
-        0x01 => SelectReport::WellKnown,
-        0x02 => SelectReport::All,
-        _ => return Err(refused()),
-    };
-    Ok(Command::ReportLuns {
-        select,
-        allocation_length,
-    })
 }
 
 /// READ of so many blocks from the first one on, with this byte 1.
-fn read(byte_1: u8, first: u64, blocks: u32) -> Result<Command, Sense>
-    ensures { result ≡ read_if byte_1 first blocks }
+fn read(byte_1: u8, first: u64, blocks: u32) -> Result<DiskCommand, FieldFault>
+    ensures { result ≡ read_of byte_1 first blocks }
 {
-    command_where(
-        byte_1 & PROTECT == 0 && blocks <= MOST_BLOCKS,
-        Command::Read { first, blocks },
-    )
+    match BlockRange::new(first, blocks) {
+        Some(range) => command_where(byte_1 & PROTECT == 0, DiskCommand::Read(range)),
+        None => Err(FieldFault::InvalidField),
+    }
 }

@@ -3,38 +3,44 @@
 //! A unit reads them in two steps, for what it tests between them (its unit attentions, for one)
 //! depends on the operation alone:
 //!
-//! - [`Cdb::operation`] gives the operation that byte 0 names for a unit of that kind, or the sense of
-//!   a code that it does not have.
-//! - [`Operation::command`] gives the command with its fields, or the sense of a field that is refused.
+//! - [`Row::for_kind`] gives the row of the table of operations for byte 0, where units of that kind have
+//!   such an operation.
+//! - [`Operation::command`] gives the command with its fields, or why a field is refused.
 //!
-//! [`Cdb::read`] is both. These are read so far:
+//! [`Cdb::read`] is both. These are read so far; a row also has a class for reservations:
 //!
 //! ```text
-//! code  disk  tape
-//! 00h   yes   yes   TEST UNIT READY
-//! 03h   yes   yes   REQUEST SENSE
-//! 12h   yes   yes   INQUIRY
-//! 15h   yes   yes   MODE SELECT (6)
-//! 55h   yes   yes   MODE SELECT (10)
-//! 1Ah   yes   yes   MODE SENSE (6)
-//! 5Ah   yes   yes   MODE SENSE (10)
-//! A0h   yes   yes   REPORT LUNS
-//! 28h   yes         READ (10)
-//! 88h   yes         READ (16)
-//! 25h   yes         READ CAPACITY (10)
-//! 9Eh   yes         SERVICE ACTION IN (16), of which READ CAPACITY (16) is read
+//! code  disk  tape  passes an attention, a missing unit; needs the medium ready
+//! 00h   yes   yes                                        ready  TEST UNIT READY
+//! 03h   yes   yes   attention            missing unit           REQUEST SENSE
+//! 12h   yes   yes   attention            missing unit           INQUIRY
+//! 15h   yes   yes                                               MODE SELECT (6)
+//! 1Ah   yes   yes                                               MODE SENSE (6)
+//! 25h   yes                                                     READ CAPACITY (10)
+//! 28h   yes                                              ready  READ (10)
+//! 55h   yes   yes                                               MODE SELECT (10)
+//! 5Ah   yes   yes                                               MODE SENSE (10)
+//! 88h   yes                                              ready  READ (16)
+//! 9Eh   yes                                                     SERVICE ACTION IN (16): READ CAPACITY (16)
+//! A0h   yes   yes   attention                                   REPORT LUNS
 //! ```
+//!
+//! A command carries its limits in its types: blocks that it names are a [`BlockRange`], of 2048 at most.
 #![tactic(auto)]
 
+mod block_range;
 mod cdb;
 mod command;
+mod fault;
 mod fields;
 mod mode;
 mod operation;
 mod report_luns;
 
+pub use block_range::{BlockRange, MOST_BLOCKS};
 pub use cdb::Cdb;
-pub use command::{Command, Kind};
+pub use command::{Command, DiskCommand, UnitCommand};
+pub use fault::FieldFault;
 pub use mode::{ModeSelectFields, ModeSenseFields, PageControl, ParameterHeader};
-pub use operation::Operation;
-pub use report_luns::SelectReport;
+pub use operation::{DiskOperation, Kind, Operation, ReservationClass, Row, UnitOperation};
+pub use report_luns::{ReportLunsFields, SelectReport};

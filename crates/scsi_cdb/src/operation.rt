@@ -1,30 +1,151 @@
-//! What operation codes name.
+//! What operation codes name, and what a unit tests before it reads the fields of each.
+
+ghost use Rattle.std.specs.Prelude.{◌≡◌};
+ghost use Rattle.scsi_cdb.specs.Operation.{row, row_of, row_for, is_for, is_of_target};
+
+/// The kind of a logical unit (SPC-4 "Standard INQUIRY data", peripheral device type).
+#[derive(Clone, Copy, Debug, PartialEq, Eq)]
+pub enum Kind {
+    /// A direct access block device (SBC-3).
+    Disk,
+    /// A sequential access device (SSC-4).
+    Tape,
+}
 
 /// The operation that a code names, with no field of its command descriptor block read.
 #[derive(Clone, Copy, Debug, PartialEq, Eq)]
 pub enum Operation {
-    /// 00h TEST UNIT READY
+    /// Of units of every kind.
+    Unit(UnitOperation),
+    /// Of disks alone.
+    Disk(DiskOperation),
+}
+
+/// An operation of units of every kind (SPC-4 "Commands for all device types").
+#[derive(Clone, Copy, Debug, PartialEq, Eq)]
+pub enum UnitOperation {
     TestUnitReady,
-    /// 03h REQUEST SENSE
     RequestSense,
-    /// 12h INQUIRY
     Inquiry,
-    /// 15h MODE SELECT (6)
     ModeSelect6,
-    /// 55h MODE SELECT (10)
     ModeSelect10,
-    /// 1Ah MODE SENSE (6)
     ModeSense6,
-    /// 5Ah MODE SENSE (10)
     ModeSense10,
-    /// A0h REPORT LUNS
     ReportLuns,
-    /// 28h READ (10)
+}
+
+/// An operation of disks (SBC-3 "Commands for direct access block devices").
+#[derive(Clone, Copy, Debug, PartialEq, Eq)]
+pub enum DiskOperation {
     Read10,
-    /// 88h READ (16)
     Read16,
-    /// 25h READ CAPACITY (10)
     ReadCapacity10,
-    /// 9Eh SERVICE ACTION IN (16)
+    /// Of its service actions READ CAPACITY (16) is read.
     ServiceActionIn16,
+}
+
+/// What a reservation of another nexus does to an operation (SPC-4 "Persistent reservations"; its tables
+/// of commands that are allowed).
+#[derive(Clone, Copy, Debug, PartialEq, Eq)]
+pub enum ReservationClass {
+    /// It is allowed whatever is reserved.
+    Always,
+    /// It is allowed where reading is.
+    Reading,
+    /// It is allowed where writing is.
+    Writing,
+}
+
+/// A row of the table of operations.
+#[derive(Clone, Copy, Debug, PartialEq, Eq)]
+pub struct Row {
+    pub operation: Operation,
+    /// It is done while a unit attention is pending (SAM-5 "Unit attention condition").
+    pub passes_attention: bool,
+    /// It is done where the LUN names no unit (SPC-4 "INQUIRY command", "REQUEST SENSE command").
+    pub passes_missing_unit: bool,
+    /// It is refused where the medium is not ready.
+    pub needs_ready: bool,
+    pub reservation: ReservationClass,
+}
+
+impl Row {
+    /// The row of an operation code (SPC-4 "Operation code"; SPC-4, SBC-3 and SSC-4, each in "Commands").
+    pub fn of(code: u8) -> Option<Row>
+        ensures { result ≡ row_of code }
+    {
+        use DiskOperation::{Read10, Read16, ReadCapacity10, ServiceActionIn16};
+        use Operation::{Disk, Unit};
+        use ReservationClass::{Always, Reading, Writing};
+        use UnitOperation::{
+            Inquiry, ModeSelect6, ModeSelect10, ModeSense6, ModeSense10, ReportLuns, RequestSense,
+            TestUnitReady,
+        };
+        // What it passes: an attention, a missing unit. What it needs: the medium ready.
+        match code {
+            0x00 => make_row(Unit(TestUnitReady), false, false, true, Always),
+            0x03 => make_row(Unit(RequestSense), true, true, false, Always),
+            0x12 => make_row(Unit(Inquiry), true, true, false, Always),
+            0x15 => make_row(Unit(ModeSelect6), false, false, false, Writing),
+            0x1A => make_row(Unit(ModeSense6), false, false, false, Reading),
+            0x25 => make_row(Disk(ReadCapacity10), false, false, false, Always),
+            0x28 => make_row(Disk(Read10), false, false, true, Reading),
+            0x55 => make_row(Unit(ModeSelect10), false, false, false, Writing),
+            0x5A => make_row(Unit(ModeSense10), false, false, false, Reading),
+            0x88 => make_row(Disk(Read16), false, false, true, Reading),
+            0x9E => make_row(Disk(ServiceActionIn16), false, false, false, Always),
+            0xA0 => make_row(Unit(ReportLuns), true, false, false, Always),
+            _ => None,
+        }
+    }
+
+    /// The row of an operation code that units of this kind have.
+    pub fn for_kind(code: u8, kind: Kind) -> Option<Row>
+        ensures { result ≡ row_for kind code }
+    {
+        let row = Row::of(code)?;
+        if row.operation.is_for(kind) {
+            Some(row)
+        } else {
+            None
+        }
+    }
+}
+
+impl Operation {
+    /// Whether the target answers it for all its units: REPORT LUNS (SPC-4 "REPORT LUNS command").
+    pub fn is_of_target(self) -> bool
+        ensures { result ≡ is_of_target self }
+    {
+        matches!(self, Operation::Unit(UnitOperation::ReportLuns))
+    }
+
+    /// Whether units of this kind have it.
+    pub fn is_for(self, kind: Kind) -> bool
+        ensures { result ≡ is_for kind self }
+    {
+        match (self, kind) {
+            (Operation::Unit(_), _) | (Operation::Disk(_), Kind::Disk) => true,
+            (Operation::Disk(_), Kind::Tape) => false,
+        }
+    }
+}
+
+/// A row, as the table has it.
+fn make_row(
+    operation: Operation,
+    passes_attention: bool,
+    passes_missing_unit: bool,
+    needs_ready: bool,
+    reservation: ReservationClass,
+) -> Option<Row>
+    ensures { result ≡ Some (row operation passes_attention passes_missing_unit needs_ready reservation) }
+{
+    Some(Row {
+        operation,
+        passes_attention,
+        passes_missing_unit,
+        needs_ready,
+        reservation,
+    })
 }

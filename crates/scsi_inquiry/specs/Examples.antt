@@ -1,6 +1,6 @@
 -- Data of INQUIRY and REPORT LUNS, computed.
 use Rattle.std.specs.Prelude.{◌≡◌, [], ◌∷◌, ◌++◌, codes, replicate, Some, None, refl}
-use Rattle.scsi_cdb.specs.declared.command.Kind.TheVariants.{Disk, Tape}
+use Rattle.scsi_cdb.specs.declared.operation.Kind.TheVariants.{Disk, Tape}
 use Rattle.scsi_cdb.specs.declared.report_luns.SelectReport.TheVariants.{LogicalUnits, WellKnown, All}
 use Rattle.scsi_inquiry.specs.Standard.{standard_data}
 use Rattle.scsi_inquiry.specs.VpdPages.{page_of, page_data}

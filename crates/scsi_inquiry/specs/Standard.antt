@@ -1,6 +1,6 @@
 -- Standard INQUIRY data (SPC-4 "Standard INQUIRY data").
 use Rattle.std.specs.Prelude.{ℕ, List, ◌∷◌, ◌++◌, codes}
-use Rattle.scsi_cdb.specs.declared.command.Kind.TheVariants.{Disk, Tape}
+use Rattle.scsi_cdb.specs.declared.operation.Kind.TheVariants.{Disk, Tape}
 use Rattle.scsi_inquiry.specs.declared.peripheral.Peripheral.{Peripheral}
 use Rattle.scsi_inquiry.specs.declared.peripheral.Peripheral.TheVariants.{Unit, NoUnit}
 

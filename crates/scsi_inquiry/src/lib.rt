@@ -19,6 +19,7 @@
 
 mod peripheral;
 mod product_data;
+mod put;
 mod report_luns;
 mod standard_data;
 mod vpd_page;

@@ -1,14 +1,13 @@
 -- Mode parameters, computed.
-use Rattle.std.specs.Prelude.{◌≡◌, ◌^◌, List, ℕ, [], ◌∷◌, ◌++◌, Bool, true, false, length, replicate, Some, None, Result, Ok, Err, refl}
+use Rattle.std.specs.Prelude.{◌≡◌, ◌^◌, List, ℕ, [], ◌∷◌, ◌++◌, true, false, replicate, Some, None, Ok, Err, refl}
 use Rattle.scsi_cdb.specs.declared.mode.PageControl.{PageControl}
 use Rattle.scsi_cdb.specs.declared.mode.PageControl.TheVariants.{Current, Changeable, Default}
 use Rattle.scsi_cdb.specs.declared.mode.ParameterHeader.{ParameterHeader}
 use Rattle.scsi_cdb.specs.declared.mode.ParameterHeader.TheVariants.{Six, Ten}
 use Rattle.scsi_cdb.specs.declared.mode.ModeSenseFields.{ModeSenseFields}
-use Rattle.scsi_mode.specs.declared.list_fault.ListFault.{ListFault}
 use Rattle.scsi_mode.specs.declared.list_fault.ListFault.TheVariants.{EndsEarly, InvalidField}
 use Rattle.scsi_mode.specs.ModeData.{mode_data}
-use Rattle.scsi_mode.specs.ParameterList.{is_page, swp_after, has_page, after_pages, after_descriptor, after_header, after_list, selected}
+use Rattle.scsi_mode.specs.ParameterList.{is_page, after_page, has_page, after_pages, after_descriptor, after_header, selected}
 use Rattle.scsi_mode.specs.declared.parameters.Parameters.{Parameters}
 use Rattle.scsi_mode.specs.declared.parameters.Parameters.TheVariants.{Disk, Tape}
 
@@ -77,53 +76,48 @@ no_page = (refl, refl)
 
 -- ---- MODE SELECT
 
--- a list that is given whole
-abbrev listed : Parameters → ParameterHeader → List ℕ → Result Bool ListFault
-listed parameters header list = selected parameters (record { header = header; list_length = length list }) list
-
 abbrev control : ℕ → List ℕ
 control protect = 0x0a ∷ 0x0a ∷ 0 ∷ 0 ∷ protect ∷ replicate 7 0
 
 -- header, no descriptor, page 0Ah with SWP
-sets_swp : (listed disk Six (0 ∷ 0 ∷ 0 ∷ 0 ∷ control 0x08) ≡ Ok true) × (listed disk Ten (replicate 8 0 ++ control 0x08) ≡ Ok true) × (listed (Disk 4096 true) Six (0 ∷ 0 ∷ 0 ∷ 0 ∷ control 0) ≡ Ok false)
-unfolding selected after_list after_header after_pages has_page swp_after is_page
+sets_swp : (selected disk Six (0 ∷ 0 ∷ 0 ∷ 0 ∷ control 0x08) ≡ Ok (Disk 4096 true)) × (selected disk Ten (replicate 8 0 ++ control 0x08) ≡ Ok (Disk 4096 true)) × (selected (Disk 4096 true) Six (0 ∷ 0 ∷ 0 ∷ 0 ∷ control 0) ≡ Ok (Disk 4096 false))
+unfolding selected after_header after_pages has_page after_page is_page
 sets_swp = (refl, refl, refl)
 
 -- what MODE SENSE gave is taken back, with PS set and the first three bytes not looked at
-taken_back : listed (Disk 4096 true) Six
+taken_back : selected (Disk 4096 true) Six
     (0x2b ∷ 0xff ∷ 0x90 ∷ 0x08 ∷ 0x00 ∷ 0x00 ∷ 0x10 ∷ 0x00 ∷ 0x00 ∷ 0x00 ∷ 0x02 ∷ 0x00
-    ∷ 0x88 ∷ 0x12 ∷ 0x04 ∷ replicate 17 0 ++ 0x8a ∷ 0x0a ∷ 0 ∷ 0 ∷ 0x08 ∷ replicate 7 0) ≡ Ok true
-unfolding selected after_list after_header after_descriptor after_pages has_page swp_after is_page
+    ∷ 0x88 ∷ 0x12 ∷ 0x04 ∷ replicate 17 0 ++ 0x8a ∷ 0x0a ∷ 0 ∷ 0 ∷ 0x08 ∷ replicate 7 0) ≡ Ok (Disk 4096 true)
+unfolding selected after_header after_descriptor after_pages has_page after_page is_page
 taken_back = refl
 
 -- page 0Ah twice: the last SWP counts. An empty list, and one with no page, change nothing
-last_counts : (listed disk Six (0 ∷ 0 ∷ 0 ∷ 0 ∷ control 0x08 ++ control 0) ≡ Ok false) × (listed (Disk 4096 true) Six [] ≡ Ok true) × (listed (Disk 4096 true) Six (replicate 4 0) ≡ Ok true)
-unfolding selected after_list after_header after_pages has_page swp_after is_page
+last_counts : (selected disk Six (0 ∷ 0 ∷ 0 ∷ 0 ∷ control 0x08 ++ control 0) ≡ Ok (Disk 4096 false)) × (selected (Disk 4096 true) Six [] ≡ Ok (Disk 4096 true)) × (selected (Disk 4096 true) Six (replicate 4 0) ≡ Ok (Disk 4096 true))
+unfolding selected after_header after_pages has_page after_page is_page
 last_counts = (refl, refl, refl)
 
--- a header, a descriptor, the first two bytes of a page, and a page that end early; data shorter than the list
-ends_early : (listed disk Six (0 ∷ 0 ∷ 0 ∷ []) ≡ Err EndsEarly) × (listed disk Six (0 ∷ 0 ∷ 0 ∷ 8 ∷ 0 ∷ []) ≡ Err EndsEarly)
-    × (listed disk Six (0 ∷ 0 ∷ 0 ∷ 0 ∷ 0x0a ∷ []) ≡ Err EndsEarly) × (listed disk Six (0 ∷ 0 ∷ 0 ∷ 0 ∷ 0x0a ∷ 0x0a ∷ 0 ∷ 0 ∷ 0x08 ∷ replicate 6 0) ≡ Err EndsEarly)
-    × (selected disk (record { header = Six; list_length = 16 }) (0 ∷ 0 ∷ 0 ∷ 7 ∷ []) ≡ Err EndsEarly)
-unfolding selected after_list after_header after_descriptor after_pages has_page swp_after is_page
-ends_early = (refl, refl, refl, refl, refl)
+-- a header, a descriptor, the first two bytes of a page, and a page that end early
+ends_early : (selected disk Six (0 ∷ 0 ∷ 0 ∷ []) ≡ Err EndsEarly) × (selected disk Six (0 ∷ 0 ∷ 0 ∷ 8 ∷ 0 ∷ []) ≡ Err EndsEarly)
+    × (selected disk Six (0 ∷ 0 ∷ 0 ∷ 0 ∷ 0x0a ∷ []) ≡ Err EndsEarly) × (selected disk Six (0 ∷ 0 ∷ 0 ∷ 0 ∷ 0x0a ∷ 0x0a ∷ 0 ∷ 0 ∷ 0x08 ∷ replicate 6 0) ≡ Err EndsEarly)
+unfolding selected after_header after_descriptor after_pages has_page after_page is_page
+ends_early = (refl, refl, refl, refl)
 
 -- a descriptor length of 7, also where the list ends; a block length of 1024; another number of blocks; another bit of page 0Ah; a
 -- page of another length; a tape's SWP, page 08h and block length
-is_refused : (listed disk Six (0 ∷ 0 ∷ 0 ∷ 7 ∷ []) ≡ Err InvalidField) × (listed disk Six (0 ∷ 0 ∷ 0 ∷ 8 ∷ 0 ∷ 0 ∷ 0 ∷ 0 ∷ 0 ∷ 0 ∷ 0x04 ∷ 0 ∷ []) ≡ Err InvalidField)
-    × (listed disk Six (0 ∷ 0 ∷ 0 ∷ 8 ∷ 0 ∷ 0 ∷ 0x0f ∷ 0xff ∷ 0 ∷ 0 ∷ 0x02 ∷ 0 ∷ []) ≡ Err InvalidField) × (listed disk Six (0 ∷ 0 ∷ 0 ∷ 0 ∷ control 0x0c) ≡ Err InvalidField)
-    × (listed disk Six (0 ∷ 0 ∷ 0 ∷ 0 ∷ 0x0a ∷ 0x02 ∷ 0 ∷ 0 ∷ []) ≡ Err InvalidField) × (listed Tape Six (0 ∷ 0 ∷ 0 ∷ 0 ∷ control 0x08) ≡ Err InvalidField)
-    × (listed Tape Six (0 ∷ 0 ∷ 0 ∷ 0 ∷ 0x08 ∷ 0x12 ∷ 0x04 ∷ replicate 17 0) ≡ Err InvalidField) × (listed Tape Six (0 ∷ 0 ∷ 0 ∷ 8 ∷ 0 ∷ 0 ∷ 0 ∷ 0 ∷ 0 ∷ 0 ∷ 0x02 ∷ 0 ∷ []) ≡ Err InvalidField)
-unfolding selected after_list after_header after_descriptor after_pages has_page swp_after is_page
+is_refused : (selected disk Six (0 ∷ 0 ∷ 0 ∷ 7 ∷ []) ≡ Err InvalidField) × (selected disk Six (0 ∷ 0 ∷ 0 ∷ 8 ∷ 0 ∷ 0 ∷ 0 ∷ 0 ∷ 0 ∷ 0 ∷ 0x04 ∷ 0 ∷ []) ≡ Err InvalidField)
+    × (selected disk Six (0 ∷ 0 ∷ 0 ∷ 8 ∷ 0 ∷ 0 ∷ 0x0f ∷ 0xff ∷ 0 ∷ 0 ∷ 0x02 ∷ 0 ∷ []) ≡ Err InvalidField) × (selected disk Six (0 ∷ 0 ∷ 0 ∷ 0 ∷ control 0x0c) ≡ Err InvalidField)
+    × (selected disk Six (0 ∷ 0 ∷ 0 ∷ 0 ∷ 0x0a ∷ 0x02 ∷ 0 ∷ 0 ∷ []) ≡ Err InvalidField) × (selected Tape Six (0 ∷ 0 ∷ 0 ∷ 0 ∷ control 0x08) ≡ Err InvalidField)
+    × (selected Tape Six (0 ∷ 0 ∷ 0 ∷ 0 ∷ 0x08 ∷ 0x12 ∷ 0x04 ∷ replicate 17 0) ≡ Err InvalidField) × (selected Tape Six (0 ∷ 0 ∷ 0 ∷ 8 ∷ 0 ∷ 0 ∷ 0 ∷ 0 ∷ 0 ∷ 0 ∷ 0x02 ∷ 0 ∷ []) ≡ Err InvalidField)
+unfolding selected after_header after_descriptor after_pages has_page after_page is_page
 is_refused = (refl, refl, refl, refl, refl, refl, refl, refl)
 
 -- the first fault counts: a page that is refused, then one that ends early; and the other way round
-first_fault : (listed disk Six (0 ∷ 0 ∷ 0 ∷ 0 ∷ control 0x0c ++ 0x0a ∷ []) ≡ Err InvalidField) × (listed disk Six (0 ∷ 0 ∷ 0 ∷ 0 ∷ 0x0a ∷ 0x0c ∷ 0xff ∷ []) ≡ Err EndsEarly)
-unfolding selected after_list after_header after_pages has_page swp_after is_page
+first_fault : (selected disk Six (0 ∷ 0 ∷ 0 ∷ 0 ∷ control 0x0c ++ 0x0a ∷ []) ≡ Err InvalidField) × (selected disk Six (0 ∷ 0 ∷ 0 ∷ 0 ∷ 0x0a ∷ 0x0c ∷ 0xff ∷ []) ≡ Err EndsEarly)
+unfolding selected after_header after_pages has_page after_page is_page
 first_fault = (refl, refl)
 
 -- descriptors that change nothing: no number of blocks, all blocks, the disk's own; of a tape any bytes 1 to 4
-same_descriptors : (listed disk Six (0 ∷ 0 ∷ 0 ∷ 8 ∷ 0 ∷ 0 ∷ 0 ∷ 0 ∷ 0 ∷ 0 ∷ 0x02 ∷ 0 ∷ []) ≡ Ok false) × (listed disk Six (0 ∷ 0 ∷ 0 ∷ 8 ∷ 0xff ∷ 0xff ∷ 0xff ∷ 0xff ∷ 0 ∷ 0 ∷ 0x02 ∷ 0 ∷ []) ≡ Ok false)
-    × (listed Tape Six (0 ∷ 0 ∷ 0 ∷ 8 ∷ 0 ∷ 1 ∷ 2 ∷ 3 ∷ 4 ∷ 0 ∷ 0 ∷ 0 ∷ []) ≡ Ok false)
-unfolding selected after_list after_header after_descriptor after_pages
+same_descriptors : (selected disk Six (0 ∷ 0 ∷ 0 ∷ 8 ∷ 0 ∷ 0 ∷ 0 ∷ 0 ∷ 0 ∷ 0 ∷ 0x02 ∷ 0 ∷ []) ≡ Ok (Disk 4096 false)) × (selected disk Six (0 ∷ 0 ∷ 0 ∷ 8 ∷ 0xff ∷ 0xff ∷ 0xff ∷ 0xff ∷ 0 ∷ 0 ∷ 0x02 ∷ 0 ∷ []) ≡ Ok (Disk 4096 false))
+    × (selected Tape Six (0 ∷ 0 ∷ 0 ∷ 8 ∷ 0 ∷ 1 ∷ 2 ∷ 3 ∷ 4 ∷ 0 ∷ 0 ∷ 0 ∷ []) ≡ Ok Tape)
+unfolding selected after_header after_descriptor after_pages
 same_descriptors = (refl, refl, refl)

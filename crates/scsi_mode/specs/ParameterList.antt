@@ -3,13 +3,11 @@ use Rattle.std.specs.Prelude.{ℕ, zero, suc, ◌+◌, List, length, take, drop,
 use Rattle.byteorder.specs.Endian.{big_from}
 use Rattle.scsi_sense.specs.Sense.{plain_sense}
 use Rattle.scsi_sense.specs.declared.sense.Sense.{Sense}
-use Rattle.scsi_sense.specs.declared.code.SenseKey.TheVariants.{IllegalRequest}
-use Rattle.scsi_sense.specs.declared.code.AdditionalSense.TheVariants.{ParameterListLengthError, InvalidFieldInParameterList}
+use Rattle.scsi_sense.specs.declared.condition.Condition.TheVariants.{ParameterListLengthError, InvalidFieldInParameterList}
 use Rattle.scsi_cdb.specs.declared.mode.PageControl.TheVariants.{Current}
 use Rattle.scsi_cdb.specs.declared.mode.ParameterHeader.{ParameterHeader}
 use Rattle.scsi_cdb.specs.declared.mode.ParameterHeader.TheVariants.{Six, Ten}
-use Rattle.scsi_cdb.specs.declared.mode.ModeSelectFields.{ModeSelectFields}
-use Rattle.scsi_mode.specs.ModePages.{write_protect, caching_page, control_page}
+use Rattle.scsi_mode.specs.ModePages.{caching_page, control_page}
 use Rattle.scsi_mode.specs.Descriptor.{is_descriptor}
 use Rattle.scsi_mode.specs.declared.list_fault.ListFault.{ListFault}
 use Rattle.scsi_mode.specs.declared.list_fault.ListFault.TheVariants.{EndsEarly, InvalidField}
@@ -18,19 +16,20 @@ use Rattle.scsi_mode.specs.declared.parameters.Parameters.TheVariants.{Disk, Tap
 
 -- 05/1A00, 05/2600
 abbrev pub fault_sense : ListFault → Sense
-fault_sense EndsEarly = plain_sense IllegalRequest ParameterListLengthError
-fault_sense InvalidField = plain_sense IllegalRequest InvalidFieldInParameterList
+fault_sense EndsEarly = plain_sense ParameterListLengthError
+fault_sense InvalidField = plain_sense InvalidFieldInParameterList
 
 -- SPC-4 "MODE SELECT (6) command": a page of the list is this one; bit 7 of its first byte (PS) is not looked at
 unfoldable pub is_page : List ℕ → List ℕ → Bool
 is_page page expected = bit_and (slice_index page 0) 0x7f == slice_index expected 0 && bytes_eq (drop 1 page) (drop 1 expected)
 
--- own: what SWP is behind a page of the list: each page is as it is now, but that a disk's SWP may have either value
-unfoldable pub swp_after : Parameters → Bool → List ℕ → Result Bool ListFault
-swp_after (Disk block_count is_protected) swp page =
-    if is_page page (caching_page Current) then Ok swp else if is_page page (control_page false) then Ok false
-    else if is_page page (control_page true) then Ok true else Err InvalidField
-swp_after Tape swp page = if is_page page (control_page false) then Ok swp else Err InvalidField
+-- own: the parameters behind a page of the list: each page is as it is now, but that a disk's SWP may have either value
+unfoldable pub after_page : Parameters → List ℕ → Result Parameters ListFault
+after_page (Disk block_count is_protected) page =
+    if is_page page (caching_page Current) then Ok (Disk block_count is_protected)
+    else if is_page page (control_page false) then Ok (Disk block_count false)
+    else if is_page page (control_page true) then Ok (Disk block_count true) else Err InvalidField
+after_page Tape page = if is_page page (control_page false) then Ok Tape else Err InvalidField
 
 -- SPC-4 "Mode page format": byte 1 is the length of what follows in the page
 abbrev pub page_length : List ℕ → ℕ
@@ -45,21 +44,21 @@ abbrev pub page_if : List ℕ → Option ℕ
 page_if bytes = if has_page bytes then Some (page_length bytes) else None
 
 -- what f makes of what is Ok
-abbrev pub and_then : (Bool → Result Bool ListFault) → Result Bool ListFault → Result Bool ListFault
-and_then f (Ok swp) = f swp
+abbrev pub and_then : (Parameters → Result Parameters ListFault) → Result Parameters ListFault → Result Parameters ListFault
+and_then f (Ok parameters) = f parameters
 and_then f (Err fault) = Err fault
 
--- own: what SWP is behind pages, of which there are at most n: each is whole, and is then judged
-abbrev pub pages_within : ℕ → Parameters → Bool → List ℕ → Result Bool ListFault
-pages_within zero parameters swp bytes = Ok swp
-pages_within (suc n) parameters swp bytes =
-    if length bytes == 0 then Ok swp else if has_page bytes
-    then and_then (λ after. pages_within n parameters after (drop (page_length bytes) bytes)) (swp_after parameters swp (take (page_length bytes) bytes))
+-- own: the parameters behind pages, of which there are at most n: each is whole, and is then judged
+abbrev pub pages_within : ℕ → Parameters → List ℕ → Result Parameters ListFault
+pages_within zero parameters bytes = Ok parameters
+pages_within (suc n) parameters bytes =
+    if length bytes == 0 then Ok parameters else if has_page bytes
+    then and_then (λ after. pages_within n after (drop (page_length bytes) bytes)) (after_page parameters (take (page_length bytes) bytes))
     else Err EndsEarly
 
--- own: what SWP is behind the pages of a list
-unfoldable pub after_pages : Parameters → Bool → List ℕ → Result Bool ListFault
-after_pages parameters swp bytes = pages_within (length bytes) parameters swp bytes
+-- own: the parameters behind the pages of a list
+unfoldable pub after_pages : Parameters → List ℕ → Result Parameters ListFault
+after_pages parameters bytes = pages_within (length bytes) parameters bytes
 
 -- SPC-4 "Mode parameter header formats"
 abbrev pub header_length : ParameterHeader → ℕ
@@ -72,24 +71,19 @@ descriptor_length Six header = slice_index header 3
 descriptor_length Ten header = big_from 6 2 header
 
 -- own: a block descriptor, and then pages
-unfoldable pub after_descriptor : Parameters → List ℕ → Result Bool ListFault
+unfoldable pub after_descriptor : Parameters → List ℕ → Result Parameters ListFault
 after_descriptor parameters bytes =
     if nat_lt (length bytes) 8 then Err EndsEarly else if is_descriptor parameters bytes
-    then after_pages parameters (write_protect parameters) (drop 8 bytes) else Err InvalidField
+    then after_pages parameters (drop 8 bytes) else Err InvalidField
 
 -- own: behind a header whose descriptor length is this
-unfoldable pub after_header : Parameters → ℕ → List ℕ → Result Bool ListFault
+unfoldable pub after_header : Parameters → ℕ → List ℕ → Result Parameters ListFault
 after_header parameters descriptor_length bytes =
-    if descriptor_length == 0 then after_pages parameters (write_protect parameters) bytes else if descriptor_length == 8
+    if descriptor_length == 0 then after_pages parameters bytes else if descriptor_length == 8
     then after_descriptor parameters bytes else Err InvalidField
 
--- SPC-4 "MODE SELECT (6) command": what SWP is behind a parameter list, or the first fault; an empty list changes nothing
-unfoldable pub after_list : Parameters → ParameterHeader → List ℕ → Result Bool ListFault
-after_list parameters header list =
-    if length list == 0 then Ok (write_protect parameters) else if nat_lt (length list) (header_length header) then Err EndsEarly
+-- SPC-4 "MODE SELECT (6) command": the parameters behind a parameter list, or the first fault; an empty list changes nothing
+unfoldable pub selected : Parameters → ParameterHeader → List ℕ → Result Parameters ListFault
+selected parameters header list =
+    if length list == 0 then Ok parameters else if nat_lt (length list) (header_length header) then Err EndsEarly
     else after_header parameters (descriptor_length header list) (drop (header_length header) list)
-
--- SPC-4 "MODE SELECT (6) command", PARAMETER LIST LENGTH: the list is that much of the data, which has to be there
-unfoldable pub selected : Parameters → ModeSelectFields → List ℕ → Result Bool ListFault
-selected parameters fields bytes =
-    if nat_lt (length bytes) fields.list_length then Err EndsEarly else after_list parameters fields.header (take fields.list_length bytes)

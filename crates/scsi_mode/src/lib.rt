@@ -19,8 +19,9 @@ mod list;
 mod list_fault;
 mod page;
 mod parameters;
+mod put;
 
-pub use data::{has_pages, sense};
+pub use data::{Data, sense};
 pub use list::select;
 pub use list_fault::ListFault;
 pub use page::ModePage;

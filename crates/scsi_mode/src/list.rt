@@ -1,15 +1,14 @@
 //! The parameter list of MODE SELECT.
 
 ghost use Rattle.std.specs.Prelude.{◌≡◌, ◌<◌, ◌≤◌, length, IfSome};
-ghost use Rattle.scsi_mode.specs.ModePages.{write_protect};
-ghost use Rattle.scsi_mode.specs.ParameterList.{is_page, swp_after, page_if, after_pages, header_length, descriptor_length, after_descriptor, after_header, after_list, selected};
+ghost use Rattle.scsi_mode.specs.ParameterList.{is_page, after_page, page_if, after_pages, header_length, descriptor_length, after_descriptor, after_header, selected};
 
 use crate::descriptor::is_descriptor;
 use crate::list_fault::ListFault;
 use crate::page::{caching_page, control_page};
 use crate::parameters::Parameters;
 use byteorder::{BigEndian, ByteOrder};
-use scsi_cdb::{ModeSelectFields, PageControl, ParameterHeader};
+use scsi_cdb::{PageControl, ParameterHeader};
 
 /// PS, in byte 0 of a page.
 const WITHOUT_SAVEABLE: u8 = 0x7f;
@@ -27,17 +26,31 @@ fn is_page(page: &[u8], expected: &[u8]) -> bool
     page[0] & WITHOUT_SAVEABLE == expected[0] && page[1..] == expected[1..]
 }
 
-/// What SWP is behind a page of the list.
-#[tactic(auto, unfolding(crate::specs::ParameterList::swp_after))]
-fn swp_after(parameters: Parameters, swp: bool, page: &[u8]) -> Result<bool, ListFault>
+/// The parameters behind a page of the list.
+#[tactic(auto, unfolding(crate::specs::ParameterList::after_page))]
+fn after_page(parameters: Parameters, page: &[u8]) -> Result<Parameters, ListFault>
     requires { 0 < length page.now }
-    ensures { result ≡ swp_after parameters swp page.now }
+    ensures { result ≡ after_page parameters page.now }
 {
     match parameters {
-        Parameters::Disk { .. } if is_page(page, &caching_page(PageControl::Current)) => Ok(swp),
-        Parameters::Disk { .. } if is_page(page, &control_page(false)) => Ok(false),
-        Parameters::Disk { .. } if is_page(page, &control_page(true)) => Ok(true),
-        Parameters::Tape if is_page(page, &control_page(false)) => Ok(swp),
+        Parameters::Disk { .. } if is_page(page, &caching_page(PageControl::Current)) => {
+            Ok(parameters)
+        }
+        Parameters::Disk { block_count, .. } if is_page(page, &control_page(false)) => {
+            let write_protect = false;
+            Ok(Parameters::Disk {
+                block_count,
+                write_protect,
+            })
+        }
+        Parameters::Disk { block_count, .. } if is_page(page, &control_page(true)) => {
+            let write_protect = true;
+            Ok(Parameters::Disk {
+                block_count,
+                write_protect,
+            })
+        }
+        Parameters::Tape if is_page(page, &control_page(false)) => Ok(parameters),
         _ => Err(ListFault::InvalidField),
     }
 }
@@ -57,26 +70,26 @@ fn whole_page(list: &[u8]) -> Option<usize>
     }
 }
 
-/// What SWP is behind pages.
-fn after_pages(parameters: Parameters, list: &[u8]) -> Result<bool, ListFault>
-    ensures { result ≡ after_pages parameters (write_protect parameters) list.now }
+/// The parameters behind pages.
+fn after_pages(parameters: Parameters, list: &[u8]) -> Result<Parameters, ListFault>
+    ensures { result ≡ after_pages parameters list.now }
 {
-    let mut swp = parameters.write_protect();
+    let mut after = parameters;
     let mut rest = list;
     while !rest.is_empty() {
         let Some(length) = whole_page(rest) else {
             return Err(ListFault::EndsEarly);
         };
         let (page, others) = rest.split_at(length);
-        swp = swp_after(parameters, swp, page)?;
+        after = after_page(after, page)?;
         rest = others;
     }
-    Ok(swp)
+    Ok(after)
 }
 
 /// A block descriptor, and then pages.
 #[tactic(auto, unfolding(crate::specs::ParameterList::after_descriptor))]
-fn after_descriptor(parameters: Parameters, list: &[u8]) -> Result<bool, ListFault>
+fn after_descriptor(parameters: Parameters, list: &[u8]) -> Result<Parameters, ListFault>
     ensures { result ≡ after_descriptor parameters list.now }
 {
     if list.len() < DESCRIPTOR_LENGTH {
@@ -94,7 +107,7 @@ fn after_header(
     parameters: Parameters,
     descriptor_length: usize,
     list: &[u8],
-) -> Result<bool, ListFault>
+) -> Result<Parameters, ListFault>
     ensures { result ≡ after_header parameters descriptor_length list.now }
 {
     match descriptor_length {
@@ -104,17 +117,20 @@ fn after_header(
     }
 }
 
-/// A parameter list. An empty one changes nothing.
-#[tactic(auto, unfolding(crate::specs::ParameterList::after_list))]
-fn after_list(
+/// The parameters behind a MODE SELECT with this parameter list, or why it is refused and nothing changes
+/// (SPC-4 "MODE SELECT (6) command", "MODE SELECT (10) command"). The parts of the list are judged in turn:
+/// one may end early, and one may change anything but a disk's SWP; the first of these counts. An empty
+/// list changes nothing.
+#[tactic(auto, unfolding(crate::specs::ParameterList::selected))]
+pub fn select(
     parameters: Parameters,
     header: ParameterHeader,
     list: &[u8],
-) -> Result<bool, ListFault>
-    ensures { result ≡ after_list parameters header list.now }
+) -> Result<Parameters, ListFault>
+    ensures { result ≡ selected parameters header list.now }
 {
     if list.is_empty() {
-        return Ok(parameters.write_protect());
+        return Ok(parameters);
     }
     let length = match header {
         ParameterHeader::Six => 4,
@@ -128,23 +144,4 @@ fn after_list(
         ParameterHeader::Ten => usize::from(BigEndian::read_u16(&list[6..])),
     };
     after_header(parameters, descriptor_length, &list[length..])
-}
-
-/// What SWP is behind a MODE SELECT with this data, or why it is refused and nothing changes (SPC-4
-/// "MODE SELECT (6) command", "MODE SELECT (10) command"). The parts of the list are judged in turn:
-/// one may end early, as data shorter than the list do, and one may change anything but a disk's SWP;
-/// the first of these counts.
-#[tactic(auto, unfolding(crate::specs::ParameterList::selected))]
-pub fn select(
-    parameters: Parameters,
-    fields: ModeSelectFields,
-    data: &[u8],
-) -> Result<bool, ListFault>
-    ensures { result ≡ selected parameters fields «data».now }
-{
-    let length = fields.list_length as usize;
-    if data.len() < length {
-        return Err(ListFault::EndsEarly);
-    }
-    after_list(parameters, fields.header, &data[..length])
 }

@@ -3,7 +3,7 @@
 ghost use Rattle.std.specs.Prelude.{◌≡◌};
 ghost use Rattle.scsi_mode.specs.ParameterList.{fault_sense};
 
-use scsi_sense::{AdditionalSense, Sense, SenseKey};
+use scsi_sense::{Condition, Sense};
 
 /// Why a parameter list is refused.
 #[derive(Clone, Copy, Debug, PartialEq, Eq)]
@@ -19,10 +19,9 @@ impl ListFault {
     pub fn sense(self) -> Sense
         ensures { result ≡ fault_sense self }
     {
-        let code = match self {
-            ListFault::EndsEarly => AdditionalSense::ParameterListLengthError,
-            ListFault::InvalidField => AdditionalSense::InvalidFieldInParameterList,
-        };
-        Sense::new(SenseKey::IllegalRequest, code)
+        Sense::new(match self {
+            ListFault::EndsEarly => Condition::ParameterListLengthError,
+            ListFault::InvalidField => Condition::InvalidFieldInParameterList,
+        })
     }
 }

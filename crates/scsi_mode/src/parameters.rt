@@ -17,7 +17,7 @@ pub enum Parameters {
 
 impl Parameters {
     /// SWP. A tape's is never set.
-    pub(crate) fn write_protect(self) -> bool
+    pub fn write_protect(self) -> bool
         ensures { result ≡ write_protect self }
     {
         match self {

@@ -1,5 +1,5 @@
 -- What a command ended with.
-use Rattle.std.specs.Prelude.{ℕ, List, [], Option, Some, None}
+use Rattle.std.specs.Prelude.{ℕ, List, [], length, Option, Some, None}
 use Rattle.scsi_sense.specs.declared.sense.Sense.{Sense}
 use Rattle.scsi_sense.specs.declared.done.Status.{Status}
 use Rattle.scsi_sense.specs.declared.done.Status.TheVariants.{Good, CheckCondition}
@@ -16,6 +16,14 @@ pub record Outcome : Type 0 where
 -- GOOD, with nothing moved
 abbrev pub good : Outcome
 good = record { status = Good; sense = None; given = []; moved = 0 }
+
+-- GOOD with data
+abbrev pub good_with : List ℕ → Outcome
+good_with bytes = record { status = Good; sense = None; given = bytes; moved = length bytes }
+
+-- GOOD, and so many bytes were needed of what came with the command
+abbrev pub good_taking : ℕ → Outcome
+good_taking count = record { status = Good; sense = None; given = []; moved = count }
 
 -- CHECK CONDITION with this sense, with nothing moved
 abbrev pub check_condition : Sense → Outcome

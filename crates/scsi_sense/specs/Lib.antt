@@ -4,4 +4,3 @@ pub mod Done
 pub mod Nexus
 pub mod Attentions
 pub mod ExamplesSense
-pub mod Places

@@ -1,9 +1,10 @@
 //! What a command ended with.
 
-ghost use Rattle.std.specs.Prelude.{◌≡◌};
+ghost use Rattle.std.specs.Prelude.{◌≡◌, ◌<◌, ◌^◌, length};
 ghost use Rattle.scsi_sense.specs.Codes.{status_number};
 
 use crate::sense::Sense;
+use bytes::BytesMut;
 use std::alloc::Global;
 use std::marker::Model;
 
@@ -35,7 +36,7 @@ pub struct Done {
     /// There is sense where the status is CHECK CONDITION.
     pub sense: Option<Sense>,
     /// The data given, before it is cut to the expected length.
-    pub given: Vec<u8>,
+    pub given: BytesMut,
     /// The bytes that the command gave, or needed of what it was sent: the residual counts from it.
     pub moved: u32,
 }
@@ -49,7 +50,7 @@ impl Model for Done {
 }
 
 impl Done {
-    ghost use Rattle.scsi_sense.specs.Done.{good as good_outcome, check_condition as check_outcome};
+    ghost use Rattle.scsi_sense.specs.Done.{good as good_outcome, good_with as good_outcome_with, good_taking as good_outcome_taking, check_condition as check_outcome};
 
     /// GOOD, with nothing moved. It takes no memory.
     pub fn good(alloc: Global) -> Done
@@ -58,8 +59,34 @@ impl Done {
         Done {
             status: Status::Good,
             sense: None,
-            given: Vec::new(alloc),
+            given: BytesMut::new(alloc),
             moved: 0,
+        }
+    }
+
+    /// GOOD with data.
+    pub fn good_with(given: BytesMut) -> Done
+        requires { length given.items < 2 ^ 32 }
+        ensures { result ≡ good_outcome_with given.items }
+    {
+        let moved = given.len() as u32;
+        Done {
+            status: Status::Good,
+            sense: None,
+            given,
+            moved,
+        }
+    }
+
+    /// GOOD, where so many bytes were needed of what came with the command. It takes no memory.
+    pub fn good_taking(alloc: Global, count: u32) -> Done
+        ensures { result ≡ good_outcome_taking count }
+    {
+        Done {
+            status: Status::Good,
+            sense: None,
+            given: BytesMut::new(alloc),
+            moved: count,
         }
     }
 
@@ -70,7 +97,7 @@ impl Done {
         Done {
             status: Status::CheckCondition,
             sense: Some(sense),
-            given: Vec::new(alloc),
+            given: BytesMut::new(alloc),
             moved: 0,
         }
     }

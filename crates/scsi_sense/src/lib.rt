@@ -11,18 +11,19 @@
 //! byte 12-13   additional sense code and its qualifier
 //! ```
 //!
-//! Promised: [`Sense::bytes`] is exactly that layout, and each number is that of SPC-4's tables.
+//! Promised: [`Sense::bytes`] is exactly that layout, and each number is that of SPC-4's tables. A
+//! [`Condition`] has its sense key, so no code stands under another.
 //! [`Attentions`] keeps the codes in the order in which they were raised, and none twice.
 #![tactic(auto)]
 
 mod attentions;
-mod code;
+mod condition;
 mod done;
 mod nexus;
 mod sense;
 
 pub use attentions::Attentions;
-pub use code::{AdditionalSense, SenseKey};
+pub use condition::{Attention, Condition};
 pub use done::{Done, Status};
 pub use nexus::Nexus;
 pub use sense::Sense;

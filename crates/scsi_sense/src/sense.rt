@@ -3,13 +3,12 @@
 ghost use Rattle.std.specs.Prelude.{◌≡◌, if◌then◌else◌};
 ghost use Rattle.scsi_sense.specs.Sense.{plain_sense, sense_bytes};
 
-use crate::code::{AdditionalSense, SenseKey};
+use crate::condition::Condition;
 
 /// Why a command ended with CHECK CONDITION (SPC-4 "Sense data").
 #[derive(Clone, Copy, Debug, PartialEq, Eq)]
 pub struct Sense {
-    pub key: SenseKey,
-    pub code: AdditionalSense,
+    pub condition: Condition,
     /// A filemark was read or spaced over.
     pub filemark: bool,
     /// EOM: the end of the medium, or its early mark, was reached.
@@ -21,13 +20,12 @@ pub struct Sense {
 }
 
 impl Sense {
-    /// Sense of a key and a code, with no bit set and no information.
-    pub fn new(key: SenseKey, code: AdditionalSense) -> Sense
-        ensures { result ≡ plain_sense key code }
+    /// Sense of a condition, with no bit set and no information.
+    pub fn new(condition: Condition) -> Sense
+        ensures { result ≡ plain_sense condition }
     {
         Sense {
-            key,
-            code,
+            condition,
             filemark: false,
             end_of_medium: false,
             incorrect_length: false,
@@ -48,11 +46,11 @@ impl Sense {
             0x70
         };
         let information = self.information.unwrap_or(0).to_be_bytes();
-        let code = self.code.number().to_be_bytes();
+        let code = self.condition.code().to_be_bytes();
         [
             response_code,
             0,
-            flags | self.key.number(),
+            flags | self.condition.key(),
             information[0],
             information[1],
             information[2],

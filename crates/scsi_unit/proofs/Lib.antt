@@ -1,5 +1,6 @@
 pub mod Lists
 pub mod Rooms
-pub mod Performed
+pub mod CameOut
+pub mod DiskDone
 pub mod Found
 pub mod Sound

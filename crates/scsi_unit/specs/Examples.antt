@@ -1,28 +1,31 @@
 -- Commands to a disk of 4096 blocks and to a tape, computed.
 use Rattle.std.specs.Prelude.{◌≡◌, ◌^◌, List, ℕ, [], ◌∷◌, ◌++◌, true, false, replicate, refl}
 use Rattle.scsi_sense.specs.Sense.{plain_sense, sense_bytes}
-use Rattle.scsi_sense.specs.Done.{good, check_condition}
+use Rattle.scsi_sense.specs.Done.{good, good_with, good_taking, check_condition}
 use Rattle.scsi_sense.specs.Nexus.{NexusName}
-use Rattle.scsi_sense.specs.declared.code.SenseKey.TheVariants.{NoSense, UnitAttention, IllegalRequest}
-use Rattle.scsi_sense.specs.declared.code.AdditionalSense.TheVariants.{NoAdditionalSenseInformation, PowerOnOrReset, LogicalUnitNotSupported, ParameterListLengthError, ModeParametersChanged}
-use Rattle.scsi_cdb.specs.Operation.{invalid_operation_code}
-use Rattle.scsi_cdb.specs.Command.{invalid_field}
-use Rattle.scsi_cdb.specs.declared.command.Kind.TheVariants as kind
+use Rattle.scsi_sense.specs.declared.condition.Condition.TheVariants.{UnitAttention, NoAdditionalSenseInformation, LogicalUnitNotSupported, ParameterListLengthError}
+use Rattle.scsi_sense.specs.declared.condition.Attention.TheVariants.{PowerOnOrReset, ModeParametersChanged}
+use Rattle.scsi_cdb.specs.Fault.{invalid_operation_code, invalid_field}
+use Rattle.scsi_cdb.specs.declared.operation.Kind.TheVariants as kind
 use Rattle.scsi_inquiry.specs.Standard.{standard_data}
 use Rattle.scsi_inquiry.specs.Luns.{rising}
 use Rattle.scsi_inquiry.specs.declared.peripheral.Peripheral.TheVariants as peripheral
-use Rattle.scsi_mode.specs.ParameterList.{is_page, swp_after, has_page, after_pages, after_header, after_list, selected}
-use Rattle.scsi_unit.specs.Medium.{MediumState, Disk, Tape}
-use Rattle.scsi_unit.specs.Commands.{good_with, out_of_range, capacity_10, capacity_16}
-use Rattle.scsi_unit.specs.Joined.{told, told_before, raised_for_others, newly_joined}
+use Rattle.scsi_mode.specs.ParameterList.{is_page, after_page, has_page, after_pages, after_header, selected}
+use Rattle.scsi_unit.specs.Device.{DiskUnit, DeviceState, Disk, Tape}
+use Rattle.scsi_unit.specs.CameOut.{ReadFailed, touches}
+use Rattle.scsi_unit.specs.Checks.{judged, out_of_range, not_ready}
+use Rattle.scsi_unit.specs.DiskCommands.{capacity_10, capacity_16, unrecovered_read}
+use Rattle.scsi_unit.specs.Joined.{told, raised_for_others, newly_joined}
 use Rattle.scsi_unit.specs.Identity.{inquiry_outcome, luns_outcome, sense_outcome, without_unit, reported_luns}
-use Rattle.scsi_unit.specs.Modes.{mode_sense_outcome, list_taken}
-use Rattle.scsi_unit.specs.Unit.{UnitState, commanded, perform_at, reads_of, lun_number}
+use Rattle.scsi_unit.specs.State.{UnitState}
+use Rattle.scsi_unit.specs.Lun.{lun_number}
+use Rattle.scsi_unit.specs.Unit.{mode_sense_outcome, unit_done, performed_as, perform_at, touch_at}
 use Rattle.scsi_unit.specs.Units.{perform}
 use Rattle.scsi_unit.specs.declared.joined.Joined.{Joined}
 
 -- the last logical block address is 0fffh; one that four bytes don't hold is FFFFFFFFh
-capacity_10_data : (capacity_10 4096 ≡ 0 ∷ 0 ∷ 0x0f ∷ 0xff ∷ 0 ∷ 0 ∷ 0x02 ∷ 0 ∷ []) × (capacity_10 (2 ^ 33) ≡ 0xff ∷ 0xff ∷ 0xff ∷ 0xff ∷ 0 ∷ 0 ∷ 0x02 ∷ 0 ∷ [])
+capacity_10_data : (capacity_10 4096 ≡ 0 ∷ 0 ∷ 0x0f ∷ 0xff ∷ 0 ∷ 0 ∷ 0x02 ∷ 0 ∷ []) × (capacity_10
+    (2 ^ 33) ≡ 0xff ∷ 0xff ∷ 0xff ∷ 0xff ∷ 0 ∷ 0 ∷ 0x02 ∷ 0 ∷ [])
 capacity_10_data = (refl, refl)
 
 capacity_16_data : capacity_16 4096 ≡ 0 ∷ 0 ∷ 0 ∷ 0 ∷ 0 ∷ 0 ∷ 0x0f ∷ 0xff ∷ 0 ∷ 0 ∷ 0x02 ∷ 0 ∷ replicate 20 0
@@ -34,11 +37,21 @@ a = record { initiator_name = 97 ∷ []; isid = replicate 6 0 }
 abbrev b : NexusName
 b = record { initiator_name = 98 ∷ []; isid = replicate 6 0 }
 
-abbrev disk : MediumState
-disk = Disk (record { blocks = replicate 4096 (replicate 2 0x61); synced = false; failures = 0; honest = true; steady = true })
+abbrev the_disk : DiskUnit
+the_disk = record {
+  disk = record { blocks = replicate 4096 (replicate 2 0x61); synced = false; failures = 0; honest = true; steady = false };
+  is_ready = true;
+  write_protect = false;
+}
 
-abbrev unit_with : MediumState → List Joined → UnitState
-unit_with medium joined = record { lun = 0; serial = []; medium = medium; write_protect = false; joined = joined }
+abbrev disk : DeviceState
+disk = Disk the_disk
+
+abbrev protected_disk : DeviceState
+protected_disk = Disk (record the_disk { write_protect = true })
+
+abbrev unit_with : DeviceState → List Joined → UnitState
+unit_with device joined = record { lun = 0; serial = []; device = device; joined = joined }
 
 abbrev a_was_told : Joined
 a_was_told = record { nexus = a; attentions = [] }
@@ -48,9 +61,9 @@ test_unit_ready = replicate 16 0
 
 -- the power-on attention is told once, and to each nexus
 told_once : (perform_at a test_unit_ready [] (unit_with disk (newly_joined a ∷ newly_joined b ∷ []))
-    ≡ (unit_with disk (a_was_told ∷ newly_joined b ∷ []), check_condition (plain_sense UnitAttention PowerOnOrReset)))
+    ≡ (unit_with disk (a_was_told ∷ newly_joined b ∷ []), check_condition (plain_sense (UnitAttention PowerOnOrReset))))
     × (perform_at a test_unit_ready [] (unit_with disk (a_was_told ∷ newly_joined b ∷ [])) ≡ (unit_with disk (a_was_told ∷ newly_joined b ∷ []), good))
-unfolding perform_at told_before told commanded
+unfolding performed_as judged told unit_done
 told_once = (refl, refl)
 
 -- READ (10) from a logical block address of so many blocks
@@ -63,58 +76,103 @@ reads : ((perform_at a (read_10 0x0f 0xff 0 2) [] (unit_with disk (a_was_told �
     × ((perform_at a (read_10 0x10 0 0 0) [] (unit_with disk (a_was_told ∷ []))).1 ≡ good_with [])
     × ((perform_at a (read_10 0x10 0 0 1) [] (unit_with disk (a_was_told ∷ []))).1 ≡ check_condition out_of_range)
     × ((perform_at a (read_10 0x0f 0xff 0 1) [] (unit_with disk (a_was_told ∷ []))).1 ≡ good_with (replicate 2 0x61))
-unfolding perform_at told_before told commanded
+unfolding performed_as judged told unit_done
 reads = (refl, refl, refl, refl, refl)
 
--- a READ of the last block reads, and one of 0 blocks, one past the end, one that is refused and a TEST UNIT READY do not
-reads_blocks : (reads_of (read_10 0x0f 0xff 0 1) (unit_with disk []) ≡ true)
-    × (reads_of (read_10 0x10 0 0 0) (unit_with disk []) ≡ false)
-    × (reads_of (read_10 0x0f 0xff 0 2) (unit_with disk []) ≡ false)
-    × (reads_of (read_10 0x0f 0xff 0x08 0x01) (unit_with disk []) ≡ false)
-    × (reads_of (read_10 0 0 0 1) (unit_with Tape []) ≡ false)
-    × (reads_of test_unit_ready (unit_with disk []) ≡ false)
+-- a READ of the last block reads, and one of 0 blocks, one past the end, one that is refused, one in whose place an
+-- attention is told, and a TEST UNIT READY do not
+reads_blocks : (touches (touch_at a (read_10 0x0f 0xff 0 1) [] (unit_with disk (a_was_told ∷ []))) ≡ true)
+    × (touches (touch_at a (read_10 0x10 0 0 0) [] (unit_with disk (a_was_told ∷ []))) ≡ false)
+    × (touches (touch_at a (read_10 0x0f 0xff 0 2) [] (unit_with disk (a_was_told ∷ []))) ≡ false)
+    × (touches (touch_at a (read_10 0x0f 0xff 0x08 0x01) [] (unit_with disk (a_was_told ∷ []))) ≡ false)
+    × (touches (touch_at a (read_10 0x0f 0xff 0 1) [] (unit_with disk (newly_joined a ∷ []))) ≡ false)
+    × (touches (touch_at a test_unit_ready [] (unit_with disk (a_was_told ∷ []))) ≡ false)
+unfolding touch_at judged told
 reads_blocks = (refl, refl, refl, refl, refl, refl)
+
+abbrev inquiry : List ℕ
+inquiry = 0x12 ∷ 0 ∷ 0 ∷ 0 ∷ 36 ∷ replicate 11 0
+
+-- a read fails: 03/1100, and the store has one failure more
+read_fails : performed_as (ReadFailed true) a (read_10 0 0 0 1) [] (unit_with disk (a_was_told ∷ []))
+    ≡ (unit_with (Disk (record the_disk { disk = record the_disk.disk { failures = 1 } })) (a_was_told ∷ []), check_condition unrecovered_read)
+unfolding performed_as judged told
+read_fails = refl
+
+-- behind a write that failed the unit is not ready: TEST UNIT READY and READ are 04/4400, also where a field would be
+-- refused; an attention is told first, and INQUIRY and READ CAPACITY (10) go on
+abbrev failed : DeviceState
+failed = Disk (record the_disk { is_ready = false })
+
+is_not_ready : ((perform_at a test_unit_ready [] (unit_with failed (a_was_told ∷ []))).1 ≡ check_condition not_ready)
+    × ((perform_at a (read_10 0x0f 0xff 0x08 0x01) [] (unit_with failed (a_was_told ∷ []))).1 ≡ check_condition not_ready)
+    × ((perform_at a test_unit_ready [] (unit_with failed (newly_joined a ∷ []))).1 ≡ check_condition (plain_sense (UnitAttention PowerOnOrReset)))
+    × ((perform_at a inquiry [] (unit_with failed (a_was_told ∷ []))).1 ≡ good_with (standard_data (peripheral.Unit kind.Disk)))
+    × ((perform_at a (0x25 ∷ replicate 15 0) [] (unit_with failed (a_was_told ∷ []))).1 ≡ good_with (capacity_10 4096))
+unfolding performed_as judged told unit_done inquiry_outcome
+is_not_ready = (refl, refl, refl, refl, refl)
 
 -- a tape is ready; it has no READ (10) of disks, which is told before the attention is
 tapes : ((perform_at a test_unit_ready [] (unit_with Tape (a_was_told ∷ []))).1 ≡ good)
-    × (perform_at a (read_10 0 0 0 1) [] (unit_with Tape (newly_joined a ∷ [])) ≡ (unit_with Tape (newly_joined a ∷ []), check_condition invalid_operation_code))
-unfolding perform_at told_before told commanded
+    × (perform_at a (read_10 0 0 0 1) [] (unit_with Tape (newly_joined a ∷ [])) ≡ (
+      unit_with Tape (newly_joined a ∷
+          []),
+      check_condition invalid_operation_code,
+    ))
+unfolding performed_as judged told unit_done
 tapes = (refl, refl)
 
 -- LUN 1 where there is unit 0 alone: 05/2500
-no_unit : perform (unit_with disk [] ∷ []) a (0 ∷ 1 ∷ replicate 6 0) test_unit_ready [] ≡ (unit_with disk [] ∷ [], check_condition (plain_sense IllegalRequest LogicalUnitNotSupported))
+no_unit : perform (unit_with disk [] ∷ []) a (0 ∷ 1 ∷ replicate 6 0) test_unit_ready [] ≡ (
+  unit_with disk [] ∷
+      [],
+  check_condition (plain_sense LogicalUnitNotSupported),
+)
 unfolding perform lun_number without_unit
 no_unit = refl
 
 -- INQUIRY of 36 bytes, to a unit and where there is none; the attention stays to be told
-abbrev inquiry : List ℕ
-inquiry = 0x12 ∷ 0 ∷ 0 ∷ 0 ∷ 36 ∷ replicate 11 0
-
-inquired : (perform_at a inquiry [] (unit_with disk (newly_joined a ∷ [])) ≡ (unit_with disk (newly_joined a ∷ []), good_with (standard_data (peripheral.Unit kind.Disk))))
+inquired : (perform_at a inquiry [] (unit_with disk (newly_joined a ∷ [])) ≡ (
+  unit_with disk (newly_joined a ∷
+      []),
+  good_with (standard_data (peripheral.Unit kind.Disk)),
+))
     × (perform (unit_with disk [] ∷ []) a (0 ∷ 1 ∷ replicate 6 0) inquiry [] ≡ (unit_with disk [] ∷ [], good_with (standard_data peripheral.NoUnit)))
-unfolding perform perform_at told_before commanded inquiry_outcome lun_number without_unit
+unfolding perform performed_as judged told unit_done inquiry_outcome lun_number without_unit
 inquired = (refl, refl)
 
 -- cut to an allocation length of 5; page B0h of a tape, and a page where there is no unit, are no pages
 inquired_in_part : ((perform_at a (0x12 ∷ 0 ∷ 0 ∷ 0 ∷ 5 ∷ replicate 11 0) [] (unit_with disk [])).1 ≡ good_with (0 ∷ 0 ∷ 6 ∷ 2 ∷ 0x1f ∷ []))
     × ((perform_at a (0x12 ∷ 1 ∷ 0xb0 ∷ 0 ∷ 64 ∷ replicate 11 0) [] (unit_with Tape [])).1 ≡ check_condition invalid_field)
     × ((perform (unit_with disk [] ∷ []) a (0 ∷ 1 ∷ replicate 6 0) (0x12 ∷ 1 ∷ 0 ∷ 0 ∷ 64 ∷ replicate 11 0) []).1 ≡ check_condition invalid_field)
-unfolding perform perform_at told_before commanded inquiry_outcome lun_number without_unit
+unfolding perform performed_as judged told unit_done inquiry_outcome lun_number without_unit
 inquired_in_part = (refl, refl, refl)
 
 -- REQUEST SENSE gives the attention and takes it away; then there is nothing to tell; where there is no unit it gives 05/2500
 abbrev request_sense : List ℕ
 request_sense = 0x03 ∷ 0 ∷ 0 ∷ 0 ∷ 18 ∷ replicate 11 0
 
-requested : (perform_at a request_sense [] (unit_with disk (newly_joined a ∷ [])) ≡ (unit_with disk (a_was_told ∷ []), good_with (sense_bytes (plain_sense UnitAttention PowerOnOrReset))))
-    × (perform_at a request_sense [] (unit_with disk (a_was_told ∷ [])) ≡ (unit_with disk (a_was_told ∷ []), good_with (sense_bytes (plain_sense NoSense NoAdditionalSenseInformation))))
-    × (perform (unit_with disk [] ∷ []) a (0 ∷ 1 ∷ replicate 6 0) request_sense [] ≡ (unit_with disk [] ∷ [], good_with (sense_bytes (plain_sense IllegalRequest LogicalUnitNotSupported))))
-unfolding perform perform_at told told_before commanded sense_outcome lun_number without_unit
+requested : (perform_at a request_sense [] (unit_with disk (newly_joined a ∷ [])) ≡ (
+  unit_with disk (a_was_told ∷
+      []),
+  good_with (sense_bytes (plain_sense (UnitAttention PowerOnOrReset))),
+))
+    × (perform_at a request_sense [] (unit_with disk (a_was_told ∷ [])) ≡ (
+      unit_with disk (a_was_told ∷ []),
+      good_with
+          (sense_bytes (plain_sense NoAdditionalSenseInformation)),
+    ))
+    × (perform (unit_with disk [] ∷ []) a (0 ∷ 1 ∷ replicate 6 0) request_sense [] ≡ (
+      unit_with disk [] ∷ [],
+      good_with
+          (sense_bytes (plain_sense LogicalUnitNotSupported)),
+    ))
+unfolding perform performed_as judged told unit_done sense_outcome lun_number without_unit
 requested = (refl, refl, refl)
 
 -- of allocation length 0 it still takes the attention away
 requested_none : perform_at a (0x03 ∷ replicate 15 0) [] (unit_with disk (newly_joined a ∷ [])) ≡ (unit_with disk (a_was_told ∷ []), good_with [])
-unfolding perform_at told told_before commanded sense_outcome
+unfolding performed_as judged told unit_done sense_outcome
 requested_none = refl
 
 -- REPORT LUNS of LUN 1 and LUN 0, in rising order, sent to either, and where there is no unit
@@ -126,7 +184,7 @@ report_luns = 0xa0 ∷ replicate 8 0 ++ 255 ∷ replicate 6 0
 
 reported : (perform two_units a (0 ∷ 1 ∷ replicate 6 0) report_luns [] ≡ (two_units, good_with (0 ∷ 0 ∷ 0 ∷ 16 ∷ replicate 12 0 ++ 0 ∷ 1 ∷ replicate 6 0)))
     × ((perform two_units a (replicate 8 0) report_luns []).1 ≡ good_with (0 ∷ 0 ∷ 0 ∷ 16 ∷ replicate 12 0 ++ 0 ∷ 1 ∷ replicate 6 0))
-    × ((perform two_units a (0 ∷ 2 ∷ replicate 6 0) report_luns []).1 ≡ check_condition (plain_sense IllegalRequest LogicalUnitNotSupported))
+    × ((perform two_units a (0 ∷ 2 ∷ replicate 6 0) report_luns []).1 ≡ check_condition (plain_sense LogicalUnitNotSupported))
 unfolding perform lun_number luns_outcome rising reported_luns without_unit
 reported = (refl, refl, refl)
 
@@ -140,19 +198,26 @@ mode_select = 0x15 ∷ 0x10 ∷ 0 ∷ 0 ∷ 16 ∷ replicate 11 0
 abbrev b_is_to_be_told : List Joined
 b_is_to_be_told = a_was_told ∷ record { nexus = b; attentions = ModeParametersChanged ∷ [] } ∷ []
 
-mode_selects : (perform_at a mode_select sets_swp (unit_with disk (a_was_told ∷ record { nexus = b; attentions = [] } ∷ [])) ≡ (record (unit_with disk b_is_to_be_told) { write_protect = true }, list_taken 16))
-    × (perform_at a mode_select sets_swp (record (unit_with disk b_is_to_be_told) { write_protect = true }) ≡ (record (unit_with disk b_is_to_be_told) { write_protect = true }, list_taken 16))
-    × (perform_at b test_unit_ready [] (unit_with disk b_is_to_be_told) ≡ (unit_with disk (a_was_told ∷ record { nexus = b; attentions = [] } ∷ []), check_condition (plain_sense UnitAttention ModeParametersChanged)))
-unfolding perform_at told told_before commanded raised_for_others selected after_list after_header after_pages has_page swp_after is_page
+mode_selects : (perform_at a mode_select sets_swp (unit_with disk (a_was_told ∷ record { nexus = b; attentions = [] } ∷
+    [])) ≡ (unit_with protected_disk b_is_to_be_told, good_taking 16))
+    × (perform_at a mode_select sets_swp (unit_with protected_disk b_is_to_be_told) ≡ (unit_with protected_disk b_is_to_be_told, good_taking 16))
+    × (perform_at b test_unit_ready [] (unit_with disk b_is_to_be_told) ≡ (
+      unit_with disk (a_was_told ∷ record
+          { nexus = b; attentions = [] } ∷ []),
+      check_condition (plain_sense (UnitAttention ModeParametersChanged)),
+    ))
+unfolding performed_as judged told unit_done raised_for_others selected after_header after_pages has_page after_page is_page
 mode_selects = (refl, refl, refl)
 
 -- data shorter than the list: 05/1A00, and nothing changes
-mode_select_refused : perform_at a mode_select (0 ∷ 0 ∷ 0 ∷ 0 ∷ []) (unit_with disk (a_was_told ∷ [])) ≡ (unit_with disk (a_was_told ∷ []), check_condition (plain_sense IllegalRequest ParameterListLengthError))
-unfolding perform_at told told_before commanded selected
+mode_select_refused : perform_at a mode_select (0 ∷ 0 ∷ 0 ∷ 0 ∷ []) (unit_with disk (a_was_told ∷ [])) ≡
+    (unit_with disk (a_was_told ∷ []), check_condition (plain_sense ParameterListLengthError))
+unfolding performed_as judged told unit_done selected
 mode_select_refused = refl
 
 -- MODE SENSE (6) of page 0Ah without descriptor, of which 5 bytes are wanted; and of a page that a tape does not have
-mode_senses : ((perform_at a (0x1a ∷ 0x08 ∷ 0x0a ∷ 0 ∷ 5 ∷ replicate 11 0) [] (unit_with disk (a_was_told ∷ []))).1 ≡ good_with (0x0f ∷ 0 ∷ 0x10 ∷ 0 ∷ 0x0a ∷ []))
+mode_senses : ((perform_at a (0x1a ∷ 0x08 ∷ 0x0a ∷ 0 ∷ 5 ∷ replicate 11 0) [] (unit_with disk (a_was_told ∷
+    []))).1 ≡ good_with (0x0f ∷ 0 ∷ 0x10 ∷ 0 ∷ 0x0a ∷ []))
     × ((perform_at a (0x1a ∷ 0x08 ∷ 0x08 ∷ 0 ∷ 5 ∷ replicate 11 0) [] (unit_with Tape (a_was_told ∷ []))).1 ≡ check_condition invalid_field)
-unfolding perform_at told told_before commanded mode_sense_outcome
+unfolding performed_as judged told unit_done mode_sense_outcome
 mode_senses = (refl, refl)

@@ -1,11 +1,9 @@
 -- Who is joined to a unit, and the unit attentions that each has still to be told.
-use Rattle.std.specs.Prelude.{ℕ, List, [], ◌∷◌, ◌++◌, map, remove, position, Option, Some, None, slice_get, slice_set, if◌then◌else◌}
+use Rattle.std.specs.Prelude.{ℕ, Bool, true, false, not, List, [], ◌∷◌, ◌++◌, map, remove, position, Option, Some, None, slice_get, slice_set, if◌then◌else◌}
 use Rattle.scsi_sense.specs.Nexus.{NexusName, same_nexus}
 use Rattle.scsi_sense.specs.Attentions.{raised}
-use Rattle.scsi_sense.specs.declared.code.AdditionalSense.{AdditionalSense}
-use Rattle.scsi_sense.specs.declared.code.AdditionalSense.TheVariants.{PowerOnOrReset}
-use Rattle.scsi_cdb.specs.declared.operation.Operation.{Operation}
-use Rattle.scsi_cdb.specs.declared.operation.Operation.TheVariants.{RequestSense, Inquiry, ReportLuns}
+use Rattle.scsi_sense.specs.declared.condition.Attention.{Attention}
+use Rattle.scsi_sense.specs.declared.condition.Attention.TheVariants.{PowerOnOrReset}
 use Rattle.scsi_unit.specs.declared.joined.Joined.{Joined}
 
 -- where a nexus stands among those that are joined
@@ -32,34 +30,31 @@ left_at joined (Some at) = remove joined at
 abbrev pub without_nexus : NexusName → List Joined → List Joined
 without_nexus nexus joined = left_at joined (place_of nexus joined)
 
-abbrev pub told_of : List Joined → ℕ → Joined → List AdditionalSense → List Joined × Option AdditionalSense
+abbrev pub told_of : List Joined → ℕ → Joined → List Attention → List Joined × Option Attention
 told_of joined at j [] = (joined, None)
-told_of joined at j (code ∷ codes) = (slice_set joined at (record j { attentions = codes }), Some code)
+told_of joined at j (attention ∷ attentions) = (slice_set joined at (record j { attentions = attentions }), Some attention)
 
-abbrev pub told_at : List Joined → ℕ → Option Joined → List Joined × Option AdditionalSense
+abbrev pub told_at : List Joined → ℕ → Option Joined → List Joined × Option Attention
 told_at joined at None = (joined, None)
 told_at joined at (Some j) = told_of joined at j j.attentions
 
-abbrev pub told_in : List Joined → Option ℕ → List Joined × Option AdditionalSense
+abbrev pub told_in : List Joined → Option ℕ → List Joined × Option Attention
 told_in joined None = (joined, None)
 told_in joined (Some at) = told_at joined at (slice_get joined at)
 
 -- SAM-5 "Unit attention condition": the first that a nexus has still to be told, which is then taken away
-unfoldable pub told : NexusName → List Joined → List Joined × Option AdditionalSense
+unfoldable pub told : NexusName → List Joined → List Joined × Option Attention
 told nexus joined = told_in joined (place_of nexus joined)
 
--- SPC-4 "INQUIRY command", "REPORT LUNS command", "REQUEST SENSE command": these are done, and any other command has the first attention
--- told in its place
-unfoldable pub told_before : Operation → NexusName → List Joined → List Joined × Option AdditionalSense
-told_before RequestSense nexus joined = (joined, None)
-told_before Inquiry nexus joined = (joined, None)
-told_before ReportLuns nexus joined = (joined, None)
-told_before operation nexus joined = told nexus joined
+-- one that is joined, where it is this nexus, or another, that is to be told of a condition
+abbrev pub raised_where : NexusName → Bool → Attention → Joined → Joined
+raised_where nexus is_same attention j =
+    if (if is_same then same_nexus j.nexus nexus else not (same_nexus j.nexus nexus)) then record j { attentions = raised attention j.attentions } else j
 
--- one that is joined, where another than this nexus is to be told of a condition
-abbrev pub raised_unless : NexusName → AdditionalSense → Joined → Joined
-raised_unless nexus code j = if same_nexus j.nexus nexus then j else record j { attentions = raised code j.attentions }
+-- SAM-5 "Unit attention condition": this nexus is to be told
+unfoldable pub raised_for : NexusName → Attention → List Joined → List Joined
+raised_for nexus attention joined = map (raised_where nexus true attention) joined
 
 -- SAM-5 "Unit attention condition": all but the nexus whose command caused it are to be told
-unfoldable pub raised_for_others : NexusName → AdditionalSense → List Joined → List Joined
-raised_for_others nexus code joined = map (raised_unless nexus code) joined
+unfoldable pub raised_for_others : NexusName → Attention → List Joined → List Joined
+raised_for_others nexus attention joined = map (raised_where nexus false attention) joined

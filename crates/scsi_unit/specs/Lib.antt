@@ -4,6 +4,8 @@ pub use Rattle.scsi_sense.specs.Codes
 pub use Rattle.scsi_sense.specs.Sense
 pub use Rattle.scsi_sense.specs.Done
 pub use Rattle.scsi_sense.specs.Nexus
+pub use Rattle.scsi_cdb.specs.Range
+pub use Rattle.scsi_cdb.specs.Fault
 pub use Rattle.scsi_cdb.specs.Operation
 pub use Rattle.scsi_sense.specs.Attentions
 pub use Rattle.scsi_cdb.specs.Command
@@ -14,11 +16,15 @@ pub use Rattle.scsi_mode.specs.ModePages
 pub use Rattle.scsi_mode.specs.Descriptor
 pub use Rattle.scsi_mode.specs.ModeData
 pub use Rattle.scsi_mode.specs.ParameterList
-pub mod Medium
-pub mod Commands
+pub mod Lun
+pub mod Device
+pub mod CameOut
+pub mod DiskCommands
 pub mod Identity
-pub mod Modes
 pub mod Joined
+pub mod State
+pub mod Medium
+pub mod Checks
 pub mod Unit
 pub mod Units
 pub mod Examples

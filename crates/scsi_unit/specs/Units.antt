@@ -3,9 +3,12 @@ use Rattle.std.specs.Prelude.{◌≡◌, ℕ, All, IsTrue, List, map, Bool, true
 use Rattle.scsi_sense.specs.Done.{Outcome}
 use Rattle.scsi_sense.specs.Nexus.{NexusName}
 use Rattle.media_store.specs.Failures.{NoneFailed}
-use Rattle.scsi_unit.specs.Medium.{MediumState, failures_of, honest_of, steady_of}
-use Rattle.scsi_unit.specs.Identity.{without_unit, is_report_luns, reported_luns}
-use Rattle.scsi_unit.specs.Unit.{UnitState, joined_unit, left_unit, perform_at, lun_number, reads_of, IsPerformed}
+use Rattle.scsi_unit.specs.Device.{DeviceState, StoreState, store_of}
+use Rattle.scsi_unit.specs.CameOut.{touches}
+use Rattle.scsi_unit.specs.State.{UnitState}
+use Rattle.scsi_unit.specs.Identity.{without_unit, is_for_target, reported_luns}
+use Rattle.scsi_unit.specs.Lun.{lun_number}
+use Rattle.scsi_unit.specs.Unit.{joined_unit, left_unit, performed_as, perform_at, touch_at, IsPerformed}
 
 abbrev pub UnitStates : Type 0
 UnitStates = List UnitState
@@ -29,7 +32,7 @@ numbers_of units = map (λ unit. unit.lun) units
 abbrev pub performed_by : UnitStates → NexusName → List ℕ → List ℕ → ℕ → Option UnitState → UnitStates × Outcome
 performed_by units nexus cdb bytes at None = (units, without_unit cdb)
 performed_by units nexus cdb bytes at (Some unit) =
-    if is_report_luns cdb then (units, reported_luns (numbers_of units) cdb)
+    if is_for_target cdb then (units, reported_luns (numbers_of units) cdb)
     else let p = perform_at nexus cdb bytes unit in (slice_set units at p.0, p.1)
 
 abbrev pub performed_at : UnitStates → NexusName → List ℕ → List ℕ → Option ℕ → UnitStates × Outcome
@@ -42,49 +45,65 @@ performed_at units nexus cdb bytes (Some at) = performed_by units nexus cdb byte
 unfoldable pub perform : UnitStates → NexusName → List ℕ → List ℕ → List ℕ → UnitStates × Outcome
 perform units nexus lun cdb bytes = performed_at units nexus cdb bytes (unit_of units (lun_number lun))
 
--- own: whether a command reads blocks of the unit that stands at a place
-abbrev pub reads_there : List ℕ → Option UnitState → Bool
-reads_there cdb None = false
-reads_there cdb (Some unit) = reads_of cdb unit
-
--- own: whether a command reads blocks of the unit that a LUN names, where it names one
-abbrev pub reads_at : List ℕ → UnitStates → Option ℕ → Bool
-reads_at cdb units at = reads_there cdb (option_and_then (slice_get units) at)
+-- ---- soundness
 
 -- own: a store of which every answer agreed, and of which no call has failed
-pub record IsSoundMedium (medium : MediumState) : Type 0 where
-  pub honest : IsTrue (honest_of medium)
-  pub unfailed : failures_of medium ≡ 0
+pub record IsSoundStore (store : StoreState) : Type 0 where
+  pub honest : IsTrue store.honest
+  pub unfailed : store.failures ≡ 0
+
+abbrev pub IsSoundDevice : DeviceState → Type 0
+IsSoundDevice device = IsSoundStore (store_of device)
 
 -- own: the stores of all units are so
 abbrev pub AreSound : UnitStates → Type 0
-AreSound units = All (λ unit. IsSoundMedium unit.medium) units
+AreSound units = All (λ unit. IsSoundDevice unit.device) units
 
 -- own: a store that is so, and stays so whatever is asked of it
-pub record IsSureMedium (medium : MediumState) : Type 0 where
-  pub sound : IsSoundMedium medium
-  pub steady : IsTrue (steady_of medium)
+pub record IsSureStore (store : StoreState) : Type 0 where
+  pub sound : IsSoundStore store
+  pub steady : IsTrue store.steady
+
+abbrev pub IsSureDevice : DeviceState → Type 0
+IsSureDevice device = IsSureStore (store_of device)
 
 -- own: the stores of all units are so
 abbrev pub AreSure : UnitStates → Type 0
-AreSure units = All (λ unit. IsSureMedium unit.medium) units
+AreSure units = All (λ unit. IsSureDevice unit.device) units
 
--- own: what may come of a command to the unit at a place, whatever its medium does. The other units are as before.
+-- ---- what may come of a command
+
+-- own: of one to the unit at a place, whatever its medium does. The other units are as before.
 pub record IsAnsweredAt (nexus : NexusName) (cdb bytes : List ℕ) (at : ℕ) (old new : UnitStates) (done : Outcome) : Type 0 where
   pub unit : UnitState
   pub units : new ≡ slice_set old at unit
-  pub performed : IsPerformed (reads_of cdb (slice_index_or old at unit)) (perform_at nexus cdb bytes (slice_index_or old at unit)) (slice_index_or old at unit) unit done
+  pub performed :
+      let before = slice_index_or old at unit in
+      IsPerformed (touch_at nexus cdb bytes before) (λ came. performed_as came nexus cdb bytes before) before unit done
 
--- own: what may come of a command to the unit that a LUN names, or where it names none
+-- own: of one to the unit that a LUN names, or where it names none
 abbrev pub AreAnswered : NexusName → List ℕ → List ℕ → Option ℕ → UnitStates → UnitStates → Outcome → Type 0
 AreAnswered nexus cdb bytes None old new done = (new ≡ old) × (done ≡ without_unit cdb)
 AreAnswered nexus cdb bytes (Some at) old new done =
-    MatchBool (is_report_luns cdb) ((new ≡ old) × (done ≡ reported_luns (numbers_of old) cdb)) (IsAnsweredAt nexus cdb bytes at old new done)
+    MatchBool (is_for_target cdb) ((new ≡ old) × (done ≡ reported_luns (numbers_of old) cdb)) (IsAnsweredAt nexus cdb bytes at old new done)
 
--- own: the store of the unit that a LUN names, where it names one and the command reads of it, is still honest, and no
--- call of it failed
-abbrev pub IsTrusted : List ℕ → Option ℕ → UnitStates → UnitStates → Type 0
-IsTrusted cdb None old new = Unit {0}
-IsTrusted cdb (Some at) old new =
-    (unit : UnitState) → reads_of cdb (slice_index_or old at unit) ≡ true
-    → IsTrue (honest_of (slice_index_or new at unit).medium) × NoneFailed (failures_of (slice_index_or old at unit).medium) (failures_of (slice_index_or new at unit).medium)
+-- own: a store is still honest, and no call of it failed
+pub record IsTrustedStore (old new : StoreState) : Type 0 where
+  pub honest : IsTrue new.honest
+  pub none : NoneFailed old.failures new.failures
+
+-- own: the store of the unit that a LUN names is so, where it names one and the command does anything to its medium
+abbrev pub IsTrusted : NexusName → List ℕ → List ℕ → Option ℕ → UnitStates → UnitStates → Type 0
+IsTrusted nexus cdb bytes None old new = Unit {0}
+IsTrusted nexus cdb bytes (Some at) old new =
+    (unit : UnitState) → touches (touch_at nexus cdb bytes (slice_index_or old at unit)) ≡ true
+    → IsTrustedStore (store_of (slice_index_or old at unit).device) (store_of (slice_index_or new at unit).device)
+
+-- own: whether a command does anything to the medium of the unit that stands at a place
+abbrev pub touches_there : NexusName → List ℕ → List ℕ → Option UnitState → Bool
+touches_there nexus cdb bytes None = false
+touches_there nexus cdb bytes (Some unit) = touches (touch_at nexus cdb bytes unit)
+
+-- own: .. of the unit that a LUN names, where it names one
+abbrev pub touches_at : NexusName → List ℕ → List ℕ → UnitStates → Option ℕ → Bool
+touches_at nexus cdb bytes units place = touches_there nexus cdb bytes (option_and_then (slice_get units) place)

@@ -1,23 +1,19 @@
 //! INQUIRY, REPORT LUNS and the data of REQUEST SENSE, also where there is no unit.
 
 ghost use Rattle.std.specs.Prelude.{◌≡◌, ◌≤◌, [], length, take, IsOk, IfOk};
-ghost use Rattle.scsi_sense.specs.Done.{check_condition};
-ghost use Rattle.scsi_cdb.specs.Command.{invalid_field};
+ghost use Rattle.scsi_sense.specs.Done.{good_with, check_condition};
+ghost use Rattle.scsi_cdb.specs.Fault.{invalid_field};
 ghost use Rattle.scsi_inquiry.specs.Standard.{standard_data};
 ghost use Rattle.scsi_inquiry.specs.VpdPages.{most_serial, page_of};
-ghost use Rattle.scsi_unit.specs.Commands.{good_with, most_given};
+ghost use Rattle.scsi_unit.specs.DiskCommands.{most_given};
 ghost use Rattle.scsi_unit.specs.Identity.{told_serial, page_outcome, inquiry_outcome, luns_outcome, sense_outcome, unsupported, without_unit};
 
-use crate::commands::{done_with, done_with_cut, done_with_front, front};
 use crate::fault::Memory;
-use scsi_cdb::{Command, Kind, Operation, SelectReport};
+use crate::given::{done_with_front, front};
+use scsi_cdb::{Command, FieldFault, Kind, ReportLunsFields, Row, UnitCommand};
 use scsi_inquiry::{Peripheral, VpdPage, luns, page, standard};
-use scsi_sense::{AdditionalSense, Done, Sense, SenseKey};
+use scsi_sense::{Condition, Done, Sense};
 use std::alloc::Global;
-
-const INQUIRY: u8 = 0x12;
-
-const REQUEST_SENSE: u8 = 0x03;
 
 /// The most bytes of a serial number that are told.
 const MOST_SERIAL: usize = 32;
@@ -26,8 +22,7 @@ const MOST_SERIAL: usize = 32;
 pub(crate) fn field_refused(alloc: Global) -> Done
     ensures { result ≡ check_condition invalid_field }
 {
-    let code = AdditionalSense::InvalidFieldInCdb;
-    Done::check_condition(alloc, Sense::new(SenseKey::IllegalRequest, code))
+    Done::check_condition(alloc, FieldFault::InvalidField.sense())
 }
 
 /// Standard INQUIRY data.
@@ -66,11 +61,8 @@ fn page_inquiry(
     let Some(asked) = VpdPage::of(code, kind) else {
         return Ok(field_refused(alloc));
     };
-    if allocation_length == 0 {
-        return Ok(done_with(Vec::new(alloc)));
-    }
-    let bytes = page(alloc, kind, told_serial(serial), asked)?;
-    Ok(done_with_cut(bytes, allocation_length))
+    let bytes = page(kind, told_serial(serial), asked);
+    done_with_front(alloc, bytes.as_slice(), allocation_length)
 }
 
 /// INQUIRY of a unit.
@@ -97,18 +89,17 @@ pub(crate) fn inquiry(
 pub(crate) fn report_luns(
     alloc: Global,
     numbers: &[u8],
-    select: SelectReport,
-    allocation_length: u32,
+    fields: ReportLunsFields,
 ) -> Result<Done, Memory>
-    ensures done { IfOk result (λ done. done ≡ luns_outcome numbers.now select allocation_length) }
+    ensures done { IfOk result (λ done. done ≡ luns_outcome numbers.now fields) }
     ensures given { IfOk result (λ done. length done.given ≤ most_given) }
-    ensures nothing { (luns_outcome numbers.now select allocation_length).given ≡ [] → IsOk result }
+    ensures nothing { (luns_outcome numbers.now fields).given ≡ [] → IsOk result }
 {
-    if allocation_length == 0 {
-        return Ok(done_with(Vec::new(alloc)));
+    if fields.allocation_length == 0 {
+        return Ok(Done::good(alloc));
     }
-    let bytes = luns(alloc, select, numbers)?;
-    Ok(done_with_cut(bytes, allocation_length))
+    let bytes = luns(alloc, fields.select, numbers)?;
+    done_with_front(alloc, &bytes, fields.allocation_length)
 }
 
 /// Sense data, given as data with GOOD.
@@ -129,37 +120,34 @@ pub(crate) fn sense_data(
 fn not_supported() -> Sense
     ensures { result ≡ unsupported }
 {
-    Sense::new(
-        SenseKey::IllegalRequest,
-        AdditionalSense::LogicalUnitNotSupported,
-    )
+    Sense::new(Condition::LogicalUnitNotSupported)
 }
 
-/// What is answered where there is no unit: INQUIRY and REQUEST SENSE go on (SPC-4 "INQUIRY command",
-/// "REQUEST SENSE command"). There is no page then.
+/// What is answered where there is no unit: what passes a missing unit goes on. There is no page then.
 #[tactic(auto, unfolding(crate::specs::Identity::without_unit))]
 pub(crate) fn without_unit(alloc: Global, cdb: [u8; 16]) -> Result<Done, Memory>
     ensures done { IfOk result (λ done. done ≡ without_unit cdb) }
     ensures given { IfOk result (λ done. length done.given ≤ most_given) }
     ensures nothing { (without_unit cdb).given ≡ [] → IsOk result }
 {
-    let command = match cdb[0] {
-        INQUIRY => Operation::Inquiry.command(cdb),
-        REQUEST_SENSE => Operation::RequestSense.command(cdb),
-        _ => Err(not_supported()),
+    let operation = match Row::of(cdb[0]) {
+        Some(row) if row.passes_missing_unit => row.operation,
+        _ => return Ok(Done::check_condition(alloc, not_supported())),
     };
-    match command {
+    match operation.command(cdb) {
         Ok(
-            Command::Inquiry {
-                page: None,
-                allocation_length,
-            },
+            Command::Unit(
+                UnitCommand::Inquiry {
+                    page: None,
+                    allocation_length,
+                },
+            ),
         ) => standard_inquiry(alloc, Peripheral::NoUnit, allocation_length),
-        Ok(Command::Inquiry { page: Some(_), .. }) => Ok(field_refused(alloc)),
-        Ok(Command::RequestSense { allocation_length }) => {
+        Ok(Command::Unit(UnitCommand::Inquiry { page: Some(_), .. })) => Ok(field_refused(alloc)),
+        Ok(Command::Unit(UnitCommand::RequestSense { allocation_length })) => {
             sense_data(alloc, not_supported(), allocation_length)
         }
         Ok(_) => Ok(Done::check_condition(alloc, not_supported())),
-        Err(sense) => Ok(Done::check_condition(alloc, sense)),
+        Err(fault) => Ok(Done::check_condition(alloc, fault.sense())),
     }
 }

@@ -1,10 +1,9 @@
 //! Who is joined to a unit.
 
-ghost use Rattle.std.specs.Prelude.{◌≡◌, ◌<◌, length, None, IfSome, vec_len, vec_capacity};
-ghost use Rattle.scsi_unit.specs.Joined.{place_of, newly_joined, with_nexus, without_nexus, told, told_before, raised_unless, raised_for_others};
+ghost use Rattle.std.specs.Prelude.{◌≡◌, ◌<◌, length, map, IfSome, vec_len, vec_capacity};
+ghost use Rattle.scsi_unit.specs.Joined.{place_of, newly_joined, with_nexus, without_nexus, told, raised_where, raised_for, raised_for_others};
 
-use scsi_cdb::Operation;
-use scsi_sense::{AdditionalSense, Attentions, Nexus};
+use scsi_sense::{Attention, Attentions, Nexus};
 
 /// A nexus that is joined to a unit, and the unit attentions that it has still to be told, in order
 /// (SAM-5 "Unit attention condition").
@@ -27,7 +26,7 @@ fn entry(nexus: Nexus) -> Joined
     ensures { result ≡ newly_joined nexus }
 {
     let mut attentions = Attentions::new();
-    attentions.raise(AdditionalSense::PowerOnOrReset);
+    attentions.raise(Attention::PowerOnOrReset);
     Joined { nexus, attentions }
 }
 
@@ -53,10 +52,9 @@ pub(crate) fn leave(joined: &mut Vec<Joined>, nexus: &Nexus)
 
 /// The first attention that the nexus has still to be told, which is then taken away.
 #[tactic(auto, unfolding(crate::specs::Joined::told))]
-pub(crate) fn tell(joined: &mut [Joined], nexus: &Nexus) -> Option<AdditionalSense>
+pub(crate) fn tell(joined: &mut [Joined], nexus: &Nexus) -> Option<Attention>
     ensures joined { joined.new ≡ (told nexus.now joined.old).0 }
     ensures attention { result ≡ (told nexus.now joined.old).1 }
-    ensures none { result ≡ None → joined.new ≡ joined.old }
 {
     let at = position(joined, nexus)?;
     let code = joined[at].attentions.first()?;
@@ -67,49 +65,47 @@ pub(crate) fn tell(joined: &mut [Joined], nexus: &Nexus) -> Option<AdditionalSen
 
 /// The first attention that the nexus has still to be told, which stays.
 #[tactic(auto, unfolding(crate::specs::Joined::told))]
-pub(crate) fn pending(joined: &[Joined], nexus: &Nexus) -> Option<AdditionalSense>
+pub(crate) fn pending(joined: &[Joined], nexus: &Nexus) -> Option<Attention>
     ensures { result ≡ (told nexus.now joined.now).1 }
 {
     let at = position(joined, nexus)?;
     joined[at].attentions.first()
 }
 
-/// The attention that is told in place of this operation, which is then taken away: INQUIRY, REPORT LUNS
-/// and REQUEST SENSE are done whatever there is to be told.
-#[tactic(auto, unfolding(crate::specs::Joined::told_before))]
-pub(crate) fn tell_before(
-    joined: &mut [Joined],
-    nexus: &Nexus,
-    operation: Operation,
-) -> Option<AdditionalSense>
-    ensures joined { joined.new ≡ (told_before operation nexus.now joined.old).0 }
-    ensures attention { result ≡ (told_before operation nexus.now joined.old).1 }
-    ensures none { result ≡ None → joined.new ≡ joined.old }
-{
-    match operation {
-        Operation::Inquiry | Operation::ReportLuns | Operation::RequestSense => None,
-        _ => tell(joined, nexus),
-    }
-}
-
 impl Joined {
-    /// The attention is to be told, unless it is this nexus.
-    fn raise_unless(&mut self, nexus: &Nexus, code: AdditionalSense)
-        ensures { self.new ≡ raised_unless nexus.now code self.old }
+    /// The attention is to be told, where this is the nexus, or another, as asked.
+    fn raise_where(&mut self, nexus: &Nexus, is_same: bool, attention: Attention)
+        ensures { self.new ≡ raised_where nexus.now is_same attention self.old }
     {
-        if !self.nexus.is_same(nexus) {
-            self.attentions.raise(code);
+        let is_this = self.nexus.is_same(nexus);
+        if if is_same { is_this } else { !is_this } {
+            self.attentions.raise(attention);
         }
     }
 }
 
-/// All but this nexus have the attention to be told. It takes no memory.
-#[tactic(auto, unfolding(crate::specs::Joined::raised_for_others))]
-pub(crate) fn raise_for_others(joined: &mut [Joined], nexus: &Nexus, code: AdditionalSense)
-    ensures { joined.new ≡ raised_for_others nexus.now code joined.old }
+/// The nexus has an attention to be told, or all others have.
+fn raise_each(joined: &mut [Joined], nexus: &Nexus, is_same: bool, attention: Attention)
+    ensures { joined.new ≡ map (raised_where nexus.now is_same attention) joined.old }
 {
     for at in 0..joined.len() {
         let other = &mut joined[at];
-        other.raise_unless(nexus, code);
+        other.raise_where(nexus, is_same, attention);
     }
+}
+
+/// The nexus has an attention to be told. It takes no memory.
+#[tactic(auto, unfolding(crate::specs::Joined::raised_for))]
+pub(crate) fn raise(joined: &mut [Joined], nexus: &Nexus, attention: Attention)
+    ensures { joined.new ≡ raised_for nexus.now attention joined.old }
+{
+    raise_each(joined, nexus, true, attention);
+}
+
+/// All but this nexus have the attention to be told. It takes no memory.
+#[tactic(auto, unfolding(crate::specs::Joined::raised_for_others))]
+pub(crate) fn raise_for_others(joined: &mut [Joined], nexus: &Nexus, attention: Attention)
+    ensures { joined.new ≡ raised_for_others nexus.now attention joined.old }
+{
+    raise_each(joined, nexus, false, attention);
 }

@@ -6,27 +6,34 @@
 //! ```
 //!
 //! The first check that fails answers, in this order: the LUN names a unit, the unit has the
-//! operation, the nexus has no unit attention that it is still to be told, the fields of the command
-//! descriptor block, the range of blocks, the data, the medium. INQUIRY, REPORT LUNS and REQUEST SENSE pass
+//! operation, the nexus has no unit attention that it is still to be told, the medium is ready, the fields
+//! of the command descriptor block, the range of blocks, the data, the medium. INQUIRY, REPORT LUNS and REQUEST SENSE pass
 //! the attentions by, and INQUIRY and REQUEST SENSE the first check too.
 //!
-//! Promised: a command that reads no block does exactly what the definition `perform` says, to the unit and
-//! in its answer, whatever the stores are, and so does every command to a unit whose store is honest and
-//! steady. A READ of one block or more does so where the store of the unit that it is addressed to is still
-//! honest after it and no call of it failed. UNRECOVERED READ ERROR is told by such a READ alone, and only
-//! where that store's count of failures rose. The other units are as before.
+//! Promised: a command does exactly what the definition `perform` says, to the unit and in its answer, as
+//! long as the store of that unit is honest after it and no call of it failed; where it does nothing to the
+//! medium, or the store is steady, whatever else holds. What may come of any other is one of four ways
+//! (`CameOut`): as defined; the store gave wrong bytes; a read failed, which is told as UNRECOVERED READ
+//! ERROR and changes nothing; a write failed, which is told as WRITE ERROR, leaves the blocks of its range
+//! open, and the unit is not ready until it is opened again. A fault is told only where the store's count of
+//! failures rose. The other units are as before.
 //!
-//! Where an allocation fails nothing changes. No allocation can fail for a command that reads no block and
-//! gives no data: what is refused, what has an allocation length of 0, and a READ of no block.
+//! Where an allocation fails nothing changes. No allocation can fail for a command that gives no data, where
+//! the units are sound or it does not read: what is refused, what has an allocation length of 0, and a READ
+//! of no block.
 #![tactic(auto)]
 
-mod commands;
+mod buffers;
+mod device;
+mod disk_commands;
 mod fault;
+mod given;
 mod identity;
 mod joined;
 mod logical_unit;
-mod medium;
+mod lun;
 mod modes;
+mod refusal;
 mod unit;
 mod units;
 

@@ -1,62 +1,46 @@
 //! A logical unit as it lies in memory.
 
-ghost use Rattle.std.specs.Prelude.{◌≡◌, ◌≤◌, [], length, false, IsOk, IfOk, OnOk, OnErr};
+ghost use Rattle.std.specs.Prelude.{◌≡◌, ◌≤◌, [], length, take, false, IsTrue, IsOk, IfOk, OnOk, OnErr};
 ghost use Rattle.scsi_mode.specs.ParameterList.{selected};
-ghost use Rattle.scsi_unit.specs.Medium.{medium_state, IsSameMedium};
-ghost use Rattle.scsi_unit.specs.Commands.{IsShort, IsAnswered, command_outcome, reads_medium, most_given};
-ghost use Rattle.scsi_unit.specs.Unit.{unit_view, HasRoom, joined_unit, left_unit, parameters_of_unit, mode_selected, commanded, perform_at, reads_of, names_unit, IsPerformed, lun_number as number_of_lun};
+ghost use Rattle.scsi_unit.specs.Device.{device_view, parameters_of, store_of};
+ghost use Rattle.scsi_unit.specs.CameOut.{touches, AsDefined};
+ghost use Rattle.scsi_unit.specs.Checks.{judged, has_range, range_of, needed};
+ghost use Rattle.scsi_unit.specs.DiskCommands.{most_given};
+ghost use Rattle.scsi_unit.specs.State.{unit_view, HasRoom};
+ghost use Rattle.scsi_unit.specs.Unit.{joined_unit, left_unit, raised_unit, mode_selected, unit_done, carried_out, refused_with, performed_as, perform_at, touch_by, touch_at, names_unit, IsPerformed};
 ghost use Rattle.scsi_unit.specs.Joined.{told};
 ghost use Rattle.scsi_unit.specs.Identity.{sense_outcome, pending_sense};
 
-use crate::commands::{to_disk, to_tape};
+use crate::device::Device;
 use crate::fault::Memory;
 use crate::identity::{inquiry, report_luns, sense_data};
-use crate::joined::{Joined, join, leave, pending, raise_for_others, tell, tell_before};
-use crate::medium::Medium;
+use crate::joined::{Joined, join, leave, pending, raise, raise_for_others, tell};
+use crate::lun::Lun;
 use crate::modes::mode_sense;
+use crate::refusal::Refusal;
+use bytes::BytesMut;
 use media_store::Store;
-use scsi_cdb::{Cdb, Command, ModeSelectFields};
-use scsi_mode::{Parameters, select};
-use scsi_sense::{AdditionalSense, Done, Nexus, Sense, SenseKey, Status};
+use scsi_cdb::{Cdb, Command, ModeSelectFields, Row, UnitCommand};
+use scsi_mode::{ListFault, select};
+use scsi_sense::{Attention, Condition, Done, Nexus, Sense};
 use std::alloc::{AllocError, Global};
 
 /// A logical unit.
 #[derive(Drop)]
 pub(crate) struct LogicalUnit<S: Store> {
-    pub lun: u8,
+    pub lun: Lun,
     pub serial: String,
-    pub medium: Medium<S>,
-    /// SWP: writes are refused (SPC-4 "Control mode page").
-    pub write_protect: bool,
+    pub device: Device<S>,
     pub joined: Vec<Joined>,
 }
 
-/// The number that a LUN field names: byte 1, where all other bytes are zero (SAM-5 "Single level
-/// LUN structure").
-#[tactic(auto, unfolding(crate::specs::Unit::lun_number))]
-pub(crate) fn lun_number(field: [u8; 8]) -> Option<u8>
-    ensures { result ≡ number_of_lun field }
+/// How many bytes of data a command needs.
+fn needed(command: &Command) -> usize
+    ensures { result ≡ needed command.now }
 {
-    match field {
-        [0, number, 0, 0, 0, 0, 0, 0] => Some(number),
-        _ => None,
-    }
-}
-
-impl<S: Store> Medium<S> {
-    /// A command to the medium, with its fields judged.
-    fn answer(&mut self, alloc: Global, command: Command) -> Result<Done, Memory>
-        requires { IsShort command }
-        ensures done { IfOk result (IsAnswered command (medium_state self.old) (medium_state self.new)) }
-        ensures medium { IsSameMedium (medium_state self.old) (medium_state self.new) }
-        ensures given { IfOk result (λ done. length done.given ≤ most_given) }
-        ensures nothing { reads_medium (medium_state self.old) command ≡ false → (command_outcome (medium_state self.old) command).given ≡ [] → IsOk result }
-        ensures err { OnErr result (medium_state self.new ≡ medium_state self.old) }
-    {
-        match self {
-            Medium::Disk(disk) => to_disk(alloc, disk, command),
-            Medium::Tape => Ok(to_tape(alloc, command)),
-        }
+    match command {
+        Command::Unit(UnitCommand::ModeSelect(fields)) => fields.list_length as usize,
+        _ => 0,
     }
 }
 
@@ -65,8 +49,8 @@ impl<S: Store> LogicalUnit<S> {
     pub fn is_named(&self, field: [u8; 8]) -> bool
         ensures { result ≡ names_unit field (unit_view self.now) }
     {
-        match lun_number(field) {
-            Some(number) => number == self.lun,
+        match Lun::read(field) {
+            Some(lun) => lun.number() == self.lun.number(),
             None => false,
         }
     }
@@ -94,17 +78,11 @@ impl<S: Store> LogicalUnit<S> {
         leave(&mut self.joined, nexus);
     }
 
-    /// What its mode parameters tell.
-    fn parameters(&self) -> Parameters
-        ensures { result ≡ parameters_of_unit (unit_view self.now) }
+    /// A nexus has an attention to be told. It takes no memory.
+    pub fn raise(&mut self, nexus: &Nexus, attention: Attention)
+        ensures { unit_view self.new ≡ raised_unit nexus.now attention (unit_view self.old) }
     {
-        match &self.medium {
-            Medium::Disk(disk) => Parameters::Disk {
-                block_count: disk.block_count(),
-                write_protect: self.write_protect,
-            },
-            Medium::Tape => Parameters::Tape,
-        }
+        raise(self.joined.as_mut_slice(), nexus, attention);
     }
 
     /// REQUEST SENSE: the first attention is given as data, and is then taken away. The room for the data
@@ -121,19 +99,17 @@ impl<S: Store> LogicalUnit<S> {
         ensures nothing { (sense_outcome (pending_sense (told nexus.now self.old.joined.items).1) allocation_length).given ≡ [] → IsOk result }
         ensures err { OnErr result (unit_view self.new ≡ unit_view self.old) }
     {
-        let sense = match pending(self.joined.as_slice(), nexus) {
-            Some(code) => Sense::new(SenseKey::UnitAttention, code),
-            None => Sense::new(
-                SenseKey::NoSense,
-                AdditionalSense::NoAdditionalSenseInformation,
-            ),
+        let condition = match pending(self.joined.as_slice(), nexus) {
+            Some(attention) => Condition::UnitAttention(attention),
+            None => Condition::NoAdditionalSenseInformation,
         };
-        let done = sense_data(alloc, sense, allocation_length)?;
+        let done = sense_data(alloc, Sense::new(condition), allocation_length)?;
         let _ = tell(self.joined.as_mut_slice(), nexus);
         Ok(done)
     }
 
-    /// MODE SELECT with this data. Where SWP changes, all but this nexus are to be told. It takes no memory.
+    /// MODE SELECT with this data, which has the parameter list. Where a parameter changes, all but this
+    /// nexus are to be told. It takes no memory.
     fn mode_select(
         &mut self,
         alloc: Global,
@@ -141,94 +117,156 @@ impl<S: Store> LogicalUnit<S> {
         fields: ModeSelectFields,
         data: &[u8],
     ) -> Done
+        requires { fields.list_length ≤ length «data».now }
         ensures selected { (unit_view self.new, result) ≡ mode_selected nexus.now (unit_view self.old) fields.list_length
-            (selected (parameters_of_unit (unit_view self.old)) fields «data».now) }
+            (selected (parameters_of (device_view self.old.device)) fields.header (take fields.list_length «data».now)) }
+        ensures store { store_of (device_view self.new.device) ≡ store_of (device_view self.old.device) }
         ensures given { result.given ≡ [] }
     {
-        match select(self.parameters(), fields, data) {
-            Ok(write_protect) => {
-                if self.write_protect != write_protect {
-                    let code = AdditionalSense::ModeParametersChanged;
-                    raise_for_others(self.joined.as_mut_slice(), nexus, code);
+        let before = self.device.parameters();
+        let list = &data[..fields.list_length as usize];
+        match select(before, fields.header, list) {
+            Ok(parameters) => {
+                if parameters.write_protect() != before.write_protect() {
+                    let attention = Attention::ModeParametersChanged;
+                    raise_for_others(self.joined.as_mut_slice(), nexus, attention);
                 }
-                self.write_protect = write_protect;
-                Done {
-                    status: Status::Good,
-                    sense: None,
-                    given: Vec::new(alloc),
-                    moved: fields.list_length,
-                }
+                self.device.set_parameters(parameters);
+                Done::good_taking(alloc, fields.list_length)
             }
             Err(fault) => Done::check_condition(alloc, fault.sense()),
         }
     }
 
-    /// A command to the unit with this data, with its fields judged. Where an allocation fails nothing
-    /// changes.
-    #[tactic(auto, unfolding(crate::specs::Unit::commanded))]
-    fn carry_out(
+    /// A command to units of every kind. Where an allocation fails nothing changes.
+    #[tactic(auto, unfolding(crate::specs::Unit::unit_done))]
+    fn carry_out_of_any(
         &mut self,
         alloc: Global,
         nexus: &Nexus,
-        command: Command,
+        command: UnitCommand,
         data: &[u8],
     ) -> Result<Done, Memory>
-        requires { IsShort command }
-        ensures done { IfOk result (IsPerformed (reads_medium (medium_state self.old.medium) command) (commanded nexus.now «data».now (unit_view self.old) command) (unit_view self.old) (unit_view self.new)) }
+        requires { needed (Command.Unit command) ≤ length «data».now }
+        ensures done { IfOk result (λ done. (unit_view self.new, done) ≡ unit_done nexus.now «data».now (unit_view self.old) command) }
+        ensures store { store_of (device_view self.new.device) ≡ store_of (device_view self.old.device) }
         ensures given { IfOk result (λ done. length done.given ≤ most_given) }
-        ensures nothing { reads_medium (medium_state self.old.medium) command ≡ false → (commanded nexus.now «data».now (unit_view self.old) command).1.given ≡ [] → IsOk result }
+        ensures nothing { (unit_done nexus.now «data».now (unit_view self.old) command).1.given ≡ [] → IsOk result }
         ensures err { OnErr result (unit_view self.new ≡ unit_view self.old) }
     {
         match command {
-            Command::RequestSense { allocation_length } => {
+            UnitCommand::TestUnitReady => Ok(Done::good(alloc)),
+            UnitCommand::RequestSense { allocation_length } => {
                 self.request_sense(alloc, nexus, allocation_length)
             }
-            Command::Inquiry {
+            UnitCommand::Inquiry {
                 page,
                 allocation_length,
             } => {
                 let serial = self.serial.as_bytes();
-                inquiry(alloc, self.medium.kind(), serial, page, allocation_length)
+                inquiry(alloc, self.device.kind(), serial, page, allocation_length)
             }
-            Command::ReportLuns {
-                select,
-                allocation_length,
-            } => report_luns(alloc, &[self.lun], select, allocation_length),
-            Command::ModeSense(fields) => mode_sense(alloc, self.parameters(), fields),
-            Command::ModeSelect(fields) => Ok(self.mode_select(alloc, nexus, fields, data)),
-            Command::TestUnitReady
-            | Command::Read { .. }
-            | Command::ReadCapacity10
-            | Command::ReadCapacity16 { .. } => self.medium.answer(alloc, command),
+            UnitCommand::ReportLuns(fields) => report_luns(alloc, &[self.lun.number()], fields),
+            UnitCommand::ModeSense(fields) => mode_sense(alloc, self.device.parameters(), fields),
+            UnitCommand::ModeSelect(fields) => Ok(self.mode_select(alloc, nexus, fields, data)),
         }
     }
 
-    /// A command to the unit with this data: its operation code is judged first, then the attentions, then
-    /// its fields (own, after SPC-4). Where an allocation fails nothing changes.
-    #[tactic(auto, unfolding(crate::specs::Unit::perform_at))]
+    /// A command that no check refuses. Where an allocation fails nothing changes.
+    fn carry_out(
+        &mut self,
+        alloc: Global,
+        used: &mut Vec<BytesMut>,
+        nexus: &Nexus,
+        command: Command,
+        data: &[u8],
+    ) -> Result<Done, Memory>
+        requires range { IsTrue (has_range (device_view self.old.device) (range_of command)) }
+        requires enough { needed command ≤ length «data».now }
+        ensures done { IfOk result (IsPerformed (touch_by (device_view self.old.device) command)
+            (λ came. carried_out came nexus.now «data».now (unit_view self.old) command) (unit_view self.old) (unit_view self.new)) }
+        ensures given { IfOk result (λ done. length done.given ≤ most_given) }
+        ensures nothing { (IsTrue (touches (touch_by (device_view self.old.device) command)) → IsTrue (store_of (device_view self.old.device)).honest)
+            → (carried_out AsDefined nexus.now «data».now (unit_view self.old) command).1.given ≡ [] → IsOk result }
+        ensures err { OnErr result (unit_view self.new ≡ unit_view self.old) }
+    {
+        match command {
+            Command::Unit(command) => self.carry_out_of_any(alloc, nexus, command, data),
+            Command::Disk(command) => match &mut self.device {
+                Device::Disk(disk) => disk.carry_out(alloc, used, command),
+                Device::Tape => Ok(Done::check_condition(alloc, Cdb::no_operation())),
+            },
+        }
+    }
+
+    /// The command that the bytes spell, or the first check that refuses it (own, after SPC-4).
+    #[tactic(auto, unfolding(crate::specs::Checks::judged))]
+    fn judge(&self, nexus: &Nexus, cdb: [u8; 16], data: &[u8]) -> Result<Command, Refusal>
+        ensures judged { result ≡ judged nexus.now cdb «data».now (unit_view self.now) }
+        ensures range { IfOk result (λ command. IsTrue (has_range (device_view self.now.device) (range_of command))) }
+        ensures needed { IfOk result (λ command. needed command ≤ length «data».now) }
+    {
+        let Some(row) = Row::for_kind(cdb[0], self.device.kind()) else {
+            return Err(Refusal::Refused(Cdb::no_operation()));
+        };
+        if !row.passes_attention {
+            if let Some(attention) = pending(self.joined.as_slice(), nexus) {
+                return Err(Refusal::Told(attention));
+            }
+        }
+        if row.needs_ready && !self.device.is_ready() {
+            return Err(Refusal::Refused(Sense::new(Condition::InternalTargetFailure)));
+        }
+        let command = match row.operation.command(cdb) {
+            Ok(command) => command,
+            Err(fault) => return Err(Refusal::Refused(fault.sense())),
+        };
+        if !self.device.has_range(&command) {
+            let condition = Condition::LogicalBlockAddressOutOfRange;
+            return Err(Refusal::Refused(Sense::new(condition)));
+        }
+        if data.len() < needed(&command) {
+            return Err(Refusal::Refused(ListFault::EndsEarly.sense()));
+        }
+        Ok(command)
+    }
+
+    /// Tells why a command is refused.
+    fn refuse(&mut self, alloc: Global, nexus: &Nexus, refusal: Refusal) -> Done
+        ensures refused { (unit_view self.new, result) ≡ refused_with nexus.now (unit_view self.old) refusal }
+        ensures store { store_of (device_view self.new.device) ≡ store_of (device_view self.old.device) }
+        ensures given { result.given ≡ [] }
+    {
+        match refusal {
+            Refusal::Refused(sense) => Done::check_condition(alloc, sense),
+            Refusal::Told(attention) => {
+                let _ = tell(self.joined.as_mut_slice(), nexus);
+                let sense = Sense::new(Condition::UnitAttention(attention));
+                Done::check_condition(alloc, sense)
+            }
+        }
+    }
+
+    /// A command to the unit with this data. Where an allocation fails nothing changes.
+    #[tactic(auto, unfolding(crate::specs::Unit::performed_as, crate::specs::Unit::touch_at))]
     pub fn perform(
         &mut self,
         alloc: Global,
+        used: &mut Vec<BytesMut>,
         nexus: &Nexus,
         cdb: [u8; 16],
         data: &[u8],
     ) -> Result<Done, Memory>
-        ensures done { IfOk result (IsPerformed (reads_of cdb (unit_view self.old)) (perform_at nexus.now cdb «data».now (unit_view self.old)) (unit_view self.old) (unit_view self.new)) }
+        ensures done { IfOk result (IsPerformed (touch_at nexus.now cdb «data».now (unit_view self.old))
+            (λ came. performed_as came nexus.now cdb «data».now (unit_view self.old)) (unit_view self.old) (unit_view self.new)) }
         ensures given { IfOk result (λ done. length done.given ≤ most_given) }
-        ensures nothing { reads_of cdb (unit_view self.old) ≡ false → (perform_at nexus.now cdb «data».now (unit_view self.old)).1.given ≡ [] → IsOk result }
+        ensures nothing { (IsTrue (touches (touch_at nexus.now cdb «data».now (unit_view self.old))) → IsTrue (store_of (device_view self.old.device)).honest)
+            → (perform_at nexus.now cdb «data».now (unit_view self.old)).1.given ≡ [] → IsOk result }
         ensures err { OnErr result (unit_view self.new ≡ unit_view self.old) }
     {
-        let operation = match Cdb::operation(cdb, self.medium.kind()) {
-            Ok(operation) => operation,
-            Err(sense) => return Ok(Done::check_condition(alloc, sense)),
-        };
-        if let Some(code) = tell_before(self.joined.as_mut_slice(), nexus, operation) {
-            let sense = Sense::new(SenseKey::UnitAttention, code);
-            return Ok(Done::check_condition(alloc, sense));
-        }
-        match operation.command(cdb) {
-            Ok(command) => self.carry_out(alloc, nexus, command, data),
-            Err(sense) => Ok(Done::check_condition(alloc, sense)),
+        match self.judge(nexus, cdb, data) {
+            Ok(command) => self.carry_out(alloc, used, nexus, command, data),
+            Err(refusal) => Ok(self.refuse(alloc, nexus, refusal)),
         }
     }
 }

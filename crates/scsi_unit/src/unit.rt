@@ -1,18 +1,22 @@
 //! One logical unit.
 
-ghost use Rattle.std.specs.Prelude.{◌≡◌, ◌≤◌, ◌&&◌, [], length, false, IsOk, IfOk, OnOk, OnErr, string_bytes};
-ghost use Rattle.scsi_unit.specs.Medium.{Disk as DiskMedium, Tape as TapeMedium};
-ghost use Rattle.scsi_unit.specs.Commands.{most_given};
-ghost use Rattle.scsi_unit.specs.Unit.{unit_view, free_unit, joined_unit, left_unit, names_unit, reads_of, perform as performed, IsPerformed};
+ghost use Rattle.std.specs.Prelude.{◌≡◌, ◌≤◌, [], length, IsTrue, IsOk, IfOk, OnOk, OnErr, string_bytes};
+ghost use Rattle.scsi_unit.specs.Device.{opened, store_of, Tape as TapeDevice};
+ghost use Rattle.scsi_unit.specs.CameOut.{touches, AsDefined};
+ghost use Rattle.scsi_unit.specs.DiskCommands.{most_given};
+ghost use Rattle.scsi_unit.specs.State.{unit_view};
+ghost use Rattle.scsi_unit.specs.Unit.{free_unit, joined_unit, left_unit, raised_unit, perform_as, touch_with, IsPerformed};
 
+use crate::device::{Device, DiskDevice};
 use crate::fault::Memory;
 use crate::identity::without_unit;
 use crate::joined::Joined;
 use crate::logical_unit::LogicalUnit;
-use crate::medium::Medium;
+use crate::lun::Lun;
+use bytes::BytesMut;
 use media_block::Disk;
 use media_store::Store;
-use scsi_sense::{Done, Nexus};
+use scsi_sense::{Attention, Done, Nexus};
 use std::alloc::Global;
 use std::marker::Model;
 
@@ -20,11 +24,12 @@ use std::marker::Model;
 #[derive(Drop)]
 pub struct Unit<S: Store> {
     unit: LogicalUnit<S>,
+    used: Vec<BytesMut>,
     alloc: Global,
 }
 
 impl<S: Store> Model for Unit<S> {
-    ghost use Rattle.scsi_unit.specs.Unit.{UnitState, unit_view};
+    ghost use Rattle.scsi_unit.specs.State.{UnitState, unit_view};
 
     ghost Value = { UnitState };
 
@@ -34,32 +39,36 @@ impl<S: Store> Model for Unit<S> {
 impl<S: Store> Unit<S> {
     /// A disk. It takes no memory.
     pub fn disk(alloc: Global, lun: u8, serial: String, disk: Disk<S>) -> Unit<S>
-        ensures { result ≡ free_unit lun (string_bytes serial) (DiskMedium disk) }
+        ensures { result ≡ free_unit lun (string_bytes serial) (opened disk) }
     {
         Unit {
             unit: LogicalUnit {
-                lun,
+                lun: Lun::new(lun),
                 serial,
-                medium: Medium::Disk(disk),
-                write_protect: false,
+                device: Device::Disk(DiskDevice {
+                    disk,
+                    is_ready: true,
+                    write_protect: false,
+                }),
                 joined: Vec::new(alloc),
             },
+            used: Vec::new(alloc),
             alloc,
         }
     }
 
     /// An empty tape, loaded. It takes no memory.
     pub fn tape(alloc: Global, lun: u8, serial: String) -> Unit<S>
-        ensures { result ≡ free_unit lun (string_bytes serial) TapeMedium }
+        ensures { result ≡ free_unit lun (string_bytes serial) TapeDevice }
     {
         Unit {
             unit: LogicalUnit {
-                lun,
+                lun: Lun::new(lun),
                 serial,
-                medium: Medium::Tape,
-                write_protect: false,
+                device: Device::Tape,
                 joined: Vec::new(alloc),
             },
+            used: Vec::new(alloc),
             alloc,
         }
     }
@@ -89,12 +98,20 @@ impl<S: Store> Unit<S> {
         self.unit.leave(nexus);
     }
 
+    /// A nexus that is joined has an attention to be told, unless it has it already. It takes no memory.
+    pub fn raise(&mut self, nexus: &Nexus, attention: Attention)
+        ensures { self.new ≡ raised_unit nexus.now attention self.old }
+    {
+        self.unit.raise(nexus, attention);
+    }
+
     /// A command with this data that a LUN sends to the unit. The first check that fails answers, in this
     /// order: the LUN names this unit, it has the operation, the nexus has no attention to be told, the
-    /// fields of the command descriptor block, the range, the data, the medium. A store that fails is told
-    /// as UNRECOVERED READ ERROR, and nothing else changes. REPORT LUNS reports this unit alone. Where an
-    /// allocation fails nothing changes. A command that reads no block and gives no data takes no memory.
-    #[tactic(auto, unfolding(crate::specs::Unit::perform))]
+    /// medium is ready, the fields of the command descriptor block, the range, the data. A store that fails
+    /// is told: UNRECOVERED READ ERROR, and nothing else changes; WRITE ERROR, and the unit is not ready
+    /// until it is opened again. REPORT LUNS reports this unit alone. Where an allocation fails nothing
+    /// changes. A command that gives no data takes no memory; of one that reads, where the store is honest.
+    #[tactic(auto, unfolding(crate::specs::Unit::perform_as, crate::specs::Unit::touch_with))]
     pub fn perform(
         &mut self,
         nexus: &Nexus,
@@ -102,14 +119,17 @@ impl<S: Store> Unit<S> {
         cdb: [u8; 16],
         data: &[u8],
     ) -> Result<Done, Memory>
-        ensures done { IfOk result (IsPerformed (names_unit lun self.old && reads_of cdb self.old) (performed nexus.now lun cdb «data».now self.old) self.old self.new) }
+        ensures done { IfOk result (IsPerformed (touch_with nexus.now lun cdb «data».now self.old)
+            (λ came. perform_as came nexus.now lun cdb «data».now self.old) self.old self.new) }
         ensures given { IfOk result (λ done. length done.given ≤ most_given) }
-        ensures nothing { (names_unit lun self.old && reads_of cdb self.old) ≡ false → (performed nexus.now lun cdb «data».now self.old).1.given ≡ [] → IsOk result }
+        ensures nothing { (IsTrue (touches (touch_with nexus.now lun cdb «data».now self.old)) → IsTrue (store_of self.old.device).honest)
+            → (perform_as AsDefined nexus.now lun cdb «data».now self.old).1.given ≡ [] → IsOk result }
         ensures err { OnErr result (self.new ≡ self.old) }
     {
         if !self.unit.is_named(lun) {
             return without_unit(self.alloc, cdb);
         }
-        self.unit.perform(self.alloc, nexus, cdb, data)
+        self.unit
+            .perform(self.alloc, &mut self.used, nexus, cdb, data)
     }
 }

@@ -1,35 +1,40 @@
 //! The logical units of one target.
 
-ghost use Rattle.std.specs.Prelude.{All, ◌≡◌, ◌<◌, ◌≤◌, ◌+◌, ◌++◌, ◌∷◌, ℕ, List, [], length, map, replicate, false, IsOk, IfSome, IfOk, OnOk, OnErr, slice_set};
+ghost use Rattle.std.specs.Prelude.{All, ◌≡◌, ◌<◌, ◌≤◌, ◌+◌, ◌++◌, ◌∷◌, ℕ, List, [], length, map, replicate, IsTrue, IsOk, IfSome, IfOk, OnOk, OnErr, slice_set};
 ghost use Rattle.scsi_sense.specs.Nexus.{NexusName};
-ghost use Rattle.scsi_unit.specs.Commands.{most_given};
-ghost use Rattle.scsi_unit.specs.Unit.{unit_view, HasRoom, joined_unit, left_unit, lun_number as number_of_lun};
-ghost use Rattle.scsi_unit.specs.Units.{join, leave, perform as performed, unit_of, AreSound, AreSure, AreAnswered, IsTrusted, reads_at};
-ghost use Rattle.scsi_unit.specs.Identity.{reported_luns};
+ghost use Rattle.scsi_unit.specs.DiskCommands.{most_given};
+ghost use Rattle.scsi_unit.specs.State.{unit_view, HasRoom};
+ghost use Rattle.scsi_unit.specs.Unit.{joined_unit, left_unit};
+ghost use Rattle.scsi_unit.specs.Lun.{lun_number as number_of_lun};
+ghost use Rattle.scsi_unit.specs.Units.{join, leave, perform as performed, unit_of, AreSound, AreSure, AreAnswered, IsTrusted, touches_at};
+ghost use Rattle.scsi_unit.specs.Identity.{reported_luns, is_row_of_target};
+ghost use Rattle.scsi_cdb.specs.Operation.{row_of};
 
-use crate::commands::done_with;
+use crate::buffers::{MOST_KEPT, give_back};
 use crate::fault::Memory;
-use crate::identity::{field_refused, report_luns, without_unit};
-use crate::logical_unit::{LogicalUnit, lun_number};
+use crate::identity::{report_luns, without_unit};
+use crate::logical_unit::LogicalUnit;
+use crate::lun::Lun;
 use crate::unit::Unit;
+use bytes::BytesMut;
 use media_store::Store;
-use scsi_cdb::{Command, Operation};
+use scsi_cdb::{ReportLunsFields, Row};
 use scsi_sense::{Done, Nexus};
 use std::alloc::Global;
 use std::marker::Model;
-
-const REPORT_LUNS: u8 = 0xa0;
 
 /// The logical units of one target.
 #[derive(Drop)]
 pub struct Units<S: Store> {
     units: Vec<LogicalUnit<S>>,
+    /// Buffers that were given back. Their bytes never leave the target.
+    used: Vec<BytesMut>,
     alloc: Global,
 }
 
 impl<S: Store> Model for Units<S> {
     ghost use Rattle.std.specs.Prelude.{List, map};
-    ghost use Rattle.scsi_unit.specs.Unit.{UnitState, unit_view};
+    ghost use Rattle.scsi_unit.specs.State.{UnitState, unit_view};
 
     ghost Value = { List UnitState };
 
@@ -79,7 +84,7 @@ fn numbers<S: Store>(alloc: Global, units: &[LogicalUnit<S>]) -> Result<Vec<u8>,
 {
     let mut numbers = Vec::new(alloc);
     for unit in units {
-        numbers.push(unit.lun)?;
+        numbers.push(unit.lun.number())?;
     }
     Ok(numbers)
 }
@@ -95,21 +100,25 @@ fn reported_luns<S: Store>(
     ensures given { IfOk result (λ done. length done.given ≤ most_given) }
     ensures nothing { (reported_luns (map (λ unit. unit.lun) units.now) cdb).given ≡ [] → IsOk result }
 {
-    match Operation::ReportLuns.command(cdb) {
-        Ok(
-            Command::ReportLuns {
-                select,
-                allocation_length,
-            },
-        ) => {
-            if allocation_length == 0 {
-                return Ok(done_with(Vec::new(alloc)));
+    match ReportLunsFields::read(&cdb) {
+        Ok(fields) => {
+            if fields.allocation_length == 0 {
+                return Ok(Done::good(alloc));
             }
             let numbers = numbers(alloc, units)?;
-            report_luns(alloc, numbers.as_slice(), select, allocation_length)
+            report_luns(alloc, numbers.as_slice(), fields)
         }
-        Ok(_) => Ok(field_refused(alloc)),
-        Err(sense) => Ok(Done::check_condition(alloc, sense)),
+        Err(fault) => Ok(Done::check_condition(alloc, fault.sense())),
+    }
+}
+
+/// Whether the target answers a command for all its units.
+fn is_for_target(code: u8) -> bool
+    ensures { result ≡ is_row_of_target (row_of code) }
+{
+    match Row::of(code) {
+        Some(row) => row.operation.is_of_target(),
+        None => false,
     }
 }
 
@@ -122,7 +131,12 @@ impl<S: Store + Drop> Units<S> {
         for unit in units {
             made.push(unit.into_unit())?;
         }
-        Ok(Units { units: made, alloc })
+        let used = Vec::with_capacity(alloc, MOST_KEPT)?;
+        Ok(Units {
+            units: made,
+            used,
+            alloc,
+        })
     }
 }
 
@@ -150,19 +164,30 @@ impl<S: Store> Units<S> {
         }
     }
 
+    /// A buffer that a command gave its data in, and that has been sent, is used for the data of another. So
+    /// room that was filled once is not filled again. It takes no memory.
+    pub fn give_back(&mut self, buffer: BytesMut)
+        ensures { self.new ≡ self.old }
+    {
+        give_back(&mut self.used, buffer);
+    }
+
     /// Where the unit stands that a LUN names.
-    #[tactic(auto, unfolding(crate::specs::Unit::lun_number))]
+    #[tactic(auto, unfolding(crate::specs::Lun::lun_number))]
     fn position(&self, lun: [u8; 8]) -> Option<usize>
         ensures value { result ≡ unit_of self.now (number_of_lun lun) }
         ensures bound { IfSome result (λ at. at < length self.now) }
     {
-        let number = lun_number(lun)?;
-        self.units.iter().position(|unit| unit.lun == number)
+        let named = Lun::read(lun)?;
+        let number = named.number();
+        self.units
+            .iter()
+            .position(|unit| unit.lun.number() == number)
     }
 
     /// A command with this data to the unit that the LUN names. REPORT LUNS reports all units. It gives
-    /// 1,048,576 bytes at most. Where an allocation fails nothing changes. A command that reads no block and
-    /// gives no data takes no memory.
+    /// 1,048,576 bytes at most. Where an allocation fails nothing changes. A command that gives no data takes
+    /// no memory; of one that reads, where the units are sound.
     #[tactic(auto, unfolding(crate::specs::Units::perform))]
     pub fn perform(
         &mut self,
@@ -172,23 +197,23 @@ impl<S: Store> Units<S> {
         data: &[u8],
     ) -> Result<Done, Memory>
         ensures answered { IfOk result (AreAnswered nexus.now cdb «data».now (unit_of self.old (number_of_lun lun)) self.old self.new) }
-        ensures exact { IfOk result (λ done. IsTrusted cdb (unit_of self.old (number_of_lun lun)) self.old self.new
+        ensures exact { IfOk result (λ done. IsTrusted nexus.now cdb «data».now (unit_of self.old (number_of_lun lun)) self.old self.new
             → (self.new, done) ≡ performed self.old nexus.now lun cdb «data».now) }
         ensures sound { IfOk result (λ done. AreSound self.new → (self.new, done) ≡ performed self.old nexus.now lun cdb «data».now) }
         ensures back { AreSound self.new → AreSound self.old }
         ensures sure { AreSure self.old → AreSure self.new }
         ensures given { IfOk result (λ done. length done.given ≤ most_given) }
-        ensures nothing { reads_at cdb self.old (unit_of self.old (number_of_lun lun)) ≡ false
+        ensures nothing { (IsTrue (touches_at nexus.now cdb «data».now self.old (unit_of self.old (number_of_lun lun))) → AreSound self.old)
             → (performed self.old nexus.now lun cdb «data».now).1.given ≡ [] → IsOk result }
         ensures err { OnErr result (self.new ≡ self.old) }
     {
         let Some(at) = self.position(lun) else {
             return without_unit(self.alloc, cdb);
         };
-        if cdb[0] == REPORT_LUNS {
+        if is_for_target(cdb[0]) {
             return reported_luns(self.alloc, self.units.as_slice(), cdb);
         }
         let unit = &mut self.units[at];
-        unit.perform(self.alloc, nexus, cdb, data)
+        unit.perform(self.alloc, &mut self.used, nexus, cdb, data)
     }
 }

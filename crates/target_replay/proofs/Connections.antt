@@ -177,7 +177,7 @@ pass_one s sent h c text target lt stands free =
     let none = is_free_there s sent w target c lt stands free in
     let same : h ++ gone_of w c ≡ h = ap (λ (gone : History). h ++ gone) (none_gone w c none) ∙ append-nil h in
     let nothing : all_sent w c ≡ 0 = ap (λ (o : Option Life). length (out_now o)) none in
-    let unsent_ : sent c ≡ all_sent w c = omega (arith, nothing, (stands.links c lt).answered) in
+    let unsent_ : sent c ≡ all_sent w c = omega (arith, nothing, stands.answered c lt) in
     let as_before : (d : ℕ) → d < connection_limit → sent d ≡ with_sent sent c (all_sent w c) d = λ d below.
     elim (eqb_tells d c) [
       | inl e ↦ rw e.1 (unsent_ ∙ sym (sent_here sent c (all_sent w c)))

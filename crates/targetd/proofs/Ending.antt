@@ -11,9 +11,9 @@ use Rattle.call_record.specs.Noted.{Noted}
 use Rattle.command_line.specs.Words.{Command, Replay, Serve}
 use Rattle.command_line.specs.declared.fault.WordsFault.{WordsFault}
 use Rattle.command_line.specs.declared.fault.WordsFault.TheVariants as words
-use Rattle.scsi_unit.specs.Medium.{MediumState}
-use Rattle.scsi_unit.specs.Unit.{UnitState}
-use Rattle.scsi_unit.specs.Units.{UnitStates, IsSureMedium, AreSure}
+use Rattle.scsi_unit.specs.Device.{DeviceState}
+use Rattle.scsi_unit.specs.State.{UnitState}
+use Rattle.scsi_unit.specs.Units.{UnitStates, IsSureDevice, AreSure}
 use Rattle.iscsi_target.specs.World.{Setting, present, world}
 use Rattle.iscsi_target.specs.Stands.{Stands}
 use Rattle.iscsi_target.proofs.Standing.{stands_sent}
@@ -56,24 +56,24 @@ early_fault configured why.NoLunZero e = early_by configured why.NoLunZero (e (�
 
 -- ---- units in memory cannot fail
 
-medium_sure : (held : Held) (entry : MediumEntry) (medium : MediumState) → IsMediumOf held entry medium → is_in_memory entry ≡ true → IsSureMedium medium
+medium_sure : (held : Held) (entry : MediumEntry) (medium : DeviceState) → IsMediumOf held entry medium → is_in_memory entry ≡ true → IsSureDevice medium
 medium_sure held (MemoryDisk blocks) medium is in_memory =
-    subst IsSureMedium (sym is) (record { sound = record { honest = refl; unfailed = refl }; steady = refl })
+    subst IsSureDevice (sym is) (record { sound = record { honest = refl; unfailed = refl }; steady = refl })
 medium_sure held (FileDisk path) medium is in_memory = absurd cc
 medium_sure held (MemoryTape capacity early) medium is in_memory =
-    subst IsSureMedium (sym is) (record { sound = record { honest = refl; unfailed = refl }; steady = refl })
+    subst IsSureDevice (sym is) (record { sound = record { honest = refl; unfailed = refl }; steady = refl })
 
 all_none : {X : Type 0} (P : X → Type 0) → All P []
 all_none P i d below = absurd (omega arith)
 
 units_sure : (held : Held) (entries : List UnitEntry) (units : UnitStates) → AreEach (IsUnitOf held) entries units
     → list_all (λ unit. is_in_memory unit.medium) entries ≡ true → AreSure units
-units_sure held [] [] each all = all_none (λ (unit : UnitState). IsSureMedium unit.medium)
+units_sure held [] [] each all = all_none (λ (unit : UnitState). IsSureDevice unit.device)
 units_sure held [] (unit ∷ units) each all = absurd each
 units_sure held (entry ∷ entries) [] each all = absurd each
 units_sure held (entry ∷ entries) (unit ∷ units) each all =
     let both = and_parts (is_in_memory entry.medium) (list_all (λ (unit : UnitEntry). is_in_memory unit.medium) entries) all in
-    All-cons (λ (unit : UnitState). IsSureMedium unit.medium) unit units (medium_sure held entry.medium unit.medium each.0.medium both.0)
+    All-cons (λ (unit : UnitState). IsSureDevice unit.device) unit units (medium_sure held entry.medium unit.device each.0.medium both.0)
     (units_sure held entries units each.1 both.1)
 
 targets_sure : (held : Held) (targets : List TargetEntry) (units : List UnitStates) → AreUnitsOf held targets units

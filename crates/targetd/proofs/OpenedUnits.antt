@@ -6,8 +6,9 @@ use Rattle.std.specs.List.{list_all}
 use Rattle.std.proofs.lemmas.Bool.{lt-ltb, eq-eqb}
 use Rattle.std.proofs.lemmas.List.{take-replicate, drop-replicate, length-replicate, length-map, map-append}
 use Rattle.media_block.specs.Blocks.{DiskState, block_length, blocks_of, is_disk, disk_of}
-use Rattle.scsi_unit.specs.Medium.{MediumState}
-use Rattle.scsi_unit.specs.Unit.{UnitState, free_unit}
+use Rattle.scsi_unit.specs.Device.{DeviceState}
+use Rattle.scsi_unit.specs.State.{UnitState}
+use Rattle.scsi_unit.specs.Unit.{free_unit}
 use Rattle.scsi_unit.specs.Units.{UnitStates}
 use Rattle.target_config.specs.declared.configuration.UnitConfiguration.{UnitConfiguration}
 use Rattle.target_config.specs.declared.configuration.TargetConfiguration.{TargetConfiguration}
@@ -48,13 +49,13 @@ zero_opened count disk said synced failures honest steady =
     ∙ ap (λ (b : Bool). record disk { blocks = replicate count (replicate block_length 0); synced = false; failures = 0; honest = true; steady = b }) steady
 
 -- a unit over its medium
-pub unit_over : (held : Held) (entry : UnitEntry) (lun : ℕ) (medium : MediumState) (unit : UnitState) → unit ≡ free_unit lun entry.serial medium → lun ≡ natural entry.lun
+pub unit_over : (held : Held) (entry : UnitEntry) (lun : ℕ) (medium : DeviceState) (unit : UnitState) → unit ≡ free_unit lun entry.serial medium → lun ≡ natural entry.lun
     → IsMediumOf held entry.medium medium → IsUnitOf held entry unit
 unit_over held entry lun medium unit free number is =
-    let same : unit.medium ≡ medium = ap (λ (unit : UnitState). unit.medium) free in
+    let same : unit.device ≡ medium = ap (λ (unit : UnitState). unit.device) free in
     record {
-      free = free ∙ ap (λ (n : ℕ). free_unit n entry.serial medium) number ∙ ap (λ (m : MediumState). free_unit (natural entry.lun) entry.serial m) (sym same);
-      medium = subst (λ (m : MediumState). IsMediumOf held entry.medium m) (sym same) is;
+      free = free ∙ ap (λ (n : ℕ). free_unit n entry.serial medium) number ∙ ap (λ (m : DeviceState). free_unit (natural entry.lun) entry.serial m) (sym same);
+      medium = subst (λ (m : DeviceState). IsMediumOf held entry.medium m) (sym same) is;
     }
 
 -- one more of each

@@ -1,8 +1,9 @@
 -- The units that a configuration makes.
 use Rattle.std.specs.Prelude.{◌≡◌, ℕ, List, [], ◌∷◌, true, false, IsTrue, replicate}
 use Rattle.media_block.specs.Blocks.{DiskState, block_length, is_disk, disk_of}
-use Rattle.scsi_unit.specs.Medium.{MediumState, Disk, Tape}
-use Rattle.scsi_unit.specs.Unit.{UnitState, free_unit}
+use Rattle.scsi_unit.specs.Device.{DeviceState, opened, Tape}
+use Rattle.scsi_unit.specs.State.{UnitState}
+use Rattle.scsi_unit.specs.Unit.{free_unit}
 use Rattle.scsi_unit.specs.Units.{UnitStates}
 use Rattle.target_config.specs.Configuration.{MediumEntry, MemoryDisk, FileDisk, MemoryTape, UnitEntry, TargetEntry, natural}
 
@@ -21,15 +22,15 @@ pub record IsFileDisk (held : List ℕ) (disk : DiskState) : Type 0 where
   pub blocks : IsTrue disk.honest → disk.blocks ≡ disk_of held
 
 -- own: what a unit keeps its data on when it is opened
-abbrev pub IsMediumOf : Held → MediumEntry → MediumState → Type 0
-IsMediumOf held (MemoryDisk blocks) medium = medium ≡ Disk (zero_disk blocks)
-IsMediumOf held (FileDisk path) medium = (disk : DiskState) × (medium ≡ Disk disk) × IsFileDisk (held path) disk
+abbrev pub IsMediumOf : Held → MediumEntry → DeviceState → Type 0
+IsMediumOf held (MemoryDisk blocks) medium = medium ≡ opened (zero_disk blocks)
+IsMediumOf held (FileDisk path) medium = (disk : DiskState) × (medium ≡ opened disk) × IsFileDisk (held path) disk
 IsMediumOf held (MemoryTape capacity early) medium = medium ≡ Tape
 
 -- own: a unit as it is opened: no nexus is joined to it
 pub record IsUnitOf (held : Held) (entry : UnitEntry) (unit : UnitState) : Type 0 where
-  pub free : unit ≡ free_unit (natural entry.lun) entry.serial unit.medium
-  pub medium : IsMediumOf held entry.medium unit.medium
+  pub free : unit ≡ free_unit (natural entry.lun) entry.serial unit.device
+  pub medium : IsMediumOf held entry.medium unit.device
 
 -- each of the first list with the one at its place in the second, of which there are as many
 abbrev pub AreEach : {X Y : Type 0} → (X → Y → Type 0) → List X → List Y → Type 0

@@ -1,7 +1,8 @@
 use Rattle.std.proofs.Common.{◌≡◌, ◌++◌, ◌-◌, map, take, drop, length, replicate}
 use Rattle.std.specs.List.{AllWithin}
 use Rattle.scsi_sense.specs.Nexus.{NexusName}
-use Rattle.scsi_unit.specs.Unit.{unit_view, joined_unit, HasRoom}
+use Rattle.scsi_unit.specs.State.{unit_view, HasRoom}
+use Rattle.scsi_unit.specs.Unit.{joined_unit}
 use Rattle.scsi_unit.proofs.units.admit.Given as goal
 
 -- the units so far are joined, and the others have room and are as they were

@@ -1,6 +1,6 @@
 use Rattle.std.proofs.Common.{◌≡◌, map}
 use Rattle.std.specs.List.{AllWithin}
-use Rattle.scsi_unit.specs.Unit.{unit_view, HasRoom}
+use Rattle.scsi_unit.specs.State.{unit_view, HasRoom}
 use Rattle.scsi_unit.proofs.units.reserve.Given as goal
 
 -- the units are the same, and those so far have room

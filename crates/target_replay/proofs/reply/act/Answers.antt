@@ -3,6 +3,11 @@ use Rattle.target_replay.proofs.Joint.{open_same}
 use Rattle.target_replay.proofs.Replies.{open_acts, bytes_act, gone_acts}
 use Rattle.target_replay.proofs.reply.act.Goals as goal
 
+pub returns-then-is_open-clause-allowed : goal.returns-then-is_open-clause-allowed
+returns-then-is_open-clause-allowed g c =
+    let lt = rw c.in-Open.is at c.requires in
+    rw c.in-Open.is (λ s h stands. ap not (c.if-is_open.ensures ∙ open_same s _ _ c.args.target.now c.in-Open.c lt stands))
+
 pub returns-then-not-is_open-clause-allowed : goal.returns-then-not-is_open-clause-allowed
 returns-then-not-is_open-clause-allowed g c =
     let lt = rw c.in-Bytes.is at c.requires in

@@ -1,28 +1,34 @@
-use Rattle.std.proofs.Common.{refl, sym, subst}
-use Rattle.iscsi_order.specs.WindowState.{WindowState, Stands}
+use Rattle.std.proofs.Common.{refl, sym, subst, ap, ◌∙◌, arith}
+use Rattle.std.specs.Prelude.{is_some}
+use Rattle.std.proofs.lemmas.List.{length-map}
+use Rattle.iscsi_order.specs.WindowState.{WindowKeys, Stands, marked}
 use Rattle.iscsi_order.proofs.Held.{within_more}
 use Rattle.iscsi_order.proofs.Standing.{none_taken, hands}
+use Rattle.iscsi_order.proofs.Keys.{marked_at, turned_marks}
 use Rattle.iscsi_order.proofs.window.Window.take.Goals as goal
 
-pub returns-then-not-self-clause-number : goal.returns-then-not-self-clause-number
-returns-then-not-self-clause-number c past s =
-    let known = subst (λ (w : WindowState). Stands past w) (sym c.self.view_is) s in
-    rw (none_taken past _ _ _ known c.if-not-self.true) refl
+pub returns-in_err-key-clause-number : goal.returns-in_err-key-clause-number
+returns-in_err-key-clause-number c past s =
+    let known = subst (λ (w : WindowKeys). Stands past (marked w)) (sym c.self.view_is) s in
+    rw (c.from_residual.ensures, none_taken past _ _ _ known (marked_at c.self.inside.held 0 ∙ ap is_some c.in_err-key.was)) refl
 
-pub returns-then-not-self-clause-stands : goal.returns-then-not-self-clause-stands
-returns-then-not-self-clause-stands c past s =
-    let known = subst (λ (w : WindowState). Stands past w) (sym c.self.view_is) s in
-    rw (none_taken past _ _ _ known c.if-not-self.true) s
+pub returns-in_err-key-clause-stands : goal.returns-in_err-key-clause-stands
+returns-in_err-key-clause-stands c past s =
+    let known = subst (λ (w : WindowKeys). Stands past (marked w)) (sym c.self.view_is) s in
+    rw (none_taken past _ _ _ known (marked_at c.self.inside.held 0 ∙ ap is_some c.in_err-key.was)) s
 
 pub invariant_of-self : goal.invariant_of-self
-invariant_of-self c = rw c.rotate_left.ensures.after (within_more _ _ c.self.told c.if-not-self.false c.self.invariant)
+invariant_of-self c =
+    rw (c.rotate_left.ensures.after, turned_marks c.self.inside.held (omega arith))
+    (within_more _ _ (omega (arith, length-map c.self.inside.held is_some)) (marked_at c.self.inside.held 0 ∙ ap is_some c.in_ok-key.was) c.self.invariant)
 
 pub returns-clause-number : goal.returns-clause-number
 returns-clause-number c past s =
-    let known = subst (λ (w : WindowState). Stands past w) (sym c.self.view_is) s in
-    sym (hands past _ _ _ known c.if-not-self.false).number
+    let known = subst (λ (w : WindowKeys). Stands past (marked w)) (sym c.self.view_is) s in
+    ap is_some (sym (hands past _ _ _ known (marked_at c.self.inside.held 0 ∙ ap is_some c.in_ok-key.was)).number)
 
 pub returns-clause-stands : goal.returns-clause-stands
 returns-clause-stands c past s =
-    let known = subst (λ (w : WindowState). Stands past w) (sym c.self.view_is) s in
-    rw c.rotate_left.ensures.after (hands past _ _ _ known c.if-not-self.false).stands
+    let known = subst (λ (w : WindowKeys). Stands past (marked w)) (sym c.self.view_is) s in
+    rw (c.rotate_left.ensures.after, turned_marks c.self.inside.held (omega arith)) (hands past _ _ _ known (marked_at c.self.inside.held 0
+    ∙ ap is_some c.in_ok-key.was)).stands

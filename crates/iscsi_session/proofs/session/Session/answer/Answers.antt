@@ -1,54 +1,96 @@
-use Rattle.std.proofs.Common.{sym, ap, ◌∙◌}
-use Rattle.iscsi_pdu.specs.Frames.{Frame}
+use Rattle.std.proofs.Common.{◌++◌, List, sym, ap, subst, ◌∙◌}
+use Rattle.std.specs.Prelude.{flat_map}
+use Rattle.iscsi_pdu.specs.Answer.{spelling}
+use Rattle.iscsi_pdu.specs.declared.answer.Answer.{Answer}
+use Rattle.iscsi_session.specs.Requests.{moved, answering}
+use Rattle.iscsi_session.specs.State.{SessionState, Stands}
 use Rattle.iscsi_session.proofs.Parts.{parts}
-use Rattle.iscsi_session.proofs.Remembered.{turn_frame}
-use Rattle.iscsi_session.proofs.Answered.{same_frame, opcode_same, ping_stands, ping_out, ping_act, logout_stands, logout_out, logout_act}
+use Rattle.iscsi_session.proofs.Answered.{IsOther, kind_of, finished_here, some_due, ping_act, ping_same, logout_act, logout_same, other_act, other_is, one_spelled, none_spelled, stands_silent}
 use Rattle.iscsi_session.proofs.session.Session.answer.Goals as goal
 
 pub returns-in_default-clause-act : goal.returns-in_default-clause-act
-returns-in_default-clause-act c answered past request others s t is = absurd (let there = c.in_default.ensures.frame ∙ turn_frame answered past _ _ request others s t in cc)
+returns-in_default-clause-act c past k rest s is e =
+    let known = subst (λ (x : SessionState). Stands past x) (sym c.self.view_is) s in
+    absurd (some_due past _ k rest known is c.in_default.ensures.none)
 
 pub returns-in_default-clause-stands : goal.returns-in_default-clause-stands
-returns-in_default-clause-stands c answered past request others s t is = absurd (let there = c.in_default.ensures.frame ∙ turn_frame answered past _ _ request others s t in cc)
+returns-in_default-clause-stands c past k rest s is e =
+    let known = subst (λ (x : SessionState). Stands past x) (sym c.self.view_is) s in
+    absurd (some_due past _ k rest known is c.in_default.ensures.none)
 
 pub returns-in_default-clause-out : goal.returns-in_default-clause-out
-returns-in_default-clause-out c answered past request others s t is = absurd (let there = c.in_default.ensures.frame ∙ turn_frame answered past _ _ request others s t in cc)
+returns-in_default-clause-out c past k rest s is e =
+    let known = subst (λ (x : SessionState). Stands past x) (sym c.self.view_is) s in
+    absurd (some_due past _ k rest known is c.in_default.ensures.none)
 
 -- ---- a NOP-Out
 
 pub returns-in-NopOut-clause-act : goal.returns-in-NopOut-clause-act
-returns-in-NopOut-clause-act c answered past request others s t is =
-    let same = same_frame _ request.frame _ c.in-Some.ensures.frame (turn_frame answered past _ _ request others s t) in
-    ping_act past request (sym (opcode_same _ request.frame _ (ap (λ (f : Frame). f.header) c.frame.view_is) same) ∙ sym c.in-NopOut.ensures)
+returns-in-NopOut-clause-act c past k rest s is e =
+    let known = subst (λ (x : SessionState). Stands past x) (sym c.self.view_is) s in
+    let f = finished_here past _ k rest c.in-Some.frame _ known is e c.in-Some.ensures.some c.in-Some.ensures.same in
+    let kind = sym (ap kind_of (c.frame.view_is ∙ f.0)) ∙ sym c.opcode.ensures ∙ c.in-NopOut.is in
+    ping_act k past kind
 
 pub returns-in-NopOut-clause-stands : goal.returns-in-NopOut-clause-stands
-returns-in-NopOut-clause-stands c answered past request others s t is =
-    let same = same_frame _ request.frame _ c.in-Some.ensures.frame (turn_frame answered past _ _ request others s t) in
-    ping_stands answered past request _ _ is same (sym (opcode_same _ request.frame _ (ap (λ (f : Frame). f.header) c.frame.view_is) same) ∙ sym c.in-NopOut.ensures)
-    (c.return_ping.ensures.stands answered _ (c.take_out.ensures.stands answered past request others s t is))
+returns-in-NopOut-clause-stands c past k rest s is e =
+    let known = subst (λ (x : SessionState). Stands past x) (sym c.self.view_is) s in
+    let f = finished_here past _ k rest c.in-Some.frame _ known is e c.in-Some.ensures.some c.in-Some.ensures.same in
+    let kind = sym (ap kind_of (c.frame.view_is ∙ f.0)) ∙ sym c.opcode.ensures ∙ c.in-NopOut.is in
+    subst (λ (l : List Answer). Stands (answering l (moved k past)) c.return_ping.new.self) (ping_same k past c.in-Some.frame f.0 kind)
+    (c.return_ping.ensures.stands (moved k past) f.1)
 
 pub returns-in-NopOut-clause-out : goal.returns-in-NopOut-clause-out
-returns-in-NopOut-clause-out c answered past request others s t is =
-    let same = same_frame _ request.frame _ c.in-Some.ensures.frame (turn_frame answered past _ _ request others s t) in
-    ping_out answered past request _ _ _ is same (sym (opcode_same _ request.frame _ (ap (λ (f : Frame). f.header) c.frame.view_is) same) ∙ sym c.in-NopOut.ensures)
-    (c.return_ping.ensures.out answered _ (c.take_out.ensures.stands answered past request others s t is))
+returns-in-NopOut-clause-out c past k rest s is e =
+    let known = subst (λ (x : SessionState). Stands past x) (sym c.self.view_is) s in
+    let f = finished_here past _ k rest c.in-Some.frame _ known is e c.in-Some.ensures.some c.in-Some.ensures.same in
+    let kind = sym (ap kind_of (c.frame.view_is ∙ f.0)) ∙ sym c.opcode.ensures ∙ c.in-NopOut.is in
+    c.return_ping.ensures.out (moved k past) f.1 ∙ ap (λ (l : List Answer). c.args.out.now.items ++ flat_map spelling l)
+    (ping_same k past c.in-Some.frame f.0 kind)
 
 -- ---- a Logout
 
+pub returns-in-Logout-clause-act : goal.returns-in-Logout-clause-act
+returns-in-Logout-clause-act c past k rest s is e =
+    let known = subst (λ (x : SessionState). Stands past x) (sym c.self.view_is) s in
+    let f = finished_here past _ k rest c.in-Some.frame _ known is e c.in-Some.ensures.some c.in-Some.ensures.same in
+    let kind = sym (ap kind_of (c.frame.view_is ∙ f.0)) ∙ sym c.opcode.ensures ∙ c.in-Logout.is in
+    logout_act k past c.in-Some.frame _ _ f.0 (parts past _ known).params_is kind c.log_out.ensures.act
+
+pub returns-in-Logout-clause-stands : goal.returns-in-Logout-clause-stands
+returns-in-Logout-clause-stands c past k rest s is e =
+    let known = subst (λ (x : SessionState). Stands past x) (sym c.self.view_is) s in
+    let f = finished_here past _ k rest c.in-Some.frame _ known is e c.in-Some.ensures.some c.in-Some.ensures.same in
+    let kind = sym (ap kind_of (c.frame.view_is ∙ f.0)) ∙ sym c.opcode.ensures ∙ c.in-Logout.is in
+    subst (λ (l : List Answer). Stands (answering l (moved k past)) c.log_out.new.self) (logout_same k past c.in-Some.frame f.0 kind)
+    (c.log_out.ensures.stands (moved k past) f.1)
+
+pub returns-in-Logout-clause-out : goal.returns-in-Logout-clause-out
+returns-in-Logout-clause-out c past k rest s is e =
+    let known = subst (λ (x : SessionState). Stands past x) (sym c.self.view_is) s in
+    let f = finished_here past _ k rest c.in-Some.frame _ known is e c.in-Some.ensures.some c.in-Some.ensures.same in
+    let kind = sym (ap kind_of (c.frame.view_is ∙ f.0)) ∙ sym c.opcode.ensures ∙ c.in-Logout.is in
+    c.log_out.ensures.out (moved k past) f.1 ∙ one_spelled c.args.out.now.items _ _ (logout_same k past c.in-Some.frame f.0 kind)
+
+-- ---- no other kind
+
 pub returns-clause-act : goal.returns-clause-act
-returns-clause-act c answered past request others s t is =
-    let same = same_frame _ request.frame _ c.in-Some.ensures.frame (turn_frame answered past _ _ request others s t) in
-    let opcode = c.opcode.ensures ∙ opcode_same _ request.frame _ (ap (λ (f : Frame). f.header) c.frame.view_is) same in
-    logout_act past request _ _ _ is same (c.take_out.ensures.params ∙ (parts answered past _ s).params_is) (λ e. c.in_default-opcode.not-NopOut (opcode ∙ e)) c.log_out.ensures.act
+returns-clause-act c past k rest s is e =
+    let known = subst (λ (x : SessionState). Stands past x) (sym c.self.view_is) s in
+    let f = finished_here past _ k rest c.in-Some.frame _ known is e c.in-Some.ensures.some c.in-Some.ensures.same in
+    let kind = subst IsOther (c.opcode.ensures ∙ ap kind_of (c.frame.view_is ∙ f.0)) c.in-ScsiCommand.is in
+    other_act k past kind
 
 pub returns-clause-stands : goal.returns-clause-stands
-returns-clause-stands c answered past request others s t is =
-    let same = same_frame _ request.frame _ c.in-Some.ensures.frame (turn_frame answered past _ _ request others s t) in
-    let opcode = c.opcode.ensures ∙ opcode_same _ request.frame _ (ap (λ (f : Frame). f.header) c.frame.view_is) same in
-    logout_stands answered past request _ is (λ e. c.in_default-opcode.not-NopOut (opcode ∙ e)) (c.log_out.ensures.stands answered _ (c.take_out.ensures.stands answered past request others s t is))
+returns-clause-stands c past k rest s is e =
+    let known = subst (λ (x : SessionState). Stands past x) (sym c.self.view_is) s in
+    let f = finished_here past _ k rest c.in-Some.frame _ known is e c.in-Some.ensures.some c.in-Some.ensures.same in
+    let kind = subst IsOther (c.opcode.ensures ∙ ap kind_of (c.frame.view_is ∙ f.0)) c.in-ScsiCommand.is in
+    stands_silent k past _ (other_is k past kind) f.1
 
 pub returns-clause-out : goal.returns-clause-out
-returns-clause-out c answered past request others s t is =
-    let same = same_frame _ request.frame _ c.in-Some.ensures.frame (turn_frame answered past _ _ request others s t) in
-    let opcode = c.opcode.ensures ∙ opcode_same _ request.frame _ (ap (λ (f : Frame). f.header) c.frame.view_is) same in
-    logout_out answered past request _ _ _ is same (λ e. c.in_default-opcode.not-NopOut (opcode ∙ e)) (c.log_out.ensures.out answered _ (c.take_out.ensures.stands answered past request others s t is))
+returns-clause-out c past k rest s is e =
+    let known = subst (λ (x : SessionState). Stands past x) (sym c.self.view_is) s in
+    let f = finished_here past _ k rest c.in-Some.frame _ known is e c.in-Some.ensures.some c.in-Some.ensures.same in
+    let kind = subst IsOther (c.opcode.ensures ∙ ap kind_of (c.frame.view_is ∙ f.0)) c.in-ScsiCommand.is in
+    none_spelled c.args.out.now.items _ (other_is k past kind)

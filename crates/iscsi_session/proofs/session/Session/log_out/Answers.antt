@@ -1,4 +1,4 @@
-use Rattle.std.proofs.Common.{◌≡◌, ◌++◌, ◌∙◌, ap}
+use Rattle.std.proofs.Common.{◌≡◌, ◌++◌, [], ◌∷◌, ◌∙◌, ap}
 use Rattle.iscsi_pdu.specs.Answer.{spelling}
 use Rattle.iscsi_pdu.specs.declared.answer.Answer.{Answer}
 use Rattle.iscsi_login.specs.declared.params.Params.{Params}
@@ -6,19 +6,32 @@ use Rattle.iscsi_pdu.specs.declared.stamp.Stamp.{Stamp}
 use Rattle.iscsi_session.specs.Requests.{stamp}
 use Rattle.iscsi_session.specs.Acts.{logout_answer}
 use Rattle.iscsi_session.specs.State.{SessionState}
+use Rattle.iscsi_session.proofs.Answered.{logout_bears}
 use Rattle.iscsi_session.proofs.Parts.{parts}
 use Rattle.iscsi_session.proofs.session.Session.log_out.Goals as goal
 
 pub returns-then-closes-clause-out : goal.returns-then-closes-clause-out
-returns-then-closes-clause-out c answered past s =
-    let agreed : c.next_stamp-stamp.new.self.params ≡ past.params = ap (λ (x : SessionState). x.params) c.next_stamp-stamp.ensures.same ∙ (parts answered past _ s).params_is in
+returns-then-closes-clause-out c past s =
+    let agreed : c.next_stamp-stamp.new.self.params ≡ past.params = ap (λ (x : SessionState). x.params) c.next_stamp-stamp.ensures.same
+    ∙ (parts past _ s).params_is in
     c.put.ensures.written ∙ ap (λ (a : Answer). c.args.out.now.items ++ spelling a) (c.logout_answer.ensures.value
-    ∙ ap (λ (x : Stamp). logout_answer x c.next_stamp-stamp.new.self.params c.args.frame.now) (c.next_stamp-stamp.ensures.stamp answered past s)
-    ∙ ap (λ (p : Params). logout_answer (stamp answered past) p c.args.frame.now) agreed)
+    ∙ ap (λ (x : Stamp). logout_answer x c.next_stamp-stamp.new.self.params c.args.frame.now) (c.next_stamp-stamp.ensures.stamp past s)
+    ∙ ap (λ (p : Params). logout_answer (stamp past) p c.args.frame.now) agreed)
 
 pub returns-else-closes-clause-out : goal.returns-else-closes-clause-out
-returns-else-closes-clause-out c answered past s =
-    let agreed : c.next_stamp-stamp.new.self.params ≡ past.params = ap (λ (x : SessionState). x.params) c.next_stamp-stamp.ensures.same ∙ (parts answered past _ s).params_is in
+returns-else-closes-clause-out c past s =
+    let agreed : c.next_stamp-stamp.new.self.params ≡ past.params = ap (λ (x : SessionState). x.params) c.next_stamp-stamp.ensures.same
+    ∙ (parts past _ s).params_is in
     c.put.ensures.written ∙ ap (λ (a : Answer). c.args.out.now.items ++ spelling a) (c.logout_answer.ensures.value
-    ∙ ap (λ (x : Stamp). logout_answer x c.next_stamp-stamp.new.self.params c.args.frame.now) (c.next_stamp-stamp.ensures.stamp answered past s)
-    ∙ ap (λ (p : Params). logout_answer (stamp answered past) p c.args.frame.now) agreed)
+    ∙ ap (λ (x : Stamp). logout_answer x c.next_stamp-stamp.new.self.params c.args.frame.now) (c.next_stamp-stamp.ensures.stamp past s)
+    ∙ ap (λ (p : Params). logout_answer (stamp past) p c.args.frame.now) agreed)
+
+pub returns-then-closes-clause-stands : goal.returns-then-closes-clause-stands
+returns-then-closes-clause-stands c past s =
+    c.next_stamp-stamp.ensures.stands past (logout_answer (stamp past) past.params c.args.frame.now ∷ []) s
+    (logout_bears (stamp past) past.params c.args.frame.now)
+
+pub returns-else-closes-clause-stands : goal.returns-else-closes-clause-stands
+returns-else-closes-clause-stands c past s =
+    c.next_stamp-stamp.ensures.stands past (logout_answer (stamp past) past.params c.args.frame.now ∷ []) s
+    (logout_bears (stamp past) past.params c.args.frame.now)

@@ -10,8 +10,9 @@ pub put-requires : goal.put-requires
 put-requires c = omega (arith, c.rejected.ensures.short, c.in_ok-reserve.ensures.spare)
 
 pub returns-clause-out : goal.returns-clause-out
-returns-clause-out c answered past frame s h =
-    let answer : c.rejected.result ≡ reject c.args.reason (stamp answered past) frame = c.rejected.ensures.value frame h ∙ ap (λ (now : Stamp). reject c.args.reason now frame) (c.next_stamp-stamp.ensures.stamp answered past s) in
+returns-clause-out c past frame s h =
+    let answer : c.rejected.result ≡ reject c.args.reason (stamp past) frame = c.rejected.ensures.value frame h
+    ∙ ap (λ (now : Stamp). reject c.args.reason now frame) (c.next_stamp-stamp.ensures.stamp past s) in
     c.put.ensures.written
     ∙ ap (λ (a : Answer). c.reserve.new.self.items ++ spelling a) answer
-    ∙ ap (λ (bytes : List ℕ). bytes ++ spelling (reject c.args.reason (stamp answered past) frame)) c.reserve.ensures.items
+    ∙ ap (λ (bytes : List ℕ). bytes ++ spelling (reject c.args.reason (stamp past) frame)) c.reserve.ensures.items

@@ -10,11 +10,11 @@ use Rattle.iscsi_session.proofs.Answered.{ping_written, ping_data}
 use Rattle.iscsi_session.proofs.session.Session.return_ping.Goals as goal
 
 pub returns-clause-out : goal.returns-clause-out
-returns-clause-out c answered past s =
-    let known = subst (λ (x : SessionState). Stands answered past x) (sym c.self.view_is) s in
+returns-clause-out c past s =
+    let known = subst (λ (x : SessionState). Stands past x) (sym c.self.view_is) s in
     let frame_is : c.frame.inside.header ≡ c.args.frame.now.header = ap (λ (f : Frame). f.header) c.frame.view_is in
     let tag_is : c.initiator_task_tag-2.result ≡ initiator_task_tag c.args.frame.now.header = c.initiator_task_tag-2.ensures ∙ ap initiator_task_tag frame_is in
-    let values_is = (parts answered past _ known).params_is in
+    let values_is = (parts past _ known).params_is in
     let body_now : c.deref.result.now ≡ c.args.frame.now.body = c.deref.ensures.value ∙ ap (λ (f : Frame). f.body) c.frame.view_is in
     let count : c.len.result ≡ length c.args.frame.now.body = c.len.ensures ∙ sym c.deref.ensures.len ∙ ap (λ (l : List ℕ). length l) body_now in
     let body_is : take c.min-length.result c.deref.result.now ≡ take (min past.params.values.max_recv_data_segment_length most_data) c.args.frame.now.body =
@@ -22,5 +22,9 @@ returns-clause-out c answered past s =
     ∙ ping_data c.len.result c.self.inside.params.values.max_recv_data_segment_length most_data c.args.frame.now.body count
     ∙ ap (λ (p : Params). take (min p.values.max_recv_data_segment_length most_data) c.args.frame.now.body) values_is in
     ping_written c.args.out.now.items c.put.new.out.items _ c.initiator_task_tag-2.result _ c.next_stamp.result past.params.values c.args.frame.now
-    (record { asks = ne_eqb _ _ (λ e. c.if-initiator_task_tag.false (c.initiator_task_tag.ensures ∙ ap initiator_task_tag frame_is ∙ e)); tag_is = tag_is; body_is = body_is })
-    (c.next_stamp.ensures.stamp answered past s) c.put.ensures.written
+    (record {
+      asks = ne_eqb _ _ (λ e. c.if-initiator_task_tag.false (c.initiator_task_tag.ensures ∙ ap initiator_task_tag frame_is ∙ e));
+      tag_is = tag_is;
+      body_is = body_is;
+    })
+    (c.next_stamp.ensures.stamp past s) c.put.ensures.written

@@ -1,18 +1,23 @@
-use Rattle.std.proofs.Common.{◌+◌, ◌<◌, length, None, ◌∙◌, refl, sym, ap, arith, remove}
-use Rattle.slab.specs.Slab.{get}
-use Rattle.iscsi_session.specs.Tasks.{times}
-use Rattle.iscsi_session.proofs.Lines.{alone, requests_at-remove_first, SameLines-other}
+use Rattle.std.proofs.Common.{◌≡◌, ◌<◌, ◌∷◌, length, drop, ◌∙◌, refl, ap, subst, arith}
+use Rattle.iscsi_session.specs.State.{TaskLists, one_fewer}
+use Rattle.iscsi_session.proofs.Lines.{first_out}
 use Rattle.iscsi_session.proofs.tasks.Tasks.finish.Goals as goal
 
-pub returns-then-not-is_empty : goal.returns-then-not-is_empty
-returns-then-not-is_empty c =
-    let requests = c.self.inside.requests in
-    let held = c.self.inside.held.items in
-    let arrived = c.self.inside.arrived.items in
-    let queue = c.self.inside.queue.items in
-    let key = c.remove-key.result in
-    let within : 0 < length queue = grind (arith, c.if-not-is_empty.true, c.is_empty.ensures, c.self.inside.queue.ok.0) in
-    let none = alone requests c.remove.result queue 0 key key (times key held + times key arrived) within c.remove-key.ensures.value c.remove.ensures.value (omega (arith, c.self.invariant.once key)) in
-    let same = SameLines-other requests c.remove.new.self key None held arrived (remove queue 0) c.remove.ensures.updates (omega arith) in
-    let first = requests_at-remove_first requests queue key c.remove.result within (ap (get requests) (sym c.remove-key.ensures.value) ∙ c.remove.ensures.value) in
-    rw (c.remove-key.ensures.items, same.same_held, same.same_arrived, same.same_queue, ← c.self.view_is, first) refl
+pub returns-clause-some : goal.returns-clause-some
+returns-clause-some c =
+    let within : 0 < length c.self.inside.queue.items = grind (arith, c.if-is_empty.false, c.is_empty.ensures, c.self.inside.queue.ok.0) in
+    let once = c.self.invariant.once c.remove-key.result in
+    let out = first_out c.self.inside.requests c.remove-frame.new.self c.remove-key.result c.remove-frame.result c.self.inside.window.keys
+    c.self.inside.queue.items c.self.inside.due.items within c.remove-key.ensures.value
+    c.remove-frame.ensures.value c.remove-frame.ensures.updates (omega arith) in
+    subst (λ (t : TaskLists). t.queue ≡ c.remove-frame.result ∷ drop 1 t.queue) c.self.view_is out.first
+
+pub returns-clause-same : goal.returns-clause-same
+returns-clause-same c =
+    let within : 0 < length c.self.inside.queue.items = grind (arith, c.if-is_empty.false, c.is_empty.ensures, c.self.inside.queue.ok.0) in
+    let once = c.self.invariant.once c.remove-key.result in
+    let out = first_out c.self.inside.requests c.remove-frame.new.self c.remove-key.result c.remove-frame.result c.self.inside.window.keys
+    c.self.inside.queue.items c.self.inside.due.items within c.remove-key.ensures.value
+    c.remove-frame.ensures.value c.remove-frame.ensures.updates (omega arith) in
+    subst (λ (t : TaskLists). c.finish_number.new.self ≡ one_fewer c.remove-frame.result (record t { queue = drop 1 t.queue })) c.self.view_is
+    (c.finish_number.ensures ∙ ap (one_fewer c.remove-frame.result) (rw (c.remove-key.ensures.items, out.left, out.same_held, out.same_others) refl))

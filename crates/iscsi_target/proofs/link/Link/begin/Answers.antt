@@ -1,7 +1,7 @@
 use Rattle.std.proofs.Common.{◌≡◌, ◌++◌, ◌∙◌, true, refl, sym, ap}
 use Rattle.iscsi_pdu.specs.Answer.{spelling}
 use Rattle.iscsi_target.specs.Machine.{LinkState, is_reading}
-use Rattle.iscsi_target.proofs.Served.{ok_known}
+use Rattle.iscsi_target.proofs.Asking.{ok_known}
 use Rattle.iscsi_target.proofs.link.Link.begin.Goals as goal
 
 pub returns-clause-ok : goal.returns-clause-ok

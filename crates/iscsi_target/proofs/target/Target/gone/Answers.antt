@@ -2,7 +2,7 @@ use Rattle.std.proofs.Common.{rules, length, subst, sym, ap, ◌∙◌}
 use Rattle.std.proofs.lemmas.List.{length-set}
 use Rattle.std.proofs.lemmas.List.Elements.{All-set}
 use Rattle.iscsi_target.specs.Machine.{LinkState, Machine, IsWithin}
-use Rattle.iscsi_target.proofs.Opening.{closed_count}
+use Rattle.iscsi_target.proofs.Moving.{closed_count}
 use Rattle.iscsi_target.proofs.Sound.{closed_sound, closed_sure, sound_as, sure_as, sound_units}
 use Rattle.iscsi_target.proofs.Standing.{gone_stands, stands_machine}
 use Rattle.iscsi_target.proofs.target.Target.gone.Goals as goal

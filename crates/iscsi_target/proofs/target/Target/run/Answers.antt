@@ -11,6 +11,7 @@ use Rattle.iscsi_target.proofs.Choices.{and_true}
 use Rattle.iscsi_target.proofs.Tables.{follows}
 use Rattle.iscsi_target.proofs.Rows.{history_more}
 use Rattle.iscsi_target.proofs.Sound.{sure_as}
+use Rattle.iscsi_target.proofs.Standing.{units_stand}
 use Rattle.iscsi_target.proofs.Running.{new_runs, finished_outputs}
 use Rattle.iscsi_target.proofs.Tracking.{comes, none_open}
 use Rattle.iscsi_target.proofs.target.Target.run.Goals as goal
@@ -62,4 +63,4 @@ returns-clause-media g c = λ sound number.
     (let es = c.args.events.now in
     let all : take c.loop-event.event-index es ≡ es = take_all c.loop-event.event-index es (omega arith) in
     let P : List Event → Type 0 = λ l. media_in c.loop-event.target.units number ≡ media (record { names = map string_bytes c.args.config.targets.items; units = c.args.units.items }) (plain_history l) number in
-    subst P all (ap (λ (units : List UnitStates). media_in units number) (c.loop-event.invariant.1 sound).stands.units))
+    subst P all (ap (λ (units : List UnitStates). media_in units number) (units_stand _ (λ k. 0) _ _ (c.loop-event.invariant.1 sound).stands)))

@@ -1,26 +1,24 @@
-use Rattle.std.proofs.Common.{rules, ◌≡◌, ◌<◌, ◌+◌, true, sym, ap, ◌∙◌}
-use Rattle.iscsi_target.proofs.Asking.{on_err}
-use Rattle.iscsi_target.proofs.Staying.{stays_as, stays_then}
-use Rattle.iscsi_target.proofs.AllTurns.{none_finished, finished_more, all_finished, finishing_stops}
+use Rattle.std.proofs.Common.{◌≡◌, length, sym, ap, subst, arith}
+use Rattle.iscsi_target.specs.History.{connection_limit}
+use Rattle.iscsi_target.specs.Serving.{first_starved}
+use Rattle.iscsi_target.proofs.Doing.{does_starved}
+use Rattle.iscsi_target.proofs.Frames.{SettledBelow, none_settled, settled_next, all_settled}
+use Rattle.iscsi_target.proofs.Moving.{moves_none, moves_then}
 use Rattle.iscsi_target.proofs.target.Target.settle.Goals as goal
 
-pub loop-init : goal.loop-init
-loop-init g c = (0, none_finished c.args.c c.args.self.now)
+pub loop-c-init : goal.loop-c-init
+loop-c-init g c = (none_settled c.args.target c.args.self.now, moves_none c.args.self.now, c.requires)
 
-pub returns-in_err-finish-clause-stops : goal.returns-in_err-finish-clause-stops
-returns-in_err-finish-clause-stops g c = on_err c.from_residual.result (finishing_stops c.args.c c.loop.invariant.0 c.args.self.now c.loop.self c.finish.new.self c.loop.invariant.1 c.in_err-finish.ensures.err c.in_err-finish.ensures.queue)
+pub loop-c-preserved : goal.loop-c-preserved
+loop-c-preserved g c = (
+  does_starved _ _ _ _ _ _ _ (sym c.earlier_of-outcome.ensures)
+      (settled_next c.args.target c.loop-c.c (first_starved c.loop-c.outcome) (first_starved c.settle_one-settled.result) c.args.self.now c.loop-c.self c.settle_one-settled.new.self
+      c.settle_one-settled.ensures.moves.back c.loop-c.invariant.0 c.settle_one-settled.ensures.settles),
+  moves_then c.args.self.now c.loop-c.self c.settle_one-settled.new.self c.loop-c.invariant.1 c.settle_one-settled.ensures.moves,
+  (let is = c.settle_one-settled.ensures.moves.units in let was = c.loop-c.invariant.2 in omega arith),
+)
 
-pub returns-in_err-finish-clause-stays : goal.returns-in_err-finish-clause-stays
-returns-in_err-finish-clause-stays g c = stays_then c.args.c c.args.self.now c.loop.self c.finish.new.self c.loop.invariant.1.stays (stays_as c.args.c c.loop.self c.finish.new.self c.in_err-finish.ensures.err)
-
-pub loop-smaller : goal.loop-smaller
-loop-smaller g c = c.in_ok-finish.ensures.fewer c.if-branch.true
-
-pub loop-preserved : goal.loop-preserved
-loop-preserved g c = (c.loop.invariant.0 + 1, finished_more c.args.c c.loop.invariant.0 c.in_ok-finish.field-0 c.args.self.now c.loop.self c.finish.new.self c.loop.invariant.1 c.in_ok-finish.ensures.stays c.in_ok-finish.ensures.steps c.if-branch.true)
-
-pub returns-clause-steps : goal.returns-clause-steps
-returns-clause-steps g c = all_finished c.args.c c.loop.invariant.0 c.in_ok-finish.field-0 c.args.self.now c.loop.self c.finish.new.self c.loop.invariant.1 c.in_ok-finish.ensures.stays c.in_ok-finish.ensures.steps c.if-branch.false
-
-pub returns-clause-stays : goal.returns-clause-stays
-returns-clause-stays g c = stays_then c.args.c c.args.self.now c.loop.self c.finish.new.self c.loop.invariant.1.stays c.in_ok-finish.ensures.stays
+pub returns-clause-settles : goal.returns-clause-settles
+returns-clause-settles g c =
+    let end : c.loop-c.c ≡ connection_limit = (let a = c.loop-c.auto.c-end in let b = c.loop-c-test.false in omega arith) in
+    all_settled c.args.target (first_starved c.loop-c.outcome) c.args.self.now c.loop-c.self (subst (λ n. SettledBelow c.args.target n (first_starved c.loop-c.outcome) c.args.self.now c.loop-c.self) end c.loop-c.invariant.0)

@@ -1,42 +1,82 @@
-use Rattle.std.proofs.Common.{rules, ◌≡◌, true, false, sym, ap, ◌∙◌}
-use Rattle.std.proofs.lemmas.Result.{on_ok_weaker, on_err_weaker}
-use Rattle.iscsi_target.specs.Acts.{is_login}
-use Rattle.iscsi_target.specs.Machine.{LinkState, Machine, link_at, closed, is_free, is_reading, is_logging_in}
-use Rattle.iscsi_target.proofs.Asking.{login_there}
-use Rattle.iscsi_target.proofs.OneFrame.{link_read, idle_either, takes_none, takes_login, takes_closed}
-use Rattle.iscsi_target.proofs.Starving.{fails_early}
+use Rattle.std.proofs.Common.{◌≡◌, ℕ, ◌<◌, List, [], length, map, set, string_bytes, Option, Some, None, refl, sym, ap, ◌∙◌, subst, arith}
+use Rattle.iscsi_login.specs.declared.params.Params.{Params}
+use Rattle.iscsi_session.specs.State.{SessionState}
+use Rattle.iscsi_target.specs.Machine.{LinkState, Machine, IsWithin, link_at, with_link, is_reading, free_link}
+use Rattle.iscsi_target.specs.Serving.{ended_unless, first_of, first_starved, starved_by}
+use Rattle.iscsi_target.specs.declared.phase.Phase.{Phase}
+use Rattle.iscsi_target.specs.declared.phase.Phase.TheVariants as phases
+use Rattle.iscsi_target.proofs.Doing.{does_on, does_starved}
+use Rattle.iscsi_target.proofs.Frames.{takes_idle}
+use Rattle.iscsi_target.proofs.Held.{viewed, held_here, held_same, serve_takes, serve_moves, within_there}
+use Rattle.iscsi_target.proofs.Moving.{moves_none, moves_as, moves_from, moves_then}
 use Rattle.iscsi_target.proofs.target.Target.take_frame.Goals as goal
 
--- ---- a connection that does not read
+pub settle-settled-requires : goal.settle-settled-requires
+settle-settled-requires g c =
+    let machine : Machine = record { names = map string_bytes c.self.inside.config.targets.items; units = c.self.inside.units.items; links = c.self.inside.links.items } in
+    let lt : c.args.c < length machine.links = (let count = c.self.invariant.0 in let below = c.requires in omega arith) in
+    let link : viewed c.link.inside.framer c.link.inside.phase c.link.inside.waiting.items ≡ link_at machine c.args.c =
+    held_here c.self.inside.links.items c.args.c _ c.index_mut-link.result.now _ c.self.invariant.0 c.requires c.index_mut-link.ensures.value c.link.view_is in
+    let below : c.in-FullFeature.session.params.target < length machine.units = within_there machine c.args.c c.in-FullFeature.session lt (ap (λ (l : LinkState). l.phase) (sym link) ∙ c.in-FullFeature.is) c.self.invariant.2 in
+    let m = serve_moves c.serve-goes_on.result c.args.c machine c.end_unless-served.new.self c.link.inside.framer c.link.inside.phase c.link.inside.waiting.items c.serve-goes_on.new.out.items c.in-FullFeature.session c.serve-goes_on.new.self
+    lt link c.in-FullFeature.is below c.serve-goes_on.ensures.grows c.end_unless-served.ensures.same in
+    subst (λ (p : Params). p.target < length c.end_unless-served.new.self.units) (sym c.params.ensures) (let is = m.units in omega arith)
 
-pub returns-in-Free-clause-ok : goal.returns-in-Free-clause-ok
-returns-in-Free-clause-ok g c =
-    let link = link_read c.args.self.now c.self.inside.links.items c.args.c _ (ap (λ (m : Machine). m.links) c.self.view_is) c.self.invariant.0 c.requires in
-    let phase = ap (λ (l : LinkState). l.phase) (sym (c.index.ensures ∙ link.is) ∙ sym c.behind-self.view_is) in
-    takes_none c.args.self.now c.args.c c.args.frame (ap is_reading phase ∙ idle_either _ c.in-Free.is)
+pub returns-in-FullFeature-clause-takes : goal.returns-in-FullFeature-clause-takes
+returns-in-FullFeature-clause-takes g c =
+    let machine : Machine = record { names = map string_bytes c.self.inside.config.targets.items; units = c.self.inside.units.items; links = c.self.inside.links.items } in
+    let link : viewed c.link.inside.framer c.link.inside.phase c.link.inside.waiting.items ≡ link_at machine c.args.c =
+    held_here c.self.inside.links.items c.args.c _ c.index_mut-link.result.now _ c.self.invariant.0 c.requires c.index_mut-link.ensures.value c.link.view_is in
+    let target : c.in-FullFeature.session.params.target ≡ c.params.result.now.target = ap (λ (p : Params). p.target) (sym c.params.ensures) in
+    does_starved _ _ _ _ _ _ _ (ap (λ (o : Option ℕ). first_of o (first_starved c.settle-settled.result)) (sym c.end_unless-served.ensures.value) ∙ sym c.earlier_of.ensures)
+    (does_on _ _ _ _ machine c.settle-settled.new.self c.args.self.now c.settle-settled.new.self c.self.view_is refl
+    (serve_takes c.serve-goes_on.result c.args.c c.params.result.now.target c.args.frame machine c.end_unless-served.new.self c.settle-settled.new.self c.link.inside.framer c.link.inside.phase c.link.inside.waiting.items
+    c.serve-goes_on.new.out.items c.in-FullFeature.session c.serve-goes_on.new.self (first_starved c.settle-settled.result) c.requires link c.in-FullFeature.is target c.serve-goes_on.ensures.ok c.serve-goes_on.ensures.err
+    c.end_unless-served.ensures.same c.settle-settled.ensures.moves.back c.settle-settled.ensures.settles))
 
--- ---- a login is under way
+pub returns-in-FullFeature-clause-moves : goal.returns-in-FullFeature-clause-moves
+returns-in-FullFeature-clause-moves g c =
+    let machine : Machine = record { names = map string_bytes c.self.inside.config.targets.items; units = c.self.inside.units.items; links = c.self.inside.links.items } in
+    let lt : c.args.c < length machine.links = (let count = c.self.invariant.0 in let below = c.requires in omega arith) in
+    let link : viewed c.link.inside.framer c.link.inside.phase c.link.inside.waiting.items ≡ link_at machine c.args.c =
+    held_here c.self.inside.links.items c.args.c _ c.index_mut-link.result.now _ c.self.invariant.0 c.requires c.index_mut-link.ensures.value c.link.view_is in
+    let below : c.in-FullFeature.session.params.target < length machine.units = within_there machine c.args.c c.in-FullFeature.session lt (ap (λ (l : LinkState). l.phase) (sym link) ∙ c.in-FullFeature.is) c.self.invariant.2 in
+    let m = serve_moves c.serve-goes_on.result c.args.c machine c.end_unless-served.new.self c.link.inside.framer c.link.inside.phase c.link.inside.waiting.items c.serve-goes_on.new.out.items c.in-FullFeature.session c.serve-goes_on.new.self
+    lt link c.in-FullFeature.is below c.serve-goes_on.ensures.grows c.end_unless-served.ensures.same in
+    moves_from c.args.self.now machine c.settle-settled.new.self (sym c.self.view_is) (moves_then machine c.end_unless-served.new.self c.settle-settled.new.self m c.settle-settled.ensures.moves)
 
-pub returns-then-eq-clause-ok : goal.returns-then-eq-clause-ok
-unfolding is_login
-returns-then-eq-clause-ok g c =
-    let logs : is_login c.args.frame ≡ true = search rules in
-    let link = link_read c.args.self.now c.self.inside.links.items c.args.c _ (ap (λ (m : Machine). m.links) c.self.view_is) c.self.invariant.0 c.requires in
-    let phase = ap (λ (l : LinkState). l.phase) (sym (c.index.ensures ∙ link.is) ∙ sym c.behind-self.view_is) ∙ c.in-Login.is in
-    let there = login_there (link_at c.args.self.now c.args.c).phase (ap is_logging_in phase) in
-    on_ok_weaker c.log_in.result (λ logged. takes_login c.args.self.now c.log_in.new.self c.args.c c.args.frame there.0 link.below there.1 logs (logged there.0 there.1)) c.log_in.ensures.ok
+pub returns-in-Free-clause-takes : goal.returns-in-Free-clause-takes
+returns-in-Free-clause-takes g c =
+    let machine : Machine = record { names = map string_bytes c.self.inside.config.targets.items; units = c.self.inside.units.items; links = c.self.inside.links.items } in
+    let link : viewed c.link.inside.framer c.link.inside.phase c.link.inside.waiting.items ≡ link_at machine c.args.c =
+    held_here c.self.inside.links.items c.args.c _ c.index_mut-link.result.now _ c.self.invariant.0 c.requires c.index_mut-link.ensures.value c.link.view_is in
+    let view : viewed c.link.inside.framer phases.Free c.link.inside.waiting.items ≡ link_at machine c.args.c = ap (λ (p : Phase). viewed c.link.inside.framer p c.link.inside.waiting.items) (sym c.in-Free.is) ∙ link in
+    let same = ap (λ (links : List LinkState). let m : Machine = record machine { links = links } in m) (held_same c.self.inside.links.items c.args.c _ link) ∙ c.self.view_is in
+    let idle = ap (λ (m : Machine). is_reading (link_at m c.args.c).phase) (sym c.self.view_is) ∙ ap (λ (l : LinkState). is_reading l.phase) (sym view) in
+    does_on _ _ _ None c.args.self.now c.args.self.now c.args.self.now _ refl (sym same) (takes_idle c.args.self.now c.args.c c.args.frame c.requires idle)
 
-pub returns-then-eq-clause-err : goal.returns-then-eq-clause-err
-returns-then-eq-clause-err g c =
-    let link = link_read c.args.self.now c.self.inside.links.items c.args.c _ (ap (λ (m : Machine). m.links) c.self.view_is) c.self.invariant.0 c.requires in
-    let phase = ap (λ (l : LinkState). l.phase) (sym (c.index.ensures ∙ link.is) ∙ sym c.behind-self.view_is) ∙ c.in-Login.is in
-    on_err_weaker c.log_in.result (λ same. fails_early c.args.self.now c.log_in.new.self c.args.c c.args.frame link.below (ap is_free phase) same) c.log_in.ensures.err
+pub returns-in-Free-clause-moves : goal.returns-in-Free-clause-moves
+returns-in-Free-clause-moves g c =
+    let machine : Machine = record { names = map string_bytes c.self.inside.config.targets.items; units = c.self.inside.units.items; links = c.self.inside.links.items } in
+    let link : viewed c.link.inside.framer c.link.inside.phase c.link.inside.waiting.items ≡ link_at machine c.args.c =
+    held_here c.self.inside.links.items c.args.c _ c.index_mut-link.result.now _ c.self.invariant.0 c.requires c.index_mut-link.ensures.value c.link.view_is in
+    let same = ap (λ (links : List LinkState). let m : Machine = record machine { links = links } in m) (held_same c.self.inside.links.items c.args.c _ link) ∙ c.self.view_is in
+    moves_as c.args.self.now c.args.self.now _ same (moves_none c.args.self.now)
 
-pub returns-else-eq-clause-ok : goal.returns-else-eq-clause-ok
-unfolding is_login
-returns-else-eq-clause-ok g c =
-    let other : is_login c.args.frame ≡ false = search rules in
-    let link = link_read c.args.self.now c.self.inside.links.items c.args.c _ (ap (λ (m : Machine). m.links) c.self.view_is) c.self.invariant.0 c.requires in
-    let phase = ap (λ (l : LinkState). l.phase) (sym (c.index.ensures ∙ link.is) ∙ sym c.behind-self.view_is) ∙ c.in-Login.is in
-    let there = login_there (link_at c.args.self.now c.args.c).phase (ap is_logging_in phase) in
-    takes_closed c.args.self.now c.close.new.self c.args.c c.args.frame there.0 link.below there.1 other c.close.ensures.closed
+pub returns-in-Closing-clause-takes : goal.returns-in-Closing-clause-takes
+returns-in-Closing-clause-takes g c =
+    let machine : Machine = record { names = map string_bytes c.self.inside.config.targets.items; units = c.self.inside.units.items; links = c.self.inside.links.items } in
+    let link : viewed c.link.inside.framer c.link.inside.phase c.link.inside.waiting.items ≡ link_at machine c.args.c =
+    held_here c.self.inside.links.items c.args.c _ c.index_mut-link.result.now _ c.self.invariant.0 c.requires c.index_mut-link.ensures.value c.link.view_is in
+    let view : viewed c.link.inside.framer phases.Closing c.link.inside.waiting.items ≡ link_at machine c.args.c = ap (λ (p : Phase). viewed c.link.inside.framer p c.link.inside.waiting.items) (sym c.in-Closing.is) ∙ link in
+    let same = ap (λ (links : List LinkState). let m : Machine = record machine { links = links } in m) (held_same c.self.inside.links.items c.args.c _ link) ∙ c.self.view_is in
+    let idle = ap (λ (m : Machine). is_reading (link_at m c.args.c).phase) (sym c.self.view_is) ∙ ap (λ (l : LinkState). is_reading l.phase) (sym view) in
+    does_on _ _ _ None c.args.self.now c.args.self.now c.args.self.now _ refl (sym same) (takes_idle c.args.self.now c.args.c c.args.frame c.requires idle)
+
+pub returns-in-Closing-clause-moves : goal.returns-in-Closing-clause-moves
+returns-in-Closing-clause-moves g c =
+    let machine : Machine = record { names = map string_bytes c.self.inside.config.targets.items; units = c.self.inside.units.items; links = c.self.inside.links.items } in
+    let link : viewed c.link.inside.framer c.link.inside.phase c.link.inside.waiting.items ≡ link_at machine c.args.c =
+    held_here c.self.inside.links.items c.args.c _ c.index_mut-link.result.now _ c.self.invariant.0 c.requires c.index_mut-link.ensures.value c.link.view_is in
+    let same = ap (λ (links : List LinkState). let m : Machine = record machine { links = links } in m) (held_same c.self.inside.links.items c.args.c _ link) ∙ c.self.view_is in
+    moves_as c.args.self.now c.args.self.now _ same (moves_none c.args.self.now)

@@ -1,5 +1,5 @@
 use Rattle.std.proofs.Common.{◌≡◌, map}
-use Rattle.scsi_unit.specs.Unit.{unit_view}
+use Rattle.scsi_unit.specs.State.{unit_view}
 use Rattle.scsi_unit.proofs.units.Units.new.Given as goal
 
 -- the units taken so far are made

@@ -1,0 +1,215 @@
+-- Which requests one more takes: itself, where it is for immediate delivery, and else those with the
+-- numbers that it closes the gap before.
+use Rattle.std.proofs.Common.{◌≡◌, ◌≢◌, ℕ, zero, suc, ◌+◌, ◌-◌, ◌<◌, ◌≤◌, List, [], ◌∷◌, ◌++◌, length, map, Bool, true, false, cond, eqb, Option, Some, None, refl, sym, ap, subst, ◌∙◌, arith, inl, inr, length-append}
+use Rattle.std.specs.Prelude.{filter, filter_map, is_some}
+use Rattle.std.specs.List.{range_with_len}
+use Rattle.std.proofs.lemmas.Bool.{ne_eqb, eq-eqb, cases_eq}
+use Rattle.std.proofs.lemmas.List.{append-nil}
+use Rattle.std.proofs.lemmas.List.Elements.{filter-append}
+use Rattle.iscsi_pdu.specs.Frames.{Frame}
+use Rattle.iscsi_order.specs.Window as order
+use Rattle.iscsi_order.proofs.Front.{front, front_le, front_come, front_missing}
+use Rattle.iscsi_session.specs.Requests.{Request, request_at, frame_of, numbered, has_number, place_of, moment, taken_at, counted}
+use Rattle.iscsi_session.specs.State.{frame_numbered}
+use Rattle.iscsi_session.proofs.Left.{range_split, filter_none, filter_every}
+use Rattle.iscsi_session.proofs.Taken.{place_kept, moment_kept, place_le_moment, place_has, has_some, request_new}
+
+-- ---- a number has come where its place is among those that came
+
+come_by : (b : Bool) (r : Request) (came : List Request) (k : ℕ) → has_number k r.number ≡ b
+    → ((order.has_come (numbered came) k ≡ true → place_of came k < length came) × (order.has_come (numbered came) k ≡ false → place_of came k ≡ length came))
+    → (order.has_come (numbered (r ∷ came)) k ≡ true → place_of (r ∷ came) k < suc (length came)) × (order.has_come (numbered (r ∷ came)) k ≡ false
+    → place_of (r ∷ came) k ≡ suc (length came))
+come_by true r came k e rest = (λ h. rw e (omega arith), λ h. absurd (no_number r.number e h))
+  where
+    no_number : (n : Option ℕ) → has_number k n ≡ true → order.has_come (filter_map (λ (r : Request). r.number)
+        (record { number = n; frame = r.frame } ∷ came)) k ≡ false → ⊥
+    no_number None e h = cc
+    no_number (Some n) e h = let g = rw e at h in cc
+come_by false r came k e rest = by_number r.number e
+  where
+    by_number : (n : Option ℕ) → has_number k n ≡ false
+        → (order.has_come (numbered (record { number = n; frame = r.frame } ∷ came)) k ≡ true
+        → place_of (record { number = n; frame = r.frame } ∷ came) k < suc (length came))
+        × (order.has_come (numbered (record { number = n; frame = r.frame } ∷ came)) k ≡ false
+        → place_of (record { number = n; frame = r.frame } ∷ came) k ≡ suc (length came))
+    by_number None f = (λ h. let lt = rest.0 h in omega arith, λ h. let same = rest.1 h in omega arith)
+    by_number (Some n) f = (
+      λ h. let g = rw f at h in let lt = rest.0 g in rw f (omega arith),
+      λ h. let g = rw f at h in let same = rest.1 g
+          in rw f (omega arith),
+    )
+
+come_place : (came : List Request)
+    (k : ℕ) → (order.has_come (numbered came) k ≡ true → place_of came k < length came) × (order.has_come (numbered came) k ≡ false
+    → place_of came k ≡ length came)
+come_place [] k = (λ h. absurd cc, λ h. refl)
+come_place (r ∷ came) k = come_by (has_number k r.number) r came k refl (come_place came k)
+
+pub place_come : (came : List Request) (k : ℕ) → order.has_come (numbered came) k ≡ true → place_of came k < length came
+place_come came k h = (come_place came k).0 h
+
+pub place_missing : (came : List Request) (k : ℕ) → order.has_come (numbered came) k ≡ false → place_of came k ≡ length came
+place_missing came k h = (come_place came k).1 h
+
+-- ---- the moment of a number
+
+moment_come : (came : List Request) (k n : ℕ) → ((j : ℕ) → j ≤ k → order.has_come (numbered came) j ≡ true) → length came ≤ n → moment came k < n
+moment_come came zero n come le = let lt = place_come came zero (come zero (omega arith)) in omega arith
+moment_come came (suc k) n come le =
+    let lt = place_come came (suc k) (come (suc k) (omega arith)) in
+    let before = moment_come came k n (λ j below. come j (omega arith)) le in
+    omega arith
+
+-- it is the greatest of all places up to it
+moment_above : (came : List Request) (j k : ℕ) → j ≤ k → place_of came j ≤ moment came k
+moment_above came j zero le = let e : j ≡ 0 = omega arith in ap_le e
+  where
+    ap_le : j ≡ 0 → place_of came j ≤ place_of came 0
+    ap_le e = subst (λ (n : ℕ). place_of came n ≤ place_of came 0) (sym e) (omega arith)
+moment_above came j (suc k) le = elim (cases_eq j (suc k)) [
+  | inl same ↦ subst (λ (n : ℕ). place_of came n ≤ moment came (suc k)) (sym same) (place_le_moment came (suc k))
+  | inr differs ↦ let before = moment_above came j k (omega arith) in omega arith
+]
+
+-- ---- what one more request takes
+
+pub numbered_length : (came : List Request) → length (numbered came) ≤ length came
+numbered_length [] = omega arith
+numbered_length (r ∷ came) = by_number r.number (numbered_length came)
+  where
+    by_number : (n : Option ℕ) → length (numbered came) ≤ length came → length (numbered (record { number = n; frame = r.frame } ∷ came)) ≤ suc (length came)
+    by_number None le = omega arith
+    by_number (Some n) le = omega arith
+
+-- the numbers that are taken before it, and with it
+abbrev pub first_of : List Request → ℕ
+first_of came = front (numbered came)
+
+module _ (came : List Request) (x : Request) (grows : first_of came ≤ first_of (came ++ x ∷ [])) where
+  before_it : (k : ℕ) → k < first_of came → moment (came ++ x ∷ []) k < length came
+  before_it k lt =
+      let all = moment_come came k (length came) (λ j le. front_come (numbered came) j (omega arith)) (omega arith) in
+      let kept = moment_kept came x k in
+      omega arith
+
+  with_it : (k : ℕ) → first_of came ≤ k → k < first_of (came ++ x ∷ []) → moment (came ++ x ∷ []) k ≡ length came
+  with_it k le lt =
+      let long : length (came ++ x ∷ []) ≡ length came + 1 = length-append came (x ∷ []) in
+      let few = moment_come (came ++ x ∷ []) k (length came + 1) (λ j at. front_come (numbered (came ++ x ∷ [])) j (omega arith)) (omega arith) in
+      let missing = place_missing came (first_of came) (front_missing (numbered came)) in
+      let kept = place_kept came x (first_of came) in
+      let above = moment_above (came ++ x ∷ []) (first_of came) k le in
+      omega arith
+
+  behind_it : (k : ℕ) → first_of (came ++ x ∷ []) ≤ k → moment (came ++ x ∷ []) k ≢ length came
+  behind_it k le = λ e.
+      let long : length (came ++ x ∷ []) ≡ length came + 1 = length-append came (x ∷ []) in
+      let missing = place_missing (came ++ x ∷ []) (first_of (came ++ x ∷ [])) (front_missing (numbered (came ++ x ∷ []))) in
+      let above = moment_above (came ++ x ∷ []) (first_of (came ++ x ∷ [])) k le in
+      omega arith
+
+  pub numbers_now : filter (λ k. eqb (moment (came ++ x ∷ []) k) (length came)) (range_with_len 0 (length came + 1)) ≡ range_with_len (first_of came)
+      (first_of (came ++ x ∷ []) - first_of came)
+  numbers_now =
+      let p = length came in
+      let f = first_of came in
+      let g = first_of (came ++ x ∷ []) in
+      let q : ℕ → Bool = λ k. eqb (moment (came ++ x ∷ []) k) p in
+      let few : g ≤ p + 1 = omega (arith, front_le (numbered (came ++ x ∷ [])), numbered_length (came ++ x ∷ []), length-append came (x ∷ [])) in
+      let split : range_with_len 0 (p + 1) ≡ range_with_len 0 f ++ range_with_len (0 + f) (p + 1 - f) = range_split 0 f (p + 1 - f) (p + 1) (omega arith) in
+      let split_again : range_with_len (0 + f) (p + 1 - f) ≡ range_with_len (0 + f) (g - f) ++ range_with_len (0 + f + (g - f)) (p + 1 - g) = range_split
+      (0 + f) (g - f) (p + 1 - g) (p + 1 - f) (omega arith) in
+      let first : filter q (range_with_len 0 f) ≡ [] = filter_none q 0 f (λ k le lt. ne_eqb _ _ (λ e. let h = before_it k (omega arith)
+      in absurd (omega arith))) in
+      let middle : filter q (range_with_len (0 + f) (g - f)) ≡ range_with_len (0 + f) (g - f) = filter_every q (0 + f) (g - f)
+      (λ k le lt. eq-eqb _ _ (with_it k (omega arith) (omega arith))) in
+      let last : filter q (range_with_len (0 + f + (g - f)) (p + 1 - g)) ≡ [] = filter_none q (0 + f + (g - f)) (p + 1 - g)
+      (λ k le lt. ne_eqb _ _ (behind_it k (omega arith))) in
+      ap (filter q) (split ∙ ap (λ (l : List ℕ). range_with_len 0 f ++ l) split_again)
+      ∙ filter-append q (range_with_len 0 f) (range_with_len (0 + f) (g - f) ++ range_with_len (0 + f + (g - f)) (p + 1 - g))
+      ∙ rw (first, filter-append q (range_with_len (0 + f) (g - f)) (range_with_len (0 + f + (g - f)) (p + 1 - g)), middle, last, append-nil)
+      (ap (λ (n : ℕ). range_with_len n (g - f)) (let e : 0 + f ≡ f = omega arith in e))
+
+  pub taken_now : taken_at (came ++ x ∷ []) (length came) ≡ cond (is_some x.number) [] (length came ∷ []) ++ map (place_of (came ++ x ∷ []))
+      (range_with_len (first_of came) (first_of (came ++ x ∷ []) - first_of came))
+  unfolding taken_at
+  taken_now = rw (request_new came x, numbers_now) refl
+
+-- ---- the requests with numbers
+
+find_place : (b : Bool) (r : Request) (came : List Request) (k : ℕ) → has_number k r.number ≡ b
+    → (place_of came k < length came → frame_numbered came k ≡ Some (frame_of came (place_of came k)))
+    → place_of (r ∷ came) k < suc (length came) → frame_numbered (r ∷ came) k ≡ Some (frame_of (r ∷ came) (place_of (r ∷ came) k))
+find_place true r came k e rest lt = rw e refl
+find_place false r came k e rest lt =
+    let next : place_of (r ∷ came) k ≡ suc (place_of came k) = rw e (omega arith) in
+    let skipped : frame_numbered (r ∷ came) k ≡ frame_numbered came k = rw e refl in
+    skipped ∙ rest (omega arith) ∙ ap (λ (p : ℕ). Some (frame_of (r ∷ came) p)) (sym next)
+
+-- the request with a number that has come stands at its place
+pub frame_come : (came : List Request) (k : ℕ) → place_of came k < length came → frame_numbered came k ≡ Some (frame_of came (place_of came k))
+frame_come [] k lt = absurd (omega arith)
+frame_come (r ∷ came) k lt = find_place (has_number k r.number) r came k refl (frame_come came k) lt
+
+pub frame_missing : (came : List Request) (k : ℕ) → order.has_come (numbered came) k ≡ false → frame_numbered came k ≡ None
+frame_missing [] k h = refl
+frame_missing (r ∷ came) k h = by_number r.number h (frame_missing came k)
+  where
+    by_number : (n : Option ℕ) → order.has_come (numbered (record { number = n; frame = r.frame } ∷ came)) k ≡ false
+        → (order.has_come (numbered came) k ≡ false → frame_numbered came k ≡ None)
+        → frame_numbered (record { number = n; frame = r.frame } ∷ came) k ≡ None
+    by_number None g rest = rest g
+    by_number (Some n) g rest = elim (cases_eq n k) [
+      | inl same ↦ absurd (let e = rw (eq-eqb n k same) at g in cc)
+      | inr differs ↦ let e = rw (ne_eqb n k differs) at g in rw (ne_eqb n k differs) (rest e)
+    ]
+
+marked_by : (b : Bool) (came : List Request) (k : ℕ) → order.has_come (numbered came) k ≡ b → is_some (frame_numbered came k) ≡ b
+marked_by true came k h = rw (frame_come came k (place_come came k h)) refl
+marked_by false came k h = rw (frame_missing came k h) refl
+
+pub frame_marked : (came : List Request) (k : ℕ) → is_some (frame_numbered came k) ≡ order.has_come (numbered came) k
+frame_marked came k = marked_by _ came k refl
+
+numbered_at : (came : List Request) (k : ℕ) → place_of came k < length came → is_some (request_at came (place_of came k)).number ≡ true
+numbered_at came k lt = has_some (request_at came (place_of came k)).number k (place_has came k lt)
+
+-- each of these has a number
+pub counted_places : (came : List Request) (a n : ℕ) → ((k : ℕ) → a ≤ k → k < a + n → order.has_come (numbered came) k ≡ true)
+    → counted came (map (place_of came) (range_with_len a n)) ≡ n
+counted_places came a zero come = refl
+counted_places came a (suc n) come =
+    rw (numbered_at came a (place_come came a (come a (omega arith) (omega arith))))
+    (ap suc (counted_places came (a + 1) n (λ k le lt. come k (omega arith) (omega arith))))
+
+-- their frames, in order
+pub frames_come : (came : List Request) (a n : ℕ) → ((k : ℕ) → a ≤ k → k < a + n → order.has_come (numbered came) k ≡ true)
+    → filter_map (λ o. o) (map (frame_numbered came) (range_with_len a n)) ≡ map (frame_of came) (map (place_of came) (range_with_len a n))
+frames_come came a zero come = refl
+frames_come came a (suc n) come =
+    rw (frame_come came a (place_come came a (come a (omega arith) (omega arith))))
+    (ap (λ (l : List Frame). frame_of came (place_of came a) ∷ l) (frames_come came (a + 1) n (λ k le lt. come k (omega arith) (omega arith))))
+
+-- ---- one more request with a number
+
+find_before_with : (b : Bool) (r x : Request) (came : List Request) (k : ℕ) → has_number k r.number ≡ b
+    → frame_numbered (came ++ x ∷ []) k ≡ frame_numbered came k → frame_numbered (r ∷ (came ++ x ∷ [])) k ≡ frame_numbered (r ∷ came) k
+find_before_with true r x came k e rest = rw e refl
+find_before_with false r x came k e rest = rw e rest
+
+-- the others are as they were
+pub frame_other : (came : List Request) (x : Request) (k : ℕ) → has_number k x.number ≡ false → frame_numbered (came ++ x ∷ []) k ≡ frame_numbered came k
+frame_other [] x k e = rw e refl
+frame_other (r ∷ came) x k e = find_before_with (has_number k r.number) r x came k refl (frame_other came x k e)
+
+find_new_with : (b : Bool) (r x : Request) (came : List Request) (k : ℕ) → has_number k r.number ≡ b → frame_numbered (r ∷ came) k ≡ None
+    → (frame_numbered came k ≡ None → frame_numbered (came ++ x ∷ []) k ≡ Some x.frame)
+    → frame_numbered (r ∷ (came ++ x ∷ [])) k ≡ Some x.frame
+find_new_with true r x came k e none rest = absurd (let h = rw e at none in cc)
+find_new_with false r x came k e none rest = let h = rw e at none in rw e (rest h)
+
+pub frame_now : (came : List Request) (x : Request) (k : ℕ) → has_number k x.number ≡ true → frame_numbered came k ≡ None
+    → frame_numbered (came ++ x ∷ []) k ≡ Some x.frame
+frame_now [] x k e none = rw e refl
+frame_now (r ∷ came) x k e none = find_new_with (has_number k r.number) r x came k refl none (frame_now came x k e)

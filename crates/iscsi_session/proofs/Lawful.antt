@@ -1,0 +1,144 @@
+-- Every past that the steps can reach is lawful, and what a lawful past says of the order.
+use Rattle.std.proofs.Common.{◌≡◌, ℕ, zero, suc, ◌^◌, ◌<◌, List, [], ◌∷◌, ◌++◌, length, Bool, true, false, not, cond, refl, sym, ap, subst, ◌∙◌, arith, append_assoc}
+use Rattle.std.specs.Prelude.{filter}
+use Rattle.std.proofs.lemmas.Bool.{ltb-true}
+use Rattle.std.proofs.lemmas.List.Elements.{filter-append}
+use Rattle.iscsi_pdu.specs.Header.{is_immediate, cmd_sn}
+use Rattle.iscsi_pdu.specs.Frames.{Frame}
+use Rattle.iscsi_order.specs.Window as order
+use Rattle.iscsi_order.specs.Window.{taken as taken_numbers, window}
+use Rattle.iscsi_order.specs.Serial.{distance}
+use Rattle.iscsi_order.proofs.Standing.{window_is}
+use Rattle.iscsi_session.specs.declared.verdict.Verdict.{Verdict}
+use Rattle.iscsi_session.specs.declared.verdict.Verdict.TheVariants.{Ignored, Dropped, Rejected, Violating, Accepted}
+use Rattle.iscsi_session.specs.Requests.{Past, frame_of, is_command, commands, others, taken, numbers, due, queue, moved, finished, accepted}
+use Rattle.iscsi_session.specs.Judging.{is_fresh, verdict, judged}
+use Rattle.iscsi_session.specs.Acts.{act_answers}
+use Rattle.iscsi_session.specs.State.{IsLawful}
+use Rattle.iscsi_session.specs.Steps.{Step, Judging, Taking, Doing, Work, reaches, take_step, judge, act, finish, first_steps, one_by_one, waiting_in, act_all, served, settled}
+use Rattle.iscsi_session.specs.Laws.{TakenOnce, FinishedAsTaken, DueInOrder, DoneInOrder, StepsAreLawful}
+use Rattle.iscsi_session.proofs.Taken.{distinct_taken}
+use Rattle.iscsi_session.proofs.Accepted.{begun_lawful, IsAhead, lawful_now, lawful_with}
+use Rattle.iscsi_session.proofs.Moved.{due_after, due_other, lawful_command, lawful_other, lawful_finished, queue_after}
+use Rattle.iscsi_session.proofs.Parts.{both_true, fresh_is, accepted_now, accepted_with}
+use Rattle.iscsi_session.proofs.Verdicts.{accepted_fresh}
+use Rattle.iscsi_session.proofs.Runs.{lawful_answering}
+
+-- ---- the order
+
+pub taken_once : TakenOnce
+taken_once = distinct_taken
+
+in_order : (past : Past) (q : ℕ → Bool) → IsLawful past → filter q (taken past.came) ≡ filter q past.acted ++ filter q (due past)
+in_order past q lawful = ap (filter q) lawful.in_order ∙ filter-append q past.acted (due past)
+
+pub finished_as_taken : FinishedAsTaken
+finished_as_taken past lawful = record {
+  later_commands = queue past ++ commands past.came (due past);
+  commands = in_order past (λ k. is_command (frame_of past.came k)) lawful ∙ ap (λ (l : List ℕ). l ++ commands past.came (due past)) (sym lawful.queued)
+      ∙ append_assoc (commands past.came past.finished) (queue past) (commands past.came (due past));
+  later_others = others past.came (due past);
+  others = in_order past (λ k. not (is_command (frame_of past.came k))) lawful ∙ ap (λ (l : List ℕ). l ++ others past.came (due past)) (sym lawful.at_once);
+}
+
+due_by : (b : Bool) (past : Past) (k : ℕ) (rest : List ℕ) → is_command (frame_of past.came k) ≡ b → IsLawful past → due past ≡ k ∷ rest
+    → due (moved k past) ≡ rest
+due_by true past k rest e lawful is = rw e (due_after past lawful k rest is)
+due_by false past k rest e lawful is = rw e (due_other past lawful k rest is)
+
+pub due_in_order : DueInOrder
+due_in_order past k rest lawful is = due_by _ past k rest refl lawful is
+
+pub done_in_order : DoneInOrder
+done_in_order past k rest lawful is = queue_after past lawful k rest is
+
+-- ---- each step
+
+moved_by : (b : Bool) (past : Past) (k : ℕ) (rest : List ℕ) → is_command (frame_of past.came k) ≡ b → IsLawful past → due past ≡ k ∷ rest
+    → IsLawful (moved k past)
+moved_by true past k rest e lawful is = rw e (lawful_command past lawful k rest is e)
+moved_by false past k rest e lawful is = rw e (lawful_other past lawful k rest is e)
+
+-- a new number is ahead of those taken
+new_ahead : (past : Past) (lawful : IsLawful past) (n : ℕ) → n < 2 ^ 32 → order.is_new (numbers past) n ≡ true
+    → IsAhead past lawful (order.index_of (numbers past) n) (distance (order.exp_cmd_sn (numbers past)) n)
+unfolding taken_numbers
+new_ahead past lawful n fits new =
+    let both = both_true (order.in_window (numbers past) n) (order.has_come (numbers past).came (order.index_of (numbers past) n)) new in
+    let near = ltb-true _ _ (sym (window_is (numbers past) n lawful.window fits) ∙ both.0) in
+    let few = lawful.window.finished in
+    record { number = refl; near = omega arith; missing = both.1 }
+
+accepted_by : (b : Bool) (past : Past) (frame : Frame) → is_immediate frame.header ≡ b → cmd_sn frame.header < 2 ^ 32 → is_fresh past frame ≡ true
+    → IsLawful past → IsLawful (accepted frame past)
+accepted_by true past frame h fits fresh lawful = subst IsLawful (accepted_now past frame h) (lawful_now past lawful frame h)
+accepted_by false past frame h fits fresh lawful =
+    subst IsLawful (accepted_with past frame h)
+    (lawful_with past lawful _ _ frame h (new_ahead past lawful (cmd_sn frame.header) fits (sym (fresh_is past frame h) ∙ fresh)))
+
+judged_by : (v : Verdict) (past : Past) (frame : Frame) → verdict past frame ≡ v → cmd_sn frame.header < 2 ^ 32 → IsLawful past → IsLawful (judged v frame past)
+judged_by Accepted past frame e fits lawful = accepted_by _ past frame refl fits (accepted_fresh past frame e) lawful
+judged_by (Rejected reason) past frame e fits lawful = lawful_answering _ past lawful
+judged_by Ignored past frame e fits lawful = lawful
+judged_by Dropped past frame e fits lawful = lawful
+judged_by Violating past frame e fits lawful = lawful
+
+judge_lawful : (frame : Frame) (work : Work) → cmd_sn frame.header < 2 ^ 32 → IsLawful work.past → IsLawful (judge frame work).past
+unfolding judge
+judge_lawful frame work fits lawful = judged_by _ work.past frame refl fits lawful
+
+act_lawful : (work : Work) (k : ℕ) (rest : List ℕ) → due work.past ≡ k ∷ rest → IsLawful work.past → IsLawful (act k work).past
+unfolding act
+act_lawful work k rest is lawful = lawful_answering (act_answers k work.past) (moved k work.past) (moved_by _ work.past k rest refl lawful is)
+
+finish_lawful : (work : Work) (k : ℕ) (rest : List ℕ) → queue work.past ≡ k ∷ rest → IsLawful work.past → IsLawful (finish k work).past
+unfolding finish
+finish_lawful work k rest is lawful = lawful_answering _ (finished k work.past) (lawful_finished work.past lawful k rest is)
+
+-- ---- runs
+
+step_by : (on fail : Bool) (step : Step) (does : Work → Work) (work : Work) → IsLawful work.past → IsLawful (does (reaches step work)).past
+    → IsLawful (cond (not on) work (cond fail (record (reaches step work) { goes_on = false }) (does (reaches step work)))).past
+step_by false fail step does work lawful next = lawful
+step_by true true step does work lawful next = lawful
+step_by true false step does work lawful next = next
+
+step_lawful : (fails : Step → Bool) (step : Step) (does : Work → Work) (work : Work) → IsLawful work.past → IsLawful (does (reaches step work)).past
+    → IsLawful (take_step fails step does work).past
+unfolding take_step
+step_lawful fails step does work lawful next = step_by work.goes_on (fails step) step does work lawful next
+
+abbrev Keeps : (Past → List ℕ) → (ℕ → Work → Work) → Type 0
+Keeps line does = (work : Work) (k : ℕ) (rest : List ℕ) → line work.past ≡ k ∷ rest → IsLawful work.past → IsLawful (does k work).past
+
+first_lawful : (fails : Step → Bool) (step : Step) (line : Past → List ℕ) (does : ℕ → Work → Work) (l : List ℕ) (work : Work) → line work.past ≡ l
+    → Keeps line does → IsLawful work.past
+    → IsLawful (first_steps fails step does l work).past
+first_lawful fails step line does [] work is keeps lawful = lawful
+first_lawful fails step line does (k ∷ rest) work is keeps lawful = step_lawful fails step (does k) work lawful (keeps (reaches step work) k rest is lawful)
+
+all_lawful : (fails : Step → Bool) (step : ℕ → Step) (line : Past → List ℕ) (does : ℕ → Work → Work) (turn most : ℕ) (work : Work) → Keeps line does
+    → IsLawful work.past
+    → IsLawful (one_by_one fails step line does turn most work).past
+all_lawful fails step line does turn zero work keeps lawful = lawful
+all_lawful fails step line does turn (suc most) work keeps lawful =
+    all_lawful fails step line does (suc turn) most (first_steps fails (step turn) does (line work.past) work) keeps
+    (first_lawful fails (step turn) line does (line work.past) work refl keeps lawful)
+
+act_all_lawful : (fails : Step → Bool) (place : ℕ) (work : Work) → IsLawful work.past → IsLawful (act_all fails place work).past
+unfolding act_all
+act_all_lawful fails place work lawful = all_lawful fails (Taking place) due act 0 (waiting_in work.past) work act_lawful lawful
+
+served_lawful : (fails : Step → Bool) (place : ℕ) (frame : Frame) (work : Work) → cmd_sn frame.header < 2 ^ 32 → IsLawful work.past
+    → IsLawful (served fails place frame work).past
+unfolding served
+served_lawful fails place frame work fits lawful =
+    act_all_lawful fails place (take_step fails (Judging place) (judge frame) work)
+    (step_lawful fails (Judging place) (judge frame) work lawful (judge_lawful frame (reaches (Judging place) work) fits lawful))
+
+settled_lawful : (fails : Step → Bool) (place : ℕ) (work : Work) → IsLawful work.past → IsLawful (settled fails place work).past
+unfolding settled
+settled_lawful fails place work lawful = all_lawful fails (Doing place) queue finish 0 (length (queue work.past)) work finish_lawful lawful
+
+pub steps_are_lawful : StepsAreLawful
+steps_are_lawful = record { begun = begun_lawful; served = served_lawful; settled = settled_lawful }

@@ -1,0 +1,295 @@
+-- A request acts, and a command is finished: what the session remembers, and that its past stays lawful.
+use Rattle.std.proofs.Common.{◌≡◌, ℕ, zero, ◌+◌, ◌-◌, ◌<◌, ◌≤◌, List, [], ◌∷◌, ◌++◌, length, get_or, Bool, true, false, not, cond, refl, sym, ap, subst, ◌∙◌, arith, append_assoc}
+use Rattle.std.specs.Prelude.{is_some, All}
+use Rattle.std.proofs.lemmas.List.{append-nil, map-append}
+use Rattle.std.proofs.lemmas.List.Elements.{filter-append, filter_passes, All-filter, All-head, All-push, All-nil, All-cons}
+use Rattle.iscsi_pdu.specs.Header.{is_immediate}
+use Rattle.iscsi_pdu.specs.Frames.{Frame}
+use Rattle.iscsi_order.specs.Window.{taken as taken_numbers}
+use Rattle.iscsi_session.specs.Requests.{Request, Past, request_at, frame_of, is_in, left, is_command, commands, others, counted, taken, numbers, due, queue, frames_of, finished}
+use Rattle.iscsi_session.specs.State.{TaskLists, tasks_of, AreDistinct, IsDelivered, IsLawful, one_fewer}
+use Rattle.iscsi_session.proofs.Left.{left_append, left_all, left_none, left_more, left_first, left_one, left_passes, in_at, in_front, in_back, in_left, not_by, not_in, below_of, distinct_left, distinct_filter, distinct_front}
+use Rattle.iscsi_session.proofs.Taken.{taken_below, distinct_taken}
+use Rattle.iscsi_session.proofs.Accepted.{handed_le, counted_append, due_is, queue_is, in_queue}
+
+-- ---- counts
+
+split_with : (n c : Bool) (came : List Request) (k : ℕ) (names : List ℕ) → is_some (request_at came k).number ≡ n → is_command (frame_of came k) ≡ c
+    → counted came names ≡ counted came (commands came names) + counted came (others came names)
+    → counted came (k ∷ names) ≡ counted came (commands came (k ∷ names)) + counted came (others came (k ∷ names))
+split_with true true came k names e f rest = rw (e, f, e) (omega arith)
+split_with true false came k names e f rest = rw (e, f, e) (omega arith)
+split_with false true came k names e f rest = rw (e, f, e) rest
+split_with false false came k names e f rest = rw (e, f, e) rest
+
+counted_split : (came : List Request) (names : List ℕ) → counted came names ≡ counted came (commands came names) + counted came (others came names)
+counted_split came [] = refl
+counted_split came (k ∷ names) = split_with _ _ came k names refl refl (counted_split came names)
+
+-- no more numbers are finished than are taken
+few_finished : (past : Past) → taken past.came ≡ past.acted ++ due past → commands past.came past.finished ++ queue past ≡ commands past.came past.acted
+    → others past.came past.finished ≡ others past.came past.acted
+    → counted past.came (taken past.came) ≡ (numbers past).handed → counted past.came past.finished ≤ (numbers past).handed
+few_finished past in_order queued at_once handed =
+    let came = past.came in
+    let a = counted_split came past.finished in
+    let b = counted_split came past.acted in
+    let c : counted came (commands came past.finished) + counted came (queue past) ≡ counted came (commands came past.acted) = sym
+    (counted_append came (commands came past.finished) (queue past)) ∙ ap (counted came) queued in
+    let d : counted came (others came past.finished) ≡ counted came (others came past.acted) = ap (counted came) at_once in
+    let e : counted came (taken came) ≡ counted came past.acted + counted came (due past) = ap (counted came) in_order
+    ∙ counted_append came past.acted (due past) in
+    omega arith
+
+-- one that has no number is for immediate delivery
+fewer_by : (n i : Bool) (handed done : ℕ) → n ≡ not i → cond i (handed - done) (handed - done - 1) ≡ handed - (done + length (cond n (zero ∷ []) []))
+fewer_by true true handed done e = absurd cc
+fewer_by true false handed done e = omega arith
+fewer_by false true handed done e = omega arith
+fewer_by false false handed done e = absurd cc
+
+one_counted : (b : Bool) (came : List Request) (k : ℕ) → is_some (request_at came k).number ≡ b → counted came (k ∷ []) ≡ length (cond b (zero ∷ []) [])
+one_counted true came k e = rw e refl
+one_counted false came k e = rw e refl
+
+one_fewer_by : (b : Bool) (frame : Frame) (tasks : TaskLists) → is_immediate frame.header ≡ b
+    → one_fewer frame tasks ≡ record tasks { unfinished = cond b tasks.unfinished (tasks.unfinished - 1) }
+one_fewer_by true frame tasks e = rw e refl
+one_fewer_by false frame tasks e = rw e refl
+
+module _ (past : Past) (lawful : IsLawful past) where
+  distinct_acted : AreDistinct past.acted
+  distinct_acted = distinct_front past.acted (due past) (subst AreDistinct lawful.in_order (distinct_taken past.came))
+
+  -- one more is finished
+  unfinished_less : (k : ℕ) → k < length past.came
+      → cond (is_immediate (frame_of past.came k).header) ((numbers past).handed - counted past.came past.finished)
+      ((numbers past).handed - counted past.came past.finished - 1)
+      ≡ (numbers past).handed - counted past.came (past.finished ++ k ∷ [])
+  unfinished_less k lt =
+      let told : IsDelivered (request_at past.came k) = lawful.delivered k _ lt in
+      fewer_by (is_some (request_at past.came k).number) (is_immediate (frame_of past.came k).header) (numbers past).handed
+      (counted past.came past.finished) told
+      ∙ ap (λ (n : ℕ). (numbers past).handed - n) (ap (λ (n : ℕ). counted past.came past.finished + n) (sym (one_counted _ past.came k refl))
+      ∙ sym (counted_append past.came past.finished (k ∷ [])))
+
+  -- ---- the numbers that are taken are the same
+
+  pub handed_finished : (k : ℕ) → (numbers (finished k past)).handed ≡ (numbers past).handed
+  unfolding taken_numbers
+  handed_finished k = refl
+
+  -- ---- the first that is due acts
+
+  module _ (k : ℕ) (rest : List ℕ) (is : due past ≡ k ∷ rest) where
+    in_due : is_in k (due past) ≡ true
+    in_due = ap (λ (l : List ℕ). is_in k l) is ∙ in_at (k ∷ rest) 0 0 (omega arith)
+
+    pub in_taken : is_in k (taken past.came) ≡ true
+    in_taken = in_left k past.acted (taken past.came) (ap (λ (l : List ℕ). is_in k l) (sym (due_is past lawful)) ∙ in_due)
+
+    pub due_came : k < length past.came
+    due_came = below_of (length past.came) k (taken past.came) (taken_below past.came) in_taken
+
+    not_acted : is_in k past.acted ≡ false
+    not_acted =
+        let none : is_in (get_or (left past.acted (taken past.came)) 0 k) past.acted ≡ false = left_passes past.acted (taken past.came) 0 k
+        (omega (arith, ap (λ (l : List ℕ). length l) (sym (due_is past lawful) ∙ is))) in
+        ap (λ (n : ℕ). is_in n past.acted) (ap (λ (l : List ℕ). get_or l 0 k) (sym (sym (due_is past lawful) ∙ is))) ∙ none
+
+    not_finished : is_in k past.finished ≡ false
+    not_finished = not_in k past.finished past.acted lawful.acted not_acted
+
+    distinct_here : AreDistinct (k ∷ rest)
+    distinct_here = subst AreDistinct (sym (due_is past lawful) ∙ is) (distinct_left past.acted (taken past.came) (distinct_taken past.came))
+
+    -- the others are due, in the same order
+    pub due_after : due (record past { acted = past.acted ++ k ∷ [] }) ≡ rest
+    unfolding due
+    due_after =
+        left_none past.removed _ lawful.none_removed ∙ left_more past.acted (k ∷ []) (taken past.came)
+        ∙ ap (left (k ∷ [])) (sym (due_is past lawful) ∙ is) ∙ left_first k rest distinct_here
+
+    in_order_after : taken past.came ≡ (past.acted ++ k ∷ []) ++ rest
+    in_order_after = lawful.in_order ∙ ap (λ (l : List ℕ). past.acted ++ l) is ∙ sym (append_assoc past.acted (k ∷ []) rest)
+
+    below_after : All (λ a. a < length past.came) (past.acted ++ k ∷ [])
+    below_after = All-push (λ a. a < length past.came) past.acted k lawful.below due_came
+
+    acted_after : All (λ a. is_in a (past.acted ++ k ∷ []) ≡ true) past.finished
+    acted_after = λ i d lt. in_front (get_or past.finished i d) past.acted (k ∷ []) (lawful.acted i d lt)
+
+    -- ---- a SCSI Command joins the queue
+
+    abbrev with_command : Past
+    with_command = record past { acted = past.acted ++ k ∷ [] }
+
+    commands_one : is_command (frame_of past.came k) ≡ true → commands past.came (past.acted ++ k ∷ []) ≡ commands past.came past.acted ++ k ∷ []
+    commands_one e = filter-append (λ a. is_command (frame_of past.came a)) past.acted (k ∷ []) ∙ rw e refl
+
+    others_none : is_command (frame_of past.came k) ≡ true → others past.came (past.acted ++ k ∷ []) ≡ others past.came past.acted
+    others_none e = filter-append (λ a. not (is_command (frame_of past.came a))) past.acted (k ∷ []) ∙ rw e (append-nil (others past.came past.acted))
+
+    pub queue_joined : is_command (frame_of past.came k) ≡ true → queue with_command ≡ queue past ++ k ∷ []
+    unfolding queue
+    queue_joined e =
+        left_none past.removed _ lawful.none_removed ∙ ap (left past.finished) (commands_one e)
+        ∙ left_append past.finished (commands past.came past.acted) (k ∷ [])
+        ∙ ap (λ (l : List ℕ). left past.finished (commands past.came past.acted) ++ l)
+        (left_all past.finished (k ∷ []) (All-cons (λ a. is_in a past.finished ≡ false) k [] not_finished (All-nil (λ a. is_in a past.finished ≡ false))))
+        ∙ ap (λ (l : List ℕ). l ++ k ∷ []) (sym (queue_is past lawful))
+
+    pub lawful_command : is_command (frame_of past.came k) ≡ true → IsLawful with_command
+    lawful_command e = record {
+      window = lawful.window;
+      distinct = lawful.distinct;
+      delivered = lawful.delivered;
+      in_order = in_order_after ∙ ap (λ (l : List ℕ). (past.acted ++ k ∷ []) ++ l) (sym due_after);
+      below = below_after;
+      acted = acted_after;
+      queued = ap (λ (l : List ℕ). commands past.came past.finished ++ l) (queue_joined e)
+          ∙ sym (append_assoc (commands past.came past.finished) (queue past) (k ∷ [])) ∙ ap (λ (l : List ℕ). l ++ k ∷ []) lawful.queued
+          ∙ sym (commands_one e);
+      at_once = lawful.at_once ∙ sym (others_none e);
+      handed = lawful.handed;
+      none_removed = lawful.none_removed;
+    }
+
+    pub tasks_command : is_command (frame_of past.came k) ≡ true
+        → record (tasks_of past) { due = frames_of past.came rest; queue = (tasks_of past).queue ++ frame_of past.came k ∷ [] } ≡ tasks_of with_command
+    unfolding tasks_of
+    tasks_command e =
+        let queued : frames_of past.came (queue past) ++ frame_of past.came k ∷ [] ≡ frames_of past.came (queue with_command) = sym
+        (map-append (frame_of past.came) (queue past) (k ∷ [])) ∙ ap (frames_of past.came) (sym (queue_joined e)) in
+        rw (queued, due_after) refl
+
+    -- ---- every other request is finished at once
+
+    abbrev with_other : Past
+    with_other = finished k (record past { acted = past.acted ++ k ∷ [] })
+
+    commands_none : (names : List ℕ) → is_command (frame_of past.came k) ≡ false → commands past.came (names ++ k ∷ []) ≡ commands past.came names
+    commands_none names e = filter-append (λ a. is_command (frame_of past.came a)) names (k ∷ []) ∙ rw e (append-nil (commands past.came names))
+
+    others_one : (names : List ℕ) → is_command (frame_of past.came k) ≡ false → others past.came (names ++ k ∷ []) ≡ others past.came names ++ k ∷ []
+    others_one names e = filter-append (λ a. not (is_command (frame_of past.came a))) names (k ∷ []) ∙ rw e refl
+
+    pub due_other : due with_other ≡ rest
+    unfolding due
+    due_other = due_after
+
+    pub queue_other : is_command (frame_of past.came k) ≡ false → queue with_other ≡ queue past
+    unfolding queue
+    queue_other e =
+        let apart : is_in k (queue past) ≡ false = not_by k (queue past) past.acted (in_queue past lawful k) not_acted in
+        left_none past.removed _ lawful.none_removed ∙ ap (left (past.finished ++ k ∷ [])) (commands_none past.acted e)
+        ∙ left_more past.finished (k ∷ []) (commands past.came past.acted)
+        ∙ ap (left (k ∷ [])) (sym (queue_is past lawful)) ∙ left_one k (queue past) apart
+
+    pub lawful_other : is_command (frame_of past.came k) ≡ false → IsLawful with_other
+    lawful_other e =
+        let in_order : taken past.came ≡ (past.acted ++ k ∷ []) ++ due with_other = in_order_after
+        ∙ ap (λ (l : List ℕ). (past.acted ++ k ∷ []) ++ l) (sym due_other) in
+        let queued : commands past.came (past.finished ++ k ∷ []) ++ queue with_other ≡ commands past.came (past.acted ++ k ∷ []) =
+        rw (commands_none past.finished e, queue_other e, commands_none past.acted e) lawful.queued in
+        let at_once : others past.came (past.finished ++ k ∷ []) ≡ others past.came (past.acted ++ k ∷ []) = rw
+        (others_one past.finished e, others_one past.acted e) (ap (λ (l : List ℕ). l ++ k ∷ []) lawful.at_once) in
+        let handed : counted past.came (taken past.came) ≡ (numbers with_other).handed = lawful.handed ∙ sym (handed_finished k) in
+        let more = counted_append past.came past.finished (k ∷ []) in
+        record {
+          window = record {
+            finished = few_finished with_other in_order queued at_once handed;
+            handed = handed_le with_other;
+            within = λ j come. (let lt = lawful.window.within j come in omega arith);
+          };
+          distinct = lawful.distinct;
+          delivered = lawful.delivered;
+          in_order = in_order;
+          below = below_after;
+          acted = All-push (λ a. is_in a (past.acted ++ k ∷ []) ≡ true) past.finished k acted_after
+              (in_back k past.acted (k ∷ []) (in_at (k ∷ []) 0 0 (omega arith)));
+          queued = queued;
+          at_once = at_once;
+          handed = handed;
+          none_removed = lawful.none_removed;
+        }
+
+    pub tasks_other : is_command (frame_of past.came k) ≡ false
+        → one_fewer (frame_of past.came k) (record (tasks_of past) { due = frames_of past.came rest }) ≡ tasks_of with_other
+    unfolding tasks_of taken_numbers
+    tasks_other e =
+        one_fewer_by _ (frame_of past.came k) (record (tasks_of past) { due = frames_of past.came rest }) refl
+        ∙ rw (unfinished_less k due_came, due_other, queue_other e) refl
+
+  -- ---- the first of the queue is finished
+
+  module _ (k : ℕ) (rest : List ℕ) (is : queue past ≡ k ∷ rest) where
+    queued_here : is_in k (queue past) ≡ true
+    queued_here = ap (λ (l : List ℕ). is_in k l) is ∙ in_at (k ∷ rest) 0 0 (omega arith)
+
+    pub has_acted : is_in k past.acted ≡ true
+    has_acted = in_queue past lawful k queued_here
+
+    pub queue_came : k < length past.came
+    queue_came = below_of (length past.came) k past.acted lawful.below has_acted
+
+    all_commands : All (λ a. is_command (frame_of past.came a) ≡ true) (left past.finished (commands past.came past.acted))
+    unfolding left
+    all_commands = All-filter (λ a. not (is_in a past.finished)) (λ a. is_command (frame_of past.came a) ≡ true) (commands past.came past.acted)
+        (filter_passes (λ a. is_command (frame_of past.came a)) past.acted)
+
+    pub is_done : is_command (frame_of past.came k) ≡ true
+    is_done = All-head (λ a. is_command (frame_of past.came a) ≡ true) k rest
+        (subst (All (λ a. is_command (frame_of past.came a) ≡ true)) (sym (queue_is past lawful) ∙ is) all_commands)
+
+    distinct_queue : AreDistinct (k ∷ rest)
+    distinct_queue = subst AreDistinct (sym (queue_is past lawful)
+        ∙ is) (distinct_left past.finished (commands past.came past.acted)
+        (distinct_filter (λ a. is_command (frame_of past.came a)) past.acted distinct_acted))
+
+    -- the others are to be done, in the same order
+    pub queue_after : queue (finished k past) ≡ rest
+    unfolding queue
+    queue_after =
+        left_none past.removed _ lawful.none_removed ∙ left_more past.finished (k ∷ []) (commands past.came past.acted)
+        ∙ ap (left (k ∷ [])) (sym (queue_is past lawful) ∙ is) ∙ left_first k rest distinct_queue
+
+    due_finished : due (finished k past) ≡ due past
+    unfolding due
+    due_finished = refl
+
+    pub lawful_finished : IsLawful (finished k past)
+    lawful_finished =
+        let in_order : taken past.came ≡ past.acted ++ due (finished k past) = lawful.in_order ∙ ap (λ (l : List ℕ). past.acted ++ l) (sym due_finished) in
+        let one : commands past.came (past.finished ++ k ∷ []) ≡ commands past.came past.finished ++ k ∷ [] = filter-append
+        (λ a. is_command (frame_of past.came a)) past.finished (k ∷ []) ∙ rw is_done refl in
+        let none : others past.came (past.finished ++ k ∷ []) ≡ others past.came past.finished = filter-append
+        (λ a. not (is_command (frame_of past.came a))) past.finished (k ∷ []) ∙ rw is_done (append-nil (others past.came past.finished)) in
+        let queued : commands past.came (past.finished ++ k ∷ []) ++ queue (finished k past) ≡ commands past.came past.acted =
+        rw (one, queue_after) (append_assoc (commands past.came past.finished) (k ∷ []) rest
+        ∙ ap (λ (l : List ℕ). commands past.came past.finished ++ l) (sym is) ∙ lawful.queued) in
+        let at_once : others past.came (past.finished ++ k ∷ []) ≡ others past.came past.acted = none ∙ lawful.at_once in
+        let handed : counted past.came (taken past.came) ≡ (numbers (finished k past)).handed = lawful.handed ∙ sym (handed_finished k) in
+        let more = counted_append past.came past.finished (k ∷ []) in
+        record {
+          window = record {
+            finished = few_finished (finished k past) in_order queued at_once handed;
+            handed = handed_le (finished k past);
+            within = λ j come. (let lt = lawful.window.within j come in omega arith);
+          };
+          distinct = lawful.distinct;
+          delivered = lawful.delivered;
+          in_order = in_order;
+          below = lawful.below;
+          acted = All-push (λ a. is_in a past.acted ≡ true) past.finished k lawful.acted has_acted;
+          queued = queued;
+          at_once = at_once;
+          handed = handed;
+          none_removed = lawful.none_removed;
+        }
+
+    pub tasks_finished : one_fewer (frame_of past.came k) (record (tasks_of past) { queue = frames_of past.came rest }) ≡ tasks_of (finished k past)
+    unfolding tasks_of taken_numbers
+    tasks_finished =
+        one_fewer_by _ (frame_of past.came k) (record (tasks_of past) { queue = frames_of past.came rest }) refl
+        ∙ rw (unfinished_less k queue_came, due_finished, queue_after) refl

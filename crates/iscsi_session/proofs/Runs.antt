@@ -1,0 +1,374 @@
+-- Steps one after the other: where the code is after so many, and where it stops.
+use Rattle.std.proofs.Common.{◌≡◌, ◌≢◌, ℕ, zero, suc, ◌+◌, ◌<◌, ◌≤◌, List, [], ◌∷◌, ◌++◌, length, Bool, true, false, Option, Some, None, refl, sym, ap, ◌∙◌, subst, arith, append_assoc, append-nil}
+use Rattle.std.specs.Prelude.{flat_map, filter}
+use Rattle.std.proofs.lemmas.Bool.{eq-eqb, ne_eqb}
+use Rattle.std.proofs.lemmas.List.{length-append}
+use Rattle.std.proofs.lemmas.List.Concat.{flat_map-append}
+use Rattle.std.proofs.lemmas.List.Elements.{filter-append}
+use Rattle.scsi_unit.specs.Units.{UnitStates}
+use Rattle.iscsi_pdu.specs.Answer.{spelling}
+use Rattle.iscsi_pdu.specs.declared.answer.Answer.{Answer}
+use Rattle.iscsi_session.specs.Requests.{Past, due, queue, bears_status, bearing, statuses, answering}
+use Rattle.iscsi_session.specs.State.{SessionState, IsLawful, Stands, tasks_of, remembered}
+use Rattle.iscsi_session.specs.Steps.{Step, Taking, Doing, is_step, is_of, Work, reaches, take_step, first_steps, one_by_one}
+use Rattle.iscsi_session.specs.Runs.{Starts, Leaves, FailsAs, IsReached, Runs}
+
+-- ---- a session that was answered more
+
+pub lawful_answering : (more : List Answer) (past : Past) → IsLawful past → IsLawful (answering more past)
+unfolding due queue
+lawful_answering more past lawful = record {
+  window = lawful.window;
+  distinct = lawful.distinct;
+  delivered = lawful.delivered;
+  in_order = lawful.in_order;
+  below = lawful.below;
+  acted = lawful.acted;
+  queued = lawful.queued;
+  at_once = lawful.at_once;
+  handed = lawful.handed;
+  none_removed = lawful.none_removed;
+}
+
+bearing_append : (a b : List Answer) → bearing (a ++ b) ≡ bearing a + bearing b
+bearing_append a b = ap (λ (l : List Answer). length l) (filter-append bears_status a b) ∙ length-append (filter bears_status a) (filter bears_status b)
+
+pub statuses_answering : (more : List Answer) (past : Past) → statuses (answering more past) ≡ statuses past + bearing more
+statuses_answering more past = omega (arith, bearing_append past.answers more)
+
+pub tasks_answering : (more : List Answer) (past : Past) → tasks_of (answering more past) ≡ tasks_of past
+unfolding tasks_of due queue
+tasks_answering more past = refl
+
+-- ---- where the code stands
+
+pub stands_of : (work : Work) (state : SessionState) (units : UnitStates) → Starts work state units → Stands work.past state
+stands_of work state units s = record { lawful = s.lawful; remembered = s.remembered }
+
+pub starts_again : (given work : Work) (state : SessionState) (before waiting : List ℕ) (units : UnitStates) → Leaves given work state before waiting units
+    → work.goes_on ≡ true → Starts work state units
+starts_again given work state before waiting units l goes_on = record { lawful = l.lawful; remembered = l.remembered; units = l.units; goes_on = goes_on }
+
+-- the same session, whatever was reached
+pub starts_reaching : (step : Step) (work : Work) (state : SessionState) (units : UnitStates) → Starts work state units → Starts (reaches step work) state units
+starts_reaching step work state units s = record { lawful = s.lawful; remembered = s.remembered; units = s.units; goes_on = s.goes_on }
+
+pub leaves_nothing : (work : Work) (state : SessionState) (before : List ℕ) (units : UnitStates) → Starts work state units
+    → Leaves work work state before before units
+leaves_nothing work state before units s = record {
+  lawful = s.lawful;
+  remembered = s.remembered;
+  units = s.units;
+  params = refl;
+  more = [];
+  answers = sym (append-nil work.past.answers);
+  spelled = sym (append-nil before);
+}
+
+pub leaves_then : (given work next : Work) (state after : SessionState) (before waiting items : List ℕ) (units units_after : UnitStates)
+    → Leaves given work state before waiting units → Leaves work next after waiting items units_after
+    → Leaves given next after before items units_after
+leaves_then given work next state after before waiting items units units_after a b = record {
+  lawful = b.lawful;
+  remembered = b.remembered;
+  units = b.units;
+  params = b.params ∙ a.params;
+  more = a.more ++ b.more;
+  answers = b.answers ∙ ap (λ (l : List Answer). l ++ b.more) a.answers ∙ append_assoc given.past.answers a.more b.more;
+  spelled = b.spelled ∙ ap (λ (l : List ℕ). l ++ flat_map spelling b.more) a.spelled ∙ append_assoc before (flat_map spelling a.more) (flat_map spelling b.more)
+      ∙ ap (λ (l : List ℕ). before ++ l) (sym (flat_map-append spelling a.more b.more));
+}
+
+-- a step that answers this much
+pub leaves_standing : (given work : Work) (state : SessionState) (before waiting : List ℕ) (units : UnitStates) (more : List Answer)
+    → Stands work.past state → work.past.params ≡ given.past.params
+    → work.past.answers ≡ given.past.answers ++ more → waiting ≡ before ++ flat_map spelling more → work.units ≡ units
+    → Leaves given work state before waiting units
+leaves_standing given work state before waiting units more s params answers spelled same =
+    record { lawful = s.lawful; remembered = s.remembered; units = same; params = params; more = more; answers = answers; spelled = spelled }
+
+pub leaves_reaching : (step : Step) (work next : Work) (state : SessionState) (before waiting : List ℕ) (units : UnitStates)
+    → Leaves (reaches step work) next state before waiting units → Leaves work next state before waiting units
+leaves_reaching step work next state before waiting units l =
+    record { lawful = l.lawful; remembered = l.remembered; units = l.units; params = l.params; more = l.more; answers = l.answers; spelled = l.spelled }
+
+pub leaves_stopped : (step : Step) (given work : Work) (state : SessionState) (before waiting : List ℕ) (units : UnitStates)
+    → Leaves given work state before waiting units → Leaves given (record (reaches step work) { goes_on = false }) state before waiting units
+leaves_stopped step given work state before waiting units l =
+    record { lawful = l.lawful; remembered = l.remembered; units = l.units; params = l.params; more = l.more; answers = l.answers; spelled = l.spelled }
+
+pub reached_last : (step : Step) (work last : Work) → last ≡ record (reaches step work) { goes_on = false }
+    → (before : List Step) × (last.reached ≡ before ++ step ∷ [])
+reached_last step work last e = (work.reached, ap (λ (v : Work). v.reached) e)
+
+-- ---- more waits behind what did
+
+pub grows_none : (before : List ℕ) → (more : List ℕ) × (before ≡ before ++ more)
+grows_none before = ([], sym (append-nil before))
+
+pub grows_then : (before waiting items : List ℕ) → (more : List ℕ) × (waiting ≡ before ++ more) → (more : List ℕ) × (items ≡ waiting ++ more)
+    → (more : List ℕ) × (items ≡ before ++ more)
+grows_then before waiting items a b = (a.0 ++ b.0, b.1 ∙ ap (λ (l : List ℕ). l ++ b.0) a.1 ∙ append_assoc before a.0 b.0)
+
+-- ---- one step
+
+pub step_done : (fails : Step → Bool) (step : Step) (does : Work → Work) (work : Work) → work.goes_on ≡ true → fails step ≡ false
+    → take_step fails step does work ≡ does (reaches step work)
+unfolding take_step
+step_done fails step does work on un = rw (on, un) refl
+
+pub step_fails : (fails : Step → Bool) (step : Step) (does : Work → Work) (work : Work) → work.goes_on ≡ true → fails step ≡ true
+    → take_step fails step does work ≡ record (reaches step work) { goes_on = false }
+unfolding take_step
+step_fails fails step does work on un = rw (on, un) refl
+
+pub step_stopped : (fails : Step → Bool) (step : Step) (does : Work → Work) (work : Work) → work.goes_on ≡ false → take_step fails step does work ≡ work
+unfolding take_step
+step_stopped fails step does work off = rw off refl
+
+-- ---- a line that is empty, and a session that does not go on
+
+first_stopped : (fails : Step → Bool) (step : Step) (does : ℕ → Work → Work) (requests : List ℕ) (work : Work) → work.goes_on ≡ false
+    → first_steps fails step does requests work ≡ work
+first_stopped fails step does [] work off = refl
+first_stopped fails step does (request ∷ others) work off = step_stopped fails step (does request) work off
+
+pub stopped : (fails : Step → Bool) (step : ℕ → Step) (line : Past → List ℕ) (does : ℕ → Work → Work) (turn most : ℕ) (work : Work) → work.goes_on ≡ false
+    → one_by_one fails step line does turn most work ≡ work
+stopped fails step line does turn zero work off = refl
+stopped fails step line does turn (suc most) work off =
+    ap (one_by_one fails step line does (suc turn) most) (first_stopped fails (step turn) does (line work.past) work off)
+    ∙ stopped fails step line does (suc turn) most work off
+
+pub idle : (fails : Step → Bool) (step : ℕ → Step) (line : Past → List ℕ) (does : ℕ → Work → Work) (turn most : ℕ) (work : Work) → line work.past ≡ []
+    → one_by_one fails step line does turn most work ≡ work
+idle fails step line does turn zero work none = refl
+idle fails step line does turn (suc most) work none =
+    ap (λ (l : List ℕ). one_by_one fails step line does (suc turn) most (first_steps fails (step turn) does l work)) none
+    ∙ idle fails step line does (suc turn) most work none
+
+-- ---- one after the other
+
+-- the steps of one kind
+pub record IsKind (kind : ℕ → ℕ → Step) : Type 0 where
+  pub of : (place turn : ℕ) → is_of place (kind place turn) ≡ true
+  pub same : (place turn : ℕ) → is_step (kind place turn) (kind place turn) ≡ true
+  pub apart : (place turn other : ℕ) → turn ≢ other → is_step (kind place turn) (kind place other) ≡ false
+
+pub taking_kind : IsKind Taking
+taking_kind = record {
+  of = λ place turn. eq-eqb place place refl;
+  same = λ place turn. rw (eq-eqb place place refl, eq-eqb turn turn refl) refl;
+  apart = λ place turn other differ. rw (eq-eqb place place refl, ne_eqb turn other differ) refl;
+}
+
+pub doing_kind : IsKind Doing
+doing_kind = record {
+  of = λ place turn. eq-eqb place place refl;
+  same = λ place turn. rw (eq-eqb place place refl, eq-eqb turn turn refl) refl;
+  apart = λ place turn other differ. rw (eq-eqb place place refl, ne_eqb turn other differ) refl;
+}
+
+-- how many requests wait to act, and how many commands are to be done
+abbrev pub tasks_count : SessionState → ℕ
+tasks_count state = length state.tasks.due
+
+abbrev pub queue_count : SessionState → ℕ
+queue_count state = length state.tasks.queue
+
+module _ (kind : ℕ → ℕ → Step) (line : Past → List ℕ) (does : ℕ → Work → Work) (count : SessionState → ℕ) (size : Past → ℕ) (fits : (past : Past)
+    → IsLawful past → count (remembered past) ≤ size past) where
+  -- what is left of the turns
+  pub record RanTo (turns : ℕ) (place : ℕ) (fails : Step → Bool) (given : Work) (most : ℕ) (now : SessionState) (before waiting : List ℕ)
+      (units : UnitStates) : Type 0 where
+    pub work : Work
+    pub left : ℕ
+    pub leaves : Leaves given work now before waiting units
+    pub goes_on : work.goes_on ≡ true
+    pub enough : count now ≤ left
+    pub same : one_by_one fails (kind place) line does 0 most given ≡ one_by_one fails (kind place) line does turns left work
+
+  -- so many steps were done
+  pub record Ran (turns : ℕ) (old now : SessionState) (before waiting : List ℕ) (units after : UnitStates) : Type 0 where
+    pub runs : (place : ℕ) (fails : Step → Bool) (given : Work) (most : ℕ) → ((turn : ℕ) → turn < turns → fails (kind place turn) ≡ false)
+        → Starts given old units → count old ≤ most
+        → RanTo turns place fails given most now before waiting after
+
+  pub none_ran : (old : SessionState) (before : List ℕ) (units : UnitStates) → Ran 0 old old before before units units
+  none_ran old before units = record {
+    runs = λ place fails given most un s le. record
+        { work = given; left = most; leaves = leaves_nothing given old before units s; goes_on = s.goes_on; enough = le; same = refl };
+  }
+
+  -- the first of the line takes a step, and the session goes on, or not
+  pub record StepsTo (goes_on : Bool) (now next : SessionState) (before waiting : List ℕ) (units after : UnitStates) : Type 0 where
+    pub steps : (work : Work) → Starts work now units
+        → (request : ℕ) × (others : List ℕ) × (line work.past ≡ request ∷ others) × ((does request work).goes_on ≡ goes_on) × Leaves work (does request work) next before waiting after
+    pub some : (work : Work) → Starts work now units → 0 < count now
+
+  one_step : (turn left place : ℕ) (fails : Step → Bool) (work : Work) (request : ℕ) (others : List ℕ) → line work.past ≡ request ∷ others
+      → work.goes_on ≡ true → fails (kind place turn) ≡ false
+      → one_by_one fails (kind place) line does turn (suc left) work ≡ one_by_one fails (kind place) line does (suc turn) left
+      (does request (reaches (kind place turn) work))
+  one_step turn left place fails work request others is on un =
+      ap (λ (l : List ℕ). one_by_one fails (kind place) line does (suc turn) left (first_steps fails (kind place turn) does l work)) is
+      ∙ ap (one_by_one fails (kind place) line does (suc turn) left) (step_done fails (kind place turn) (does request) work on un)
+
+  pub record Stepped (turns : ℕ) (place : ℕ) (fails : Step → Bool) (given : Work) (most : ℕ) (goes_on_then : Bool) (now next : SessionState)
+      (before waiting : List ℕ) (units : UnitStates) : Type 0 where
+    pub work : Work
+    pub left : ℕ
+    pub leaves : Leaves given work next before waiting units
+    pub goes_on : work.goes_on ≡ goes_on_then
+    pub enough : count now ≤ suc left
+    pub same : one_by_one fails (kind place) line does 0 most given ≡ one_by_one fails (kind place) line does (suc turns) left work
+
+  stepped_by : (left : ℕ) (turns place : ℕ) (fails : Step → Bool) (given : Work) (most : ℕ) (goes_on : Bool) (now next : SessionState)
+      (before waiting items : List ℕ) (units after : UnitStates) (r : RanTo turns place fails given most now before waiting units)
+      → r.left ≡ left → fails (kind place turns) ≡ false → StepsTo goes_on now next waiting items units after
+      → Stepped turns place fails given most goes_on now next before items after
+  stepped_by zero turns place fails given most goes_on now next before waiting items units after r e un s =
+      absurd (let some = s.some r.work (starts_again given r.work now before waiting units r.leaves r.goes_on) in let enough = r.enough in omega arith)
+  stepped_by (suc left) turns place fails given most goes_on now next before waiting items units after r e un s =
+      let step = kind place turns in
+      let starts = starts_again given r.work now before waiting units r.leaves r.goes_on in
+      let found = s.steps (reaches step r.work) (starts_reaching step r.work now units starts) in
+      let request = found.0 in
+      record {
+        work = does request (reaches step r.work);
+        left = left;
+        leaves = leaves_then given r.work (does request (reaches step r.work)) now next before waiting items units after r.leaves
+            (leaves_reaching step r.work (does request (reaches step r.work)) next waiting items after found.4);
+        goes_on = found.3;
+        enough = (let enough = r.enough in omega arith);
+        same = r.same ∙ ap (λ (n : ℕ). one_by_one fails (kind place) line does turns n r.work) e
+            ∙ one_step turns left place fails r.work request found.1 found.2 r.goes_on un;
+      }
+
+  pub ran_more : (turns : ℕ) (old now next : SessionState) (before waiting items : List ℕ) (units middle after : UnitStates)
+      → Ran turns old now before waiting units middle → StepsTo true now next waiting items middle after → count next < count now
+      → Ran (suc turns) old next before items units after
+  ran_more turns old now next before waiting items units middle after ran s fewer = record {
+    runs = λ place fails given most un starts le.
+        (let r = ran.runs place fails given most (λ turn lt. un turn (omega arith)) starts le in
+        let n = stepped_by r.left turns place fails given most true now next before waiting items middle after r refl (un turns (omega arith)) s in
+        record { work = n.work; left = n.left; leaves = n.leaves; goes_on = n.goes_on; enough = (let enough = n.enough in omega arith); same = n.same });
+  }
+
+  -- ---- the end
+
+  unfoldable pub all_of : (Step → Bool) → ℕ → Work → Work
+  all_of fails place work = one_by_one fails (kind place) line does 0 (size work.past) work
+
+  begins : (work : Work) (old : SessionState) (units : UnitStates) → Starts work old units → count old ≤ size work.past
+  begins work old units s = omega (arith, ap count s.remembered, fits work.past s.lawful)
+
+  -- the line is empty, and nothing changes
+  pub record IsIdle (now next : SessionState) (before waiting : List ℕ) (units after : UnitStates) : Type 0 where
+    pub none : (work : Work) → Starts work now units → line work.past ≡ []
+    pub leaves : (work : Work) → Starts work now units → Leaves work work next before waiting after
+
+  idle_to : (facts : IsKind kind) (turns place : ℕ) (fails : Step
+      → Bool) (given : Work) (old now next : SessionState) (before waiting items : List ℕ) (units middle after : UnitStates)
+      → Ran turns old now before waiting units middle → IsIdle now next waiting items middle after → FailsAs None place fails → Starts given old units
+      → (work : Work) × (all_of fails place given ≡ work) × (work.goes_on ≡ true) × Leaves given work next before items after
+  unfolding all_of
+  idle_to facts turns place fails given old now next before waiting items units middle after ran none told s =
+      let r = ran.runs place fails given (size given.past) (λ turn lt. told (kind place turn) (facts.of place turn)) s (begins given old units s) in
+      let starts = starts_again given r.work now before waiting middle r.leaves r.goes_on in (
+        r.work,
+        r.same ∙ idle fails (kind place) line does turns r.left r.work (none.none r.work starts),
+        r.goes_on,
+        leaves_then given r.work r.work now
+            next before waiting items middle after r.leaves (none.leaves r.work starts),
+      )
+
+  pub ran_idle : (facts : IsKind kind) (turns : ℕ) (old now next : SessionState) (before waiting items : List ℕ) (units middle after : UnitStates)
+      → Ran turns old now before waiting units middle → IsIdle now next waiting items middle after → Runs all_of None true old next before items units after
+  ran_idle facts turns old now next before waiting items units middle after ran none = record {
+    leads = λ place fails given told s. (let t = idle_to facts turns place fails given old now next before waiting items units middle after ran none told s
+        in subst (λ (v : Work). Leaves given v next before items after) (sym t.1) t.3);
+    ends = λ place fails given told s. (let t = idle_to facts turns place fails given old now next before waiting items units middle after ran none told s
+        in ap (λ (v : Work). v.goes_on) t.1 ∙ t.2);
+    reached = λ place fails given told s. tt;
+  }
+
+  -- the session ended
+  ended_to : (facts : IsKind kind) (turns place : ℕ) (fails : Step
+      → Bool) (given : Work) (old now next : SessionState) (before waiting items : List ℕ) (units middle after : UnitStates)
+      → Ran turns old now before waiting units middle → StepsTo false now next waiting items middle after → FailsAs None place fails → Starts given old units
+      → (work : Work) × (all_of fails place given ≡ work) × (work.goes_on ≡ false) × Leaves given work next before items after
+  unfolding all_of
+  ended_to facts turns place fails given old now next before waiting items units middle after ran steps told s =
+      let r = ran.runs place fails given (size given.past) (λ turn lt. told (kind place turn) (facts.of place turn)) s (begins given old units s) in
+      let n = stepped_by r.left turns place fails given (size given.past) false now next before waiting items middle after r refl
+      (told (kind place turns) (facts.of place turns)) steps in
+      (n.work, n.same ∙ stopped fails (kind place) line does (suc turns) n.left n.work n.goes_on, n.goes_on, n.leaves)
+
+  pub ran_ended : (facts : IsKind kind) (turns : ℕ) (old now next : SessionState) (before waiting items : List ℕ) (units middle after : UnitStates)
+      → Ran turns old now before waiting units middle → StepsTo false now next waiting items middle after
+      → Runs all_of None false old next before items units after
+  ran_ended facts turns old now next before waiting items units middle after ran steps = record {
+    leads = λ place fails given told s.
+        (let t = ended_to facts turns place fails given old now next before waiting items units middle after ran steps told s
+        in subst (λ (v : Work). Leaves given v next before items after) (sym t.1) t.3);
+    ends = λ place fails given told s.
+        (let t = ended_to facts turns place fails given old now next before waiting items units middle after ran steps told s
+        in ap (λ (v : Work). v.goes_on) t.1 ∙ t.2);
+    reached = λ place fails given told s. tt;
+  }
+
+  -- an allocation failed before the next step
+  pub record HasMore (now : SessionState) (units : UnitStates) : Type 0 where
+    pub more : (work : Work) → Starts work now units → (request : ℕ) × (others : List ℕ) × (line work.past ≡ request ∷ others)
+    pub some : (work : Work) → Starts work now units → 0 < count now
+
+  failing_at : (left turn place : ℕ) (fails : Step → Bool) (work : Work) (request : ℕ) (others : List ℕ) → line work.past ≡ request ∷ others → 0 < left
+      → work.goes_on ≡ true → fails (kind place turn) ≡ true
+      → one_by_one fails (kind place) line does turn left work ≡ record (reaches (kind place turn) work) { goes_on = false }
+  failing_at zero turn place fails work request others is some on fail = absurd (omega arith)
+  failing_at (suc left) turn place fails work request others is some on fail =
+      ap (λ (l : List ℕ). one_by_one fails (kind place) line does (suc turn) left (first_steps fails (kind place turn) does l work)) is
+      ∙ ap (one_by_one fails (kind place) line does (suc turn) left) (step_fails fails (kind place turn) (does request) work on fail)
+      ∙ stopped fails (kind place) line does (suc turn) left (record (reaches (kind place turn) work) { goes_on = false }) refl
+
+  failed_to : (facts : IsKind kind) (turns place : ℕ) (fails : Step
+      → Bool) (given : Work) (old now : SessionState) (before waiting : List ℕ) (units after : UnitStates) → Ran turns old now before waiting units after
+      → HasMore now after → FailsAs (Some (λ place. kind place turns)) place fails → Starts given old units
+      → (work : Work) × (all_of fails place given ≡ record (reaches (kind place turns) work) { goes_on = false }) × Leaves given work now before waiting after
+  unfolding all_of
+  failed_to facts turns place fails given old now before waiting units after ran has told s =
+      let r = ran.runs place fails given (size given.past) (λ turn lt. told (kind place turn) (facts.of place turn)
+      ∙ facts.apart place turns turn (λ e. absurd (omega arith))) s (begins given old units s) in
+      let starts = starts_again given r.work now before waiting after r.leaves r.goes_on in
+      let found = has.more r.work starts in
+      let fail : fails (kind place turns) ≡ true = told (kind place turns) (facts.of place turns) ∙ facts.same place turns in (
+        r.work,
+        r.same ∙ failing_at r.left turns place fails r.work found.0 found.1 found.2 (let some = has.some r.work starts in let enough = r.enough
+            in omega arith) r.goes_on fail,
+        r.leaves,
+      )
+
+  pub ran_failed : (facts : IsKind kind) (turns : ℕ) (old now : SessionState) (before waiting : List ℕ) (units after : UnitStates)
+      → Ran turns old now before waiting units after → HasMore now after
+      → Runs all_of (Some (λ place. kind place turns)) false old now before waiting units after
+  ran_failed facts turns old now before waiting units after ran has = record {
+    leads = λ place fails given told s.
+        (let t = failed_to facts turns place fails given old now before waiting units after ran has told s in
+        subst (λ (v : Work). Leaves given v now before waiting after) (sym t.1) (leaves_stopped (kind place turns) given t.0 now before waiting after t.2));
+    ends = λ place fails given told s. (let t = failed_to facts turns place fails given old now before waiting units after ran has told s
+        in ap (λ (v : Work). v.goes_on) t.1);
+    reached = λ place fails given told s. (let t = failed_to facts turns place fails given old now before waiting units after ran has told s
+        in reached_last (kind place turns) t.0 (all_of fails place given) t.1);
+  }
+
+-- ---- the same by another name
+
+pub runs_as : (run all : (Step → Bool) → ℕ → Work → Work) (failed : Option (ℕ → Step)) (goes_on : Bool) (old new : SessionState) (before waiting : List ℕ)
+    (units after : UnitStates) → ((fails : Step → Bool) (place : ℕ) (work : Work) → all fails place work ≡ run fails place work)
+    → Runs all failed goes_on old new before waiting units after → Runs run failed goes_on old new before waiting units after
+runs_as run all failed goes_on old new before waiting units after same r = record {
+  leads = λ place fails work told s. subst (λ (v : Work). Leaves work v new before waiting after) (same fails place work) (r.leads place fails work told s);
+  ends = λ place fails work told s. ap (λ (v : Work). v.goes_on) (sym (same fails place work)) ∙ r.ends place fails work told s;
+  reached = λ place fails work told s. subst (λ (v : Work). IsReached failed place v) (same fails place work) (r.reached place fails work told s);
+}

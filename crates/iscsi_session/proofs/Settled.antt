@@ -1,0 +1,194 @@
+-- A command that is done, and a request that acts, as steps of a session's work.
+use Rattle.std.proofs.Common.{◌≡◌, ◌≤◌, ℕ, suc, ◌<◌, List, [], ◌∷◌, ◌++◌, length, map, Bool, true, false, Some, None, refl, sym, ap, ◌∙◌, subst, arith, append-nil}
+use Rattle.std.specs.Prelude.{flat_map, filter}
+use Rattle.std.specs.List.{enumerate_from}
+use Rattle.std.proofs.lemmas.List.{length-map}
+use Rattle.std.proofs.lemmas.List.Elements.{filter-append}
+use Rattle.scsi_sense.specs.Done.{Outcome}
+use Rattle.scsi_sense.specs.Nexus.{NexusName}
+use Rattle.scsi_unit.specs.Units.{UnitStates}
+use Rattle.iscsi_pdu.specs.Frames.{Frame}
+use Rattle.iscsi_pdu.specs.Answer.{spelling}
+use Rattle.iscsi_pdu.specs.declared.answer.Answer.{Answer}
+use Rattle.iscsi_pdu.specs.declared.stamp.Stamp.{Stamp}
+use Rattle.iscsi_login.specs.declared.params.Params.{Params}
+use Rattle.iscsi_login.specs.declared.values.Values.{Values}
+use Rattle.iscsi_transfer.specs.declared.data_in.Piece.{Piece}
+use Rattle.iscsi_session.specs.Requests.{Past, frame_of, frames_of, queue, bears_status, bearing, stamp, finished}
+use Rattle.iscsi_session.specs.State.{SessionState, IsLawful, Stands, remembered, tasks_of}
+use Rattle.iscsi_session.specs.Answers.{data_sent, sent_pieces, data_in, data_answers, scsi_answer, command_answers}
+use Rattle.iscsi_session.specs.Commands.{carried_out}
+use Rattle.iscsi_session.specs.Steps.{is_doing, Step, Doing, Work, answered_command, finish, settled}
+use Rattle.iscsi_session.specs.Runs.{Starts, Leaves, StepsFirst, Runs, Stops}
+use Rattle.iscsi_session.proofs.Answered.{none_queued}
+use Rattle.iscsi_session.proofs.Parts.{parts, queue_is}
+use Rattle.iscsi_session.proofs.Runs.{stands_of, leaves_standing, Ran, queue_count, ran_more, ran_idle, ran_failed, all_of, runs_as, doing_kind}
+
+-- ---- one answer of a command bears status
+
+data_bears_none : (numbers : Stamp) (frame : Frame) (sent : List ℕ) (pieces : List (ℕ × Piece))
+    → filter bears_status (map (data_in numbers frame sent) pieces) ≡ []
+data_bears_none numbers frame sent [] = refl
+data_bears_none numbers frame sent (piece ∷ pieces) = data_bears_none numbers frame sent pieces
+
+pub command_bears : (numbers : Stamp) (values : Values) (frame : Frame) (done : Outcome) → bearing (command_answers numbers values frame done) ≡ 1
+unfolding data_answers scsi_answer
+command_bears numbers values frame done =
+    let sent = data_sent frame done in
+    let response : Answer = scsi_answer numbers frame done (length (sent_pieces values sent)) in
+    ap (λ (l : List Answer). length l) (filter-append bears_status (data_answers numbers values frame sent) (response ∷ []))
+    ∙ ap (λ (l : List Answer). length (l ++ filter bears_status (response ∷ [])))
+    (data_bears_none numbers frame sent (enumerate_from 0 (sent_pieces values sent)))
+
+-- ---- the line is empty
+
+pub none_steps : (does : ℕ → Work → Work) (l : List ℕ) (work : Work) (state : SessionState) (waiting : List ℕ) (units : UnitStates) → l ≡ []
+    → work.units ≡ units → StepsFirst does l work false state state waiting waiting units
+none_steps does [] work state waiting units none same = (refl, refl, refl, sym same)
+none_steps does (request ∷ others) work state waiting units none same = absurd cc
+
+pub no_queue : (work : Work) (state : SessionState) (units : UnitStates) → Starts work state units → state.tasks.queue ≡ [] → queue work.past ≡ []
+no_queue work state units s e = none_queued work.past state (stands_of work state units s) e
+
+-- ---- a command is done
+
+-- what the call that answers it leaves
+pub record Answers (old new : SessionState) (before waiting : List ℕ) (done : Outcome) : Type 0 where
+  pub stands : (past : Past) (k : ℕ) (others : List ℕ) → Stands past old → queue past ≡ k ∷ others → Stands (answered_command done k past) new
+  pub out : (past : Past) (k : ℕ) (others : List ℕ) → Stands past old → queue past ≡ k ∷ others
+      → waiting ≡ before ++ flat_map spelling (command_answers (stamp (finished k past)) past.params.values (frame_of past.came k) done)
+
+finish_leaves : (work : Work) (k : ℕ) (others : List ℕ) (old new : SessionState) (before waiting : List ℕ) (units after : UnitStates) (done : Outcome)
+    → Starts work old units → queue work.past ≡ k ∷ others
+    → (after, done) ≡ carried_out units work.past.params.nexus (frame_of work.past.came k) → Answers old new before waiting done
+    → Leaves work (finish k work) new before waiting after
+unfolding finish
+finish_leaves work k others old new before waiting units after done s is carried answers =
+    let past = work.past in
+    let standing = stands_of work old units s in
+    let more = command_answers (stamp (finished k past)) past.params.values (frame_of past.came k) done in
+    let all : carried_out work.units past.params.nexus (frame_of past.came k) ≡ (after, done) = ap
+    (λ (us : UnitStates). carried_out us past.params.nexus (frame_of past.came k)) s.units ∙ sym carried in
+    let same : (finish k work).past ≡ answered_command done k past = ap (λ (p : UnitStates × Outcome). answered_command p.1 k past) all in
+    leaves_standing work (finish k work) new before waiting after more
+    (subst (λ (p : Past). Stands p new) (sym same) (answers.stands past k others standing is))
+    (ap (λ (p : Past). p.params) same) (ap (λ (p : Past). p.answers) same) (answers.out past k others standing is) (ap (λ (p : UnitStates × Outcome). p.0) all)
+
+finish_first : (l : List ℕ) (work : Work) (old new : SessionState) (before waiting : List ℕ) (units after : UnitStates) (frame : Frame) (rest : List Frame)
+    (nexus : NexusName) (done : Outcome) → queue work.past ≡ l → Starts work old units
+    → old.tasks.queue ≡ frame ∷ rest → nexus ≡ old.params.nexus → (after, done) ≡ carried_out units nexus frame → Answers old new before waiting done
+    → StepsFirst finish l work true old new before waiting after
+finish_first [] work old new before waiting units after frame rest nexus done is s first named carried answers =
+    absurd (let none = sym first ∙ queue_is work.past old (stands_of work old units s) ∙ ap (frames_of work.past.came) is in cc)
+finish_first (k ∷ others) work old new before waiting units after frame rest nexus done is s first named carried answers =
+    let st = stands_of work old units s in
+    let heads : frame ∷ rest ≡ frame_of work.past.came k ∷ frames_of work.past.came others = sym first ∙ queue_is work.past old st
+    ∙ ap (frames_of work.past.came) is in
+    let same : frame ≡ frame_of work.past.came k = cc in
+    let agreed : nexus ≡ work.past.params.nexus = named ∙ ap (λ (x : Params). x.nexus) (parts work.past old st).params_is in (
+      refl,
+      finish_leaves work k others old new before waiting units after done s is (carried ∙ ap (λ (n : NexusName). carried_out units n frame) agreed
+          ∙ ap (carried_out units work.past.params.nexus) same) answers,
+    )
+
+pub finish_steps : (work : Work) (old new : SessionState) (before waiting : List ℕ) (units after : UnitStates) (frame : Frame) (rest : List Frame)
+    (nexus : NexusName) (done : Outcome) → Starts work old units
+    → old.tasks.queue ≡ frame ∷ rest → nexus ≡ old.params.nexus → (after, done) ≡ carried_out units nexus frame → Answers old new before waiting done
+    → StepsFirst finish (queue work.past) work true old new before waiting after
+finish_steps work old new before waiting units after frame rest nexus done s first named carried answers = finish_first (queue work.past) work old new
+    before waiting units after frame rest nexus done refl s first named carried answers
+
+-- ---- settling
+
+abbrev pub queued_in : Past → ℕ
+queued_in past = length (queue past)
+
+pub queue_fits : (past : Past) → IsLawful past → queue_count (remembered past) ≤ queued_in past
+unfolding tasks_of
+queue_fits past lawful = omega (arith, length-map (queue past) (frame_of past.came))
+
+found_finished : (l : List ℕ) (work : Work) (old new : SessionState) (before waiting : List ℕ) (after : UnitStates)
+    → StepsFirst finish l work true old new before waiting after
+    → (request : ℕ) × (others : List ℕ) × (l ≡ request ∷ others) × Leaves work (finish request work) new before waiting after
+found_finished [] work old new before waiting after s = absurd (let no = s.0 in cc)
+found_finished (request ∷ others) work old new before waiting after s = (request, others, refl, s.1)
+
+found_none : (l : List ℕ) (work : Work) (old new : SessionState) (before waiting : List ℕ) (units after : UnitStates) → Starts work old units
+    → StepsFirst finish l work false old new before waiting after → (l ≡ []) × Leaves work work new before waiting after
+found_none [] work old new before waiting units after s is = (
+  refl,
+  record {
+    lawful = s.lawful;
+    remembered = is.1 ∙ s.remembered;
+    units = sym is.3;
+    params = refl;
+    more = [];
+    answers = sym (append-nil work.past.answers);
+    spelled = is.2 ∙ sym (append-nil before);
+  },
+)
+found_none (request ∷ others) work old new before waiting units after s is = absurd (let no = is.0 in cc)
+
+finish_goes_on : (request : ℕ) (work : Work) → work.goes_on ≡ true → (finish request work).goes_on ≡ true
+unfolding finish
+finish_goes_on request work on = on
+
+abbrev pub FinishesOne : Bool → SessionState → SessionState → List ℕ → List ℕ → UnitStates → UnitStates → Type 0
+FinishesOne more old new before waiting units after = (work : Work) → Starts work old units
+    → StepsFirst finish (queue work.past) work more old new before waiting after
+
+pub settled_more : (turns : ℕ) (more : Bool) (old now next : SessionState) (before waiting items : List ℕ) (units middle after : UnitStates)
+    → Ran Doing queue finish queue_count queued_in queue_fits turns old now before waiting units middle
+    → FinishesOne more now next waiting items middle after → more ≡ true → queue_count next < queue_count now
+    → Ran Doing queue finish queue_count queued_in queue_fits (suc turns) old next before items units after
+settled_more turns more old now next before waiting items units middle after ran steps is fewer =
+    let F : Bool → Type 0 = λ b. FinishesOne b now next waiting items middle after in
+    let one = subst F is steps in
+    ran_more Doing queue finish queue_count queued_in queue_fits turns old now next before waiting items units middle after ran (record {
+      steps = λ work s. (let f = found_finished (queue work.past) work now next waiting items after (one work s)
+          in (f.0, f.1, f.2, finish_goes_on f.0 work s.goes_on, f.3));
+      some = λ work s. omega arith;
+    }) fewer
+
+settles_all : (fails : Step → Bool) (place : ℕ) (work : Work)
+    → all_of Doing queue finish queue_count queued_in queue_fits fails place work ≡ settled fails place work
+unfolding all_of settled
+settles_all fails place work = refl
+
+pub all_settled : (turns : ℕ) (more : Bool) (old now next : SessionState) (before waiting items : List ℕ) (units middle after : UnitStates)
+    → Ran Doing queue finish queue_count queued_in queue_fits turns old now before waiting units middle
+    → FinishesOne more now next waiting items middle after → more ≡ false → Runs settled None true old next before items units after
+all_settled turns more old now next before waiting items units middle after ran steps is =
+    let F : Bool → Type 0 = λ b. FinishesOne b now next waiting items middle after in
+    let one = subst F is steps in
+    runs_as settled (all_of Doing queue finish queue_count queued_in queue_fits) None true old next before items units after settles_all
+    (ran_idle Doing queue finish queue_count queued_in queue_fits doing_kind turns old now next before waiting items units middle after ran (record {
+      none = λ work s. (found_none (queue work.past) work now next waiting items middle after s (one work s)).0;
+      leaves = λ work s. (found_none (queue work.past) work now next waiting items middle after s (one work s)).1;
+    }))
+
+some_queue : (past : Past) (l : List ℕ) → 0 < length (frames_of past.came l) → (request : ℕ) × (others : List ℕ) × (l ≡ request ∷ others)
+some_queue past [] some = absurd (omega arith)
+some_queue past (request ∷ others) some = (request, others, refl)
+
+pub settling_stops : (turns : ℕ) (old now : SessionState) (before waiting : List ℕ) (units after : UnitStates)
+    → Ran Doing queue finish queue_count queued_in queue_fits turns old now before waiting units after → 0 < queue_count now
+    → Runs settled (Some (λ place. Doing place turns)) false old now before waiting units after
+settling_stops turns old now before waiting units after ran some =
+    runs_as settled (all_of Doing queue finish queue_count queued_in queue_fits) (Some (λ place. Doing place turns)) false old now before waiting units
+    after settles_all
+    (ran_failed Doing queue finish queue_count queued_in queue_fits doing_kind turns old now before waiting units after ran (record {
+      more = λ work s.
+          some_queue work.past (queue work.past) (omega (arith, ap (λ (l : List Frame). length l) (queue_is work.past now (stands_of work now after s)), some));
+      some = λ work s. some;
+    }))
+
+pub settle_stops : (turns : ℕ) (old now next : SessionState) (before waiting items : List ℕ) (units middle after : UnitStates) (Sound : Type 0)
+    → next ≡ now → items ≡ waiting → after ≡ middle → (Sound → Runs settled (Some (λ place. Doing place turns)) false old now before waiting units middle)
+    → Stops is_doing (λ failed. Sound → Runs settled failed false old next before items units after)
+settle_stops turns old now next before waiting items units middle after Sound same is also runs = record {
+  step = λ place. Doing place turns;
+  of_frame = λ place. doing_kind.of place turns;
+  of_kind = λ place. refl;
+  leads = λ sound. rw (same, is, also) (runs sound);
+}

@@ -1,0 +1,242 @@
+-- What one more request takes, and that each is taken once.
+use Rattle.std.proofs.Common.{◌≡◌, ◌≢◌, ℕ, zero, suc, ◌+◌, ◌<◌, ◌≤◌, List, [], ◌∷◌, ◌++◌, length, map, get_or, Bool, true, false, cond, eqb, Option, Some, None, refl, sym, ap, ◌∙◌, arith, inl, inr, length-append}
+use Rattle.std.specs.Prelude.{filter, flat_map, is_some, min, All}
+use Rattle.std.specs.List.{range_with_len}
+use Rattle.std.proofs.lemmas.Bool.{ne_eqb, eq-eqb, cases_eq, eqb-true}
+use Rattle.std.proofs.lemmas.List.{append-nil}
+use Rattle.std.proofs.lemmas.List.Concat.{flat_map-append}
+use Rattle.std.proofs.lemmas.List.Elements.{All-head, All-tail, All-nil, All-cons, All-append, filter_passes}
+use Rattle.std.proofs.lemmas.List.Folds.{position_or_len_push}
+use Rattle.iscsi_session.specs.Requests.{Request, request_at, is_in, has_number, place_of, moment, taken_at, taken}
+use Rattle.iscsi_session.specs.State.{AreDistinct}
+use Rattle.iscsi_session.proofs.Left.{filter_cong, map_cong, range_more, range_below, distinct_filter, distinct_range, distinct_append, is_in_append}
+
+-- ---- the requests that came before are as they were
+
+pub request_before : (came : List Request) (x : Request) (k : ℕ) → k < length came → request_at (came ++ x ∷ []) k ≡ request_at came k
+request_before [] x k lt = absurd (omega arith)
+request_before (y ∷ came) x zero lt = refl
+request_before (y ∷ came) x (suc k) lt = request_before came x k (omega arith)
+
+pub request_new : (came : List Request) (x : Request) → request_at (came ++ x ∷ []) (length came) ≡ x
+request_new [] x = refl
+request_new (y ∷ came) x = request_new came x
+
+-- a place among those that came is as it was, and what stood behind all still does
+pub place_kept : (came : List Request) (x : Request) (k : ℕ) → min (length came) (place_of (came ++ x ∷ []) k) ≡ min (length came) (place_of came k)
+place_kept came x k = elim (cases_eq (place_of came k) (length came)) [
+  | inl same ↦ rw (position_or_len_push (λ f. has_number k f.number) came x, eq-eqb _ _ same) (omega arith)
+  | inr differs ↦ rw (position_or_len_push (λ f. has_number k f.number) came x, ne_eqb _ _ differs) refl
+]
+
+pub place_le_moment : (came : List Request) (k : ℕ) → place_of came k ≤ moment came k
+place_le_moment came zero = omega arith
+place_le_moment came (suc k) = omega arith
+
+pub moment_kept : (came : List Request) (x : Request) (k : ℕ) → min (length came) (moment (came ++ x ∷ []) k) ≡ min (length came) (moment came k)
+moment_kept came x zero = place_kept came x zero
+moment_kept came x (suc k) = omega (arith, moment_kept came x k, place_kept came x (suc k))
+
+moment_same : (came : List Request) (x : Request) (p k : ℕ) → p < length came → eqb (moment (came ++ x ∷ []) k) p ≡ eqb (moment came k) p
+moment_same came x p k lt =
+    let kept = moment_kept came x k in
+    elim (cases_eq (moment came k) p) [
+      | inl same ↦ let now : moment (came ++ x ∷ []) k ≡ p = omega arith in eq-eqb _ _ now ∙ sym (eq-eqb _ _ same)
+      | inr differs ↦ let still : moment (came ++ x ∷ []) k ≢ p = (λ e. differs (omega arith)) in ne_eqb _ _ still ∙ sym (ne_eqb _ _ differs)
+    ]
+
+flat_map_cong : (f g : ℕ → List ℕ) (xs : List ℕ) → All (λ k. f k ≡ g k) xs → flat_map f xs ≡ flat_map g xs
+flat_map_cong f g [] same = refl
+flat_map_cong f g (x ∷ xs) same = rw (All-head (λ k. f k ≡ g k) x xs same, flat_map_cong f g xs (All-tail (λ k. f k ≡ g k) x xs same)) refl
+
+-- the numbers whose moment is a place
+unfoldable pub numbers_at : List Request → ℕ → List ℕ
+numbers_at came p = filter (λ k. eqb (moment came k) p) (range_with_len 0 (p + 1))
+
+at_moment : (came : List Request) (p : ℕ) → All (λ k. moment came k ≡ p) (numbers_at came p)
+unfolding numbers_at
+at_moment came p = λ i d lt. eqb-true _ _ (filter_passes (λ k. eqb (moment came k) p) (range_with_len 0 (p + 1)) i d lt)
+
+-- what was taken is taken at the same places
+taken_at_same : (came : List Request) (x : Request) (p : ℕ) → p < length came → taken_at (came ++ x ∷ []) p ≡ taken_at came p
+unfolding taken_at numbers_at
+taken_at_same came x p lt =
+    let range = range_with_len 0 (p + 1) in
+    let those : List ℕ = filter (λ k. eqb (moment came k) p) range in
+    let numbers : filter (λ k. eqb (moment (came ++ x ∷ []) k) p) range ≡ those = filter_cong _ _ range
+    (λ i d below. moment_same came x p (get_or range i d) lt) in
+    let at : All (λ k. eqb (moment came k) p ≡ true) those = filter_passes (λ k. eqb (moment came k) p) range in
+    let places : map (place_of (came ++ x ∷ [])) those ≡ map (place_of came) those =
+    map_cong _ _ those (λ i d below. (let kept = place_kept came x (get_or those i d) in let e = eqb-true _ _ (at i d below)
+    in let le = place_le_moment came (get_or those i d) in omega arith)) in
+    rw (request_before came x p lt, numbers, places) refl
+
+-- one more request: those taken before it, and behind them those that it takes
+pub taken_more : (came : List Request) (x : Request) → taken (came ++ x ∷ []) ≡ taken came ++ taken_at (came ++ x ∷ []) (length came)
+unfolding taken
+taken_more came x =
+    let new = came ++ x ∷ [] in
+    let n = length came in
+    rw (length-append came (x ∷ []), range_more 0 n n (omega arith), flat_map-append (taken_at new) (range_with_len 0 n) (n ∷ []), append-nil (taken_at new n))
+    (ap (λ (l : List ℕ). l ++ taken_at new n)
+    (flat_map_cong (taken_at new) (taken_at came) (range_with_len 0 n) (λ i d below. taken_at_same came x _ (range_below n i d below))))
+
+-- ---- the request at the place of a number has it
+
+place_next : (f : Request) (came : List Request) (k : ℕ) → has_number k f.number ≡ false → place_of (f ∷ came) k ≡ suc (place_of came k)
+place_next f came k e = rw e (omega arith)
+
+place_has_with : (b : Bool) (f : Request) (came : List Request) (k : ℕ) → has_number k f.number ≡ b → place_of (f ∷ came) k < suc (length came)
+    → (place_of came k < length came → has_number k (request_at came (place_of came k)).number ≡ true)
+    → has_number k (request_at (f ∷ came) (place_of (f ∷ came) k)).number ≡ true
+place_has_with true f came k e lt rest = rw e e
+place_has_with false f came k e lt rest = let next = place_next f came k e in rw next (rest (omega arith))
+
+pub place_has : (came : List Request) (k : ℕ) → place_of came k < length came → has_number k (request_at came (place_of came k)).number ≡ true
+place_has [] k lt = absurd (omega arith)
+place_has (f ∷ came) k lt = place_has_with (has_number k f.number) f came k refl lt (place_has came k)
+
+same_number : (n : Option ℕ) (j k : ℕ) → has_number j n ≡ true → has_number k n ≡ true → j ≡ k
+same_number None j k a b = absurd cc
+same_number (Some n) j k a b = sym (eqb-true n j a) ∙ eqb-true n k b
+
+pub has_some : (n : Option ℕ) (k : ℕ) → has_number k n ≡ true → is_some n ≡ true
+has_some None k e = absurd cc
+has_some (Some n) k e = refl
+
+place_injective : (came : List Request) (j k : ℕ) → place_of came k < length came → place_of came j ≡ place_of came k → j ≡ k
+place_injective came j k lt e = same_number (request_at came (place_of came k)).number j k
+    (ap (λ (p : ℕ). has_number j (request_at came p).number) (sym e) ∙ place_has came j (omega arith)) (place_has came k lt)
+
+apart_places : (came : List Request) (k : ℕ) (ks : List ℕ) → place_of came k < length came → is_in k ks ≡ false
+    → is_in (place_of came k) (map (place_of came) ks) ≡ false
+apart_places came k [] lt none = refl
+apart_places came k (j ∷ ks) lt none = elim (cases_eq j k) [
+  | inl same ↦ absurd (let e = rw (eq-eqb j k same) at none in cc)
+  | inr differs ↦
+      let rest = rw (ne_eqb j k differs) at none in
+      let ne : place_of came j ≢ place_of came k = λ e. differs (place_injective came j k lt e) in
+      rw (ne_eqb _ _ ne) (apart_places came k ks lt rest)
+]
+
+distinct_places : (came : List Request) (ks : List ℕ) → All (λ k. place_of came k < length came) ks → AreDistinct ks → AreDistinct (map (place_of came) ks)
+distinct_places came [] within distinct = tt
+distinct_places came (k ∷ ks) within distinct = (
+  apart_places came k ks (All-head (λ k. place_of came k < length came) k ks within) distinct.0,
+  distinct_places came ks (All-tail (λ k. place_of came k < length came) k ks within) distinct.1,
+)
+
+-- ---- the place at which a request is taken, read from it
+
+key_by : Option ℕ → List Request → ℕ → ℕ
+key_by None came name = name
+key_by (Some k) came name = moment came k
+
+key : List Request → ℕ → ℕ
+key came name = key_by (request_at came name).number came name
+
+key_of_number : (n : Option ℕ) (came : List Request) (k name : ℕ) → has_number k n ≡ true → key_by n came name ≡ moment came k
+unfolding key_by
+key_of_number None came k name e = absurd cc
+key_of_number (Some n) came k name e = ap (moment came) (eqb-true n k e)
+
+All-map_places : (P : ℕ → Type 0) (came : List Request) (ks : List ℕ) → All (λ k. P (place_of came k)) ks → All P (map (place_of came) ks)
+All-map_places P came [] all = All-nil P
+All-map_places P came (k ∷ ks) all = All-cons P _ _ (All-head (λ k. P (place_of came k)) k ks all)
+    (All-map_places P came ks (All-tail (λ k. P (place_of came k)) k ks all))
+
+places_within : (came : List Request) (p : ℕ) → p < length came → All (λ k. place_of came k < length came) (numbers_at came p)
+places_within came p lt = λ i d below.
+    (let at : moment came (get_or (numbers_at came p) i d) ≡ p = at_moment came p i d below
+    in let le = place_le_moment came (get_or (numbers_at came p) i d) in omega arith)
+
+keys_of_numbers : (came : List Request) (p : ℕ) → p < length came → All (λ a. key came a ≡ p) (map (place_of came) (numbers_at came p))
+unfolding key
+keys_of_numbers came p lt = All-map_places (λ a. key came a ≡ p) came (numbers_at came p) (λ i d below.
+    let k = get_or (numbers_at came p) i d in
+    key_of_number (request_at came (place_of came k)).number came k (place_of came k) (place_has came k (places_within came p lt i d below))
+    ∙ at_moment came p i d below)
+
+key_of_immediate : (n : Option ℕ) (came : List Request) (p : ℕ) → is_some n ≡ false → key_by n came p ≡ p
+unfolding key_by
+key_of_immediate None came p e = refl
+key_of_immediate (Some k) came p e = absurd cc
+
+front_keys : (b : Bool) (came : List Request) (p : ℕ) → is_some (request_at came p).number ≡ b → All (λ a. key came a ≡ p) (cond b [] (p ∷ []))
+unfolding key
+front_keys true came p is = All-nil (λ a. key came a ≡ p)
+front_keys false came p is = All-cons (λ a. key came a ≡ p) p [] (key_of_immediate (request_at came p).number came p is) (All-nil (λ a. key came a ≡ p))
+
+keys_at : (came : List Request) (p : ℕ) → p < length came → All (λ a. key came a ≡ p) (taken_at came p)
+unfolding taken_at numbers_at
+keys_at came p lt = All-append (λ a. key came a ≡ p) (cond (is_some (request_at came p).number) [] (p ∷ [])) (map (place_of came) (numbers_at came p))
+    (front_keys _ came p refl) (keys_of_numbers came p lt)
+
+apart_immediate : (came : List Request) (p : ℕ) (ks : List ℕ) → is_some (request_at came p).number ≡ false → All (λ k. place_of came k < length came) ks
+    → is_in p (map (place_of came) ks) ≡ false
+apart_immediate came p [] none within = refl
+apart_immediate came p (k ∷ ks) none within =
+    let has = has_some _ k (place_has came k (All-head (λ k. place_of came k < length came) k ks within)) in
+    let ne : place_of came k ≢ p = λ e. let h = sym has ∙ ap (λ (n : ℕ). is_some (request_at came n).number) e ∙ none in cc in
+    rw (ne_eqb (place_of came k) p ne) (apart_immediate came p ks none (All-tail (λ k. place_of came k < length came) k ks within))
+
+distinct_with : (b : Bool) (came : List Request) (p : ℕ) (ks : List ℕ) → is_some (request_at came p).number ≡ b
+    → All (λ k. place_of came k < length came) ks → AreDistinct ks → AreDistinct (cond b [] (p ∷ []) ++ map (place_of came) ks)
+distinct_with true came p ks is within distinct = distinct_places came ks within distinct
+distinct_with false came p ks is within distinct = (apart_immediate came p ks is within, distinct_places came ks within distinct)
+
+distinct_at : (came : List Request) (p : ℕ) → p < length came → AreDistinct (taken_at came p)
+unfolding taken_at numbers_at
+distinct_at came p lt = distinct_with _ came p (numbers_at came p) refl (places_within came p lt) (distinct_filter _ _ (distinct_range 0 (p + 1)))
+
+other_key : (came : List Request) (k p : ℕ) (names : List ℕ) → All (λ a. key came a ≡ p) names → key came k ≢ p → is_in k names ≡ false
+other_key came k p [] at ne = refl
+other_key came k p (a ∷ names) at ne =
+    let here : key came a ≡ p = All-head (λ a. key came a ≡ p) a names at in
+    let differs : a ≢ k = λ e. ne (ap (key came) (sym e) ∙ here) in
+    rw (ne_eqb a k differs) (other_key came k p names (All-tail (λ a. key came a ≡ p) a names at) ne)
+
+-- none of these places takes it
+not_taken : (came : List Request) (k : ℕ) (ps : List ℕ) → All (λ p. p < length came) ps → is_in (key came k) ps ≡ false
+    → is_in k (flat_map (taken_at came) ps) ≡ false
+not_taken came k [] within none = refl
+not_taken came k (p ∷ ps) within none = elim (cases_eq p (key came k)) [
+  | inl same ↦ absurd (let e = rw (eq-eqb p (key came k) same) at none in cc)
+  | inr differs ↦
+      let rest = rw (ne_eqb p (key came k) differs) at none in
+      let here = other_key came k p (taken_at came p) (keys_at came p (All-head (λ p. p < length came) p ps within)) (λ e. differs (sym e)) in
+      is_in_append k (taken_at came p) (flat_map (taken_at came) ps) ∙ rw here (not_taken came k ps (All-tail (λ p. p < length came) p ps within) rest)
+]
+
+distinct_over : (came : List Request) (ps : List ℕ) → All (λ p. p < length came) ps → AreDistinct ps → AreDistinct (flat_map (taken_at came) ps)
+distinct_over came [] within distinct = tt
+distinct_over came (p ∷ ps) within distinct =
+    let lt : p < length came = All-head (λ p. p < length came) p ps within in
+    let others = All-tail (λ p. p < length came) p ps within in
+    distinct_append (taken_at came p) (flat_map (taken_at came) ps) (distinct_at came p lt) (distinct_over came ps others distinct.1)
+    (λ i d below. not_taken came _ ps others (ap (λ (n : ℕ). is_in n ps) (keys_at came p lt i d below) ∙ distinct.0))
+
+-- each request is taken once
+pub distinct_taken : (came : List Request) → AreDistinct (taken came)
+unfolding taken
+distinct_taken came = distinct_over came (range_with_len 0 (length came)) (range_below (length came)) (distinct_range 0 (length came))
+
+-- what is taken came
+below_with : (b : Bool) (n p : ℕ) → p < n → All (λ a. a < n) (cond b [] (p ∷ []))
+below_with true n p lt = All-nil (λ a. a < n)
+below_with false n p lt = All-cons (λ a. a < n) p [] lt (All-nil (λ a. a < n))
+
+below_at : (came : List Request) (p : ℕ) → p < length came → All (λ a. a < length came) (taken_at came p)
+unfolding taken_at numbers_at
+below_at came p lt = All-append (λ a. a < length came) (cond (is_some (request_at came p).number) [] (p ∷ [])) (map (place_of came) (numbers_at came p))
+    (below_with (is_some (request_at came p).number) (length came) p lt)
+    (All-map_places (λ a. a < length came) came (numbers_at came p) (places_within came p lt))
+
+below_over : (came : List Request) (ps : List ℕ) → All (λ p. p < length came) ps → All (λ a. a < length came) (flat_map (taken_at came) ps)
+below_over came [] within = All-nil (λ a. a < length came)
+below_over came (p ∷ ps) within = All-append (λ a. a < length came) (taken_at came p) (flat_map (taken_at came) ps)
+    (below_at came p (All-head (λ p. p < length came) p ps within)) (below_over came ps (All-tail (λ p. p < length came) p ps within))
+
+pub taken_below : (came : List Request) → All (λ a. a < length came) (taken came)
+unfolding taken
+taken_below came = below_over came (range_with_len 0 (length came)) (range_below (length came))

@@ -1,0 +1,21 @@
+use Rattle.std.proofs.Common.{length, ◌≡◌, ◌++◌, ℕ, List}
+use Rattle.scsi_unit.specs.Units.{UnitStates}
+use Rattle.iscsi_session.specs.Requests.{due}
+use Rattle.iscsi_session.specs.Steps.{Taking, act}
+use Rattle.iscsi_session.proofs.Runs.{Ran, tasks_count}
+use Rattle.iscsi_session.specs.Steps.{waiting_in}
+use Rattle.iscsi_session.proofs.Served.{due_fits}
+use Rattle.iscsi_session.proofs.session.Session.act_all.Given as goal
+
+-- so many requests acted
+abbrev pub invariant-loop : goal.invariant-loop
+invariant-loop l = record {
+  turns : ℕ;
+  ran : (units : UnitStates) → Ran Taking due act tasks_count waiting_in due_fits turns l.initial.self l.self l.initial.out.items l.out.items units units;
+  grows : (more : List ℕ) × (l.out.items ≡ l.initial.out.items ++ more);
+  params : l.self.params ≡ l.initial.self.params;
+}
+
+-- each that acts waits no longer
+abbrev pub decreases-loop : goal.decreases-loop
+decreases-loop l = length l.self.tasks.due

@@ -1,0 +1,66 @@
+-- What a call of a session comes to: its steps, all done, or done up to one that failed.
+use Rattle.std.specs.Prelude.{◌≡◌, ℕ, List, [], ◌∷◌, ◌++◌, flat_map, Bool, true, false, Option, Some, None, ⊤}
+use Rattle.scsi_unit.specs.Units.{UnitStates}
+use Rattle.iscsi_pdu.specs.Answer.{spelling}
+use Rattle.iscsi_pdu.specs.declared.answer.Answer.{Answer}
+use Rattle.iscsi_session.specs.State.{SessionState, IsLawful, remembered}
+use Rattle.iscsi_session.specs.Steps.{Step, is_step, is_of, Work}
+
+-- the code stands where this work does, and its session goes on
+pub record Starts (work : Work) (state : SessionState) (target : UnitStates) : Type 0 where
+  pub lawful : IsLawful work.past
+  pub remembered : state ≡ remembered work.past
+  pub units : work.units ≡ target
+  pub goes_on : work.goes_on ≡ true
+
+-- of what it began with: the code stands where this work does, and what it was answered more waits behind what did
+pub record Leaves (given work : Work) (state : SessionState) (before waiting : List ℕ) (target : UnitStates) : Type 0 where
+  pub lawful : IsLawful work.past
+  pub remembered : state ≡ remembered work.past
+  pub units : work.units ≡ target
+  pub params : work.past.params ≡ given.past.params
+  pub more : List Answer
+  pub answers : work.past.answers ≡ given.past.answers ++ more
+  pub spelled : waiting ≡ before ++ flat_map spelling more
+
+-- ---- which step fails
+
+-- none, or of the frame of each place this one
+abbrev pub is_failed : Option (ℕ → Step) → ℕ → Step → Bool
+is_failed None place step = false
+is_failed (Some failed) place step = is_step (failed place) step
+
+-- of the steps that the frame of this place sets off, those fail
+abbrev pub FailsAs : Option (ℕ → Step) → ℕ → (Step → Bool) → Type 0
+FailsAs failed place fails = (step : Step) → is_of place step ≡ true → fails step ≡ is_failed failed place step
+
+-- it was reached last
+abbrev pub IsReached : Option (ℕ → Step) → ℕ → Work → Type 0
+IsReached None place work = ⊤
+IsReached (Some failed) place work = (before : List Step) × (work.reached ≡ before ++ failed place ∷ [])
+
+-- ---- the call
+
+-- Wherever the code stood, it stands where these steps lead; the session goes on, or not.
+pub record Runs (run : (Step → Bool) → ℕ → Work → Work) (failed : Option (ℕ → Step)) (goes_on : Bool) (old new : SessionState) (before waiting : List ℕ)
+    (units after : UnitStates) : Type 0 where
+  pub leads : (place : ℕ) (fails : Step → Bool) (work : Work) → FailsAs failed place fails → Starts work old units
+      → Leaves work (run fails place work) new before waiting after
+  pub ends : (place : ℕ) (fails : Step → Bool) (work : Work) → FailsAs failed place fails → Starts work old units → (run fails place work).goes_on ≡ goes_on
+  pub reached : (place : ℕ) (fails : Step → Bool) (work : Work) → FailsAs failed place fails → Starts work old units
+      → IsReached failed place (run fails place work)
+
+-- an allocation failed before one of the steps, which are of this kind, and nothing of that step was done
+pub record Stops (is_kind : Step → Bool) (Leads : Option (ℕ → Step) → Type 0) : Type 0 where
+  -- of the frame of each place
+  pub step : ℕ → Step
+  pub of_frame : (place : ℕ) → is_of place (step place) ≡ true
+  pub of_kind : (place : ℕ) → is_kind (step place) ≡ true
+  pub leads : Leads (Some step)
+
+-- ---- one step
+
+-- the first of a line took a step, where there is one
+abbrev pub StepsFirst : (ℕ → Work → Work) → List ℕ → Work → Bool → SessionState → SessionState → List ℕ → List ℕ → UnitStates → Type 0
+StepsFirst does [] work more old new before waiting after = (more ≡ false) × (new ≡ old) × (waiting ≡ before) × (after ≡ work.units)
+StepsFirst does (k ∷ others) work more old new before waiting after = (more ≡ true) × Leaves work (does k work) new before waiting after

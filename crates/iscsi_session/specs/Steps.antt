@@ -1,0 +1,113 @@
+-- The steps of a session that a frame sets off, done on the session and on its target's units.
+use Rattle.std.specs.Prelude.{ℕ, zero, suc, ◌+◌, List, [], ◌∷◌, ◌++◌, length, Bool, true, false, ◌&&◌, not, ◌==◌, if◌then◌else◌}
+use Rattle.scsi_sense.specs.Done.{Outcome}
+use Rattle.scsi_unit.specs.Units.{UnitStates}
+use Rattle.iscsi_pdu.specs.Frames.{Frame}
+use Rattle.iscsi_session.specs.Requests.{Past, frame_of, held, due, queue, finished, stamp, answering}
+use Rattle.iscsi_session.specs.Judging.{verdict, judged, violates}
+use Rattle.iscsi_session.specs.Acts.{acted, ends}
+use Rattle.iscsi_session.specs.Answers.{command_answers}
+use Rattle.iscsi_session.specs.Commands.{carried_out}
+
+-- The place is that of the frame among those of its connection; the turn counts the requests that this frame
+-- lets be taken, and then the commands that are done, each from 0 on.
+pub data Step : Type 0 where
+  Judging : (place : ℕ) → Step
+  Taking : (place : ℕ) (turn : ℕ) → Step
+  Doing : (place : ℕ) (turn : ℕ) → Step
+
+abbrev pub is_step : Step → Step → Bool
+is_step (Judging p) (Judging q) = p == q
+is_step (Judging p) (Taking q j) = false
+is_step (Judging p) (Doing q j) = false
+is_step (Taking p i) (Judging q) = false
+is_step (Taking p i) (Taking q j) = p == q && i == j
+is_step (Taking p i) (Doing q j) = false
+is_step (Doing p i) (Judging q) = false
+is_step (Doing p i) (Taking q j) = false
+is_step (Doing p i) (Doing q j) = p == q && i == j
+
+-- the frame of this place sets it off
+abbrev pub is_of : ℕ → Step → Bool
+is_of place (Judging p) = p == place
+is_of place (Taking p i) = p == place
+is_of place (Doing p i) = p == place
+
+-- a command is done; every other step serves a frame
+abbrev pub is_doing : Step → Bool
+is_doing (Judging p) = false
+is_doing (Taking p i) = false
+is_doing (Doing p i) = true
+
+abbrev pub is_serving : Step → Bool
+is_serving step = not (is_doing step)
+
+-- a session and its target's units, while steps are done
+pub record Work : Type 0 where
+  pub past : Past
+  pub units : UnitStates
+  -- no violation, no Logout that closes, no failed allocation so far
+  pub goes_on : Bool
+  -- the steps that were reached, in order
+  pub reached : List Step
+
+abbrev pub begun_work : Past → UnitStates → Work
+begun_work past units = record { past = past; units = units; goes_on = true; reached = [] }
+
+abbrev pub reaches : Step → Work → Work
+reaches step work = record work { reached = work.reached ++ step ∷ [] }
+
+-- one step: done, unless an allocation failed just before it; then the session stops there
+unfoldable pub take_step : (Step → Bool) → Step → (Work → Work) → Work → Work
+take_step fails step act work =
+    if not work.goes_on then work
+    else if fails step then record (reaches step work) { goes_on = false }
+    else act (reaches step work)
+
+-- ---- what each step does
+
+-- a frame is judged: a violation ends the session, and a frame that is rejected is answered
+unfoldable pub judge : Frame → Work → Work
+judge frame work = record work { past = judged (verdict work.past frame) frame work.past; goes_on = not (violates (verdict work.past frame)) }
+
+-- a request acts: a Logout that closes ends the session
+unfoldable pub act : ℕ → Work → Work
+act k work = record work { past = acted k work.past; goes_on = not (ends work.past.params (frame_of work.past.came k)) }
+
+-- a command is done and answered; it counts as finished before its answers are stamped
+abbrev pub answered_command : Outcome → ℕ → Past → Past
+answered_command done k past = answering (command_answers (stamp (finished k past)) past.params.values (frame_of past.came k) done) (finished k past)
+
+unfoldable pub finish : ℕ → Work → Work
+finish k work =
+    let p = carried_out work.units work.past.params.nexus (frame_of work.past.came k) in
+    record work { past = answered_command p.1 k work.past; units = p.0 }
+
+-- ---- one after the other
+
+-- the first of these takes a step, where there is one
+abbrev pub first_steps : (Step → Bool) → Step → (ℕ → Work → Work) → List ℕ → Work → Work
+first_steps fails step does [] work = work
+first_steps fails step does (k ∷ others) work = take_step fails step (does k) work
+
+-- the first of a line takes a step, and the line is looked at again: at most so many times
+abbrev pub one_by_one : (Step → Bool) → (ℕ → Step) → (Past → List ℕ) → (ℕ → Work → Work) → ℕ → ℕ → Work → Work
+one_by_one fails step line does turn zero work = work
+one_by_one fails step line does turn (suc most) work =
+    one_by_one fails step line does (suc turn) most (first_steps fails (step turn) does (line work.past) work)
+
+-- how many requests have not acted
+abbrev pub waiting_in : Past → ℕ
+waiting_in past = length (held past) + length (due past)
+
+-- the requests that are due act
+unfoldable pub act_all : (Step → Bool) → ℕ → Work → Work
+act_all fails place work = one_by_one fails (Taking place) due act 0 (waiting_in work.past) work
+
+-- a frame is judged, and the requests that it lets be taken act
+unfoldable pub served : (Step → Bool) → ℕ → Frame → Work → Work
+served fails place frame work = act_all fails place (take_step fails (Judging place) (judge frame) work)
+
+-- the commands that were taken are done
+unfoldable pub settled : (Step → Bool) → ℕ → Work → Work
+settled fails place work = one_by_one fails (Doing place) queue finish 0 (length (queue work.past)) work

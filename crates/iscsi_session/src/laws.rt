@@ -1,0 +1,20 @@
+//! What holds of every past that the steps of a session can reach. The functions do nothing: their
+//! contracts are the laws.
+
+ghost use Rattle.iscsi_session.specs.Laws.{TakenOnce, FinishedAsTaken, DueInOrder, DoneInOrder, StepsAreLawful};
+
+/// Each request is taken once, those that are due act in this order, and what is finished was taken, in the
+/// order in which it was: the SCSI Commands as they were done, and every other request as it acted.
+#[tactic(auto, using(crate::proofs::Lawful::taken_once, crate::proofs::Lawful::finished_as_taken, crate::proofs::Lawful::due_in_order, crate::proofs::Lawful::done_in_order))]
+pub fn requests_are_finished_as_taken()
+    ensures once { TakenOnce }
+    ensures finished { FinishedAsTaken }
+    ensures due { DueInOrder }
+    ensures done { DoneInOrder }
+{}
+
+/// A past stays lawful, whatever frame comes and whatever step fails.
+#[tactic(auto, using(crate::proofs::Lawful::steps_are_lawful))]
+pub fn steps_are_lawful()
+    ensures { StepsAreLawful }
+{}

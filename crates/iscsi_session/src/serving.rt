@@ -1,0 +1,116 @@
+//! A frame of a session, and the commands that were taken.
+
+ghost use Rattle.std.specs.Prelude.{◌≡◌, ◌<◌, ◌≤◌, ◌++◌, ℕ, List, None, length, true, false, IfOk, OnOk, OnErr};
+ghost use Rattle.scsi_unit.specs.DiskCommands.{most_given};
+ghost use Rattle.scsi_unit.specs.Units.{UnitStates, AreSound, AreSure};
+ghost use Rattle.iscsi_login.specs.Values.{AreInRange};
+ghost use Rattle.iscsi_session.specs.Requests.{queue};
+ghost use Rattle.iscsi_session.specs.Commands.{carried_out};
+ghost use Rattle.iscsi_session.specs.Steps.{Work, is_doing, is_serving, finish, served, settled};
+ghost use Rattle.iscsi_session.specs.Runs.{Starts, Runs, Stops, StepsFirst};
+
+use crate::answers::make_room;
+use crate::fault::Memory;
+use crate::session::Session;
+use crate::verdict::Verdict;
+use bytes::BytesMut;
+use iscsi_pdu::Frame;
+use media_store::Store;
+use scsi_sense::{Condition, Done, Nexus, Sense};
+use scsi_unit::Units;
+use std::alloc::Global;
+
+/// A command with an additional header is answered INVALID FIELD IN CDB in place of being done. Where
+/// an allocation fails nothing changes.
+#[tactic(auto, unfolding(crate::specs::Commands::carried_out))]
+fn carry_out<S: Store>(
+    alloc: Global,
+    units: &mut Units<S>,
+    nexus: &Nexus,
+    frame: &Frame,
+) -> Result<Done, Memory>
+    ensures done { IfOk result (λ done. AreSound units.new → (units.new, done) ≡ carried_out units.old nexus.now frame.now) }
+    ensures back { AreSound units.new → AreSound units.old }
+    ensures sure { AreSure units.old → AreSure units.new }
+    ensures given { IfOk result (λ done. length done.given ≤ most_given) }
+    ensures err { OnErr result (units.new ≡ units.old) }
+{
+    let header = &frame.header;
+    if header.additional_length() > 0 {
+        let sense = Sense::new(Condition::InvalidFieldInCdb);
+        return Ok(Done::check_condition(alloc, sense));
+    }
+    let done = units.perform(nexus, header.lun(), header.cdb(), frame.body.as_slice())?;
+    Ok(done)
+}
+
+impl Session {
+    /// A frame is judged, and the requests that it lets be taken act; what they are answered is added at the
+    /// end of the buffer. It tells whether the session goes on: a violation and a Logout that closes end it.
+    /// Where an allocation fails the session is to be closed: the steps before it were done and answered whole.
+    pub fn serve(&mut self, frame: Frame, out: &mut BytesMut) -> Result<bool, Memory>
+        ensures ok { IfOk result (λ goes_on. (units : UnitStates)
+            → Runs (λ fails place. served fails place frame) None goes_on self.old self.new out.old.items out.new.items units units) }
+        ensures err { OnErr result (Stops is_serving (λ failed. (units : UnitStates)
+            → Runs (λ fails place. served fails place frame) failed false self.old self.new out.old.items out.new.items units units)) }
+        ensures grows { (more : List ℕ) × (out.new.items ≡ out.old.items ++ more) }
+        ensures params { self.new.params ≡ self.old.params }
+    {
+        if let Verdict::Violating = self.take(frame, out)? {
+            return Ok(false);
+        }
+        self.act_all(out)
+    }
+
+    /// The commands that were taken are done on the target's units and answered, one after the other. Where
+    /// an allocation fails the session is to be closed: the steps before it were done and answered whole.
+    pub fn settle<S: Store>(
+        &mut self,
+        alloc: Global,
+        out: &mut BytesMut,
+        units: &mut Units<S>,
+    ) -> Result<(), Memory>
+        requires { AreInRange self.old.params.values }
+        ensures ok { OnOk result (AreSound units.new → Runs settled None true self.old self.new out.old.items out.new.items units.old units.new) }
+        ensures err { OnErr result (Stops is_doing (λ failed. AreSound units.new
+            → Runs settled failed false self.old self.new out.old.items out.new.items units.old units.new)) }
+        ensures back { AreSound units.new → AreSound units.old }
+        ensures sure { AreSure units.old → AreSure units.new }
+        ensures grows { (more : List ℕ) × (out.new.items ≡ out.old.items ++ more) }
+        ensures params { self.new.params ≡ self.old.params }
+    {
+        while self.finish(alloc, out, units)? {}
+        Ok(())
+    }
+
+    /// The first command of the queue is done and answered: whether there was one. All room is made before
+    /// the units act, so that where an allocation fails nothing changes.
+    fn finish<S: Store>(
+        &mut self,
+        alloc: Global,
+        out: &mut BytesMut,
+        units: &mut Units<S>,
+    ) -> Result<bool, Memory>
+        requires { AreInRange self.old.params.values }
+        ensures steps { IfOk result (λ more. AreSound units.new → (work : Work) → Starts work self.old units.old
+            → StepsFirst finish (queue work.past) work more self.old self.new out.old.items out.new.items units.new) }
+        ensures fewer { IfOk result (λ more. more ≡ true → length self.new.tasks.queue < length self.old.tasks.queue) }
+        ensures back { AreSound units.new → AreSound units.old }
+        ensures sure { AreSure units.old → AreSure units.new }
+        ensures grows { (more : List ℕ) × (out.new.items ≡ out.old.items ++ more) }
+        ensures params { self.new.params ≡ self.old.params }
+        ensures queue { OnErr result (0 < length self.old.tasks.queue) }
+        ensures err { OnErr result (self.new ≡ self.old) }
+        ensures out_err { OnErr result (out.new.items ≡ out.old.items) }
+        ensures units_err { OnErr result (units.new ≡ units.old) }
+    {
+        let Some(frame) = self.first() else {
+            return Ok(false);
+        };
+        let pieces = make_room(alloc, out, &self.params.values, frame)?;
+        let done = carry_out(alloc, units, &self.params.nexus, frame)?;
+        // There is room for the answers, so nothing fails any more.
+        self.done(out, pieces, &done);
+        Ok(true)
+    }
+}

@@ -1,0 +1,238 @@
+-- What taking a frame does: by the phase of its connection.
+use Rattle.std.proofs.Common.{◌≡◌, ℕ, ◌+◌, ◌<◌, List, [], ◌∷◌, ◌++◌, length, get_or, Bool, true, false, ◌&&◌, eqb, Option, Some, None, refl, sym, ap, ◌∙◌, subst, arith, inl, inr}
+use Rattle.std.specs.Prelude.{◌⊎◌, nat_lt}
+use Rattle.std.specs.List.{list_any, list_all, fold, range_with_len}
+use Rattle.std.proofs.lemmas.List.Sums.{fold-append}
+use Rattle.std.proofs.lemmas.Bool.{ltb-true, lt-ltb, le-ltb, eqb-true, ne_eqb}
+use Rattle.iscsi_pdu.specs.Frames.{Frame}
+use Rattle.iscsi_login.specs.Login.{remembered}
+use Rattle.iscsi_login.specs.LoginState.{LoginState}
+use Rattle.iscsi_session.specs.Requests.{Past}
+use Rattle.iscsi_session.specs.State.{SessionState, remembered as session_remembered}
+use Rattle.iscsi_session.specs.Steps.{Step, served}
+use Rattle.iscsi_target.specs.History.{Point, Arriving, Before, Mark, is_same, Arrival, Whole, connections, connection_limit}
+use Rattle.iscsi_target.specs.Life.{Life, Phase, LoggingIn, FullFeature, Closing, Over, reads}
+use Rattle.iscsi_target.specs.World.{Setting, World, present, reads_life, is_marked, close, reaching, take_step, log_in, take_in, settle_one, settle, serve, is_login, enter, taken_in, taken_by, comes, arrive}
+use Rattle.iscsi_target.specs.Machine.{LinkState, Machine, IsSound, link_at, is_reading, closed, logged_in}
+use Rattle.iscsi_target.specs.Stands.{phase_for, link_of, are_reached}
+use Rattle.iscsi_target.specs.Serving.{Serves, Agrees, Does, kept, first_of, is_of_frame, is_taken_at, is_done_at, is_done_by, is_done_below, Takes, Settles, SettlesOne}
+use Rattle.iscsi_target.specs.declared.phase.Phase.TheVariants as phases
+use Rattle.iscsi_target.proofs.Choices.{eqb_self, cond_true, cond_false, and_true, and_false}
+use Rattle.iscsi_target.proofs.Lists.{range_next}
+use Rattle.iscsi_target.proofs.Linked.{link_is, reads_there, some_reads, closes, present-close, present-reaching, serves_as, serves_world, serves_reaching}
+use Rattle.iscsi_target.proofs.LoggingIn.{Entering, logs_in}
+use Rattle.iscsi_target.proofs.Marks.{mark_at, same_self, marked_one, marked_none, unmarked, Apart, Wider, all_wider, is_step_at, taken_done, done_taken, taken_step, done_step, step_within}
+use Rattle.iscsi_target.proofs.Working.{at_work}
+use Rattle.iscsi_target.proofs.Keeping.{Goes, on-close, on-same, on-settle, on-settle_one}
+use Rattle.iscsi_target.proofs.Doing.{Act, still_reached, does_nothing, does_as, does_then}
+use Rattle.iscsi_target.proofs.AtWork.{last_there, marks_of, starved_if, Calls, serves_does}
+
+-- ---- a connection that does not read
+
+pub idle_step : (marks : List Mark) (c : ℕ) (point : Point) (act : World → World) (w : World) → reads_life (present c w) ≡ false → take_step marks c point act w ≡ w
+unfolding take_step
+idle_step marks c point act w e = rw e refl
+
+pub idle : (s : Setting) (marks : List Mark) (c : ℕ) (w : World) (arrival : ℕ × Arrival) → reads_life (present c w) ≡ false → arrive s marks c w arrival ≡ w
+unfolding arrive
+idle s marks c w arrival e = idle_step marks c (Arriving arrival.0) (comes s marks c arrival.0 arrival.1) w e
+
+pub takes_idle : (machine : Machine) (c : ℕ) (frame : Frame) → c < connection_limit → is_reading (link_at machine c).phase ≡ false → Takes c frame None machine machine
+takes_idle machine c frame lt idle_ = does_nothing is_of_frame (λ s marks place w. arrive s marks c w (place, Whole frame)) kept machine machine
+    (λ sound s sent half w place marks agree h. serves_world s sent half w _ machine (idle s marks c w (place, Whole frame) (sym (reads_there s sent half w machine c lt h) ∙ idle_)) h)
+
+-- ---- a login is under way
+
+-- a present life that logs in, and what is remembered of its requests
+record IsLoggingIn (names : List (List ℕ)) (login : LoginState) (o : Option Life) : Type 0 where
+  life : Life
+  at : o ≡ Some life
+  phase : life.phase ≡ LoggingIn
+  known : remembered names (life.connection + 1) life.requests ≡ login
+
+logging_in_for : (names : List (List ℕ)) (login : LoginState) (life : Life) (ph : Phase) → life.phase ≡ ph → phase_for names life ph ≡ phases.Login login → IsLoggingIn names login (Some life)
+logging_in_for names login life LoggingIn e same = record { life = life; at = refl; phase = e; known = cc }
+logging_in_for names login life (FullFeature session) e same = absurd cc
+logging_in_for names login life Closing e same = absurd cc
+logging_in_for names login life Over e same = absurd cc
+
+logging_in_of : (names : List (List ℕ)) (sent : ℕ) (half : List ℕ) (login : LoginState) (o : Option Life) → (link_of names sent half o).phase ≡ phases.Login login → IsLoggingIn names login o
+logging_in_of names sent half login None same = absurd cc
+logging_in_of names sent half login (Some life) same = logging_in_for names login life life.phase refl same
+
+logging_in : (s : Setting) (sent : ℕ → ℕ) (half : ℕ → List ℕ) (w : World) (machine : Machine) (c : ℕ) (login : LoginState) → c < connection_limit → Serves s sent half w machine → (link_at machine c).phase ≡ phases.Login login
+    → IsLoggingIn s.names login (present c w)
+logging_in s sent half w machine c login lt h e =
+    logging_in_of s.names (sent c) (half c) login (present c w) (sym (ap (λ (l : LinkState). l.phase) (link_is s sent half w machine c lt h)) ∙ e)
+
+pub unmarked_step : (marks : List Mark) (c : ℕ) (point : Point) (act : World → World) (w : World) → reads_life (present c w) ≡ true → is_marked marks c point ≡ false → take_step marks c point act w ≡ act (reaching c (point ∷ []) w)
+unfolding take_step
+unmarked_step marks c point act w r u = rw (r, u) refl
+
+pub marked_step : (marks : List Mark) (c : ℕ) (point : Point) (act : World → World) (w : World) → reads_life (present c w) ≡ true → is_marked marks c point ≡ true → take_step marks c point act w ≡ close c (reaching c (point ∷ []) w)
+unfolding take_step
+marked_step marks c point act w r u = rw (r, u) refl
+
+-- what becomes whole on a connection that reads, where no allocation fails
+pub arrived : (s : Setting) (marks : List Mark) (c : ℕ) (w : World) (place : ℕ) (arrival : Arrival) → reads_life (present c w) ≡ true → Agrees (is_of_frame place) marks []
+    → arrive s marks c w (place, arrival) ≡ comes s marks c place arrival (reaching c (Arriving place ∷ []) w)
+unfolding arrive
+arrived s marks c w place arrival r agree =
+    unmarked_step marks c (Arriving place) (comes s marks c place arrival) w r (agree (mark_at c (Arriving place)) (eqb_self place) ∙ marked_none c (Arriving place))
+
+arrived_free : (s : Setting) (marks : List Mark) (c : ℕ) (w : World) (place : ℕ) (arrival : Arrival) → reads_life (present c w) ≡ true → is_marked marks c (Arriving place) ≡ false
+    → arrive s marks c w (place, arrival) ≡ comes s marks c place arrival (reaching c (Arriving place ∷ []) w)
+unfolding arrive
+arrived_free s marks c w place arrival r free = unmarked_step marks c (Arriving place) (comes s marks c place arrival) w r free
+
+-- by the phase of its present life
+pub arrived_in : (s : Setting) (marks : List Mark) (c : ℕ) (w : World) (place : ℕ) (frame : Frame) (life : Life) (phase : Phase) → present c w ≡ Some life → life.phase ≡ phase
+    → comes s marks c place (Whole frame) (reaching c (Arriving place ∷ []) w) ≡ taken_in s marks c place frame phase (reaching c (Arriving place ∷ []) w)
+arrived_in s marks c w place frame life phase at e =
+    let v = reaching c (Arriving place ∷ []) w in
+    ap (λ (o : Option Life). taken_by s marks c place frame o v) (present-reaching c c (Arriving place ∷ []) w ∙ at) ∙ ap (λ (p : Phase). taken_in s marks c place frame p v) e
+
+-- a frame that is no Login request closes it
+pub takes_closed : (given after : Machine) (c : ℕ) (frame : Frame) (login : LoginState) → c < connection_limit → (link_at given c).phase ≡ phases.Login login → is_login frame ≡ false → after ≡ closed given c → Takes c frame None given after
+takes_closed given after c frame login lt phase other is = does_nothing is_of_frame (λ s marks place w. arrive s marks c w (place, Whole frame)) kept given after
+    (λ sound s sent half w place marks agree h.
+    (let l = logging_in s sent half w given c login lt h phase in
+    let v = reaching c (Arriving place ∷ []) w in
+    let step = arrived s marks c w place (Whole frame) (ap reads_life l.at ∙ ap reads l.phase) agree ∙ arrived_in s marks c w place frame l.life LoggingIn l.at l.phase
+    ∙ cond_false (is_login frame) (log_in s c frame v) (close c v) other in
+    serves_world s sent half (close c v) _ after step (serves_as s sent half (close c v) (closed given c) after is
+    (closes s sent half v given c l.life lt (serves_reaching s sent half w given c (Arriving place ∷ []) h) (present-reaching c c (Arriving place ∷ []) w ∙ l.at)))))
+
+-- a Login request
+pub takes_login : (given after : Machine) (c : ℕ) (frame : Frame) (login : LoginState) → c < connection_limit → (link_at given c).phase ≡ phases.Login login → is_login frame ≡ true → after ≡ logged_in given c login frame → Takes c frame None given after
+takes_login given after c frame login lt phase logs is = does_nothing is_of_frame (λ s marks place w. arrive s marks c w (place, Whole frame)) kept given after
+    (λ sound s sent half w place marks agree h.
+    (let l = logging_in s sent half w given c login lt h phase in
+    let v = reaching c (Arriving place ∷ []) w in
+    let step = arrived s marks c w place (Whole frame) (ap reads_life l.at ∙ ap reads l.phase) agree ∙ arrived_in s marks c w place frame l.life LoggingIn l.at l.phase
+    ∙ cond_true (is_login frame) (log_in s c frame v) (close c v) logs in
+    let enters : Entering s sent half v given c l.life = record {
+      in_range = lt;
+      serves = serves_reaching s sent half w given c (Arriving place ∷ []) h;
+      at = present-reaching c c (Arriving place ∷ []) w ∙ l.at;
+      phase = l.phase;
+    } in
+    let P : LoginState → Type 0 = λ known. Serves s sent half (log_in s c frame v) (logged_in given c known frame) in
+    serves_world s sent half (log_in s c frame v) _ after step (serves_as s sent half (log_in s c frame v) (logged_in given c login frame) after is
+    (subst P l.known (logs_in s sent half v given c l.life frame enters)))))
+
+-- ---- an allocation fails as a frame becomes whole
+
+reached_first : (c place : ℕ) (w : World) → are_reached (mark_at c (Arriving place) ∷ []) (close c (reaching c (Arriving place ∷ []) w)) ≡ true
+reached_first c place w =
+    let v = reaching c (Arriving place ∷ []) w in
+    let m = mark_at c (Arriving place) in
+    still_reached (m ∷ []) v (close c v) (on-close c v) (ap (λ (b : Bool). b && true) (last_there m w.reached []))
+
+pub starves : (given after : Machine) (c : ℕ) (arrival : Arrival) → c < connection_limit → is_reading (link_at given c).phase ≡ true → after ≡ closed given c
+    → Does is_of_frame (λ s marks place w. arrive s marks c w (place, arrival)) kept (Some c) given after
+unfolding arrive
+starves given after c arrival lt r is = record {
+  failed = λ place. mark_at c (Arriving place) ∷ [];
+  first = λ place. refl;
+  of_kind = λ place. rw (eqb_self place) refl;
+  stands = λ sound s sent half w place marks agree h.
+      (let there = some_reads (present c w) (sym (reads_there s sent half w given c lt h) ∙ r) in
+      let v = reaching c (Arriving place ∷ []) w in
+      let step = marked_step marks c (Arriving place) (comes s marks c place arrival) w (ap reads_life there.1 ∙ there.2) (agree (mark_at c (Arriving place)) (eqb_self place) ∙ marked_one c (Arriving place)) in
+      rw step (
+        serves_as s sent half (close c v) (closed given c) after is
+            (closes s sent half v given c there.0 lt (serves_reaching s sent half w given c (Arriving place ∷ []) h) (present-reaching c c (Arriving place ∷ []) w ∙ there.1)),
+        reached_first c place w,
+      ));
+}
+
+pub takes_starved : (given after : Machine) (c : ℕ) (frame : Frame) → c < connection_limit → is_reading (link_at given c).phase ≡ true → after ≡ closed given c → Takes c frame (Some c) given after
+takes_starved given after c frame lt r is = starves given after c (Whole frame) lt r is
+
+-- ---- a session
+
+target_same : (past : Past) → (session_remembered past).params.target ≡ past.params.target
+target_same past = refl
+
+-- its session served the frame, and then the sessions of its target were settled
+pub takes_served : (c target : ℕ) (frame : Frame) (given middle after : Machine) (failed : Option (ℕ → Step)) (goes_on : Bool) (starved : Option ℕ) → (k : Calls (λ f place. served f place frame) failed goes_on c given middle)
+    → k.state.params.target ≡ target → ((place : ℕ) → list_all (is_taken_at place) (marks_of c failed place) ≡ true) → (IsSound after → IsSound middle) → Settles target starved middle after
+    → Takes c frame (first_of (starved_if failed c) starved) given after
+unfolding serve
+takes_served c target frame given middle after failed goes_on starved k same of_kind back settles =
+    let both = does_then is_taken_at is_done_at is_step_at (λ s marks place w. take_in marks c place frame w) (λ s marks place w. settle marks place target w) kept kept (starved_if failed c) starved given middle after
+    taken_done done_taken taken_step done_step back (λ s marks place w. on-settle marks place target w)
+    (serves_does failed goes_on c frame given middle k of_kind) settles in
+    record {
+      failed = both.failed;
+      first = both.first;
+      of_kind = λ place. all_wider (is_step_at place) (is_of_frame place) (both.failed place) (step_within place) (both.of_kind place);
+      stands = λ sound s sent half w place marks agree h.
+          (let there = at_work s sent half w given c k.state k.in_range h k.phase in
+          let a = there.1 in
+          let v = reaching c (Arriving place ∷ []) w in
+          let target_is : there.0.params.target ≡ target = sym (ap (λ (x : SessionState). x.params.target) there.2 ∙ target_same there.0) ∙ same in
+          let free : is_marked marks c (Arriving place) ≡ false =
+          agree (mark_at c (Arriving place)) (eqb_self place) ∙ unmarked (is_step_at place) (both.failed place) (mark_at c (Arriving place)) (both.of_kind place) (and_false (eqb place place)) in
+          let step = arrived_free s marks c w place (Whole frame) (ap reads_life a.at ∙ ap reads a.phase) free ∙ arrived_in s marks c w place frame a.life (FullFeature there.0) a.at a.phase
+          ∙ ap (λ (t : ℕ). settle marks place t (take_in marks c place frame v)) target_is in
+          rw step (both.stands sound s sent half v place marks (λ mark is. agree mark (step_within place mark is)) (serves_reaching s sent half w given c (Arriving place ∷ []) h)));
+    }
+
+-- ---- the sessions of a target are settled, one after the other
+
+below_here : (c place : ℕ) → Apart (is_done_below c place) (is_done_by c place)
+below_here c place mark e =
+    let below : mark.connection < c = ltb-true mark.connection c (and_true (nat_lt mark.connection c) (is_done_at place mark) e).0 in
+    ap (λ (b : Bool). b && is_done_at place mark) (ne_eqb mark.connection c (λ same. absurd (omega (arith, below, same))))
+
+here_below : (c place : ℕ) → Apart (is_done_by c place) (is_done_below c place)
+here_below c place mark e =
+    let here : mark.connection ≡ c = eqb-true mark.connection c (and_true (eqb mark.connection c) (is_done_at place mark) e).0 in
+    ap (λ (b : Bool). b && is_done_at place mark) (not_below mark.connection c here)
+  where
+    not_below : (a b : ℕ) → a ≡ b → nat_lt a b ≡ false
+    not_below a b e = le-ltb a b (omega (arith, e))
+
+below_more : (c place : ℕ) → Wider (is_done_below c place) (is_done_below (c + 1) place)
+below_more c place mark e =
+    let both = and_true (nat_lt mark.connection c) (is_done_at place mark) e in
+    let below : mark.connection < c = ltb-true mark.connection c both.0 in
+    rw (lt-ltb mark.connection (c + 1) (omega (arith, below)), both.1) refl
+
+here_more : (c place : ℕ) → Wider (is_done_by c place) (is_done_below (c + 1) place)
+here_more c place mark e =
+    let both = and_true (eqb mark.connection c) (is_done_at place mark) e in
+    let here : mark.connection ≡ c = eqb-true mark.connection c both.0 in
+    rw (lt-ltb mark.connection (c + 1) (omega (arith, here)), both.1) refl
+
+below_all : (c place : ℕ) → Wider (is_done_below c place) (is_done_at place)
+below_all c place mark e = (and_true (nat_lt mark.connection c) (is_done_at place mark) e).1
+
+-- those below this connection
+abbrev pub SettledBelow : ℕ → ℕ → Option ℕ → Machine → Machine → Type 0
+SettledBelow target c starved given after = Does (is_done_below c) (λ s marks place w. fold (settle_one marks place target) w (range_with_len 0 c)) kept starved given after
+
+pub none_settled : (target : ℕ) (machine : Machine) → SettledBelow target 0 None machine machine
+none_settled target machine = does_nothing (is_done_below 0) (λ s marks place w. fold (settle_one marks place target) w (range_with_len 0 0)) kept machine machine (λ sound s sent half w place marks agree h. h)
+
+fold_next : (marks : List Mark) (place target c : ℕ) (w : World) → fold (settle_one marks place target) w (range_with_len 0 (c + 1)) ≡ settle_one marks place target (fold (settle_one marks place target) w (range_with_len 0 c)) c
+fold_next marks place target c w = ap (fold (settle_one marks place target) w) (range_next c) ∙ fold-append (settle_one marks place target) w (range_with_len 0 c) (c ∷ [])
+
+pub settled_next : (target c : ℕ) (a b : Option ℕ) (given middle after : Machine) → (IsSound after → IsSound middle) → SettledBelow target c a given middle → SettlesOne target c b middle after → SettledBelow target (c + 1) (first_of a b) given after
+settled_next target c a b given middle after back so_far one =
+    does_as (is_done_below (c + 1)) (λ s marks place w. settle_one marks place target (fold (settle_one marks place target) w (range_with_len 0 c)) c)
+    (λ s marks place w. fold (settle_one marks place target) w (range_with_len 0 (c + 1))) (λ half. kept (kept half)) (first_of a b) given after
+    (λ s sent half w place marks h. fold_next marks place target c w)
+    (does_then (is_done_below c) (is_done_by c) (is_done_below (c + 1)) (λ s marks place w. fold (settle_one marks place target) w (range_with_len 0 c)) (λ s marks place w. settle_one marks place target w c)
+    kept kept a b given middle after (below_here c) (here_below c) (below_more c) (here_more c) back (λ s marks place w. on-settle_one marks place target w c) so_far one)
+
+pub all_settled : (target : ℕ) (starved : Option ℕ) (given after : Machine) → SettledBelow target connection_limit starved given after → Settles target starved given after
+unfolding settle
+all_settled target starved given after d = record {
+  failed = d.failed;
+  first = d.first;
+  of_kind = λ place. all_wider (is_done_below connection_limit place) (is_done_at place) (d.failed place) (below_all connection_limit place) (d.of_kind place);
+  stands = λ sound s sent half w place marks agree h. d.stands sound s sent half w place marks (λ mark is. agree mark (below_all connection_limit place mark is)) h;
+}

@@ -1,0 +1,256 @@
+-- What a call leaves of every target, whatever its stores do.
+use Rattle.std.proofs.Common.{◌≡◌, ℕ, ◌<◌, List, [], ◌++◌, length, set, get_or, Bool, true, false, not, Option, Some, None, refl, sym, ap, ◌∙◌, subst, arith, inl, inr, append_assoc}
+use Rattle.std.specs.Prelude.{All, slice_index_or, slice_set}
+use Rattle.std.proofs.lemmas.Bool.Decides.{eqb_tells}
+use Rattle.std.proofs.lemmas.List.{append-nil, length-set, get_or-set_same, get_or-set_other, get_or_default, get_or-map, length-map}
+use Rattle.scsi_unit.specs.Units.{UnitStates, AreSound, AreSure, join}
+use Rattle.std.proofs.lemmas.List.Quantifiers.{position-Some}
+use Rattle.iscsi_pdu.specs.Frames.{Frame}
+use Rattle.iscsi_pdu.specs.declared.answer.Answer.TheVariants as answers
+use Rattle.iscsi_login.specs.LoginState.{LoginState}
+use Rattle.iscsi_login.specs.Session.{is_of, older}
+use Rattle.iscsi_login.specs.Login.{advanced, reply_of}
+use Rattle.iscsi_login.specs.declared.params.Params.{Params}
+use Rattle.iscsi_login.specs.declared.reply.Reply.{Reply}
+use Rattle.iscsi_login.specs.declared.reply.Reply.TheVariants.{GoOn, Full, Refused}
+use Rattle.iscsi_target.specs.World.{left, changed_units, lookup_for}
+use Rattle.iscsi_target.specs.Machine.{LinkState, Machine, IsSound, IsSure, Feeds, link_at, with_link, is_free, is_reading, is_open_at, free_link, shut_link, closed, session_in_phase, sessions, is_logging_in, gone_on_link, refused_link, begun_link, shut_older, replied, logged_in}
+use Rattle.iscsi_target.specs.Serving.{KeepsHalf, Moves}
+use Rattle.iscsi_target.specs.declared.phase.Phase.{Phase}
+use Rattle.iscsi_target.specs.declared.phase.Phase.TheVariants as phases
+use Rattle.iscsi_target.proofs.Sound.{sound_set, sure_set, closed_sound, closed_sure, logged_in_sound, logged_in_sure, closed_units, logged_in_units, sound_as, sure_as}
+
+-- ---- one call after the other
+
+keeps_same : (link : LinkState) → is_reading link.phase ≡ true → KeepsHalf link.half link
+keeps_same link r = record { reading = λ e. refl; idle = λ e. absurd (cc (r, e)) }
+
+pub moves_none : (machine : Machine) → Moves machine machine
+moves_none machine = record {
+  back = λ sound. sound;
+  sure = λ sure. sure;
+  feeds = record { opens = λ d. refl; waits = λ d. ([], sym (append-nil (link_at machine d).waiting)); still = λ d idle. refl };
+  units = refl;
+  keeps = λ c reads. keeps_same (link_at machine c) reads;
+}
+
+keeps_by : (b : Bool) (half : List ℕ) (now after : LinkState) → is_reading now.phase ≡ b → KeepsHalf half now → (is_reading now.phase ≡ true → KeepsHalf now.half after) → (is_reading now.phase ≡ false → after ≡ now) → KeepsHalf half after
+keeps_by true half now after r first next still = let k = next r in record { reading = λ e. k.reading e ∙ first.reading r; idle = k.idle }
+keeps_by false half now after r first next still = subst (KeepsHalf half) (sym (still r)) first
+
+pub feeds_then : (given now after : Machine) → Feeds given now → Feeds now after → Feeds given after
+feeds_then given now after a b = record {
+  opens = λ d. b.opens d ∙ a.opens d;
+  waits = λ d. (
+    (a.waits d).0 ++ (b.waits d).0,
+    (b.waits d).1 ∙ ap (λ (bytes : List ℕ). bytes ++ (b.waits d).0) (a.waits d).1 ∙ append_assoc (link_at given d).waiting (a.waits d).0 (b.waits d).0,
+  );
+  still = λ d idle. b.still d (ap (λ (l : LinkState). is_reading l.phase) (a.still d idle) ∙ idle) ∙ a.still d idle;
+}
+
+pub moves_then : (given now after : Machine) → Moves given now → Moves now after → Moves given after
+moves_then given now after a b = record {
+  back = λ sound. a.back (b.back sound);
+  sure = λ sure. b.sure (a.sure sure);
+  feeds = feeds_then given now after a.feeds b.feeds;
+  units = b.units ∙ a.units;
+  keeps = λ c reads. keeps_by (is_reading (link_at now c).phase) (link_at given c).half (link_at now c) (link_at after c) refl (a.keeps c reads) (b.keeps c) (b.feeds.still c);
+}
+
+pub moves_as : (given now after : Machine) → after ≡ now → Moves given now → Moves given after
+moves_as given now after e m = let P : Machine → Type 0 = λ x. Moves given x in subst P (sym e) m
+
+pub moves_from : (given now after : Machine) → given ≡ now → Moves now after → Moves given after
+moves_from given now after e m = let P : Machine → Type 0 = λ x. Moves x after in subst P (sym e) m
+
+-- ---- one connection changes
+
+-- how a link may change that is read
+pub record Changes (old new : LinkState) : Type 0 where
+  pub reads : is_reading old.phase ≡ true
+  pub free : is_free new.phase ≡ false
+  pub waits : (more : List ℕ) × (new.waiting ≡ old.waiting ++ more)
+
+pub reading_open : (phase : Phase) → is_reading phase ≡ true → is_free phase ≡ false
+reading_open phases.Free e = absurd cc
+reading_open (phases.Login login) e = refl
+reading_open (phases.FullFeature session) e = refl
+reading_open phases.Closing e = absurd cc
+
+link_set : (machine : Machine) (units : List UnitStates) (c : ℕ) (link : LinkState) → c < length machine.links → link_at (record (with_link machine c link) { units = units }) c ≡ link
+link_set machine units c link lt = get_or-set_same machine.links c link free_link lt
+
+link_other : (machine : Machine) (units : List UnitStates) (c d : ℕ) (link : LinkState) → (d ≡ c → ⊥) → link_at (record (with_link machine c link) { units = units }) d ≡ link_at machine d
+link_other machine units c d link differ = get_or-set_other machine.links c d link free_link differ
+
+pub changes_feeds : (machine : Machine) (units : List UnitStates) (c : ℕ) (link : LinkState) → c < length machine.links → Changes (link_at machine c) link → Feeds machine (record (with_link machine c link) { units = units })
+changes_feeds machine units c link lt ch =
+    let after : Machine = record (with_link machine c link) { units = units } in
+    let here = link_set machine units c link lt in
+    record {
+      opens = λ d. elim (eqb_tells d c) [
+        | inl same ↦ rw same.1 (ap (λ (l : LinkState). not (is_free l.phase)) here ∙ ap not ch.free ∙ sym (ap not (reading_open (link_at machine c).phase ch.reads)))
+        | inr differ ↦ ap (λ (l : LinkState). not (is_free l.phase)) (link_other machine units c d link differ.1)
+      ];
+      waits = λ d. elim (eqb_tells d c) [
+        | inl same ↦ rw same.1 (ch.waits.0, ap (λ (l : LinkState). l.waiting) here ∙ ch.waits.1)
+        | inr differ ↦ ([], ap (λ (l : LinkState). l.waiting) (link_other machine units c d link differ.1) ∙ sym (append-nil (link_at machine d).waiting))
+      ];
+      still = λ d idle. elim (eqb_tells d c) [
+        | inl same ↦ absurd (cc (idle, ap (λ (k : ℕ). is_reading (link_at machine k).phase) same.1, ch.reads))
+        | inr differ ↦ link_other machine units c d link differ.1
+      ];
+    }
+
+pub changes_moves : (machine : Machine) (units : List UnitStates) (c : ℕ) (link : LinkState) → c < length machine.links → Changes (link_at machine c) link → KeepsHalf (link_at machine c).half link
+    → length units ≡ length machine.units → let after : Machine = record (with_link machine c link) { units = units } in (IsSound after → IsSound machine) → (IsSure machine → IsSure after) → Moves machine after
+changes_moves machine units c link lt ch half count back sure = record {
+  back = back;
+  sure = sure;
+  units = count;
+  feeds = changes_feeds machine units c link lt ch;
+  keeps = λ d reads. elim (eqb_tells d c) [
+    | inl same ↦ rw same.1 (subst (KeepsHalf (link_at machine c).half) (sym (link_set machine units c link lt)) half)
+    | inr differ ↦ subst (KeepsHalf (link_at machine d).half) (sym (link_other machine units c d link differ.1)) (keeps_same (link_at machine d) reads)
+  ];
+}
+
+-- ---- a connection closes
+
+shuts : (link : LinkState) → is_reading link.phase ≡ true → Changes link (shut_link link)
+shuts link r = record { reads = r; free = refl; waits = ([], sym (append-nil link.waiting)) }
+
+shut_half : (half : List ℕ) (link : LinkState) → KeepsHalf half (shut_link link)
+shut_half half link = record { reading = λ e. absurd cc; idle = λ e. refl }
+
+shut_moves : (machine : Machine) (c : ℕ) → c < length machine.links → is_reading (link_at machine c).phase ≡ true → Moves machine (with_link machine c (shut_link (link_at machine c)))
+shut_moves machine c lt r = changes_moves machine machine.units c (shut_link (link_at machine c)) lt (shuts (link_at machine c) r) (shut_half (link_at machine c).half (link_at machine c)) refl (λ sound. sound) (λ sure. sure)
+
+closed_feeds : (machine : Machine) (c : ℕ) → c < length machine.links → is_reading (link_at machine c).phase ≡ true → Feeds machine (closed machine c)
+unfolding closed
+closed_feeds machine c lt r = changes_feeds machine (left (session_in_phase (link_at machine c).phase) machine.units) c (shut_link (link_at machine c)) lt (shuts (link_at machine c) r)
+
+closed_keeps : (machine : Machine) (c : ℕ) → c < length machine.links → is_reading (link_at machine c).phase ≡ true → (d : ℕ) → is_reading (link_at machine d).phase ≡ true
+    → KeepsHalf (link_at machine d).half (link_at (closed machine c) d)
+unfolding closed
+closed_keeps machine c lt r d reads = (shut_moves machine c lt r).keeps d reads
+
+pub closed_moves : (machine : Machine) (c : ℕ) → c < length machine.links → is_reading (link_at machine c).phase ≡ true → Moves machine (closed machine c)
+closed_moves machine c lt r = record {
+  back = λ sound. closed_sound machine c sound;
+  sure = λ sure. closed_sure machine c sure;
+  feeds = closed_feeds machine c lt r;
+  units = closed_units machine c;
+  keeps = closed_keeps machine c lt r;
+}
+
+pub closed_count : (machine : Machine) (c : ℕ) → length (closed machine c).links ≡ length machine.links
+unfolding closed
+closed_count machine c = length-set machine.links c (shut_link (link_at machine c))
+
+-- ---- a session's link
+
+pub session_changes : (old new : LinkState) → is_reading old.phase ≡ true → is_free new.phase ≡ false → (more : List ℕ) × (new.waiting ≡ old.waiting ++ more) → Changes old new
+session_changes old new r free waits = record { reads = r; free = free; waits = waits }
+
+pub session_half : (old new : LinkState) → is_reading new.phase ≡ true → new.half ≡ old.half → KeepsHalf old.half new
+session_half old new reads half = record { reading = λ e. half; idle = λ e. absurd (cc (reads, e)) }
+
+-- the units of one target were worked on
+pub units_back : (machine : Machine) (links : List LinkState) (target : ℕ) (units : UnitStates) → target < length machine.units → (AreSound units → AreSound (slice_index_or machine.units target []))
+    → let after : Machine = record machine { units = slice_set machine.units target units; links = links } in IsSound after → IsSound machine
+units_back machine links target units lt back sound = sound_set machine.units target units (λ below. back) sound
+
+pub units_sure : (machine : Machine) (links : List LinkState) (target : ℕ) (units : UnitStates) → (AreSure (slice_index_or machine.units target []) → AreSure units)
+    → let after : Machine = record machine { units = slice_set machine.units target units; links = links } in IsSure machine → IsSure after
+units_sure machine links target units forth sure = sure_set machine.units target [] units forth sure
+
+-- ---- a Login request
+
+logs_open : (phase : Phase) → is_logging_in phase ≡ true → is_reading phase ≡ true
+logs_open phases.Free e = absurd cc
+logs_open (phases.Login login) e = refl
+logs_open (phases.FullFeature session) e = absurd cc
+logs_open phases.Closing e = absurd cc
+
+-- what neither adds nor takes away soundness
+plain_moves : (machine : Machine) (units : List UnitStates) (c : ℕ) (link : LinkState) → c < length machine.links → Changes (link_at machine c) link → KeepsHalf (link_at machine c).half link
+    → (d : ℕ) → is_reading (link_at machine d).phase ≡ true → KeepsHalf (link_at machine d).half (link_at (record (with_link machine c link) { units = units }) d)
+plain_moves machine units c link lt ch half d reads = (changes_moves (record machine { units = units }) units c link lt ch half refl (λ sound. sound) (λ sure. sure)).keeps d reads
+
+pub record Alters (given after : Machine) : Type 0 where
+  pub feeds : Feeds given after
+  pub keeps : (c : ℕ) → is_reading (link_at given c).phase ≡ true → KeepsHalf (link_at given c).half (link_at after c)
+
+alters_then : (given now after : Machine) → Alters given now → Alters now after → Alters given after
+alters_then given now after a b = record {
+  feeds = feeds_then given now after a.feeds b.feeds;
+  keeps = λ c reads. keeps_by (is_reading (link_at now c).phase) (link_at given c).half (link_at now c) (link_at after c) refl (a.keeps c reads) (b.keeps c) (b.feeds.still c);
+}
+
+alters : (machine : Machine) (units : List UnitStates) (c : ℕ) (link : LinkState) → c < length machine.links → Changes (link_at machine c) link → KeepsHalf (link_at machine c).half link → Alters machine (record (with_link machine c link) { units = units })
+alters machine units c link lt ch half = record { feeds = changes_feeds machine units c link lt ch; keeps = plain_moves machine units c link lt ch half }
+
+alters_none : (machine : Machine) → Alters machine machine
+alters_none machine = record { feeds = (moves_none machine).feeds; keeps = (moves_none machine).keeps }
+
+is_of_none : (session : Params) (o : Option Params) → is_of session.nexus session.target o ≡ true → o ≡ None → ⊥
+is_of_none session None e n = absurd cc
+is_of_none session (Some x) e n = absurd cc
+
+session_reads : (session : Params) (phase : Phase) → is_of session.nexus session.target (session_in_phase phase) ≡ true → is_reading phase ≡ true
+session_reads session phases.Free e = absurd (is_of_none session None e refl)
+session_reads session (phases.Login login) e = absurd (is_of_none session None e refl)
+session_reads session (phases.FullFeature other) e = refl
+session_reads session phases.Closing e = absurd (is_of_none session None e refl)
+
+older_reads : (machine : Machine) (session : Params) (d : ℕ) → older session (sessions machine.links) ≡ Some d → (d < length machine.links) × (is_of session.nexus session.target (session_in_phase (link_at machine d).phase) ≡ true)
+unfolding older
+older_reads machine session d e =
+    let p = position-Some (is_of session.nexus session.target) (sessions machine.links) d None e in
+    let below : d < length machine.links = omega (arith, p.0, length-map machine.links (λ link. session_in_phase link.phase)) in
+    let there : get_or (sessions machine.links) d None ≡ session_in_phase (link_at machine d).phase = get_or-map (λ link. session_in_phase link.phase) machine.links d free_link None below in
+    (below, ap (is_of session.nexus session.target) (sym there) ∙ p.1)
+
+older_alters : (o : Option ℕ) (given machine : Machine) (session : Params) (c : ℕ) (link : LinkState) (units : List UnitStates) → c < length given.links → is_reading link.phase ≡ true → machine ≡ record (with_link given c link) { units = units }
+    → older session (sessions given.links) ≡ o → Alters machine (shut_older o machine)
+older_alters None given machine session c link units lt reads is e = alters_none machine
+older_alters (Some d) given machine session c link units lt reads is e =
+    let p = older_reads given session d e in
+    let there : is_reading (link_at machine d).phase ≡ true = ap (λ (m : Machine). is_reading (link_at m d).phase) is ∙ elim (eqb_tells d c) [
+      | inl same ↦ ap (λ (k : ℕ). is_reading (link_at (record (with_link given c link) { units = units }) k).phase) same.1 ∙ ap (λ (l : LinkState). is_reading l.phase) (link_set given units c link lt) ∙ reads
+      | inr differ ↦ ap (λ (l : LinkState). is_reading l.phase) (link_other given units c d link differ.1) ∙ session_reads session (link_at given d).phase p.1
+    ] in
+    let below : d < length machine.links = omega (arith, p.0, ap (λ (m : Machine). length m.links) is, length-set given.links c link) in
+    let m = shut_moves machine d below there in
+    record { feeds = m.feeds; keeps = m.keeps }
+
+replied_alters : (reply : Reply) (login : LoginState) (c : ℕ) (machine : Machine) → c < length machine.links → is_reading (link_at machine c).phase ≡ true → Alters machine (replied reply login c machine)
+replied_alters (GoOn response) login c machine lt reads =
+    let link = gone_on_link login (answers.LoginResponse response) (link_at machine c) in
+    alters machine machine.units c link lt (session_changes (link_at machine c) link reads refl (_, refl)) (session_half (link_at machine c) link refl refl)
+replied_alters (Refused response) login c machine lt reads =
+    let link = refused_link (answers.LoginResponse response) (link_at machine c) in
+    alters machine machine.units c link lt (session_changes (link_at machine c) link reads refl (_, refl)) (record { reading = λ e. absurd cc; idle = λ e. refl })
+replied_alters (Full response session) login c machine lt reads =
+    let link = begun_link session (answers.LoginResponse response) (link_at machine c) in
+    let units = changed_units (join session.nexus) session.target machine.units in
+    let now : Machine = record (with_link machine c link) { units = units } in
+    alters_then machine now (replied (Full response session) login c machine) (alters machine units c link lt (session_changes (link_at machine c) link reads refl (_, refl)) (session_half (link_at machine c) link refl refl))
+    (older_alters (older session (sessions machine.links)) machine now session c link units lt refl refl refl)
+
+logged_in_alters : (machine : Machine) (c : ℕ) (login : LoginState) (request : Frame) → c < length machine.links → is_reading (link_at machine c).phase ≡ true → Alters machine (logged_in machine c login request)
+unfolding logged_in
+logged_in_alters machine c login request lt reads =
+    replied_alters (reply_of login (lookup_for machine.names (sessions machine.links) request) request) (advanced machine.names login request) c machine lt reads
+
+pub logged_in_moves : (machine : Machine) (c : ℕ) (login : LoginState) (request : Frame) → c < length machine.links → is_reading (link_at machine c).phase ≡ true → Moves machine (logged_in machine c login request)
+logged_in_moves machine c login request lt reads =
+    let a = logged_in_alters machine c login request lt reads in
+    record {
+      back = λ sound. logged_in_sound machine c login request sound;
+      sure = λ sure. logged_in_sure machine c login request sure;
+      feeds = a.feeds;
+      units = logged_in_units machine c login request;
+      keeps = a.keeps;
+    }

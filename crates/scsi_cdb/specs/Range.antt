@@ -1,0 +1,15 @@
+-- Blocks that a command names.
+use Rattle.std.specs.Prelude.{ℕ, Option, Some, None, nat_le, if◌then◌else◌}
+
+-- so many from the first one on
+pub record Range : Type 0 where
+  pub first : ℕ
+  pub count : ℕ
+
+-- profile: the most blocks of one READ
+abbrev pub most_blocks : ℕ
+most_blocks = 2048
+
+-- the range, where it is short enough
+abbrev pub range_of : ℕ → ℕ → Option Range
+range_of first count = if nat_le count most_blocks then Some (record { first = first; count = count }) else None

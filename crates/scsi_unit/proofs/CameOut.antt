@@ -1,0 +1,86 @@
+-- What follows from how a command came out.
+use Rattle.std.proofs.Common.{◌≡◌, ℕ, Bool, true, false, IsTrue, Option, Some, None, refl, sym, ap, subst, ◌∙◌, arith, ◌||◌, ◌⊎◌, inl, inr}
+use Rattle.std.specs.Prelude.{is_some}
+use Rattle.std.proofs.lemmas.Bool.{false≢true}
+use Rattle.std.specs.Prelude.{List}
+use Rattle.scsi_sense.specs.Done.{Outcome}
+use Rattle.scsi_cdb.specs.Range.{Range}
+use Rattle.scsi_unit.specs.Device.{DeviceState, DiskUnit, Disk, StoreState, store_of, IsSteady}
+use Rattle.scsi_unit.specs.CameOut.{CameOut, AsDefined, Misread, ReadFailed, WriteFailed, store_after, disk_after, Touch, touches, AreLeft, IsPossible}
+use Rattle.scsi_unit.specs.State.{UnitState}
+use Rattle.scsi_unit.specs.Unit.{IsPerformed}
+use Rattle.scsi_unit.specs.Units.{IsSoundStore, IsSureStore, IsTrustedStore}
+
+-- the store of a disk
+pub store_of_disk : (came : CameOut) (disk : DiskUnit) → store_of (Disk (disk_after came disk)) ≡ store_after came (store_of (Disk disk))
+store_of_disk AsDefined disk = refl
+store_of_disk (Misread given) disk = refl
+store_of_disk (ReadFailed honest) disk = refl
+store_of_disk (WriteFailed left) disk = refl
+
+-- what reads or writes touches the medium
+reads_touch : (reads : Bool) (writes : Option Range) → IsTrue reads → (reads || is_some writes) ≡ true
+reads_touch true writes is = refl
+reads_touch false writes is = absurd (false≢true is)
+
+writes_touch : (reads : Bool) (writes : Option Range) (device : DeviceState) (left : List (List ℕ)) → AreLeft writes device left
+    → (reads || is_some writes) ≡ true
+writes_touch reads None device left is = absurd is
+writes_touch true (Some range) device left is = refl
+writes_touch false (Some range) device left is = refl
+
+pub failed_touch : (came : CameOut) (touch : Touch) (device : DeviceState) → IsPossible came touch device
+    → (came ≡ AsDefined) ⊎ (touches touch ≡ true)
+failed_touch AsDefined touch device possible = inl refl
+failed_touch (Misread given) touch device possible = inr (reads_touch touch.reads touch.writes possible.0)
+failed_touch (ReadFailed honest) touch device possible = inr (reads_touch touch.reads touch.writes possible.0)
+failed_touch (WriteFailed left) touch device possible = inr (writes_touch touch.reads touch.writes device left possible.0)
+
+-- a store that cannot fail does not
+pub steady_as_defined : (came : CameOut) (touch : Touch) (device : DeviceState) → IsPossible came touch device → IsSteady (store_of device)
+    → came ≡ AsDefined
+steady_as_defined AsDefined touch device possible steady = refl
+steady_as_defined (Misread given) touch device possible steady = absurd (possible.1 steady)
+steady_as_defined (ReadFailed honest) touch device possible steady = absurd (possible.2 steady)
+steady_as_defined (WriteFailed left) touch device possible steady = absurd (possible.1 steady)
+
+-- a store that is still honest, and did not fail
+pub trusted_as_defined : (came : CameOut) (old : StoreState) → IsTrustedStore old (store_after came old) → came ≡ AsDefined
+trusted_as_defined AsDefined old trusted = refl
+trusted_as_defined (Misread given) old trusted = absurd (false≢true trusted.honest)
+trusted_as_defined (ReadFailed honest) old trusted = absurd (omega (arith, trusted.none.same, trusted.none.known))
+trusted_as_defined (WriteFailed left) old trusted = absurd (omega (arith, trusted.none.same, trusted.none.known))
+
+-- a store that is sound was so before
+pub sound_back : (came : CameOut) (old : StoreState) → IsSoundStore (store_after came old) → IsSoundStore old
+sound_back AsDefined old sound = sound
+sound_back (Misread given) old sound = absurd (false≢true sound.honest)
+sound_back (ReadFailed honest) old sound = absurd (omega (arith, sound.unfailed))
+sound_back (WriteFailed left) old sound = absurd (omega (arith, sound.unfailed))
+
+-- ---- one unit
+
+module _ {touch : Touch} {should : CameOut → UnitState × Outcome} {old new : UnitState} {done : Outcome} where
+  -- it does as defined where its command does nothing to its medium, or its store is still honest and did not fail
+  pub unit_exact : IsPerformed touch should old new done
+      → (touches touch ≡ true → IsTrustedStore (store_of old.device) (store_of new.device))
+      → (new, done) ≡ should AsDefined
+  unit_exact performed trusted =
+      let as_defined : performed.came ≡ AsDefined = elim (failed_touch performed.came touch old.device performed.possible) [
+        | inl same ↦ same
+        | inr touched ↦ trusted_as_defined performed.came (store_of old.device)
+            (subst (λ (store : StoreState). IsTrustedStore (store_of old.device) store) performed.store (trusted touched))
+      ] in
+      performed.answer ∙ ap should as_defined
+
+  -- it was sound before
+  pub unit_back : IsPerformed touch should old new done → IsSoundStore (store_of new.device) → IsSoundStore (store_of old.device)
+  unit_back performed sound = sound_back performed.came (store_of old.device) (subst IsSoundStore performed.store sound)
+
+  -- one that cannot fail stays so
+  pub unit_sure : IsPerformed touch should old new done → IsSureStore (store_of old.device) → IsSureStore (store_of new.device)
+  unit_sure performed sure =
+      let as_defined = steady_as_defined performed.came touch old.device performed.possible (record { honest = sure.sound.honest; steady = sure.steady }) in
+      let same : store_of new.device ≡ store_of old.device =
+      performed.store ∙ ap (λ (came : CameOut). store_after came (store_of old.device)) as_defined in
+      subst IsSureStore (sym same) sure

@@ -1,0 +1,120 @@
+-- What a unit checks before it does a command: an ordered list (own, after SPC-4), of which the first that refuses counts.
+use Rattle.std.specs.Prelude.{ℕ, ◌+◌, nat_lt, List, [], ◌∷◌, length, Bool, true, ◌&&◌, not, Option, Some, None, Result, Ok, Err, slice_index, if◌then◌else◌}
+use Rattle.std.specs.Option.{option_map}
+use Rattle.scsi_sense.specs.Sense.{plain_sense}
+use Rattle.scsi_sense.specs.Nexus.{NexusName}
+use Rattle.scsi_sense.specs.declared.sense.Sense.{Sense}
+use Rattle.scsi_sense.specs.declared.condition.Attention.{Attention}
+use Rattle.scsi_sense.specs.declared.condition.Condition.TheVariants.{InternalTargetFailure, LogicalBlockAddressOutOfRange}
+use Rattle.scsi_cdb.specs.Range.{Range}
+use Rattle.scsi_cdb.specs.Fault.{invalid_operation_code}
+use Rattle.scsi_cdb.specs.Operation.{row_for}
+use Rattle.scsi_cdb.specs.Command.{command_of}
+use Rattle.scsi_cdb.specs.declared.operation.Row.{Row}
+use Rattle.scsi_cdb.specs.declared.command.Command.{Command}
+use Rattle.scsi_cdb.specs.declared.command.Command.TheVariants as to
+use Rattle.scsi_cdb.specs.declared.command.UnitCommand.TheVariants.{TestUnitReady, RequestSense, Inquiry, ModeSelect, ModeSense, ReportLuns}
+use Rattle.scsi_mode.specs.ParameterList.{fault_sense}
+use Rattle.scsi_mode.specs.declared.list_fault.ListFault.TheVariants.{EndsEarly}
+use Rattle.scsi_unit.specs.Device.{DeviceState, Disk, Tape, kind_of, is_ready}
+use Rattle.scsi_unit.specs.DiskCommands.{range_named}
+use Rattle.scsi_unit.specs.Joined.{told}
+use Rattle.scsi_unit.specs.State.{UnitState}
+use Rattle.scsi_unit.specs.declared.refusal.Refusal.{Refusal}
+use Rattle.scsi_unit.specs.declared.refusal.Refusal.TheVariants.{Refused, Told}
+
+-- 05/2100
+abbrev pub out_of_range : Sense
+out_of_range = plain_sense LogicalBlockAddressOutOfRange
+
+-- 04/4400
+abbrev pub not_ready : Sense
+not_ready = plain_sense InternalTargetFailure
+
+abbrev pub refused_if : Bool → Sense → Option Refusal
+refused_if holds sense = if holds then Some (Refused sense) else None
+
+-- ---- the checks, each of what it looks at; what an earlier one refuses a later one lets pass
+
+-- units of this kind have the operation
+abbrev pub operation_check : Option Row → Option Refusal
+operation_check None = Some (Refused invalid_operation_code)
+operation_check (Some row) = None
+
+-- SAM-5 "Unit attention condition": the first that is still to be told, where the operation does not pass it
+abbrev pub attention_check : Option Row → Option Attention → Option Refusal
+attention_check None attention = None
+attention_check (Some row) attention = if row.passes_attention then None else option_map Told attention
+
+-- SPC-4 "Persistent reservations": nothing is reserved yet
+abbrev pub reservation_check : Option Row → Option Refusal
+reservation_check row = None
+
+-- own: no write to the medium has failed, where the operation needs it
+abbrev pub ready_check : Option Row → Bool → Option Refusal
+ready_check None is_ready = None
+ready_check (Some row) is_ready = refused_if (row.needs_ready && not is_ready) not_ready
+
+-- the fields are taken
+abbrev pub fields_check : Result Command Sense → Option Refusal
+fields_check (Err sense) = Some (Refused sense)
+fields_check (Ok command) = None
+
+-- whether a device has the blocks of a range
+abbrev pub has_range : DeviceState → Option Range → Bool
+has_range device None = true
+has_range (Disk disk) (Some range) = not (nat_lt (length disk.disk.blocks) (range.first + range.count))
+has_range Tape (Some range) = true
+
+abbrev pub range_of : Command → Option Range
+range_of (to.Unit command) = None
+range_of (to.Disk command) = range_named command
+
+-- SBC-3 "READ (10) command": the blocks that it names are there
+abbrev pub range_check : Result Command Sense → DeviceState → Option Refusal
+range_check (Err sense) device = None
+range_check (Ok command) device = refused_if (not (has_range device (range_of command))) out_of_range
+
+-- how many bytes of data a command needs
+abbrev pub needed : Command → ℕ
+needed (to.Unit TestUnitReady) = 0
+needed (to.Unit (RequestSense allocation_length)) = 0
+needed (to.Unit (Inquiry page allocation_length)) = 0
+needed (to.Unit (ModeSelect fields)) = fields.list_length
+needed (to.Unit (ModeSense fields)) = 0
+needed (to.Unit (ReportLuns fields)) = 0
+needed (to.Disk command) = 0
+
+-- SPC-4 "MODE SELECT (6) command", PARAMETER LIST LENGTH: so much data has come (PARAMETER LIST LENGTH ERROR)
+abbrev pub data_check : Result Command Sense → List ℕ → Option Refusal
+data_check (Err sense) bytes = None
+data_check (Ok command) bytes = refused_if (nat_lt (length bytes) (needed command)) (fault_sense EndsEarly)
+
+-- in their order
+abbrev pub checks : Option Row → Option Attention → Result Command Sense → DeviceState → List ℕ → List (Option Refusal)
+checks row attention command device bytes =
+    operation_check row
+    ∷ attention_check row attention
+    ∷ reservation_check row
+    ∷ ready_check row (is_ready device)
+    ∷ fields_check command
+    ∷ range_check command device
+    ∷ data_check command bytes
+    ∷ []
+
+abbrev pub first_refusal : List (Option Refusal) → Option Refusal
+first_refusal [] = None
+first_refusal (None ∷ checks) = first_refusal checks
+first_refusal (Some refusal ∷ checks) = Some refusal
+
+-- the command, where no check refuses it; a field that is refused is among the checks
+abbrev pub judged_by : Option Refusal → Result Command Sense → Result Command Refusal
+judged_by (Some refusal) command = Err refusal
+judged_by None (Ok command) = Ok command
+judged_by None (Err sense) = Err (Refused sense)
+
+-- the command that the bytes spell for a unit, or the first refusal
+unfoldable pub judged : NexusName → List ℕ → List ℕ → UnitState → Result Command Refusal
+judged nexus cdb bytes unit =
+    let command = command_of cdb (kind_of unit.device) in
+    judged_by (first_refusal (checks (row_for (kind_of unit.device) (slice_index cdb 0)) (told nexus unit.joined).1 command unit.device bytes)) command

@@ -1,0 +1,95 @@
+//! The device of a logical unit: a disk or a tape.
+
+ghost use Rattle.std.specs.Prelude.{◌≡◌};
+ghost use Rattle.scsi_unit.specs.Device.{kind_of, is_ready, device_view, parameters_of, with_parameters};
+ghost use Rattle.scsi_unit.specs.Checks.{has_range, range_of};
+
+use media_block::Disk;
+use media_store::Store;
+use scsi_cdb::{BlockRange, Command, DiskCommand, Kind};
+use scsi_mode::Parameters;
+
+/// A disk with its mode parameters.
+#[derive(Drop)]
+pub(crate) struct DiskDevice<S: Store> {
+    pub disk: Disk<S>,
+    /// No write of it has failed since it was opened.
+    pub is_ready: bool,
+    /// SWP: writes are refused (SPC-4 "Control mode page").
+    pub write_protect: bool,
+}
+
+/// What a logical unit is.
+#[derive(Drop)]
+pub(crate) enum Device<S: Store> {
+    Disk(DiskDevice<S>),
+    /// The empty tape, loaded.
+    Tape,
+}
+
+impl<S: Store> Device<S> {
+    /// The kind of unit.
+    pub fn kind(&self) -> Kind
+        ensures { result ≡ kind_of (device_view self.now) }
+    {
+        match self {
+            Device::Disk(_) => Kind::Disk,
+            Device::Tape => Kind::Tape,
+        }
+    }
+
+    /// Whether it takes commands to its medium.
+    pub fn is_ready(&self) -> bool
+        ensures { result ≡ is_ready (device_view self.now) }
+    {
+        match self {
+            Device::Disk(disk) => disk.is_ready,
+            Device::Tape => true,
+        }
+    }
+
+    /// What its mode parameters tell.
+    pub fn parameters(&self) -> Parameters
+        ensures { result ≡ parameters_of (device_view self.now) }
+    {
+        match self {
+            Device::Disk(device) => Parameters::Disk {
+                block_count: device.disk.block_count(),
+                write_protect: device.write_protect,
+            },
+            Device::Tape => Parameters::Tape,
+        }
+    }
+
+    /// Sets the mode parameters.
+    pub fn set_parameters(&mut self, parameters: Parameters)
+        ensures { device_view self.new ≡ with_parameters parameters (device_view self.old) }
+    {
+        if let Device::Disk(disk) = self {
+            disk.write_protect = parameters.write_protect();
+        }
+    }
+
+    /// Whether it has the blocks that a command names.
+    pub fn has_range(&self, command: &Command) -> bool
+        ensures { result ≡ has_range (device_view self.now) (range_of command.now) }
+    {
+        match command {
+            Command::Disk(DiskCommand::Read(range)) => self.has_blocks(*range),
+            _ => true,
+        }
+    }
+
+    /// Whether it has these blocks. A tape is asked for none.
+    fn has_blocks(&self, range: BlockRange) -> bool
+        ensures { result ≡ has_range (device_view self.now) (Some range) }
+    {
+        match self {
+            Device::Disk(device) => {
+                let blocks = device.disk.block_count();
+                range.first() <= blocks && u64::from(range.count()) <= blocks - range.first()
+            }
+            Device::Tape => true,
+        }
+    }
+}

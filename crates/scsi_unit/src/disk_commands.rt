@@ -1,0 +1,122 @@
+//! The commands to disks.
+
+ghost use Rattle.std.specs.Prelude.{◌≡◌, ◌+◌, ◌*◌, ◌<◌, ◌≤◌, [], length, false, IsTrue, IsOk, IfOk, OnOk, OnErr};
+ghost use Rattle.media_store.specs.Failures.{counted};
+ghost use Rattle.media_block.specs.Blocks.{block_length, data_of};
+ghost use Rattle.scsi_cdb.specs.declared.command.DiskCommand.TheVariants.{Read};
+ghost use Rattle.scsi_unit.specs.Device.{disk_view, Disk as DiskDeviceOf};
+ghost use Rattle.scsi_unit.specs.CameOut.{touches};
+ghost use Rattle.scsi_unit.specs.Checks.{has_range};
+ghost use Rattle.scsi_unit.specs.DiskCommands.{capacity_10 as capacity_10_data, capacity_16 as capacity_16_data, disk_outcome, range_named, touch_of, IsDiskDone, most_given};
+
+use crate::buffers::take;
+use crate::device::DiskDevice;
+use crate::fault::Memory;
+use crate::given::done_with_front;
+use bytes::BytesMut;
+use media_block::{BLOCK_LENGTH, Disk};
+use media_store::{Store, StoreFault};
+use scsi_cdb::{BlockRange, DiskCommand};
+use scsi_sense::{Condition, Done, Sense};
+use std::alloc::Global;
+
+/// READ CAPACITY (10) data of a disk of so many blocks.
+fn capacity_10(block_count: u64) -> [u8; 8]
+    requires { 0 < block_count }
+    ensures { result ≡ capacity_10_data block_count }
+{
+    let last = ((block_count - 1).min(u64::from(u32::MAX)) as u32).to_be_bytes();
+    let length = (BLOCK_LENGTH as u32).to_be_bytes();
+    [
+        last[0], last[1], last[2], last[3], length[0], length[1], length[2], length[3],
+    ]
+}
+
+/// READ CAPACITY (16) data of a disk of so many blocks: no protection information and no provisioning is
+/// reported.
+fn capacity_16(block_count: u64) -> [u8; 32]
+    requires { 0 < block_count }
+    ensures { result ≡ capacity_16_data block_count }
+{
+    let last = (block_count - 1).to_be_bytes();
+    let length = (BLOCK_LENGTH as u32).to_be_bytes();
+    [
+        last[0], last[1], last[2], last[3], last[4], last[5], last[6], last[7], length[0],
+        length[1], length[2], length[3], 0, 0, 0, 0, 0, 0, 0, 0, 0, 0, 0, 0, 0, 0, 0, 0, 0, 0, 0,
+        0,
+    ]
+}
+
+/// Reads blocks into an empty buffer, where it has room for them. The room is not filled before.
+fn read_into<S: Store>(
+    disk: &mut Disk<S>,
+    range: BlockRange,
+    given: &mut BytesMut,
+) -> Result<(), StoreFault>
+    requires range { range.first + range.count ≤ length disk.old.blocks }
+    requires empty { given.old.items ≡ [] }
+    requires room { block_length * range.count ≤ given.old.spare }
+    ensures length { length given.new.items ≡ block_length * range.count }
+    ensures read { OnOk result (IsTrue disk.new.honest → given.new.items ≡ data_of disk.old.blocks range.first range.count) }
+    ensures none { range.count ≡ 0 → IsOk result × (disk.new ≡ disk.old) }
+    ensures back { IsTrue disk.new.honest → IsTrue disk.old.honest }
+    ensures disk { disk.new ≡ record disk.old { failures = counted result disk.old.failures; honest = disk.new.honest } }
+    ensures succeeds { IsTrue disk.old.steady → IsTrue disk.old.honest → IsOk result × (disk.new ≡ disk.old) }
+{
+    let count = u64::from(range.count());
+    given.advance_mut(BLOCK_LENGTH * count as usize);
+    disk.read(range.first(), count, given.as_mut_slice())
+}
+
+impl<S: Store> DiskDevice<S> {
+    /// READ of blocks that the disk has. The room for the data is made first, so that where an allocation
+    /// fails nothing changes. It takes no memory where no block is read.
+    fn read(
+        &mut self,
+        alloc: Global,
+        used: &mut Vec<BytesMut>,
+        range: BlockRange,
+    ) -> Result<Done, Memory>
+        requires { range.first + range.count ≤ length self.old.disk.blocks }
+        ensures done { IfOk result (IsDiskDone (Read range) (disk_view self.old) (disk_view self.new)) }
+        ensures given { IfOk result (λ done. length done.given ≤ most_given) }
+        ensures nothing { (IsTrue (touches (touch_of (Read range))) → IsTrue self.old.disk.honest)
+            → data_of self.old.disk.blocks range.first range.count ≡ [] → IsOk result }
+        ensures err { OnErr result (disk_view self.new ≡ disk_view self.old) }
+    {
+        // So each block has its bytes, where the store is honest.
+        let _ = self.disk.block_count();
+        let mut given = take(alloc, used, BLOCK_LENGTH * range.count() as usize)?;
+        match read_into(&mut self.disk, range, &mut given) {
+            Ok(()) => Ok(Done::good_with(given)),
+            Err(_) => Ok(Done::check_condition(alloc, Sense::new(Condition::UnrecoveredReadError))),
+        }
+    }
+
+    /// A command to the disk, whose blocks it has. Where the store fails it is told so.
+    pub fn carry_out(
+        &mut self,
+        alloc: Global,
+        used: &mut Vec<BytesMut>,
+        command: DiskCommand,
+    ) -> Result<Done, Memory>
+        requires { IsTrue (has_range (DiskDeviceOf (disk_view self.old)) (range_named command)) }
+        ensures done { IfOk result (IsDiskDone command (disk_view self.old) (disk_view self.new)) }
+        ensures given { IfOk result (λ done. length done.given ≤ most_given) }
+        ensures nothing { (IsTrue (touches (touch_of command)) → IsTrue self.old.disk.honest)
+            → (disk_outcome self.old.disk.blocks command).given ≡ [] → IsOk result }
+        ensures err { OnErr result (disk_view self.new ≡ disk_view self.old) }
+    {
+        match command {
+            DiskCommand::Read(range) => self.read(alloc, used, range),
+            DiskCommand::ReadCapacity10 => {
+                let bytes = capacity_10(self.disk.block_count());
+                done_with_front(alloc, &bytes, bytes.len() as u32)
+            }
+            DiskCommand::ReadCapacity16 { allocation_length } => {
+                let bytes = capacity_16(self.disk.block_count());
+                done_with_front(alloc, &bytes, allocation_length)
+            }
+        }
+    }
+}

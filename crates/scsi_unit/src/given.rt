@@ -1,0 +1,36 @@
+//! The data that commands give.
+
+ghost use Rattle.std.specs.Prelude.{◌≡◌, ◌≤◌, [], length, take, IsOk, IfOk};
+ghost use Rattle.scsi_sense.specs.Done.{good_with};
+
+use crate::fault::Memory;
+use bytes::BytesMut;
+use scsi_sense::Done;
+use std::alloc::Global;
+
+/// The bytes in front, so many at most.
+pub(crate) fn front(bytes: &[u8], most: usize) -> &[u8]
+    ensures value { result.now ≡ take most bytes.now }
+    ensures short { length result.now ≤ most }
+{
+    if bytes.len() > most {
+        &bytes[..most]
+    } else {
+        bytes
+    }
+}
+
+/// GOOD with these bytes, of which no more are given than the allocation length. It takes no memory where
+/// none are given.
+pub(crate) fn done_with_front(
+    alloc: Global,
+    bytes: &[u8],
+    allocation_length: u32,
+) -> Result<Done, Memory>
+    ensures done { IfOk result (λ done. done ≡ good_with (take allocation_length bytes.now)) }
+    ensures nothing { take allocation_length bytes.now ≡ [] → IsOk result }
+{
+    let mut given = BytesMut::new(alloc);
+    given.extend_from_slice(front(bytes, allocation_length as usize))?;
+    Ok(Done::good_with(given))
+}

@@ -1,0 +1,49 @@
+//! Logical unit numbers.
+
+ghost use Rattle.std.specs.Prelude.{◌≡◌};
+ghost use Rattle.scsi_unit.specs.Lun.{lun_number};
+
+use std::marker::Model;
+
+/// The number of a logical unit of a target.
+#[derive(Clone, Copy)]
+pub(crate) struct Lun {
+    number: u8,
+}
+
+impl Model for Lun {
+    ghost use Rattle.std.specs.Prelude.{ℕ, refl};
+
+    ghost Value = { ℕ };
+
+    ghost view = { λ lun. lun.number };
+
+    ghost inverse = { λ number. record { number = number } };
+
+    ghost inverse_ok = { λ lun is. refl };
+}
+
+impl Lun {
+    pub fn new(number: u8) -> Lun
+        ensures { result ≡ number }
+    {
+        Lun { number }
+    }
+
+    pub fn number(self) -> u8
+        ensures { result ≡ self }
+    {
+        self.number
+    }
+
+    /// What a LUN field names: byte 1, where all other bytes are zero (SAM-5 "Single level LUN structure").
+    #[tactic(auto, unfolding(crate::specs::Lun::lun_number))]
+    pub fn read(field: [u8; 8]) -> Option<Lun>
+        ensures { result ≡ lun_number field }
+    {
+        match field {
+            [0, number, 0, 0, 0, 0, 0, 0] => Some(Lun { number }),
+            _ => None,
+        }
+    }
+}
