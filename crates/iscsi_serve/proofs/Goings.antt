@@ -71,7 +71,7 @@ read_due m n named c room due does =
     where_due (is_read named c (link_at m.target c)) (HasRead c (room_for (link_at m.target c)) m n) (n ≡ m) due.due
     (subst (λ (room : ℕ). HasRead c room m n) due.is_room does)
 
-fed : (m n : Moment) (c room : ℕ) (piece : List ℕ) (after : Machine) → 0 < length piece → Feeds m.target after
+fed : (m n : Moment) (c room : ℕ) (piece : List ℕ) (after : Machine) → 0 < length piece → Feeds c m.target after
     → n ≡ changed (Read c room (Bytes piece)) after m → HasFed c (Read c room (Bytes piece)) (Bytes piece) m n
 fed m n c room [] after some feeds e = absurd (omega (arith, some))
 fed m n c room (byte ∷ piece) after some feeds e = (after, feeds, e)
@@ -79,7 +79,7 @@ fed m n c room (byte ∷ piece) after some feeds e = (after, feeds, e)
 -- it gave bytes, which were fed
 pub read_some : (log log_then : List Entry) (target after : Machine) (named : Named) (ended : List Bool) (c room : ℕ) (piece : List ℕ)
     → IsDue named c room target → 0 < length piece → length piece ≤ room
-    → log_then ≡ log ++ Read c room (Bytes piece) ∷ [] → Feeds target after → Goes (Reads named c) log log_then target after ended ended
+    → log_then ≡ log ++ Read c room (Bytes piece) ∷ [] → Feeds c target after → Goes (Reads named c) log log_then target after ended ended
 read_some log log_then target after named ended c room piece due some fits e feeds =
     let entry : Entry = Read c room (Bytes piece) in
     one_more (Reads named c) log log_then target after ended ended entry (ended_same ended entry (λ d. and_false (eqb c d))) e

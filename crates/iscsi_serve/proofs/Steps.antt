@@ -51,11 +51,13 @@ waits_in (Some row) (Some life) h =
     ∙ ap (λ (more : List ℕ). row.bytes ++ more) (drop-append_seam row.bytes h.front.0)
     ∙ sym h.front.1
 
-beside : (c : ℕ) (s : Setting) (h : History) (log : List Entry) → AreFronts (written log) (world s h).lives → AreBeside (find (is_on c) (written log)) (present c (world s h))
+beside : (c : ℕ) (s : Setting) (h : History) (log : List Entry) → AreFronts (written log) (world s h).lives
+    → AreBeside (find (is_on c) (written log)) (present c (world s h))
 unfolding present
 beside c s h log fronts = found c (written log) (world s h).lives fronts
 
-served : (s : Setting) (h : History) (log : List Entry) (target : Machine) → map (λ (x : Happening). x.event) h ≡ events log → Stands s (sent_by log) target h → AreFronts (written log) (world s h).lives → IsServed s h log target
+served : (s : Setting) (h : History) (log : List Entry) (target : Machine) → map (λ (x : Happening). x.event) h ≡ events log
+    → Stands s (sent_by log) target h → AreFronts (written log) (world s h).lives → IsServed s h log target
 served s h log target es stands fronts = record {
   events = es;
   stands = stands;
@@ -67,18 +69,21 @@ served s h log target es stands fronts = record {
 }
 
 -- the same with as many bytes sent
-stands_by : (s : Setting) (sent : ℕ → ℕ) (log : List Entry) (target : Machine) (h : History) → ((d : ℕ) → d < connection_limit → sent d ≡ sent_by log d) → Stands s sent target h → Stands s (sent_by log) target h
+stands_by : (s : Setting) (sent : ℕ → ℕ) (log : List Entry) (target : Machine) (h : History)
+    → ((d : ℕ) → d < connection_limit → sent d ≡ sent_by log d) → Stands s sent target h → Stands s (sent_by log) target h
 stands_by s sent log target h same stands = stands_sent s sent (sent_by log) target h same stands
 
 -- the history with one more
-happened_more : (h : History) (log : List Entry) (entry : Entry) (x : Happening) → map (λ (x : Happening). x.event) h ≡ events log → event_of entry ≡ x.event ∷ [] → map (λ (x : Happening). x.event) (h ++ x ∷ []) ≡ events (log ++ entry ∷ [])
+happened_more : (h : History) (log : List Entry) (entry : Entry) (x : Happening) → map (λ (x : Happening). x.event) h ≡ events log
+    → event_of entry ≡ x.event ∷ [] → map (λ (x : Happening). x.event) (h ++ x ∷ []) ≡ events (log ++ entry ∷ [])
 happened_more h log entry x es e =
     map-append (λ (x : Happening). x.event) h (x ∷ []) ∙ ap (λ (all : List Event). all ++ x.event ∷ []) es
     ∙ ap (λ (more : List Event). events log ++ more) (sym e) ∙ sym (events-push log entry)
 
 -- ---- nothing happened, and nothing was written
 
-pub told_served : (s : Setting) (h : History) (log : List Entry) (target : Machine) (entry : Entry) → event_of entry ≡ [] → ((rows : List Written) → written_after rows entry ≡ rows) → IsServed s h log target → IsServed s h (log ++ entry ∷ []) target
+pub told_served : (s : Setting) (h : History) (log : List Entry) (target : Machine) (entry : Entry) → event_of entry ≡ []
+    → ((rows : List Written) → written_after rows entry ≡ rows) → IsServed s h log target → IsServed s h (log ++ entry ∷ []) target
 told_served s h log target entry none quiet v =
     let rows : written (log ++ entry ∷ []) ≡ written log = written-push log entry ∙ quiet (written log) in
     let same : (d : ℕ) → sent_by log d ≡ sent_by (log ++ entry ∷ []) d = λ d.
@@ -102,13 +107,15 @@ none_beside None life h e = refl
 none_beside (Some row) None h e = absurd h
 none_beside (Some row) (Some life) h e = absurd cc
 
-pub open_served : (s : Setting) (h : History) (log : List Entry) (target after : Machine) (c : ℕ) → is_number c ≡ true → present c (world s h) ≡ None → IsServed s h log target
+pub open_served : (s : Setting) (h : History) (log : List Entry) (target after : Machine) (c : ℕ) → is_number c ≡ true
+    → present c (world s h) ≡ None → IsServed s h log target
     → Stands s (with_sent (sent_by log) c 0) after (h ++ plain (history.Open c) ∷ []) → IsServed s (h ++ plain (history.Open c) ∷ []) (log ++ Open c ∷ []) after
 open_served s h log target after c number free v stands =
     let entry : written_after (written log) (Open c) ≡ written log ++ nothing_written c ∷ [] = cond_true (is_number c) _ _ number in
     let rows : written (log ++ Open c ∷ []) ≡ written log ++ nothing_written c ∷ [] = written-push log (Open c) ∙ entry in
     let on : (d : ℕ) → written_on d (log ++ Open c ∷ []) ≡ written_on d log = λ d.
-    on-push d log (Open c) ∙ ap (λ (rows : List Written). bytes_in (find (is_on d) rows)) entry ∙ found_more (is_on d) (written log) (nothing_written c) (nothing_in d c) ∙ sym (on-is d log) in
+    on-push d log (Open c) ∙ ap (λ (rows : List Written). bytes_in (find (is_on d) rows)) entry
+    ∙ found_more (is_on d) (written log) (nothing_written c) (nothing_in d c) ∙ sym (on-is d log) in
     let none : written_on c log ≡ [] = on-is c log ∙ none_beside (find (is_on c) (written log)) (present c (world s h)) (beside c s h log v.fronts) free in
     let same : (d : ℕ) → with_sent (sent_by log) c 0 d ≡ sent_by (log ++ Open c ∷ []) d = λ d.
     elim (eqb_tells d c) [
@@ -119,11 +126,13 @@ open_served s h log target after c number free v stands =
     (happened_more h log (Open c) (plain (history.Open c)) v.events (cond_true (is_number c) _ _ number))
     (stands_by s (with_sent (sent_by log) c 0) (log ++ Open c ∷ []) after (h ++ plain (history.Open c) ∷ []) (λ d lt. same d) stands)
     (subst (λ (rows : List Written). AreFronts rows (world s (h ++ plain (history.Open c) ∷ [])).lives) (sym rows)
-    (subst (AreFronts (written log ++ nothing_written c ∷ [])) (sym (lives-open s h c)) (fronts_more (written log) (world s h).lives (nothing_written c) (born c) v.fronts (born_front c))))
+    (subst (AreFronts (written log ++ nothing_written c ∷ [])) (sym (lives-open s h c))
+    (fronts_more (written log) (world s h).lives (nothing_written c) (born c) v.fronts (born_front c))))
 
 -- ---- bytes come
 
-pub read_served : (s : Setting) (h : History) (log : List Entry) (target after : Machine) (c room byte : ℕ) (piece : List ℕ) (marks : List Mark) → IsServed s h log target
+pub read_served : (s : Setting) (h : History) (log : List Entry) (target after : Machine) (c room byte : ℕ) (piece : List ℕ) (marks : List Mark)
+    → IsServed s h log target
     → Stands s (sent_by log) after (h ++ marked marks (history.Bytes c (byte ∷ piece)) ∷ [])
     → IsServed s (h ++ marked marks (history.Bytes c (byte ∷ piece)) ∷ []) (log ++ Read c room (Bytes (byte ∷ piece)) ∷ []) after
 read_served s h log target after c room byte piece marks v stands =
@@ -138,12 +147,14 @@ read_served s h log target after c room byte piece marks v stands =
 
 -- ---- bytes are written
 
-more_beside : (piece more : List ℕ) (o : Option Written) (life : Option Life) → AreBeside o life → bytes_in o ++ (piece ++ more) ≡ out_now life → HasMore piece o life
+more_beside : (piece more : List ℕ) (o : Option Written) (life : Option Life) → AreBeside o life → bytes_in o ++ (piece ++ more) ≡ out_now life
+    → HasMore piece o life
 more_beside piece more None life h e = tt
 more_beside piece more (Some row) None h e = tt
 more_beside piece more (Some row) (Some life) h e = (more, sym e ∙ sym (append_assoc row.bytes piece more))
 
-more_now : (c : ℕ) (s : Setting) (h : History) (piece more : List ℕ) (log : List Entry) → bytes_in (find (is_on c) (written log)) ++ (piece ++ more) ≡ out_now (present c (world s h))
+more_now : (c : ℕ) (s : Setting) (h : History) (piece more : List ℕ) (log : List Entry) → bytes_in (find (is_on c) (written log))
+    ++ (piece ++ more) ≡ out_now (present c (world s h))
     → AreBeside (find (is_on c) (written log)) (present c (world s h)) → HasMore piece (find (is_on c) (written log)) (find (is_present c) (world s h).lives)
 unfolding present
 more_now c s h piece more log whole near = more_beside piece more (find (is_on c) (written log)) (find (is_present c) (world s h).lives) near whole
@@ -152,13 +163,15 @@ piece_count : (piece : List ℕ) (o : Option Written) (life : Life) → AreBesid
 piece_count piece None life h = absurd h
 piece_count piece (Some row) life h = length-append row.bytes piece
 
-pub wrote_served : (s : Setting) (h : History) (log : List Entry) (target after : Machine) (c offered : ℕ) (piece more : List ℕ) (life : Life) → c < connection_limit → present c (world s h) ≡ Some life → (link_at target c).waiting ≡ piece ++ more → IsServed s h log target
+pub wrote_served : (s : Setting) (h : History) (log : List Entry) (target after : Machine) (c offered : ℕ) (piece more : List ℕ) (life : Life)
+    → c < connection_limit → present c (world s h) ≡ Some life → (link_at target c).waiting ≡ piece ++ more → IsServed s h log target
     → Stands s (with_sent (sent_by log) c (sent_by log c + length piece)) after h → IsServed s h (log ++ Wrote c offered (Bytes piece) ∷ []) after
 wrote_served s h log target after c offered piece more life lt there waiting v stands =
     let entry : Entry = Wrote c offered (Bytes piece) in
     let near : AreBeside (find (is_on c) (written log)) (present c (world s h)) = beside c s h log v.fronts in
     let whole : bytes_in (find (is_on c) (written log)) ++ (piece ++ more) ≡ out_now (present c (world s h)) =
-    ap (λ (bytes : List ℕ). bytes ++ (piece ++ more)) (sym (on-is c log)) ∙ ap (λ (waiting : List ℕ). written_on c log ++ waiting) (sym waiting) ∙ v.waits c lt in
+    ap (λ (bytes : List ℕ). bytes ++ (piece ++ more)) (sym (on-is c log)) ∙ ap (λ (waiting : List ℕ). written_on c log ++ waiting) (sym waiting)
+    ∙ v.waits c lt in
     let count : length (with_piece piece (find (is_on c) (written log))) ≡ length (bytes_in (find (is_on c) (written log))) + length piece =
     piece_count piece (find (is_on c) (written log)) life (subst (AreBeside (find (is_on c) (written log))) there near) in
     let same : (d : ℕ) → with_sent (sent_by log) c (sent_by log c + length piece) d ≡ sent_by (log ++ entry ∷ []) d = λ d.
@@ -183,7 +196,8 @@ unfolding end
 lives-gone s h c = ap (λ (w : World). w.lives) (world-push s h (plain (history.Gone c)))
 
 pub close_served : (s : Setting) (h : History) (log : List Entry) (target after : Machine) (c : ℕ) → is_number c ≡ true → IsServed s h log target
-    → Stands s (with_sent (sent_by log) c 0) after (h ++ plain (history.Gone c) ∷ []) → IsServed s (h ++ plain (history.Gone c) ∷ []) (log ++ Close c ∷ []) after
+    → Stands s (with_sent (sent_by log) c 0) after (h ++ plain (history.Gone c) ∷ [])
+    → IsServed s (h ++ plain (history.Gone c) ∷ []) (log ++ Close c ∷ []) after
 close_served s h log target after c number v stands =
     let entry : written_after (written log) (Close c) ≡ map (closed_row c) (written log) = cond_true (is_number c) _ _ number in
     let rows : written (log ++ Close c ∷ []) ≡ map (closed_row c) (written log) = written-push log (Close c) ∙ entry in
@@ -191,7 +205,8 @@ close_served s h log target after c number v stands =
     on-push d log (Close c) ∙ ap (λ (rows : List Written). bytes_in (find (is_on d) rows)) entry in
     let same : (d : ℕ) → with_sent (sent_by log) c 0 d ≡ sent_by (log ++ Close c ∷ []) d = λ d.
     elim (eqb_tells d c) [
-      | inl e ↦ rw e.1 (sent_here (sent_by log) c 0 ∙ ap (λ (o : Option Written). length (bytes_in o)) (sym (none_closed c (written log))) ∙ ap length (sym (on c)))
+      | inl e ↦ rw e.1 (sent_here (sent_by log) c 0 ∙ ap (λ (o : Option Written). length (bytes_in o)) (sym (none_closed c (written log)))
+          ∙ ap length (sym (on c)))
       | inr differ ↦ sent_there (sent_by log) c 0 d differ.1 ∙ ap length (on-is d log ∙ sym (other_closed c d (written log) differ.1) ∙ sym (on d))
     ] in
     served s (h ++ plain (history.Gone c) ∷ []) (log ++ Close c ∷ []) after

@@ -64,7 +64,7 @@ room_for link = min (want_of link) 65536
 
 -- what a read gave is fed
 abbrev pub HasFed : ℕ → Entry → Carried → Moment → Moment → Type 0
-HasFed c entry (Bytes (byte ∷ piece)) m n = (after : Machine) × Feeds m.target after × (n ≡ changed entry after m)
+HasFed c entry (Bytes (byte ∷ piece)) m n = (after : Machine) × Feeds c m.target after × (n ≡ changed entry after m)
 HasFed c entry _ m n = n ≡ told entry m
 
 abbrev pub piece_in : Carried → List ℕ

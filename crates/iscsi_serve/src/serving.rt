@@ -55,12 +55,13 @@ fn accept_one<P: Ports, S: Store>(ports: &mut P, target: &mut Target<S>) -> Resu
     Ok(())
 }
 
-/// Feeds a connection. Where an allocation fails it is closing from then on, and the others go on.
+/// Feeds a connection. Where an allocation fails the connection that the target names is closing from then on, and the others
+/// go on.
 fn feed<S: Store>(target: &mut Target<S>, c: usize, piece: &[u8])
     requires in_range { c < 64 }
     requires open { is_open_at target.old c ≡ true }
     ensures stands { IsSound target.new → StandsFed c piece.now target.old target.new }
-    ensures feeds { Feeds target.old target.new }
+    ensures feeds { Feeds c target.old target.new }
     ensures sound { IsSound target.new → IsSound target.old }
     ensures sure { IsSure target.old → IsSure target.new }
 {

@@ -29,7 +29,8 @@ map-enumerate n [] = refl
 map-enumerate n (x ∷ xs) = ap (λ t. x ∷ t) (map-enumerate (n + 1) xs)
 
 -- a fold over what stands at places, in two parts
-pub fold-places : {W X : Type 0} (f : W → ℕ × X → W) (w : W) (n : ℕ) (xs ys : List X) → fold f w (enumerate_from n (xs ++ ys)) ≡ fold f (fold f w (enumerate_from n xs)) (enumerate_from (n + length xs) ys)
+pub fold-places : {W X : Type 0} (f : W → ℕ × X → W) (w : W) (n : ℕ) (xs ys : List X)
+    → fold f w (enumerate_from n (xs ++ ys)) ≡ fold f (fold f w (enumerate_from n xs)) (enumerate_from (n + length xs) ys)
 fold-places f w n xs ys = ap (fold f w) (enumerate-append n xs ys) ∙ fold-append f w (enumerate_from n xs) (enumerate_from (n + length xs) ys)
 
 -- ---- arrivals
@@ -48,7 +49,8 @@ pub joined_arrivals : (bytes piece : List ℕ) → is_long (rest bytes) ≡ fals
 joined_arrivals bytes piece e = rw (short_arrivals bytes e) (joined_frames bytes piece)
 
 -- what a piece brings is what the rest brings with it, behind the arrivals before
-pub new_is : (bytes piece : List ℕ) → is_long (rest bytes) ≡ false → new_arrivals bytes piece ≡ enumerate_from (length (arrivals bytes)) (arrivals (rest bytes ++ piece))
+pub new_is : (bytes piece : List ℕ) → is_long (rest bytes) ≡ false → new_arrivals bytes piece
+    ≡ enumerate_from (length (arrivals bytes)) (arrivals (rest bytes ++ piece))
 unfolding new_arrivals
 new_is bytes piece e =
     let n = length (arrivals bytes) in
@@ -60,4 +62,5 @@ new_is bytes piece e =
 
 pub in_pieces : (bytes piece : List ℕ) → is_long (rest bytes) ≡ false → arrivals (bytes ++ piece) ≡ arrivals bytes ++ map (λ a. a.1) (new_arrivals bytes piece)
 in_pieces bytes piece e =
-    joined_arrivals bytes piece e ∙ ap (λ t. arrivals bytes ++ t) (sym (ap (map (λ a. a.1)) (new_is bytes piece e) ∙ map-enumerate (length (arrivals bytes)) (arrivals (rest bytes ++ piece))))
+    joined_arrivals bytes piece e ∙ ap (λ t. arrivals bytes ++ t) (sym (ap (map (λ a. a.1)) (new_is bytes piece e)
+    ∙ map-enumerate (length (arrivals bytes)) (arrivals (rest bytes ++ piece))))

@@ -48,10 +48,16 @@ pub record IsWaiting (reply : Reply) (old : LinkState) (response : LoginResponse
 some_is : {X : Type 0} (x y : X) → Some x ≡ Some y → x ≡ y
 some_is x y e = cc
 
-pub waits : (reply : Reply) (after : LoginState) (old new : LinkState) (response : LoginResponse) (session : Params) → IsAnswered reply after old (Some (response, session)) new → IsWaiting reply old response session new
+pub waits : (reply : Reply) (after : LoginState) (old new : LinkState) (response : LoginResponse) (session : Params)
+    → IsAnswered reply after old (Some (response, session)) new → IsWaiting reply old response session new
 waits (GoOn r) after old new response session h = let no = h.0 in absurd cc
 waits (Refused r) after old new response session h = let no = h.0 in absurd cc
-waits (Full r s) after old new response session h = record { reply_is = ap (λ (p : LoginResponse × Params). Full p.0 p.1) (some_is (r, s) (response, session) (sym h.0)); same = h.1; logging_in = h.2 }
+waits (Full r s) after old new response session h = record {
+  reply_is =
+      ap (λ (p : LoginResponse × Params). Full p.0 p.1) (some_is (r, s) (response, session) (sym h.0));
+  same = h.1;
+  logging_in = h.2;
+}
 
 -- ---- the machine with that connection
 
@@ -59,38 +65,55 @@ pub link_there : (machine : Machine) (c : ℕ) (link : LinkState) → c < length
 link_there machine c link lt = get_or-set_same machine.links c link free_link lt
 
 -- closing it is closing the connection as it was
-pub closed_alike : (machine : Machine) (c : ℕ) (link : LinkState) → c < length machine.links → link.waiting ≡ (link_at machine c).waiting → session_in_phase link.phase ≡ None → is_logging_in (link_at machine c).phase ≡ true → closed (with_link machine c link) c ≡ closed machine c
+pub closed_alike : (machine : Machine) (c : ℕ) (link : LinkState) → c < length machine.links → link.waiting ≡ (link_at machine c).waiting
+    → session_in_phase link.phase ≡ None → is_logging_in (link_at machine c).phase ≡ true → closed (with_link machine c link) c ≡ closed machine c
 unfolding closed
 closed_alike machine c link lt waiting none logs =
     let there = link_there machine c link lt in
     let was = no_session (link_at machine c).phase logs in
     let links : set (set machine.links c link) c (shut_link (link_at (with_link machine c link) c)) ≡ set machine.links c (shut_link (link_at machine c)) =
-    ap (λ (l : LinkState). set (set machine.links c link) c (shut_link l)) there ∙ set-set machine.links c link (shut_link link) ∙ ap (λ (w : List ℕ). set machine.links c (record { half = (shut_link link).half; phase = Closing; waiting = w })) waiting in
-    let units : left (session_in_phase (link_at (with_link machine c link) c).phase) machine.units ≡ left (session_in_phase (link_at machine c).phase) machine.units =
+    ap (λ (l : LinkState). set (set machine.links c link) c (shut_link l)) there ∙ set-set machine.links c link (shut_link link)
+    ∙ ap (λ (w : List ℕ). set machine.links c (record { half = (shut_link link).half; phase = Closing; waiting = w })) waiting in
+    let units : left (session_in_phase (link_at (with_link machine c link) c).phase) machine.units
+    ≡ left (session_in_phase (link_at machine c).phase) machine.units =
     ap (λ (l : LinkState). left (session_in_phase l.phase) machine.units) there ∙ ap (λ (o : Option Params). left o machine.units) (none ∙ sym was) in
-    ap (λ (ls : List LinkState). record { names = machine.names; units = left (session_in_phase (link_at (with_link machine c link) c).phase) machine.units; links = ls }) links
+    ap (λ (ls : List LinkState). record {
+      names = machine.names;
+      units =
+          left (session_in_phase (link_at (with_link machine c link) c).phase) machine.units;
+      links = ls;
+    }) links
     ∙ ap (λ (us : List UnitStates). record { names = machine.names; units = us; links = set machine.links c (shut_link (link_at machine c)) }) units
 
 set_own : {X : Type 0} (xs : List X) (i : ℕ) (x d : X) → get_or xs i d ≡ x → i < length xs → set xs i x ≡ xs
 set_own xs i x d e lt = rw (← e) (set-get_or xs i d)
 
 -- its session begins as on the connection as it was
-pub begun_alike : (machine : Machine) (c : ℕ) (link : LinkState) (session : Params) (answer : Answer) → c < length machine.links → link ≡ record (link_at machine c) { phase = link.phase } → is_logging_in link.phase ≡ true → is_logging_in (link_at machine c).phase ≡ true
+pub begun_alike : (machine : Machine) (c : ℕ) (link : LinkState) (session : Params) (answer : Answer) → c < length machine.links
+    → link ≡ record (link_at machine c) { phase = link.phase } → is_logging_in link.phase ≡ true → is_logging_in (link_at machine c).phase ≡ true
     → begun session answer c (with_link machine c link) ≡ begun session answer c machine
 begun_alike machine c link session answer lt same now was =
     let there = link_there machine c link lt in
     let units = changed_units (join session.nexus) session.target machine.units in
     let live : sessions (set machine.links c link) ≡ sessions machine.links =
-    map-set (λ (l : LinkState). session_in_phase l.phase) machine.links c link ∙ ap (λ (o : Option Params). set (sessions machine.links) c o) (no_session link.phase now)
-    ∙ set_own (sessions machine.links) c None None (get_or-map (λ (l : LinkState). session_in_phase l.phase) machine.links c free_link None lt ∙ no_session (link_at machine c).phase was) (rw length-map lt) in
-    let begins : begun_link session answer (link_at (with_link machine c link) c) ≡ begun_link session answer (link_at machine c) = ap (begun_link session answer) (there ∙ same) in
-    let links : set (set machine.links c link) c (begun_link session answer (link_at (with_link machine c link) c)) ≡ set machine.links c (begun_link session answer (link_at machine c)) =
+    map-set (λ (l : LinkState). session_in_phase l.phase) machine.links c link
+    ∙ ap (λ (o : Option Params). set (sessions machine.links) c o) (no_session link.phase now)
+    ∙ set_own (sessions machine.links) c None None (get_or-map (λ (l : LinkState). session_in_phase l.phase) machine.links c free_link None lt
+    ∙ no_session (link_at machine c).phase was) (rw length-map lt) in
+    let begins : begun_link session answer (link_at (with_link machine c link) c) ≡ begun_link session answer (link_at machine c) =
+    ap (begun_link session answer) (there ∙ same) in
+    let links : set (set machine.links c link) c (begun_link session answer (link_at (with_link machine c link) c))
+    ≡ set machine.links c (begun_link session answer (link_at machine c)) =
     set-set machine.links c link _ ∙ ap (set machine.links c) begins in
-    ap (λ (ls : List LinkState). shut_older (older session (sessions (set machine.links c link))) (record { names = machine.names; units = units; links = ls })) links
-    ∙ ap (λ (all : List (Option Params)). shut_older (older session all) (record { names = machine.names; units = units; links = set machine.links c (begun_link session answer (link_at machine c)) })) live
+    ap (λ (ls : List LinkState). shut_older (older session (sessions (set machine.links c link)))
+    (record { names = machine.names; units = units; links = ls })) links
+    ∙ ap (λ (all : List (Option Params)). shut_older (older session all)
+    (record { names = machine.names; units = units; links = set machine.links c (begun_link session answer (link_at machine c)) })) live
 
 -- the answer to a Login request, where full feature phase begins
-pub begun_by_request : (machine : Machine) (c : ℕ) (login : LoginState) (request : Frame) (session : Params) (response : LoginResponse) → reply_of login (lookup_for machine.names (sessions machine.links) request) request ≡ Full response session → begun session (answers.LoginResponse response) c machine ≡ logged_in machine c login request
+pub begun_by_request : (machine : Machine) (c : ℕ) (login : LoginState) (request : Frame) (session : Params) (response : LoginResponse)
+    → reply_of login (lookup_for machine.names (sessions machine.links) request) request ≡ Full response session
+    → begun session (answers.LoginResponse response) c machine ≡ logged_in machine c login request
 unfolding logged_in
 begun_by_request machine c login request session response e = rw e refl
 

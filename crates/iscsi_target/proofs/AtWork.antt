@@ -55,13 +55,15 @@ pub last_there : (m : Mark) (old front : List Mark) → list_any (is_same m) (ol
 last_there m old front =
     list_any-append (is_same m) old (front ++ m ∷ [])
     ∙ ap (λ (b : Bool). list_any (is_same m) old || b)
-    (list_any-append (is_same m) front (m ∷ []) ∙ ap (λ (b : Bool). list_any (is_same m) front || (b || false)) (same_self m) ∙ or_true (list_any (is_same m) front))
+    (list_any-append (is_same m) front (m ∷ []) ∙ ap (λ (b : Bool). list_any (is_same m) front || (b || false)) (same_self m)
+    ∙ or_true (list_any (is_same m) front))
     ∙ or_true (list_any (is_same m) old)
 
 abbrev points : ℕ → List Step → List Mark
 points c steps = map (λ (point : Point). mark_at c point) (map Before steps)
 
-reached_on : (failed : Option (ℕ → Step)) (c place : ℕ) (work : Work) (w : World) → IsReached failed place work → are_reached (marks_of c failed place) (worked_on c work w) ≡ true
+reached_on : (failed : Option (ℕ → Step)) (c place : ℕ) (work : Work) (w : World) → IsReached failed place work
+    → are_reached (marks_of c failed place) (worked_on c work w) ≡ true
 unfolding changed
 reached_on None c place work w r = refl
 reached_on (Some step) c place work w r =
@@ -69,13 +71,16 @@ reached_on (Some step) c place work w r =
     let split : points c work.reached ≡ points c r.0 ++ m ∷ [] =
     ap (points c) r.1 ∙ ap (map (λ (point : Point). mark_at c point)) (map-append Before r.0 (step place ∷ []))
     ∙ map-append (λ (point : Point). mark_at c point) (map Before r.0) (Before (step place) ∷ []) in
-    let here : list_any (is_same m) (w.reached ++ points c work.reached) ≡ true = ap (λ (l : List Mark). list_any (is_same m) (w.reached ++ l)) split ∙ last_there m w.reached (points c r.0) in
+    let here : list_any (is_same m) (w.reached ++ points c work.reached) ≡ true =
+    ap (λ (l : List Mark). list_any (is_same m) (w.reached ++ l)) split ∙ last_there m w.reached (points c r.0) in
     ap (λ (b : Bool). b && true) here
 
-reached_by : (b : Bool) (failed : Option (ℕ → Step)) (c place : ℕ) (work : Work) (w : World) → work.goes_on ≡ b → IsReached failed place work → are_reached (marks_of c failed place) (worked c work w) ≡ true
+reached_by : (b : Bool) (failed : Option (ℕ → Step)) (c place : ℕ) (work : Work) (w : World) → work.goes_on ≡ b → IsReached failed place work
+    → are_reached (marks_of c failed place) (worked c work w) ≡ true
 unfolding worked
 reached_by true failed c place work w e r = rw e (reached_on failed c place work w r)
-reached_by false failed c place work w e r = rw e (still_reached (marks_of c failed place) (worked_on c work w) (close c (worked_on c work w)) (on-close c (worked_on c work w)) (reached_on failed c place work w r))
+reached_by false failed c place work w e r = rw e (still_reached (marks_of c failed place) (worked_on c work w) (close c (worked_on c work w))
+    (on-close c (worked_on c work w)) (reached_on failed c place work w r))
 
 -- ---- the call
 
@@ -90,17 +95,20 @@ pub record Calls (run : (Step → Bool) → ℕ → Work → Work) (failed : Opt
   pub phase : (link_at given c).phase ≡ phases.FullFeature state
   pub target : slice_index_or given.units state.params.target [] ≡ units
   pub runs : IsSound after → Runs run failed goes_on state then_ (link_at given c).waiting waiting units units_then
-  pub is : after ≡ left_by goes_on c (record (with_link given c (session_link then_ waiting (link_at given c))) { units = slice_set given.units state.params.target units_then })
+  pub is : after ≡ left_by goes_on c (record (with_link given c (session_link then_ waiting (link_at given c)))
+      { units = slice_set given.units state.params.target units_then })
 
 params_same : (past : Past) → (remembered past).params ≡ past.params
 params_same past = refl
 
-lawful_there : (s : Setting) (sent : ℕ → ℕ) (half : ℕ → List ℕ) (w : World) (machine : Machine) (c : ℕ) (past : Past) → c < connection_limit → Serves s sent half w machine → IsAtWork w c past → IsLawful past
+lawful_there : (s : Setting) (sent : ℕ → ℕ) (half : ℕ → List ℕ) (w : World) (machine : Machine) (c : ℕ) (past : Past) → c < connection_limit
+    → Serves s sent half w machine → IsAtWork w c past → IsLawful past
 lawful_there s sent half w machine c past lt h a =
     let quiet : IsQuiet (Some a.life) = (let q = h.quiet c lt in rw a.at at q) in
     subst IsQuietIn a.phase quiet
 
-starts : (s : Setting) (sent : ℕ → ℕ) (half : ℕ → List ℕ) (w : World) (machine : Machine) (c : ℕ) (past : Past) (state : SessionState) (units : UnitStates) → c < connection_limit → Serves s sent half w machine → IsAtWork w c past
+starts : (s : Setting) (sent : ℕ → ℕ) (half : ℕ → List ℕ) (w : World) (machine : Machine) (c : ℕ) (past : Past) (state : SessionState)
+    (units : UnitStates) → c < connection_limit → Serves s sent half w machine → IsAtWork w c past
     → state ≡ remembered past → slice_index_or machine.units state.params.target [] ≡ units → Starts (work_of past w) state units
 starts s sent half w machine c past state units lt h a is target = record {
   lawful = lawful_there s sent half w machine c past lt h a;
@@ -111,9 +119,12 @@ starts s sent half w machine c past state units lt h a is target = record {
   goes_on = refl;
 }
 
-pub call_does : (kind : ℕ → Mark → Bool) (act : Act) (run : (Step → Bool) → ℕ → Work → Work) (failed : Option (ℕ → Step)) (goes_on : Bool) (c : ℕ) (given after : Machine) → (k : Calls run failed goes_on c given after)
-    → ((s : Setting) (marks : List Mark) (place : ℕ) (w : World) (past : Past) → past_of (present c w) ≡ Some past → past.params ≡ k.state.params → act s marks place w ≡ worked c (run (fails marks c) place (work_of past w)) w)
-    → ((place : ℕ) (marks : List Mark) (work : Work) → Agrees (kind place) marks (marks_of c failed place) → run (fails marks c) place work ≡ run (is_failed failed place) place work)
+pub call_does : (kind : ℕ → Mark → Bool) (act : Act) (run : (Step → Bool) → ℕ → Work → Work) (failed : Option (ℕ → Step)) (goes_on : Bool) (c : ℕ)
+    (given after : Machine) → (k : Calls run failed goes_on c given after)
+    → ((s : Setting) (marks : List Mark) (place : ℕ) (w : World) (past : Past) → past_of (present c w) ≡ Some past → past.params ≡ k.state.params
+    → act s marks place w ≡ worked c (run (fails marks c) place (work_of past w)) w)
+    → ((place : ℕ) (marks : List Mark) (work : Work) → Agrees (kind place) marks (marks_of c failed place)
+    → run (fails marks c) place work ≡ run (is_failed failed place) place work)
     → ((place : ℕ) → list_all (kind place) (marks_of c failed place) ≡ true)
     → Does kind act kept (starved_if failed c) given after
 call_does kind act run failed goes_on c given after k acts agrees of_kind = record {
@@ -133,56 +144,68 @@ call_does kind act run failed goes_on c given after k acts agrees of_kind = reco
       let is : act s marks place w ≡ worked c work w =
       acts s marks place w past (past_at w c past there.1) params ∙ ap (λ (x : Work). worked c x w) (agrees place marks (work_of past w) agree) in
       let serves = serves_worked s sent half w given c past work k.then_ k.waiting k.units_then goes_on k.in_range h there.1 leaves ends in
-      let same = k.is ∙ ap (λ (p : Params). left_by goes_on c (record (with_link given c (session_link k.then_ k.waiting (link_at given c))) { units = slice_set given.units p.target k.units_then })) (sym params) in
+      let same = k.is ∙ ap (λ (p : Params). left_by goes_on c (record (with_link given c (session_link k.then_ k.waiting (link_at given c)))
+      { units = slice_set given.units p.target k.units_then })) (sym params) in
       rw (is, same) (serves, reached_by goes_on failed c place work w ends reached));
 }
 
 -- ---- the two calls
 
-step_there : (kind : ℕ → Mark → Bool) (failed : Option (ℕ → Step)) (c place : ℕ) (marks : List Mark) (step : Step) → Agrees (kind place) marks (marks_of c failed place) → kind place (mark_at c (Before step)) ≡ true
+step_there : (kind : ℕ → Mark → Bool) (failed : Option (ℕ → Step)) (c place : ℕ) (marks : List Mark) (step : Step)
+    → Agrees (kind place) marks (marks_of c failed place) → kind place (mark_at c (Before step)) ≡ true
     → fails marks c step ≡ is_failed failed place step
 step_there kind failed c place marks step agree is = agree (mark_at c (Before step)) is ∙ failed_as failed c place step
 
-pub serve_agrees : (failed : Option (ℕ → Step)) (c : ℕ) (frame : Frame) (place : ℕ) (marks : List Mark) (work : Work) → Agrees (is_taken_at place) marks (marks_of c failed place)
+pub serve_agrees : (failed : Option (ℕ → Step)) (c : ℕ) (frame : Frame) (place : ℕ) (marks : List Mark) (work : Work)
+    → Agrees (is_taken_at place) marks (marks_of c failed place)
     → served (fails marks c) place frame work ≡ served (is_failed failed place) place frame work
 serve_agrees failed c frame place marks work agree =
     served_agrees (fails marks c) (is_failed failed place) place frame work
     (step_there is_taken_at failed c place marks (Judging place) agree (rw (eqb_self place) refl))
     (λ k. step_there is_taken_at failed c place marks (Taking place k) agree (rw (eqb_self place) refl))
 
-pub settle_agrees : (failed : Option (ℕ → Step)) (c place : ℕ) (marks : List Mark) (work : Work) → Agrees (is_done_by c place) marks (marks_of c failed place) → settled (fails marks c) place work ≡ settled (is_failed failed place) place work
+pub settle_agrees : (failed : Option (ℕ → Step)) (c place : ℕ) (marks : List Mark) (work : Work)
+    → Agrees (is_done_by c place) marks (marks_of c failed place) → settled (fails marks c) place work ≡ settled (is_failed failed place) place work
 settle_agrees failed c place marks work agree =
     settled_agrees (fails marks c) (is_failed failed place) place work
     (λ k. step_there (is_done_by c) failed c place marks (Doing place k) agree (rw (eqb_self c, eqb_self place) refl))
 
-serve_acts : (c : ℕ) (frame : Frame) (marks : List Mark) (place : ℕ) (w : World) (past : Past) → past_of (present c w) ≡ Some past → take_in marks c place frame w ≡ worked c (served (fails marks c) place frame (work_of past w)) w
+serve_acts : (c : ℕ) (frame : Frame) (marks : List Mark) (place : ℕ) (w : World) (past : Past) → past_of (present c w) ≡ Some past
+    → take_in marks c place frame w ≡ worked c (served (fails marks c) place frame (work_of past w)) w
 unfolding take_in
 serve_acts c frame marks place w past at = ap (λ (o : Option Past). served_by o marks c place frame w) at
 
-settle_acts : (c target : ℕ) (marks : List Mark) (place : ℕ) (w : World) (past : Past) → past_of (present c w) ≡ Some past → past.params.target ≡ target → settle_one marks place target w c ≡ worked c (settled (fails marks c) place (work_of past w)) w
+settle_acts : (c target : ℕ) (marks : List Mark) (place : ℕ) (w : World) (past : Past) → past_of (present c w) ≡ Some past
+    → past.params.target ≡ target → settle_one marks place target w c ≡ worked c (settled (fails marks c) place (work_of past w)) w
 unfolding settle_one
 settle_acts c target marks place w past at same =
     ap (λ (o : Option Past). settled_by o marks place target c w) at
     ∙ cond_true (eqb past.params.target target) _ w (ap (λ (t : ℕ). eqb t target) same ∙ eqb_self target)
 
 -- a frame was served by the session of a connection
-pub serves_does : (failed : Option (ℕ → Step)) (goes_on : Bool) (c : ℕ) (frame : Frame) (given after : Machine) → Calls (λ f place. served f place frame) failed goes_on c given after
+pub serves_does : (failed : Option (ℕ → Step)) (goes_on : Bool) (c : ℕ) (frame : Frame) (given after : Machine)
+    → Calls (λ f place. served f place frame) failed goes_on c given after
     → ((place : ℕ) → list_all (is_taken_at place) (marks_of c failed place) ≡ true)
     → Does is_taken_at (λ s marks place w. take_in marks c place frame w) kept (starved_if failed c) given after
 serves_does failed goes_on c frame given after k of_kind =
     call_does is_taken_at (λ s marks place w. take_in marks c place frame w) (λ f place. served f place frame) failed goes_on c given after k
-    (λ s marks place w past at params. serve_acts c frame marks place w past at) (λ place marks work agree. serve_agrees failed c frame place marks work agree) of_kind
+    (λ s marks place w past at params. serve_acts c frame marks place w past at)
+    (λ place marks work agree. serve_agrees failed c frame place marks work agree) of_kind
 
 -- its commands were done
-pub settles_does : (failed : Option (ℕ → Step)) (goes_on : Bool) (c target : ℕ) (given after : Machine) → (k : Calls settled failed goes_on c given after) → k.state.params.target ≡ target
+pub settles_does : (failed : Option (ℕ → Step)) (goes_on : Bool) (c target : ℕ) (given after : Machine)
+    → (k : Calls settled failed goes_on c given after) → k.state.params.target ≡ target
     → ((place : ℕ) → list_all (is_done_by c place) (marks_of c failed place) ≡ true) → SettlesOne target c (starved_if failed c) given after
 settles_does failed goes_on c target given after k same of_kind =
     call_does (is_done_by c) (λ s marks place w. settle_one marks place target w c) settled failed goes_on c given after k
-    (λ s marks place w past at params. settle_acts c target marks place w past at (ap (λ (p : Params). p.target) params ∙ same)) (λ place marks work agree. settle_agrees failed c place marks work agree) of_kind
+    (λ s marks place w past at params. settle_acts c target marks place w past at (ap (λ (p : Params). p.target) params ∙ same))
+    (λ place marks work agree. settle_agrees failed c place marks work agree) of_kind
 
 -- the one mark of a call that stopped is of its kind
-pub serve_kind : (c : ℕ) (step : ℕ → Step) → ((place : ℕ) → is_of place (step place) ≡ true) → ((place : ℕ) → is_serving (step place) ≡ true) → (place : ℕ) → list_all (is_taken_at place) (marks_of c (Some step) place) ≡ true
+pub serve_kind : (c : ℕ) (step : ℕ → Step) → ((place : ℕ) → is_of place (step place) ≡ true) → ((place : ℕ) → is_serving (step place) ≡ true)
+    → (place : ℕ) → list_all (is_taken_at place) (marks_of c (Some step) place) ≡ true
 serve_kind c step of_frame of_kind place = rw (of_frame place, of_kind place) refl
 
-pub settle_kind : (c : ℕ) (step : ℕ → Step) → ((place : ℕ) → is_of place (step place) ≡ true) → ((place : ℕ) → is_doing (step place) ≡ true) → (place : ℕ) → list_all (is_done_by c place) (marks_of c (Some step) place) ≡ true
+pub settle_kind : (c : ℕ) (step : ℕ → Step) → ((place : ℕ) → is_of place (step place) ≡ true) → ((place : ℕ) → is_doing (step place) ≡ true)
+    → (place : ℕ) → list_all (is_done_by c place) (marks_of c (Some step) place) ≡ true
 settle_kind c step of_frame of_kind place = rw (eqb_self c, of_frame place, of_kind place) refl

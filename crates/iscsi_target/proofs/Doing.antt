@@ -27,7 +27,8 @@ begins_both (Some c) b (m ∷ xs) ys h g = h
 
 -- ---- what was reached stays reached
 
-reached_more : (marks : List Mark) (old more : List Mark) → list_all (λ m. list_any (is_same m) old) marks ≡ true → list_all (λ m. list_any (is_same m) (old ++ more)) marks ≡ true
+reached_more : (marks : List Mark) (old more : List Mark) → list_all (λ m. list_any (is_same m) old) marks ≡ true
+    → list_all (λ m. list_any (is_same m) (old ++ more)) marks ≡ true
 reached_more [] old more h = refl
 reached_more (m ∷ marks) old more h =
     let both = and_true (list_any (is_same m) old) (list_all (λ m. list_any (is_same m) old) marks) h in
@@ -42,7 +43,8 @@ still_reached marks w v goes h =
 
 -- nothing failed
 pub does_nothing : (kind : ℕ → Mark → Bool) (act : Act) (halves : Halves) (given after : Machine)
-    → ((sound : IsSound after) (s : Setting) (sent : ℕ → ℕ) (half : ℕ → List ℕ) (w : World) (place : ℕ) (marks : List Mark) → Agrees (kind place) marks [] → Serves s sent half w given → Serves s sent (halves half) (act s marks place w) after)
+    → ((sound : IsSound after) (s : Setting) (sent : ℕ → ℕ) (half : ℕ → List ℕ) (w : World) (place : ℕ) (marks : List Mark)
+    → Agrees (kind place) marks [] → Serves s sent half w given → Serves s sent (halves half) (act s marks place w) after)
     → Does kind act halves None given after
 does_nothing kind act halves given after stands = record {
   failed = λ place. [];
@@ -53,7 +55,8 @@ does_nothing kind act halves given after stands = record {
 
 -- the same under another name
 pub does_as : (kind : ℕ → Mark → Bool) (act other : Act) (halves : Halves) (starved : Option ℕ) (given after : Machine)
-    → ((s : Setting) (sent : ℕ → ℕ) (half : ℕ → List ℕ) (w : World) (place : ℕ) (marks : List Mark) → Serves s sent half w given → other s marks place w ≡ act s marks place w)
+    → ((s : Setting) (sent : ℕ → ℕ) (half : ℕ → List ℕ) (w : World) (place : ℕ) (marks : List Mark) → Serves s sent half w given
+    → other s marks place w ≡ act s marks place w)
     → Does kind act halves starved given after → Does kind other halves starved given after
 does_as kind act other halves starved given after same d = record {
   failed = d.failed;
@@ -62,19 +65,22 @@ does_as kind act other halves starved given after same d = record {
   stands = λ sound s sent half w place marks agree h. rw (same s sent half w place marks h) (d.stands sound s sent half w place marks agree h);
 }
 
-pub does_on : (kind : ℕ → Mark → Bool) (act : Act) (halves : Halves) (starved : Option ℕ) (a b given after : Machine) → a ≡ given → b ≡ after → Does kind act halves starved a b → Does kind act halves starved given after
+pub does_on : (kind : ℕ → Mark → Bool) (act : Act) (halves : Halves) (starved : Option ℕ) (a b given after : Machine) → a ≡ given → b ≡ after
+    → Does kind act halves starved a b → Does kind act halves starved given after
 does_on kind act halves starved a b given after e f d =
     let P : Machine → Type 0 = λ m. Does kind act halves starved m after in
     let Q : Machine → Type 0 = λ m. Does kind act halves starved a m in
     subst P e (subst Q f d)
 
-pub does_starved : (kind : ℕ → Mark → Bool) (act : Act) (halves : Halves) (a b : Option ℕ) (given after : Machine) → a ≡ b → Does kind act halves a given after → Does kind act halves b given after
+pub does_starved : (kind : ℕ → Mark → Bool) (act : Act) (halves : Halves) (a b : Option ℕ) (given after : Machine) → a ≡ b
+    → Does kind act halves a given after → Does kind act halves b given after
 does_starved kind act halves a b given after e d = let P : Option ℕ → Type 0 = λ o. Does kind act halves o given after in subst P e d
 
 -- ---- one call after the other
 
 pub does_then : (one two both : ℕ → Mark → Bool) (act_one act_two : Act) (halves_one halves_two : Halves) (a b : Option ℕ) (given middle after : Machine)
-    → ((place : ℕ) → Apart (one place) (two place)) → ((place : ℕ) → Apart (two place) (one place)) → ((place : ℕ) → Wider (one place) (both place)) → ((place : ℕ) → Wider (two place) (both place))
+    → ((place : ℕ) → Apart (one place) (two place)) → ((place : ℕ) → Apart (two place) (one place)) → ((place : ℕ) → Wider (one place) (both place))
+    → ((place : ℕ) → Wider (two place) (both place))
     → (IsSound after → IsSound middle) → ((s : Setting) (marks : List Mark) (place : ℕ) (w : World) → Goes w (act_two s marks place w))
     → Does one act_one halves_one a given middle → Does two act_two halves_two b middle after
     → Does both (λ s marks place w. act_two s marks place (act_one s marks place w)) (λ half. halves_two (halves_one half)) (first_of a b) given after
@@ -85,8 +91,10 @@ does_then one two both act_one act_two halves_one halves_two a b given middle af
       (all_wider (one place) (both place) (first.failed place) (wide_one place) (first.of_kind place))
       (all_wider (two place) (both place) (second.failed place) (wide_two place) (second.of_kind place));
   stands = λ sound s sent half w place marks agree h.
-      (let left = agrees_left (one place) (two place) (both place) marks (first.failed place) (second.failed place) (one_two place) (wide_one place) (second.of_kind place) agree in
-      let right = agrees_right (one place) (two place) (both place) marks (first.failed place) (second.failed place) (two_one place) (wide_two place) (first.of_kind place) agree in
+      (let left = agrees_left (one place) (two place) (both place) marks (first.failed place) (second.failed place) (one_two place) (wide_one place)
+      (second.of_kind place) agree in
+      let right = agrees_right (one place) (two place) (both place) marks (first.failed place) (second.failed place) (two_one place)
+      (wide_two place) (first.of_kind place) agree in
       let v = act_one s marks place w in
       let at_first = first.stands (back sound) s sent half w place marks left h in
       let at_second = second.stands sound s sent (halves_one half) v place marks right at_first.0 in (

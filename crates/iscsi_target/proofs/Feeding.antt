@@ -17,7 +17,7 @@ use Rattle.iscsi_target.specs.Stands.{phase_for, link_of, machine_with, half_of,
 use Rattle.iscsi_target.specs.Serving.{Serves, first_starved, Begins, with_half, has_place, is_among, KeepsHalf, TakesAll}
 use Rattle.iscsi_target.specs.declared.fault.Starved.{Starved}
 use Rattle.iscsi_target.proofs.Arrivals.{new_is}
-use Rattle.iscsi_target.proofs.Moving.{changes_feeds}
+use Rattle.iscsi_target.proofs.Moving.{own_self, changes_feeds}
 use Rattle.iscsi_target.proofs.Choices.{eqb_self, cond_true, cond_false, and_true}
 use Rattle.iscsi_target.proofs.Lives.{present-changed, present-changed_other, present-lives, present_is}
 use Rattle.iscsi_target.proofs.Marks.{mark_at, same_self, marked_one, marked_none, unmarked}
@@ -50,18 +50,21 @@ came_here c piece w life at = present-changed (longer piece) c (fresh w) life (p
 pub came_other : (c d : ℕ) (piece : List ℕ) (w : World) → d ≢ c → present d (piece_came c piece w) ≡ present d w
 came_other c d piece w differ = present-changed_other (longer piece) c d (fresh w) (λ l. refl) differ ∙ present-fresh d w
 
-link_longer : (names : List (List ℕ)) (sent : ℕ) (half : List ℕ) (life : Life) (piece : List ℕ) → link_of names sent half (Some (longer piece life)) ≡ link_of names sent half (Some life)
+link_longer : (names : List (List ℕ)) (sent : ℕ) (half : List ℕ) (life : Life) (piece : List ℕ)
+    → link_of names sent half (Some (longer piece life)) ≡ link_of names sent half (Some life)
 link_longer names sent half life piece = rw (phase_longer names life piece life.phase, out-longer life piece) refl
 
 -- the World with the longer bytes is served as the one before
-pub longer_serves : (s : Setting) (sent : ℕ → ℕ) (half : ℕ → List ℕ) (w : World) (machine : Machine) (c : ℕ) (piece : List ℕ) (life : Life) → c < connection_limit → present c w ≡ Some life → Serves s sent half w machine
+pub longer_serves : (s : Setting) (sent : ℕ → ℕ) (half : ℕ → List ℕ) (w : World) (machine : Machine) (c : ℕ) (piece : List ℕ) (life : Life)
+    → c < connection_limit → present c w ≡ Some life → Serves s sent half w machine
     → Serves s sent half (piece_came c piece w) machine
 longer_serves s sent half w machine c piece life lt at h =
     let v = piece_came c piece w in
     let here = came_here c piece w life at in
     record {
       is = h.is ∙ sym (machine_same s sent sent half half w v (units_came c piece w) (λ d below. elim (eqb_tells d c) [
-        | inl same ↦ rw same.1 (ap (link_of s.names (sent c) (half c)) here ∙ link_longer s.names (sent c) (half c) life piece ∙ ap (link_of s.names (sent c) (half c)) (sym at))
+        | inl same ↦ rw same.1 (ap (link_of s.names (sent c) (half c)) here ∙ link_longer s.names (sent c) (half c) life piece
+            ∙ ap (link_of s.names (sent c) (half c)) (sym at))
         | inr differ ↦ ap (link_of s.names (sent d) (half d)) (came_other c d piece w differ.1)
       ]));
       answered = λ d below. elim (eqb_tells d c) [
@@ -77,7 +80,8 @@ longer_serves s sent half w machine c piece life lt at h =
 -- ---- between two events again
 
 -- what is kept of a present life that stayed
-half_kept : (names : List (List ℕ)) (sent : ℕ) (before after : Option Life) → Stays before after → link_of names sent (half_of before) after ≡ link_of names sent (half_of after) after
+half_kept : (names : List (List ℕ)) (sent : ℕ) (before after : Option Life) → Stays before after
+    → link_of names sent (half_of before) after ≡ link_of names sent (half_of after) after
 half_kept names sent None None s = refl
 half_kept names sent None (Some y) s = absurd s
 half_kept names sent (Some x) None s = refl
@@ -90,26 +94,35 @@ short_kept (Some x) None s h = tt
 short_kept (Some x) (Some y) s h = λ e. ap (λ (bytes : List ℕ). is_long (rest bytes)) s.0 ∙ h (s.1 e)
 
 -- the bytes that came on the connection, behind which these are left
-here_kept : (names : List (List ℕ)) (sent : ℕ) (bytes left_ : List ℕ) (x : Life) (after : Option Life) → x.bytes ≡ bytes → rest bytes ≡ left_ → Stays (Some x) after → link_of names sent left_ after ≡ link_of names sent (half_of after) after
+here_kept : (names : List (List ℕ)) (sent : ℕ) (bytes left_ : List ℕ) (x : Life) (after : Option Life) → x.bytes ≡ bytes → rest bytes ≡ left_
+    → Stays (Some x) after → link_of names sent left_ after ≡ link_of names sent (half_of after) after
 here_kept names sent bytes left_ x None e r s = absurd s
 here_kept names sent bytes left_ x (Some y) e r s = ap (λ (half : List ℕ). link_of names sent half (Some y)) (sym (ap rest (s.0 ∙ e) ∙ r))
 
-here_short : (bytes left_ : List ℕ) (x : Life) (after : Option Life) → x.bytes ≡ bytes → rest bytes ≡ left_ → Stays (Some x) after → (reads_life after ≡ true → is_long left_ ≡ false) → IsShort after
+here_short : (bytes left_ : List ℕ) (x : Life) (after : Option Life) → x.bytes ≡ bytes → rest bytes ≡ left_ → Stays (Some x) after
+    → (reads_life after ≡ true → is_long left_ ≡ false) → IsShort after
 here_short bytes left_ x None e r s short = tt
 here_short bytes left_ x (Some y) e r s short = λ reads_y. ap is_long (ap rest (s.0 ∙ e) ∙ r) ∙ short reads_y
 
 -- where the World that the arrivals made of the longer one is served, it is stood at
-pub stands_again : (s : Setting) (sent : ℕ → ℕ) (w v : World) (machine now : Machine) (c : ℕ) (piece left_ : List ℕ) (life : Life) → c < connection_limit → StandsAt s sent w machine → present c w ≡ Some life
+pub stands_again : (s : Setting) (sent : ℕ → ℕ) (w v : World) (machine now : Machine) (c : ℕ) (piece left_ : List ℕ) (life : Life)
+    → c < connection_limit → StandsAt s sent w machine → present c w ≡ Some life
     → Goes (piece_came c piece w) v → rest (life.bytes ++ piece) ≡ left_ → (reads_life (present c v) ≡ true → is_long left_ ≡ false)
     → Serves s sent (with_half c left_ (λ d. half_of (present d w))) v now → StandsAt s sent v now
 stands_again s sent w v machine now c piece left_ life lt h at goes r short serves =
-    let here : Stays (Some (longer piece life)) (present c v) = subst (λ (o : Option Life). Stays o (present c v)) (came_here c piece w life at) (goes.stays c) in
-    let other : (d : ℕ) → d ≢ c → Stays (present d w) (present d v) = λ d differ. subst (λ (o : Option Life). Stays o (present d v)) (came_other c d piece w differ) (goes.stays d) in
+    let here : Stays (Some (longer piece life)) (present c v) = subst (λ (o : Option Life). Stays o (present c v)) (came_here c piece w life at)
+    (goes.stays c) in
+    let other : (d : ℕ) → d ≢ c → Stays (present d w) (present d v) = λ d differ. subst (λ (o : Option Life). Stays o (present d v))
+    (came_other c d piece w differ) (goes.stays d) in
     record {
-      is = serves.is ∙ sym (machine_same s sent sent (with_half c left_ (λ d. half_of (present d w))) (λ d. half_of (present d v)) v v refl (λ d below. elim (eqb_tells d c) [
-        | inl same ↦ rw same.1 (sym (ap (λ (b : List ℕ). link_of s.names (sent c) b (present c v)) (cond_true (eqb c c) left_ (half_of (present c w)) (eqb_self c)) ∙ here_kept s.names (sent c) (life.bytes ++ piece) left_ (longer piece life) (present c v) refl r here))
-        | inr differ ↦ sym (ap (λ (b : List ℕ). link_of s.names (sent d) b (present d v)) (cond_false (eqb d c) left_ (half_of (present d w)) differ.0) ∙ half_kept s.names (sent d) (present d w) (present d v) (other d differ.1))
-      ]));
+      is = serves.is ∙ sym (machine_same s sent sent (with_half c left_ (λ d. half_of (present d w))) (λ d. half_of (present d v)) v v refl
+          (λ d below. elim (eqb_tells d c) [
+            | inl same ↦ rw same.1 (sym (ap (λ (b : List ℕ). link_of s.names (sent c) b (present c v))
+                (cond_true (eqb c c) left_ (half_of (present c w)) (eqb_self c))
+                ∙ here_kept s.names (sent c) (life.bytes ++ piece) left_ (longer piece life) (present c v) refl r here))
+            | inr differ ↦ sym (ap (λ (b : List ℕ). link_of s.names (sent d) b (present d v))
+                (cond_false (eqb d c) left_ (half_of (present d w)) differ.0) ∙ half_kept s.names (sent d) (present d w) (present d v) (other d differ.1))
+          ]));
       answered = serves.answered;
       quiet = serves.quiet;
       short = λ d below. elim (eqb_tells d c) [
@@ -128,7 +141,8 @@ record Ended (s : Setting) (sent : ℕ → ℕ) (half : ℕ → List ℕ) (marks
   goes : Goes v last
   reads_same : reads_life (present c last) ≡ reads_life (present c v)
 
-ended_by : (b : Bool) (s : Setting) (sent : ℕ → ℕ) (half : ℕ → List ℕ) (marks : List Mark) (c : ℕ) (v : World) (machine : Machine) → reads_life (present c v) ≡ b → is_marked marks c AtEnd ≡ false → Serves s sent half v machine
+ended_by : (b : Bool) (s : Setting) (sent : ℕ → ℕ) (half : ℕ → List ℕ) (marks : List Mark) (c : ℕ) (v : World) (machine : Machine)
+    → reads_life (present c v) ≡ b → is_marked marks c AtEnd ≡ false → Serves s sent half v machine
     → Ended s sent half marks c v machine
 ended_by true s sent half marks c v machine r free h = record {
   last = reaching c (AtEnd ∷ []) v;
@@ -162,15 +176,18 @@ pub record Came (s : Setting) (sent : ℕ → ℕ) (w : World) (c : ℕ) (piece 
   pub stands : StandsAt s sent (bring s marks c piece (fresh w)) now
 
 brings : (s : Setting) (marks : List Mark) (c : ℕ) (piece : List ℕ) (w : World) (life : Life) → present c w ≡ Some life → is_long (rest life.bytes) ≡ false
-    → bring s marks c piece (fresh w) ≡ take_step marks c AtEnd (λ u. u) (fold (arrive s marks c) (piece_came c piece w) (enumerate_from (length (arrivals life.bytes)) (arrivals (rest life.bytes ++ piece))))
+    → bring s marks c piece (fresh w) ≡ take_step marks c AtEnd (λ u. u)
+    (fold (arrive s marks c) (piece_came c piece w) (enumerate_from (length (arrivals life.bytes)) (arrivals (rest life.bytes ++ piece))))
 unfolding bring
 brings s marks c piece w life at short =
-    ap (λ (l : List (ℕ × Arrival)). take_step marks c AtEnd (λ u. u) (fold (arrive s marks c) (piece_came c piece w) l)) (ap (λ (o : Option Life). brought o piece) (present-fresh c w ∙ at) ∙ new_is life.bytes piece short)
+    ap (λ (l : List (ℕ × Arrival)). take_step marks c AtEnd (λ u. u) (fold (arrive s marks c) (piece_came c piece w) l))
+    (ap (λ (o : Option Life). brought o piece) (present-fresh c w ∙ at) ∙ new_is life.bytes piece short)
 
 short_there : (o : Option Life) (life : Life) → o ≡ Some life → IsShort o → reads life.phase ≡ true → is_long (rest life.bytes) ≡ false
 short_there o life e h r = (subst IsShort e h) r
 
-pub comes : (s : Setting) (sent : ℕ → ℕ) (w : World) (machine first now : Machine) (c : ℕ) (piece : List ℕ) (starved : Option ℕ) → Fed s sent w machine first c piece → TakesAll c starved first now → IsSound now → Came s sent w c piece starved now
+pub comes : (s : Setting) (sent : ℕ → ℕ) (w : World) (machine first now : Machine) (c : ℕ) (piece : List ℕ) (starved : Option ℕ)
+    → Fed s sent w machine first c piece → TakesAll c starved first now → IsSound now → Came s sent w c piece starved now
 comes s sent w machine first now c piece starved f takes sound =
     let half : ℕ → List ℕ = λ d. half_of (present d w) in
     let serves = serving s sent w machine f.stands in
@@ -178,10 +195,12 @@ comes s sent w machine first now c piece starved f takes sound =
     let life = there.0 in
     let short = short_there (present c w) life there.1 (f.stands.short c f.in_range) there.2 in
     let link = link_stands s sent w machine c f.in_range f.stands ∙ ap (λ (o : Option Life). link_of s.names (sent c) (half_of o) o) there.1 in
-    let old_half : (link_at machine c).half ≡ rest life.bytes = ap (λ (l : LinkState). l.half) link ∙ cond_true (reads life.phase) (rest life.bytes) [] there.2 in
+    let old_half : (link_at machine c).half ≡ rest life.bytes = ap (λ (l : LinkState). l.half) link
+    ∙ cond_true (reads life.phase) (rest life.bytes) [] there.2 in
     let count = count_stands s sent w machine f.stands in
     let new_half : (link_at first c).half ≡ rest life.bytes ++ piece =
-    ap (λ (m : Machine). (link_at m c).half) f.is ∙ ap (λ (l : LinkState). l.half) (get_or-set_same machine.links c _ free_link (let lt = f.in_range in omega (arith, count))) ∙ ap (λ (b : List ℕ). b ++ piece) old_half in
+    ap (λ (m : Machine). (link_at m c).half) f.is ∙ ap (λ (l : LinkState). l.half)
+    (get_or-set_same machine.links c _ free_link (let lt = f.in_range in omega (arith, count))) ∙ ap (λ (b : List ℕ). b ++ piece) old_half in
     let n = length (arrivals life.bytes) in
     let marks = takes.takes.failed n in
     let bytes = (link_at machine c).half ++ piece in
@@ -192,10 +211,12 @@ comes s sent w machine first now c piece starved f takes sound =
     let left_ = rest (link_at first c).half in
     let v = fold (arrive s marks c) v0 (enumerate_from n (arrivals (link_at first c).half)) in
     let serves_v = serves_halves s sent (with_half c left_ (with_half c bytes half)) (with_half c left_ half) v now (half_twice c bytes left_ half) at.0 in
-    let free : is_marked marks c AtEnd ≡ false = unmarked (is_among (length (arrivals (link_at first c).half)) n) marks (mark_at c AtEnd) (takes.takes.of_kind n) refl in
+    let free : is_marked marks c AtEnd ≡ false = unmarked (is_among (length (arrivals (link_at first c).half)) n) marks (mark_at c AtEnd)
+    (takes.takes.of_kind n) refl in
     let e = ended_by (reads_life (present c v)) s sent (with_half c left_ half) marks c v now refl free serves_v in
     let whole : bring s marks c piece (fresh w) ≡ e.last =
-    brings s marks c piece w life there.1 short ∙ ap (λ (b : List ℕ). take_step marks c AtEnd (λ u. u) (fold (arrive s marks c) v0 (enumerate_from n (arrivals b)))) (sym new_half) ∙ e.is in
+    brings s marks c piece w life there.1 short ∙ ap (λ (b : List ℕ). take_step marks c AtEnd (λ u. u)
+    (fold (arrive s marks c) v0 (enumerate_from n (arrivals b)))) (sym new_half) ∙ e.is in
     let goes = on-then v0 v e.last (on-fold (arrive s marks c) v0 (enumerate_from n (arrivals (link_at first c).half)) (on-arrive s marks c)) e.goes in
     let behind : rest (life.bytes ++ piece) ≡ left_ = rest_in_pieces life.bytes piece ∙ ap rest (sym new_half) in
     record {
@@ -214,18 +235,21 @@ first_point n [] = AtEnd
 first_point n (arrival ∷ arrivals) = Arriving n
 
 starves_by : (s : Setting) (c n : ℕ) (v0 : World) (life : Life) (all : List Arrival) → present c v0 ≡ Some life → reads life.phase ≡ true
-    → (let marks = mark_at c (first_point n all) ∷ [] in take_step marks c AtEnd (λ u. u) (fold (arrive s marks c) v0 (enumerate_from n all))) ≡ close c (reaching c (first_point n all ∷ []) v0)
+    → (let marks = mark_at c (first_point n all) ∷ [] in take_step marks c AtEnd (λ u. u) (fold (arrive s marks c) v0 (enumerate_from n all)))
+    ≡ close c (reaching c (first_point n all ∷ []) v0)
 unfolding arrive
 starves_by s c n v0 life [] at r = marked_step (mark_at c AtEnd ∷ []) c AtEnd (λ u. u) v0 (ap reads_life at ∙ r) (marked_one c AtEnd)
 starves_by s c n v0 life (arrival ∷ all) at r =
     let marks = mark_at c (Arriving n) ∷ [] in
     let v = close c (reaching c (Arriving n ∷ []) v0) in
     let one : arrive s marks c v0 (n, arrival) ≡ v = marked_step marks c (Arriving n) _ v0 (ap reads_life at ∙ r) (marked_one c (Arriving n)) in
-    let idle_ : reads_life (present c v) ≡ false = ap reads_life (present-close c (reaching c (Arriving n ∷ []) v0) life (present-reaching c c (Arriving n ∷ []) v0 ∙ at)) in
+    let idle_ : reads_life (present c v) ≡ false = ap reads_life (present-close c (reaching c (Arriving n ∷ []) v0) life
+    (present-reaching c c (Arriving n ∷ []) v0 ∙ at)) in
     ap (λ (u : World). take_step marks c AtEnd (λ x. x) (fold (arrive s marks c) u (enumerate_from (n + 1) all))) one
     ∙ ap (take_step marks c AtEnd (λ x. x)) (idle_all s marks c v (enumerate_from (n + 1) all) idle_) ∙ idle_step marks c AtEnd (λ x. x) v idle_
 
-pub comes_starved : (s : Setting) (sent : ℕ → ℕ) (w : World) (machine now : Machine) (c : ℕ) (piece : List ℕ) → c < connection_limit → StandsAt s sent w machine → is_reading (link_at machine c).phase ≡ true → now ≡ closed machine c
+pub comes_starved : (s : Setting) (sent : ℕ → ℕ) (w : World) (machine now : Machine) (c : ℕ) (piece : List ℕ) → c < connection_limit
+    → StandsAt s sent w machine → is_reading (link_at machine c).phase ≡ true → now ≡ closed machine c
     → Came s sent w c piece (Some c) now
 comes_starved s sent w machine now c piece lt stands r is =
     let half : ℕ → List ℕ = λ d. half_of (present d w) in
@@ -243,19 +267,24 @@ comes_starved s sent w machine now c piece lt stands r is =
     let serves_v = serves_reaching s sent half v0 machine c (point ∷ []) (longer_serves s sent half w machine c piece life lt there.1 serves) in
     let shut_ : reads_life (present c (close c v)) ≡ false = ap reads_life (present-close c v (longer piece life) at_v) in
     let left_ = rest (life.bytes ++ piece) in
-    let last = halves_idle s sent half (close c v) now c left_ shut_ (serves_as s sent half (close c v) (closed machine c) now is (closes s sent half v machine c (longer piece life) lt serves_v at_v)) in
-    let whole : bring s marks c piece (fresh w) ≡ close c v = brings s marks c piece w life there.1 short ∙ starves_by s c n v0 (longer piece life) all (came_here c piece w life there.1) there.2 in
+    let last = halves_idle s sent half (close c v) now c left_ shut_ (serves_as s sent half (close c v) (closed machine c) now is
+    (closes s sent half v machine c (longer piece life) lt serves_v at_v)) in
+    let whole : bring s marks c piece (fresh w) ≡ close c v = brings s marks c piece w life there.1 short
+    ∙ starves_by s c n v0 (longer piece life) all (came_here c piece w life there.1) there.2 in
     record {
       marks = marks;
       first = refl;
-      reached = ap (are_reached marks) whole ∙ still_reached marks v (close c v) (on-close c v) (ap (λ (b : Bool). b && true) (last_there (mark_at c point) v0.reached []));
-      stands = rw whole (stands_again s sent w (close c v) machine now c piece left_ life lt stands there.1 (on-then v0 v (close c v) (on-reaching c (point ∷ []) v0) (on-close c v)) refl
+      reached = ap (are_reached marks) whole ∙ still_reached marks v (close c v) (on-close c v)
+          (ap (λ (b : Bool). b && true) (last_there (mark_at c point) v0.reached []));
+      stands = rw whole (stands_again s sent w (close c v) machine now c piece left_ life lt stands there.1
+          (on-then v0 v (close c v) (on-reaching c (point ∷ []) v0) (on-close c v)) refl
           (λ e. absurd (cc (e, shut_))) last);
     }
 
 -- ---- bytes for a connection that does not read, and an empty piece
 
-pub comes_idle : (s : Setting) (sent : ℕ → ℕ) (w : World) (machine : Machine) (c : ℕ) (piece : List ℕ) → c < connection_limit → StandsAt s sent w machine → is_open_at machine c ≡ true → is_reading (link_at machine c).phase ≡ false
+pub comes_idle : (s : Setting) (sent : ℕ → ℕ) (w : World) (machine : Machine) (c : ℕ) (piece : List ℕ) → c < connection_limit
+    → StandsAt s sent w machine → is_open_at machine c ≡ true → is_reading (link_at machine c).phase ≡ false
     → StandsAt s sent (bring s [] c piece (fresh w)) machine
 unfolding bring
 comes_idle s sent w machine c piece lt stands open_ r =
@@ -279,7 +308,8 @@ nothing_new bytes =
     ap (λ (b : List ℕ). drop (length (arrivals bytes)) (enumerate_from 0 (arrivals b))) (append-nil bytes)
     ∙ drop_all (length (arrivals bytes)) (enumerate_from 0 (arrivals bytes)) (omega (arith, length-enumerate_from 0 (arrivals bytes)))
 
-pub comes_empty : (s : Setting) (sent : ℕ → ℕ) (w : World) (machine : Machine) (c : ℕ) → c < connection_limit → StandsAt s sent w machine → is_open_at machine c ≡ true → StandsAt s sent (bring s [] c [] (fresh w)) machine
+pub comes_empty : (s : Setting) (sent : ℕ → ℕ) (w : World) (machine : Machine) (c : ℕ) → c < connection_limit → StandsAt s sent w machine
+    → is_open_at machine c ≡ true → StandsAt s sent (bring s [] c [] (fresh w)) machine
 unfolding bring
 comes_empty s sent w machine c lt stands open_ =
     let half : ℕ → List ℕ = λ d. half_of (present d w) in
@@ -289,7 +319,8 @@ comes_empty s sent w machine c lt stands open_ =
     let serves = longer_serves s sent half w machine c [] life lt there.1 (serving s sent w machine stands) in
     let none : brought (present c (fresh w)) [] ≡ [] = ap (λ (o : Option Life). brought o []) (present-fresh c w ∙ there.1) ∙ nothing_new life.bytes in
     let e = ended_by (reads_life (present c v0)) s sent half [] c v0 machine refl (marked_none c AtEnd) serves in
-    let whole : take_step [] c AtEnd (λ u. u) (fold (arrive s [] c) v0 (brought (present c (fresh w)) [])) ≡ e.last = ap (λ (l : List (ℕ × Arrival)). take_step [] c AtEnd (λ u. u) (fold (arrive s [] c) v0 l)) none ∙ e.is in
+    let whole : take_step [] c AtEnd (λ u. u) (fold (arrive s [] c) v0 (brought (present c (fresh w)) [])) ≡ e.last =
+    ap (λ (l : List (ℕ × Arrival)). take_step [] c AtEnd (λ u. u) (fold (arrive s [] c) v0 l)) none ∙ e.is in
     let left_ = rest life.bytes in
     let own : (d : ℕ) → half d ≡ with_half c left_ half d = λ d. elim (eqb_tells d c) [
       | inl same ↦ ap half same.1 ∙ ap half_of there.1 ∙ sym (ap (with_half c left_ half) same.1 ∙ cond_true (eqb c c) left_ (half c) (eqb_self c))
@@ -297,45 +328,76 @@ comes_empty s sent w machine c lt stands open_ =
     ] in
     let same_reads : reads_life (present c v0) ≡ reads life.phase = ap reads_life (came_here c [] w life there.1) in
     rw whole (stands_again s sent w e.last machine machine c [] left_ life lt stands there.1 e.goes (ap rest (append-nil life.bytes))
-    (λ r. (subst IsShort there.1 (stands.short c lt)) (sym same_reads ∙ sym e.reads_same ∙ r)) (serves_halves s sent half (with_half c left_ half) e.last machine own e.serves))
+    (λ r. (subst IsShort there.1 (stands.short c lt)) (sym same_reads ∙ sym e.reads_same ∙ r))
+    (serves_halves s sent half (with_half c left_ half) e.last machine own e.serves))
 
 -- ---- as the code has it
 
 abbrev kept_as : Machine → ℕ → List ℕ → Machine
 kept_as machine c piece = with_link machine c (record (link_at machine c) { half = (link_at machine c).half ++ piece })
 
-pub kept_feeds : (machine first : Machine) (c : ℕ) (piece : List ℕ) → c < length machine.links → is_reading (link_at machine c).phase ≡ true → first ≡ kept_as machine c piece → Feeds machine first
+pub kept_feeds : (machine first : Machine) (c : ℕ) (piece : List ℕ) → c < length machine.links → is_reading (link_at machine c).phase ≡ true
+    → first ≡ kept_as machine c piece → Feeds c machine first
 kept_feeds machine first c piece lt r is =
-    let P : Machine → Type 0 = λ m. Feeds machine m in
-    subst P (sym is) (changes_feeds machine machine.units c (record (link_at machine c) { half = (link_at machine c).half ++ piece }) lt (halving (link_at machine c) ((link_at machine c).half ++ piece) r))
+    let P : Machine → Type 0 = λ m. Feeds c machine m in
+    subst P (sym is) (changes_feeds c machine machine.units c (record (link_at machine c) { half = (link_at machine c).half ++ piece }) lt
+    (halving (link_at machine c) ((link_at machine c).half ++ piece) r) (own_self c machine))
 
-first_sound : (machine first now : Machine) (c : ℕ) (piece : List ℕ) (starved : Option ℕ) → first ≡ kept_as machine c piece → TakesAll c starved first now → IsSound now → IsSound machine
-first_sound machine first now c piece starved is takes sound = subst (λ (us : List UnitStates). All AreSound us) (ap (λ (m : Machine). m.units) is) (takes.back sound)
+pub kept_reads : (machine first : Machine) (c : ℕ) (piece : List ℕ) → c < length machine.links → is_reading (link_at machine c).phase ≡ true
+    → first ≡ kept_as machine c piece → is_reading (link_at first c).phase ≡ true
+kept_reads machine first c piece lt r is =
+    let link = record (link_at machine c) { half = (link_at machine c).half ++ piece } in
+    ap (λ (m : Machine). is_reading (link_at m c).phase) is ∙ ap (λ (l : LinkState). is_reading l.phase) (get_or-set_same machine.links c link free_link lt) ∙ r
 
-came : (s : Setting) (sent : ℕ → ℕ) (h : History) (machine first now : Machine) (c : ℕ) (piece : List ℕ) (starved : Option ℕ) → c < connection_limit → is_reading (link_at machine c).phase ≡ true → first ≡ kept_as machine c piece
+first_sound : (machine first now : Machine) (c : ℕ) (piece : List ℕ) (starved : Option ℕ) → first ≡ kept_as machine c piece
+    → TakesAll c starved first now → IsSound now → IsSound machine
+first_sound machine first now c piece starved is takes sound = subst (λ (us : List UnitStates). All AreSound us) (ap (λ (m : Machine). m.units) is)
+    (takes.back sound)
+
+came : (s : Setting) (sent : ℕ → ℕ) (h : History) (machine first now : Machine) (c : ℕ) (piece : List ℕ) (starved : Option ℕ) → c < connection_limit
+    → is_reading (link_at machine c).phase ≡ true → first ≡ kept_as machine c piece
     → TakesAll c starved first now → (IsSound machine → Stands s sent machine h) → IsSound now → Came s sent (world s h) c piece starved now
 came s sent h machine first now c piece starved lt r is takes at sound =
-    comes s sent (world s h) machine first now c piece starved (record { in_range = lt; stands = at (first_sound machine first now c piece starved is takes sound); reads_so = r; is = is }) takes sound
+    comes s sent (world s h) machine first now c piece starved (record {
+      in_range = lt;
+      stands = at (first_sound machine first now c piece starved is takes sound);
+      reads_so = r;
+      is = is;
+    }) takes sound
 
-plain_marks : (s : Setting) (sent : ℕ → ℕ) (h : History) (now : Machine) (c : ℕ) (piece : List ℕ) → Came s sent (world s h) c piece None now → Stands s sent now (h ++ plain (Bytes c piece) ∷ [])
-plain_marks s sent h now c piece k = stands_as s sent now h (plain (Bytes c piece)) _ refl (subst (λ (marks : List Mark). StandsAt s sent (bring s marks c piece (fresh (world s h))) now) k.first k.stands)
+plain_marks : (s : Setting) (sent : ℕ → ℕ) (h : History) (now : Machine) (c : ℕ) (piece : List ℕ) → Came s sent (world s h) c piece None now
+    → Stands s sent now (h ++ plain (Bytes c piece) ∷ [])
+plain_marks s sent h now c piece k = stands_as s sent now h (plain (Bytes c piece)) _ refl
+    (subst (λ (marks : List Mark). StandsAt s sent (bring s marks c piece (fresh (world s h))) now) k.first k.stands)
 
-pub ok_came : (r : Result (Unit {0}) Starved) (machine first now : Machine) (c : ℕ) (piece : List ℕ) → c < connection_limit → is_reading (link_at machine c).phase ≡ true → first ≡ kept_as machine c piece → TakesAll c (first_starved r) first now
-    → OnOk r ((s : Setting) (sent : ℕ → ℕ) (h : History) → WhereSound machine (Stands s sent machine h) → WhereSound now (Stands s sent now (h ++ plain (Bytes c piece) ∷ [])))
-ok_came (Ok u) machine first now c piece lt reads_so is takes = λ s sent h at sound. plain_marks s sent h now c piece (came s sent h machine first now c piece None lt reads_so is takes at sound)
+pub ok_came : (r : Result (Unit {0}) Starved) (machine first now : Machine) (c : ℕ) (piece : List ℕ) → c < connection_limit
+    → is_reading (link_at machine c).phase ≡ true → first ≡ kept_as machine c piece → TakesAll c (first_starved r) first now
+    → OnOk r ((s : Setting) (sent : ℕ → ℕ) (h : History) → WhereSound machine (Stands s sent machine h)
+    → WhereSound now (Stands s sent now (h ++ plain (Bytes c piece) ∷ [])))
+ok_came (Ok u) machine first now c piece lt reads_so is takes = λ s sent h at sound. plain_marks s sent h now c piece
+    (came s sent h machine first now c piece None lt reads_so is takes at sound)
 ok_came (Err e) machine first now c piece lt reads_so is takes = tt
 
 starved_marks : (s : Setting) (sent : ℕ → ℕ) (h : History) (now : Machine) (c d : ℕ) (piece : List ℕ) → Came s sent (world s h) c piece (Some d) now
     → (marks : List Mark) × IsStarved s (world s h) (Bytes c piece) d marks × Stands s sent now (h ++ marked marks (Bytes c piece) ∷ [])
-starved_marks s sent h now c d piece k = (k.marks, record { first = k.first; reached = k.reached }, stands_as s sent now h (marked k.marks (Bytes c piece)) _ refl k.stands)
+starved_marks s sent h now c d piece k = (
+  k.marks,
+  record { first = k.first; reached = k.reached },
+  stands_as s sent now h (marked k.marks (Bytes c piece)) _ refl k.stands,
+)
 
-pub err_came : (r : Result (Unit {0}) Starved) (machine first now : Machine) (c : ℕ) (piece : List ℕ) → c < connection_limit → is_reading (link_at machine c).phase ≡ true → first ≡ kept_as machine c piece → TakesAll c (first_starved r) first now
+pub err_came : (r : Result (Unit {0}) Starved) (machine first now : Machine) (c : ℕ) (piece : List ℕ) → c < connection_limit
+    → is_reading (link_at machine c).phase ≡ true → first ≡ kept_as machine c piece → TakesAll c (first_starved r) first now
     → IfErr r (λ starved. (s : Setting) (sent : ℕ → ℕ) (h : History) → WhereSound machine (Stands s sent machine h)
-    → WhereSound now ((marks : List Mark) × IsStarved s (world s h) (Bytes c piece) starved.connection marks × Stands s sent now (h ++ marked marks (Bytes c piece) ∷ [])))
+    → WhereSound now ((marks : List Mark) × IsStarved s (world s h) (Bytes c piece) starved.connection marks
+    × Stands s sent now (h ++ marked marks (Bytes c piece) ∷ [])))
 err_came (Ok u) machine first now c piece lt reads_so is takes = tt
-err_came (Err e) machine first now c piece lt reads_so is takes = λ s sent h at sound. starved_marks s sent h now c e.connection piece (came s sent h machine first now c piece (Some e.connection) lt reads_so is takes at sound)
+err_came (Err e) machine first now c piece lt reads_so is takes = λ s sent h at sound. starved_marks s sent h now c e.connection piece
+    (came s sent h machine first now c piece (Some e.connection) lt reads_so is takes at sound)
 
-pub starved_came : (s : Setting) (sent : ℕ → ℕ) (h : History) (machine now : Machine) (c named : ℕ) (piece : List ℕ) → named ≡ c → c < connection_limit → Stands s sent machine h → is_reading (link_at machine c).phase ≡ true → now ≡ closed machine c
+pub starved_came : (s : Setting) (sent : ℕ → ℕ) (h : History) (machine now : Machine) (c named : ℕ) (piece : List ℕ) → named ≡ c
+    → c < connection_limit → Stands s sent machine h → is_reading (link_at machine c).phase ≡ true → now ≡ closed machine c
     → (marks : List Mark) × IsStarved s (world s h) (Bytes c piece) named marks × Stands s sent now (h ++ marked marks (Bytes c piece) ∷ [])
 starved_came s sent h machine now c named piece e lt stands r is =
-    starved_marks s sent h now c named piece (subst (λ (d : ℕ). Came s sent (world s h) c piece (Some d) now) (sym e) (comes_starved s sent (world s h) machine now c piece lt stands r is))
+    starved_marks s sent h now c named piece (subst (λ (d : ℕ). Came s sent (world s h) c piece (Some d) now) (sym e)
+    (comes_starved s sent (world s h) machine now c piece lt stands r is))

@@ -29,7 +29,8 @@ use Rattle.iscsi_target.proofs.AtWork.{last_there, marks_of, starved_if, Calls, 
 
 -- ---- a connection that does not read
 
-pub idle_step : (marks : List Mark) (c : ℕ) (point : Point) (act : World → World) (w : World) → reads_life (present c w) ≡ false → take_step marks c point act w ≡ w
+pub idle_step : (marks : List Mark) (c : ℕ) (point : Point) (act : World → World) (w : World) → reads_life (present c w) ≡ false
+    → take_step marks c point act w ≡ w
 unfolding take_step
 idle_step marks c point act w e = rw e refl
 
@@ -37,9 +38,11 @@ pub idle : (s : Setting) (marks : List Mark) (c : ℕ) (w : World) (arrival : �
 unfolding arrive
 idle s marks c w arrival e = idle_step marks c (Arriving arrival.0) (comes s marks c arrival.0 arrival.1) w e
 
-pub takes_idle : (machine : Machine) (c : ℕ) (frame : Frame) → c < connection_limit → is_reading (link_at machine c).phase ≡ false → Takes c frame None machine machine
+pub takes_idle : (machine : Machine) (c : ℕ) (frame : Frame) → c < connection_limit → is_reading (link_at machine c).phase ≡ false
+    → Takes c frame None machine machine
 takes_idle machine c frame lt idle_ = does_nothing is_of_frame (λ s marks place w. arrive s marks c w (place, Whole frame)) kept machine machine
-    (λ sound s sent half w place marks agree h. serves_world s sent half w _ machine (idle s marks c w (place, Whole frame) (sym (reads_there s sent half w machine c lt h) ∙ idle_)) h)
+    (λ sound s sent half w place marks agree h. serves_world s sent half w _ machine
+    (idle s marks c w (place, Whole frame) (sym (reads_there s sent half w machine c lt h) ∙ idle_)) h)
 
 -- ---- a login is under way
 
@@ -50,66 +53,82 @@ record IsLoggingIn (names : List (List ℕ)) (login : LoginState) (o : Option Li
   phase : life.phase ≡ LoggingIn
   known : remembered names (life.connection + 1) life.requests ≡ login
 
-logging_in_for : (names : List (List ℕ)) (login : LoginState) (life : Life) (ph : Phase) → life.phase ≡ ph → phase_for names life ph ≡ phases.Login login → IsLoggingIn names login (Some life)
+logging_in_for : (names : List (List ℕ)) (login : LoginState) (life : Life) (ph : Phase) → life.phase ≡ ph
+    → phase_for names life ph ≡ phases.Login login → IsLoggingIn names login (Some life)
 logging_in_for names login life LoggingIn e same = record { life = life; at = refl; phase = e; known = cc }
 logging_in_for names login life (FullFeature session) e same = absurd cc
 logging_in_for names login life Closing e same = absurd cc
 logging_in_for names login life Over e same = absurd cc
 
-logging_in_of : (names : List (List ℕ)) (sent : ℕ) (half : List ℕ) (login : LoginState) (o : Option Life) → (link_of names sent half o).phase ≡ phases.Login login → IsLoggingIn names login o
+logging_in_of : (names : List (List ℕ)) (sent : ℕ) (half : List ℕ) (login : LoginState) (o : Option Life)
+    → (link_of names sent half o).phase ≡ phases.Login login → IsLoggingIn names login o
 logging_in_of names sent half login None same = absurd cc
 logging_in_of names sent half login (Some life) same = logging_in_for names login life life.phase refl same
 
-logging_in : (s : Setting) (sent : ℕ → ℕ) (half : ℕ → List ℕ) (w : World) (machine : Machine) (c : ℕ) (login : LoginState) → c < connection_limit → Serves s sent half w machine → (link_at machine c).phase ≡ phases.Login login
+logging_in : (s : Setting) (sent : ℕ → ℕ) (half : ℕ → List ℕ) (w : World) (machine : Machine) (c : ℕ) (login : LoginState) → c < connection_limit
+    → Serves s sent half w machine → (link_at machine c).phase ≡ phases.Login login
     → IsLoggingIn s.names login (present c w)
 logging_in s sent half w machine c login lt h e =
     logging_in_of s.names (sent c) (half c) login (present c w) (sym (ap (λ (l : LinkState). l.phase) (link_is s sent half w machine c lt h)) ∙ e)
 
-pub unmarked_step : (marks : List Mark) (c : ℕ) (point : Point) (act : World → World) (w : World) → reads_life (present c w) ≡ true → is_marked marks c point ≡ false → take_step marks c point act w ≡ act (reaching c (point ∷ []) w)
+pub unmarked_step : (marks : List Mark) (c : ℕ) (point : Point) (act : World → World) (w : World) → reads_life (present c w) ≡ true
+    → is_marked marks c point ≡ false → take_step marks c point act w ≡ act (reaching c (point ∷ []) w)
 unfolding take_step
 unmarked_step marks c point act w r u = rw (r, u) refl
 
-pub marked_step : (marks : List Mark) (c : ℕ) (point : Point) (act : World → World) (w : World) → reads_life (present c w) ≡ true → is_marked marks c point ≡ true → take_step marks c point act w ≡ close c (reaching c (point ∷ []) w)
+pub marked_step : (marks : List Mark) (c : ℕ) (point : Point) (act : World → World) (w : World) → reads_life (present c w) ≡ true
+    → is_marked marks c point ≡ true → take_step marks c point act w ≡ close c (reaching c (point ∷ []) w)
 unfolding take_step
 marked_step marks c point act w r u = rw (r, u) refl
 
 -- what becomes whole on a connection that reads, where no allocation fails
-pub arrived : (s : Setting) (marks : List Mark) (c : ℕ) (w : World) (place : ℕ) (arrival : Arrival) → reads_life (present c w) ≡ true → Agrees (is_of_frame place) marks []
+pub arrived : (s : Setting) (marks : List Mark) (c : ℕ) (w : World) (place : ℕ) (arrival : Arrival) → reads_life (present c w) ≡ true
+    → Agrees (is_of_frame place) marks []
     → arrive s marks c w (place, arrival) ≡ comes s marks c place arrival (reaching c (Arriving place ∷ []) w)
 unfolding arrive
 arrived s marks c w place arrival r agree =
-    unmarked_step marks c (Arriving place) (comes s marks c place arrival) w r (agree (mark_at c (Arriving place)) (eqb_self place) ∙ marked_none c (Arriving place))
+    unmarked_step marks c (Arriving place) (comes s marks c place arrival) w r (agree (mark_at c (Arriving place)) (eqb_self place)
+    ∙ marked_none c (Arriving place))
 
-arrived_free : (s : Setting) (marks : List Mark) (c : ℕ) (w : World) (place : ℕ) (arrival : Arrival) → reads_life (present c w) ≡ true → is_marked marks c (Arriving place) ≡ false
+arrived_free : (s : Setting) (marks : List Mark) (c : ℕ) (w : World) (place : ℕ) (arrival : Arrival) → reads_life (present c w) ≡ true
+    → is_marked marks c (Arriving place) ≡ false
     → arrive s marks c w (place, arrival) ≡ comes s marks c place arrival (reaching c (Arriving place ∷ []) w)
 unfolding arrive
 arrived_free s marks c w place arrival r free = unmarked_step marks c (Arriving place) (comes s marks c place arrival) w r free
 
 -- by the phase of its present life
-pub arrived_in : (s : Setting) (marks : List Mark) (c : ℕ) (w : World) (place : ℕ) (frame : Frame) (life : Life) (phase : Phase) → present c w ≡ Some life → life.phase ≡ phase
+pub arrived_in : (s : Setting) (marks : List Mark) (c : ℕ) (w : World) (place : ℕ) (frame : Frame) (life : Life) (phase : Phase)
+    → present c w ≡ Some life → life.phase ≡ phase
     → comes s marks c place (Whole frame) (reaching c (Arriving place ∷ []) w) ≡ taken_in s marks c place frame phase (reaching c (Arriving place ∷ []) w)
 arrived_in s marks c w place frame life phase at e =
     let v = reaching c (Arriving place ∷ []) w in
-    ap (λ (o : Option Life). taken_by s marks c place frame o v) (present-reaching c c (Arriving place ∷ []) w ∙ at) ∙ ap (λ (p : Phase). taken_in s marks c place frame p v) e
+    ap (λ (o : Option Life). taken_by s marks c place frame o v) (present-reaching c c (Arriving place ∷ []) w ∙ at)
+    ∙ ap (λ (p : Phase). taken_in s marks c place frame p v) e
 
 -- a frame that is no Login request closes it
-pub takes_closed : (given after : Machine) (c : ℕ) (frame : Frame) (login : LoginState) → c < connection_limit → (link_at given c).phase ≡ phases.Login login → is_login frame ≡ false → after ≡ closed given c → Takes c frame None given after
-takes_closed given after c frame login lt phase other is = does_nothing is_of_frame (λ s marks place w. arrive s marks c w (place, Whole frame)) kept given after
+pub takes_closed : (given after : Machine) (c : ℕ) (frame : Frame) (login : LoginState) → c < connection_limit
+    → (link_at given c).phase ≡ phases.Login login → is_login frame ≡ false → after ≡ closed given c → Takes c frame None given after
+takes_closed given after c frame login lt phase other is = does_nothing is_of_frame (λ s marks place w. arrive s marks c w (place, Whole frame))
+    kept given after
     (λ sound s sent half w place marks agree h.
     (let l = logging_in s sent half w given c login lt h phase in
     let v = reaching c (Arriving place ∷ []) w in
-    let step = arrived s marks c w place (Whole frame) (ap reads_life l.at ∙ ap reads l.phase) agree ∙ arrived_in s marks c w place frame l.life LoggingIn l.at l.phase
+    let step = arrived s marks c w place (Whole frame) (ap reads_life l.at ∙ ap reads l.phase) agree
+    ∙ arrived_in s marks c w place frame l.life LoggingIn l.at l.phase
     ∙ cond_false (is_login frame) (log_in s c frame v) (close c v) other in
     serves_world s sent half (close c v) _ after step (serves_as s sent half (close c v) (closed given c) after is
-    (closes s sent half v given c l.life lt (serves_reaching s sent half w given c (Arriving place ∷ []) h) (present-reaching c c (Arriving place ∷ []) w ∙ l.at)))))
+    (closes s sent half v given c l.life lt (serves_reaching s sent half w given c (Arriving place ∷ []) h)
+    (present-reaching c c (Arriving place ∷ []) w ∙ l.at)))))
 
 -- a Login request
-pub takes_login : (given after : Machine) (c : ℕ) (frame : Frame) (login : LoginState) → c < connection_limit → (link_at given c).phase ≡ phases.Login login → is_login frame ≡ true → after ≡ logged_in given c login frame → Takes c frame None given after
+pub takes_login : (given after : Machine) (c : ℕ) (frame : Frame) (login : LoginState) → c < connection_limit
+    → (link_at given c).phase ≡ phases.Login login → is_login frame ≡ true → after ≡ logged_in given c login frame → Takes c frame None given after
 takes_login given after c frame login lt phase logs is = does_nothing is_of_frame (λ s marks place w. arrive s marks c w (place, Whole frame)) kept given after
     (λ sound s sent half w place marks agree h.
     (let l = logging_in s sent half w given c login lt h phase in
     let v = reaching c (Arriving place ∷ []) w in
-    let step = arrived s marks c w place (Whole frame) (ap reads_life l.at ∙ ap reads l.phase) agree ∙ arrived_in s marks c w place frame l.life LoggingIn l.at l.phase
+    let step = arrived s marks c w place (Whole frame) (ap reads_life l.at ∙ ap reads l.phase) agree
+    ∙ arrived_in s marks c w place frame l.life LoggingIn l.at l.phase
     ∙ cond_true (is_login frame) (log_in s c frame v) (close c v) logs in
     let enters : Entering s sent half v given c l.life = record {
       in_range = lt;
@@ -139,15 +158,18 @@ starves given after c arrival lt r is = record {
   stands = λ sound s sent half w place marks agree h.
       (let there = some_reads (present c w) (sym (reads_there s sent half w given c lt h) ∙ r) in
       let v = reaching c (Arriving place ∷ []) w in
-      let step = marked_step marks c (Arriving place) (comes s marks c place arrival) w (ap reads_life there.1 ∙ there.2) (agree (mark_at c (Arriving place)) (eqb_self place) ∙ marked_one c (Arriving place)) in
+      let step = marked_step marks c (Arriving place) (comes s marks c place arrival) w (ap reads_life there.1 ∙ there.2)
+      (agree (mark_at c (Arriving place)) (eqb_self place) ∙ marked_one c (Arriving place)) in
       rw step (
         serves_as s sent half (close c v) (closed given c) after is
-            (closes s sent half v given c there.0 lt (serves_reaching s sent half w given c (Arriving place ∷ []) h) (present-reaching c c (Arriving place ∷ []) w ∙ there.1)),
+            (closes s sent half v given c there.0 lt (serves_reaching s sent half w given c (Arriving place ∷ []) h)
+            (present-reaching c c (Arriving place ∷ []) w ∙ there.1)),
         reached_first c place w,
       ));
 }
 
-pub takes_starved : (given after : Machine) (c : ℕ) (frame : Frame) → c < connection_limit → is_reading (link_at given c).phase ≡ true → after ≡ closed given c → Takes c frame (Some c) given after
+pub takes_starved : (given after : Machine) (c : ℕ) (frame : Frame) → c < connection_limit → is_reading (link_at given c).phase ≡ true
+    → after ≡ closed given c → Takes c frame (Some c) given after
 takes_starved given after c frame lt r is = starves given after c (Whole frame) lt r is
 
 -- ---- a session
@@ -156,12 +178,15 @@ target_same : (past : Past) → (session_remembered past).params.target ≡ past
 target_same past = refl
 
 -- its session served the frame, and then the sessions of its target were settled
-pub takes_served : (c target : ℕ) (frame : Frame) (given middle after : Machine) (failed : Option (ℕ → Step)) (goes_on : Bool) (starved : Option ℕ) → (k : Calls (λ f place. served f place frame) failed goes_on c given middle)
-    → k.state.params.target ≡ target → ((place : ℕ) → list_all (is_taken_at place) (marks_of c failed place) ≡ true) → (IsSound after → IsSound middle) → Settles target starved middle after
+pub takes_served : (c target : ℕ) (frame : Frame) (given middle after : Machine) (failed : Option (ℕ → Step)) (goes_on : Bool) (starved : Option ℕ)
+    → (k : Calls (λ f place. served f place frame) failed goes_on c given middle)
+    → k.state.params.target ≡ target → ((place : ℕ) → list_all (is_taken_at place) (marks_of c failed place) ≡ true)
+    → (IsSound after → IsSound middle) → Settles target starved middle after
     → Takes c frame (first_of (starved_if failed c) starved) given after
 unfolding serve
 takes_served c target frame given middle after failed goes_on starved k same of_kind back settles =
-    let both = does_then is_taken_at is_done_at is_step_at (λ s marks place w. take_in marks c place frame w) (λ s marks place w. settle marks place target w) kept kept (starved_if failed c) starved given middle after
+    let both = does_then is_taken_at is_done_at is_step_at (λ s marks place w. take_in marks c place frame w)
+    (λ s marks place w. settle marks place target w) kept kept (starved_if failed c) starved given middle after
     taken_done done_taken taken_step done_step back (λ s marks place w. on-settle marks place target w)
     (serves_does failed goes_on c frame given middle k of_kind) settles in
     record {
@@ -174,10 +199,13 @@ takes_served c target frame given middle after failed goes_on starved k same of_
           let v = reaching c (Arriving place ∷ []) w in
           let target_is : there.0.params.target ≡ target = sym (ap (λ (x : SessionState). x.params.target) there.2 ∙ target_same there.0) ∙ same in
           let free : is_marked marks c (Arriving place) ≡ false =
-          agree (mark_at c (Arriving place)) (eqb_self place) ∙ unmarked (is_step_at place) (both.failed place) (mark_at c (Arriving place)) (both.of_kind place) (and_false (eqb place place)) in
-          let step = arrived_free s marks c w place (Whole frame) (ap reads_life a.at ∙ ap reads a.phase) free ∙ arrived_in s marks c w place frame a.life (FullFeature there.0) a.at a.phase
+          agree (mark_at c (Arriving place)) (eqb_self place) ∙ unmarked (is_step_at place) (both.failed place) (mark_at c (Arriving place))
+          (both.of_kind place) (and_false (eqb place place)) in
+          let step = arrived_free s marks c w place (Whole frame) (ap reads_life a.at ∙ ap reads a.phase) free
+          ∙ arrived_in s marks c w place frame a.life (FullFeature there.0) a.at a.phase
           ∙ ap (λ (t : ℕ). settle marks place t (take_in marks c place frame v)) target_is in
-          rw step (both.stands sound s sent half v place marks (λ mark is. agree mark (step_within place mark is)) (serves_reaching s sent half w given c (Arriving place ∷ []) h)));
+          rw step (both.stands sound s sent half v place marks (λ mark is. agree mark (step_within place mark is))
+          (serves_reaching s sent half w given c (Arriving place ∷ []) h)));
     }
 
 -- ---- the sessions of a target are settled, one after the other
@@ -212,27 +240,36 @@ below_all c place mark e = (and_true (nat_lt mark.connection c) (is_done_at plac
 
 -- those below this connection
 abbrev pub SettledBelow : ℕ → ℕ → Option ℕ → Machine → Machine → Type 0
-SettledBelow target c starved given after = Does (is_done_below c) (λ s marks place w. fold (settle_one marks place target) w (range_with_len 0 c)) kept starved given after
+SettledBelow target c starved given after = Does (is_done_below c) (λ s marks place w. fold (settle_one marks place target) w (range_with_len 0 c))
+    kept starved given after
 
 pub none_settled : (target : ℕ) (machine : Machine) → SettledBelow target 0 None machine machine
-none_settled target machine = does_nothing (is_done_below 0) (λ s marks place w. fold (settle_one marks place target) w (range_with_len 0 0)) kept machine machine (λ sound s sent half w place marks agree h. h)
+none_settled target machine = does_nothing (is_done_below 0) (λ s marks place w. fold (settle_one marks place target) w (range_with_len 0 0)) kept
+    machine machine (λ sound s sent half w place marks agree h. h)
 
-fold_next : (marks : List Mark) (place target c : ℕ) (w : World) → fold (settle_one marks place target) w (range_with_len 0 (c + 1)) ≡ settle_one marks place target (fold (settle_one marks place target) w (range_with_len 0 c)) c
-fold_next marks place target c w = ap (fold (settle_one marks place target) w) (range_next c) ∙ fold-append (settle_one marks place target) w (range_with_len 0 c) (c ∷ [])
+fold_next : (marks : List Mark) (place target c : ℕ) (w : World) → fold (settle_one marks place target) w (range_with_len 0 (c + 1))
+    ≡ settle_one marks place target (fold (settle_one marks place target) w (range_with_len 0 c)) c
+fold_next marks place target c w = ap (fold (settle_one marks place target) w) (range_next c)
+    ∙ fold-append (settle_one marks place target) w (range_with_len 0 c) (c ∷ [])
 
-pub settled_next : (target c : ℕ) (a b : Option ℕ) (given middle after : Machine) → (IsSound after → IsSound middle) → SettledBelow target c a given middle → SettlesOne target c b middle after → SettledBelow target (c + 1) (first_of a b) given after
+pub settled_next : (target c : ℕ) (a b : Option ℕ) (given middle after : Machine) → (IsSound after → IsSound middle)
+    → SettledBelow target c a given middle → SettlesOne target c b middle after → SettledBelow target (c + 1) (first_of a b) given after
 settled_next target c a b given middle after back so_far one =
     does_as (is_done_below (c + 1)) (λ s marks place w. settle_one marks place target (fold (settle_one marks place target) w (range_with_len 0 c)) c)
     (λ s marks place w. fold (settle_one marks place target) w (range_with_len 0 (c + 1))) (λ half. kept (kept half)) (first_of a b) given after
     (λ s sent half w place marks h. fold_next marks place target c w)
-    (does_then (is_done_below c) (is_done_by c) (is_done_below (c + 1)) (λ s marks place w. fold (settle_one marks place target) w (range_with_len 0 c)) (λ s marks place w. settle_one marks place target w c)
-    kept kept a b given middle after (below_here c) (here_below c) (below_more c) (here_more c) back (λ s marks place w. on-settle_one marks place target w c) so_far one)
+    (does_then (is_done_below c) (is_done_by c) (is_done_below (c + 1))
+    (λ s marks place w. fold (settle_one marks place target) w (range_with_len 0 c)) (λ s marks place w. settle_one marks place target w c)
+    kept kept a b given middle after (below_here c) (here_below c) (below_more c) (here_more c) back
+    (λ s marks place w. on-settle_one marks place target w c) so_far one)
 
-pub all_settled : (target : ℕ) (starved : Option ℕ) (given after : Machine) → SettledBelow target connection_limit starved given after → Settles target starved given after
+pub all_settled : (target : ℕ) (starved : Option ℕ) (given after : Machine) → SettledBelow target connection_limit starved given after
+    → Settles target starved given after
 unfolding settle
 all_settled target starved given after d = record {
   failed = d.failed;
   first = d.first;
   of_kind = λ place. all_wider (is_done_below connection_limit place) (is_done_at place) (d.failed place) (below_all connection_limit place) (d.of_kind place);
-  stands = λ sound s sent half w place marks agree h. d.stands sound s sent half w place marks (λ mark is. agree mark (below_all connection_limit place mark is)) h;
+  stands = λ sound s sent half w place marks agree h. d.stands sound s sent half w place marks
+      (λ mark is. agree mark (below_all connection_limit place mark is)) h;
 }

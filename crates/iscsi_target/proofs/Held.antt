@@ -14,7 +14,7 @@ use Rattle.iscsi_session.specs.Runs.{Runs, Stops}
 use Rattle.iscsi_target.specs.History.{Mark, connection_limit}
 use Rattle.iscsi_target.specs.Life.{Life, Phase, LoggingIn, FullFeature, Closing, Over, past_in}
 use Rattle.iscsi_target.specs.World.{Setting, World, present, past_of, settled_by, settle_one}
-use Rattle.iscsi_target.specs.Machine.{LinkState, Machine, IsSound, IsSure, IsWithin, link_at, with_link, free_link, is_reading, closed}
+use Rattle.iscsi_target.specs.Machine.{LinkState, Machine, IsSound, IsSure, IsWithin, link_at, with_link, free_link, is_reading, is_logging_in, closed}
 use Rattle.iscsi_target.specs.Stands.{phase_for, link_of}
 use Rattle.iscsi_target.specs.Serving.{Serves, Moves, kept, is_done_by, is_taken_at, Settles, SettlesOne, Takes, first_of, starved_by, goes_on_by, ended_unless}
 use Rattle.iscsi_target.specs.declared.phase.Phase.{Phase as CodePhase}
@@ -26,13 +26,14 @@ use Rattle.iscsi_target.proofs.Working.{session_link, left_by}
 use Rattle.iscsi_target.proofs.Doing.{does_nothing}
 use Rattle.iscsi_target.proofs.AtWork.{marks_of, starved_if, Calls, settles_does, serve_kind}
 use Rattle.iscsi_target.proofs.Frames.{takes_served}
-use Rattle.iscsi_target.proofs.Moving.{changes_moves, session_changes, session_half, units_back, units_sure, moves_as, moves_then, closed_moves}
+use Rattle.iscsi_target.proofs.Moving.{IsOwn, own_self, changes_moves, session_changes, session_half, units_back, units_sure, moves_as, moves_then, closed_moves, starved_moves}
 
 abbrev pub viewed : List ℕ → CodePhase → List ℕ → LinkState
 viewed framer phase waiting = record { half = cond (is_reading phase) framer []; phase = phase; waiting = waiting }
 
 -- the borrowed link is that of the list
-pub held_here : (links : List LinkState) (c : ℕ) (d value view : LinkState) → length links ≡ 64 → c < 64 → value ≡ get_or links c d → view ≡ value → view ≡ get_or links c free_link
+pub held_here : (links : List LinkState) (c : ℕ) (d value view : LinkState) → length links ≡ 64 → c < 64 → value ≡ get_or links c d → view ≡ value
+    → view ≡ get_or links c free_link
 held_here links c d value view count lt e v = v ∙ e ∙ get_or_any links c d free_link (omega (arith, count))
 
 -- it was written back as it was
@@ -47,25 +48,29 @@ IsOther target phase = (state : SessionState) → phase ≡ phases.FullFeature s
 target_is : (past : Past) → (remembered past).params.target ≡ past.params.target
 target_is past = refl
 
-other_in : (names : List (List ℕ)) (marks : List Mark) (place target c : ℕ) (w : World) (life : Life) (phase : Phase) → IsOther target (phase_for names life phase) → settled_by (past_in phase) marks place target c w ≡ w
+other_in : (names : List (List ℕ)) (marks : List Mark) (place target c : ℕ) (w : World) (life : Life) (phase : Phase)
+    → IsOther target (phase_for names life phase) → settled_by (past_in phase) marks place target c w ≡ w
 other_in names marks place target c w life LoggingIn other = refl
 other_in names marks place target c w life (FullFeature past) other =
     cond_false (eqb past.params.target target) _ w (ne_eqb past.params.target target (λ same. other (remembered past) refl (target_is past ∙ same)))
 other_in names marks place target c w life Closing other = refl
 other_in names marks place target c w life Over other = refl
 
-other_of : (names : List (List ℕ)) (sent : ℕ) (half : List ℕ) (marks : List Mark) (place target c : ℕ) (w : World) (o : Option Life) → IsOther target (link_of names sent half o).phase → settled_by (past_of o) marks place target c w ≡ w
+other_of : (names : List (List ℕ)) (sent : ℕ) (half : List ℕ) (marks : List Mark) (place target c : ℕ) (w : World) (o : Option Life)
+    → IsOther target (link_of names sent half o).phase → settled_by (past_of o) marks place target c w ≡ w
 other_of names sent half marks place target c w None other = refl
 other_of names sent half marks place target c w (Some life) other = other_in names marks place target c w life life.phase other
 
-settles_other : (s : Setting) (sent : ℕ → ℕ) (half : ℕ → List ℕ) (w : World) (machine : Machine) (c target place : ℕ) (marks : List Mark) → c < connection_limit → Serves s sent half w machine → IsOther target (link_at machine c).phase
+settles_other : (s : Setting) (sent : ℕ → ℕ) (half : ℕ → List ℕ) (w : World) (machine : Machine) (c target place : ℕ) (marks : List Mark)
+    → c < connection_limit → Serves s sent half w machine → IsOther target (link_at machine c).phase
     → settle_one marks place target w c ≡ w
 unfolding settle_one
 settles_other s sent half w machine c target place marks lt h other =
     let P : LinkState → Type 0 = λ l. IsOther target l.phase in
     other_of s.names (sent c) (half c) marks place target c w (present c w) (subst P (link_is s sent half w machine c lt h) other)
 
-pub settles_none : (machine : Machine) (c target : ℕ) → c < connection_limit → IsOther target (link_at machine c).phase → SettlesOne target c None machine machine
+pub settles_none : (machine : Machine) (c target : ℕ) → c < connection_limit → IsOther target (link_at machine c).phase
+    → SettlesOne target c None machine machine
 settles_none machine c target lt other = does_nothing (is_done_by c) (λ s marks place w. settle_one marks place target w c) kept machine machine
     (λ sound s sent half w place marks agree h. serves_world s sent half w _ machine (settles_other s sent half w machine c target place marks lt h other) h)
 
@@ -74,10 +79,15 @@ settles_none machine c target lt other = does_nothing (is_done_by c) (λ s marks
 reads_in : (phase : CodePhase) (state : SessionState) → phase ≡ phases.FullFeature state → is_reading phase ≡ true
 reads_in phase state e = ap is_reading e
 
-pub session_calls : (run : (Step → Bool) → ℕ → Work → Work) (failed : Option (ℕ → Step)) (goes_on : Bool) (c : ℕ) (machine after : Machine) (framer : List ℕ) (phase : CodePhase) (before waiting : List ℕ)
-    (state then_ : SessionState) (units units_then : UnitStates) → c < connection_limit → viewed framer phase before ≡ link_at machine c → phase ≡ phases.FullFeature state
+pub session_calls : (run : (Step → Bool) → ℕ → Work → Work) (failed : Option (ℕ → Step)) (goes_on : Bool) (c : ℕ) (machine after : Machine)
+    (framer : List ℕ) (phase : CodePhase) (before waiting : List ℕ)
+    (state then_ : SessionState) (units units_then : UnitStates) → c < connection_limit → viewed framer phase before ≡ link_at machine c
+    → phase ≡ phases.FullFeature state
     → slice_index_or machine.units state.params.target [] ≡ units → (IsSound after → Runs run failed goes_on state then_ before waiting units units_then)
-    → after ≡ left_by goes_on c (record machine { units = slice_set machine.units state.params.target units_then; links = slice_set machine.links c (viewed framer (phases.FullFeature then_) waiting) })
+    → after ≡ left_by goes_on c (record machine {
+      units = slice_set machine.units state.params.target units_then;
+      links = slice_set machine.links c (viewed framer (phases.FullFeature then_) waiting);
+    })
     → Calls run failed goes_on c machine after
 session_calls run failed goes_on c machine after framer phase before waiting state then_ units units_then lt link is target runs e = record {
   in_range = lt;
@@ -96,41 +106,59 @@ session_calls run failed goes_on c machine after framer phase before waiting sta
 }
 
 -- what it leaves of every target
-pub session_moves : (c : ℕ) (machine : Machine) (framer : List ℕ) (phase : CodePhase) (before waiting : List ℕ) (state then_ : SessionState) (units units_then : UnitStates) → c < length machine.links
-    → viewed framer phase before ≡ link_at machine c → phase ≡ phases.FullFeature state → state.params.target < length machine.units → slice_index_or machine.units state.params.target [] ≡ units
+pub session_moves : (b c : ℕ) (machine : Machine) (framer : List ℕ) (phase : CodePhase) (before waiting : List ℕ) (state then_ : SessionState)
+    (units units_then : UnitStates) → c < length machine.links
+    → viewed framer phase before ≡ link_at machine c → phase ≡ phases.FullFeature state → state.params.target < length machine.units
+    → slice_index_or machine.units state.params.target [] ≡ units
     → (more : List ℕ) × (waiting ≡ before ++ more) → (AreSound units_then → AreSound units) → (AreSure units → AreSure units_then)
-    → Moves machine (record machine { units = slice_set machine.units state.params.target units_then; links = slice_set machine.links c (viewed framer (phases.FullFeature then_) waiting) })
-session_moves c machine framer phase before waiting state then_ units units_then lt link is below target grows back sure =
+    → Moves b None machine (record machine {
+      units = slice_set machine.units state.params.target units_then;
+      links = slice_set machine.links c (viewed framer (phases.FullFeature then_) waiting);
+    })
+session_moves b c machine framer phase before waiting state then_ units units_then lt link is below target grows back sure =
     let new = viewed framer (phases.FullFeature then_) waiting in
     let all = slice_set machine.units state.params.target units_then in
-    let old_half : framer ≡ (link_at machine c).half = sym (cond_true (is_reading phase) framer [] (reads_in phase state is)) ∙ ap (λ (l : LinkState). l.half) link in
-    changes_moves machine all c new lt
+    let old_half : framer ≡ (link_at machine c).half = sym (cond_true (is_reading phase) framer [] (reads_in phase state is))
+    ∙ ap (λ (l : LinkState). l.half) link in
+    let own : IsOwn b machine c = λ other. ap (λ (l : LinkState). is_logging_in l.phase) (sym link) ∙ ap is_logging_in is in
+    changes_moves b machine all c new lt
     (session_changes (link_at machine c) new (ap (λ (l : LinkState). is_reading l.phase) (sym link) ∙ reads_in phase state is) refl
-    (grows.0, grows.1 ∙ ap (λ (l : LinkState). l.waiting ++ grows.0) link)) (session_half (link_at machine c) new refl old_half)
+    (grows.0, grows.1 ∙ ap (λ (l : LinkState). l.waiting ++ grows.0) link)) own (session_half (link_at machine c) new refl old_half)
     (length-set machine.units state.params.target units_then)
     (units_back machine (slice_set machine.links c new) state.params.target units_then below (λ sound. subst AreSound (sym target) (back sound)))
     (units_sure machine (slice_set machine.links c new) state.params.target units_then (λ s. sure (subst AreSure target s)))
 
 -- the units of a sound target that were worked on are sound
-pub sound_there : (machine : Machine) (links : List LinkState) (target : ℕ) (units : UnitStates) → target < length machine.units → (let after : Machine = record machine { units = slice_set machine.units target units; links = links } in IsSound after) → AreSound units
+pub sound_there : (machine : Machine) (links : List LinkState) (target : ℕ) (units : UnitStates) → target < length machine.units
+    → (let after : Machine = record machine { units = slice_set machine.units target units; links = links } in IsSound after) → AreSound units
 sound_there machine links target units below sound =
     subst AreSound (get_or-set_same machine.units target units [] below) (sound target [] (omega (arith, below, length-set machine.units target units)))
 
 -- the units as they are borrowed
-pub units_here : (all : List UnitStates) (target at : ℕ) (d value : UnitStates) → target < length all → at ≡ target → value ≡ get_or all target d → slice_index_or all at [] ≡ value
+pub units_here : (all : List UnitStates) (target at : ℕ) (d value : UnitStates) → target < length all → at ≡ target → value ≡ get_or all target d
+    → slice_index_or all at [] ≡ value
 units_here all target at d value below same e = ap (λ (t : ℕ). slice_index_or all t []) same ∙ get_or_any all target [] d below ∙ sym e
 
 pub same_session : (a b : SessionState) → phases.FullFeature a ≡ phases.FullFeature b → a ≡ b
 same_session a b e = cc
 
 -- the same where the target is named otherwise
-pub settle_moves : (c target : ℕ) (machine : Machine) (framer : List ℕ) (phase : CodePhase) (before waiting : List ℕ) (state then_ : SessionState) (units units_then : UnitStates) → c < length machine.links
-    → viewed framer phase before ≡ link_at machine c → phase ≡ phases.FullFeature state → state.params.target ≡ target → target < length machine.units → slice_index_or machine.units state.params.target [] ≡ units
+pub settle_moves : (b c target : ℕ) (machine : Machine) (framer : List ℕ) (phase : CodePhase) (before waiting : List ℕ) (state then_ : SessionState)
+    (units units_then : UnitStates) → c < length machine.links
+    → viewed framer phase before ≡ link_at machine c → phase ≡ phases.FullFeature state → state.params.target ≡ target
+    → target < length machine.units → slice_index_or machine.units state.params.target [] ≡ units
     → (more : List ℕ) × (waiting ≡ before ++ more) → (AreSound units_then → AreSound units) → (AreSure units → AreSure units_then)
-    → Moves machine (record machine { units = slice_set machine.units target units_then; links = slice_set machine.links c (viewed framer (phases.FullFeature then_) waiting) })
-settle_moves c target machine framer phase before waiting state then_ units units_then lt link is same below at grows back sure =
-    let P : ℕ → Type 0 = λ t. Moves machine (record machine { units = slice_set machine.units t units_then; links = slice_set machine.links c (viewed framer (phases.FullFeature then_) waiting) }) in
-    subst P same (session_moves c machine framer phase before waiting state then_ units units_then lt link is (subst (λ (t : ℕ). t < length machine.units) (sym same) below) at grows back sure)
+    → Moves b None machine (record machine {
+      units = slice_set machine.units target units_then;
+      links = slice_set machine.links c (viewed framer (phases.FullFeature then_) waiting);
+    })
+settle_moves b c target machine framer phase before waiting state then_ units units_then lt link is same below at grows back sure =
+    let P : ℕ → Type 0 = λ t. Moves b None machine (record machine {
+      units = slice_set machine.units t units_then;
+      links = slice_set machine.links c (viewed framer (phases.FullFeature then_) waiting);
+    }) in
+    subst P same (session_moves b c machine framer phase before waiting state then_ units units_then lt link is
+    (subst (λ (t : ℕ). t < length machine.units) (sym same) below) at grows back sure)
 
 -- the target as a session's call left it
 abbrev pub called : Machine → ℕ → ℕ → UnitStates → LinkState → Machine
@@ -140,8 +168,10 @@ called_at : (machine : Machine) (c a b : ℕ) (units : UnitStates) (link : LinkS
 called_at machine c a b units link e = ap (λ (t : ℕ). called machine c t units link) e
 
 -- the commands of a session of this target were done, or those before one
-pub settle_does : (failed : Option (ℕ → Step)) (goes_on : Bool) (c target : ℕ) (machine after : Machine) (framer : List ℕ) (phase : CodePhase) (before waiting : List ℕ)
-    (state then_ : SessionState) (units units_then : UnitStates) → c < connection_limit → viewed framer phase before ≡ link_at machine c → phase ≡ phases.FullFeature state → state.params.target ≡ target
+pub settle_does : (failed : Option (ℕ → Step)) (goes_on : Bool) (c target : ℕ) (machine after : Machine) (framer : List ℕ) (phase : CodePhase)
+    (before waiting : List ℕ)
+    (state then_ : SessionState) (units units_then : UnitStates) → c < connection_limit → viewed framer phase before ≡ link_at machine c
+    → phase ≡ phases.FullFeature state → state.params.target ≡ target
     → slice_index_or machine.units state.params.target [] ≡ units → (IsSound after → Runs settled failed goes_on state then_ before waiting units units_then)
     → ((place : ℕ) → list_all (is_done_by c place) (marks_of c failed place) ≡ true)
     → after ≡ left_by goes_on c (called machine c target units_then (viewed framer (phases.FullFeature then_) waiting))
@@ -150,56 +180,78 @@ unfolding session_calls
 settle_does failed goes_on c target machine after framer phase before waiting state then_ units units_then lt link is same at runs kind e =
     settles_does failed goes_on c target machine after
     (session_calls settled failed goes_on c machine after framer phase before waiting state then_ units units_then lt link is at runs
-    (e ∙ ap (left_by goes_on c) (called_at machine c target state.params.target units_then (viewed framer (phases.FullFeature then_) waiting) (sym same)))) same kind
+    (e ∙ ap (left_by goes_on c) (called_at machine c target state.params.target units_then (viewed framer (phases.FullFeature then_) waiting)
+    (sym same)))) same kind
 
 -- ---- a frame that a session serves
 
 -- no units were touched
-same_units : (machine : Machine) (c target : ℕ) (link : LinkState) → called machine c target (slice_index_or machine.units target []) link ≡ with_link machine c link
-same_units machine c target link = ap (λ (all : List UnitStates). let m : Machine = record { names = machine.names; units = all; links = slice_set machine.links c link } in m) (set-get_or machine.units target [])
+same_units : (machine : Machine) (c target : ℕ) (link : LinkState) → called machine c target (slice_index_or machine.units target []) link
+    ≡ with_link machine c link
+same_units machine c target link = ap (λ (all : List UnitStates). let m : Machine =
+    record { names = machine.names; units = all; links = slice_set machine.links c link } in m) (set-get_or machine.units target [])
 
 abbrev pub Served : Frame → Option (ℕ → Step) → Bool → SessionState → SessionState → List ℕ → List ℕ → Type 0
-Served frame failed goes_on state then_ before waiting = (units : UnitStates) → Runs (λ fails place. served fails place frame) failed goes_on state then_ before waiting units units
+Served frame failed goes_on state then_ before waiting = (units : UnitStates)
+    → Runs (λ fails place. served fails place frame) failed goes_on state then_ before waiting units units
 
-serve_takes_by : (failed : Option (ℕ → Step)) (goes_on : Bool) (c target : ℕ) (frame : Frame) (machine middle after : Machine) (framer : List ℕ) (phase : CodePhase) (before waiting : List ℕ)
-    (state then_ : SessionState) (starved : Option ℕ) → c < connection_limit → viewed framer phase before ≡ link_at machine c → phase ≡ phases.FullFeature state → state.params.target ≡ target
+serve_takes_by : (failed : Option (ℕ → Step)) (goes_on : Bool) (c target : ℕ) (frame : Frame) (machine middle after : Machine) (framer : List ℕ)
+    (phase : CodePhase) (before waiting : List ℕ)
+    (state then_ : SessionState) (starved : Option ℕ) → c < connection_limit → viewed framer phase before ≡ link_at machine c
+    → phase ≡ phases.FullFeature state → state.params.target ≡ target
     → Served frame failed goes_on state then_ before waiting → ((place : ℕ) → list_all (is_taken_at place) (marks_of c failed place) ≡ true)
-    → middle ≡ left_by goes_on c (with_link machine c (viewed framer (phases.FullFeature then_) waiting)) → (IsSound after → IsSound middle) → Settles target starved middle after
+    → middle ≡ left_by goes_on c (with_link machine c (viewed framer (phases.FullFeature then_) waiting)) → (IsSound after → IsSound middle)
+    → Settles target starved middle after
     → Takes c frame (first_of (starved_if failed c) starved) machine after
 unfolding session_calls
 serve_takes_by failed goes_on c target frame machine middle after framer phase before waiting state then_ starved lt link is same runs kind e back settles =
     let units = slice_index_or machine.units state.params.target [] in
     takes_served c target frame machine middle after failed goes_on starved
-    (session_calls (λ f place. served f place frame) failed goes_on c machine middle framer phase before waiting state then_ units units lt link is refl (λ sound. runs units)
+    (session_calls (λ f place. served f place frame) failed goes_on c machine middle framer phase before waiting state then_ units units lt link is
+    refl (λ sound. runs units)
     (e ∙ ap (left_by goes_on c) (sym (same_units machine c state.params.target (viewed framer (phases.FullFeature then_) waiting))))) same kind back settles
 
-pub serve_takes : {E : Type 0} (r : Result Bool E) (c target : ℕ) (frame : Frame) (machine middle after : Machine) (framer : List ℕ) (phase : CodePhase) (before waiting : List ℕ)
-    (state then_ : SessionState) (starved : Option ℕ) → c < connection_limit → viewed framer phase before ≡ link_at machine c → phase ≡ phases.FullFeature state → state.params.target ≡ target
-    → IfOk r (λ goes_on. Served frame None goes_on state then_ before waiting) → OnErr r (Stops is_serving (λ failed. Served frame failed false state then_ before waiting))
-    → middle ≡ ended_unless r c (with_link machine c (viewed framer (phases.FullFeature then_) waiting)) → (IsSound after → IsSound middle) → Settles target starved middle after
+pub serve_takes : {E : Type 0} (r : Result Bool E) (c target : ℕ) (frame : Frame) (machine middle after : Machine) (framer : List ℕ)
+    (phase : CodePhase) (before waiting : List ℕ)
+    (state then_ : SessionState) (starved : Option ℕ) → c < connection_limit → viewed framer phase before ≡ link_at machine c
+    → phase ≡ phases.FullFeature state → state.params.target ≡ target
+    → IfOk r (λ goes_on. Served frame None goes_on state then_ before waiting)
+    → OnErr r (Stops is_serving (λ failed. Served frame failed false state then_ before waiting))
+    → middle ≡ ended_unless r c (with_link machine c (viewed framer (phases.FullFeature then_) waiting)) → (IsSound after → IsSound middle)
+    → Settles target starved middle after
     → Takes c frame (first_of (starved_by c r) starved) machine after
 serve_takes (Ok goes_on) c target frame machine middle after framer phase before waiting state then_ starved lt link is same ok err e back settles =
-    serve_takes_by None goes_on c target frame machine middle after framer phase before waiting state then_ starved lt link is same ok (λ place. refl) e back settles
+    serve_takes_by None goes_on c target frame machine middle after framer phase before waiting state then_ starved lt link is same ok
+    (λ place. refl) e back settles
 serve_takes (Err x) c target frame machine middle after framer phase before waiting state then_ starved lt link is same ok err e back settles =
-    serve_takes_by (Some err.step) false c target frame machine middle after framer phase before waiting state then_ starved lt link is same err.leads (serve_kind c err.step err.of_frame err.of_kind) e back settles
+    serve_takes_by (Some err.step) false c target frame machine middle after framer phase before waiting state then_ starved lt link is same
+    err.leads (serve_kind c err.step err.of_frame err.of_kind) e back settles
 
-left_moves : (b : Bool) (c : ℕ) (given machine : Machine) → c < length machine.links → is_reading (link_at machine c).phase ≡ true → Moves given machine → Moves given (left_by b c machine)
-left_moves true c given machine lt reads m = m
-left_moves false c given machine lt reads m = moves_then given machine (closed machine c) m (closed_moves machine c lt reads)
+left_moves : {E : Type 0} (r : Result Bool E) (c : ℕ) (given machine : Machine) → c < length machine.links
+    → is_reading (link_at machine c).phase ≡ true → IsOwn c machine c
+    → Moves c None given machine → Moves c (starved_by c r) given (ended_unless r c machine)
+left_moves (Ok true) c given machine lt reads own m = m
+left_moves (Ok false) c given machine lt reads own m = moves_then c None None given machine (closed machine c) m (closed_moves c machine c lt reads own)
+left_moves (Err e) c given machine lt reads own m = moves_then c None (Some c) given machine (closed machine c) m (starved_moves c machine c lt reads own)
 
-pub serve_moves : {E : Type 0} (r : Result Bool E) (c : ℕ) (machine middle : Machine) (framer : List ℕ) (phase : CodePhase) (before waiting : List ℕ) (state then_ : SessionState) → c < length machine.links
-    → viewed framer phase before ≡ link_at machine c → phase ≡ phases.FullFeature state → state.params.target < length machine.units → (more : List ℕ) × (waiting ≡ before ++ more)
-    → middle ≡ ended_unless r c (with_link machine c (viewed framer (phases.FullFeature then_) waiting)) → Moves machine middle
+pub serve_moves : {E : Type 0} (r : Result Bool E) (c : ℕ) (machine middle : Machine) (framer : List ℕ) (phase : CodePhase)
+    (before waiting : List ℕ) (state then_ : SessionState) → c < length machine.links
+    → viewed framer phase before ≡ link_at machine c → phase ≡ phases.FullFeature state → state.params.target < length machine.units
+    → (more : List ℕ) × (waiting ≡ before ++ more)
+    → middle ≡ ended_unless r c (with_link machine c (viewed framer (phases.FullFeature then_) waiting)) → Moves c (starved_by c r) machine middle
 serve_moves r c machine middle framer phase before waiting state then_ lt link is below grows e =
     let new = viewed framer (phases.FullFeature then_) waiting in
     let units = slice_index_or machine.units state.params.target [] in
-    let first = session_moves c machine framer phase before waiting state then_ units units lt link is below refl grows (λ sound. sound) (λ sure. sure) in
-    let now : Moves machine (with_link machine c new) = subst (Moves machine) (same_units machine c state.params.target new) first in
-    moves_as machine (ended_unless r c (with_link machine c new)) middle e
-    (left_moves (goes_on_by r) c machine (with_link machine c new) (omega (arith, lt, length-set machine.links c new)) (ap (λ (l : LinkState). is_reading l.phase) (get_or-set_same machine.links c new free_link lt)) now)
+    let first = session_moves c c machine framer phase before waiting state then_ units units lt link is below refl grows (λ sound. sound) (λ sure. sure) in
+    let now : Moves c None machine (with_link machine c new) = subst (Moves c None machine) (same_units machine c state.params.target new) first in
+    moves_as c (starved_by c r) machine (ended_unless r c (with_link machine c new)) middle e
+    (left_moves r c machine (with_link machine c new) (omega (arith, lt, length-set machine.links c new))
+    (ap (λ (l : LinkState). is_reading l.phase) (get_or-set_same machine.links c new free_link lt))
+    (own_self c (with_link machine c new)) now)
 
 -- the target of a session is one of those that there are
-pub within_there : (machine : Machine) (c : ℕ) (state : SessionState) → c < length machine.links → (link_at machine c).phase ≡ phases.FullFeature state → All (λ (link : LinkState). IsWithin (length machine.units) link.phase) machine.links
+pub within_there : (machine : Machine) (c : ℕ) (state : SessionState) → c < length machine.links
+    → (link_at machine c).phase ≡ phases.FullFeature state → All (λ (link : LinkState). IsWithin (length machine.units) link.phase) machine.links
     → state.params.target < length machine.units
 within_there machine c state lt is all =
     let within : IsWithin (length machine.units) (link_at machine c).phase = all c free_link lt in

@@ -63,7 +63,11 @@ life_then x y z a b = record {
   connection = b.connection ∙ a.connection;
   over = b.over ∙ a.over;
   still = λ e. b.still (a.over ∙ e) ∙ a.still e;
-  answered = (a.answered.0 ++ b.answered.0, b.answered.1 ∙ ap (λ (front : List ℕ). front ++ b.answered.0) a.answered.1 ∙ append_assoc (out_of x) a.answered.0 b.answered.0);
+  answered = (
+    a.answered.0 ++ b.answered.0,
+    b.answered.1 ∙ ap (λ (front : List ℕ). front ++ b.answered.0) a.answered.1
+        ∙ append_assoc (out_of x) a.answered.0 b.answered.0,
+  );
 }
 
 -- ---- all lives
@@ -88,7 +92,8 @@ pub record Continues (f : Life → Life) (x : Life) : Type 0 where
 goes_by : (f : Life → Life) (x : Life) → is_over x.phase ≡ false → Continues f x → GoesOn x (f x)
 goes_by f x open_ c = record { connection = c.connection; over = c.is_open ∙ sym open_; still = λ e. absurd (cc (e, open_)); answered = c.answered }
 
-changed_by : (b : Bool) (f : Life → Life) (c : ℕ) (x : Life) (lives : List Life) → is_present c x ≡ b → ((life : Life) → find (is_present c) (x ∷ lives) ≡ Some life → Continues f life)
+changed_by : (b : Bool) (f : Life → Life) (c : ℕ) (x : Life) (lives : List Life) → is_present c x ≡ b
+    → ((life : Life) → find (is_present c) (x ∷ lives) ≡ Some life → Continues f life)
     → (((life : Life) → find (is_present c) lives ≡ Some life → Continues f life) → LivesGoOn lives (changed_first (is_present c) f lives))
     → LivesGoOn (x ∷ lives) (changed_first (is_present c) f (x ∷ lives))
 changed_by true f c x lives e each further =
@@ -98,7 +103,8 @@ changed_by false f c x lives e each further =
     let rest = further (λ life at. each life (cond_false (is_present c x) (Some x) (find (is_present c) lives) e ∙ at)) in
     subst (LivesGoOn (x ∷ lives)) (sym (cond_false (is_present c x) (f x ∷ lives) (x ∷ changed_first (is_present c) f lives) e)) (life_same x, rest)
 
-lives_changed : (f : Life → Life) (c : ℕ) (lives : List Life) → ((life : Life) → find (is_present c) lives ≡ Some life → Continues f life) → LivesGoOn lives (changed_first (is_present c) f lives)
+lives_changed : (f : Life → Life) (c : ℕ) (lives : List Life) → ((life : Life) → find (is_present c) lives ≡ Some life → Continues f life)
+    → LivesGoOn lives (changed_first (is_present c) f lives)
 lives_changed f c [] each = tt
 lives_changed f c (x ∷ lives) each = changed_by (is_present c x) f c x lives refl each (λ further. lives_changed f c lives further)
 
@@ -144,16 +150,19 @@ on-then w v u a b = record {
   reached = (a.reached.0 ++ b.reached.0, b.reached.1 ∙ ap (λ (l : List Mark). l ++ b.reached.0) a.reached.1 ∙ append_assoc w.reached a.reached.0 b.reached.0);
 }
 
-changed_stays : (f : Life → Life) (c : ℕ) (w : World) (o : Option Life) → present c w ≡ o → ((life : Life) → present c w ≡ Some life → Keeps f life) → Stays o (present c (changed f c w))
+changed_stays : (f : Life → Life) (c : ℕ) (w : World) (o : Option Life) → present c w ≡ o → ((life : Life) → present c w ≡ Some life → Keeps f life)
+    → Stays o (present c (changed f c w))
 unfolding changed present
 changed_stays f c w None at each = subst (λ (o : Option Life). Stays None o) (sym (ap (find (is_present c)) (changed_none f c w.lives at) ∙ at)) tt
 changed_stays f c w (Some x) at each =
     let k = each x at in
     let on = and_true (eqb x.connection c) (not (is_over x.phase)) (present_is c w x at) in
-    let here : is_present c (f x) ≡ true = ap (λ (n : ℕ). eqb n c && not (is_over (f x).phase)) k.goes.connection ∙ ap (λ (b : Bool). b && not (is_over (f x).phase)) on.0 ∙ ap not k.goes.is_open in
+    let here : is_present c (f x) ≡ true = ap (λ (n : ℕ). eqb n c && not (is_over (f x).phase)) k.goes.connection
+    ∙ ap (λ (b : Bool). b && not (is_over (f x).phase)) on.0 ∙ ap not k.goes.is_open in
     subst (λ (o : Option Life). Stays (Some x) o) (sym (present-changed f c w x at here)) (k.bytes, k.reads_so)
 
-other_stays : (f : Life → Life) (c d : ℕ) (w : World) → ((life : Life) → (f life).connection ≡ life.connection) → d ≢ c → Stays (present d w) (present d (changed f c w))
+other_stays : (f : Life → Life) (c d : ℕ) (w : World) → ((life : Life) → (f life).connection ≡ life.connection) → d ≢ c
+    → Stays (present d w) (present d (changed f c w))
 other_stays f c d w on differ = subst (Stays (present d w)) (sym (present-changed_other f c d w on differ)) (stays_same (present d w))
 
 lives_of : (f : Life → Life) (c : ℕ) (w : World) → ((life : Life) → present c w ≡ Some life → Continues f life) → LivesGoOn w.lives (changed f c w).lives
@@ -164,7 +173,8 @@ reached_same : (f : Life → Life) (c : ℕ) (w : World) → (changed f c w).rea
 unfolding changed
 reached_same f c w = sym (append-nil w.reached)
 
-on-changed : (f : Life → Life) (c : ℕ) (w : World) → ((life : Life) → (f life).connection ≡ life.connection) → ((life : Life) → present c w ≡ Some life → Keeps f life) → Goes w (changed f c w)
+on-changed : (f : Life → Life) (c : ℕ) (w : World) → ((life : Life) → (f life).connection ≡ life.connection)
+    → ((life : Life) → present c w ≡ Some life → Keeps f life) → Goes w (changed f c w)
 on-changed f c w on each = record {
   lives = lives_of f c w (λ life at. (each life at).goes);
   stays = λ d. elim (eqb_tells d c) [
@@ -187,7 +197,8 @@ with_lives w v u a e more r = record {
 }
 
 -- nothing more is answered
-silent : (f : Life → Life) (life : Life) → (f life).connection ≡ life.connection → is_over (f life).phase ≡ false → out_of (f life) ≡ out_of life → Continues f life
+silent : (f : Life → Life) (life : Life) → (f life).connection ≡ life.connection → is_over (f life).phase ≡ false → out_of (f life) ≡ out_of life
+    → Continues f life
 silent f life on open_ same = record { connection = on; is_open = open_; answered = ([], same ∙ sym (append-nil (out_of life))) }
 
 ended_keeps : (life : Life) → Keeps (ended_in Closing) life
@@ -197,12 +208,19 @@ ended_keeps life = record { goes = silent (ended_in Closing) life refl refl (out
 
 pub on-close : (c : ℕ) (w : World) → Goes w (close c w)
 unfolding close
-on-close c w = with_lives w (changed (ended_in Closing) c w) (close c w) (on-changed (ended_in Closing) c w (λ life. refl) (λ life at. ended_keeps life)) refl [] (sym (append-nil _))
+on-close c w = with_lives w (changed (ended_in Closing) c w) (close c w)
+    (on-changed (ended_in Closing) c w (λ life. refl) (λ life at. ended_keeps life)) refl [] (sym (append-nil _))
 
 pub on-reaching : (c : ℕ) (points : List Point) (w : World) → Goes w (reaching c points w)
-on-reaching c points w = record { lives = lives_same w.lives; stays = λ d. subst (Stays (present d w)) (sym (present-reaching d c points w)) (stays_same (present d w)); reached = (_, refl) }
+on-reaching c points w = record {
+  lives = lives_same w.lives;
+  stays = λ d. subst (Stays (present d w)) (sym (present-reaching d c points w))
+      (stays_same (present d w));
+  reached = (_, refl);
+}
 
-on-take_step : (marks : List Mark) (c : ℕ) (point : Point) (act : World → World) (w : World) → ((v : World) → Goes v (act v)) → Goes w (take_step marks c point act w)
+on-take_step : (marks : List Mark) (c : ℕ) (point : Point) (act : World → World) (w : World) → ((v : World) → Goes v (act v))
+    → Goes w (take_step marks c point act w)
 unfolding take_step
 on-take_step marks c point act w goes =
     let v = reaching c (point ∷ []) w in
@@ -253,7 +271,8 @@ begun_keeps session answer life e = record { goes = begun_continues session answ
 
 on-begins : (session : Params) (answer : Answer) (c : ℕ) (w : World) → LogsIn c w → Goes w (begins session answer c w)
 on-begins session answer c w logs =
-    with_lives w (changed (begun session answer) c w) (begins session answer c w) (on-changed (begun session answer) c w (λ life. refl) (λ life at. begun_keeps session answer life (logs life at))) refl [] (sym (append-nil _))
+    with_lives w (changed (begun session answer) c w) (begins session answer c w)
+    (on-changed (begun session answer) c w (λ life. refl) (λ life at. begun_keeps session answer life (logs life at))) refl [] (sym (append-nil _))
 
 on-end_older : (o : Option ℕ) (w : World) → Goes w (end_older o w)
 on-end_older None w = on-same w
@@ -268,11 +287,13 @@ on-replied (Full response session) c w logs =
     let v = begins session (answers.LoginResponse response) c w in
     on-then w v (end_older (older session (live w)) v) (on-begins session (answers.LoginResponse response) c w logs) (on-end_older (older session (live w)) v)
 
-asked_by : (c : ℕ) (request : Frame) (w : World) (o : Option Life) → present c w ≡ o → (life : Life) → present c (changed (asked request) c w) ≡ Some life → LogsIn c w → life.phase ≡ LoggingIn
+asked_by : (c : ℕ) (request : Frame) (w : World) (o : Option Life) → present c w ≡ o → (life : Life)
+    → present c (changed (asked request) c w) ≡ Some life → LogsIn c w → life.phase ≡ LoggingIn
 unfolding changed present
 asked_by c request w None none life at logs = logs life (sym (ap (find (is_present c)) (changed_none (asked request) c w.lives none)) ∙ at)
 asked_by c request w (Some before) e life at logs =
-    let same : life ≡ asked request before = some_is life (asked request before) (sym at ∙ present-changed (asked request) c w before e (present_is c w before e)) in
+    let same : life ≡ asked request before = some_is life (asked request before) (sym at
+    ∙ present-changed (asked request) c w before e (present_is c w before e)) in
     ap (λ (l : Life). l.phase) same ∙ logs before e
 
 asked_logs : (c : ℕ) (request : Frame) (w : World) → LogsIn c w → LogsIn c (changed (asked request) c w)
@@ -283,7 +304,12 @@ unfolding log_in
 on-log_in s c request w logs =
     let v = changed (asked request) c w in
     on-then w v (log_in s c request w)
-    (on-changed (asked request) c w (λ life. refl) (λ life at. record { goes = silent (asked request) life refl (logs_in_is life.phase (logs life at)).0 (out-asked life request); bytes = refl; reads_so = λ e. e }))
+    (on-changed (asked request) c w (λ life. refl) (λ life at. record {
+      goes =
+          silent (asked request) life refl (logs_in_is life.phase (logs life at)).0 (out-asked life request);
+      bytes = refl;
+      reads_so = λ e. e;
+    }))
     (on-replied (login (c + 1) (requests_of (present c w)) (lookup_for s.names (live w) request) request) c v (asked_logs c request w logs))
 
 -- ---- a session
@@ -297,7 +323,8 @@ past_phase life (FullFeature session) past e at = ap FullFeature (some_past sess
 past_phase life Closing past e at = absurd cc
 past_phase life Over past e at = absurd cc
 
-past_continues : (c : ℕ) (w : World) (past then_ : Past) (life : Life) (more : List Answer) → present c w ≡ Some life → past_of (present c w) ≡ Some past → then_.answers ≡ past.answers ++ more → Continues (with_past then_) life
+past_continues : (c : ℕ) (w : World) (past then_ : Past) (life : Life) (more : List Answer) → present c w ≡ Some life
+    → past_of (present c w) ≡ Some past → then_.answers ≡ past.answers ++ more → Continues (with_past then_) life
 past_continues c w past then_ life more there at grow =
     let phase : life.phase ≡ FullFeature past = past_phase life life.phase past refl (sym (ap past_of there) ∙ at) in
     record {
@@ -306,7 +333,8 @@ past_continues c w past then_ life more there at grow =
       answered = (flat_map spelling more, out-more life (with_past then_ life) more (answers_grow life life.phase past then_ more phase grow));
     }
 
-past_keeps : (c : ℕ) (w : World) (past then_ : Past) (life : Life) (more : List Answer) → present c w ≡ Some life → past_of (present c w) ≡ Some past → then_.answers ≡ past.answers ++ more → Keeps (with_past then_) life
+past_keeps : (c : ℕ) (w : World) (past then_ : Past) (life : Life) (more : List Answer) → present c w ≡ Some life
+    → past_of (present c w) ≡ Some past → then_.answers ≡ past.answers ++ more → Keeps (with_past then_) life
 past_keeps c w past then_ life more there at grow = record {
   goes = past_continues c w past then_ life more there at grow;
   bytes = refl;
@@ -314,18 +342,22 @@ past_keeps c w past then_ life more there at grow = record {
 }
 
 -- the steps were done on the session of the connection
-on-worked_on : (c : ℕ) (past : Past) (work : Work) (w : World) → past_of (present c w) ≡ Some past → (more : List Answer) → work.past.answers ≡ past.answers ++ more → Goes w (worked_on c work w)
+on-worked_on : (c : ℕ) (past : Past) (work : Work) (w : World) → past_of (present c w) ≡ Some past → (more : List Answer)
+    → work.past.answers ≡ past.answers ++ more → Goes w (worked_on c work w)
 on-worked_on c past work w at more grow =
     with_lives w (changed (with_past work.past) c w) (worked_on c work w)
     (on-changed (with_past work.past) c w (λ life. refl) (λ life there. past_keeps c w past work.past life more there at grow)) refl _ refl
 
-on-worked : (c : ℕ) (past : Past) (work : Work) (w : World) → past_of (present c w) ≡ Some past → (more : List Answer) → work.past.answers ≡ past.answers ++ more → Goes w (worked c work w)
+on-worked : (c : ℕ) (past : Past) (work : Work) (w : World) → past_of (present c w) ≡ Some past → (more : List Answer)
+    → work.past.answers ≡ past.answers ++ more → Goes w (worked c work w)
 unfolding worked
 on-worked c past work w at more grow =
     let first = on-worked_on c past work w at more grow in
-    on-cond work.goes_on (worked_on c work w) (close c (worked_on c work w)) w first (on-then w (worked_on c work w) (close c (worked_on c work w)) first (on-close c (worked_on c work w)))
+    on-cond work.goes_on (worked_on c work w) (close c (worked_on c work w)) w first
+    (on-then w (worked_on c work w) (close c (worked_on c work w)) first (on-close c (worked_on c work w)))
 
-on-served_by : (o : Option Past) (marks : List Mark) (c place : ℕ) (frame : Frame) (w : World) → past_of (present c w) ≡ o → Goes w (served_by o marks c place frame w)
+on-served_by : (o : Option Past) (marks : List Mark) (c place : ℕ) (frame : Frame) (w : World) → past_of (present c w) ≡ o
+    → Goes w (served_by o marks c place frame w)
 on-served_by None marks c place frame w at = on-same w
 on-served_by (Some past) marks c place frame w at =
     let e : Extends (work_of past w) (served (fails marks c) place frame (work_of past w)) = served_extends (fails marks c) place frame (work_of past w) in
@@ -335,7 +367,8 @@ pub on-take_in : (marks : List Mark) (c place : ℕ) (frame : Frame) (w : World)
 unfolding take_in
 on-take_in marks c place frame w = on-served_by (past_of (present c w)) marks c place frame w refl
 
-on-settled_by : (o : Option Past) (marks : List Mark) (place target c : ℕ) (w : World) → past_of (present c w) ≡ o → Goes w (settled_by o marks place target c w)
+on-settled_by : (o : Option Past) (marks : List Mark) (place target c : ℕ) (w : World) → past_of (present c w) ≡ o
+    → Goes w (settled_by o marks place target c w)
 on-settled_by None marks place target c w at = on-same w
 on-settled_by (Some past) marks place target c w at =
     let e : Extends (work_of past w) (settled (fails marks c) place (work_of past w)) = settled_extends (fails marks c) place (work_of past w) in
@@ -365,13 +398,15 @@ on-serve marks c place target frame w =
 on-enter : (s : Setting) (c : ℕ) (frame : Frame) (w : World) → LogsIn c w → Goes w (enter s c frame w)
 on-enter s c frame w logs = on-cond (is_login frame) (log_in s c frame w) (close c w) w (on-log_in s c frame w logs) (on-close c w)
 
-on-taken_in : (s : Setting) (marks : List Mark) (c place : ℕ) (frame : Frame) (life : Life) (phase : Phase) (w : World) → present c w ≡ Some life → life.phase ≡ phase → Goes w (taken_in s marks c place frame phase w)
+on-taken_in : (s : Setting) (marks : List Mark) (c place : ℕ) (frame : Frame) (life : Life) (phase : Phase) (w : World) → present c w ≡ Some life
+    → life.phase ≡ phase → Goes w (taken_in s marks c place frame phase w)
 on-taken_in s marks c place frame life LoggingIn w at e = on-enter s c frame w (λ l there. ap (λ (x : Life). x.phase) (some_is l life (sym there ∙ at)) ∙ e)
 on-taken_in s marks c place frame life (FullFeature session) w at e = on-serve marks c place session.params.target frame w
 on-taken_in s marks c place frame life Closing w at e = on-same w
 on-taken_in s marks c place frame life Over w at e = on-same w
 
-on-taken_by : (s : Setting) (marks : List Mark) (c place : ℕ) (frame : Frame) (o : Option Life) (w : World) → present c w ≡ o → Goes w (taken_by s marks c place frame o w)
+on-taken_by : (s : Setting) (marks : List Mark) (c place : ℕ) (frame : Frame) (o : Option Life) (w : World) → present c w ≡ o
+    → Goes w (taken_by s marks c place frame o w)
 on-taken_by s marks c place frame None w at = on-same w
 on-taken_by s marks c place frame (Some life) w at = on-taken_in s marks c place frame life life.phase w at refl
 
@@ -388,13 +423,16 @@ unfolding bring
 on-bring s marks c piece w =
     let v = changed (longer piece) c w in
     let u = fold (arrive s marks c) v (brought (present c w) piece) in
-    let behind = on-then v u (take_step marks c AtEnd (λ v. v) u) (on-fold (arrive s marks c) v (brought (present c w) piece) (on-arrive s marks c)) (on-take_step marks c AtEnd (λ v. v) u on-same) in
-    lives_then w.lives v.lives (bring s marks c piece w).lives (lives_of (longer piece) c w (λ life at. silent (longer piece) life refl (open_life c w life at) (out-longer life piece))) behind.lives
+    let behind = on-then v u (take_step marks c AtEnd (λ v. v) u) (on-fold (arrive s marks c) v (brought (present c w) piece) (on-arrive s marks c))
+    (on-take_step marks c AtEnd (λ v. v) u on-same) in
+    lives_then w.lives v.lives (bring s marks c piece w).lives (lives_of (longer piece) c w
+    (λ life at. silent (longer piece) life refl (open_life c w life at) (out-longer life piece))) behind.lives
 
 pub answers_stay : AnswersStay
 answers_stay s h marks c piece =
     let w = world s h in
-    subst (λ (v : World). LivesGoOn w.lives v.lives) (sym (world-push s h (marked marks (Bytes c piece)))) (on-bring s marks c piece (record w { reached = [] }))
+    subst (λ (v : World). LivesGoOn w.lives v.lives) (sym (world-push s h (marked marks (Bytes c piece))))
+    (on-bring s marks c piece (record w { reached = [] }))
 
 -- ---- the rows
 
@@ -407,7 +445,8 @@ rows_go [] [] goes = refl
 rows_go [] (y ∷ ys) goes = absurd goes
 rows_go (x ∷ xs) [] goes = absurd goes
 rows_go (x ∷ xs) (y ∷ ys) goes =
-    ap (λ (r : RowState). r ∷ map row_of ys) (row_goes (is_over x.phase) x y goes.0 refl) ∙ ap (λ (rows : List RowState). row_of x ∷ rows) (rows_go xs ys goes.1)
+    ap (λ (r : RowState). r ∷ map row_of ys) (row_goes (is_over x.phase) x y goes.0 refl)
+    ∙ ap (λ (rows : List RowState). row_of x ∷ rows) (rows_go xs ys goes.1)
 
 pub rows-bring : (s : Setting) (marks : List Mark) (c : ℕ) (piece : List ℕ) (w : World) → rows_in (bring s marks c piece w) ≡ rows_in w
 rows-bring s marks c piece w = rows_go w.lives (bring s marks c piece w).lives (on-bring s marks c piece w)

@@ -7,10 +7,12 @@ mod Working
 mod LoggingIn
 mod Marks
 pub mod Keeping
+mod Lawful
 mod Doing
 mod AtWork
 mod Sound
 mod Moving
+mod Apart
 mod Asking
 mod Frames
 mod Held

@@ -57,18 +57,21 @@ machine_is a b n u l =
 -- of one connection something else is remembered, and of the others the same
 pub relinked : (s : Setting) (sent sent_then : ℕ → ℕ) (half half_then : ℕ → List ℕ) (w v : World) (c : ℕ) → c < connection_limit
     → ((d : ℕ) → d < connection_limit → d ≢ c → link_of s.names (sent_then d) (half_then d) (present d v) ≡ link_of s.names (sent d) (half d) (present d w))
-    → machine_with s sent_then half_then v ≡ record (with_link (machine_with s sent half w) c (link_of s.names (sent_then c) (half_then c) (present c v))) { units = v.units }
+    → machine_with s sent_then half_then v ≡ record (with_link (machine_with s sent half w) c
+    (link_of s.names (sent_then c) (half_then c) (present c v))) { units = v.units }
 relinked s sent sent_then half half_then w v c lt same =
     let old = machine_with s sent half w in
     let new = machine_with s sent_then half_then v in
     let link = link_of s.names (sent_then c) (half_then c) (present c v) in
     let each : (d : ℕ) → d < connection_limit → get_or new.links d free_link ≡ get_or (set old.links c link) d free_link = λ d below. elim (eqb_tells d c) [
       | inl here ↦ link_there s sent_then half_then v d below ∙ ap (λ (k : ℕ). link_of s.names (sent_then k) (half_then k) (present k v)) here.1
-          ∙ sym (ap (λ (k : ℕ). get_or (set old.links c link) k free_link) here.1 ∙ get_or-set_same old.links c link free_link (omega (arith, links_count s sent half w)))
+          ∙ sym (ap (λ (k : ℕ). get_or (set old.links c link) k free_link) here.1
+          ∙ get_or-set_same old.links c link free_link (omega (arith, links_count s sent half w)))
       | inr differ ↦ link_there s sent_then half_then v d below ∙ same d below differ.1 ∙ sym (link_there s sent half w d below)
           ∙ sym (get_or-set_other old.links c d link free_link differ.1)
     ] in
-    machine_is new (record (with_link old c link) { units = v.units }) (names_with s sent_then half_then v ∙ sym (names_with s sent half w)) (units_with s sent_then half_then v)
+    machine_is new (record (with_link old c link) { units = v.units }) (names_with s sent_then half_then v ∙ sym (names_with s sent half w))
+    (units_with s sent_then half_then v)
     (links_same new.links (set old.links c link) (links_count s sent_then half_then v) (length-set old.links c link ∙ links_count s sent half w) each)
 
 -- ---- sessions
@@ -107,9 +110,11 @@ link_is s sent half w machine c lt h = ap (λ (m : Machine). link_at m c) h.is �
 
 pub reads_there : (s : Setting) (sent : ℕ → ℕ) (half : ℕ → List ℕ) (w : World) (machine : Machine) (c : ℕ) → c < connection_limit → Serves s sent half w machine
     → is_reading (link_at machine c).phase ≡ reads_life (present c w)
-reads_there s sent half w machine c lt h = ap (λ (l : LinkState). is_reading l.phase) (link_is s sent half w machine c lt h) ∙ reading_of s.names (sent c) (half c) (present c w)
+reads_there s sent half w machine c lt h = ap (λ (l : LinkState). is_reading l.phase) (link_is s sent half w machine c lt h)
+    ∙ reading_of s.names (sent c) (half c) (present c w)
 
-pub count_there : (s : Setting) (sent : ℕ → ℕ) (half : ℕ → List ℕ) (w : World) (machine : Machine) → Serves s sent half w machine → length machine.links ≡ connection_limit
+pub count_there : (s : Setting) (sent : ℕ → ℕ) (half : ℕ → List ℕ) (w : World) (machine : Machine) → Serves s sent half w machine
+    → length machine.links ≡ connection_limit
 count_there s sent half w machine h = ap (λ (m : Machine). length m.links) h.is ∙ links_count s sent half w
 
 pub some_reads : (o : Option Life) → reads_life o ≡ true → (life : Life) × (o ≡ Some life) × (reads life.phase ≡ true)
@@ -135,7 +140,8 @@ still_sent n x y more e le = rw e (let l = length-append (out_of x) more in omeg
 
 -- ---- one connection changes
 
-pub serves_one : (s : Setting) (sent : ℕ → ℕ) (half half_then : ℕ → List ℕ) (w v : World) (machine : Machine) (c : ℕ) (units : List UnitStates) (link : LinkState) → c < connection_limit
+pub serves_one : (s : Setting) (sent : ℕ → ℕ) (half half_then : ℕ → List ℕ) (w v : World) (machine : Machine) (c : ℕ) (units : List UnitStates)
+    (link : LinkState) → c < connection_limit
     → Serves s sent half w machine → ((d : ℕ) → d ≢ c → present d v ≡ present d w) → ((d : ℕ) → d ≢ c → half_then d ≡ half d)
     → sent c ≤ length (out_now (present c v)) → IsQuiet (present c v) → v.units ≡ units → link_of s.names (sent c) (half_then c) (present c v) ≡ link
     → Serves s sent half_then v (record (with_link machine c link) { units = units })
@@ -145,7 +151,8 @@ serves_one s sent half half_then w v machine c units link lt h other halves le q
     record {
       is = ap (λ (m : Machine). record (with_link m c link) { units = units }) h.is
           ∙ ap (λ (x : LinkState). record (with_link (machine_with s sent half w) c x) { units = units }) (sym l)
-          ∙ ap (λ (us : List UnitStates). record (with_link (machine_with s sent half w) c (link_of s.names (sent c) (half_then c) (present c v))) { units = us }) (sym u)
+          ∙ ap (λ (us : List UnitStates). record (with_link (machine_with s sent half w) c (link_of s.names (sent c) (half_then c) (present c v)))
+          { units = us }) (sym u)
           ∙ sym (relinked s sent sent half half_then w v c lt same);
       answered = λ d below. elim (eqb_tells d c) [
         | inl here ↦ rw here.1 le
@@ -163,7 +170,8 @@ pub present-close : (c : ℕ) (w : World) (life : Life) → present c w ≡ Some
 unfolding close
 present-close c w life e =
     present-lives c (close c w) (changed (ended_in Closing) c w) refl
-    ∙ present-changed (ended_in Closing) c w life e (let on = and_true (eqb life.connection c) (not (is_over life.phase)) (present_is c w life e) in rw on.0 refl)
+    ∙ present-changed (ended_in Closing) c w life e (let on = and_true (eqb life.connection c) (not (is_over life.phase)) (present_is c w life e) in
+    rw on.0 refl)
 
 pub present-close_other : (c d : ℕ) (w : World) → d ≢ c → present d (close c w) ≡ present d w
 unfolding close
@@ -187,11 +195,13 @@ closes s sent half w machine c life lt h at =
     let le : sent c ≤ length (out_of life) = (let was = h.answered c lt in rw at at was) in
     serves_one s sent half half w (close c w) machine c (left (session_in_phase (link_at machine c).phase) machine.units) (shut_link (link_at machine c)) lt h
     (λ d differ. present-close_other c d w differ) (λ d differ. refl) (rw (now, out) le) (rw now tt) units
-    (rw now (ap (λ (o : List ℕ). let l : LinkState = record { half = []; phase = phases.Closing; waiting = drop (sent c) o } in l) out ∙ sym (ap shut_link link)))
+    (rw now (ap (λ (o : List ℕ). let l : LinkState = record { half = []; phase = phases.Closing; waiting = drop (sent c) o } in l) out
+    ∙ sym (ap shut_link link)))
 
 -- ---- what was reached does not count
 
-machine_reaching : (s : Setting) (sent : ℕ → ℕ) (half : ℕ → List ℕ) (w : World) (c : ℕ) (points : List Point) → machine_with s sent half (reaching c points w) ≡ machine_with s sent half w
+machine_reaching : (s : Setting) (sent : ℕ → ℕ) (half : ℕ → List ℕ) (w : World) (c : ℕ) (points : List Point)
+    → machine_with s sent half (reaching c points w) ≡ machine_with s sent half w
 unfolding machine_with present
 machine_reaching s sent half w c points = refl
 
@@ -199,7 +209,8 @@ pub present-reaching : (d c : ℕ) (points : List Point) (w : World) → present
 unfolding present
 present-reaching d c points w = refl
 
-pub serves_reaching : (s : Setting) (sent : ℕ → ℕ) (half : ℕ → List ℕ) (w : World) (machine : Machine) (c : ℕ) (points : List Point) → Serves s sent half w machine → Serves s sent half (reaching c points w) machine
+pub serves_reaching : (s : Setting) (sent : ℕ → ℕ) (half : ℕ → List ℕ) (w : World) (machine : Machine) (c : ℕ) (points : List Point)
+    → Serves s sent half w machine → Serves s sent half (reaching c points w) machine
 serves_reaching s sent half w machine c points h = record {
   is = h.is ∙ sym (machine_reaching s sent half w c points);
   answered = λ d lt. rw (present-reaching d c points w) (h.answered d lt);
@@ -210,23 +221,27 @@ serves_reaching s sent half w machine c points h = record {
 pub serves_as : (s : Setting) (sent : ℕ → ℕ) (half : ℕ → List ℕ) (w : World) (a b : Machine) → b ≡ a → Serves s sent half w a → Serves s sent half w b
 serves_as s sent half w a b e h = let P : Machine → Type 0 = λ m. Serves s sent half w m in subst P (sym e) h
 
-pub serves_world : (s : Setting) (sent : ℕ → ℕ) (half : ℕ → List ℕ) (w v : World) (machine : Machine) → v ≡ w → Serves s sent half w machine → Serves s sent half v machine
+pub serves_world : (s : Setting) (sent : ℕ → ℕ) (half : ℕ → List ℕ) (w v : World) (machine : Machine) → v ≡ w → Serves s sent half w machine
+    → Serves s sent half v machine
 serves_world s sent half w v machine e h = let P : World → Type 0 = λ x. Serves s sent half x machine in subst P (sym e) h
 
 -- ---- the sessions that are remembered are those of the World
 
-pub live_there : (s : Setting) (sent : ℕ → ℕ) (half : ℕ → List ℕ) (w : World) (machine : Machine) → Serves s sent half w machine → live w ≡ sessions machine.links
+pub live_there : (s : Setting) (sent : ℕ → ℕ) (half : ℕ → List ℕ) (w : World) (machine : Machine) → Serves s sent half w machine
+    → live w ≡ sessions machine.links
 unfolding live
 live_there s sent half w machine h =
     let f : ℕ → Option Params = λ c. session_of (present c w) in
     let g : LinkState → Option Params = λ link. session_in_phase link.phase in
     let count = count_there s sent half w machine h in
-    let len : length (map f (range_with_len 0 connection_limit)) ≡ length (map g machine.links) = length-map-range_with_len f 0 connection_limit ∙ sym count ∙ sym (length-map machine.links g) in
+    let len : length (map f (range_with_len 0 connection_limit)) ≡ length (map g machine.links) = length-map-range_with_len f 0 connection_limit
+    ∙ sym count ∙ sym (length-map machine.links g) in
     ext_get_or None (map f (range_with_len 0 connection_limit)) (map g machine.links) len (λ i lt.
     (let below : i < connection_limit = omega (arith, length-map-range_with_len f 0 connection_limit) in
     get_or-map-range_with_len f 0 connection_limit i i None below (omega arith)
     ∙ sym (session_at s sent half w machine i below h)
     ∙ sym (get_or-mapped g machine.links i (omega (arith, count)))))
   where
-    get_or-mapped : (g : LinkState → Option Params) (links : List LinkState) (i : ℕ) → i < length links → get_or (map g links) i None ≡ g (get_or links i free_link)
+    get_or-mapped : (g : LinkState → Option Params) (links : List LinkState) (i : ℕ) → i < length links
+        → get_or (map g links) i None ≡ g (get_or links i free_link)
     get_or-mapped g links i lt = get_or-map g links i free_link None lt

@@ -26,8 +26,10 @@ finds c x lives e = cond_true (is_present c x) (Some x) (found c lives) e
 
 -- ---- the connection itself
 
-here_by : (b : Bool) (f : Life → Life) (c : ℕ) (x : Life) (lives : List Life) (life : Life) → is_present c x ≡ b → found c (x ∷ lives) ≡ Some life → is_present c (f life) ≡ true
-    → (found c lives ≡ Some life → found c (changed_first (is_present c) f lives) ≡ Some (f life)) → found c (changed_first (is_present c) f (x ∷ lives)) ≡ Some (f life)
+here_by : (b : Bool) (f : Life → Life) (c : ℕ) (x : Life) (lives : List Life) (life : Life) → is_present c x ≡ b → found c (x ∷ lives) ≡ Some life
+    → is_present c (f life) ≡ true
+    → (found c lives ≡ Some life → found c (changed_first (is_present c) f lives) ≡ Some (f life))
+    → found c (changed_first (is_present c) f (x ∷ lives)) ≡ Some (f life)
 here_by true f c x lives life e at here further =
     let same : x ≡ life = some_is x life (sym (finds c x lives e) ∙ at) in
     ap (found c) (cond_true (is_present c x) (f x ∷ lives) (x ∷ changed_first (is_present c) f lives) e)
@@ -36,16 +38,19 @@ here_by false f c x lives life e at here further =
     ap (found c) (cond_false (is_present c x) (f x ∷ lives) (x ∷ changed_first (is_present c) f lives) e)
     ∙ skips c x (changed_first (is_present c) f lives) e ∙ further (sym (skips c x lives e) ∙ at)
 
-changed_here : (f : Life → Life) (c : ℕ) (lives : List Life) (life : Life) → found c lives ≡ Some life → is_present c (f life) ≡ true → found c (changed_first (is_present c) f lives) ≡ Some (f life)
+changed_here : (f : Life → Life) (c : ℕ) (lives : List Life) (life : Life) → found c lives ≡ Some life → is_present c (f life) ≡ true
+    → found c (changed_first (is_present c) f lives) ≡ Some (f life)
 changed_here f c [] life e here = absurd cc
 changed_here f c (x ∷ lives) life e here = here_by (is_present c x) f c x lives life refl e here (λ at. changed_here f c lives life at here)
 
-pub present-changed : (f : Life → Life) (c : ℕ) (w : World) (life : Life) → present c w ≡ Some life → is_present c (f life) ≡ true → present c (changed f c w) ≡ Some (f life)
+pub present-changed : (f : Life → Life) (c : ℕ) (w : World) (life : Life) → present c w ≡ Some life → is_present c (f life) ≡ true
+    → present c (changed f c w) ≡ Some (f life)
 unfolding present changed
 present-changed f c w life e here = changed_here f c w.lives life e here
 
 -- a present life is on its connection
-found_by : (b : Bool) (c : ℕ) (x : Life) (lives : List Life) (life : Life) → is_present c x ≡ b → found c (x ∷ lives) ≡ Some life → (found c lives ≡ Some life → is_present c life ≡ true) → is_present c life ≡ true
+found_by : (b : Bool) (c : ℕ) (x : Life) (lives : List Life) (life : Life) → is_present c x ≡ b → found c (x ∷ lives) ≡ Some life
+    → (found c lives ≡ Some life → is_present c life ≡ true) → is_present c life ≡ true
 found_by true c x lives life p e further = ap (is_present c) (sym (some_is x life (sym (finds c x lives p) ∙ e))) ∙ p
 found_by false c x lives life p e further = further (sym (skips c x lives p) ∙ e)
 
@@ -67,7 +72,8 @@ elsewhere c d x differ e =
 on_connection : (c : ℕ) (x : Life) → is_present c x ≡ true → x.connection ≡ c
 on_connection c x e = eqb-true _ _ (and_true _ _ e).0
 
-other_by : (b : Bool) (f : Life → Life) (c d : ℕ) (x : Life) (lives : List Life) → Stays f → d ≢ c → is_present c x ≡ b → found d (changed_first (is_present c) f lives) ≡ found d lives
+other_by : (b : Bool) (f : Life → Life) (c d : ℕ) (x : Life) (lives : List Life) → Stays f → d ≢ c → is_present c x ≡ b
+    → found d (changed_first (is_present c) f lives) ≡ found d lives
     → found d (changed_first (is_present c) f (x ∷ lives)) ≡ found d (x ∷ lives)
 other_by true f c d x lives stays differ e further =
     ap (found d) (cond_true (is_present c x) (f x ∷ lives) (x ∷ changed_first (is_present c) f lives) e)
@@ -85,11 +91,13 @@ unfolding present changed
 present-changed_other f c d w stays differ = changed_other f c d w.lives stays differ
 
 -- where there is none
-none_by : (b : Bool) (f : Life → Life) (c : ℕ) (x : Life) (lives : List Life) → is_present c x ≡ b → found c (x ∷ lives) ≡ None → (found c lives ≡ None → changed_first (is_present c) f lives ≡ lives)
+none_by : (b : Bool) (f : Life → Life) (c : ℕ) (x : Life) (lives : List Life) → is_present c x ≡ b → found c (x ∷ lives) ≡ None
+    → (found c lives ≡ None → changed_first (is_present c) f lives ≡ lives)
     → changed_first (is_present c) f (x ∷ lives) ≡ x ∷ lives
 none_by true f c x lives e none further = absurd (cc (none, finds c x lives e))
 none_by false f c x lives e none further =
-    cond_false (is_present c x) (f x ∷ lives) (x ∷ changed_first (is_present c) f lives) e ∙ ap (λ (l : List Life). x ∷ l) (further (sym (skips c x lives e) ∙ none))
+    cond_false (is_present c x) (f x ∷ lives) (x ∷ changed_first (is_present c) f lives) e
+    ∙ ap (λ (l : List Life). x ∷ l) (further (sym (skips c x lives e) ∙ none))
 
 pub changed_none : (f : Life → Life) (c : ℕ) (lives : List Life) → found c lives ≡ None → changed_first (is_present c) f lives ≡ lives
 changed_none f c [] none = refl
@@ -100,7 +108,8 @@ changed_none f c (x ∷ lives) none = none_by (is_present c x) f c x lives refl 
 not_over : (c : ℕ) (x : Life) → is_present c (ended_in Over x) ≡ false
 not_over c x = and_false _
 
-over_by : (b : Bool) (c : ℕ) (x : Life) (lives : List Life) → is_present c x ≡ b → found c (map (over c) lives) ≡ None → found c (map (over c) (x ∷ lives)) ≡ None
+over_by : (b : Bool) (c : ℕ) (x : Life) (lives : List Life) → is_present c x ≡ b → found c (map (over c) lives) ≡ None
+    → found c (map (over c) (x ∷ lives)) ≡ None
 over_by true c x lives e further =
     ap (λ (y : Life). found c (y ∷ map (over c) lives)) (cond_true (is_present c x) (ended_in Over x) x e)
     ∙ skips c (ended_in Over x) (map (over c) lives) (not_over c x) ∙ further
@@ -115,7 +124,8 @@ pub present-end : (c : ℕ) (w : World) → present c (end c w) ≡ None
 unfolding present end
 present-end c w = all_over c w.lives
 
-end_by : (b : Bool) (c d : ℕ) (x : Life) (lives : List Life) → d ≢ c → is_present c x ≡ b → found d (map (over c) lives) ≡ found d lives → found d (map (over c) (x ∷ lives)) ≡ found d (x ∷ lives)
+end_by : (b : Bool) (c d : ℕ) (x : Life) (lives : List Life) → d ≢ c → is_present c x ≡ b → found d (map (over c) lives) ≡ found d lives
+    → found d (map (over c) (x ∷ lives)) ≡ found d (x ∷ lives)
 end_by true c d x lives differ e further =
     ap (λ (y : Life). found d (y ∷ map (over c) lives)) (cond_true (is_present c x) (ended_in Over x) x e)
     ∙ skips d (ended_in Over x) (map (over c) lives) (and_false _) ∙ further ∙ sym (skips d x lives (elsewhere c d x differ (on_connection c x e)))
@@ -141,12 +151,14 @@ or_none (Some life) = refl
 
 pub present-born : (c : ℕ) (w : World) → present c w ≡ None → present c (record w { lives = w.lives ++ born c ∷ [] }) ≡ Some (born c)
 unfolding present
-present-born c w e = find-append (is_present c) w.lives (born c ∷ []) ∙ ap (λ (o : Option Life). option_or o (found c (born c ∷ []))) e ∙ finds c (born c) [] (born_is c)
+present-born c w e = find-append (is_present c) w.lives (born c ∷ []) ∙ ap (λ (o : Option Life). option_or o (found c (born c ∷ []))) e
+    ∙ finds c (born c) [] (born_is c)
 
 pub present-born_other : (c d : ℕ) (w : World) → d ≢ c → present d (record w { lives = w.lives ++ born c ∷ [] }) ≡ present d w
 unfolding present
 present-born_other c d w differ =
-    find-append (is_present d) w.lives (born c ∷ []) ∙ ap (λ (o : Option Life). option_or (found d w.lives) o) (skips d (born c) [] (elsewhere c d (born c) differ refl)) ∙ or_none (found d w.lives)
+    find-append (is_present d) w.lives (born c ∷ []) ∙ ap (λ (o : Option Life). option_or (found d w.lives) o)
+    (skips d (born c) [] (elsewhere c d (born c) differ refl)) ∙ or_none (found d w.lives)
 
 -- ---- only the lives count
 

@@ -80,14 +80,16 @@ marked_append a b c point = list_any-append (λ (m : Mark). is_same m (record { 
 same_true : (a b : Mark) → is_same a b ≡ true → a ≡ b
 same_true a b e =
     let both = and_true (eqb a.connection b.connection) (is_point a.point b.point) e in
-    ap (λ (c : ℕ). record a { connection = c }) (eqb-true a.connection b.connection both.0) ∙ ap (λ (p : Point). record b { point = p }) (point_true a.point b.point both.1)
+    ap (λ (c : ℕ). record a { connection = c }) (eqb-true a.connection b.connection both.0)
+    ∙ ap (λ (p : Point). record b { point = p }) (point_true a.point b.point both.1)
 
 other_by : (b : Bool) (kind : Mark → Bool) (m mark : Mark) → is_same m mark ≡ b → kind m ≡ true → kind mark ≡ false → b ≡ false
 other_by true kind m mark e one other = absurd (cc (one, ap kind (same_true m mark e), other))
 other_by false kind m mark e one other = refl
 
 -- marks of a kind name nothing of another
-pub unmarked : (kind : Mark → Bool) (marks : List Mark) (mark : Mark) → list_all kind marks ≡ true → kind mark ≡ false → is_marked marks mark.connection mark.point ≡ false
+pub unmarked : (kind : Mark → Bool) (marks : List Mark) (mark : Mark) → list_all kind marks ≡ true → kind mark ≡ false
+    → is_marked marks mark.connection mark.point ≡ false
 unfolding is_marked
 unmarked kind [] mark every other = refl
 unmarked kind (m ∷ marks) mark every other =
@@ -107,12 +109,15 @@ abbrev pub Wider : (Mark → Bool) → (Mark → Bool) → Type 0
 Wider one other = (mark : Mark) → one mark ≡ true → other mark ≡ true
 
 -- of two lists of marks of two such kinds, each kind has its own
-pub agrees_left : (one two both : Mark → Bool) (marks a b : List Mark) → Apart one two → Wider one both → list_all two b ≡ true → Agrees both marks (a ++ b) → Agrees one marks a
+pub agrees_left : (one two both : Mark → Bool) (marks a b : List Mark) → Apart one two → Wider one both → list_all two b ≡ true
+    → Agrees both marks (a ++ b) → Agrees one marks a
 agrees_left one two both marks a b apart wider of_b agree = λ mark is.
     agree mark (wider mark is) ∙ marked_append a b mark.connection mark.point
-    ∙ ap (λ (x : Bool). is_marked a mark.connection mark.point || x) (unmarked two b mark of_b (apart mark is)) ∙ or_left (is_marked a mark.connection mark.point)
+    ∙ ap (λ (x : Bool). is_marked a mark.connection mark.point || x) (unmarked two b mark of_b (apart mark is))
+    ∙ or_left (is_marked a mark.connection mark.point)
 
-pub agrees_right : (one two both : Mark → Bool) (marks a b : List Mark) → Apart two one → Wider two both → list_all one a ≡ true → Agrees both marks (a ++ b) → Agrees two marks b
+pub agrees_right : (one two both : Mark → Bool) (marks a b : List Mark) → Apart two one → Wider two both → list_all one a ≡ true
+    → Agrees both marks (a ++ b) → Agrees two marks b
 agrees_right one two both marks a b apart wider of_a agree = λ mark is.
     agree mark (wider mark is) ∙ marked_append a b mark.connection mark.point
     ∙ ap (λ (x : Bool). x || is_marked b mark.connection mark.point) (unmarked one a mark of_a (apart mark is))

@@ -1,6 +1,6 @@
 -- What a call leaves of every target, whatever its stores do.
 use Rattle.std.proofs.Common.{◌≡◌, ℕ, ◌<◌, List, [], ◌++◌, length, set, get_or, Bool, true, false, not, Option, Some, None, refl, sym, ap, ◌∙◌, subst, arith, inl, inr, append_assoc}
-use Rattle.std.specs.Prelude.{All, slice_index_or, slice_set}
+use Rattle.std.specs.Prelude.{◌≢◌, All, slice_index_or, slice_set, Result, Ok, Err, IfErr}
 use Rattle.std.proofs.lemmas.Bool.Decides.{eqb_tells}
 use Rattle.std.proofs.lemmas.List.{append-nil, length-set, get_or-set_same, get_or-set_other, get_or_default, get_or-map, length-map}
 use Rattle.scsi_unit.specs.Units.{UnitStates, AreSound, AreSure, join}
@@ -14,8 +14,9 @@ use Rattle.iscsi_login.specs.declared.params.Params.{Params}
 use Rattle.iscsi_login.specs.declared.reply.Reply.{Reply}
 use Rattle.iscsi_login.specs.declared.reply.Reply.TheVariants.{GoOn, Full, Refused}
 use Rattle.iscsi_target.specs.World.{left, changed_units, lookup_for}
-use Rattle.iscsi_target.specs.Machine.{LinkState, Machine, IsSound, IsSure, Feeds, link_at, with_link, is_free, is_reading, is_open_at, free_link, shut_link, closed, session_in_phase, sessions, is_logging_in, gone_on_link, refused_link, begun_link, shut_older, replied, logged_in}
-use Rattle.iscsi_target.specs.Serving.{KeepsHalf, Moves}
+use Rattle.iscsi_target.specs.Machine.{LinkState, Machine, IsSound, IsSure, Feeds, link_at, with_link, is_free, is_reading, is_closing, is_open_at, free_link, shut_link, closed, session_in_phase, sessions, is_logging_in, gone_on_link, refused_link, begun_link, shut_older, replied, logged_in}
+use Rattle.iscsi_target.specs.Serving.{KeepsHalf, Moves, IsClosed, first_of, first_starved}
+use Rattle.iscsi_target.specs.declared.fault.Starved.{Starved}
 use Rattle.iscsi_target.specs.declared.phase.Phase.{Phase}
 use Rattle.iscsi_target.specs.declared.phase.Phase.TheVariants as phases
 use Rattle.iscsi_target.proofs.Sound.{sound_set, sure_set, closed_sound, closed_sure, logged_in_sound, logged_in_sure, closed_units, logged_in_units, sound_as, sure_as}
@@ -25,43 +26,73 @@ use Rattle.iscsi_target.proofs.Sound.{sound_set, sure_set, closed_sound, closed_
 keeps_same : (link : LinkState) → is_reading link.phase ≡ true → KeepsHalf link.half link
 keeps_same link r = record { reading = λ e. refl; idle = λ e. absurd (cc (r, e)) }
 
-pub moves_none : (machine : Machine) → Moves machine machine
-moves_none machine = record {
+pub moves_none : (b : ℕ) (machine : Machine) → Moves b None machine machine
+moves_none b machine = record {
   back = λ sound. sound;
   sure = λ sure. sure;
-  feeds = record { opens = λ d. refl; waits = λ d. ([], sym (append-nil (link_at machine d).waiting)); still = λ d idle. refl };
+  feeds = record {
+    opens = λ d. refl;
+    waits = λ d. ([], sym (append-nil (link_at machine d).waiting));
+    still = λ d idle. refl;
+    others = λ d other logs. refl;
+  };
+  closing = tt;
   units = refl;
   keeps = λ c reads. keeps_same (link_at machine c) reads;
 }
 
-keeps_by : (b : Bool) (half : List ℕ) (now after : LinkState) → is_reading now.phase ≡ b → KeepsHalf half now → (is_reading now.phase ≡ true → KeepsHalf now.half after) → (is_reading now.phase ≡ false → after ≡ now) → KeepsHalf half after
+keeps_by : (b : Bool) (half : List ℕ) (now after : LinkState) → is_reading now.phase ≡ b → KeepsHalf half now
+    → (is_reading now.phase ≡ true → KeepsHalf now.half after) → (is_reading now.phase ≡ false → after ≡ now) → KeepsHalf half after
 keeps_by true half now after r first next still = let k = next r in record { reading = λ e. k.reading e ∙ first.reading r; idle = k.idle }
 keeps_by false half now after r first next still = subst (KeepsHalf half) (sym (still r)) first
 
-pub feeds_then : (given now after : Machine) → Feeds given now → Feeds now after → Feeds given after
-feeds_then given now after a b = record {
+pub feeds_then : (b : ℕ) (given now after : Machine) → Feeds b given now → Feeds b now after → Feeds b given after
+feeds_then k given now after a b = record {
   opens = λ d. b.opens d ∙ a.opens d;
   waits = λ d. (
     (a.waits d).0 ++ (b.waits d).0,
     (b.waits d).1 ∙ ap (λ (bytes : List ℕ). bytes ++ (b.waits d).0) (a.waits d).1 ∙ append_assoc (link_at given d).waiting (a.waits d).0 (b.waits d).0,
   );
   still = λ d idle. b.still d (ap (λ (l : LinkState). is_reading l.phase) (a.still d idle) ∙ idle) ∙ a.still d idle;
+  others = λ d other logs. b.others d other (ap (λ (l : LinkState). is_logging_in l.phase) (a.others d other logs) ∙ logs) ∙ a.others d other logs;
 }
 
-pub moves_then : (given now after : Machine) → Moves given now → Moves now after → Moves given after
-moves_then given now after a b = record {
+closing_idle : (phase : Phase) → is_closing phase ≡ true → is_reading phase ≡ false
+closing_idle phases.Free e = refl
+closing_idle (phases.Login login) e = absurd cc
+closing_idle (phases.FullFeature session) e = absurd cc
+closing_idle phases.Closing e = refl
+
+-- one that is closing stays so
+pub closed_then : (x y : Option ℕ) (b : ℕ) (now after : Machine) → IsClosed x now → Feeds b now after → IsClosed y after → IsClosed (first_of x y) after
+closed_then None y b now after first feeds then_ = then_
+closed_then (Some c) y b now after first feeds then_ = ap (λ (l : LinkState). is_closing l.phase) (feeds.still c (closing_idle _ first)) ∙ first
+
+pub closing_if : (r : Result (Unit {0}) Starved) (machine : Machine) → IsClosed (first_starved r) machine
+    → IfErr r (λ starved. is_closing (link_at machine starved.connection).phase ≡ true)
+closing_if (Ok u) machine closed_ = tt
+closing_if (Err e) machine closed_ = closed_
+
+pub moves_then : (b : ℕ) (x y : Option ℕ) (given now after : Machine) → Moves b x given now → Moves b y now after → Moves b (first_of x y) given after
+moves_then k x y given now after a b = record {
   back = λ sound. a.back (b.back sound);
   sure = λ sure. b.sure (a.sure sure);
-  feeds = feeds_then given now after a.feeds b.feeds;
+  feeds = feeds_then k given now after a.feeds b.feeds;
+  closing = closed_then x y k now after a.closing b.feeds b.closing;
   units = b.units ∙ a.units;
-  keeps = λ c reads. keeps_by (is_reading (link_at now c).phase) (link_at given c).half (link_at now c) (link_at after c) refl (a.keeps c reads) (b.keeps c) (b.feeds.still c);
+  keeps = λ c reads. keeps_by (is_reading (link_at now c).phase) (link_at given c).half (link_at now c) (link_at after c) refl (a.keeps c reads)
+      (b.keeps c) (b.feeds.still c);
 }
 
-pub moves_as : (given now after : Machine) → after ≡ now → Moves given now → Moves given after
-moves_as given now after e m = let P : Machine → Type 0 = λ x. Moves given x in subst P (sym e) m
+pub moves_as : (b : ℕ) (x : Option ℕ) (given now after : Machine) → after ≡ now → Moves b x given now → Moves b x given after
+moves_as b x given now after e m = let P : Machine → Type 0 = λ after. Moves b x given after in subst P (sym e) m
 
-pub moves_from : (given now after : Machine) → given ≡ now → Moves now after → Moves given after
-moves_from given now after e m = let P : Machine → Type 0 = λ x. Moves x after in subst P (sym e) m
+pub moves_from : (b : ℕ) (x : Option ℕ) (given now after : Machine) → given ≡ now → Moves b x now after → Moves b x given after
+moves_from b x given now after e m = let P : Machine → Type 0 = λ given. Moves b x given after in subst P (sym e) m
+
+-- however the first starved is written
+pub moves_starved : (b : ℕ) (x y : Option ℕ) (given after : Machine) → x ≡ y → Moves b x given after → Moves b y given after
+moves_starved b x y given after e m = let P : Option ℕ → Type 0 = λ x. Moves b x given after in subst P e m
 
 -- ---- one connection changes
 
@@ -77,19 +108,31 @@ reading_open (phases.Login login) e = refl
 reading_open (phases.FullFeature session) e = refl
 reading_open phases.Closing e = absurd cc
 
-link_set : (machine : Machine) (units : List UnitStates) (c : ℕ) (link : LinkState) → c < length machine.links → link_at (record (with_link machine c link) { units = units }) c ≡ link
+pub link_set : (machine : Machine) (units : List UnitStates) (c : ℕ) (link : LinkState) → c < length machine.links
+    → link_at (record (with_link machine c link) { units = units }) c ≡ link
 link_set machine units c link lt = get_or-set_same machine.links c link free_link lt
 
-link_other : (machine : Machine) (units : List UnitStates) (c d : ℕ) (link : LinkState) → (d ≡ c → ⊥) → link_at (record (with_link machine c link) { units = units }) d ≡ link_at machine d
+pub link_other : (machine : Machine) (units : List UnitStates) (c d : ℕ) (link : LinkState) → (d ≡ c → ⊥)
+    → link_at (record (with_link machine c link) { units = units }) d ≡ link_at machine d
 link_other machine units c d link differ = get_or-set_other machine.links c d link free_link differ
 
-pub changes_feeds : (machine : Machine) (units : List UnitStates) (c : ℕ) (link : LinkState) → c < length machine.links → Changes (link_at machine c) link → Feeds machine (record (with_link machine c link) { units = units })
-changes_feeds machine units c link lt ch =
+-- the changes are for this connection, or its session was at work
+abbrev pub IsOwn : ℕ → Machine → ℕ → Type 0
+IsOwn b machine c = c ≢ b → is_logging_in (link_at machine c).phase ≡ false
+
+pub own_self : (c : ℕ) (machine : Machine) → IsOwn c machine c
+own_self c machine = λ other. absurd (other refl)
+
+pub changes_feeds : (b : ℕ) (machine : Machine) (units : List UnitStates) (c : ℕ) (link : LinkState) → c < length machine.links
+    → Changes (link_at machine c) link → IsOwn b machine c
+    → Feeds b machine (record (with_link machine c link) { units = units })
+changes_feeds b machine units c link lt ch own =
     let after : Machine = record (with_link machine c link) { units = units } in
     let here = link_set machine units c link lt in
     record {
       opens = λ d. elim (eqb_tells d c) [
-        | inl same ↦ rw same.1 (ap (λ (l : LinkState). not (is_free l.phase)) here ∙ ap not ch.free ∙ sym (ap not (reading_open (link_at machine c).phase ch.reads)))
+        | inl same ↦ rw same.1 (ap (λ (l : LinkState). not (is_free l.phase)) here ∙ ap not ch.free
+            ∙ sym (ap not (reading_open (link_at machine c).phase ch.reads)))
         | inr differ ↦ ap (λ (l : LinkState). not (is_free l.phase)) (link_other machine units c d link differ.1)
       ];
       waits = λ d. elim (eqb_tells d c) [
@@ -100,15 +143,23 @@ changes_feeds machine units c link lt ch =
         | inl same ↦ absurd (cc (idle, ap (λ (k : ℕ). is_reading (link_at machine k).phase) same.1, ch.reads))
         | inr differ ↦ link_other machine units c d link differ.1
       ];
+      others = λ d other logs. elim (eqb_tells d c) [
+        | inl same ↦ absurd (cc (logs, ap (λ (k : ℕ). is_logging_in (link_at machine k).phase) same.1, own (λ here. other (same.1 ∙ here))))
+        | inr differ ↦ link_other machine units c d link differ.1
+      ];
     }
 
-pub changes_moves : (machine : Machine) (units : List UnitStates) (c : ℕ) (link : LinkState) → c < length machine.links → Changes (link_at machine c) link → KeepsHalf (link_at machine c).half link
-    → length units ≡ length machine.units → let after : Machine = record (with_link machine c link) { units = units } in (IsSound after → IsSound machine) → (IsSure machine → IsSure after) → Moves machine after
-changes_moves machine units c link lt ch half count back sure = record {
+pub changes_moves : (b : ℕ) (machine : Machine) (units : List UnitStates) (c : ℕ) (link : LinkState) → c < length machine.links
+    → Changes (link_at machine c) link → IsOwn b machine c
+    → KeepsHalf (link_at machine c).half link → length units ≡ length machine.units
+    → let after : Machine = record (with_link machine c link) { units = units } in (IsSound after → IsSound machine)
+    → (IsSure machine → IsSure after) → Moves b None machine after
+changes_moves b machine units c link lt ch own half count back sure = record {
   back = back;
   sure = sure;
   units = count;
-  feeds = changes_feeds machine units c link lt ch;
+  feeds = changes_feeds b machine units c link lt ch own;
+  closing = tt;
   keeps = λ d reads. elim (eqb_tells d c) [
     | inl same ↦ rw same.1 (subst (KeepsHalf (link_at machine c).half) (sym (link_set machine units c link lt)) half)
     | inr differ ↦ subst (KeepsHalf (link_at machine d).half) (sym (link_other machine units c d link differ.1)) (keeps_same (link_at machine d) reads)
@@ -123,26 +174,48 @@ shuts link r = record { reads = r; free = refl; waits = ([], sym (append-nil lin
 shut_half : (half : List ℕ) (link : LinkState) → KeepsHalf half (shut_link link)
 shut_half half link = record { reading = λ e. absurd cc; idle = λ e. refl }
 
-shut_moves : (machine : Machine) (c : ℕ) → c < length machine.links → is_reading (link_at machine c).phase ≡ true → Moves machine (with_link machine c (shut_link (link_at machine c)))
-shut_moves machine c lt r = changes_moves machine machine.units c (shut_link (link_at machine c)) lt (shuts (link_at machine c) r) (shut_half (link_at machine c).half (link_at machine c)) refl (λ sound. sound) (λ sure. sure)
+shut_moves : (b : ℕ) (machine : Machine) (c : ℕ) → c < length machine.links → is_reading (link_at machine c).phase ≡ true → IsOwn b machine c
+    → Moves b None machine (with_link machine c (shut_link (link_at machine c)))
+shut_moves b machine c lt r own =
+    changes_moves b machine machine.units c (shut_link (link_at machine c)) lt (shuts (link_at machine c) r) own
+    (shut_half (link_at machine c).half (link_at machine c)) refl (λ sound. sound) (λ sure. sure)
 
-closed_feeds : (machine : Machine) (c : ℕ) → c < length machine.links → is_reading (link_at machine c).phase ≡ true → Feeds machine (closed machine c)
+closed_feeds : (b : ℕ) (machine : Machine) (c : ℕ) → c < length machine.links → is_reading (link_at machine c).phase ≡ true → IsOwn b machine c
+    → Feeds b machine (closed machine c)
 unfolding closed
-closed_feeds machine c lt r = changes_feeds machine (left (session_in_phase (link_at machine c).phase) machine.units) c (shut_link (link_at machine c)) lt (shuts (link_at machine c) r)
+closed_feeds b machine c lt r own = changes_feeds b machine (left (session_in_phase (link_at machine c).phase) machine.units) c
+    (shut_link (link_at machine c)) lt (shuts (link_at machine c) r) own
 
-closed_keeps : (machine : Machine) (c : ℕ) → c < length machine.links → is_reading (link_at machine c).phase ≡ true → (d : ℕ) → is_reading (link_at machine d).phase ≡ true
+closed_keeps : (machine : Machine) (c : ℕ) → c < length machine.links → is_reading (link_at machine c).phase ≡ true → (d : ℕ)
+    → is_reading (link_at machine d).phase ≡ true
     → KeepsHalf (link_at machine d).half (link_at (closed machine c) d)
 unfolding closed
-closed_keeps machine c lt r d reads = (shut_moves machine c lt r).keeps d reads
+closed_keeps machine c lt r d reads = (shut_moves c machine c lt r (own_self c machine)).keeps d reads
 
-pub closed_moves : (machine : Machine) (c : ℕ) → c < length machine.links → is_reading (link_at machine c).phase ≡ true → Moves machine (closed machine c)
-closed_moves machine c lt r = record {
+pub closed_closing : (machine : Machine) (c : ℕ) → c < length machine.links → is_closing (link_at (closed machine c) c).phase ≡ true
+unfolding closed
+closed_closing machine c lt = ap (λ (l : LinkState). is_closing l.phase) (get_or-set_same machine.links c (shut_link (link_at machine c)) free_link lt)
+
+closed_when : (x : Option ℕ) (b : ℕ) (machine : Machine) (c : ℕ) → c < length machine.links → is_reading (link_at machine c).phase ≡ true
+    → IsOwn b machine c → IsClosed x (closed machine c)
+    → Moves b x machine (closed machine c)
+closed_when x b machine c lt r own closing = record {
   back = λ sound. closed_sound machine c sound;
   sure = λ sure. closed_sure machine c sure;
-  feeds = closed_feeds machine c lt r;
+  feeds = closed_feeds b machine c lt r own;
+  closing = closing;
   units = closed_units machine c;
   keeps = closed_keeps machine c lt r;
 }
+
+pub closed_moves : (b : ℕ) (machine : Machine) (c : ℕ) → c < length machine.links → is_reading (link_at machine c).phase ≡ true → IsOwn b machine c
+    → Moves b None machine (closed machine c)
+closed_moves b machine c lt r own = closed_when None b machine c lt r own tt
+
+-- an allocation failed
+pub starved_moves : (b : ℕ) (machine : Machine) (c : ℕ) → c < length machine.links → is_reading (link_at machine c).phase ≡ true → IsOwn b machine c
+    → Moves b (Some c) machine (closed machine c)
+starved_moves b machine c lt r own = closed_when (Some c) b machine c lt r own (closed_closing machine c lt)
 
 pub closed_count : (machine : Machine) (c : ℕ) → length (closed machine c).links ≡ length machine.links
 unfolding closed
@@ -150,18 +223,21 @@ closed_count machine c = length-set machine.links c (shut_link (link_at machine 
 
 -- ---- a session's link
 
-pub session_changes : (old new : LinkState) → is_reading old.phase ≡ true → is_free new.phase ≡ false → (more : List ℕ) × (new.waiting ≡ old.waiting ++ more) → Changes old new
+pub session_changes : (old new : LinkState) → is_reading old.phase ≡ true → is_free new.phase ≡ false → (more : List ℕ)
+    × (new.waiting ≡ old.waiting ++ more) → Changes old new
 session_changes old new r free waits = record { reads = r; free = free; waits = waits }
 
 pub session_half : (old new : LinkState) → is_reading new.phase ≡ true → new.half ≡ old.half → KeepsHalf old.half new
 session_half old new reads half = record { reading = λ e. half; idle = λ e. absurd (cc (reads, e)) }
 
 -- the units of one target were worked on
-pub units_back : (machine : Machine) (links : List LinkState) (target : ℕ) (units : UnitStates) → target < length machine.units → (AreSound units → AreSound (slice_index_or machine.units target []))
+pub units_back : (machine : Machine) (links : List LinkState) (target : ℕ) (units : UnitStates) → target < length machine.units
+    → (AreSound units → AreSound (slice_index_or machine.units target []))
     → let after : Machine = record machine { units = slice_set machine.units target units; links = links } in IsSound after → IsSound machine
 units_back machine links target units lt back sound = sound_set machine.units target units (λ below. back) sound
 
-pub units_sure : (machine : Machine) (links : List LinkState) (target : ℕ) (units : UnitStates) → (AreSure (slice_index_or machine.units target []) → AreSure units)
+pub units_sure : (machine : Machine) (links : List LinkState) (target : ℕ) (units : UnitStates)
+    → (AreSure (slice_index_or machine.units target []) → AreSure units)
     → let after : Machine = record machine { units = slice_set machine.units target units; links = links } in IsSure machine → IsSure after
 units_sure machine links target units forth sure = sure_set machine.units target [] units forth sure
 
@@ -174,25 +250,36 @@ logs_open (phases.FullFeature session) e = absurd cc
 logs_open phases.Closing e = absurd cc
 
 -- what neither adds nor takes away soundness
-plain_moves : (machine : Machine) (units : List UnitStates) (c : ℕ) (link : LinkState) → c < length machine.links → Changes (link_at machine c) link → KeepsHalf (link_at machine c).half link
-    → (d : ℕ) → is_reading (link_at machine d).phase ≡ true → KeepsHalf (link_at machine d).half (link_at (record (with_link machine c link) { units = units }) d)
-plain_moves machine units c link lt ch half d reads = (changes_moves (record machine { units = units }) units c link lt ch half refl (λ sound. sound) (λ sure. sure)).keeps d reads
+plain_moves : (machine : Machine) (units : List UnitStates) (c : ℕ) (link : LinkState) → c < length machine.links → Changes (link_at machine c) link
+    → KeepsHalf (link_at machine c).half link
+    → (d : ℕ) → is_reading (link_at machine d).phase ≡ true → KeepsHalf (link_at machine d).half
+    (link_at (record (with_link machine c link) { units = units }) d)
+plain_moves machine units c link lt ch half d reads =
+    (changes_moves c (record machine { units = units }) units c link lt ch (own_self c (record machine { units = units })) half refl
+    (λ sound. sound) (λ sure. sure)).keeps d reads
 
-pub record Alters (given after : Machine) : Type 0 where
-  pub feeds : Feeds given after
+-- what is done for a connection, but for what it makes of units
+pub record Alters (b : ℕ) (given after : Machine) : Type 0 where
+  pub feeds : Feeds b given after
   pub keeps : (c : ℕ) → is_reading (link_at given c).phase ≡ true → KeepsHalf (link_at given c).half (link_at after c)
 
-alters_then : (given now after : Machine) → Alters given now → Alters now after → Alters given after
-alters_then given now after a b = record {
-  feeds = feeds_then given now after a.feeds b.feeds;
-  keeps = λ c reads. keeps_by (is_reading (link_at now c).phase) (link_at given c).half (link_at now c) (link_at after c) refl (a.keeps c reads) (b.keeps c) (b.feeds.still c);
+alters_then : (b : ℕ) (given now after : Machine) → Alters b given now → Alters b now after → Alters b given after
+alters_then k given now after a b = record {
+  feeds = feeds_then k given now after a.feeds b.feeds;
+  keeps = λ c reads. keeps_by (is_reading (link_at now c).phase) (link_at given c).half (link_at now c) (link_at after c) refl (a.keeps c reads)
+      (b.keeps c) (b.feeds.still c);
 }
 
-alters : (machine : Machine) (units : List UnitStates) (c : ℕ) (link : LinkState) → c < length machine.links → Changes (link_at machine c) link → KeepsHalf (link_at machine c).half link → Alters machine (record (with_link machine c link) { units = units })
-alters machine units c link lt ch half = record { feeds = changes_feeds machine units c link lt ch; keeps = plain_moves machine units c link lt ch half }
+alters : (machine : Machine) (units : List UnitStates) (c : ℕ) (link : LinkState) → c < length machine.links → Changes (link_at machine c) link
+    → KeepsHalf (link_at machine c).half link
+    → Alters c machine (record (with_link machine c link) { units = units })
+alters machine units c link lt ch half = record {
+  feeds = changes_feeds c machine units c link lt ch (own_self c machine);
+  keeps = plain_moves machine units c link lt ch half;
+}
 
-alters_none : (machine : Machine) → Alters machine machine
-alters_none machine = record { feeds = (moves_none machine).feeds; keeps = (moves_none machine).keeps }
+alters_none : (b : ℕ) (machine : Machine) → Alters b machine machine
+alters_none b machine = record { feeds = (moves_none b machine).feeds; keeps = (moves_none b machine).keeps }
 
 is_of_none : (session : Params) (o : Option Params) → is_of session.nexus session.target o ≡ true → o ≡ None → ⊥
 is_of_none session None e n = absurd cc
@@ -204,53 +291,73 @@ session_reads session (phases.Login login) e = absurd (is_of_none session None e
 session_reads session (phases.FullFeature other) e = refl
 session_reads session phases.Closing e = absurd (is_of_none session None e refl)
 
-older_reads : (machine : Machine) (session : Params) (d : ℕ) → older session (sessions machine.links) ≡ Some d → (d < length machine.links) × (is_of session.nexus session.target (session_in_phase (link_at machine d).phase) ≡ true)
+session_past_login : (session : Params) (phase : Phase) → is_of session.nexus session.target (session_in_phase phase) ≡ true → is_logging_in phase ≡ false
+session_past_login session phases.Free e = refl
+session_past_login session (phases.Login login) e = absurd (is_of_none session None e refl)
+session_past_login session (phases.FullFeature other) e = refl
+session_past_login session phases.Closing e = refl
+
+older_reads : (machine : Machine) (session : Params) (d : ℕ) → older session (sessions machine.links) ≡ Some d → (d < length machine.links)
+    × (is_of session.nexus session.target (session_in_phase (link_at machine d).phase) ≡ true)
 unfolding older
 older_reads machine session d e =
     let p = position-Some (is_of session.nexus session.target) (sessions machine.links) d None e in
     let below : d < length machine.links = omega (arith, p.0, length-map machine.links (λ link. session_in_phase link.phase)) in
-    let there : get_or (sessions machine.links) d None ≡ session_in_phase (link_at machine d).phase = get_or-map (λ link. session_in_phase link.phase) machine.links d free_link None below in
+    let there : get_or (sessions machine.links) d None ≡ session_in_phase (link_at machine d).phase =
+    get_or-map (λ link. session_in_phase link.phase) machine.links d free_link None below in
     (below, ap (is_of session.nexus session.target) (sym there) ∙ p.1)
 
-older_alters : (o : Option ℕ) (given machine : Machine) (session : Params) (c : ℕ) (link : LinkState) (units : List UnitStates) → c < length given.links → is_reading link.phase ≡ true → machine ≡ record (with_link given c link) { units = units }
-    → older session (sessions given.links) ≡ o → Alters machine (shut_older o machine)
-older_alters None given machine session c link units lt reads is e = alters_none machine
+older_alters : (o : Option ℕ) (given machine : Machine) (session : Params) (c : ℕ) (link : LinkState) (units : List UnitStates)
+    → c < length given.links → is_reading link.phase ≡ true → machine ≡ record (with_link given c link) { units = units }
+    → older session (sessions given.links) ≡ o → Alters c machine (shut_older o machine)
+older_alters None given machine session c link units lt reads is e = alters_none c machine
 older_alters (Some d) given machine session c link units lt reads is e =
     let p = older_reads given session d e in
     let there : is_reading (link_at machine d).phase ≡ true = ap (λ (m : Machine). is_reading (link_at m d).phase) is ∙ elim (eqb_tells d c) [
-      | inl same ↦ ap (λ (k : ℕ). is_reading (link_at (record (with_link given c link) { units = units }) k).phase) same.1 ∙ ap (λ (l : LinkState). is_reading l.phase) (link_set given units c link lt) ∙ reads
+      | inl same ↦ ap (λ (k : ℕ). is_reading (link_at (record (with_link given c link) { units = units }) k).phase) same.1
+          ∙ ap (λ (l : LinkState). is_reading l.phase) (link_set given units c link lt) ∙ reads
       | inr differ ↦ ap (λ (l : LinkState). is_reading l.phase) (link_other given units c d link differ.1) ∙ session_reads session (link_at given d).phase p.1
     ] in
     let below : d < length machine.links = omega (arith, p.0, ap (λ (m : Machine). length m.links) is, length-set given.links c link) in
-    let m = shut_moves machine d below there in
+    let own : IsOwn c machine d = λ other.
+    (ap (λ (m : Machine). is_logging_in (link_at m d).phase) is ∙ ap (λ (l : LinkState). is_logging_in l.phase)
+    (link_other given units c d link other) ∙ session_past_login session (link_at given d).phase p.1) in
+    let m = shut_moves c machine d below there own in
     record { feeds = m.feeds; keeps = m.keeps }
 
-replied_alters : (reply : Reply) (login : LoginState) (c : ℕ) (machine : Machine) → c < length machine.links → is_reading (link_at machine c).phase ≡ true → Alters machine (replied reply login c machine)
+replied_alters : (reply : Reply) (login : LoginState) (c : ℕ) (machine : Machine) → c < length machine.links
+    → is_reading (link_at machine c).phase ≡ true → Alters c machine (replied reply login c machine)
 replied_alters (GoOn response) login c machine lt reads =
     let link = gone_on_link login (answers.LoginResponse response) (link_at machine c) in
     alters machine machine.units c link lt (session_changes (link_at machine c) link reads refl (_, refl)) (session_half (link_at machine c) link refl refl)
 replied_alters (Refused response) login c machine lt reads =
     let link = refused_link (answers.LoginResponse response) (link_at machine c) in
-    alters machine machine.units c link lt (session_changes (link_at machine c) link reads refl (_, refl)) (record { reading = λ e. absurd cc; idle = λ e. refl })
+    alters machine machine.units c link lt (session_changes (link_at machine c) link reads refl (_, refl))
+    (record { reading = λ e. absurd cc; idle = λ e. refl })
 replied_alters (Full response session) login c machine lt reads =
     let link = begun_link session (answers.LoginResponse response) (link_at machine c) in
     let units = changed_units (join session.nexus) session.target machine.units in
     let now : Machine = record (with_link machine c link) { units = units } in
-    alters_then machine now (replied (Full response session) login c machine) (alters machine units c link lt (session_changes (link_at machine c) link reads refl (_, refl)) (session_half (link_at machine c) link refl refl))
+    alters_then c machine now (replied (Full response session) login c machine)
+    (alters machine units c link lt (session_changes (link_at machine c) link reads refl (_, refl)) (session_half (link_at machine c) link refl refl))
     (older_alters (older session (sessions machine.links)) machine now session c link units lt refl refl refl)
 
-logged_in_alters : (machine : Machine) (c : ℕ) (login : LoginState) (request : Frame) → c < length machine.links → is_reading (link_at machine c).phase ≡ true → Alters machine (logged_in machine c login request)
+logged_in_alters : (machine : Machine) (c : ℕ) (login : LoginState) (request : Frame) → c < length machine.links
+    → is_reading (link_at machine c).phase ≡ true → Alters c machine (logged_in machine c login request)
 unfolding logged_in
 logged_in_alters machine c login request lt reads =
-    replied_alters (reply_of login (lookup_for machine.names (sessions machine.links) request) request) (advanced machine.names login request) c machine lt reads
+    replied_alters (reply_of login (lookup_for machine.names (sessions machine.links) request) request) (advanced machine.names login request) c
+    machine lt reads
 
-pub logged_in_moves : (machine : Machine) (c : ℕ) (login : LoginState) (request : Frame) → c < length machine.links → is_reading (link_at machine c).phase ≡ true → Moves machine (logged_in machine c login request)
+pub logged_in_moves : (machine : Machine) (c : ℕ) (login : LoginState) (request : Frame) → c < length machine.links
+    → is_reading (link_at machine c).phase ≡ true → Moves c None machine (logged_in machine c login request)
 logged_in_moves machine c login request lt reads =
     let a = logged_in_alters machine c login request lt reads in
     record {
       back = λ sound. logged_in_sound machine c login request sound;
       sure = λ sure. logged_in_sure machine c login request sure;
       feeds = a.feeds;
+      closing = tt;
       units = logged_in_units machine c login request;
       keeps = a.keeps;
     }

@@ -11,15 +11,19 @@ use Rattle.iscsi_target.specs.declared.run.Row.{Row}
 use Rattle.iscsi_target.proofs.Lists.{map_over_next}
 
 -- a loop that makes f of each row, at the next of them
-pub rows_next : (f : RowState → RowState) (rows initial : List Row) (i : ℕ) (item after : Row) → length rows ≡ length initial → i < length rows → seen after ≡ f (seen (get_or rows i item))
-    → map seen rows ≡ map f (take i (map seen initial)) ++ drop i (map seen initial) → map seen (set rows i after) ≡ map f (take (i + 1) (map seen initial)) ++ drop (i + 1) (map seen initial)
+pub rows_next : (f : RowState → RowState) (rows initial : List Row) (i : ℕ) (item after : Row) → length rows ≡ length initial → i < length rows
+    → seen after ≡ f (seen (get_or rows i item))
+    → map seen rows ≡ map f (take i (map seen initial)) ++ drop i (map seen initial)
+    → map seen (set rows i after) ≡ map f (take (i + 1) (map seen initial)) ++ drop (i + 1) (map seen initial)
 rows_next f rows initial i item after len lt made e =
     map-set seen rows i after
     ∙ ap (set (map seen rows) i) (made ∙ ap f (sym (get_or-map seen rows i item (seen item) lt)))
-    ∙ map_over_next f (map seen initial) (map seen rows) i (seen item) (length-map rows seen ∙ len ∙ sym (length-map initial seen)) (omega (arith, length-map initial seen)) e
+    ∙ map_over_next f (map seen initial) (map seen rows) i (seen item) (length-map rows seen ∙ len ∙ sym (length-map initial seen))
+    (omega (arith, length-map initial seen)) e
 
 -- the bytes of the rows, after f
-pub bytes_after : (f : RowState → RowState) (rows after : List Row) → map seen after ≡ map f (map seen rows) → map (λ (output : Vec ℕ Global). output.items) (map (λ (row : Row). row.bytes) after) ≡ map (λ (row : RowState). (f row).bytes) (map seen rows)
+pub bytes_after : (f : RowState → RowState) (rows after : List Row) → map seen after ≡ map f (map seen rows)
+    → map (λ (output : Vec ℕ Global). output.items) (map (λ (row : Row). row.bytes) after) ≡ map (λ (row : RowState). (f row).bytes) (map seen rows)
 bytes_after f rows after e =
     map-map (λ (output : Vec ℕ Global). output.items) (λ (row : Row). row.bytes) after
     ∙ sym (map-map (λ (row : RowState). row.bytes) seen after)
@@ -28,10 +32,12 @@ bytes_after f rows after e =
 
 -- a slice of all the rows is written
 pub all_written : (after before : List Row) (n : ℕ) → length after ≡ length before → n ≡ length before → take n (after ++ drop (length after) before) ≡ after
-all_written after before n len is = ap (λ (k : ℕ). take k (after ++ drop (length after) before)) (is ∙ sym len) ∙ take-append_seam after (drop (length after) before)
+all_written after before n len is = ap (λ (k : ℕ). take k (after ++ drop (length after) before)) (is ∙ sym len)
+    ∙ take-append_seam after (drop (length after) before)
 
 -- one more event
-pub history_more : (es : List Event) (i : ℕ) (e : Event) → i < length es → e ≡ get_or es i e → plain_history (take (i + 1) es) ≡ plain_history (take i es) ++ plain (event_view e) ∷ []
+pub history_more : (es : List Event) (i : ℕ) (e : Event) → i < length es → e ≡ get_or es i e
+    → plain_history (take (i + 1) es) ≡ plain_history (take i es) ++ plain (event_view e) ∷ []
 history_more es i e lt is =
     ap plain_history (take_more es i e lt)
     ∙ ap (map plain) (map-append event_view (take i es) (get_or es i e ∷ []))

@@ -33,8 +33,10 @@ over_is : (life : Life) → is_over life.phase ≡ true → row_of life ≡ over
 over_is life e = cond_true (is_over life.phase) _ _ e
 
 on_by : (b : Bool) (c : ℕ) (x : Life) → is_over x.phase ≡ b → is_on c (row_of x).connection ≡ is_present c x
-on_by true c x e = ap (λ (r : RowState). is_on c r.connection) (over_is x e) ∙ sym (ap (λ (b : Bool). eqb x.connection c && not b) e ∙ and_false (eqb x.connection c))
-on_by false c x e = ap (λ (r : RowState). is_on c r.connection) (open_is x e) ∙ sym (ap (λ (b : Bool). eqb x.connection c && not b) e ∙ and_so (eqb x.connection c))
+on_by true c x e = ap (λ (r : RowState). is_on c r.connection) (over_is x e)
+    ∙ sym (ap (λ (b : Bool). eqb x.connection c && not b) e ∙ and_false (eqb x.connection c))
+on_by false c x e = ap (λ (r : RowState). is_on c r.connection) (open_is x e)
+    ∙ sym (ap (λ (b : Bool). eqb x.connection c && not b) e ∙ and_so (eqb x.connection c))
 
 on_present : (c : ℕ) (x : Life) → is_on c (row_of x).connection ≡ is_present c x
 on_present c x = on_by (is_over x.phase) c x refl
@@ -59,22 +61,28 @@ IsOnly lives x = is_over x.phase ≡ false → find (is_present x.connection) li
 present_here : (x : Life) → is_over x.phase ≡ false → is_present x.connection x ≡ true
 present_here x e = ap (λ (b : Bool). b && not (is_over x.phase)) (eqb_self x.connection) ∙ ap not e
 
-wider_by : (b : Bool) (x y : Life) (lives : List Life) → IsFree (row_of x).connection (map row_of lives) → IsOnly lives y → is_over y.phase ≡ false → is_present y.connection x ≡ b → find (is_present y.connection) (x ∷ lives) ≡ Some y
+wider_by : (b : Bool) (x y : Life) (lives : List Life) → IsFree (row_of x).connection (map row_of lives) → IsOnly lives y → is_over y.phase ≡ false
+    → is_present y.connection x ≡ b → find (is_present y.connection) (x ∷ lives) ≡ Some y
 wider_by true x y lives free only e at =
     let x_open : is_over x.phase ≡ false = is_open_here y.connection x at in
     let on : x.connection ≡ y.connection = eqb-true _ _ (and_true _ _ at).0 in
     let none : has x.connection (map row_of lives) ≡ false = subst (λ (r : RowState). IsFree r.connection (map row_of lives)) (open_is x x_open) free in
-    let there : has x.connection (map row_of lives) ≡ true = ap (λ (c : ℕ). has c (map row_of lives)) on ∙ has_found y.connection lives ∙ ap is_there (only e) in
+    let there : has x.connection (map row_of lives) ≡ true = ap (λ (c : ℕ). has c (map row_of lives)) on ∙ has_found y.connection lives
+    ∙ ap is_there (only e) in
     absurd (cc (none, there))
 wider_by false x y lives free only e at = cond_false (is_present y.connection x) (Some x) (find (is_present y.connection) lives) at ∙ only e
 
-wider : (x : Life) (lives all : List Life) → IsFree (row_of x).connection (map row_of lives) → AllByRecursion (IsOnly lives) all → AllByRecursion (IsOnly (x ∷ lives)) all
+wider : (x : Life) (lives all : List Life) → IsFree (row_of x).connection (map row_of lives) → AllByRecursion (IsOnly lives) all
+    → AllByRecursion (IsOnly (x ∷ lives)) all
 wider x lives [] free h = tt
 wider x lives (y ∷ all) free h = (λ e. wider_by (is_present y.connection x) x y lives free h.0 e refl, wider x lives all free h.1)
 
 all_only : (lives : List Life) → AreDistinct (map row_of lives) → AllByRecursion (IsOnly lives) lives
 all_only [] d = tt
-all_only (x ∷ lives) d = (λ e. cond_true (is_present x.connection x) (Some x) (find (is_present x.connection) lives) (present_here x e), wider x lives lives d.0 (all_only lives d.1))
+all_only (x ∷ lives) d = (
+  λ e. cond_true (is_present x.connection x) (Some x) (find (is_present x.connection) lives) (present_here x e),
+  wider x lives lives d.0 (all_only lives d.1),
+)
 
 -- ---- what waits
 
@@ -82,11 +90,13 @@ all_only (x ∷ lives) d = (λ e. cond_true (is_present x.connection x) (Some x)
 abbrev IsWaiting : Machine → Life → Type 0
 IsWaiting machine x = is_over x.phase ≡ false → (link_at machine x.connection).waiting ≡ out_of x
 
-has_row : (s : Setting) (machine : Machine) (rows : List RowState) (before : List ℕ) (history : History) → Runs s machine rows before history → (c : ℕ) → has c rows ≡ is_there (present c (world s history))
+has_row : (s : Setting) (machine : Machine) (rows : List RowState) (before : List ℕ) (history : History) → Runs s machine rows before history
+    → (c : ℕ) → has c rows ≡ is_there (present c (world s history))
 unfolding present
 has_row s machine rows before history r c = ap (has c) r.kept ∙ has_found c (world s history).lives
 
-life_waits : (s : Setting) (machine : Machine) (rows : List RowState) (before : List ℕ) (history : History) (x : Life) → Runs s machine rows before history → IsOnly (world s history).lives x → IsWaiting machine x
+life_waits : (s : Setting) (machine : Machine) (rows : List RowState) (before : List ℕ) (history : History) (x : Life)
+    → Runs s machine rows before history → IsOnly (world s history).lives x → IsWaiting machine x
 unfolding present
 life_waits s machine rows before history x r only e =
     let c = x.connection in
@@ -94,11 +104,13 @@ life_waits s machine rows before history x r only e =
     let lt : c < connection_limit = r.below c (sym (r.tracks c) ∙ has_row s machine rows before history r c ∙ ap is_there at) in
     waits_there s (λ k. 0) (world s history) machine c lt r.stands ∙ ap out_now at
 
-all_wait : (s : Setting) (machine : Machine) (rows : List RowState) (before : List ℕ) (history : History) (lives : List Life) → Runs s machine rows before history → AllByRecursion (IsOnly (world s history).lives) lives → AllByRecursion (IsWaiting machine) lives
+all_wait : (s : Setting) (machine : Machine) (rows : List RowState) (before : List ℕ) (history : History) (lives : List Life)
+    → Runs s machine rows before history → AllByRecursion (IsOnly (world s history).lives) lives → AllByRecursion (IsWaiting machine) lives
 all_wait s machine rows before history [] r h = tt
 all_wait s machine rows before history (x ∷ lives) r h = (life_waits s machine rows before history x r h.0, all_wait s machine rows before history lives r h.1)
 
-waiting : (s : Setting) (machine : Machine) (rows : List RowState) (before : List ℕ) (history : History) → Runs s machine rows before history → AllByRecursion (IsWaiting machine) (world s history).lives
+waiting : (s : Setting) (machine : Machine) (rows : List RowState) (before : List ℕ) (history : History) → Runs s machine rows before history
+    → AllByRecursion (IsWaiting machine) (world s history).lives
 waiting s machine rows before history r = all_wait s machine rows before history _ r (all_only _ (subst AreDistinct r.kept r.distinct))
 
 -- ---- the history ends
@@ -107,23 +119,28 @@ finish_by : (b : Bool) (machine : Machine) (x : Life) → IsWaiting machine x �
 finish_by true machine x waits e = ap (λ (row : RowState). (finished machine row).bytes) (over_is x e)
 finish_by false machine x waits e = ap (λ (row : RowState). (finished machine row).bytes) (open_is x e) ∙ waits e
 
-finish_all : (machine : Machine) (lives : List Life) → AllByRecursion (IsWaiting machine) lives → map (λ (row : RowState). (finished machine row).bytes) (map row_of lives) ≡ map out_of lives
+finish_all : (machine : Machine) (lives : List Life) → AllByRecursion (IsWaiting machine) lives
+    → map (λ (row : RowState). (finished machine row).bytes) (map row_of lives) ≡ map out_of lives
 finish_all machine [] h = refl
 finish_all machine (x ∷ lives) h =
     ap (λ (bytes : List ℕ). bytes ∷ map (λ (row : RowState). (finished machine row).bytes) (map row_of lives)) (finish_by (is_over x.phase) machine x h.0 refl)
     ∙ ap (λ (all : List (List ℕ)). out_of x ∷ all) (finish_all machine lives h.1)
 
-pub finished_outputs : (s : Setting) (machine : Machine) (rows : List RowState) (before : List ℕ) (history : History) → Runs s machine rows before history → map (λ (row : RowState). (finished machine row).bytes) rows ≡ outputs s history
+pub finished_outputs : (s : Setting) (machine : Machine) (rows : List RowState) (before : List ℕ) (history : History)
+    → Runs s machine rows before history → map (λ (row : RowState). (finished machine row).bytes) rows ≡ outputs s history
 unfolding outputs
-finished_outputs s machine rows before history r = ap (map (λ (row : RowState). (finished machine row).bytes)) r.kept ∙ finish_all machine (world s history).lives (waiting s machine rows before history r)
+finished_outputs s machine rows before history r = ap (map (λ (row : RowState). (finished machine row).bytes)) r.kept
+    ∙ finish_all machine (world s history).lives (waiting s machine rows before history r)
 
 -- ---- which events may come
 
-open_in : (names : List (List ℕ)) (sent : ℕ) (half : List ℕ) (c : ℕ) (w : World) (o : Option Life) → present c w ≡ o → not (is_free (link_of names sent half o).phase) ≡ is_there o
+open_in : (names : List (List ℕ)) (sent : ℕ) (half : List ℕ) (c : ℕ) (w : World) (o : Option Life) → present c w ≡ o
+    → not (is_free (link_of names sent half o).phase) ≡ is_there o
 open_in names sent half c w None e = refl
 open_in names sent half c w (Some life) e = ap not (present_open names c w life e)
 
-is_open : (s : Setting) (machine : Machine) (rows : List RowState) (before : List ℕ) (history : History) (c : ℕ) → Runs s machine rows before history → c < connection_limit → is_open_at machine c ≡ is_among c before
+is_open : (s : Setting) (machine : Machine) (rows : List RowState) (before : List ℕ) (history : History) (c : ℕ)
+    → Runs s machine rows before history → c < connection_limit → is_open_at machine c ≡ is_among c before
 is_open s machine rows before history c r lt =
     ap (λ (l : LinkState). not (is_free l.phase)) (link_stands s (λ k. 0) (world s history) machine c lt r.stands)
     ∙ open_in s.names 0 (half_of (present c (world s history))) c (world s history) (present c (world s history)) refl
@@ -172,13 +189,15 @@ or_swap true false = refl
 or_swap false true = refl
 or_swap false false = refl
 
-pub below_more : (c : ℕ) (before : List ℕ) → c < connection_limit → ((d : ℕ) → is_among d before ≡ true → d < connection_limit) → (d : ℕ) → is_among d (c ∷ before) ≡ true → d < connection_limit
+pub below_more : (c : ℕ) (before : List ℕ) → c < connection_limit → ((d : ℕ) → is_among d before ≡ true → d < connection_limit) → (d : ℕ)
+    → is_among d (c ∷ before) ≡ true → d < connection_limit
 below_more c before lt below d e = elim (eqb_tells c d) [
   | inl same ↦ subst (λ (k : ℕ). k < connection_limit) same.1 lt
   | inr differ ↦ below d (rw differ.0 at e)
 ]
 
-pub open_runs : (s : Setting) (machine after : Machine) (rows : List RowState) (before : List ℕ) (history : History) (c : ℕ) → Runs s machine rows before history → MayCome machine (Open c) → Stands s (with_sent (λ k. 0) c 0) after (history ++ plain (Open c) ∷ [])
+pub open_runs : (s : Setting) (machine after : Machine) (rows : List RowState) (before : List ℕ) (history : History) (c : ℕ)
+    → Runs s machine rows before history → MayCome machine (Open c) → Stands s (with_sent (λ k. 0) c 0) after (history ++ plain (Open c) ∷ [])
     → Runs s after (rows ++ open_row c ∷ []) (c ∷ before) (history ++ plain (Open c) ∷ [])
 open_runs s machine after rows before history c r may h =
     let w = world s history in
@@ -198,7 +217,8 @@ open_runs s machine after rows before history c r may h =
 
 -- ---- and brings bytes
 
-pub bytes_runs : (s : Setting) (machine after : Machine) (rows : List RowState) (before : List ℕ) (history : History) (c : ℕ) (piece : List ℕ) → Runs s machine rows before history → Stands s (λ k. 0) after (history ++ plain (Bytes c piece) ∷ [])
+pub bytes_runs : (s : Setting) (machine after : Machine) (rows : List RowState) (before : List ℕ) (history : History) (c : ℕ) (piece : List ℕ)
+    → Runs s machine rows before history → Stands s (λ k. 0) after (history ++ plain (Bytes c piece) ∷ [])
     → Runs s after rows before (history ++ plain (Bytes c piece) ∷ [])
 bytes_runs s machine after rows before history c piece r h = record {
   stands = h;
@@ -225,7 +245,8 @@ end_by false machine c x waits e =
     cond_false (is_on c (row_of x).connection) (finished machine (row_of x)) (row_of x) (on_present c x ∙ e)
     ∙ ap row_of (sym (cond_false (is_present c x) (ended_in Over x) x e))
 
-end_all : (machine : Machine) (c : ℕ) (lives : List Life) → AllByRecursion (IsWaiting machine) lives → map (ended machine c) (map row_of lives) ≡ map row_of (map (over c) lives)
+end_all : (machine : Machine) (c : ℕ) (lives : List Life) → AllByRecursion (IsWaiting machine) lives
+    → map (ended machine c) (map row_of lives) ≡ map row_of (map (over c) lives)
 end_all machine c [] h = refl
 end_all machine c (x ∷ lives) h =
     ap (λ (row : RowState). row ∷ map (ended machine c) (map row_of lives)) (end_by (is_present c x) machine c x h.0 refl)
@@ -251,13 +272,15 @@ row_not : (b : Bool) (machine : Machine) (c : ℕ) (row : RowState) → is_on c 
 row_not true machine c row e = ended_on machine c c row e
 row_not false machine c row e = ap (λ (r : RowState). is_on c r.connection) (ended_off machine c row e) ∙ e
 
-row_other : (b : Bool) (machine : Machine) (c d : ℕ) (row : RowState) → d ≢ c → is_on c row.connection ≡ b → is_on d (ended machine c row).connection ≡ is_on d row.connection
+row_other : (b : Bool) (machine : Machine) (c d : ℕ) (row : RowState) → d ≢ c → is_on c row.connection ≡ b
+    → is_on d (ended machine c row).connection ≡ is_on d row.connection
 row_other true machine c d row differ e = ended_on machine c d row e ∙ sym (not_on c d row.connection differ e)
 row_other false machine c d row differ e = ap (λ (r : RowState). is_on d r.connection) (ended_off machine c row e)
 
 has-ended : (machine : Machine) (c : ℕ) (rows : List RowState) → has c (map (ended machine c) rows) ≡ false
 has-ended machine c [] = refl
-has-ended machine c (row ∷ rows) = ap (λ (b : Bool). b || has c (map (ended machine c) rows)) (row_not (is_on c row.connection) machine c row refl) ∙ has-ended machine c rows
+has-ended machine c (row ∷ rows) = ap (λ (b : Bool). b || has c (map (ended machine c) rows)) (row_not (is_on c row.connection) machine c row refl)
+    ∙ has-ended machine c rows
 
 has-ended_other : (machine : Machine) (c d : ℕ) (rows : List RowState) → d ≢ c → has d (map (ended machine c) rows) ≡ has d rows
 has-ended_other machine c d [] differ = refl
@@ -272,22 +295,27 @@ still_free machine c (Some d) rows free = elim (eqb_tells d c) [
   | inr differ ↦ has-ended_other machine c d rows differ.1 ∙ free
 ]
 
-row_free : (b : Bool) (machine : Machine) (c : ℕ) (row : RowState) (rows : List RowState) → is_on c row.connection ≡ b → IsFree row.connection rows → IsFree (ended machine c row).connection rows
+row_free : (b : Bool) (machine : Machine) (c : ℕ) (row : RowState) (rows : List RowState) → is_on c row.connection ≡ b → IsFree row.connection rows
+    → IsFree (ended machine c row).connection rows
 row_free true machine c row rows e free =
-    let none : (ended machine c row).connection ≡ None = ap (λ (r : RowState). r.connection) (cond_true (is_on c row.connection) (finished machine row) row e) ∙ finished_none machine row.bytes row.connection in
+    let none : (ended machine c row).connection ≡ None = ap (λ (r : RowState). r.connection)
+    (cond_true (is_on c row.connection) (finished machine row) row e) ∙ finished_none machine row.bytes row.connection in
     subst (λ (o : Option ℕ). IsFree o rows) (sym none) tt
 row_free false machine c row rows e free = subst (λ (r : RowState). IsFree r.connection rows) (sym (ended_off machine c row e)) free
 
 distinct_ended : (machine : Machine) (c : ℕ) (rows : List RowState) → AreDistinct rows → AreDistinct (map (ended machine c) rows)
 distinct_ended machine c [] d = tt
-distinct_ended machine c (row ∷ rows) d =
-    (row_free (is_on c row.connection) machine c row (map (ended machine c) rows) refl (still_free machine c row.connection rows d.0), distinct_ended machine c rows d.1)
+distinct_ended machine c (row ∷ rows) d = (
+  row_free (is_on c row.connection) machine c row (map (ended machine c) rows) refl (still_free machine c row.connection rows d.0),
+  distinct_ended machine c rows d.1,
+)
 
 rows-end : (c : ℕ) (w : World) → rows_in (end c w) ≡ map row_of (map (over c) w.lives)
 unfolding end
 rows-end c w = refl
 
-pub gone_runs : (s : Setting) (machine after : Machine) (rows : List RowState) (before : List ℕ) (history : History) (c : ℕ) → Runs s machine rows before history → Stands s (with_sent (λ k. 0) c 0) after (history ++ plain (Gone c) ∷ [])
+pub gone_runs : (s : Setting) (machine after : Machine) (rows : List RowState) (before : List ℕ) (history : History) (c : ℕ)
+    → Runs s machine rows before history → Stands s (with_sent (λ k. 0) c 0) after (history ++ plain (Gone c) ∷ [])
     → Runs s after (map (ended machine c) rows) (open_after before (Gone c)) (history ++ plain (Gone c) ∷ [])
 unfolding end
 gone_runs s machine after rows before history c r h =

@@ -22,7 +22,8 @@ use Rattle.iscsi_target.specs.World.{left, changed_units, lookup_for}
 use Rattle.iscsi_target.specs.Machine.{Machine, IsSound, IsSure, link_at, with_link, begun_link, closed, session_in_phase, sessions, shut_older, begun, replied, logged_in}
 
 -- one target's units are set to others, which are sound only where they were
-pub sound_set : (all : List UnitStates) (at : ℕ) (units : UnitStates) → (at < length all → AreSound units → AreSound (slice_index_or all at [])) → All AreSound (slice_set all at units) → All AreSound all
+pub sound_set : (all : List UnitStates) (at : ℕ) (units : UnitStates) → (at < length all → AreSound units → AreSound (slice_index_or all at []))
+    → All AreSound (slice_set all at units) → All AreSound all
 sound_set all at units back sound k d lt = elim (eqb_tells k at) [
   | inl same ↦ (
       let below : at < length all = subst (λ (n : ℕ). n < length all) same.1 lt in
@@ -87,7 +88,8 @@ as_many a b e = sym (length-map a media) ∙ ap length e ∙ length-map b media
 pub closed_units : (machine : Machine) (c : ℕ) → length (closed machine c).units ≡ length machine.units
 closed_units machine c = as_many (closed machine c).units machine.units (media_closed machine c)
 
-pub logged_in_units : (machine : Machine) (c : ℕ) (login : LoginState) (request : Frame) → length (logged_in machine c login request).units ≡ length machine.units
+pub logged_in_units : (machine : Machine) (c : ℕ) (login : LoginState) (request : Frame)
+    → length (logged_in machine c login request).units ≡ length machine.units
 logged_in_units machine c login request = as_many (logged_in machine c login request).units machine.units (media_logged_in machine c login request)
 
 -- ---- so what holds of each medium stays

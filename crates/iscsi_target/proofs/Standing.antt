@@ -30,7 +30,8 @@ fresh w = record w { reached = [] }
 pub present-fresh : (c : ℕ) (w : World) → present c (fresh w) ≡ present c w
 present-fresh c w = present-lives c (fresh w) w refl
 
-pub stands_as : (s : Setting) (sent : ℕ → ℕ) (machine : Machine) (history : History) (h : Happening) (v : World) → happened s (world s history) h ≡ v → StandsAt s sent v machine → Stands s sent machine (history ++ h ∷ [])
+pub stands_as : (s : Setting) (sent : ℕ → ℕ) (machine : Machine) (history : History) (h : Happening) (v : World)
+    → happened s (world s history) h ≡ v → StandsAt s sent v machine → Stands s sent machine (history ++ h ∷ [])
 stands_as s sent machine history h v e at =
     let P : World → Type 0 = λ w. StandsAt s sent w machine in
     subst P (sym (world-push s history h ∙ e)) at
@@ -56,7 +57,8 @@ machine_same s sent sent_then half half_then w v u same =
 pub serving : (s : Setting) (sent : ℕ → ℕ) (w : World) (machine : Machine) → StandsAt s sent w machine → Serves s sent (λ c. half_of (present c w)) w machine
 serving s sent w machine h = record { is = h.is; answered = h.answered; quiet = h.quiet }
 
-pub link_stands : (s : Setting) (sent : ℕ → ℕ) (w : World) (machine : Machine) (c : ℕ) → c < connection_limit → StandsAt s sent w machine → link_at machine c ≡ link_of s.names (sent c) (half_of (present c w)) (present c w)
+pub link_stands : (s : Setting) (sent : ℕ → ℕ) (w : World) (machine : Machine) (c : ℕ) → c < connection_limit → StandsAt s sent w machine
+    → link_at machine c ≡ link_of s.names (sent c) (half_of (present c w)) (present c w)
 link_stands s sent w machine c lt h = link_is s sent (λ k. half_of (present k w)) w machine c lt (serving s sent w machine h)
 
 waiting_of : (names : List (List ℕ)) (sent : ℕ) (half : List ℕ) (o : Option Life) → (link_of names sent half o).waiting ≡ drop sent (out_now o)
@@ -64,8 +66,10 @@ waiting_of names sent half None = sym (drop-nil sent)
 waiting_of names sent half (Some life) = refl
 
 -- what waits is what was answered without what was sent
-pub waits_there : (s : Setting) (sent : ℕ → ℕ) (w : World) (machine : Machine) (c : ℕ) → c < connection_limit → StandsAt s sent w machine → (link_at machine c).waiting ≡ drop (sent c) (out_now (present c w))
-waits_there s sent w machine c lt h = ap (λ (l : LinkState). l.waiting) (link_stands s sent w machine c lt h) ∙ waiting_of s.names (sent c) (half_of (present c w)) (present c w)
+pub waits_there : (s : Setting) (sent : ℕ → ℕ) (w : World) (machine : Machine) (c : ℕ) → c < connection_limit → StandsAt s sent w machine
+    → (link_at machine c).waiting ≡ drop (sent c) (out_now (present c w))
+waits_there s sent w machine c lt h = ap (λ (l : LinkState). l.waiting) (link_stands s sent w machine c lt h)
+    ∙ waiting_of s.names (sent c) (half_of (present c w)) (present c w)
 
 pub count_stands : (s : Setting) (sent : ℕ → ℕ) (w : World) (machine : Machine) → StandsAt s sent w machine → length machine.links ≡ connection_limit
 count_stands s sent w machine h = count_there s sent (λ c. half_of (present c w)) w machine (serving s sent w machine h)
@@ -79,13 +83,16 @@ over_is_free names life Closing e = refl
 over_is_free names life Over e = absurd cc
 
 pub present_open : (names : List (List ℕ)) (c : ℕ) (w : World) (life : Life) → present c w ≡ Some life → is_free (phase_for names life life.phase) ≡ false
-present_open names c w life e = over_is_free names life life.phase (not_true (is_over life.phase) (and_true (eqb life.connection c) (not (is_over life.phase)) (present_is c w life e)).1)
+present_open names c w life e = over_is_free names life life.phase (not_true (is_over life.phase)
+    (and_true (eqb life.connection c) (not (is_over life.phase)) (present_is c w life e)).1)
 
-open_in : (names : List (List ℕ)) (sent : ℕ) (half : List ℕ) (o : Option Life) → is_free (link_of names sent half o).phase ≡ false → (life : Life) × (o ≡ Some life)
+open_in : (names : List (List ℕ)) (sent : ℕ) (half : List ℕ) (o : Option Life) → is_free (link_of names sent half o).phase ≡ false → (life : Life)
+    × (o ≡ Some life)
 open_in names sent half None e = absurd cc
 open_in names sent half (Some life) e = (life, refl)
 
-free_in : (names : List (List ℕ)) (sent : ℕ) (half : List ℕ) (c : ℕ) (w : World) (o : Option Life) → present c w ≡ o → is_free (link_of names sent half o).phase ≡ true → o ≡ None
+free_in : (names : List (List ℕ)) (sent : ℕ) (half : List ℕ) (c : ℕ) (w : World) (o : Option Life) → present c w ≡ o
+    → is_free (link_of names sent half o).phase ≡ true → o ≡ None
 free_in names sent half c w None e f = refl
 free_in names sent half c w (Some life) e f = let open_ = present_open names c w life e in absurd (cc (open_, f))
 
@@ -93,13 +100,17 @@ free_from : (b : Bool) → not b ≡ false → b ≡ true
 free_from true e = refl
 free_from false e = absurd cc
 
-pub is_free_there : (s : Setting) (sent : ℕ → ℕ) (w : World) (machine : Machine) (c : ℕ) → c < connection_limit → StandsAt s sent w machine → is_open_at machine c ≡ false → present c w ≡ None
+pub is_free_there : (s : Setting) (sent : ℕ → ℕ) (w : World) (machine : Machine) (c : ℕ) → c < connection_limit → StandsAt s sent w machine
+    → is_open_at machine c ≡ false → present c w ≡ None
 is_free_there s sent w machine c lt h e =
-    free_in s.names (sent c) (half_of (present c w)) c w (present c w) refl (ap (λ (l : LinkState). is_free l.phase) (sym (link_stands s sent w machine c lt h)) ∙ free_from _ e)
+    free_in s.names (sent c) (half_of (present c w)) c w (present c w) refl
+    (ap (λ (l : LinkState). is_free l.phase) (sym (link_stands s sent w machine c lt h)) ∙ free_from _ e)
 
-pub is_open_there : (s : Setting) (sent : ℕ → ℕ) (w : World) (machine : Machine) (c : ℕ) → c < connection_limit → StandsAt s sent w machine → is_open_at machine c ≡ true → (life : Life) × (present c w ≡ Some life)
+pub is_open_there : (s : Setting) (sent : ℕ → ℕ) (w : World) (machine : Machine) (c : ℕ) → c < connection_limit → StandsAt s sent w machine
+    → is_open_at machine c ≡ true → (life : Life) × (present c w ≡ Some life)
 is_open_there s sent w machine c lt h e =
-    open_in s.names (sent c) (half_of (present c w)) (present c w) (ap (λ (l : LinkState). is_free l.phase) (sym (link_stands s sent w machine c lt h)) ∙ not_true _ e)
+    open_in s.names (sent c) (half_of (present c w)) (present c w) (ap (λ (l : LinkState). is_free l.phase)
+    (sym (link_stands s sent w machine c lt h)) ∙ not_true _ e)
 
 -- ---- how many bytes were sent
 
@@ -110,17 +121,22 @@ pub sent_there : (sent : ℕ → ℕ) (c n d : ℕ) → d ≢ c → with_sent se
 sent_there sent c n d differ = cond_false (eqb d c) n (sent d) (ne_eqb d c differ)
 
 -- one connection changes, and how much of its answers was sent
-pub stands_one : (s : Setting) (sent : ℕ → ℕ) (w v : World) (machine : Machine) (c n : ℕ) (units : List UnitStates) (link : LinkState) → c < connection_limit → StandsAt s sent w machine → v.units ≡ units
-    → ((d : ℕ) → d ≢ c → present d v ≡ present d w) → link_of s.names n (half_of (present c v)) (present c v) ≡ link → n ≤ length (out_now (present c v)) → IsQuiet (present c v) → IsShort (present c v)
+pub stands_one : (s : Setting) (sent : ℕ → ℕ) (w v : World) (machine : Machine) (c n : ℕ) (units : List UnitStates) (link : LinkState)
+    → c < connection_limit → StandsAt s sent w machine → v.units ≡ units
+    → ((d : ℕ) → d ≢ c → present d v ≡ present d w) → link_of s.names n (half_of (present c v)) (present c v) ≡ link
+    → n ≤ length (out_now (present c v)) → IsQuiet (present c v) → IsShort (present c v)
     → StandsAt s (with_sent sent c n) v (record (with_link machine c link) { units = units })
 stands_one s sent w v machine c n units link lt h u other l le quiet short =
-    let same : (d : ℕ) → d < connection_limit → d ≢ c → link_of s.names (with_sent sent c n d) (half_of (present d v)) (present d v) ≡ link_of s.names (sent d) (half_of (present d w)) (present d w) =
+    let same : (d : ℕ) → d < connection_limit → d ≢ c → link_of s.names (with_sent sent c n d) (half_of (present d v)) (present d v)
+    ≡ link_of s.names (sent d) (half_of (present d w)) (present d w) =
     λ d below differ. rw (other d differ, sent_there sent c n d differ) refl in
-    let here : link_of s.names (with_sent sent c n c) (half_of (present c v)) (present c v) ≡ link = ap (λ (k : ℕ). link_of s.names k (half_of (present c v)) (present c v)) (sent_here sent c n) ∙ l in
+    let here : link_of s.names (with_sent sent c n c) (half_of (present c v)) (present c v) ≡ link =
+    ap (λ (k : ℕ). link_of s.names k (half_of (present c v)) (present c v)) (sent_here sent c n) ∙ l in
     record {
       is = ap (λ (m : Machine). let x : Machine = record (with_link m c link) { units = units } in x) h.is
           ∙ ap (λ (x : LinkState). let m : Machine = record (with_link (machine_of s sent w) c x) { units = units } in m) (sym here)
-          ∙ ap (λ (us : List UnitStates). let m : Machine = record (with_link (machine_of s sent w) c (link_of s.names (with_sent sent c n c) (half_of (present c v)) (present c v))) { units = us } in m) (sym u)
+          ∙ ap (λ (us : List UnitStates). let m : Machine = record (with_link (machine_of s sent w) c
+          (link_of s.names (with_sent sent c n c) (half_of (present c v)) (present c v))) { units = us } in m) (sym u)
           ∙ sym (relinked s sent (with_sent sent c n) (λ k. half_of (present k w)) (λ k. half_of (present k v)) w v c lt same);
       answered = λ d below. elim (eqb_tells d c) [
         | inl e ↦ rw (e.1, sent_here sent c n) le
@@ -137,7 +153,8 @@ stands_one s sent w v machine c n units link lt h u other l le quiet short =
     }
 
 -- only how many bytes were sent on each connection counts, however it is written
-pub stands_sent : (s : Setting) (sent other : ℕ → ℕ) (machine : Machine) (history : History) → ((c : ℕ) → c < connection_limit → sent c ≡ other c) → Stands s sent machine history → Stands s other machine history
+pub stands_sent : (s : Setting) (sent other : ℕ → ℕ) (machine : Machine) (history : History) → ((c : ℕ) → c < connection_limit → sent c ≡ other c)
+    → Stands s sent machine history → Stands s other machine history
 stands_sent s sent other machine history same h =
     let w = world s history in
     record {
@@ -159,7 +176,8 @@ new_links (suc n) link a = ap (λ (l : List LinkState). link ∷ l) (new_links n
 
 new_is : (s : Setting) → new_machine s.names s.units ≡ machine_of s (λ c. 0) (new_world s)
 unfolding machine_with present
-new_is s = ap (λ (links : List LinkState). let m : Machine = record { names = s.names; units = s.units; links = links } in m) (sym (new_links connection_limit free_link 0))
+new_is s = ap (λ (links : List LinkState). let m : Machine = record { names = s.names; units = s.units; links = links } in m)
+    (sym (new_links connection_limit free_link 0))
 
 pub new_stands : (s : Setting) → Stands s (λ c. 0) (new_machine s.names s.units) []
 unfolding world
@@ -184,7 +202,8 @@ born_link : (names : List (List ℕ)) (c : ℕ) → link_of names 0 (half_of (So
 unfolding remembered out_of
 born_link names c = ap (λ (half : List ℕ). let l : LinkState = record { half = half; phase = (opened_link c).phase; waiting = [] } in l) (rest_none [] no_frame)
 
-pub open_stands : (s : Setting) (sent : ℕ → ℕ) (machine : Machine) (history : History) (c : ℕ) → c < connection_limit → is_open_at machine c ≡ false → Stands s sent machine history
+pub open_stands : (s : Setting) (sent : ℕ → ℕ) (machine : Machine) (history : History) (c : ℕ) → c < connection_limit → is_open_at machine c ≡ false
+    → Stands s sent machine history
     → Stands s (with_sent sent c 0) (with_link machine c (opened_link c)) (history ++ plain (Open c) ∷ [])
 open_stands s sent machine history c lt free h =
     let w = world s history in
@@ -214,27 +233,33 @@ gone_stands s sent machine history c lt h =
     units_end c (fresh w) ∙ ap (λ (o : Option Life). left (session_of o) w.units) (present-fresh c w)
     ∙ ap (λ (o : Option Params). left o w.units) (sym (session_at s sent (λ k. half_of (present k w)) w machine c lt (serving s sent w machine h)))
     ∙ ap (left (session_in_phase (link_at machine c).phase)) (sym same) in
-    let twice : set (set machine.links c (shut_link (link_at machine c))) c free_link ≡ set machine.links c free_link = set-set machine.links c (shut_link (link_at machine c)) free_link in
+    let twice : set (set machine.links c (shut_link (link_at machine c))) c free_link ≡ set machine.links c free_link =
+    set-set machine.links c (shut_link (link_at machine c)) free_link in
     stands_as s (with_sent sent c 0) (with_link (closed machine c) c free_link) history (plain (Gone c)) v refl
     (rw twice (stands_one s sent w v machine c 0 (left (session_in_phase (link_at machine c).phase) machine.units) free_link lt h units
     (λ d differ. present-end_other c d (fresh w) differ ∙ present-fresh d w) (rw none refl) (omega arith) (rw none tt) (rw none tt)))
 
 -- ---- bytes were sent
 
-sent_of : (names : List (List ℕ)) (sent n : ℕ) (half : List ℕ) (o : Option Life) → n ≤ length (link_of names sent half o).waiting → link_of names (sent + n) half o ≡ sent_link (link_of names sent half o) n
+sent_of : (names : List (List ℕ)) (sent n : ℕ) (half : List ℕ) (o : Option Life) → n ≤ length (link_of names sent half o).waiting
+    → link_of names (sent + n) half o ≡ sent_link (link_of names sent half o) n
 sent_of names sent n half None le = ap (λ (l : List ℕ). let x : LinkState = record free_link { waiting = l } in x) (sym (drop-nil n))
-sent_of names sent n half (Some life) le = ap (λ (l : List ℕ). let x : LinkState = record (link_of names sent half (Some life)) { waiting = l } in x) (sym (drop-drop n sent (out_of life)))
+sent_of names sent n half (Some life) le = ap (λ (l : List ℕ). let x : LinkState = record (link_of names sent half (Some life)) { waiting = l } in
+    x) (sym (drop-drop n sent (out_of life)))
 
-pub sent_stands : (s : Setting) (sent : ℕ → ℕ) (machine : Machine) (history : History) (c n : ℕ) → c < connection_limit → n ≤ length (link_at machine c).waiting → Stands s sent machine history
+pub sent_stands : (s : Setting) (sent : ℕ → ℕ) (machine : Machine) (history : History) (c n : ℕ) → c < connection_limit
+    → n ≤ length (link_at machine c).waiting → Stands s sent machine history
     → Stands s (with_sent sent c (sent c + n)) (with_link machine c (sent_link (link_at machine c) n)) history
 sent_stands s sent machine history c n lt le h =
     let w = world s history in
     let link = link_stands s sent w machine c lt h in
     let units : w.units ≡ machine.units = sym (ap (λ (m : Machine). m.units) h.is ∙ units_with s sent (λ k. half_of (present k w)) w) in
     let waits = waits_there s sent w machine c lt h in
-    let count : sent c + n ≤ length (out_now (present c w)) = (let was = h.answered c lt in let len = length-drop (sent c) (out_now (present c w)) in let same = ap length waits in omega arith) in
+    let count : sent c + n ≤ length (out_now (present c w)) = (let was = h.answered c lt in
+    let len = length-drop (sent c) (out_now (present c w)) in let same = ap length waits in omega arith) in
     stands_one s sent w w machine c (sent c + n) machine.units (sent_link (link_at machine c) n) lt h units (λ d differ. refl)
-    (sent_of s.names (sent c) n (half_of (present c w)) (present c w) (subst (λ (l : LinkState). n ≤ length l.waiting) link le) ∙ ap (λ (l : LinkState). sent_link l n) (sym link))
+    (sent_of s.names (sent c) n (half_of (present c w)) (present c w) (subst (λ (l : LinkState). n ≤ length l.waiting) link le)
+    ∙ ap (λ (l : LinkState). sent_link l n) (sym link))
     count (h.quiet c lt) (h.short c lt)
 
 pub units_stand : (s : Setting) (sent : ℕ → ℕ) (w : World) (machine : Machine) → StandsAt s sent w machine → machine.units ≡ w.units

@@ -25,7 +25,8 @@ among-gone_other d c (k ∷ before) differ = elim (eqb_tells k c) [
   | inr ne ↦ rw ne.0 (ap (λ (b : Bool). eqb k d || b) (among-gone_other d c before differ))
 ]
 
-pub gone_table : (table : List Bool) (before : List ℕ) (c : ℕ) → IsTable table before → c < length table → IsTable (set table c false) (filter (λ k. not (eqb k c)) before)
+pub gone_table : (table : List Bool) (before : List ℕ) (c : ℕ) → IsTable table before → c < length table
+    → IsTable (set table c false) (filter (λ k. not (eqb k c)) before)
 gone_table table before c h lt = λ d. elim (eqb_tells d c) [
   | inl same ↦ rw same.1 (get_or-set_same table c false false lt ∙ sym (among-gone c before))
   | inr differ ↦ get_or-set_other table c d false false differ.1 ∙ h d ∙ sym (among-gone_other d c before differ.1)
@@ -39,7 +40,9 @@ next_event es i e lt is =
     let cut : drop i es ≡ get_or es i e ∷ drop (i + 1) es = rw (add-one, drop-cons es i e) refl in
     ap events_view cut ∙ ap (λ (x : Event). event_view x ∷ events_view (drop (i + 1) es)) (sym is)
 
-pub follows : (es : List Event) (i : ℕ) (e : Event) (before : List ℕ) → i < length es → e ≡ get_or es i e → may_follow before (events_view (drop i es)) ≡ (may_come before (event_view e) && may_follow (open_after before (event_view e)) (events_view (drop (i + 1) es)))
+pub follows : (es : List Event) (i : ℕ) (e : Event) (before : List ℕ) → i < length es → e ≡ get_or es i e
+    → may_follow before (events_view (drop i es)) ≡ (may_come before (event_view e)
+    && may_follow (open_after before (event_view e)) (events_view (drop (i + 1) es)))
 follows es i e before lt is = ap (may_follow before) (next_event es i e lt is)
 
 -- ---- no connection is open

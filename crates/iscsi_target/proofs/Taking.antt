@@ -13,9 +13,9 @@ use Rattle.iscsi_session.specs.Steps.{Step, Judging, Taking, Doing, is_of}
 use Rattle.iscsi_target.specs.History.{Point, Arriving, Before, AtEnd, Mark, Arrival, Whole, TooLong, arrivals, is_within, connection_limit}
 use Rattle.iscsi_target.specs.Life.{Life, reads}
 use Rattle.iscsi_target.specs.World.{Setting, World, present, reads_life, is_marked, close, reaching, take_step, arrive}
-use Rattle.iscsi_target.specs.Machine.{LinkState, Machine, IsSound, IsSure, Feeds, link_at, with_link, is_reading, is_free, closed, free_link, shut_link, GivesFrame}
+use Rattle.iscsi_target.specs.Machine.{LinkState, Machine, IsSound, IsSure, Feeds, KeepsPart, link_at, with_link, is_reading, is_free, closed, free_link, shut_link, GivesFrame}
 use Rattle.iscsi_target.specs.Stands.{link_of, machine_with, are_reached}
-use Rattle.iscsi_target.specs.Serving.{Serves, Agrees, Does, Begins, is_of_frame, has_step, has_place, place_of, is_among, first_of, kept, with_half, KeepsHalf, Moves, Takes, TakesOne, TakesSome, TakesAll}
+use Rattle.iscsi_target.specs.Serving.{Serves, IsClosed, Agrees, Does, Begins, is_of_frame, has_step, has_place, place_of, is_among, first_of, kept, with_half, KeepsHalf, Moves, Takes, TakesOne, TakesSome, TakesAll}
 use Rattle.iscsi_target.proofs.Arrivals.{long_end, fold-places}
 use Rattle.iscsi_target.proofs.Choices.{eqb_self, cond_true, cond_false, and_true, and_false}
 use Rattle.iscsi_target.proofs.Linked.{link_is, reads_there, count_there, some_reads, serves_one, serves_as, serves_world, serves_reaching, closes, present-close, present-reaching, units_with, link_there}
@@ -24,7 +24,8 @@ use Rattle.iscsi_target.proofs.Marks.{mark_at, marked_one, marked_none, Apart, W
 use Rattle.iscsi_target.proofs.Keeping.{on-arrive}
 use Rattle.iscsi_target.proofs.Doing.{Act, Halves, does_nothing, does_as, does_then}
 use Rattle.iscsi_target.proofs.Frames.{idle, arrived, starves}
-use Rattle.iscsi_target.proofs.Moving.{Changes, reading_open, feeds_then, changes_feeds, closed_moves, moves_as, moves_none}
+use Rattle.iscsi_target.proofs.Apart.{part_none, part_closed, part_halved, part_as, part_then}
+use Rattle.iscsi_target.proofs.Moving.{Changes, reading_open, own_self, feeds_then, closed_then, changes_feeds, closed_moves, starved_moves, moves_as, moves_none}
 
 -- ---- the bytes that are kept
 
@@ -35,25 +36,31 @@ half_other : (c d : ℕ) (bytes : List ℕ) (half : ℕ → List ℕ) → d ≢ 
 half_other c d bytes half differ = cond_false (eqb d c) bytes (half d) (ne_eqb d c differ)
 
 -- of a connection that reads fewer bytes are kept
-pub rehalved : (s : Setting) (sent : ℕ → ℕ) (half : ℕ → List ℕ) (w : World) (machine : Machine) (c : ℕ) (bytes : List ℕ) → c < connection_limit → is_reading (link_at machine c).phase ≡ true → Serves s sent half w machine
+pub rehalved : (s : Setting) (sent : ℕ → ℕ) (half : ℕ → List ℕ) (w : World) (machine : Machine) (c : ℕ) (bytes : List ℕ) → c < connection_limit
+    → is_reading (link_at machine c).phase ≡ true → Serves s sent half w machine
     → Serves s sent (with_half c bytes half) w (with_link machine c (record (link_at machine c) { half = bytes }))
 rehalved s sent half w machine c bytes lt r h =
     let there = some_reads (present c w) (sym (reads_there s sent half w machine c lt h) ∙ r) in
     let link = link_is s sent half w machine c lt h ∙ ap (link_of s.names (sent c) (half c)) there.1 in
     let now : link_of s.names (sent c) (with_half c bytes half c) (Some there.0) ≡ record (link_of s.names (sent c) (half c) (Some there.0)) { half = bytes } =
     ap (λ (b : List ℕ). link_of s.names (sent c) b (Some there.0)) (half_here c bytes half)
-    ∙ ap (λ (b : List ℕ). let l : LinkState = record (link_of s.names (sent c) (half c) (Some there.0)) { half = b } in l) (cond_true (reads there.0.phase) bytes [] there.2) in
-    serves_one s sent half (with_half c bytes half) w w machine c machine.units (record (link_at machine c) { half = bytes }) lt h (λ d differ. refl) (λ d differ. half_other c d bytes half differ)
+    ∙ ap (λ (b : List ℕ). let l : LinkState = record (link_of s.names (sent c) (half c) (Some there.0)) { half = b } in l)
+    (cond_true (reads there.0.phase) bytes [] there.2) in
+    serves_one s sent half (with_half c bytes half) w w machine c machine.units (record (link_at machine c) { half = bytes }) lt h
+    (λ d differ. refl) (λ d differ. half_other c d bytes half differ)
     (h.answered c lt) (h.quiet c lt) (sym (ap (λ (m : Machine). m.units) h.is ∙ units_with s sent half w))
-    (ap (link_of s.names (sent c) (with_half c bytes half c)) there.1 ∙ now ∙ ap (λ (l : LinkState). let x : LinkState = record l { half = bytes } in x) (sym link))
+    (ap (link_of s.names (sent c) (with_half c bytes half c)) there.1 ∙ now
+    ∙ ap (λ (l : LinkState). let x : LinkState = record l { half = bytes } in x) (sym link))
 
 idle_link : (names : List (List ℕ)) (sent : ℕ) (a b : List ℕ) (o : Option Life) → reads_life o ≡ false → link_of names sent a o ≡ link_of names sent b o
 idle_link names sent a b None e = refl
 idle_link names sent a b (Some life) e =
-    ap (λ (half : List ℕ). let l : LinkState = record (link_of names sent a (Some life)) { half = half } in l) (cond_false (reads life.phase) a [] e ∙ sym (cond_false (reads life.phase) b [] e))
+    ap (λ (half : List ℕ). let l : LinkState = record (link_of names sent a (Some life)) { half = half } in l) (cond_false (reads life.phase) a [] e
+    ∙ sym (cond_false (reads life.phase) b [] e))
 
 -- of one that does not read, none
-pub halves_idle : (s : Setting) (sent : ℕ → ℕ) (half : ℕ → List ℕ) (w : World) (machine : Machine) (c : ℕ) (bytes : List ℕ) → reads_life (present c w) ≡ false → Serves s sent half w machine → Serves s sent (with_half c bytes half) w machine
+pub halves_idle : (s : Setting) (sent : ℕ → ℕ) (half : ℕ → List ℕ) (w : World) (machine : Machine) (c : ℕ) (bytes : List ℕ)
+    → reads_life (present c w) ≡ false → Serves s sent half w machine → Serves s sent (with_half c bytes half) w machine
 halves_idle s sent half w machine c bytes e h = record {
   is = h.is ∙ sym (machine_same s sent sent half (with_half c bytes half) w w refl (λ d below. elim (eqb_tells d c) [
     | inl here ↦ rw here.1 (idle_link s.names (sent c) (with_half c bytes half c) (half c) (present c w) e)
@@ -67,12 +74,14 @@ halves_idle s sent half w machine c bytes e h = record {
 
 pub none_whole : (half : List ℕ) → has_frame half ≡ false → is_long half ≡ false → arrivals half ≡ []
 unfolding arrivals
-none_whole half none short = ap (λ (l : List Frame). map Whole l ++ long_end (is_long (rest half))) (frames_none half none) ∙ ap long_end (ap is_long (rest_none half none) ∙ short)
+none_whole half none short = ap (λ (l : List Frame). map Whole l ++ long_end (is_long (rest half))) (frames_none half none)
+    ∙ ap long_end (ap is_long (rest_none half none) ∙ short)
 
 pub some_whole : (half more : List ℕ) (frame : Frame) → frames half ≡ frame ∷ frames more → rest more ≡ rest half → arrivals half ≡ Whole frame ∷ arrivals more
 unfolding arrivals
 some_whole half more frame first behind =
-    ap (λ (l : List Frame). map Whole l ++ long_end (is_long (rest half))) first ∙ ap (λ (r : List ℕ). Whole frame ∷ (map Whole (frames more) ++ long_end (is_long r))) (sym behind)
+    ap (λ (l : List Frame). map Whole l ++ long_end (is_long (rest half))) first
+    ∙ ap (λ (r : List ℕ). Whole frame ∷ (map Whole (frames more) ++ long_end (is_long r))) (sym behind)
 
 no_bytes : arrivals [] ≡ []
 no_bytes = none_whole [] no_frame nothing_long
@@ -108,15 +117,17 @@ unfolding closed
 closed_idle machine c lt = ap (λ (l : LinkState). is_reading l.phase) (get_or-set_same machine.links c (shut_link (link_at machine c)) free_link lt)
 
 -- a frame that was given
-pub takes_frame : (old given new : Machine) (c : ℕ) (frame : Frame) (starved : Option ℕ) → c < connection_limit → length old.links ≡ connection_limit → is_reading (link_at old c).phase ≡ true
+pub takes_frame : (old given new : Machine) (c : ℕ) (frame : Frame) (starved : Option ℕ) → c < connection_limit
+    → length old.links ≡ connection_limit → is_reading (link_at old c).phase ≡ true
     → GivesFrame frame (link_at old c).half (link_at given c).half → given ≡ with_link old c (record (link_at old c) { half = (link_at given c).half })
-    → Takes c frame starved given new → Moves given new → TakesOne c starved old new
-takes_frame old given new c frame starved lt count r gives is takes moves =
+    → Takes c frame starved given new → Moves c starved given new → KeepsPart c given new → TakesOne c starved old new
+takes_frame old given new c frame starved lt count r gives is takes moves part =
     let more = (link_at given c).half in
-    let link : link_at given c ≡ record (link_at old c) { half = more } = ap (λ (m : Machine). link_at m c) is ∙ get_or-set_same old.links c (record (link_at old c) { half = more }) free_link (omega (arith, count)) in
+    let link : link_at given c ≡ record (link_at old c) { half = more } = ap (λ (m : Machine). link_at m c) is
+    ∙ get_or-set_same old.links c (record (link_at old c) { half = more }) free_link (omega (arith, count)) in
     let reads_given : is_reading (link_at given c).phase ≡ true = ap (λ (l : LinkState). is_reading l.phase) link ∙ r in
-    let fed : Feeds old given = (let P : Machine → Type 0 = λ m. Feeds old m in subst P (sym is)
-    (changes_feeds old old.units c (record (link_at old c) { half = more }) (omega (arith, count)) (halving (link_at old c) more r))) in
+    let fed : Feeds c old given = (let P : Machine → Type 0 = λ m. Feeds c old m in subst P (sym is)
+    (changes_feeds c old old.units c (record (link_at old c) { half = more }) (omega (arith, count)) (halving (link_at old c) more r) (own_self c old))) in
     record {
       arrival = Whole frame;
       more = more;
@@ -129,18 +140,24 @@ takes_frame old given new c frame starved lt count r gives is takes moves =
         first = takes.first;
         of_kind = takes.of_kind;
         stands = λ sound s sent half w place marks agree h.
-            takes.stands sound s sent (with_half c more half) w place marks agree (serves_as s sent (with_half c more half) w (with_link old c (record (link_at old c) { half = more })) given is (rehalved s sent half w old c more lt r h));
+            takes.stands sound s sent (with_half c more half) w place marks agree
+            (serves_as s sent (with_half c more half) w (with_link old c (record (link_at old c) { half = more })) given is
+            (rehalved s sent half w old c more lt r h));
       };
       back = λ sound. subst (λ (us : List UnitStates). All AreSound us) (ap (λ (m : Machine). m.units) is) (moves.back sound);
       sure = λ sure. moves.sure (subst (λ (us : List UnitStates). All AreSure us) (sym (ap (λ (m : Machine). m.units) is)) sure);
-      feeds = feeds_then old given new fed moves.feeds;
+      feeds = feeds_then c old given new fed moves.feeds;
+      closing = moves.closing;
+      part = part_then c old given new reads_given (part_as c old (with_link old c (record (link_at old c) { half = more })) given is
+          (part_halved old c more (omega (arith, count)))) part;
     }
 
 -- a header that names too much data
-pub takes_long : (old new : Machine) (c : ℕ) → c < connection_limit → length old.links ≡ connection_limit → is_reading (link_at old c).phase ≡ true → is_long (link_at old c).half ≡ true → new ≡ closed old c → TakesOne c None old new
+pub takes_long : (old new : Machine) (c : ℕ) → c < connection_limit → length old.links ≡ connection_limit → is_reading (link_at old c).phase ≡ true
+    → is_long (link_at old c).half ≡ true → new ≡ closed old c → TakesOne c None old new
 takes_long old new c lt count r long is =
     let below : c < length old.links = omega (arith, count) in
-    let moves = moves_as old (closed old c) new is (closed_moves old c below r) in
+    let moves = moves_as c None old (closed old c) new is (closed_moves c old c below r (own_self c old)) in
     record {
       arrival = TooLong;
       more = [];
@@ -156,17 +173,21 @@ takes_long old new c lt count r long is =
           let step = arrived s marks c w place TooLong (ap reads_life there.1 ∙ there.2) agree in
           serves_world s sent (with_half c [] half) (close c v) _ new step
           (halves_idle s sent half (close c v) new c [] (ap reads_life (present-close c v there.0 at))
-          (serves_as s sent half (close c v) (closed old c) new is (closes s sent half v old c there.0 lt (serves_reaching s sent half w old c (Arriving place ∷ []) h) at)))));
+          (serves_as s sent half (close c v) (closed old c) new is (closes s sent half v old c there.0 lt
+          (serves_reaching s sent half w old c (Arriving place ∷ []) h) at)))));
       back = moves.back;
       sure = moves.sure;
       feeds = moves.feeds;
+      closing = moves.closing;
+      part = part_as c old (closed old c) new is (part_closed old c below);
     }
 
 -- an allocation failed before a frame was given
-pub takes_none : (old new : Machine) (c : ℕ) → c < connection_limit → length old.links ≡ connection_limit → is_reading (link_at old c).phase ≡ true → has_frame (link_at old c).half ≡ true → new ≡ closed old c → TakesOne c (Some c) old new
+pub takes_none : (old new : Machine) (c : ℕ) → c < connection_limit → length old.links ≡ connection_limit → is_reading (link_at old c).phase ≡ true
+    → has_frame (link_at old c).half ≡ true → new ≡ closed old c → TakesOne c (Some c) old new
 takes_none old new c lt count r whole is =
     let below : c < length old.links = omega (arith, count) in
-    let moves = moves_as old (closed old c) new is (closed_moves old c below r) in
+    let moves = moves_as c (Some c) old (closed old c) new is (starved_moves c old c below r (own_self c old)) in
     let half = (link_at old c).half in
     let more = drop (frame_length half) half in
     let first = starves old new c (Whole (first_frame half)) lt r is in
@@ -190,6 +211,8 @@ takes_none old new c lt count r whole is =
       back = moves.back;
       sure = moves.sure;
       feeds = moves.feeds;
+      closing = moves.closing;
+      part = part_as c old (closed old c) new is (part_closed old c below);
     }
 
 -- ---- so many
@@ -204,15 +227,19 @@ pub record Progress (c : ℕ) (starved : Option ℕ) (first machine : Machine) :
   pub takes : TakesSome c done more starved first machine
   pub back : IsSound machine → IsSound first
   pub sure : IsSure first → IsSure machine
-  pub feeds : Feeds first machine
+  pub feeds : Feeds c first machine
+  pub closing : IsClosed starved machine
+  pub part : KeepsPart c first machine
 
 keeps_own : (link : LinkState) → is_reading link.phase ≡ true → KeepsHalf link.half link
 keeps_own link r = record { reading = λ e. refl; idle = λ e. absurd (cc (r, e)) }
 
-own_half : (s : Setting) (sent : ℕ → ℕ) (half : ℕ → List ℕ) (w : World) (machine : Machine) (c : ℕ) → c < connection_limit → is_reading (link_at machine c).phase ≡ true → Serves s sent half w machine
+own_half : (s : Setting) (sent : ℕ → ℕ) (half : ℕ → List ℕ) (w : World) (machine : Machine) (c : ℕ) → c < connection_limit
+    → is_reading (link_at machine c).phase ≡ true → Serves s sent half w machine
     → Serves s sent (with_half c (link_at machine c).half half) w machine
 own_half s sent half w machine c lt r h =
-    serves_as s sent (with_half c (link_at machine c).half half) w (with_link machine c (record (link_at machine c) { half = (link_at machine c).half })) machine
+    serves_as s sent (with_half c (link_at machine c).half half) w (with_link machine c
+    (record (link_at machine c) { half = (link_at machine c).half })) machine
     (sym (ap (λ (links : List LinkState). let m : Machine = record machine { links = links } in m) (set-get_or machine.links c free_link)))
     (rehalved s sent half w machine c (link_at machine c).half lt r h)
 
@@ -223,11 +250,14 @@ begins machine c lt r = record {
   front = refl;
   behind = λ e. refl;
   kept = keeps_own (link_at machine c) r;
-  takes = does_nothing (is_among 0) (λ s marks place w. fold (arrive s marks c) w (enumerate_from place [])) (with_half c (link_at machine c).half) machine machine
+  takes = does_nothing (is_among 0) (λ s marks place w. fold (arrive s marks c) w (enumerate_from place [])) (with_half c (link_at machine c).half)
+      machine machine
       (λ sound s sent half w place marks agree h. own_half s sent half w machine c lt r h);
   back = λ sound. sound;
   sure = λ sure. sure;
-  feeds = (moves_none machine).feeds;
+  feeds = (moves_none c machine).feeds;
+  closing = tt;
+  part = part_none c machine;
 }
 
 -- ---- one more
@@ -242,7 +272,8 @@ shifted n kind act halves starved given after d = record {
 }
 
 -- only the bytes themselves count
-pub serves_halves : (s : Setting) (sent : ℕ → ℕ) (a b : ℕ → List ℕ) (w : World) (machine : Machine) → ((d : ℕ) → a d ≡ b d) → Serves s sent a w machine → Serves s sent b w machine
+pub serves_halves : (s : Setting) (sent : ℕ → ℕ) (a b : ℕ → List ℕ) (w : World) (machine : Machine) → ((d : ℕ) → a d ≡ b d)
+    → Serves s sent a w machine → Serves s sent b w machine
 serves_halves s sent a b w machine same h = record {
   is = h.is ∙ sym (machine_same s sent sent a b w w refl (λ d below. ap (λ (bytes : List ℕ). link_of s.names (sent d) bytes (present d w)) (sym (same d))));
   answered = h.answered;
@@ -296,7 +327,8 @@ among_more n m place le mark e = wider_at mark.point e
     inside : (p : ℕ) → (not (nat_lt p place) && nat_lt p (place + n)) ≡ true → (not (nat_lt p place) && nat_lt p (place + m)) ≡ true
     inside p e = rw (from_place n place p e) (lt-ltb p (place + m) (omega (arith, in_range n place p e, le)))
 
-    wider_at : (point : Point) → has_place (λ p. not (nat_lt p place) && nat_lt p (place + n)) point ≡ true → has_place (λ p. not (nat_lt p place) && nat_lt p (place + m)) point ≡ true
+    wider_at : (point : Point) → has_place (λ p. not (nat_lt p place) && nat_lt p (place + n)) point ≡ true
+        → has_place (λ p. not (nat_lt p place) && nat_lt p (place + m)) point ≡ true
     wider_at (Arriving p) e = inside p e
     wider_at (Before step) e = inside (place_of step) e
     wider_at AtEnd e = absurd cc
@@ -313,19 +345,24 @@ here_more n place mark e = wider_at mark.point e
     wider_at AtEnd e = absurd cc
 
 fold_more : (s : Setting) (marks : List Mark) (c place : ℕ) (w : World) (done : List Arrival) (arrival : Arrival)
-    → fold (arrive s marks c) w (enumerate_from place (done ++ arrival ∷ [])) ≡ arrive s marks c (fold (arrive s marks c) w (enumerate_from place done)) (place + length done, arrival)
+    → fold (arrive s marks c) w (enumerate_from place (done ++ arrival ∷ []))
+    ≡ arrive s marks c (fold (arrive s marks c) w (enumerate_from place done)) (place + length done, arrival)
 fold_more s marks c place w done arrival = fold-places (arrive s marks c) w place done (arrival ∷ [])
 
-takes_more : (c : ℕ) (a b : Option ℕ) (first machine new : Machine) (done : List Arrival) (more : List ℕ) → TakesSome c done more a first machine → (one : TakesOne c b machine new)
+takes_more : (c : ℕ) (a b : Option ℕ) (first machine new : Machine) (done : List Arrival) (more : List ℕ) → TakesSome c done more a first machine
+    → (one : TakesOne c b machine new)
     → TakesSome c (done ++ one.arrival ∷ []) one.more (first_of a b) first new
 takes_more c a b first machine new done more so_far one =
     let n = length done in
     let count : length (done ++ one.arrival ∷ []) ≡ n + 1 = length-append done (one.arrival ∷ []) in
     let second = shifted n is_of_frame (λ s marks place w. arrive s marks c w (place, one.arrival)) (with_half c one.more) b machine new one.does in
-    let both = does_then (is_among n) (λ place. is_of_frame (place + n)) (is_among (n + 1)) (λ s marks place w. fold (arrive s marks c) w (enumerate_from place done)) (λ s marks place w. arrive s marks c w (place + n, one.arrival))
-    (with_half c more) (with_half c one.more) a b first machine new (among_here n) (here_among n) (λ place. among_more n (n + 1) place (omega arith)) (here_more n) one.back
+    let both = does_then (is_among n) (λ place. is_of_frame (place + n)) (is_among (n + 1))
+    (λ s marks place w. fold (arrive s marks c) w (enumerate_from place done)) (λ s marks place w. arrive s marks c w (place + n, one.arrival))
+    (with_half c more) (with_half c one.more) a b first machine new (among_here n) (here_among n)
+    (λ place. among_more n (n + 1) place (omega arith)) (here_more n) one.back
     (λ s marks place w. on-arrive s marks c w (place + n, one.arrival)) so_far second in
-    let P : ℕ → Type 0 = λ k. Does (is_among k) (λ s marks place w. fold (arrive s marks c) w (enumerate_from place (done ++ one.arrival ∷ []))) (with_half c one.more) (first_of a b) first new in
+    let P : ℕ → Type 0 = λ k. Does (is_among k) (λ s marks place w. fold (arrive s marks c) w (enumerate_from place (done ++ one.arrival ∷ [])))
+    (with_half c one.more) (first_of a b) first new in
     subst P (sym count) (record {
       failed = both.failed;
       first = both.first;
@@ -336,29 +373,35 @@ takes_more c a b first machine new done more so_far one =
           (serves_halves s sent (with_half c one.more (with_half c more half)) (with_half c one.more half) _ new (half_twice c more one.more half) at.0, at.1));
     })
 
-pub goes_on : (c : ℕ) (a b : Option ℕ) (first machine new : Machine) → is_reading (link_at machine c).phase ≡ true → Progress c a first machine → TakesOne c b machine new → Progress c (first_of a b) first new
+pub goes_on : (c : ℕ) (a b : Option ℕ) (first machine new : Machine) → is_reading (link_at machine c).phase ≡ true → Progress c a first machine
+    → TakesOne c b machine new → Progress c (first_of a b) first new
 goes_on c a b first machine new r p one =
     let half : (link_at machine c).half ≡ p.more = p.kept.reading r in
     record {
       done = p.done ++ one.arrival ∷ [];
       more = one.more;
-      front = p.front ∙ ap (λ (bytes : List ℕ). p.done ++ arrivals bytes) (sym half) ∙ ap (λ (l : List Arrival). p.done ++ l) one.front ∙ sym (append_assoc p.done (one.arrival ∷ []) (arrivals one.more));
+      front = p.front ∙ ap (λ (bytes : List ℕ). p.done ++ arrivals bytes) (sym half) ∙ ap (λ (l : List Arrival). p.done ++ l) one.front
+          ∙ sym (append_assoc p.done (one.arrival ∷ []) (arrivals one.more));
       behind = λ e. p.behind r ∙ ap rest (sym half) ∙ one.behind e;
       kept = one.kept;
       takes = takes_more c a b first machine new p.done p.more p.takes one;
       back = λ sound. p.back (one.back sound);
       sure = λ sure. one.sure (p.sure sure);
-      feeds = feeds_then first machine new p.feeds one.feeds;
+      feeds = feeds_then c first machine new p.feeds one.feeds;
+      closing = closed_then a b c machine new p.closing one.feeds one.closing;
+      part = part_then c first machine new r p.part one.part;
     }
 
 -- ---- all
 
-pub idle_all : (s : Setting) (marks : List Mark) (c : ℕ) (w : World) (all : List (ℕ × Arrival)) → reads_life (present c w) ≡ false → fold (arrive s marks c) w all ≡ w
+pub idle_all : (s : Setting) (marks : List Mark) (c : ℕ) (w : World) (all : List (ℕ × Arrival)) → reads_life (present c w) ≡ false
+    → fold (arrive s marks c) w all ≡ w
 idle_all s marks c w [] e = refl
 idle_all s marks c w (a ∷ all) e = ap (λ (v : World). fold (arrive s marks c) v all) (idle s marks c w a e) ∙ idle_all s marks c w all e
 
 -- the connection does not read any more, so what is left does nothing
-pub ends_idle : (c : ℕ) (starved : Option ℕ) (first machine : Machine) → c < connection_limit → is_reading (link_at machine c).phase ≡ false → Progress c starved first machine → TakesAll c starved first machine
+pub ends_idle : (c : ℕ) (starved : Option ℕ) (first machine : Machine) → c < connection_limit → is_reading (link_at machine c).phase ≡ false
+    → Progress c starved first machine → TakesAll c starved first machine
 ends_idle c starved first machine lt r p =
     let half0 = (link_at first c).half in
     let count : length p.done ≤ length (arrivals half0) = (let e = ap length p.front in omega (arith, e, length-append p.done (arrivals p.more))) in
@@ -368,16 +411,20 @@ ends_idle c starved first machine lt r p =
       takes = record {
         failed = p.takes.failed;
         first = p.takes.first;
-        of_kind = λ place. all_wider (is_among (length p.done) place) (is_among (length (arrivals half0)) place) (p.takes.failed place) (among_more (length p.done) (length (arrivals half0)) place count) (p.takes.of_kind place);
+        of_kind = λ place. all_wider (is_among (length p.done) place) (is_among (length (arrivals half0)) place) (p.takes.failed place)
+            (among_more (length p.done) (length (arrivals half0)) place count) (p.takes.of_kind place);
         stands = λ sound s sent half w place marks agree h.
-            (let at = p.takes.stands sound s sent half w place marks (λ mark is. agree mark (among_more (length p.done) (length (arrivals half0)) place count mark is)) h in
+            (let at = p.takes.stands sound s sent half w place marks (λ mark is. agree mark
+            (among_more (length p.done) (length (arrivals half0)) place count mark is)) h in
             let v = fold (arrive s marks c) w (enumerate_from place p.done) in
             let idle_ : reads_life (present c v) ≡ false = sym (reads_there s sent (with_half c p.more half) v machine c lt at.0) ∙ r in
             let whole : fold (arrive s marks c) w (enumerate_from place (arrivals half0)) ≡ v =
-            ap (λ (l : List Arrival). fold (arrive s marks c) w (enumerate_from place l)) p.front ∙ fold-places (arrive s marks c) w place p.done (arrivals p.more)
+            ap (λ (l : List Arrival). fold (arrive s marks c) w (enumerate_from place l)) p.front
+            ∙ fold-places (arrive s marks c) w place p.done (arrivals p.more)
             ∙ idle_all s marks c v (enumerate_from (place + length p.done) (arrivals p.more)) idle_ in
             rw whole (
-              serves_halves s sent (with_half c (rest half0) (with_half c p.more half)) (with_half c (rest half0) half) v machine (half_twice c p.more (rest half0) half)
+              serves_halves s sent (with_half c (rest half0) (with_half c p.more half)) (with_half c (rest half0) half) v machine
+                  (half_twice c p.more (rest half0) half)
                   (halves_idle s sent (with_half c p.more half) v machine c (rest half0) idle_ at.0),
               at.1,
             ));
@@ -385,18 +432,25 @@ ends_idle c starved first machine lt r p =
       back = p.back;
       sure = p.sure;
       feeds = p.feeds;
+      closing = p.closing;
+      part = p.part;
     }
 
 -- nothing whole is left
 nothing_by : (b : Bool) (bytes : List ℕ) → has_frame bytes ≡ b → arrivals bytes ≡ [] → has_frame bytes ≡ false
-nothing_by true bytes e none = absurd (cc (none, some_whole bytes (drop (frame_length bytes) bytes) (first_frame bytes) (frames_step bytes e) (sym (rest_step bytes e))))
+nothing_by true bytes e none = absurd (cc (
+  none,
+  some_whole bytes (drop (frame_length bytes) bytes) (first_frame bytes) (frames_step bytes e)
+      (sym (rest_step bytes e)),
+))
 nothing_by false bytes e none = e
 
 short_by : (b : Bool) (bytes : List ℕ) → is_long bytes ≡ b → arrivals bytes ≡ [] → is_long bytes ≡ false
 short_by true bytes e none = absurd (cc (none, long_whole bytes e))
 short_by false bytes e none = e
 
-pub ends_whole : (c : ℕ) (starved : Option ℕ) (first machine : Machine) → is_reading (link_at machine c).phase ≡ true → arrivals (link_at machine c).half ≡ [] → Progress c starved first machine → TakesAll c starved first machine
+pub ends_whole : (c : ℕ) (starved : Option ℕ) (first machine : Machine) → is_reading (link_at machine c).phase ≡ true
+    → arrivals (link_at machine c).half ≡ [] → Progress c starved first machine → TakesAll c starved first machine
 ends_whole c starved first machine r none p =
     let half0 = (link_at first c).half in
     let half : (link_at machine c).half ≡ p.more = p.kept.reading r in
@@ -412,6 +466,8 @@ ends_whole c starved first machine r none p =
       back = p.back;
       sure = p.sure;
       feeds = p.feeds;
+      closing = p.closing;
+      part = p.part;
     }
 
 -- however the first starved is written
@@ -419,7 +475,8 @@ pub takes_as : (old new : Machine) (c : ℕ) (named : ℕ) → c ≡ named → T
 takes_as old new c named e one = let P : ℕ → Type 0 = λ k. TakesOne c (Some k) old new in subst P e one
 
 -- fewer bytes are left than there were
-shorter_by : (b : Bool) (old new : Machine) (c : ℕ) (more : List ℕ) → is_reading (link_at new c).phase ≡ b → KeepsHalf more (link_at new c) → length more < length (link_at old c).half → length (link_at new c).half < length (link_at old c).half
+shorter_by : (b : Bool) (old new : Machine) (c : ℕ) (more : List ℕ) → is_reading (link_at new c).phase ≡ b → KeepsHalf more (link_at new c)
+    → length more < length (link_at old c).half → length (link_at new c).half < length (link_at old c).half
 shorter_by true old new c more r k lt = let same = ap length (k.reading r) in omega arith
 shorter_by false old new c more r k lt = let same = ap length (k.idle r) in omega (arith, same, lt)
 

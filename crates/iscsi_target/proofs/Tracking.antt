@@ -34,11 +34,13 @@ none_open machine names units e = record {
   below = λ c among. absurd cc;
 }
 
-pub opened_tracks : (machine after : Machine) (c : ℕ) (before : List ℕ) → c < connection_limit → length machine.links ≡ connection_limit → after ≡ with_link machine c (opened_link c) → AreOpen machine before → AreOpen after (open_after before (Open c))
+pub opened_tracks : (machine after : Machine) (c : ℕ) (before : List ℕ) → c < connection_limit → length machine.links ≡ connection_limit
+    → after ≡ with_link machine c (opened_link c) → AreOpen machine before → AreOpen after (open_after before (Open c))
 opened_tracks machine after c before lt count e open_ = record {
   tracks = λ d. ap (λ (m : Machine). is_open_at m d) e ∙ elim (eqb_tells c d) [
     | inl same ↦ (
-        let there : get_or (set machine.links c (opened_link c)) c free_link ≡ opened_link c = get_or-set_same machine.links c (opened_link c) free_link (omega (arith, lt, count)) in
+        let there : get_or (set machine.links c (opened_link c)) c free_link ≡ opened_link c =
+        get_or-set_same machine.links c (opened_link c) free_link (omega (arith, lt, count)) in
         ap (λ (k : ℕ). not (is_free (get_or (set machine.links c (opened_link c)) k free_link).phase)) (sym same.1)
         ∙ ap (λ (link : LinkState). not (is_free link.phase)) there ∙ ap (λ (b : Bool). b || is_among d before) (sym same.0))
     | inr differ ↦ ap (λ (link : LinkState). not (is_free link.phase)) (get_or-set_other machine.links c d (opened_link c) free_link (λ x. differ.1 (sym x)))
@@ -47,22 +49,26 @@ opened_tracks machine after c before lt count e open_ = record {
   below = below_more c before lt open_.below;
 }
 
-pub fed_tracks : (machine after : Machine) (before : List ℕ) → ((d : ℕ) → is_open_at after d ≡ is_open_at machine d) → AreOpen machine before → AreOpen after before
+pub fed_tracks : (machine after : Machine) (before : List ℕ) → ((d : ℕ) → is_open_at after d ≡ is_open_at machine d) → AreOpen machine before
+    → AreOpen after before
 fed_tracks machine after before same open_ = record { tracks = λ d. same d ∙ open_.tracks d; below = open_.below }
 
 gone_link : (machine : Machine) (c d : ℕ) → d ≢ c → is_open_at (with_link (closed machine c) c free_link) d ≡ is_open_at machine d
 unfolding closed
 gone_link machine c d differ =
     let shut_ = set machine.links c (shut_link (link_at machine c)) in
-    ap (λ (link : LinkState). not (is_free link.phase)) (get_or-set_other shut_ c d free_link free_link differ ∙ get_or-set_other machine.links c d (shut_link (link_at machine c)) free_link differ)
+    ap (λ (link : LinkState). not (is_free link.phase)) (get_or-set_other shut_ c d free_link free_link differ
+    ∙ get_or-set_other machine.links c d (shut_link (link_at machine c)) free_link differ)
 
 gone_here : (machine : Machine) (c : ℕ) → c < length machine.links → is_open_at (with_link (closed machine c) c free_link) c ≡ false
 unfolding closed
 gone_here machine c lt =
     let shut_ = set machine.links c (shut_link (link_at machine c)) in
-    ap (λ (link : LinkState). not (is_free link.phase)) (get_or-set_same shut_ c free_link free_link (omega (arith, lt, length-set machine.links c (shut_link (link_at machine c)))))
+    ap (λ (link : LinkState). not (is_free link.phase)) (get_or-set_same shut_ c free_link free_link
+    (omega (arith, lt, length-set machine.links c (shut_link (link_at machine c)))))
 
-pub gone_tracks : (machine after : Machine) (c : ℕ) (before : List ℕ) → c < connection_limit → length machine.links ≡ connection_limit → after ≡ with_link (closed machine c) c free_link → AreOpen machine before → AreOpen after (open_after before (Gone c))
+pub gone_tracks : (machine after : Machine) (c : ℕ) (before : List ℕ) → c < connection_limit → length machine.links ≡ connection_limit
+    → after ≡ with_link (closed machine c) c free_link → AreOpen machine before → AreOpen after (open_after before (Gone c))
 gone_tracks machine after c before lt count e open_ = record {
   tracks = λ d. ap (λ (m : Machine). is_open_at m d) e ∙ elim (eqb_tells d c) [
     | inl same ↦ rw same.1 (gone_here machine c (omega (arith, lt, count)) ∙ sym (among-gone c before))

@@ -28,20 +28,23 @@ pub record IsAtWork (w : World) (c : ℕ) (past : Past) : Type 0 where
   pub at : present c w ≡ Some life
   pub phase : life.phase ≡ FullFeature past
 
-at_work_in : (w : World) (c : ℕ) (life : Life) (phase : Phase) → present c w ≡ Some life → life.phase ≡ phase → (state : SessionState) (names : List (List ℕ)) → phase_for names life phase ≡ phases.FullFeature state
+at_work_in : (w : World) (c : ℕ) (life : Life) (phase : Phase) → present c w ≡ Some life → life.phase ≡ phase
+    → (state : SessionState) (names : List (List ℕ)) → phase_for names life phase ≡ phases.FullFeature state
     → (past : Past) × IsAtWork w c past × (state ≡ remembered past)
 at_work_in w c life LoggingIn at e state names same = absurd cc
 at_work_in w c life (FullFeature past) at e state names same = (past, record { life = life; at = at; phase = e }, cc)
 at_work_in w c life Closing at e state names same = absurd cc
 at_work_in w c life Over at e state names same = absurd cc
 
-at_work_of : (w : World) (c : ℕ) (o : Option Life) → present c w ≡ o → (s : Setting) (sent : ℕ) (half : List ℕ) (state : SessionState) → (link_of s.names sent half o).phase ≡ phases.FullFeature state
+at_work_of : (w : World) (c : ℕ) (o : Option Life) → present c w ≡ o → (s : Setting) (sent : ℕ) (half : List ℕ) (state : SessionState)
+    → (link_of s.names sent half o).phase ≡ phases.FullFeature state
     → (past : Past) × IsAtWork w c past × (state ≡ remembered past)
 at_work_of w c None at s sent half state e = absurd cc
 at_work_of w c (Some life) at s sent half state e = at_work_in w c life life.phase at refl state s.names e
 
 -- where the code has a session, the World has one, which the code remembers
-pub at_work : (s : Setting) (sent : ℕ → ℕ) (half : ℕ → List ℕ) (w : World) (machine : Machine) (c : ℕ) (state : SessionState) → c < connection_limit → Serves s sent half w machine
+pub at_work : (s : Setting) (sent : ℕ → ℕ) (half : ℕ → List ℕ) (w : World) (machine : Machine) (c : ℕ) (state : SessionState) → c < connection_limit
+    → Serves s sent half w machine
     → (link_at machine c).phase ≡ phases.FullFeature state → (past : Past) × IsAtWork w c past × (state ≡ remembered past)
 at_work s sent half w machine c state lt h e =
     at_work_of w c (present c w) refl s (sent c) (half c) state (sym (ap (λ (l : LinkState). l.phase) (link_is s sent half w machine c lt h)) ∙ e)
@@ -54,13 +57,15 @@ past_at w c past a = ap past_of a.at ∙ ap past_in a.phase
 present_worked : (w : World) (c : ℕ) (past : Past) (work : Work) → (a : IsAtWork w c past) → present c (worked_on c work w) ≡ Some (with_past work.past a.life)
 present_worked w c past work a =
     present-lives c (worked_on c work w) (changed (with_past work.past) c w) refl
-    ∙ present-changed (with_past work.past) c w a.life a.at (let on = and_true (eqb a.life.connection c) (not (is_over a.life.phase)) (present_is c w a.life a.at) in rw on.0 refl)
+    ∙ present-changed (with_past work.past) c w a.life a.at (let on = and_true (eqb a.life.connection c) (not (is_over a.life.phase))
+    (present_is c w a.life a.at) in rw on.0 refl)
 
 present_worked_other : (w : World) (c d : ℕ) (work : Work) → d ≢ c → present d (worked_on c work w) ≡ present d w
 present_worked_other w c d work differ =
     present-lives d (worked_on c work w) (changed (with_past work.past) c w) refl ∙ present-changed_other (with_past work.past) c d w (λ life. refl) differ
 
-pub answers_grow : (life : Life) (phase : Phase) (past then_ : Past) (more : List Answer) → life.phase ≡ FullFeature past → then_.answers ≡ past.answers ++ more → answers_of (with_past then_ life) ≡ answers_of life ++ more
+pub answers_grow : (life : Life) (phase : Phase) (past then_ : Past) (more : List Answer) → life.phase ≡ FullFeature past
+    → then_.answers ≡ past.answers ++ more → answers_of (with_past then_ life) ≡ answers_of life ++ more
 answers_grow life phase past then_ more e grow =
     ap (λ (l : List Answer). life.answers ++ l) grow ∙ sym (append_assoc life.answers past.answers more)
     ∙ ap (λ (p : Phase). (life.answers ++ session_answers p) ++ more) (sym e)
@@ -72,51 +77,65 @@ session_link state waiting link = record link { phase = phases.FullFeature state
 quiet_past : (life : Life) (past : Past) → IsLawful past → IsQuietIn (with_past past life).phase
 quiet_past life past lawful = lawful
 
-link_worked : (names : List (List ℕ)) (sent : ℕ) (half : List ℕ) (life : Life) (past then_ : Past) (more : List Answer) (state : SessionState) (waiting : List ℕ)
+link_worked : (names : List (List ℕ)) (sent : ℕ) (half : List ℕ) (life : Life) (past then_ : Past) (more : List Answer) (state : SessionState)
+    (waiting : List ℕ)
     → life.phase ≡ FullFeature past → then_.answers ≡ past.answers ++ more → sent ≤ length (out_of life) → state ≡ remembered then_
     → waiting ≡ drop sent (out_of life) ++ flat_map spelling more
     → link_of names sent half (Some (with_past then_ life)) ≡ session_link state waiting (link_of names sent half (Some life))
 link_worked names sent half life past then_ more state waiting e grow le is spelled =
     let out = out-more life (with_past then_ life) more (answers_grow life life.phase past then_ more e grow) in
-    let now : waiting ≡ drop sent (out_of (with_past then_ life)) = spelled ∙ says sent (drop sent (out_of life)) (out_of life) (flat_map spelling more) le refl ∙ ap (drop sent) (sym out) in
+    let now : waiting ≡ drop sent (out_of (with_past then_ life)) = spelled
+    ∙ says sent (drop sent (out_of life)) (out_of life) (flat_map spelling more) le refl ∙ ap (drop sent) (sym out) in
     rw (is, now, e) refl
 
 -- the units of a session's target
-units_set : (w : World) (machine : Machine) (units : UnitStates) (target : ℕ) → machine.units ≡ w.units → (slice_set w.units target units) ≡ slice_set machine.units target units
+units_set : (w : World) (machine : Machine) (units : UnitStates) (target : ℕ) → machine.units ≡ w.units
+    → (slice_set w.units target units) ≡ slice_set machine.units target units
 units_set w machine units target e = ap (λ (all : List UnitStates). slice_set all target units) (sym e)
 
 -- the session goes on
-works : (s : Setting) (sent : ℕ → ℕ) (half : ℕ → List ℕ) (w : World) (machine : Machine) (c : ℕ) (past : Past) (work : Work) (state : SessionState) (waiting : List ℕ) (after : UnitStates) → c < connection_limit
+works : (s : Setting) (sent : ℕ → ℕ) (half : ℕ → List ℕ) (w : World) (machine : Machine) (c : ℕ) (past : Past) (work : Work) (state : SessionState)
+    (waiting : List ℕ) (after : UnitStates) → c < connection_limit
     → Serves s sent half w machine → IsAtWork w c past → Leaves (work_of past w) work state (link_at machine c).waiting waiting after
-    → Serves s sent half (worked_on c work w) (record (with_link machine c (session_link state waiting (link_at machine c))) { units = slice_set machine.units past.params.target after })
+    → Serves s sent half (worked_on c work w) (record (with_link machine c (session_link state waiting (link_at machine c)))
+    { units = slice_set machine.units past.params.target after })
 works s sent half w machine c past work state waiting after lt h a l =
     let now = present_worked w c past work a in
     let link = link_is s sent half w machine c lt h ∙ ap (link_of s.names (sent c) (half c)) a.at in
     let le : sent c ≤ length (out_of a.life) = (let was = h.answered c lt in rw a.at at was) in
-    let spelled : waiting ≡ drop (sent c) (out_of a.life) ++ flat_map spelling l.more = l.spelled ∙ ap (λ (x : LinkState). x.waiting ++ flat_map spelling l.more) link in
+    let spelled : waiting ≡ drop (sent c) (out_of a.life) ++ flat_map spelling l.more = l.spelled
+    ∙ ap (λ (x : LinkState). x.waiting ++ flat_map spelling l.more) link in
     let out = out-more a.life (with_past work.past a.life) l.more (answers_grow a.life a.life.phase past work.past l.more a.phase l.answers) in
     let us = h.is in
     let same_units : machine.units ≡ w.units = ap (λ (m : Machine). m.units) h.is ∙ units_with s sent half w in
     let units : slice_set w.units work.past.params.target work.units ≡ slice_set machine.units past.params.target after =
-    ap (λ (t : ℕ). slice_set w.units t work.units) (ap (λ p. p.target) l.params) ∙ ap (slice_set w.units past.params.target) l.units ∙ units_set w machine after past.params.target same_units in
-    serves_one s sent half half w (worked_on c work w) machine c (slice_set machine.units past.params.target after) (session_link state waiting (link_at machine c)) lt h
+    ap (λ (t : ℕ). slice_set w.units t work.units) (ap (λ p. p.target) l.params) ∙ ap (slice_set w.units past.params.target) l.units
+    ∙ units_set w machine after past.params.target same_units in
+    serves_one s sent half half w (worked_on c work w) machine c (slice_set machine.units past.params.target after)
+    (session_link state waiting (link_at machine c)) lt h
     (λ d differ. present_worked_other w c d work differ) (λ d differ. refl)
     (rw now (still_sent (sent c) a.life (with_past work.past a.life) (flat_map spelling l.more) out le))
     (rw now l.lawful) units
-    (rw now (link_worked s.names (sent c) (half c) a.life past work.past l.more state waiting a.phase l.answers le l.remembered spelled ∙ ap (session_link state waiting) (sym link)))
+    (rw now (link_worked s.names (sent c) (half c) a.life past work.past l.more state waiting a.phase l.answers le l.remembered spelled
+    ∙ ap (session_link state waiting) (sym link)))
 
 -- what is left of a session that may go on, or not
 abbrev pub left_by : Bool → ℕ → Machine → Machine
 left_by goes_on c machine = cond goes_on machine (closed machine c)
 
-left_with : (b : Bool) (s : Setting) (sent : ℕ → ℕ) (half : ℕ → List ℕ) (w : World) (machine : Machine) (c : ℕ) (past : Past) (work : Work) → c < connection_limit → work.goes_on ≡ b
+left_with : (b : Bool) (s : Setting) (sent : ℕ → ℕ) (half : ℕ → List ℕ) (w : World) (machine : Machine) (c : ℕ) (past : Past) (work : Work)
+    → c < connection_limit → work.goes_on ≡ b
     → (a : IsAtWork w c past) → Serves s sent half (worked_on c work w) machine → Serves s sent half (worked c work w) (left_by b c machine)
 unfolding worked
 left_with true s sent half w machine c past work lt e a h = rw e h
-left_with false s sent half w machine c past work lt e a h = rw e (closes s sent half (worked_on c work w) machine c (with_past work.past a.life) lt h (present_worked w c past work a))
+left_with false s sent half w machine c past work lt e a h = rw e (closes s sent half (worked_on c work w) machine c (with_past work.past a.life) lt
+    h (present_worked w c past work a))
 
-pub serves_worked : (s : Setting) (sent : ℕ → ℕ) (half : ℕ → List ℕ) (w : World) (machine : Machine) (c : ℕ) (past : Past) (work : Work) (state : SessionState) (waiting : List ℕ) (after : UnitStates) (goes_on : Bool)
-    → c < connection_limit → Serves s sent half w machine → IsAtWork w c past → Leaves (work_of past w) work state (link_at machine c).waiting waiting after → work.goes_on ≡ goes_on
-    → Serves s sent half (worked c work w) (left_by goes_on c (record (with_link machine c (session_link state waiting (link_at machine c))) { units = slice_set machine.units past.params.target after }))
+pub serves_worked : (s : Setting) (sent : ℕ → ℕ) (half : ℕ → List ℕ) (w : World) (machine : Machine) (c : ℕ) (past : Past) (work : Work)
+    (state : SessionState) (waiting : List ℕ) (after : UnitStates) (goes_on : Bool)
+    → c < connection_limit → Serves s sent half w machine → IsAtWork w c past
+    → Leaves (work_of past w) work state (link_at machine c).waiting waiting after → work.goes_on ≡ goes_on
+    → Serves s sent half (worked c work w) (left_by goes_on c (record (with_link machine c (session_link state waiting (link_at machine c)))
+    { units = slice_set machine.units past.params.target after }))
 serves_worked s sent half w machine c past work state waiting after goes_on lt h a l e =
     left_with goes_on s sent half w _ c past work lt e a (works s sent half w machine c past work state waiting after lt h a l)

@@ -39,7 +39,10 @@ are_read s history = map (λ (life : Life). reads life.phase) (world s history).
 
 -- what an example unfolds
 unfoldable pub computed : Bool
-unfolding frames rest has_frame is_long first_frame frame_length login_computed arrivals new_arrivals perform performed_as judged unit_done told without_unit lun_number join leave older session_computed data_answers scsi_answer out_of carried_out session_step judge act finish act_all served settled present changed live changed_units close end is_marked take_step log_in worked take_in settle_one settle serve is_login arrive bring world outputs
+unfolding frames rest has_frame is_long first_frame frame_length login_computed arrivals new_arrivals perform performed_as judged unit_done told
+    without_unit lun_number join leave older session_computed data_answers scsi_answer out_of carried_out session_step judge act finish act_all
+    served settled present changed live changed_units close end is_marked take_step log_in worked take_in settle_one settle serve is_login arrive
+    bring world outputs
 computed = true
 
 -- ---- Login requests (RFC 7143 §11.12)

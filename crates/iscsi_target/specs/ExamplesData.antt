@@ -69,7 +69,8 @@ overflow : command_answers numbers values (command reading 0x02 0x00) (good_with
 unfolding data_answers scsi_answer
 overflow = refl
 
-underflow : command_answers numbers values (command reading 0x08 0x00) (good_with (zeros 1024)) ≡ piece true 0 0 1024 ∷ response 1 (residuals.Underflow 1024) ∷ []
+underflow : command_answers numbers values (command reading 0x08 0x00) (good_with (zeros 1024))
+    ≡ piece true 0 0 1024 ∷ response 1 (residuals.Underflow 1024) ∷ []
 unfolding data_answers scsi_answer
 underflow = refl
 

@@ -8,17 +8,20 @@ use Rattle.iscsi_target.specs.ExamplesBytes.{computed, one_target, are_read, log
 -- ---- one connection
 
 -- a login and two commands in one piece
-in_one_piece : outputs one_target (plain (Open 0) ∷ plain (Bytes 0 (login_request ++ first_test ++ second_test)) ∷ []) ≡ (logged_in ++ attention ++ ready_answer) ∷ []
+in_one_piece : outputs one_target (plain (Open 0) ∷ plain (Bytes 0 (login_request ++ first_test ++ second_test)) ∷ [])
+    ≡ (logged_in ++ attention ++ ready_answer) ∷ []
 unfolding computed
 in_one_piece = refl
 
 -- the same cut in the middle of a header
-in_two_pieces : outputs one_target (plain (Open 0) ∷ plain (Bytes 0 (login_request ++ take 20 first_test)) ∷ plain (Bytes 0 (drop 20 first_test ++ second_test)) ∷ []) ≡ (logged_in ++ attention ++ ready_answer) ∷ []
+in_two_pieces : outputs one_target (plain (Open 0) ∷ plain (Bytes 0 (login_request ++ take 20 first_test)) ∷ plain
+    (Bytes 0 (drop 20 first_test ++ second_test)) ∷ []) ≡ (logged_in ++ attention ++ ready_answer) ∷ []
 unfolding computed
 in_two_pieces = refl
 
 -- the second command comes first: it waits for the number before its own
-out_of_order : outputs one_target (plain (Open 0) ∷ plain (Bytes 0 (login_request ++ second_test ++ first_test)) ∷ []) ≡ (logged_in ++ attention_late ++ ready_answer) ∷ []
+out_of_order : outputs one_target (plain (Open 0) ∷ plain (Bytes 0 (login_request ++ second_test ++ first_test)) ∷ [])
+    ≡ (logged_in ++ attention_late ++ ready_answer) ∷ []
 unfolding computed
 out_of_order = refl
 
@@ -27,7 +30,8 @@ unfolding computed
 nothing_yet = refl
 
 -- a login in two requests, and a command
-in_two_requests : outputs one_target (plain (Open 0) ∷ plain (Bytes 0 first_request) ∷ plain (Bytes 0 (second_request ++ first_test)) ∷ []) ≡ (first_answer ++ second_answer ++ attention_third) ∷ []
+in_two_requests : outputs one_target (plain (Open 0) ∷ plain (Bytes 0 first_request) ∷ plain (Bytes 0 (second_request ++ first_test)) ∷ [])
+    ≡ (first_answer ++ second_answer ++ attention_third) ∷ []
 unfolding computed
 in_two_requests = refl
 
@@ -55,7 +59,8 @@ each_as_if_alone = refl
 
 -- `a` logs in again with the same ISID: its older connection closes
 abbrev again : History
-again = plain (Open 0) ∷ plain (Bytes 0 (login_request ++ first_test)) ∷ plain (Open 1) ∷ plain (Bytes 1 (login_request ++ first_test)) ∷ plain (Bytes 0 second_test) ∷ []
+again = plain (Open 0) ∷ plain (Bytes 0 (login_request ++ first_test)) ∷ plain (Open 1) ∷ plain (Bytes 1 (login_request ++ first_test)) ∷ plain
+    (Bytes 0 second_test) ∷ []
 
 the_older_is_ended : outputs one_target again ≡ (logged_in ++ attention) ∷ (login_response 0x01 0x02 ++ attention) ∷ []
 unfolding computed
@@ -66,7 +71,8 @@ unfolding computed
 the_newer_is_read = refl
 
 -- with another ISID both go on
-another_isid : are_read one_target (plain (Open 0) ∷ plain (Bytes 0 login_request) ∷ plain (Open 1) ∷ plain (Bytes 1 (login_as 0x61 0x02 0x00)) ∷ []) ≡ true ∷ true ∷ []
+another_isid : are_read one_target (plain (Open 0) ∷ plain (Bytes 0 login_request) ∷ plain (Open 1) ∷ plain
+    (Bytes 1 (login_as 0x61 0x02 0x00)) ∷ []) ≡ true ∷ true ∷ []
 unfolding computed
 another_isid = refl
 
@@ -114,12 +120,14 @@ unfolding computed
 before_a_second_is_done = refl
 
 -- an allocation fails before the second of two commands is done that the frame of place 2 lets be taken
-before_the_held_one_is_done : outputs one_target (plain (Open 0) ∷ plain (Bytes 0 (login_request ++ second_test)) ∷ marked (record { connection = 0; point = Before (Doing 2 1) } ∷ []) (Bytes 0 first_test) ∷ []) ≡ (logged_in ++ attention_late) ∷ []
+before_the_held_one_is_done : outputs one_target (plain (Open 0) ∷ plain (Bytes 0 (login_request ++ second_test)) ∷ marked
+    (record { connection = 0; point = Before (Doing 2 1) } ∷ []) (Bytes 0 first_test) ∷ []) ≡ (logged_in ++ attention_late) ∷ []
 unfolding computed
 before_the_held_one_is_done = refl
 
 -- an allocation fails before the second of two Login requests is answered: it closes the connection
-before_it_is_answered : outputs one_target (plain (Open 0) ∷ plain (Bytes 0 first_request) ∷ marked (record { connection = 0; point = Arriving 1 } ∷ []) (Bytes 0 (second_request ++ first_test)) ∷ []) ≡ first_answer ∷ []
+before_it_is_answered : outputs one_target (plain (Open 0) ∷ plain (Bytes 0 first_request) ∷ marked
+    (record { connection = 0; point = Arriving 1 } ∷ []) (Bytes 0 (second_request ++ first_test)) ∷ []) ≡ first_answer ∷ []
 unfolding computed
 before_it_is_answered = refl
 

@@ -106,4 +106,5 @@ new_arrivals bytes piece = drop (length (arrivals bytes)) (enumerate_from 0 (arr
 -- header that is too long has come, the arrivals of both pieces are those of the first and those that
 -- the second brings.
 abbrev pub ArrivalsInPieces : Type 0
-ArrivalsInPieces = (bytes piece : List ℕ) → is_long (rest bytes) ≡ false → arrivals (bytes ++ piece) ≡ arrivals bytes ++ map (λ a. a.1) (new_arrivals bytes piece)
+ArrivalsInPieces = (bytes piece : List ℕ) → is_long (rest bytes) ≡ false → arrivals (bytes ++ piece) ≡ arrivals bytes
+    ++ map (λ a. a.1) (new_arrivals bytes piece)

@@ -1,6 +1,6 @@
 -- What a clause sees of the target: for each connection the bytes that are no whole frame yet, its phase
 -- and what waits to be sent, and the units of each target.
-use Rattle.std.specs.Prelude.{◌≡◌, ◌≢◌, ◌⊎◌, All, ℕ, ◌+◌, ◌-◌, ◌^◌, ◌%◌, ◌<◌, List, [], ◌∷◌, ◌++◌, length, drop, map, flat_map, replicate, Bool, true, false, ◌||◌, not, nat_lt, Option, Some, None, slice_index_or, slice_set, if◌then◌else◌, ⊤}
+use Rattle.std.specs.Prelude.{◌≡◌, ◌≢◌, ◌⊎◌, All, ℕ, ◌+◌, ◌-◌, ◌^◌, ◌%◌, ◌<◌, List, [], ◌∷◌, ◌++◌, length, drop, map, flat_map, replicate, Bool, true, false, ◌==◌, ◌||◌, not, nat_lt, Option, Some, None, slice_index_or, slice_set, if◌then◌else◌, ⊤}
 use Rattle.iscsi_pdu.specs.Frames.{Frame, frames, rest, wanted}
 use Rattle.iscsi_pdu.specs.Answer.{spelling}
 use Rattle.iscsi_pdu.specs.declared.answer.Answer.{Answer}
@@ -108,12 +108,31 @@ opened_link c = record { half = []; phase = Login (new_login (c + 1)); waiting =
 abbrev pub shut_link : LinkState → LinkState
 shut_link link = record { half = []; phase = Closing; waiting = link.waiting }
 
--- What a piece of bytes does to every target, whatever its stores do: no connection is opened or ends, what waited
--- still waits, and one that is not read stays as it is.
-pub record Feeds (old new : Machine) : Type 0 where
+-- What a piece of bytes on a connection does to every target, whatever its stores do: no connection is opened or ends, what
+-- waited still waits, one that is not read stays as it is, and so does another one that has no session.
+pub record Feeds (c : ℕ) (old new : Machine) : Type 0 where
   pub opens : (d : ℕ) → is_open_at new d ≡ is_open_at old d
   pub waits : (d : ℕ) → (more : List ℕ) × ((link_at new d).waiting ≡ (link_at old d).waiting ++ more)
   pub still : (d : ℕ) → is_reading (link_at old d).phase ≡ false → link_at new d ≡ link_at old d
+  pub others : (d : ℕ) → d ≢ c → is_logging_in (link_at old d).phase ≡ true → link_at new d ≡ link_at old d
+
+-- a session with this target
+abbrev pub is_with : ℕ → Phase → Bool
+is_with target (FullFeature session) = session.params.target == target
+is_with target Free = false
+is_with target (Login login) = false
+is_with target Closing = false
+
+-- What is no part of a target stays as it is: the connections that have no session with it, and the units of others; and a
+-- session with it stays so until it ends.
+pub record KeepsApart (target : ℕ) (old new : Machine) : Type 0 where
+  pub links : (d : ℕ) → is_with target (link_at old d).phase ≡ false → link_at new d ≡ link_at old d
+  pub units : (at : ℕ) → at ≢ target → slice_index_or new.units at [] ≡ slice_index_or old.units at []
+  pub same : (d : ℕ) → is_with target (link_at old d).phase ≡ true → (is_with target (link_at new d).phase ≡ true) ⊎ (is_closing (link_at new d).phase ≡ true)
+
+-- so it is where something is done for a session
+abbrev pub KeepsPart : ℕ → Machine → Machine → Type 0
+KeepsPart c old new = (target : ℕ) → is_with target (link_at old c).phase ≡ true → KeepsApart target old new
 
 -- a login is answered, and goes on
 abbrev pub gone_on_link : LoginState → Answer → LinkState → LinkState
@@ -139,7 +158,8 @@ shut_older (Some d) machine = with_link machine d (shut_link (link_at machine d)
 -- full feature phase begins
 abbrev pub begun : Params → Answer → ℕ → Machine → Machine
 begun session answer c machine =
-    shut_older (older session (sessions machine.links)) (record (with_link machine c (begun_link session answer (link_at machine c))) { units = changed_units (join session.nexus) session.target machine.units })
+    shut_older (older session (sessions machine.links)) (record (with_link machine c (begun_link session answer (link_at machine c)))
+    { units = changed_units (join session.nexus) session.target machine.units })
 
 abbrev pub replied : Reply → LoginState → ℕ → Machine → Machine
 replied (GoOn response) login c machine = with_link machine c (gone_on_link login (answers.LoginResponse response) (link_at machine c))
@@ -155,7 +175,8 @@ logged_in machine c login request =
 abbrev pub IsAnswered : Reply → LoginState → LinkState → Option (LoginResponse × Params) → LinkState → Type 0
 IsAnswered (GoOn response) login old begun new = (begun ≡ None) × (new ≡ gone_on_link login (answers.LoginResponse response) old)
 IsAnswered (Refused response) login old begun new = (begun ≡ None) × (new ≡ refused_link (answers.LoginResponse response) old)
-IsAnswered (Full response session) login old begun new = (begun ≡ Some (response, session)) × (new ≡ record old { phase = new.phase }) × (is_logging_in new.phase ≡ true)
+IsAnswered (Full response session) login old begun new = (begun ≡ Some (response, session)) × (new ≡ record old { phase = new.phase })
+    × (is_logging_in new.phase ≡ true)
 
 -- a frame is taken from the front of the bytes
 pub record GivesFrame (frame : Frame) (before after : List ℕ) : Type 0 where

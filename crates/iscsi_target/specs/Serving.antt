@@ -1,11 +1,11 @@
 -- While frames are taken, the code stands where the World does: what each call makes of both.
-use Rattle.std.specs.Prelude.{◌≡◌, ℕ, ◌+◌, ◌<◌, List, [], ◌∷◌, length, Bool, true, false, if◌then◌else◌, ◌&&◌, not, ◌==◌, nat_lt, Option, Some, None, Result, Ok, Err}
+use Rattle.std.specs.Prelude.{◌≡◌, ℕ, ◌+◌, ◌<◌, List, [], ◌∷◌, length, Bool, true, false, if◌then◌else◌, ◌&&◌, not, ◌==◌, nat_lt, Option, Some, None, Result, Ok, Err, ⊤}
 use Rattle.std.specs.List.{list_all, fold, enumerate_from}
 use Rattle.iscsi_pdu.specs.Frames.{Frame, rest, is_long}
 use Rattle.iscsi_session.specs.Steps.{Step, Judging, Taking, Doing, is_doing, is_serving}
 use Rattle.iscsi_target.specs.History.{Point, Arriving, Before, AtEnd, Mark, is_within, Arrival, Whole, arrivals, connection_limit}
 use Rattle.iscsi_target.specs.World.{Setting, World, present, is_marked, arrive, settle_one, settle}
-use Rattle.iscsi_target.specs.Machine.{LinkState, Machine, IsSound, IsSure, Feeds, link_at, is_reading, closed}
+use Rattle.iscsi_target.specs.Machine.{LinkState, Machine, IsSound, IsSure, Feeds, KeepsPart, link_at, is_reading, is_closing, closed}
 use Rattle.iscsi_target.specs.Stands.{IsQuiet, IsSent, IsFirst, machine_with, are_reached}
 use Rattle.iscsi_target.specs.declared.fault.Starved.{Starved}
 
@@ -25,6 +25,11 @@ first_starved (Err starved) = Some starved.connection
 abbrev pub first_of : Option ℕ → Option ℕ → Option ℕ
 first_of None later = later
 first_of (Some c) later = Some c
+
+-- that connection is closing
+abbrev pub IsClosed : Option ℕ → Machine → Type 0
+IsClosed None machine = ⊤
+IsClosed (Some c) machine = is_closing (link_at machine c).phase ≡ true
 
 -- what is left where a session's call told whether the session goes on, or that an allocation failed
 abbrev pub starved_by : {E : Type 0} → ℕ → Result Bool E → Option ℕ
@@ -68,14 +73,15 @@ pub record KeepsHalf (half : List ℕ) (link : LinkState) : Type 0 where
   pub reading : is_reading link.phase ≡ true → link.half ≡ half
   pub idle : is_reading link.phase ≡ false → link.half ≡ []
 
--- What any such call makes of every target.
-pub record Moves (given after : Machine) : Type 0 where
+-- What any such call, for a connection, makes of every target.
+pub record Moves (c : ℕ) (starved : Option ℕ) (given after : Machine) : Type 0 where
   pub back : IsSound after → IsSound given
   pub sure : IsSure given → IsSure after
-  pub feeds : Feeds given after
+  pub feeds : Feeds c given after
+  pub closing : IsClosed starved after
   -- as many targets as before
   pub units : length after.units ≡ length given.units
-  pub keeps : (c : ℕ) → is_reading (link_at given c).phase ≡ true → KeepsHalf (link_at given c).half (link_at after c)
+  pub keeps : (d : ℕ) → is_reading (link_at given d).phase ≡ true → KeepsHalf (link_at given d).half (link_at after d)
 
 -- ---- the acts
 
@@ -123,7 +129,9 @@ pub record TakesOne (c : ℕ) (starved : Option ℕ) (old new : Machine) : Type 
   pub does : Does is_of_frame (λ s marks place w. arrive s marks c w (place, arrival)) (with_half c more) starved old new
   pub back : IsSound new → IsSound old
   pub sure : IsSure old → IsSure new
-  pub feeds : Feeds old new
+  pub feeds : Feeds c old new
+  pub closing : IsClosed starved new
+  pub part : KeepsPart c old new
 
 abbrev pub place_of : Step → ℕ
 place_of (Judging place) = place
@@ -151,7 +159,9 @@ pub record TakesAll (c : ℕ) (starved : Option ℕ) (old new : Machine) : Type 
   pub takes : TakesSome c (arrivals (link_at old c).half) (rest (link_at old c).half) starved old new
   pub back : IsSound new → IsSound old
   pub sure : IsSure old → IsSure new
-  pub feeds : Feeds old new
+  pub feeds : Feeds c old new
+  pub closing : IsClosed starved new
+  pub part : KeepsPart c old new
 
 -- the commands of the sessions of a target are done, or those of one connection
 abbrev pub Settles : ℕ → Option ℕ → Machine → Machine → Type 0

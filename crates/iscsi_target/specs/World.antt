@@ -158,7 +158,8 @@ with_past past life = record life { phase = FullFeature past }
 
 -- what its steps made of it
 abbrev pub worked_on : ℕ → Work → World → World
-worked_on c work w = record (reaching c (map Before work.reached) (changed (with_past work.past) c w)) { units = slice_set w.units work.past.params.target work.units }
+worked_on c work w = record (reaching c (map Before work.reached) (changed (with_past work.past) c w))
+    { units = slice_set w.units work.past.params.target work.units }
 
 -- a session that does not go on ends
 unfoldable pub worked : ℕ → Work → World → World

@@ -1,7 +1,7 @@
 //! What holds of the definitions. The functions do nothing: their contracts are the laws.
 
 ghost use Rattle.iscsi_target.specs.History.{ArrivalsInPieces};
-ghost use Rattle.iscsi_target.specs.Laws.{AnswersStay, SureIsSound};
+ghost use Rattle.iscsi_target.specs.Laws.{AnswersStay, SureIsSound, SessionsFinishAsTaken, OthersStay};
 
 /// However the bytes of a connection are cut into pieces, the frames that become whole are those of
 /// the joined bytes, in order, and then comes at most one header that names too much data.
@@ -18,4 +18,18 @@ pub fn answers_stay()
 /// A target whose stores cannot fail is sound.
 pub fn sure_is_sound()
     ensures { SureIsSound }
+{}
+
+/// Whatever has happened, and wherever allocations failed: in each session that goes on each request is taken
+/// at most once, and what is finished was taken, in the order in which it was.
+#[tactic(auto, using(crate::proofs::Lawful::sessions_finish_as_taken))]
+pub fn sessions_finish_as_taken()
+    ensures { SessionsFinishAsTaken }
+{}
+
+/// The end of a session, after a violation, a step that failed or a Logout, and the end of a connection change
+/// no answer and no session of another connection.
+#[tactic(auto, using(crate::proofs::Lawful::others_stay))]
+pub fn others_stay()
+    ensures { OthersStay }
 {}

@@ -122,7 +122,8 @@ impl Link {
     ) -> Result<Option<(LoginResponse, Params)>, Memory>
         requires { is_logging_in self.old.phase ≡ true }
         ensures answered { IfOk result (λ begun. (login : LoginState) → self.old.phase ≡ UnderWay login
-            → IsAnswered (reply_of login (lookup_in targets.now named.now) request.now) (advanced (map string_bytes targets.now) login request.now) self.old begun self.new) }
+            → IsAnswered (reply_of login (lookup_in targets.now named.now) request.now)
+            (advanced (map string_bytes targets.now) login request.now) self.old begun self.new) }
         ensures target { IsWithin (length targets.now) self.old.phase → IsWithin (length targets.now) self.new.phase }
         ensures begun { IfOk result (λ begun. IfSome begun (λ b. IsWithin (length targets.now) self.old.phase → b.1.target < length targets.now)) }
         ensures values { IfOk result (λ begun. IfSome begun (λ b. IsWithin (length targets.now) self.old.phase → AreInRange b.1.values)) }

@@ -107,7 +107,8 @@ fn take_event<S: Store>(
 ) -> Result<(), Memory>
     requires { MayCome target.old (event_view event.now) }
     ensures runs { OnOk result ((s : Setting) (before : List ℕ) (h : History) → WhereSound target.old (Runs s target.old (map seen rows.old.items) before h)
-        → WhereSound target.new (Runs s target.new (map seen rows.new.items) (open_after before (event_view event.now)) (h ++ plain (event_view event.now) ∷ []))) }
+        → WhereSound target.new (Runs s target.new (map seen rows.new.items) (open_after before (event_view event.now))
+        (h ++ plain (event_view event.now) ∷ []))) }
     ensures sure { OnOk result (IsSure target.old → IsSure target.new) }
     ensures open { OnOk result ((before : List ℕ) → AreOpen target.old before → AreOpen target.new (open_after before (event_view event.now))) }
 {
@@ -141,9 +142,13 @@ impl<S: Store + Drop> Target<S> {
         requires units { length units.items ≡ length config.targets.items }
         requires well_formed { is_well_formed (events_view events.now) ≡ true }
         ensures sure { IfOk result (λ r. All AreSure (units.items) → IsSure r.1) }
-        ensures stands { IfOk result (λ r. WhereSound r.1 (Stands (record { names = map string_bytes config.targets.items; units = units.items }) (λ _. 0) r.1 (plain_history events.now))) }
-        ensures outputs { IfOk result (λ r. WhereSound r.1 (map (λ output. output.items) r.0.items ≡ outputs_of (record { names = map string_bytes config.targets.items; units = units.items }) (plain_history events.now))) }
-        ensures media { IfOk result (λ r. WhereSound r.1 ((number : ℕ) → media_in r.1.units number ≡ media (record { names = map string_bytes config.targets.items; units = units.items }) (plain_history events.now) number)) }
+        ensures stands { IfOk result (λ r. WhereSound r.1 (Stands
+            (record { names = map string_bytes config.targets.items; units = units.items }) (λ _. 0) r.1 (plain_history events.now))) }
+        ensures outputs { IfOk result (λ r. WhereSound r.1 (map (λ output. output.items) r.0.items
+            ≡ outputs_of (record { names = map string_bytes config.targets.items; units = units.items }) (plain_history events.now))) }
+        ensures media { IfOk result (λ r. WhereSound r.1 ((number : ℕ)
+            → media_in r.1.units number ≡ media (record { names = map string_bytes config.targets.items; units = units.items })
+            (plain_history events.now) number)) }
     {
         let mut target = Target::new(alloc, config, units)?;
         let mut rows = Vec::new(alloc);

@@ -1,8 +1,8 @@
 //! A frame of a session: it is judged, the requests that it lets be taken act, and the commands that the
 //! sessions of its target have taken are done.
 
-ghost use Rattle.std.specs.Prelude.{◌≡◌, ◌<◌, length};
-ghost use Rattle.iscsi_target.specs.Machine.{Machine, link_at, closed};
+ghost use Rattle.std.specs.Prelude.{◌≡◌, ℕ, ◌<◌, length};
+ghost use Rattle.iscsi_target.specs.Machine.{Machine, KeepsApart, link_at, closed};
 ghost use Rattle.iscsi_target.specs.Serving.{Settles, SettlesOne, Moves, first_starved, first_of};
 
 use crate::fault::Starved;
@@ -28,7 +28,8 @@ impl<S: Store> Target<S> {
     pub(crate) fn settle(&mut self, target: usize) -> Result<(), Starved>
         requires { target < length self.old.units }
         ensures settles { Settles target (first_starved result) self.old self.new }
-        ensures moves { Moves self.old self.new }
+        ensures apart { KeepsApart target self.old self.new }
+        ensures moves { (b : ℕ) → Moves b (first_starved result) self.old self.new }
     {
         let mut outcome = Ok(());
         for c in 0..CONNECTIONS {
@@ -44,7 +45,8 @@ impl<S: Store> Target<S> {
         requires in_range { c < 64 }
         requires target { target < length self.old.units }
         ensures settles { SettlesOne target c (first_starved result) self.old self.new }
-        ensures moves { Moves self.old self.new }
+        ensures apart { KeepsApart target self.old self.new }
+        ensures moves { (b : ℕ) → Moves b (first_starved result) self.old self.new }
     {
         let link = &mut self.links[c];
         let Phase::FullFeature(session) = &mut link.phase else {

@@ -5,7 +5,7 @@ ghost use Rattle.std.specs.Result.{IsErrOf};
 ghost use Rattle.iscsi_pdu.specs.Frames.{has_frame, is_long};
 ghost use Rattle.iscsi_target.specs.History.{Open, Bytes, Gone, Mark, History, arrivals, plain, marked};
 ghost use Rattle.iscsi_target.specs.World.{Setting, present, world};
-ghost use Rattle.iscsi_target.specs.Machine.{LinkState, IsSound, WhereSound, IsSure, Feeds, free_link, opened_link, sent_link, new_machine, link_at, with_link, closed, begun, logged_in, is_logging_in, GivesFrame, is_reading, is_open_at, is_closing, want_of};
+ghost use Rattle.iscsi_target.specs.Machine.{LinkState, IsSound, WhereSound, IsSure, Feeds, KeepsPart, free_link, opened_link, sent_link, new_machine, link_at, with_link, closed, begun, logged_in, is_logging_in, GivesFrame, is_reading, is_open_at, is_closing, want_of};
 ghost use Rattle.iscsi_target.specs.declared.phase.Phase.TheVariants.{Login};
 ghost use Rattle.iscsi_login.specs.LoginState.{LoginState};
 ghost use Rattle.iscsi_login.specs.Values.{AreInRange};
@@ -55,7 +55,8 @@ impl<S: Store> Model for Target<S> {
 
     ghost view = { λ t. record { names = map string_bytes t.config.targets.items; units = t.units.items; links = t.links.items } };
 
-    ghost invariant = { λ t. (length t.links.items ≡ 64) × (length t.units.items ≡ length t.config.targets.items) × All (λ (link : LinkState). IsWithin (length t.units.items) link.phase) t.links.items };
+    ghost invariant = { λ t. (length t.links.items ≡ 64) × (length t.units.items ≡ length t.config.targets.items)
+        × All (λ (link : LinkState). IsWithin (length t.units.items) link.phase) t.links.items };
 }
 
 /// Every connection, none of them open.
@@ -119,7 +120,9 @@ impl<S: Store> Target<S> {
             × Stands s sent self.new (h ++ marked marks (Bytes c piece.now) ∷ []))) }
         ensures sound { IsSound self.new → IsSound self.old }
         ensures sure { IsSure self.old → IsSure self.new }
-        ensures feeds { Feeds self.old self.new }
+        ensures feeds { Feeds c self.old self.new }
+        ensures part { KeepsPart c self.old self.new }
+        ensures closing { IfErr result (λ starved. is_closing (link_at self.new starved.connection).phase ≡ true) }
         ensures open { (d : ℕ) → is_open_at self.new d ≡ is_open_at self.old d }
         ensures empty { piece.now ≡ [] → IsOk result }
         ensures idle { is_closing (link_at self.old c).phase ≡ true → IsOk result }
@@ -322,7 +325,8 @@ impl<S: Store> Target<S> {
     fn take_frame(&mut self, c: usize, frame: Frame) -> Result<(), Starved>
         requires { c < 64 }
         ensures takes { Takes c frame (first_starved result) self.old self.new }
-        ensures moves { Moves self.old self.new }
+        ensures moves { Moves c (first_starved result) self.old self.new }
+        ensures part { KeepsPart c self.old self.new }
     {
         let link = &mut self.links[c];
         match &mut link.phase {
@@ -345,7 +349,8 @@ impl<S: Store> Target<S> {
         requires in_range { c < 64 }
         requires logs_in { is_logging_in (link_at self.old c).phase ≡ true }
         ensures takes { Takes c frame.now (first_starved result) self.old self.new }
-        ensures moves { Moves self.old self.new }
+        ensures moves { Moves c (first_starved result) self.old self.new }
+        ensures part { KeepsPart c self.old self.new }
     {
         if frame.header.opcode() == Opcode::Login {
             return match self.log_in(c, frame) {

@@ -1,5 +1,7 @@
 //! What a run leaves behind.
 
+ghost use Rattle.std.specs.Prelude.{◌≡◌, [], None};
+
 use crate::store::SystemStore;
 use call_record::Record;
 use iscsi_serve::MioPorts;
@@ -25,7 +27,11 @@ pub struct Left<S: Start> {
 
 impl<S: Start> Left<S> {
     /// Nothing.
-    pub fn new() -> Left<S> {
+    pub fn new() -> Left<S>
+        ensures told { result.told.calls ≡ [] }
+        ensures replayed { result.replayed ≡ None }
+        ensures served { result.served ≡ None }
+    {
         Left {
             told: Record::new(),
             replayed: None,

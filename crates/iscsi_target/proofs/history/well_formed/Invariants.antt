@@ -6,4 +6,5 @@ use Rattle.iscsi_target.proofs.history.well_formed.Given as goal
 
 -- the events that are left decide
 abbrev pub invariant-loop-event : goal.invariant-loop-event
-invariant-loop-event l = (before : List ℕ) × (IsTable l.table before) × (may_follow before (events_view (drop l.event-index l.events)) ≡ well_formed (events_view l.events))
+invariant-loop-event l = (before : List ℕ) × (IsTable l.table before) × (may_follow before (events_view (drop l.event-index l.events))
+    ≡ well_formed (events_view l.events))

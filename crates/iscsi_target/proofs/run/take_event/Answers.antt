@@ -28,14 +28,16 @@ returns-in_ok-push-in-Open-clause-open g c = λ before open_.
 
 pub returns-in_ok-feed-in-Bytes-clause-runs : goal.returns-in_ok-feed-in-Bytes-clause-runs
 returns-in_ok-feed-in-Bytes-clause-runs g c = λ s before h r sound.
-    (let is : event_view c.args.event.now ≡ Bytes c.in-Bytes.c c.as_slice.result.now = ap event_view c.in-Bytes.is ∙ ap (Bytes c.in-Bytes.c) (sym c.as_slice.ensures.value) in
+    (let is : event_view c.args.event.now ≡ Bytes c.in-Bytes.c c.as_slice.result.now = ap event_view c.in-Bytes.is
+    ∙ ap (Bytes c.in-Bytes.c) (sym c.as_slice.ensures.value) in
     let was = r (c.in_ok-feed-in-Bytes.ensures.sound sound) in
     rw is (bytes_runs s c.args.target.now c.feed.new.self (map seen c.args.rows.now.items) before h c.in-Bytes.c c.as_slice.result.now was
     (c.in_ok-feed-in-Bytes.ensures.stands s (λ k. 0) h (λ before_. was.stands) sound)))
 
 pub returns-in_ok-feed-in-Bytes-clause-open : goal.returns-in_ok-feed-in-Bytes-clause-open
 returns-in_ok-feed-in-Bytes-clause-open g c = λ before open_.
-    (let is : event_view c.args.event.now ≡ Bytes c.in-Bytes.c c.as_slice.result.now = ap event_view c.in-Bytes.is ∙ ap (Bytes c.in-Bytes.c) (sym c.as_slice.ensures.value) in
+    (let is : event_view c.args.event.now ≡ Bytes c.in-Bytes.c c.as_slice.result.now = ap event_view c.in-Bytes.is
+    ∙ ap (Bytes c.in-Bytes.c) (sym c.as_slice.ensures.value) in
     rw is (fed_tracks c.args.target.now c.feed.new.self before c.in_ok-feed-in-Bytes.ensures.«open» open_))
 
 pub returns-in_ok-end-in-Gone-clause-runs : goal.returns-in_ok-end-in-Gone-clause-runs
@@ -45,9 +47,12 @@ returns-in_ok-end-in-Gone-clause-runs g c = λ s before h r sound.
     let same : c.as_mut_slice.result.now ≡ items = c.as_mut_slice.ensures.value in
     let len : length c.end.new.rows ≡ length items = c.end.auto.rows ∙ ap (λ (l : List Row). length l) same in
     let was = r (c.gone.ensures.sound sound) in
-    let made : map seen (take c.args.rows.now.len (c.end.new.rows ++ drop (length c.end.new.rows) items)) ≡ map (ended c.args.target.now c.in-Gone.c) (map seen items) =
-    ap (map seen) (all_written c.end.new.rows items c.args.rows.now.len len c.args.rows.now.ok.0) ∙ c.in_ok-end-in-Gone.ensures ∙ ap (λ (l : List Row). map (ended c.args.target.now c.in-Gone.c) (map seen l)) same in
-    rw (made, is) (gone_runs s c.args.target.now c.gone.new.self (map seen items) before h c.in-Gone.c was (c.gone.ensures.stands s (λ k. 0) h (λ before_. was.stands) sound)))
+    let made : map seen (take c.args.rows.now.len (c.end.new.rows ++ drop (length c.end.new.rows) items))
+    ≡ map (ended c.args.target.now c.in-Gone.c) (map seen items) =
+    ap (map seen) (all_written c.end.new.rows items c.args.rows.now.len len c.args.rows.now.ok.0) ∙ c.in_ok-end-in-Gone.ensures
+    ∙ ap (λ (l : List Row). map (ended c.args.target.now c.in-Gone.c) (map seen l)) same in
+    rw (made, is) (gone_runs s c.args.target.now c.gone.new.self (map seen items) before h c.in-Gone.c was
+    (c.gone.ensures.stands s (λ k. 0) h (λ before_. was.stands) sound)))
 
 pub returns-in_ok-end-in-Gone-clause-open : goal.returns-in_ok-end-in-Gone-clause-open
 returns-in_ok-end-in-Gone-clause-open g c = λ before open_.

@@ -7,7 +7,8 @@ use Rattle.iscsi_target.proofs.Choices.{cond_true}
 use Rattle.iscsi_target.proofs.link.Link.next_frame.Goals as goal
 
 -- where a frame was taken from the front, fewer bytes are left
-shorter : (r : Result (Option Frame) PduFault) (old new : List ℕ) → IfOk r (λ o. IfSome o (λ _. has_frame old ≡ true)) → IfOk r (λ o. IfSome o (λ _. new ≡ drop (frame_length old) old))
+shorter : (r : Result (Option Frame) PduFault) (old new : List ℕ) → IfOk r (λ o. IfSome o (λ _. has_frame old ≡ true))
+    → IfOk r (λ o. IfSome o (λ _. new ≡ drop (frame_length old) old))
     → IfOk r (λ o. IfSome o (λ _. length new < length old))
 shorter (Ok (Some frame)) old new there taken = rw taken (drop_shorter old there)
 shorter (Ok None) old new there taken = tt

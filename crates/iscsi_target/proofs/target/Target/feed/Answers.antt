@@ -1,11 +1,12 @@
-use Rattle.std.proofs.Common.{◌≡◌, ◌<◌, [], length, Some, refl, sym, ap, ◌∙◌, subst, arith}
+use Rattle.std.proofs.Common.{◌≡◌, ◌<◌, [], length, None, Some, refl, sym, ap, ◌∙◌, subst, arith}
 use Rattle.std.proofs.lemmas.Bool.{eqb-true}
 use Rattle.std.proofs.lemmas.List.{nil_from_length}
-use Rattle.iscsi_target.specs.Machine.{LinkState, Machine, Feeds, link_at, closed, is_reading}
+use Rattle.iscsi_target.specs.Machine.{LinkState, Machine, Feeds, link_at, closed, is_reading, is_closing}
 use Rattle.iscsi_target.specs.Serving.{first_starved}
 use Rattle.iscsi_target.specs.World.{world}
-use Rattle.iscsi_target.proofs.Feeding.{comes, comes_starved, comes_idle, comes_empty, Fed, ok_came, err_came, starved_came, kept_feeds}
-use Rattle.iscsi_target.proofs.Moving.{closed_moves, feeds_then, moves_as}
+use Rattle.iscsi_target.proofs.Apart.{part_none, part_as, part_closed, part_halved, part_then}
+use Rattle.iscsi_target.proofs.Feeding.{comes, comes_starved, comes_idle, comes_empty, Fed, ok_came, err_came, starved_came, kept_feeds, kept_reads}
+use Rattle.iscsi_target.proofs.Moving.{own_self, closed_closing, closing_if, closed_moves, feeds_then, moves_as}
 use Rattle.iscsi_target.proofs.Sound.{closed_sound, closed_sure, sound_as, sure_as}
 use Rattle.iscsi_target.proofs.Standing.{stands_as}
 use Rattle.iscsi_target.proofs.target.Target.feed.Goals as goal
@@ -13,12 +14,14 @@ use Rattle.iscsi_target.proofs.target.Target.feed.Goals as goal
 pub returns-then-is_empty-clause-stands : goal.returns-then-is_empty-clause-stands
 returns-then-is_empty-clause-stands g c = λ s sent h at sound.
     (let none : c.args.piece.now ≡ [] = nil_from_length c.args.piece.now (eqb-true _ _ (sym c.is_empty.ensures ∙ c.if-is_empty.true)) in
-    stands_as s sent c.args.self.now h _ _ refl (rw none (comes_empty s sent (world s h) c.args.self.now c.args.c c.requires.in_range (at sound) c.requires.«open»)))
+    stands_as s sent c.args.self.now h _ _ refl (rw none (comes_empty s sent (world s h) c.args.self.now c.args.c c.requires.in_range (at sound)
+    c.requires.«open»)))
 
 pub returns-then-not-reads-clause-stands : goal.returns-then-not-reads-clause-stands
 returns-then-not-reads-clause-stands g c = λ s sent h at sound.
     stands_as s sent c.args.self.now h _ _ refl
-    (comes_idle s sent (world s h) c.args.self.now c.args.c c.args.piece.now c.requires.in_range (at sound) c.requires.«open» (sym c.reads.ensures.value ∙ c.if-not-reads.true))
+    (comes_idle s sent (world s h) c.args.self.now c.args.c c.args.piece.now c.requires.in_range (at sound) c.requires.«open»
+    (sym c.reads.ensures.value ∙ c.if-not-reads.true))
 
 -- ---- the piece could not be kept
 
@@ -42,7 +45,21 @@ pub returns-in-Err-clause-feeds : goal.returns-in-Err-clause-feeds
 returns-in-Err-clause-feeds g c =
     let same : c.starve.new.self ≡ closed c.args.self.now c.args.c = c.starve.ensures.closed ∙ ap (λ (m : Machine). closed m c.args.c) c.in-Err.ensures.err in
     let lt : c.args.c < length c.args.self.now.links = (let below = c.requires.in_range in omega (arith, c.reads.ensures.count)) in
-    (moves_as c.args.self.now _ c.starve.new.self same (closed_moves c.args.self.now c.args.c lt (sym c.reads.ensures.value ∙ c.if-not-reads.false))).feeds
+    (moves_as c.args.c None c.args.self.now _ c.starve.new.self same (closed_moves c.args.c c.args.self.now c.args.c lt (sym c.reads.ensures.value
+    ∙ c.if-not-reads.false) (own_self c.args.c c.args.self.now))).feeds
+
+pub returns-in-Err-clause-closing : goal.returns-in-Err-clause-closing
+returns-in-Err-clause-closing g c =
+    let same : c.starve.new.self ≡ closed c.args.self.now c.args.c = c.starve.ensures.closed ∙ ap (λ (m : Machine). closed m c.args.c) c.in-Err.ensures.err in
+    let lt : c.args.c < length c.args.self.now.links = (let below = c.requires.in_range in omega (arith, c.reads.ensures.count)) in
+    ap (λ k. is_closing (link_at c.starve.new.self k).phase) c.starve.ensures.names
+    ∙ ap (λ (m : Machine). is_closing (link_at m c.args.c).phase) same ∙ closed_closing c.args.self.now c.args.c lt
+
+pub returns-in-Err-clause-part : goal.returns-in-Err-clause-part
+returns-in-Err-clause-part g c =
+    let same : c.starve.new.self ≡ closed c.args.self.now c.args.c = c.starve.ensures.closed ∙ ap (λ (m : Machine). closed m c.args.c) c.in-Err.ensures.err in
+    let lt : c.args.c < length c.args.self.now.links = (let below = c.requires.in_range in omega (arith, c.reads.ensures.count)) in
+    part_as c.args.c c.args.self.now _ c.starve.new.self same (part_closed c.args.self.now c.args.c lt)
 
 pub returns-in-Err-clause-open : goal.returns-in-Err-clause-open
 returns-in-Err-clause-open g c = (returns-in-Err-clause-feeds g c).opens
@@ -51,13 +68,33 @@ returns-in-Err-clause-open g c = (returns-in-Err-clause-feeds g c).opens
 
 pub returns-clause-stands : goal.returns-clause-stands
 returns-clause-stands g c =
-    ok_came c.take_frames.result c.args.self.now c.keep.new.self c.take_frames.new.self c.args.c c.args.piece.now c.requires.in_range (sym c.reads.ensures.value ∙ c.if-not-reads.false) c.in_default.ensures.ok c.take_frames.ensures.takes
+    ok_came c.take_frames.result c.args.self.now c.keep.new.self c.take_frames.new.self c.args.c c.args.piece.now c.requires.in_range
+    (sym c.reads.ensures.value ∙ c.if-not-reads.false) c.in_default.ensures.ok c.take_frames.ensures.takes
 
 pub returns-clause-starved : goal.returns-clause-starved
 returns-clause-starved g c =
-    err_came c.take_frames.result c.args.self.now c.keep.new.self c.take_frames.new.self c.args.c c.args.piece.now c.requires.in_range (sym c.reads.ensures.value ∙ c.if-not-reads.false) c.in_default.ensures.ok c.take_frames.ensures.takes
+    err_came c.take_frames.result c.args.self.now c.keep.new.self c.take_frames.new.self c.args.c c.args.piece.now c.requires.in_range
+    (sym c.reads.ensures.value ∙ c.if-not-reads.false) c.in_default.ensures.ok c.take_frames.ensures.takes
 
 pub returns-clause-feeds : goal.returns-clause-feeds
 returns-clause-feeds g c =
     let lt : c.args.c < length c.args.self.now.links = (let below = c.requires.in_range in omega (arith, c.reads.ensures.count)) in
-    feeds_then c.args.self.now c.keep.new.self c.take_frames.new.self (kept_feeds c.args.self.now c.keep.new.self c.args.c c.args.piece.now lt (sym c.reads.ensures.value ∙ c.if-not-reads.false) c.in_default.ensures.ok) c.take_frames.ensures.takes.feeds
+    feeds_then c.args.c c.args.self.now c.keep.new.self c.take_frames.new.self
+    (kept_feeds c.args.self.now c.keep.new.self c.args.c c.args.piece.now lt (sym c.reads.ensures.value ∙ c.if-not-reads.false)
+    c.in_default.ensures.ok) c.take_frames.ensures.takes.feeds
+
+pub returns-clause-closing : goal.returns-clause-closing
+returns-clause-closing g c = closing_if c.take_frames.result c.take_frames.new.self c.take_frames.ensures.takes.closing
+
+pub returns-clause-part : goal.returns-clause-part
+returns-clause-part g c =
+    let lt : c.args.c < length c.args.self.now.links = (let below = c.requires.in_range in omega (arith, c.reads.ensures.count)) in
+    part_then c.args.c c.args.self.now c.keep.new.self c.take_frames.new.self
+    (kept_reads c.args.self.now c.keep.new.self c.args.c c.args.piece.now lt (sym c.reads.ensures.value ∙ c.if-not-reads.false) c.in_default.ensures.ok)
+    (part_as c.args.c c.args.self.now _ c.keep.new.self c.in_default.ensures.ok (part_halved c.args.self.now c.args.c _ lt)) c.take_frames.ensures.takes.part
+
+pub returns-then-is_empty-clause-part : goal.returns-then-is_empty-clause-part
+returns-then-is_empty-clause-part g c = part_none c.args.c c.args.self.now
+
+pub returns-then-not-reads-clause-part : goal.returns-then-not-reads-clause-part
+returns-then-not-reads-clause-part g c = part_none c.args.c c.args.self.now

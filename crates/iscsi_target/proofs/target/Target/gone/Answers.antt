@@ -9,21 +9,25 @@ use Rattle.iscsi_target.proofs.target.Target.gone.Goals as goal
 
 pub invariant_of-self : goal.invariant_of-self
 invariant_of-self g c =
-    let free : IsWithin (length c.self.inside.units.items) c.free.result.phase = subst (λ (l : LinkState). IsWithin (length c.self.inside.units.items) l.phase) (sym c.free.ensures) tt in (
+    let free : IsWithin (length c.self.inside.units.items) c.free.result.phase =
+    subst (λ (l : LinkState). IsWithin (length c.self.inside.units.items) l.phase) (sym c.free.ensures) tt in (
       length-set c.self.inside.links.items c.args.c c.free.result ∙ c.self.invariant.0,
       c.self.invariant.1,
       All-set (λ (l : LinkState). IsWithin (length c.self.inside.units.items) l.phase) c.self.inside.links.items c.args.c c.free.result free c.self.invariant.2,
     )
 
 pub returns-clause-sound : goal.returns-clause-sound
-returns-clause-sound g c = λ sound. closed_sound c.args.self.now c.args.c (sound_as c.close.new.self _ c.close.ensures.closed (sound_units _ c.close.new.self (ap (λ (m : Machine). m.units) c.self.view_is) sound))
+returns-clause-sound g c = λ sound. closed_sound c.args.self.now c.args.c
+    (sound_as c.close.new.self _ c.close.ensures.closed (sound_units _ c.close.new.self (ap (λ (m : Machine). m.units) c.self.view_is) sound))
 
 pub returns-clause-sure : goal.returns-clause-sure
-returns-clause-sure g c = λ sure. sure_as c.close.new.self _ (sym c.self.view_is) (sure_as _ c.close.new.self (sym c.close.ensures.closed) (closed_sure c.args.self.now c.args.c sure))
+returns-clause-sure g c = λ sure. sure_as c.close.new.self _ (sym c.self.view_is)
+    (sure_as _ c.close.new.self (sym c.close.ensures.closed) (closed_sure c.args.self.now c.args.c sure))
 
 pub returns-clause-stands : goal.returns-clause-stands
 returns-clause-stands g c = λ s sent h at sound.
-    (let before = closed_sound c.args.self.now c.args.c (sound_as c.close.new.self _ c.close.ensures.closed (sound_units _ c.close.new.self (ap (λ (m : Machine). m.units) c.self.view_is) sound)) in
+    (let before = closed_sound c.args.self.now c.args.c (sound_as c.close.new.self _ c.close.ensures.closed
+    (sound_units _ c.close.new.self (ap (λ (m : Machine). m.units) c.self.view_is) sound)) in
     stands_machine _ _ _ _ _ (search rules) (gone_stands s sent c.args.self.now h c.args.c c.requires.in_range (at before)))
 
 pub returns-clause-count : goal.returns-clause-count

@@ -16,12 +16,19 @@ use Rattle.iscsi_target.proofs.target.Target.log_in.Goals as goal
 
 pub returns-in_err-response-clause-err : goal.returns-in_err-response-clause-err
 returns-in_err-response-clause-err g c =
-    let machine : Machine = record { names = map string_bytes c.self.inside.config.targets.items; units = c.self.inside.units.items; links = c.self.inside.links.items } in
+    let machine : Machine = record {
+      names = map string_bytes c.self.inside.config.targets.items;
+      units = c.self.inside.units.items;
+      links = c.self.inside.links.items;
+    } in
     let lt : c.args.c < length c.self.inside.links.items = (let below = c.requires.in_range in let count = c.self.invariant.0 in omega arith) in
-    let old : c.index_mut-link.result.now ≡ link_at machine c.args.c = c.index_mut-link.ensures.value ∙ get_or_any c.self.inside.links.items c.args.c _ free_link lt in
-    let logs : is_logging_in (link_at machine c.args.c).phase ≡ true = ap (λ (m : Machine). is_logging_in (link_at m c.args.c).phase) c.self.view_is ∙ c.requires.logs_in in
+    let old : c.index_mut-link.result.now ≡ link_at machine c.args.c = c.index_mut-link.ensures.value
+    ∙ get_or_any c.self.inside.links.items c.args.c _ free_link lt in
+    let logs : is_logging_in (link_at machine c.args.c).phase ≡ true = ap (λ (m : Machine). is_logging_in (link_at m c.args.c).phase) c.self.view_is
+    ∙ c.requires.logs_in in
     on_err c.from_residual-in_err-response.result
-    (closed_alike machine c.args.c c.log_in.new.self lt (c.in_err-response.ensures.waiting ∙ ap (λ (l : LinkState). l.waiting) old) c.in_err-response.ensures.session logs
+    (closed_alike machine c.args.c c.log_in.new.self lt (c.in_err-response.ensures.waiting ∙ ap (λ (l : LinkState). l.waiting) old)
+    c.in_err-response.ensures.session logs
     ∙ ap (λ (m : Machine). closed m c.args.c) c.self.view_is)
 
 pub invariant_of-self-in-Some : goal.invariant_of-self-in-Some
@@ -29,50 +36,77 @@ invariant_of-self-in-Some g c =
     let lt : c.args.c < length c.self.inside.links.items = (let below = c.requires.in_range in let count = c.self.invariant.0 in omega arith) in
     let old : c.index_mut-link.result.now ≡ _ = c.index_mut-link.ensures.value ∙ get_or_any c.self.inside.links.items c.args.c _ free_link lt in
     let count : length c.as_slice-targets.result.now ≡ length c.self.inside.units.items = ap length c.as_slice-targets.ensures.value ∙ sym c.self.invariant.1 in
-    let was : IsWithin (length c.self.inside.units.items) c.index_mut-link.result.now.phase = subst (λ (l : LinkState). IsWithin (length c.self.inside.units.items) l.phase) (sym old) (c.self.invariant.2 c.args.c free_link lt) in
-    let is : IsWithin (length c.self.inside.units.items) c.log_in.new.self.phase = subst (λ (n : ℕ). IsWithin n c.index_mut-link.result.now.phase → IsWithin n c.log_in.new.self.phase) count c.in_ok-response.ensures.target was in (
+    let was : IsWithin (length c.self.inside.units.items) c.index_mut-link.result.now.phase =
+    subst (λ (l : LinkState). IsWithin (length c.self.inside.units.items) l.phase) (sym old) (c.self.invariant.2 c.args.c free_link lt) in
+    let is : IsWithin (length c.self.inside.units.items) c.log_in.new.self.phase =
+    subst (λ (n : ℕ). IsWithin n c.index_mut-link.result.now.phase → IsWithin n c.log_in.new.self.phase) count c.in_ok-response.ensures.target was
+    in (
       length-set c.self.inside.links.items c.args.c c.log_in.new.self ∙ c.self.invariant.0,
       c.self.invariant.1,
-      All-set (λ (l : LinkState). IsWithin (length c.self.inside.units.items) l.phase) c.self.inside.links.items c.args.c c.log_in.new.self is c.self.invariant.2,
+      All-set (λ (l : LinkState). IsWithin (length c.self.inside.units.items) l.phase) c.self.inside.links.items c.args.c c.log_in.new.self is
+          c.self.invariant.2,
     )
 
 pub begin-requires-clause-reads : goal.begin-requires-clause-reads
 begin-requires-clause-reads g c =
-    let machine : Machine = record { names = map string_bytes c.self.inside.config.targets.items; units = c.self.inside.units.items; links = c.self.inside.links.items } in
+    let machine : Machine = record {
+      names = map string_bytes c.self.inside.config.targets.items;
+      units = c.self.inside.units.items;
+      links = c.self.inside.links.items;
+    } in
     let lt : c.args.c < length c.self.inside.links.items = (let below = c.requires.in_range in let count = c.self.invariant.0 in omega arith) in
-    let old : c.index_mut-link.result.now ≡ link_at machine c.args.c = c.index_mut-link.ensures.value ∙ get_or_any c.self.inside.links.items c.args.c _ free_link lt in
-    let logs : is_logging_in (link_at machine c.args.c).phase ≡ true = ap (λ (m : Machine). is_logging_in (link_at m c.args.c).phase) c.self.view_is ∙ c.requires.logs_in in
+    let old : c.index_mut-link.result.now ≡ link_at machine c.args.c = c.index_mut-link.ensures.value
+    ∙ get_or_any c.self.inside.links.items c.args.c _ free_link lt in
+    let logs : is_logging_in (link_at machine c.args.c).phase ≡ true = ap (λ (m : Machine). is_logging_in (link_at m c.args.c).phase) c.self.view_is
+    ∙ c.requires.logs_in in
     let there = login_there c.index_mut-link.result.now.phase (ap (λ (l : LinkState). is_logging_in l.phase) old ∙ logs) in
     let waiting = waits _ _ _ _ _ _ (rw c.in-Some.is at (c.in_ok-response.ensures.answered there.0 there.1)) in
     ap (λ (l : LinkState). is_reading l.phase) (link_there machine c.args.c c.log_in.new.self lt) ∙ still_reading c.log_in.new.self.phase waiting.logging_in
 
 pub returns-in-Some-clause-ok : goal.returns-in-Some-clause-ok
 returns-in-Some-clause-ok g c =
-    let machine : Machine = record { names = map string_bytes c.self.inside.config.targets.items; units = c.self.inside.units.items; links = c.self.inside.links.items } in
+    let machine : Machine = record {
+      names = map string_bytes c.self.inside.config.targets.items;
+      units = c.self.inside.units.items;
+      links = c.self.inside.links.items;
+    } in
     let lt : c.args.c < length c.self.inside.links.items = (let below = c.requires.in_range in let count = c.self.invariant.0 in omega arith) in
-    let old : c.index_mut-link.result.now ≡ link_at machine c.args.c = c.index_mut-link.ensures.value ∙ get_or_any c.self.inside.links.items c.args.c _ free_link lt in
-    let logs : is_logging_in (link_at machine c.args.c).phase ≡ true = ap (λ (m : Machine). is_logging_in (link_at m c.args.c).phase) c.self.view_is ∙ c.requires.logs_in in
+    let old : c.index_mut-link.result.now ≡ link_at machine c.args.c = c.index_mut-link.ensures.value
+    ∙ get_or_any c.self.inside.links.items c.args.c _ free_link lt in
+    let logs : is_logging_in (link_at machine c.args.c).phase ≡ true = ap (λ (m : Machine). is_logging_in (link_at m c.args.c).phase) c.self.view_is
+    ∙ c.requires.logs_in in
     let named : c.in_ok-named.named ≡ named_by (tsih c.args.request.now.header) (sessions c.self.inside.links.items) =
     c.in_ok-named.ensures ∙ ap (λ (ls : List LinkState). named_by c.tsih.result (sessions ls)) c.as_slice.ensures.value
     ∙ ap (λ (n : ℕ). named_by n (sessions c.self.inside.links.items)) (c.tsih.ensures ∙ ap (λ (f : Frame). tsih f.header) c.request.view_is) in
     let looked_up : lookup_in c.as_slice-targets.result.now c.in_ok-named.named ≡ lookup_for machine.names (sessions machine.links) c.args.request.now =
-    ap (λ (ts : List (String Global)). lookup_in ts c.in_ok-named.named) c.as_slice-targets.ensures.value ∙ ap (λ (o : Option Params). lookup_in c.self.inside.config.targets.items o) named in
+    ap (λ (ts : List (String Global)). lookup_in ts c.in_ok-named.named) c.as_slice-targets.ensures.value
+    ∙ ap (λ (o : Option Params). lookup_in c.self.inside.config.targets.items o) named in
     on_ok_weaker c.begin.result (λ e login h.
-    (let is_so : c.index_mut-link.result.now.phase ≡ _ = ap (λ (l : LinkState). l.phase) old ∙ ap (λ (m : Machine). (link_at m c.args.c).phase) c.self.view_is ∙ h in
+    (let is_so : c.index_mut-link.result.now.phase ≡ _ = ap (λ (l : LinkState). l.phase) old
+    ∙ ap (λ (m : Machine). (link_at m c.args.c).phase) c.self.view_is ∙ h in
     let waiting = waits _ _ _ _ _ _ (rw c.in-Some.is at (c.in_ok-response.ensures.answered login is_so)) in
-    let reply : reply_of login (lookup_for machine.names (sessions machine.links) c.args.request.now) c.args.request.now ≡ _ = ap (λ (k : Lookup). reply_of login k c.args.request.now) (sym looked_up) ∙ waiting.reply_is in
-    e ∙ begun_alike machine c.args.c c.log_in.new.self c.in-Some.session (answers.LoginResponse c.in-Some.response) lt (waiting.same ∙ ap (λ (l : LinkState). record l { phase = c.log_in.new.self.phase }) old) waiting.logging_in logs
+    let reply : reply_of login (lookup_for machine.names (sessions machine.links) c.args.request.now) c.args.request.now ≡ _ =
+    ap (λ (k : Lookup). reply_of login k c.args.request.now) (sym looked_up) ∙ waiting.reply_is in
+    e ∙ begun_alike machine c.args.c c.log_in.new.self c.in-Some.session (answers.LoginResponse c.in-Some.response) lt (waiting.same
+    ∙ ap (λ (l : LinkState). record l { phase = c.log_in.new.self.phase }) old) waiting.logging_in logs
     ∙ begun_by_request machine c.args.c login c.args.request.now c.in-Some.session c.in-Some.response reply
     ∙ ap (λ (m : Machine). logged_in m c.args.c login c.args.request.now) c.self.view_is)) c.begin.ensures.ok
 
 pub returns-in-Some-clause-err : goal.returns-in-Some-clause-err
 returns-in-Some-clause-err g c =
-    let machine : Machine = record { names = map string_bytes c.self.inside.config.targets.items; units = c.self.inside.units.items; links = c.self.inside.links.items } in
+    let machine : Machine = record {
+      names = map string_bytes c.self.inside.config.targets.items;
+      units = c.self.inside.units.items;
+      links = c.self.inside.links.items;
+    } in
     let lt : c.args.c < length c.self.inside.links.items = (let below = c.requires.in_range in let count = c.self.invariant.0 in omega arith) in
-    let old : c.index_mut-link.result.now ≡ link_at machine c.args.c = c.index_mut-link.ensures.value ∙ get_or_any c.self.inside.links.items c.args.c _ free_link lt in
-    let logs : is_logging_in (link_at machine c.args.c).phase ≡ true = ap (λ (m : Machine). is_logging_in (link_at m c.args.c).phase) c.self.view_is ∙ c.requires.logs_in in
+    let old : c.index_mut-link.result.now ≡ link_at machine c.args.c = c.index_mut-link.ensures.value
+    ∙ get_or_any c.self.inside.links.items c.args.c _ free_link lt in
+    let logs : is_logging_in (link_at machine c.args.c).phase ≡ true = ap (λ (m : Machine). is_logging_in (link_at m c.args.c).phase) c.self.view_is
+    ∙ c.requires.logs_in in
     let there = login_there c.index_mut-link.result.now.phase (ap (λ (l : LinkState). is_logging_in l.phase) old ∙ logs) in
     let waiting = waits _ _ _ _ _ _ (rw c.in-Some.is at (c.in_ok-response.ensures.answered there.0 there.1)) in
     on_err_weaker c.begin.result (λ e. ap (λ (m : Machine). closed m c.args.c) e
-    ∙ closed_alike machine c.args.c c.log_in.new.self lt (ap (λ (l : LinkState). l.waiting) waiting.same ∙ ap (λ (l : LinkState). l.waiting) old) (no_session c.log_in.new.self.phase waiting.logging_in) logs
+    ∙ closed_alike machine c.args.c c.log_in.new.self lt (ap (λ (l : LinkState). l.waiting) waiting.same ∙ ap (λ (l : LinkState). l.waiting) old)
+    (no_session c.log_in.new.self.phase waiting.logging_in) logs
     ∙ ap (λ (m : Machine). closed m c.args.c) c.self.view_is) c.begin.ensures.err

@@ -15,5 +15,9 @@ invariant_of-result g c = (
 
 pub returns-clause-stands : goal.returns-clause-stands
 returns-clause-stands g c =
-    stands_machine _ _ _ _ _ (ap (λ (links : List LinkState). record { names = map string_bytes c.args.config.targets.items; units = c.args.units.items; links = links }) (sym c.in_ok-links.ensures))
+    stands_machine _ _ _ _ _ (ap (λ (links : List LinkState). record {
+      names = map string_bytes c.args.config.targets.items;
+      units = c.args.units.items;
+      links = links;
+    }) (sym c.in_ok-links.ensures))
     (new_stands (record { names = map string_bytes c.args.config.targets.items; units = c.args.units.items }))

@@ -40,14 +40,20 @@ loop-event-preserved g c =
     let lt : at < length es = omega arith in
     let i = c.loop-event.invariant in
     let both = and_true _ _ (sym (follows es at e i.0 lt c.event-item.is) ∙ i.3) in
-    let r = c.in_ok-take_event.ensures.runs _ i.0 (plain_history (take at es)) i.1 in
-    (open_after i.0 (event_view e), rw (history_more es at e lt c.event-item.is) r, c.in_ok-take_event.ensures.«open» i.0 i.2, both.1, λ sure. c.in_ok-take_event.ensures.sure (i.4 sure))
+    let r = c.in_ok-take_event.ensures.runs _ i.0 (plain_history (take at es)) i.1 in (
+      open_after i.0 (event_view e),
+      rw (history_more es at e lt c.event-item.is) r,
+      c.in_ok-take_event.ensures.«open» i.0 i.2,
+      both.1,
+      λ sure. c.in_ok-take_event.ensures.sure (i.4 sure),
+    )
 
 pub returns-clause-stands : goal.returns-clause-stands
 returns-clause-stands g c = λ sound.
     (let es = c.args.events.now in
     let all : take c.loop-event.event-index es ≡ es = take_all c.loop-event.event-index es (omega arith) in
-    let P : List Event → Type 0 = λ l. Stands (record { names = map string_bytes c.args.config.targets.items; units = c.args.units.items }) (λ k. 0) c.loop-event.target (plain_history l) in
+    let P : List Event → Type 0 = λ l. Stands (record { names = map string_bytes c.args.config.targets.items; units = c.args.units.items }) (λ k. 0)
+    c.loop-event.target (plain_history l) in
     subst P all (c.loop-event.invariant.1 sound).stands)
 
 pub returns-clause-outputs : goal.returns-clause-outputs
@@ -62,5 +68,6 @@ pub returns-clause-media : goal.returns-clause-media
 returns-clause-media g c = λ sound number.
     (let es = c.args.events.now in
     let all : take c.loop-event.event-index es ≡ es = take_all c.loop-event.event-index es (omega arith) in
-    let P : List Event → Type 0 = λ l. media_in c.loop-event.target.units number ≡ media (record { names = map string_bytes c.args.config.targets.items; units = c.args.units.items }) (plain_history l) number in
+    let P : List Event → Type 0 = λ l. media_in c.loop-event.target.units number
+    ≡ media (record { names = map string_bytes c.args.config.targets.items; units = c.args.units.items }) (plain_history l) number in
     subst P all (ap (λ (units : List UnitStates). media_in units number) (units_stand _ (λ k. 0) _ _ (c.loop-event.invariant.1 sound).stands)))

@@ -11,7 +11,8 @@ use Rattle.iscsi_target.proofs.target.Target.run.Given as goal
 abbrev pub invariant-loop-event : goal.invariant-loop-event
 invariant-loop-event g l =
     (before : List ℕ)
-    × WhereSound l.target (Runs (record { names = map string_bytes l.fn.config.targets.items; units = l.fn.units.items }) l.target (map seen l.rows.items) before (plain_history (take l.event-index l.events)))
+    × WhereSound l.target (Runs (record { names = map string_bytes l.fn.config.targets.items; units = l.fn.units.items }) l.target
+    (map seen l.rows.items) before (plain_history (take l.event-index l.events)))
     × AreOpen l.target before
     × (may_follow before (events_view (drop l.event-index l.events)) ≡ true)
     × (All AreSure l.fn.units.items → IsSure l.target)

@@ -7,20 +7,24 @@ use Rattle.iscsi_target.proofs.target.Target.take_next.Goals as goal
 pub returns-in-Ok-Some-clause-takes : goal.returns-in-Ok-Some-clause-takes
 returns-in-Ok-Some-clause-takes g c =
     let gives : GivesFrame c.in-Ok-Some.frame _ _ = rw c.in-Ok-Some.field-0-is at c.in-Ok-Some.ensures.given in
-    takes_frame c.args.self.now c.next_frame.new.self c.take_frame.new.self c.args.c c.in-Ok-Some.frame _ c.requires.in_range c.next_frame.ensures.count c.requires.reads gives
-    (rw c.in-Ok-Some.field-0-is at c.in-Ok-Some.ensures.same) c.take_frame.ensures.takes c.take_frame.ensures.moves
+    takes_frame c.args.self.now c.next_frame.new.self c.take_frame.new.self c.args.c c.in-Ok-Some.frame _ c.requires.in_range
+    c.next_frame.ensures.count c.requires.reads gives
+    (rw c.in-Ok-Some.field-0-is at c.in-Ok-Some.ensures.same) c.take_frame.ensures.takes c.take_frame.ensures.moves c.take_frame.ensures.part
 
 pub returns-in-Ok-None-clause-whole : goal.returns-in-Ok-None-clause-whole
 returns-in-Ok-None-clause-whole g c =
-    none_whole (link_at c.args.self.now c.args.c).half (rw c.in-Ok-None.field-0-is at c.in-Ok-None.ensures.none) (rw c.in-Ok-None.field-0-is at c.in-Ok-None.ensures.not_long)
+    none_whole (link_at c.args.self.now c.args.c).half (rw c.in-Ok-None.field-0-is at c.in-Ok-None.ensures.none)
+    (rw c.in-Ok-None.field-0-is at c.in-Ok-None.ensures.not_long)
 
 pub returns-in-Err-TooLong-clause-takes : goal.returns-in-Err-TooLong-clause-takes
 returns-in-Err-TooLong-clause-takes g c =
     let told = rw c.in-Err-TooLong.field-0-is at c.in-Err-TooLong.ensures.too_long in
-    takes_long c.args.self.now c.close.new.self c.args.c c.requires.in_range c.next_frame.ensures.count c.requires.reads (told refl) (c.close.ensures.closed ∙ ap (λ (m : Machine). closed m c.args.c) c.in-Err-TooLong.ensures.err)
+    takes_long c.args.self.now c.close.new.self c.args.c c.requires.in_range c.next_frame.ensures.count c.requires.reads (told refl)
+    (c.close.ensures.closed ∙ ap (λ (m : Machine). closed m c.args.c) c.in-Err-TooLong.ensures.err)
 
 pub returns-in-Err-Memory-clause-takes : goal.returns-in-Err-Memory-clause-takes
 returns-in-Err-Memory-clause-takes g c =
     takes_as c.args.self.now c.starve.new.self c.args.c _ (sym c.starve.ensures.names)
-    (takes_none c.args.self.now c.starve.new.self c.args.c c.requires.in_range c.next_frame.ensures.count c.requires.reads ((rw c.in-Err-Memory.field-0-is at c.in-Err-Memory.ensures.memory) refl)
+    (takes_none c.args.self.now c.starve.new.self c.args.c c.requires.in_range c.next_frame.ensures.count c.requires.reads
+    ((rw c.in-Err-Memory.field-0-is at c.in-Err-Memory.ensures.memory) refl)
     (c.starve.ensures.closed ∙ ap (λ (m : Machine). closed m c.args.c) c.in-Err-Memory.ensures.err))
