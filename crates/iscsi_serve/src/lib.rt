@@ -21,8 +21,6 @@ mod serving;
 mod socket_calls;
 mod socket_failure;
 mod socket_ports;
-#[cfg(test)]
-mod tests;
 mod told;
 
 pub use bind_fault::BindFault;

@@ -24,8 +24,6 @@ mod memory;
 mod start;
 mod store;
 mod system_file;
-#[cfg(test)]
-mod tests;
 mod whole;
 
 pub use fail::{Call, FailStore};

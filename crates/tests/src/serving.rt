@@ -1,7 +1,7 @@
 //! What no clause says: that connections are served side by side, with ample memory, over scripts and
 //! over a socket.
 
-use crate::{Carried, Entry, MemPorts, MioPorts, Script, Step, turn, turns};
+use iscsi_serve::{Carried, Entry, MemPorts, MioPorts, Script, Step, turn, turns};
 use iscsi_target::{Config, Target, Unit, Units};
 use media_block::{BLOCK_LENGTH, Disk, NotOpened};
 use media_store::MemStore;

@@ -1,7 +1,7 @@
 //! What no contract says: that a file gives back what was written, and which calls a `FailStore`
 //! refuses.
 
-use crate::{
+use media_store::{
     Call, FailStore, FileStore, LyingStore, MemStore, Store, StoreFault, SystemFile, Unknown,
 };
 use std::fs;
