@@ -8,7 +8,8 @@ use Rattle.iscsi_login.specs.Login.{brought, kept_with, heard, answered, advance
 use Rattle.iscsi_login.specs.declared.reply.Reply.{Reply}
 use Rattle.iscsi_login.specs.declared.reply.Reply.TheVariants.{GoOn, Full, Refused}
 
-after_answer : (names : List (List ℕ)) (old middle new : LoginState) (request : Frame) (reply : Reply) → middle ≡ brought names old request → IsAnswered middle request reply new → IsAfter names old request reply new
+after_answer : (names : List (List ℕ)) (old middle new : LoginState) (request : Frame) (reply : Reply) → middle ≡ brought names old request
+    → IsAnswered middle request reply new → IsAfter names old request reply new
 unfolding advanced
 after_answer names old middle new request (GoOn answer) e is = is ∙ ap (λ (login : LoginState). answered login request.header) e
 after_answer names old middle new request (Refused answer) e is = absurd is
@@ -20,11 +21,13 @@ pub after_piece : (names : List (List ℕ)) (old new : LoginState) (request : Fr
 after_piece names old new request reply due is = after_answer names old old new request reply (sym (rw due refl)) is
 
 -- the text goes on
-pub after_kept : (names : List (List ℕ)) (old middle new : LoginState) (request : Frame) (reply : Reply) → is_due old ≡ false → is_continued request.header ≡ true
+pub after_kept : (names : List (List ℕ)) (old middle new : LoginState) (request : Frame) (reply : Reply) → is_due old ≡ false
+    → is_continued request.header ≡ true
     → middle ≡ kept_with old request → IsAnswered middle request reply new → IsAfter names old request reply new
 after_kept names old middle new request reply due continued e is = after_answer names old middle new request reply (e ∙ sym (rw (due, continued) refl)) is
 
 -- the text is whole
-pub after_heard : (names : List (List ℕ)) (old middle new : LoginState) (request : Frame) (reply : Reply) → is_due old ≡ false → is_continued request.header ≡ false
+pub after_heard : (names : List (List ℕ)) (old middle new : LoginState) (request : Frame) (reply : Reply) → is_due old ≡ false
+    → is_continued request.header ≡ false
     → middle ≡ heard names old request.header (pairs_with old request) → IsAnswered middle request reply new → IsAfter names old request reply new
 after_heard names old middle new request reply due whole e is = after_answer names old middle new request reply (e ∙ sym (rw (due, whole) refl)) is

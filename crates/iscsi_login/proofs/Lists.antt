@@ -18,15 +18,18 @@ pub drop_at : {X : Type 0} (xs : List X) (i : ℕ) (x : X) → slice_get xs i �
 drop_at xs i x e = rw add-one (drop_suc xs i x e)
 
 -- a fold takes the element at a place, and those behind it
-pub fold_at : {X Y : Type 0} (f : Y → X → Y) (y : Y) (xs : List X) (i : ℕ) (x : X) → slice_get xs i ≡ Some x → fold f y (drop i xs) ≡ fold f (f y x) (drop (i + 1) xs)
+pub fold_at : {X Y : Type 0} (f : Y → X → Y) (y : Y) (xs : List X) (i : ℕ) (x : X) → slice_get xs i ≡ Some x
+    → fold f y (drop i xs) ≡ fold f (f y x) (drop (i + 1) xs)
 fold_at f y xs i x e = ap (fold f y) (drop_at xs i x e)
 
 -- the next test passes, so one of all does
-pub list_any_ends : {X : Type 0} (p : X → Bool) (xs : List X) (i : ℕ) (x : X) → slice_get xs i ≡ Some x → p x ≡ true → list_any p xs ≡ list_any p (drop i xs) → true ≡ list_any p xs
+pub list_any_ends : {X : Type 0} (p : X → Bool) (xs : List X) (i : ℕ) (x : X) → slice_get xs i ≡ Some x → p x ≡ true
+    → list_any p xs ≡ list_any p (drop i xs) → true ≡ list_any p xs
 list_any_ends p xs i x at passes so_far = sym (so_far ∙ ap (list_any p) (drop_at xs i x at) ∙ ap (λ v. v || list_any p (drop (i + 1) xs)) passes)
 
 -- the next test fails, so those behind it decide
-pub list_any_goes_on : {X : Type 0} (p : X → Bool) (xs : List X) (i : ℕ) (x : X) → slice_get xs i ≡ Some x → p x ≡ false → list_any p xs ≡ list_any p (drop i xs) → list_any p xs ≡ list_any p (drop (i + 1) xs)
+pub list_any_goes_on : {X : Type 0} (p : X → Bool) (xs : List X) (i : ℕ) (x : X) → slice_get xs i ≡ Some x → p x ≡ false
+    → list_any p xs ≡ list_any p (drop i xs) → list_any p xs ≡ list_any p (drop (i + 1) xs)
 list_any_goes_on p xs i x at fails so_far = so_far ∙ ap (list_any p) (drop_at xs i x at) ∙ ap (λ v. v || list_any p (drop (i + 1) xs)) fails
 
 position_or_len-map : {X Y : Type 0} (p : Y → Bool) (f : X → Y) (xs : List X) → position_or_len p (map f xs) ≡ position_or_len (λ x. p (f x)) xs
@@ -38,7 +41,8 @@ pub position_of_map : {X Y : Type 0} (p : Y → Bool) (f : X → Y) (xs : List X
 position_of_map p f xs = rw (position_or_len-map p f xs, length-map) refl
 
 -- one more element, of those that f keeps
-pub filter_map_more : {X Y : Type 0} (f : X → Option Y) (xs : List X) (i : ℕ) (x : X) → slice_get xs i ≡ Some x → filter_map f (take (i + 1) xs) ≡ filter_map f (take i xs) ++ filter_map f (x ∷ [])
+pub filter_map_more : {X Y : Type 0} (f : X → Option Y) (xs : List X) (i : ℕ) (x : X) → slice_get xs i ≡ Some x
+    → filter_map f (take (i + 1) xs) ≡ filter_map f (take i xs) ++ filter_map f (x ∷ [])
 filter_map_more f xs i x at =
     let within = slice_get_within xs i x at in
     rw (take_more xs i x within, get_or_from_slice_get xs i x x at) (filter_map-append f (take i xs) (x ∷ []))

@@ -11,7 +11,8 @@ use Rattle.iscsi_login.specs.Number.{is_digit, numeral, within}
 
 all_digits : (radix : ℕ) (ds : List ℕ) → list_all (is_digit radix) ds ≡ true → AllDigits radix ds
 all_digits radix [] e = tt
-all_digits radix (d ∷ ds) e = let p = and_parts (is_digit radix d) (list_all (is_digit radix) ds) e in (ltb-true (digit_value d) radix p.0, all_digits radix ds p.1)
+all_digits radix (d ∷ ds) e = let p = and_parts (is_digit radix d) (list_all (is_digit radix) ds) e in
+    (ltb-true (digit_value d) radix p.0, all_digits radix ds p.1)
 
 list_all_digits : (radix : ℕ) (ds : List ℕ) → AllDigits radix ds → list_all (is_digit radix) ds ≡ true
 list_all_digits radix [] all = refl
@@ -27,7 +28,8 @@ beyond_all n ge = rw (le-leb 0 n (omega arith), lt-leb n 0xFFFFFFFF (omega arith
 pub numeral_read : {E : Type 0} (radix : ℕ) (ds : List ℕ) (r : Result ℕ E) → get_or ds 0 0 ≢ 43 → ParsesUnsigned 32 radix ds r
     → result_ok r ≡ option_and_then (within 0 0xFFFFFFFF) (numeral radix ds)
 unfolding numeral
-numeral_read {E} radix ds r unsigned reads = by_form (ltb 0 (length ds) && list_all (is_digit radix) ds) refl r (rw (without_leading_plus_none ds unsigned) at reads)
+numeral_read {E} radix ds r unsigned reads = by_form (ltb 0 (length ds) && list_all (is_digit radix) ds) refl r
+    (rw (without_leading_plus_none ds unsigned) at reads)
   where
     is_numeral : (ltb 0 (length ds) && list_all (is_digit radix) ds) ≡ true → IsNumeral radix ds
     is_numeral e = let p = and_parts (ltb 0 (length ds)) (list_all (is_digit radix) ds) e in (ltb-true 0 (length ds) p.0, all_digits radix ds p.1)
@@ -35,7 +37,8 @@ numeral_read {E} radix ds r unsigned reads = by_form (ltb 0 (length ds) && list_
     is_form : IsNumeral radix ds → (ltb 0 (length ds) && list_all (is_digit radix) ds) ≡ true
     is_form h = rw (lt-ltb 0 (length ds) h.0, list_all_digits radix ds h.1) refl
 
-    by_form : (t : Bool) → (ltb 0 (length ds) && list_all (is_digit radix) ds) ≡ t → (r : Result ℕ E) → OkIff r (IsNumeral radix ds × (digits_value radix ds < 2 ^ 32)) (digits_value radix ds)
+    by_form : (t : Bool) → (ltb 0 (length ds) && list_all (is_digit radix) ds) ≡ t → (r : Result ℕ E)
+        → OkIff r (IsNumeral radix ds × (digits_value radix ds < 2 ^ 32)) (digits_value radix ds)
         → result_ok r ≡ option_and_then (within 0 0xFFFFFFFF) (cond t (Some (digits_value radix ds)) None)
     by_form true e (Ok n) reads = ap (λ v. Some v) reads.1 ∙ sym (within_all (digits_value radix ds) reads.0.1)
     by_form true e (Err x) reads = sym (beyond_all (digits_value radix ds) (λ lt. reads (is_numeral e, lt)))

@@ -46,7 +46,8 @@ min_result (Some m) n some e =
     let least = some m refl in
     (omega (arith, least, is), omega (arith, is))
 
-burst_by : (b : Bool) (offer : List ℕ) (n : ℕ) → cond b results.NoAnswer (number_result (min 262144) (number_in 512 16777215 offer)) ≡ results.Number n → (512 ≤ n) × (n ≤ 262144)
+burst_by : (b : Bool) (offer : List ℕ) (n : ℕ) → cond b results.NoAnswer (number_result (min 262144) (number_in 512 16777215 offer))
+    ≡ results.Number n → (512 ≤ n) × (n ≤ 262144)
 burst_by true offer n e = absurd cc
 burst_by false offer n e = min_result (number_in 512 16777215 offer) n (λ m is. (number_within 512 16777215 m offer is).0) e
 
@@ -64,10 +65,15 @@ boolean_stays key value values was = by_key (bytes_eq key (codes "InitialR2T")) 
     by_key false true = record { segment = was.segment; burst = was.burst; longest_burst = was.longest_burst }
     by_key false false = was
 
-number_stays : (key : List ℕ) (value : ℕ) (values : Values) → (bytes_eq key (codes "MaxBurstLength") ≡ true → (512 ≤ value) × (value ≤ 262144)) → AreInRange values → AreInRange (with_number key value values)
-number_stays key value values fits was = by_key (bytes_eq key (codes "MaxBurstLength")) (bytes_eq key (codes "FirstBurstLength")) (bytes_eq key (codes "DefaultTime2Wait")) (bytes_eq key (codes "DefaultTime2Retain")) (bytes_eq key (codes "MaxOutstandingR2T")) refl
+number_stays : (key : List ℕ) (value : ℕ) (values : Values) → (bytes_eq key (codes "MaxBurstLength") ≡ true → (512 ≤ value) × (value ≤ 262144))
+    → AreInRange values → AreInRange (with_number key value values)
+number_stays key value values fits was = by_key (bytes_eq key (codes "MaxBurstLength")) (bytes_eq key (codes "FirstBurstLength"))
+    (bytes_eq key (codes "DefaultTime2Wait")) (bytes_eq key (codes "DefaultTime2Retain")) (bytes_eq key (codes "MaxOutstandingR2T")) refl
   where
-    by_key : (a b d e f : Bool) → bytes_eq key (codes "MaxBurstLength") ≡ a → AreInRange (cond a (record values { max_burst_length = value }) (cond b (record values { first_burst_length = value }) (cond d (record values { default_time2wait = value }) (cond e (record values { default_time2retain = value }) (cond f (record values { max_outstanding_r2t = value }) values)))))
+    by_key : (a b d e f : Bool) → bytes_eq key (codes "MaxBurstLength") ≡ a
+        → AreInRange (cond a (record values { max_burst_length = value })
+        (cond b (record values { first_burst_length = value }) (cond d (record values { default_time2wait = value })
+        (cond e (record values { default_time2retain = value }) (cond f (record values { max_outstanding_r2t = value }) values)))))
     by_key true b d e f is = record { segment = was.segment; burst = (fits is).0; longest_burst = (fits is).1 }
     by_key false true d e f is = record { segment = was.segment; burst = was.burst; longest_burst = was.longest_burst }
     by_key false false true e f is = record { segment = was.segment; burst = was.burst; longest_burst = was.longest_burst }
@@ -75,11 +81,13 @@ number_stays key value values fits was = by_key (bytes_eq key (codes "MaxBurstLe
     by_key false false false false true is = record { segment = was.segment; burst = was.burst; longest_burst = was.longest_burst }
     by_key false false false false false is = was
 
-result_stays : (key offer : List ℕ) (result : KeyResult) (values : Values) → settled key offer ≡ result → AreInRange values → AreInRange (with_result key result values)
+result_stays : (key offer : List ℕ) (result : KeyResult) (values : Values) → settled key offer ≡ result → AreInRange values
+    → AreInRange (with_result key result values)
 unfolding with_result
 result_stays key offer (results.Boolean value) values e was = boolean_stays key value values was
 result_stays key offer (results.Number value) values e was =
-    number_stays key value values (λ same. burst_settled offer value (ap (λ (k : List ℕ). settled k offer) (sym ((bytes_eq-Decides key (codes "MaxBurstLength")).0 same)) ∙ e)) was
+    number_stays key value values (λ same. burst_settled offer value (ap (λ (k : List ℕ). settled k offer)
+    (sym ((bytes_eq-Decides key (codes "MaxBurstLength")).0 same)) ∙ e)) was
 result_stays key offer results.NoAnswer values e was = was
 result_stays key offer (results.Word word) values e was = was
 
@@ -87,8 +95,15 @@ pair_stays : (values : Values) (pair : Pair) → AreInRange values → AreInRang
 unfolding with_pair
 pair_stays values pair was = by_key (is_segment_key pair.0)
   where
-    by_key : (a : Bool) → AreInRange (cond a (record values { max_recv_data_segment_length = segment_in pair.1 values.max_recv_data_segment_length }) (with_result pair.0 (settled pair.0 pair.1) values))
-    by_key true = record { segment = segment_stays pair.1 values.max_recv_data_segment_length was.segment; burst = was.burst; longest_burst = was.longest_burst }
+    by_key : (a : Bool) → AreInRange (cond a (record values {
+      max_recv_data_segment_length =
+          segment_in pair.1 values.max_recv_data_segment_length;
+    }) (with_result pair.0 (settled pair.0 pair.1) values))
+    by_key true = record {
+      segment = segment_stays pair.1 values.max_recv_data_segment_length was.segment;
+      burst = was.burst;
+      longest_burst = was.longest_burst;
+    }
     by_key false = result_stays pair.0 pair.1 (settled pair.0 pair.1) values refl was
 
 pub pairs_stay : (values : Values) (pairs : List Pair) → AreInRange values → AreInRange (with_pairs values pairs)
@@ -103,16 +118,19 @@ begins_in_range values (Refused answer) is was = tt
 begins_in_range values (Full answer params) is was = subst AreInRange (sym is) was
 
 -- the request brought no pairs, or these
-pub range_kept : (old middle new : Values) (reply : Reply) → middle ≡ old → new ≡ middle → BeginsWith middle reply → AreInRange old → AreInRange new × BeginsInRange reply
+pub range_kept : (old middle new : Values) (reply : Reply) → middle ≡ old → new ≡ middle → BeginsWith middle reply → AreInRange old → AreInRange new
+    × BeginsInRange reply
 range_kept old middle new reply same then_ begins was =
     let now = subst AreInRange (sym same) was in
     (subst AreInRange (sym then_) now, begins_in_range middle reply begins now)
 
-pub range_heard : (old middle new : Values) (pairs : List Pair) (reply : Reply) → middle ≡ with_pairs old pairs → new ≡ middle → BeginsWith middle reply → AreInRange old → AreInRange new × BeginsInRange reply
+pub range_heard : (old middle new : Values) (pairs : List Pair) (reply : Reply) → middle ≡ with_pairs old pairs → new ≡ middle
+    → BeginsWith middle reply → AreInRange old → AreInRange new × BeginsInRange reply
 range_heard old middle new pairs reply same then_ begins was =
     let now = subst AreInRange (sym same) (pairs_stay old pairs was) in
     (subst AreInRange (sym then_) now, begins_in_range middle reply begins now)
 
-pub heard_values : (names : List (List ℕ)) (old middle : LoginState) (header : List ℕ) (pairs : List Pair) → middle ≡ heard names old header pairs → middle.values ≡ with_pairs old.values pairs
+pub heard_values : (names : List (List ℕ)) (old middle : LoginState) (header : List ℕ) (pairs : List Pair) → middle ≡ heard names old header pairs
+    → middle.values ≡ with_pairs old.values pairs
 unfolding heard
 heard_values names old middle header pairs e = ap (λ (login : LoginState). login.values) e

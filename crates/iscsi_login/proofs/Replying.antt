@@ -13,7 +13,8 @@ by_refusal : (login : LoginState) (lookup : Lookup) (request : Frame) (refusal :
 unfolding reply_of
 by_refusal login lookup request refusal e = sym (ap (λ (r : Option LoginRefusal). reply_unless r lookup login request) e)
 
-by_brought : (login middle : LoginState) (lookup : Lookup) (request : Frame) → refusal_of login lookup request ≡ None → brought lookup.names login request ≡ middle
+by_brought : (login middle : LoginState) (lookup : Lookup) (request : Frame) → refusal_of login lookup request ≡ None
+    → brought lookup.names login request ≡ middle
     → reply_to middle request ≡ reply_of login lookup request
 unfolding reply_of
 by_brought login middle lookup request e is =
@@ -32,19 +33,25 @@ unfolding refusal_of
 replies_piece login lookup request taken due = by_brought login login lookup request (rw (taken, due) refl) (rw due refl)
 
 -- the text goes on
-pub replies_kept : (login middle : LoginState) (lookup : Lookup) (request : Frame) → request_refusal login request ≡ None → is_due login ≡ false → is_continued request.header ≡ true
+pub replies_kept : (login middle : LoginState) (lookup : Lookup) (request : Frame) → request_refusal login request ≡ None → is_due login ≡ false
+    → is_continued request.header ≡ true
     → middle ≡ kept_with login request → reply_to middle request ≡ reply_of login lookup request
 unfolding refusal_of
-replies_kept login middle lookup request taken due continued is = by_brought login middle lookup request (rw (taken, due, continued) refl) (rw (due, continued) (sym is))
+replies_kept login middle lookup request taken due continued is = by_brought login middle lookup request (rw (taken, due, continued) refl)
+    (rw (due, continued) (sym is))
 
 -- the text is whole
-pub replies_heard : (login middle : LoginState) (lookup : Lookup) (request : Frame) → request_refusal login request ≡ None → is_due login ≡ false → is_continued request.header ≡ false
-    → text_refusal login lookup request ≡ None → middle ≡ heard lookup.names login request.header (pairs_with login request) → reply_to middle request ≡ reply_of login lookup request
+pub replies_heard : (login middle : LoginState) (lookup : Lookup) (request : Frame) → request_refusal login request ≡ None → is_due login ≡ false
+    → is_continued request.header ≡ false
+    → text_refusal login lookup request ≡ None → middle ≡ heard lookup.names login request.header (pairs_with login request)
+    → reply_to middle request ≡ reply_of login lookup request
 unfolding refusal_of
-replies_heard login middle lookup request taken due whole read is = by_brought login middle lookup request (rw (taken, due, whole) read) (rw (due, whole) (sym is))
+replies_heard login middle lookup request taken due whole read is = by_brought login middle lookup request (rw (taken, due, whole) read)
+    (rw (due, whole) (sym is))
 
 -- and is refused
-pub replies_refused_text : (login : LoginState) (lookup : Lookup) (request : Frame) (refusal : LoginRefusal) → request_refusal login request ≡ None → is_due login ≡ false → is_continued request.header ≡ false
+pub replies_refused_text : (login : LoginState) (lookup : Lookup) (request : Frame) (refusal : LoginRefusal) → request_refusal login request ≡ None
+    → is_due login ≡ false → is_continued request.header ≡ false
     → text_refusal login lookup request ≡ Some refusal → refused_reply login request refusal ≡ reply_of login lookup request
 unfolding refusal_of
 replies_refused_text login lookup request refusal taken due whole refused = by_refusal login lookup request refusal (rw (taken, due, whole) refused)

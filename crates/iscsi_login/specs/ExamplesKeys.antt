@@ -22,15 +22,18 @@ unfolding computed
 numbers = refl
 
 -- a leading zero, a sign, a blank, a letter, 0x alone, nothing, 0x behind a zero
-no_numbers : map number_of (codes "0512" ∷ codes "00" ∷ codes "+512" ∷ codes "-1" ∷ codes " 512" ∷ codes "512 " ∷ codes "51k" ∷ codes "ff" ∷ codes "0x" ∷ codes "0xg" ∷ codes "0x+1" ∷ codes "00x1" ∷ [] ∷ [])
+no_numbers : map number_of (codes "0512" ∷ codes "00" ∷ codes "+512" ∷ codes "-1" ∷ codes " 512" ∷ codes "512 " ∷ codes "51k" ∷ codes "ff" ∷ codes
+    "0x" ∷ codes "0xg" ∷ codes "0x+1" ∷ codes "00x1" ∷ [] ∷ [])
     ≡ None ∷ None ∷ None ∷ None ∷ None ∷ None ∷ None ∷ None ∷ None ∷ None ∷ None ∷ None ∷ None ∷ []
 unfolding computed
 no_numbers = refl
 
 -- ---- lists (RFC 7143 §12.1, §13.1, §13.23)
 
-authentication : answers_to (codes "AuthMethod") (codes "None" ∷ codes "CHAP,None" ∷ codes "None,CHAP" ∷ codes "CHAP" ∷ codes "none" ∷ codes "None " ∷ codes "NoneCHAP" ∷ [] ∷ [])
-    ≡ Some (codes "None") ∷ Some (codes "None") ∷ Some (codes "None") ∷ Some (codes "Reject") ∷ Some (codes "Reject") ∷ Some (codes "Reject") ∷ Some (codes "Reject") ∷ Some (codes "Reject") ∷ []
+authentication : answers_to (codes "AuthMethod") (codes "None" ∷ codes "CHAP,None" ∷ codes "None,CHAP" ∷ codes "CHAP" ∷ codes "none" ∷ codes
+    "None " ∷ codes "NoneCHAP" ∷ [] ∷ [])
+    ≡ Some (codes "None") ∷ Some (codes "None") ∷ Some (codes "None") ∷ Some (codes "Reject") ∷ Some (codes "Reject") ∷ Some (codes "Reject") ∷ Some
+    (codes "Reject") ∷ Some (codes "Reject") ∷ []
 unfolding computed
 authentication = refl
 
@@ -51,8 +54,10 @@ connections : answers_to (codes "MaxConnections") (codes "0" ∷ codes "1" ∷ c
 unfolding computed
 connections = refl
 
-max_burst : answers_to (codes "MaxBurstLength") (codes "511" ∷ codes "512" ∷ codes "0x200" ∷ codes "262143" ∷ codes "262144" ∷ codes "262145" ∷ codes "16777215" ∷ codes "16777216" ∷ codes "0512" ∷ [])
-    ≡ Some (codes "Reject") ∷ Some (codes "512") ∷ Some (codes "512") ∷ Some (codes "262143") ∷ Some (codes "262144") ∷ Some (codes "262144") ∷ Some (codes "262144") ∷ Some (codes "Reject") ∷ Some (codes "Reject") ∷ []
+max_burst : answers_to (codes "MaxBurstLength") (codes "511" ∷ codes "512" ∷ codes "0x200" ∷ codes "262143" ∷ codes "262144" ∷ codes
+    "262145" ∷ codes "16777215" ∷ codes "16777216" ∷ codes "0512" ∷ [])
+    ≡ Some (codes "Reject") ∷ Some (codes "512") ∷ Some (codes "512") ∷ Some (codes "262143") ∷ Some (codes "262144") ∷ Some (codes "262144") ∷ Some
+    (codes "262144") ∷ Some (codes "Reject") ∷ Some (codes "Reject") ∷ []
 unfolding computed
 max_burst = refl
 
@@ -93,8 +98,10 @@ immediate_data : answers_to (codes "ImmediateData") (codes "Yes" ∷ codes "No" 
 unfolding computed
 immediate_data = refl
 
-in_order : (answers_to (codes "DataPDUInOrder") (codes "Yes" ∷ codes "No" ∷ codes "on" ∷ []) ≡ Some (codes "Yes") ∷ Some (codes "Yes") ∷ Some (codes "Reject") ∷ [])
-    × (answers_to (codes "DataSequenceInOrder") (codes "Yes" ∷ codes "No" ∷ codes "on" ∷ []) ≡ Some (codes "Yes") ∷ Some (codes "Yes") ∷ Some (codes "Reject") ∷ [])
+in_order : (answers_to (codes "DataPDUInOrder") (codes "Yes" ∷ codes "No" ∷ codes "on" ∷ [])
+    ≡ Some (codes "Yes") ∷ Some (codes "Yes") ∷ Some (codes "Reject") ∷ [])
+    × (answers_to (codes "DataSequenceInOrder") (codes "Yes" ∷ codes "No" ∷ codes "on" ∷ [])
+    ≡ Some (codes "Yes") ∷ Some (codes "Yes") ∷ Some (codes "Reject") ∷ [])
 unfolding computed
 in_order = (refl, refl)
 
@@ -109,7 +116,8 @@ markers = (refl, refl, refl, refl)
 
 -- ---- declarations, and what a target alone says
 
-declared : map (λ key. key_result key (codes "8192")) (codes "InitiatorName" ∷ codes "InitiatorAlias" ∷ codes "TargetName" ∷ codes "SessionType" ∷ codes "MaxRecvDataSegmentLength" ∷ [])
+declared : map (λ key. key_result key (codes "8192")) (codes "InitiatorName" ∷ codes "InitiatorAlias" ∷ codes "TargetName" ∷ codes
+    "SessionType" ∷ codes "MaxRecvDataSegmentLength" ∷ [])
     ≡ None ∷ None ∷ None ∷ None ∷ None ∷ []
 unfolding computed
 declared = refl

@@ -26,7 +26,9 @@ use Rattle.iscsi_login.specs.declared.values.Values.{Values}
 
 -- what the examples unfold
 unfoldable pub computed : Bool
-unfolding keys_computed is_utf8 chars lib.Utf8.encode text_pairs pieces own_fault target_named with_result with_pair said is_normal is_name_key is_segment_refused pairs_with asked_for first_refusal text_refusal is_other_session interrupts is_too_long request_refusal refusal_of answer_pairs heard advanced remembered login_stamp login_response params_of reply_to reply_of
+unfolding keys_computed is_utf8 chars lib.Utf8.encode text_pairs pieces own_fault target_named with_result with_pair said is_normal is_name_key
+    is_segment_refused pairs_with asked_for first_refusal text_refusal is_other_session interrupts is_too_long request_refusal refusal_of
+    answer_pairs heard advanced remembered login_stamp login_response params_of reply_to reply_of
 computed = true
 
 -- ---- requests (RFC 7143 §11.12)
@@ -132,9 +134,11 @@ unfolding computed
 at_once = refl
 
 -- with keys: results in the order of the offers; a rejected number leaves the default in force
-with_keys : replied [] (request operational_to_full (names ++ pair (codes "AuthMethod=CHAP,None") ++ pair (codes "IFMarker=No") ++ pair (codes "X-a=b") ++ pair (codes "MaxBurstLength=100")))
+with_keys : replied [] (request operational_to_full (names ++ pair (codes "AuthMethod=CHAP,None") ++ pair (codes "IFMarker=No")
+    ++ pair (codes "X-a=b") ++ pair (codes "MaxBurstLength=100")))
     ≡ Begun (Text stages.OperationalNegotiation (steps.Enters stages.FullFeaturePhase) 1 (0 ∷ 9 ∷ 40 ∷ [])
-    (tag ++ pair (codes "AuthMethod=None") ++ pair (codes "IFMarker=No") ++ pair (codes "X-a=NotUnderstood") ++ pair (codes "MaxBurstLength=Reject") ++ segment)) (begun 1 default_values)
+    (tag ++ pair (codes "AuthMethod=None") ++ pair (codes "IFMarker=No") ++ pair (codes "X-a=NotUnderstood") ++ pair (codes "MaxBurstLength=Reject")
+    ++ segment)) (begun 1 default_values)
 unfolding computed
 with_keys = refl
 
@@ -148,7 +152,8 @@ unfolding computed
 security_first = refl
 
 then_operational : replied (first_of_two ∷ []) (request operational_to_full (pair (codes "InitialR2T=No")))
-    ≡ Begun (Text stages.OperationalNegotiation (steps.Enters stages.FullFeaturePhase) 1 (1 ∷ 9 ∷ 40 ∷ []) (pair (codes "InitialR2T=No") ++ segment)) (begun 2 (record default_values { initial_r2t = false }))
+    ≡ Begun (Text stages.OperationalNegotiation (steps.Enters stages.FullFeaturePhase) 1 (1 ∷ 9 ∷ 40 ∷ []) (pair (codes "InitialR2T=No")
+    ++ segment)) (begun 2 (record default_values { initial_r2t = false }))
 unfolding computed
 then_operational = refl
 
@@ -172,11 +177,22 @@ unfolding computed
 declared_once = refl
 
 -- all values in force
-all_values : replied [] (request operational_to_full (names ++ pair (codes "MaxRecvDataSegmentLength=0x10000") ++ pair (codes "ImmediateData=No") ++ pair (codes "MaxBurstLength=16776192") ++ pair (codes "FirstBurstLength=8192")
+all_values : replied [] (request operational_to_full (names ++ pair (codes "MaxRecvDataSegmentLength=0x10000") ++ pair (codes "ImmediateData=No")
+    ++ pair (codes "MaxBurstLength=16776192") ++ pair (codes "FirstBurstLength=8192")
     ++ pair (codes "DefaultTime2Wait=5") ++ pair (codes "DefaultTime2Retain=0") ++ pair (codes "MaxOutstandingR2T=8")))
-    ≡ Begun (Text stages.OperationalNegotiation (steps.Enters stages.FullFeaturePhase) 1 (0 ∷ 9 ∷ 40 ∷ []) (tag ++ pair (codes "ImmediateData=No") ++ pair (codes "MaxBurstLength=262144") ++ pair (codes "FirstBurstLength=8192")
+    ≡ Begun (Text stages.OperationalNegotiation (steps.Enters stages.FullFeaturePhase) 1 (0 ∷ 9 ∷ 40 ∷ []) (tag ++ pair (codes "ImmediateData=No")
+    ++ pair (codes "MaxBurstLength=262144") ++ pair (codes "FirstBurstLength=8192")
     ++ pair (codes "DefaultTime2Wait=5") ++ pair (codes "DefaultTime2Retain=0") ++ pair (codes "MaxOutstandingR2T=1") ++ segment))
-    (begun 1 (record { initial_r2t = true; immediate_data = false; max_recv_data_segment_length = 65536; max_burst_length = 262144; first_burst_length = 8192; default_time2wait = 5; default_time2retain = 0; max_outstanding_r2t = 1 }))
+    (begun 1 (record {
+      initial_r2t = true;
+      immediate_data = false;
+      max_recv_data_segment_length = 65536;
+      max_burst_length = 262144;
+      first_burst_length = 8192;
+      default_time2wait = 5;
+      default_time2retain = 0;
+      max_outstanding_r2t = 1;
+    }))
 unfolding computed
 all_values = refl
 
@@ -197,7 +213,8 @@ joined_text = refl
 
 -- a text is not joined across a whole answer
 not_joined : replied (request operational (names ++ pair (codes "X-a=b")) ∷ []) (request operational_to_full (pair (codes "c=d")))
-    ≡ Begun (Text stages.OperationalNegotiation (steps.Enters stages.FullFeaturePhase) 1 (1 ∷ 9 ∷ 40 ∷ []) (pair (codes "c=NotUnderstood"))) (begun 2 default_values)
+    ≡ Begun (Text stages.OperationalNegotiation (steps.Enters stages.FullFeaturePhase) 1 (1 ∷ 9 ∷ 40 ∷ []) (pair (codes "c=NotUnderstood")))
+    (begun 2 default_values)
 unfolding computed
 not_joined = refl
 
@@ -215,7 +232,8 @@ above_the_limit = refl
 
 -- ---- refusals
 
-missing : map (λ text. replied [] (request operational_to_full text)) ([] ∷ pair (codes "TargetName=t1") ∷ pair (codes "InitiatorName=a") ∷ (pair (codes "InitiatorName=") ++ pair (codes "TargetName=t1")) ∷ [])
+missing : map (λ text. replied [] (request operational_to_full text)) ([] ∷ pair (codes "TargetName=t1") ∷ pair
+    (codes "InitiatorName=a") ∷ (pair (codes "InitiatorName=") ++ pair (codes "TargetName=t1")) ∷ [])
     ≡ replicate 4 (refused_by refusals.MissingParameter 0)
 unfolding computed
 missing = refl
@@ -225,7 +243,9 @@ unfolding computed
 not_found = refl
 
 -- a session that is not Normal; a length of a segment that is none; a text out of form
-in_error : map (λ text. replied [] (request operational_to_full text)) ((names ++ pair (codes "SessionType=Discovery")) ∷ (names ++ pair (codes "SessionType=")) ∷ (names ++ pair (codes "MaxRecvDataSegmentLength=511")) ∷ (names ++ pair (codes "MaxRecvDataSegmentLength=0512")) ∷ (names ++ codes "a=b") ∷ [])
+in_error : map (λ text. replied [] (request operational_to_full text))
+    ((names ++ pair (codes "SessionType=Discovery")) ∷ (names ++ pair (codes "SessionType=")) ∷ (names
+    ++ pair (codes "MaxRecvDataSegmentLength=511")) ∷ (names ++ pair (codes "MaxRecvDataSegmentLength=0512")) ∷ (names ++ codes "a=b") ∷ [])
     ≡ replicate 5 error
 unfolding computed
 in_error = refl
@@ -254,11 +274,13 @@ version = refl
 abbrev after_keys : List ℕ → Seen
 after_keys text = replied (request operational (names ++ pair (codes "InitialR2T=No") ++ pair (codes "X-a=Reject")) ∷ []) (request operational_to_full text)
 
-again : map after_keys (pair (codes "InitialR2T=No") ∷ pair (codes "InitialR2T=Yes") ∷ pair (codes "X-a=b") ∷ pair (codes "TargetName=t2") ∷ []) ≡ replicate 4 (refused_by refusals.InitiatorError 1)
+again : map after_keys (pair (codes "InitialR2T=No") ∷ pair (codes "InitialR2T=Yes") ∷ pair (codes "X-a=b") ∷ pair (codes "TargetName=t2") ∷ [])
+    ≡ replicate 4 (refused_by refusals.InitiatorError 1)
 unfolding computed
 again = refl
 
-name_again : after_keys names ≡ Begun (Text stages.OperationalNegotiation (steps.Enters stages.FullFeaturePhase) 1 (1 ∷ 9 ∷ 40 ∷ []) []) (begun 2 (record default_values { initial_r2t = false }))
+name_again : after_keys names ≡ Begun (Text stages.OperationalNegotiation (steps.Enters stages.FullFeaturePhase) 1 (1 ∷ 9 ∷ 40 ∷ []) [])
+    (begun 2 (record default_values { initial_r2t = false }))
 unfolding computed
 name_again = refl
 
@@ -306,6 +328,7 @@ unfolding computed
 last_piece_stays = refl
 
 -- a piece that is due is met by text, or by C
-piece_met : map (then_asked 1) (request operational (pair (codes "a=b")) ∷ request operational_continued [] ∷ []) ≡ replicate 2 (refused_by refusals.InitiatorError 1)
+piece_met : map (then_asked 1) (request operational (pair (codes "a=b")) ∷ request operational_continued [] ∷ [])
+    ≡ replicate 2 (refused_by refusals.InitiatorError 1)
 unfolding computed
 piece_met = refl

@@ -164,7 +164,8 @@ reply_with response login header (Some session) = Full response (params_of login
 unfoldable pub reply_to : LoginState → Frame → Reply
 reply_to login request =
     let step = step_of request.header login.due in
-    reply_with (login_response login request (handle_with login request.header step) (accepted request.header login.due)) login request.header (begun_by login step)
+    reply_with (login_response login request (handle_with login request.header step) (accepted request.header login.due)) login request.header
+    (begun_by login step)
 
 abbrev pub refused_reply : LoginState → Frame → LoginRefusal → Reply
 refused_reply login request refusal = Refused (login_response login request (tsih request.header) (replies.Refused refusal))

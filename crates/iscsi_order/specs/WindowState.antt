@@ -36,7 +36,12 @@ with_key n key w = if is_vacant w n then record w { keys = slice_set w.keys (dis
 
 -- the next number is handed over, where it has come
 abbrev pub turned : WindowKeys → WindowKeys
-turned w = if is_some (slice_index_or w.keys 0 None) then record { next = (w.next + 1) % 2 ^ 32; unfinished = w.unfinished + 1; keys = drop 1 w.keys ++ None ∷ [] } else w
+turned w = if is_some (slice_index_or w.keys 0 None) then record {
+  next = (w.next + 1) % 2 ^ 32;
+  unfinished = w.unfinished + 1;
+  keys = drop 1 w.keys
+      ++ None ∷ [];
+} else w
 
 -- as many as are unfinished, the last numbers are outside the window, and none of them is held
 pub record IsWithin (unfinished : ℕ) (held : List Bool) : Type 0 where

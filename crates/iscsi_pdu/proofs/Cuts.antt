@@ -90,7 +90,14 @@ pieces_step : (a b : List ℕ) → has_frame a ≡ true → InPieces (drop (fram
 pieces_step a b there behind =
     let both = has_frame-append a b there in
     record {
-      frames_same = rw (frames_step (a ++ b) both, frames_step a there, rest_step a there, first_frame-append a b there, behind-append a b there, behind.frames_same) refl;
+      frames_same = rw (
+        frames_step (a ++ b) both,
+        frames_step a there,
+        rest_step a there,
+        first_frame-append a b there,
+        behind-append a b there,
+        behind.frames_same,
+      ) refl;
       rest_same = rw (rest_step (a ++ b) both, rest_step a there, behind-append a b there, behind.rest_same) refl;
     }
 
@@ -117,10 +124,15 @@ additional_length-take bytes = ap (λ (n : ℕ). 4 * n) (get_or-take header_leng
 
 data_length-take : (bytes : List ℕ) → data_length (take header_length bytes) ≡ data_length bytes
 data_length-take bytes =
-    rw (get_or-take header_length bytes 5 0 (omega arith), get_or-take header_length bytes 6 0 (omega arith), get_or-take header_length bytes 7 0 (omega arith)) refl
+    rw (
+      get_or-take header_length bytes 5 0 (omega arith),
+      get_or-take header_length bytes 6 0 (omega arith),
+      get_or-take header_length bytes 7 0 (omega arith),
+    ) refl
 
 -- a front in four parts, one behind the other
-take_parts : (a b c d : ℕ) (bytes : List ℕ) → take (a + b + c + d) bytes ≡ take a bytes ++ (take b (drop a bytes) ++ (take c (drop (a + b) bytes) ++ take d (drop (a + b + c) bytes)))
+take_parts : (a b c d : ℕ) (bytes : List ℕ) → take (a + b + c + d) bytes ≡ take a bytes
+    ++ (take b (drop a bytes) ++ (take c (drop (a + b) bytes) ++ take d (drop (a + b + c) bytes)))
 take_parts a b c d bytes =
     rw (take-add (a + b + c) d bytes, take-add (a + b) c bytes, take-add a b bytes) (simp append_assoc)
 
@@ -138,7 +150,8 @@ front_spells bytes there =
       padding = take (padded n - n) (drop (start + n) bytes);
       spelled = rw sum (take_parts header_length (additional_length bytes) n (padded n - n) bytes);
       header_is_whole = length-take-le header_length bytes f.header;
-      additional_is_whole = length-take-le (additional_length bytes) (drop header_length bytes) (omega (arith, length-drop header_length bytes)) ∙ sym (additional_length-take bytes);
+      additional_is_whole = length-take-le (additional_length bytes) (drop header_length bytes) (omega (arith, length-drop header_length bytes))
+          ∙ sym (additional_length-take bytes);
       body_is_whole = body-len ∙ sym (data_length-take bytes);
       body_is_taken = rw body-len f.taken;
       padding_is_whole = rw body-len (omega (arith, length-take-le (padded n - n) (drop (start + n) bytes) (omega (arith, length-drop (start + n) bytes))));
@@ -148,7 +161,8 @@ cut_none : (bytes : List ℕ) → has_frame bytes ≡ false → IsCut bytes (fra
 cut_none bytes none =
     rw (frames_none bytes none, rest_none bytes none) (record { whole = []; spelled = refl; joined = refl; ended = none })
 
-cut_step : (bytes : List ℕ) → has_frame bytes ≡ true → IsCut (drop (frame_length bytes) bytes) (frames (drop (frame_length bytes) bytes)) (rest (drop (frame_length bytes) bytes)) → IsCut bytes (frames bytes) (rest bytes)
+cut_step : (bytes : List ℕ) → has_frame bytes ≡ true → IsCut (drop (frame_length bytes) bytes) (frames (drop (frame_length bytes) bytes))
+    (rest (drop (frame_length bytes) bytes)) → IsCut bytes (frames bytes) (rest bytes)
 cut_step bytes there behind =
     let front = take (frame_length bytes) bytes in
     let joined : bytes ≡ front ++ (behind.whole ++ rest (drop (frame_length bytes) bytes)) =
@@ -195,13 +209,22 @@ one_frame frame spelling s =
     let body-len : data_length spelling ≡ length frame.body =
     ap data_length s.spelled ∙ (data_length-append frame.header tail header-len ∙ sym s.body_is_whole) in
     let whole : length spelling ≡ header_length + length s.additional + padded (length frame.body) =
-    omega (arith, ap length s.spelled, length-append frame.header tail, length-append s.additional data_part, length-append frame.body s.padding, s.header_is_whole, s.padding_is_whole) in
+    omega (
+      arith,
+      ap length s.spelled,
+      length-append frame.header tail,
+      length-append s.additional data_part,
+      length-append frame.body s.padding,
+      s.header_is_whole,
+      s.padding_is_whole,
+    ) in
     let all : header_length + additional_length spelling + padded (data_length spelling) ≡ length spelling =
     rw (additional, body-len) (sym whole) in
     let header : take header_length spelling ≡ frame.header = rw s.spelled (take_at frame.header tail header_length s.header_is_whole) in
     let behind : drop (header_length + length s.additional) spelling ≡ data_part =
     rw (s.spelled, ← append_assoc frame.header s.additional data_part)
-    (drop_at (frame.header ++ s.additional) data_part (header_length + length s.additional) (omega (arith, length-append frame.header s.additional, s.header_is_whole))) in
+    (drop_at (frame.header ++ s.additional) data_part (header_length + length s.additional)
+    (omega (arith, length-append frame.header s.additional, s.header_is_whole))) in
     let body : take (length frame.body) data_part ≡ frame.body = take_at frame.body s.padding (length frame.body) refl in
     record {
       there = has_frame-from spelling (record { header = omega (arith, whole); taken = omega (arith, body-len, s.body_is_taken); whole = omega (arith, all) });

@@ -117,7 +117,8 @@ pub rest_none : (bytes : List ℕ) → has_frame bytes ≡ false → rest bytes 
 rest_none bytes none = rest-suc bytes ∙ rw none refl
 
 -- the same for a frame and the bytes behind it under other names
-pub frames_taken : (bytes after : List ℕ) (frame : Frame) → has_frame bytes ≡ true → first_frame bytes ≡ frame → after ≡ drop (frame_length bytes) bytes → frames bytes ≡ frame ∷ frames after
+pub frames_taken : (bytes after : List ℕ) (frame : Frame) → has_frame bytes ≡ true → first_frame bytes ≡ frame
+    → after ≡ drop (frame_length bytes) bytes → frames bytes ≡ frame ∷ frames after
 frames_taken bytes after frame there first behind = frames_step bytes there ∙ rw (first, behind) refl
 
 pub rest_taken : (bytes after : List ℕ) → has_frame bytes ≡ true → after ≡ drop (frame_length bytes) bytes → rest after ≡ rest bytes

@@ -19,4 +19,5 @@ behind r =
 
 pub login_response_header-isid : (r : LoginResponse) → login_response_header r ≡ front r ++ (r.isid ++ behind r)
 login_response_header-isid r =
-    between (front r) r.isid (big_bytes 2 r.tsih) (big_bytes 4 r.initiator_task_tag) (replicate 4 0) (stamp_bytes r.stamp) (big_bytes 2 (login_status r.reply)) (replicate 10 0)
+    between (front r) r.isid (big_bytes 2 r.tsih) (big_bytes 4 r.initiator_task_tag) (replicate 4 0) (stamp_bytes r.stamp)
+    (big_bytes 2 (login_status r.reply)) (replicate 10 0)

@@ -56,6 +56,7 @@ unfolding is_long
 too_long = (refl, refl)
 
 -- the frame ahead of a long one is a frame, and the long one stays behind it
-frame_ahead : (frames (header_naming 0 0 0 ++ header_naming 4 0 1) ≡ record { header = header_naming 0 0 0; body = [] } ∷ []) × (rest (header_naming 0 0 0 ++ header_naming 4 0 1) ≡ header_naming 4 0 1)
+frame_ahead : (frames (header_naming 0 0 0 ++ header_naming 4 0 1) ≡ record { header = header_naming 0 0 0; body = [] } ∷ [])
+    × (rest (header_naming 0 0 0 ++ header_naming 4 0 1) ≡ header_naming 4 0 1)
 unfolding frames rest has_frame frame_length first_frame
 frame_ahead = (refl, refl)

@@ -21,10 +21,12 @@ login_lengths : (additional_length login_header ≡ 0) × (data_length login_hea
 login_lengths = (refl, refl)
 
 -- from operational negotiation to the full feature phase
-login_stages : (is_transit login_header ≡ true) × (is_continued login_header ≡ false) × (current_stage login_header ≡ Some stages.OperationalNegotiation) × (next_stage login_header ≡ Some stages.FullFeaturePhase)
+login_stages : (is_transit login_header ≡ true) × (is_continued login_header ≡ false)
+    × (current_stage login_header ≡ Some stages.OperationalNegotiation) × (next_stage login_header ≡ Some stages.FullFeaturePhase)
 login_stages = (refl, refl, refl, refl)
 
-login_session : (version_min login_header ≡ 0) × (isid login_header ≡ 0x80 ∷ 0 ∷ 0 ∷ 0 ∷ 0 ∷ 1 ∷ []) × (tsih login_header ≡ 0) × (connection_id login_header ≡ 1)
+login_session : (version_min login_header ≡ 0) × (isid login_header ≡ 0x80 ∷ 0 ∷ 0 ∷ 0 ∷ 0 ∷ 1 ∷ []) × (tsih login_header ≡ 0)
+    × (connection_id login_header ≡ 1)
 login_session = (refl, refl, refl, refl)
 
 login_numbers : (initiator_task_tag login_header ≡ 1) × (cmd_sn login_header ≡ 123)
@@ -34,7 +36,8 @@ login_numbers = (refl, refl)
 continued_header : List ℕ
 continued_header = 0x03 ∷ 0x42 ∷ []
 
-continued_stages : (is_transit continued_header ≡ false) × (is_continued continued_header ≡ true) × (current_stage continued_header ≡ Some stages.SecurityNegotiation) × (next_stage continued_header ≡ None)
+continued_stages : (is_transit continued_header ≡ false) × (is_continued continued_header ≡ true)
+    × (current_stage continued_header ≡ Some stages.SecurityNegotiation) × (next_stage continued_header ≡ None)
 unfolding continued_header
 continued_stages = (refl, refl, refl, refl)
 

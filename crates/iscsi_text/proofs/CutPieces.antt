@@ -47,7 +47,13 @@ front text limit (suc n) =
     let f = piece_of (length text) limit in
     let whole : suc n * limit ≡ n * limit + limit = suc-mul n limit in
     ap (λ (m : ℕ). flat_map (part_of text) (map f (range_with_len 0 m))) (suc-eq-add-one n)
-    ∙ rw (map-range_with_len_more f 0 n n (zero-add n), flat_map-append (part_of text) (map f (range_with_len 0 n)) (f n ∷ []), front text limit n, whole, take-add (n * limit) limit text)
+    ∙ rw (
+      map-range_with_len_more f 0 n n (zero-add n),
+      flat_map-append (part_of text) (map f (range_with_len 0 n)) (f n ∷ []),
+      front text limit n,
+      whole,
+      take-add (n * limit) limit text,
+    )
     (ap (λ (x : List ℕ). take (n * limit) text ++ x) (append-nil (part_of text (f n)) ∙ front_more text limit n))
 
 pub pieces_are_joined : PiecesAreJoined

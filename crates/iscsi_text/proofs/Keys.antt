@@ -18,7 +18,8 @@ abbrev pub has_key_among : List Pair → List ℕ → Bool
 has_key_among pairs key = list_any (bytes_eq key) (map (λ pair. pair.0) pairs)
 
 bytes_eq-comm : (xs ys : List ℕ) → bytes_eq xs ys ≡ bytes_eq ys xs
-bytes_eq-comm xs ys = same_from_decides (bytes_eq xs ys) (bytes_eq ys xs) (bytes_eq-Decides xs ys) (Decides-like (bytes_eq ys xs) sym sym (bytes_eq-Decides ys xs))
+bytes_eq-comm xs ys = same_from_decides (bytes_eq xs ys) (bytes_eq ys xs) (bytes_eq-Decides xs ys)
+    (Decides-like (bytes_eq ys xs) sym sym (bytes_eq-Decides ys xs))
 
 list_any-push : {X : Type 0} (test : X → Bool) (xs : List X) (x : X) → list_any test (xs ++ x ∷ []) ≡ cond (test x) true (list_any test xs)
 list_any-push test [] x = go (test x)
@@ -41,4 +42,6 @@ pub keys_more : (old new : BTreeSet (Bor (List ℕ))) (key : Bor (List ℕ)) (pa
     → (q : Bor (List ℕ)) → holds_key new q ≡ has_key_among (pairs ++ (key.now, value) ∷ []) q.now
 keys_more old new key pairs value before update q =
     update.0 q
-    ∙ rw (is_eq-slice_cmp key.now q.now, before q, bytes_eq-comm key.now q.now) (sym (ap (list_any (bytes_eq q.now)) (map_push (λ (pair : Pair). pair.0) pairs (key.now, value)) ∙ list_any-push (bytes_eq q.now) (map (λ pair. pair.0) pairs) key.now))
+    ∙ rw (is_eq-slice_cmp key.now q.now, before q, bytes_eq-comm key.now q.now)
+    (sym (ap (list_any (bytes_eq q.now)) (map_push (λ (pair : Pair). pair.0) pairs (key.now, value))
+    ∙ list_any-push (bytes_eq q.now) (map (λ pair. pair.0) pairs) key.now))

@@ -7,10 +7,12 @@ use Rattle.std.proofs.lemmas.Option.{get_or_from_slice_get, slice_get_within}
 use Rattle.iscsi_text.specs.Pairs.{Pair, spelled, text_of, value_of}
 
 -- one more pair behind a text
-pub text_more : (pairs : List Pair) (at : ℕ) (pair : Pair) → slice_get pairs at ≡ Some pair → text_of (take (at + 1) pairs) ≡ text_of (take at pairs) ++ spelled pair
+pub text_more : (pairs : List Pair) (at : ℕ) (pair : Pair) → slice_get pairs at ≡ Some pair
+    → text_of (take (at + 1) pairs) ≡ text_of (take at pairs) ++ spelled pair
 text_more pairs at pair e =
     let within = slice_get_within pairs at pair e in
-    rw (take_more pairs at pair within, get_or_from_slice_get pairs at pair pair e) (flat_map-append spelled (take at pairs) (pair ∷ []) ∙ ap (λ (x : List ℕ). text_of (take at pairs) ++ x) (append-nil (spelled pair)))
+    rw (take_more pairs at pair within, get_or_from_slice_get pairs at pair pair e) (flat_map-append spelled (take at pairs) (pair ∷ [])
+    ∙ ap (λ (x : List ℕ). text_of (take at pairs) ++ x) (append-nil (spelled pair)))
 
 -- the pair at a place has the key, or the pairs behind it decide
 pub value_at : (key : List ℕ) (items : List Pair) (at : ℕ) (item : Pair) → at < length items → item ≡ get_or items at item

@@ -30,14 +30,16 @@ unfolding pieces
 pieces-nil = refl
 
 pieces_cut : (text : List ℕ) (end : ℕ) → position is_zero text ≡ Some end
-    → pieces text ≡ cond (ltb 0 (length (take end text))) (record { bytes = take end text; ended = true } ∷ pieces (drop (end + 1) text)) (pieces (drop (end + 1) text))
+    → pieces text ≡ cond (ltb 0 (length (take end text))) (record { bytes = take end text; ended = true } ∷ pieces (drop (end + 1) text))
+    (pieces (drop (end + 1) text))
 unfolding pieces
 pieces_cut text end e =
     let place = first_place is_zero text end e in
     rw (slice_split_first is_zero text 0 (omega arith), marked-cons (before_first is_zero text) (after_first is_zero text), place.0) refl
 
 -- a zero byte ends the first piece
-pub pieces_ended : (text : List ℕ) (end : ℕ) → position is_zero text ≡ Some end → 0 < length (take end text) → pieces text ≡ record { bytes = take end text; ended = true } ∷ pieces (drop (end + 1) text)
+pub pieces_ended : (text : List ℕ) (end : ℕ) → position is_zero text ≡ Some end → 0 < length (take end text)
+    → pieces text ≡ record { bytes = take end text; ended = true } ∷ pieces (drop (end + 1) text)
 pieces_ended text end e some = rw (pieces_cut text end e, lt-ltb 0 (length (take end text)) some) refl
 
 -- it is passed over, since it is empty
@@ -48,10 +50,15 @@ pieces_alone : (text : List ℕ) → position is_zero text ≡ None → 0 < leng
 unfolding pieces
 pieces_alone text e lt =
     let past = no_place is_zero text e in
-    rw (slice_split_none is_zero text (All-from_get_or (λ b. is_zero b ≡ false) text 0 (λ i in_text. fails_before_first is_zero text i 0 (omega arith))), lt-ltb 0 (length text) lt) refl
+    rw (
+      slice_split_none is_zero text (All-from_get_or (λ b. is_zero b ≡ false) text 0
+          (λ i in_text. fails_before_first is_zero text i 0 (omega arith))),
+      lt-ltb 0 (length text) lt,
+    ) refl
 
 -- no zero byte is there
-pub pieces_open : (text : List ℕ) → position is_zero text ≡ None → 0 < length text → pieces text ≡ record { bytes = text; ended = false } ∷ pieces (drop (length text) text)
+pub pieces_open : (text : List ℕ) → position is_zero text ≡ None → 0 < length text
+    → pieces text ≡ record { bytes = text; ended = false } ∷ pieces (drop (length text) text)
 pieces_open text e lt = pieces_alone text e lt ∙ rw (drop_all (length text) text (omega arith), pieces-nil) refl
 
 -- ---- what is read of pieces, behind the pairs that are there
@@ -66,11 +73,13 @@ pub reads_on-nil : (pairs : List Pair) → reads_on pairs [] ≡ Ok pairs
 reads_on-nil pairs = rw (append-nil pairs) refl
 
 -- a faulty piece
-pub reads_on-fault : (pairs : List Pair) (piece : Piece) (later : List Piece) (fault : TextFault) → fault_of (keys_of pairs) piece ≡ Some fault → reads_on pairs (piece ∷ later) ≡ Err fault
+pub reads_on-fault : (pairs : List Pair) (piece : Piece) (later : List Piece) (fault : TextFault) → fault_of (keys_of pairs) piece ≡ Some fault
+    → reads_on pairs (piece ∷ later) ≡ Err fault
 reads_on-fault pairs piece later fault e = rw e refl
 
 -- a piece that is a pair
-pub reads_on-pair : (pairs : List Pair) (piece : Piece) (later : List Piece) → fault_of (keys_of pairs) piece ≡ None → reads_on pairs (piece ∷ later) ≡ reads_on (pairs ++ pair_in piece ∷ []) later
+pub reads_on-pair : (pairs : List Pair) (piece : Piece) (later : List Piece) → fault_of (keys_of pairs) piece ≡ None
+    → reads_on pairs (piece ∷ later) ≡ reads_on (pairs ++ pair_in piece ∷ []) later
 reads_on-pair pairs piece later e = rw (e, map-append, append_assoc) refl
 
 -- ---- the fault of a piece
@@ -78,10 +87,12 @@ reads_on-pair pairs piece later e = rw (e, map-append, append_assoc) refl
 pub fault_of-own : (earlier : List (List ℕ)) (piece : Piece) (fault : TextFault) → own_fault piece ≡ Some fault → fault_of earlier piece ≡ Some fault
 fault_of-own earlier piece fault e = rw e refl
 
-pub fault_of-twice : (earlier : List (List ℕ)) (piece : Piece) → own_fault piece ≡ None → list_any (bytes_eq (key_in piece)) earlier ≡ true → fault_of earlier piece ≡ Some faults.KeyTwice
+pub fault_of-twice : (earlier : List (List ℕ)) (piece : Piece) → own_fault piece ≡ None → list_any (bytes_eq (key_in piece)) earlier ≡ true
+    → fault_of earlier piece ≡ Some faults.KeyTwice
 fault_of-twice earlier piece e twice = rw (e, twice) refl
 
-pub fault_of-none : (earlier : List (List ℕ)) (piece : Piece) → own_fault piece ≡ None → list_any (bytes_eq (key_in piece)) earlier ≡ false → fault_of earlier piece ≡ None
+pub fault_of-none : (earlier : List (List ℕ)) (piece : Piece) → own_fault piece ≡ None → list_any (bytes_eq (key_in piece)) earlier ≡ false
+    → fault_of earlier piece ≡ None
 fault_of-none earlier piece e once = rw (e, once) refl
 
 -- ---- a text of which pairs were read, and rest is left
@@ -106,7 +117,8 @@ goes_on text pairs rest piece after so_far e faultless = record {
   same = sym (rw e (reads_on-pair pairs piece (pieces after) faultless)) ∙ so_far.same;
 }
 
-pub passes_over : (text : List ℕ) (pairs : List Pair) (rest after : List ℕ) → IsReadUpTo text pairs rest → pieces rest ≡ pieces after → IsReadUpTo text pairs after
+pub passes_over : (text : List ℕ) (pairs : List Pair) (rest after : List ℕ) → IsReadUpTo text pairs rest → pieces rest ≡ pieces after
+    → IsReadUpTo text pairs after
 passes_over text pairs rest after so_far e = record { fits = so_far.fits; same = ap (reads_on pairs) (sym e) ∙ so_far.same }
 
 pub ends : (text : List ℕ) (pairs : List Pair) (rest : List ℕ) → IsReadUpTo text pairs rest → length rest ≡ 0 → text_pairs text ≡ Ok pairs

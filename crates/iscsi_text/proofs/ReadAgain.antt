@@ -56,7 +56,8 @@ parts_have_no_zero : (text : List ℕ) → AllByRecursion HasNoZero (slice_split
 parts_have_no_zero [] = (All-nil isnt_zero, tt)
 parts_have_no_zero (b ∷ text) = by_test (is_zero b) refl (slice_split is_zero text) (parts_have_no_zero text)
   where
-    by_test : (t : Bool) → is_zero b ≡ t → (parts : List (List ℕ)) → AllByRecursion HasNoZero parts → AllByRecursion HasNoZero (cond t ([] ∷ parts) (onto_first b parts))
+    by_test : (t : Bool) → is_zero b ≡ t → (parts : List (List ℕ)) → AllByRecursion HasNoZero parts
+        → AllByRecursion HasNoZero (cond t ([] ∷ parts) (onto_first b parts))
     by_test true e parts all = (All-nil isnt_zero, all)
     by_test false e [] all = (All-cons isnt_zero b [] e (All-nil isnt_zero), tt)
     by_test false e (part ∷ parts) all = (All-cons isnt_zero b part e all.0, all.1)
@@ -66,7 +67,8 @@ marked_all P [] all = tt
 marked_all P (part ∷ []) all = (all.0, tt)
 marked_all P (part ∷ next ∷ parts) all = (all.0, marked_all P (next ∷ parts) all.1)
 
-filter_all : (P : Piece → Type 0) (ps : List Piece) → AllByRecursion P ps → AllByRecursion (λ piece. P piece × (is_nonempty piece ≡ true)) (filter is_nonempty ps)
+filter_all : (P : Piece → Type 0) (ps : List Piece) → AllByRecursion P ps
+    → AllByRecursion (λ piece. P piece × (is_nonempty piece ≡ true)) (filter is_nonempty ps)
 filter_all P [] all = tt
 filter_all P (piece ∷ ps) all = by_test (is_nonempty piece) refl (filter_all P ps all.1)
   where
@@ -77,7 +79,8 @@ filter_all P (piece ∷ ps) all = by_test (is_nonempty piece) refl (filter_all P
 
 are_pieces : (text : List ℕ) → AllByRecursion IsPiece (pieces text)
 unfolding pieces
-are_pieces text = filter_all (λ piece. HasNoZero piece.bytes) (marked (slice_split is_zero text)) (marked_all HasNoZero (slice_split is_zero text) (parts_have_no_zero text))
+are_pieces text = filter_all (λ piece. HasNoZero piece.bytes) (marked (slice_split is_zero text))
+    (marked_all HasNoZero (slice_split is_zero text) (parts_have_no_zero text))
 
 -- ---- pieces as a text
 
@@ -99,7 +102,11 @@ bytes_of-filter (piece ∷ ps) = by_test (is_nonempty piece) (bytes_of-filter ps
   where
     by_test : (t : Bool) → length (bytes_of (filter is_nonempty ps)) ≤ length (bytes_of ps)
         → length (bytes_of (cond t (piece ∷ filter is_nonempty ps) (filter is_nonempty ps))) ≤ length (bytes_of (piece ∷ ps))
-    by_test true le = omega (arith, length-append (piece.bytes ++ end_of piece.ended) (bytes_of (filter is_nonempty ps)), length-append (piece.bytes ++ end_of piece.ended) (bytes_of ps))
+    by_test true le = omega (
+      arith,
+      length-append (piece.bytes ++ end_of piece.ended) (bytes_of (filter is_nonempty ps)),
+      length-append (piece.bytes ++ end_of piece.ended) (bytes_of ps),
+    )
     by_test false le = omega (arith, length-append (piece.bytes ++ end_of piece.ended) (bytes_of ps))
 
 no_longer : (text : List ℕ) → length (bytes_of (pieces text)) ≤ length text
@@ -108,7 +115,8 @@ no_longer text =
     let whole : bytes_of (marked (slice_split is_zero text)) ≡ text = bytes_of-marked (slice_split is_zero text) ∙ join_with_byte-slice_split 0 text in
     omega (arith, bytes_of-filter (marked (slice_split is_zero text)), ap length whole)
 
-pieces-cons : (bytes rest : List ℕ) → HasNoZero bytes → ltb 0 (length bytes) ≡ true → pieces (bytes ++ 0 ∷ rest) ≡ record { bytes = bytes; ended = true } ∷ pieces rest
+pieces-cons : (bytes rest : List ℕ) → HasNoZero bytes → ltb 0 (length bytes) ≡ true
+    → pieces (bytes ++ 0 ∷ rest) ≡ record { bytes = bytes; ended = true } ∷ pieces rest
 unfolding pieces
 pieces-cons bytes rest free some = rw (slice_split_at is_zero bytes 0 rest free refl, marked-cons bytes rest, some) refl
 
@@ -123,9 +131,16 @@ pieces-bytes_of (piece ∷ ps) are pairs =
 
 spelled-pair_in : (piece : Piece) → IsPair piece → spelled (pair_in piece) ≡ piece.bytes ++ end_of piece.ended
 spelled-pair_in piece pair =
-    let found : position_or_len is_equals piece.bytes < length piece.bytes = omega (arith, ltb-true (length (key_in piece)) (length piece.bytes) (and_parts (ltb 0 (length (key_in piece))) (ltb (length (key_in piece)) (length piece.bytes)) pair.keyed).1, length-key piece.bytes) in
+    let found : position_or_len is_equals piece.bytes < length piece.bytes =
+    omega (
+      arith,
+      ltb-true (length (key_in piece)) (length piece.bytes)
+          (and_parts (ltb 0 (length (key_in piece))) (ltb (length (key_in piece)) (length piece.bytes)) pair.keyed).1,
+      length-key piece.bytes,
+    ) in
     let sign : get_or piece.bytes (position_or_len is_equals piece.bytes) 0 ≡ 61 = eqb-true _ _ (passes_at_first is_equals piece.bytes 0 found) in
-    let whole : piece.bytes ≡ before_first is_equals piece.bytes ++ 61 ∷ after_first is_equals piece.bytes = split_at_first is_equals piece.bytes 0 found ∙ rw sign refl in
+    let whole : piece.bytes ≡ before_first is_equals piece.bytes ++ 61 ∷ after_first is_equals piece.bytes =
+    split_at_first is_equals piece.bytes 0 found ∙ rw sign refl in
     rw pair.ended (ap (λ (x : List ℕ). x ++ 0 ∷ []) (sym whole))
 
 text_of-pairs : (ps : List Piece) → AllByRecursion IsPair ps → text_of (map pair_in ps) ≡ bytes_of ps
@@ -138,16 +153,19 @@ pairs_read : (fault : Option TextFault) (found pairs : List Pair) → pairs_unle
 pairs_read None found pairs e = (refl, cc)
 pairs_read (Some fault) found pairs e = absurd cc
 
-fits_and_reads : (text : List ℕ) (pairs : List Pair) → text_pairs text ≡ Ok pairs → (length text ≤ 65536) × (pairs_unless (first_fault [] (pieces text)) (map pair_in (pieces text)) ≡ Ok pairs)
+fits_and_reads : (text : List ℕ) (pairs : List Pair) → text_pairs text ≡ Ok pairs → (length text ≤ 65536)
+    × (pairs_unless (first_fault [] (pieces text)) (map pair_in (pieces text)) ≡ Ok pairs)
 unfolding text_pairs
 fits_and_reads text pairs e = by_test (ltb longest_text (length text)) refl e
   where
-    by_test : (t : Bool) → ltb longest_text (length text) ≡ t → cond t (Err faults.TooLong) (pairs_unless (first_fault [] (pieces text)) (map pair_in (pieces text))) ≡ Ok pairs
+    by_test : (t : Bool) → ltb longest_text (length text) ≡ t → cond t (Err faults.TooLong)
+        (pairs_unless (first_fault [] (pieces text)) (map pair_in (pieces text))) ≡ Ok pairs
         → (length text ≤ 65536) × (pairs_unless (first_fault [] (pieces text)) (map pair_in (pieces text)) ≡ Ok pairs)
     by_test true is e = absurd cc
     by_test false is e = (ltb-false longest_text (length text) is, e)
 
-reads : (text : List ℕ) (pairs : List Pair) → length text ≤ 65536 → pairs_unless (first_fault [] (pieces text)) (map pair_in (pieces text)) ≡ Ok pairs → text_pairs text ≡ Ok pairs
+reads : (text : List ℕ) (pairs : List Pair) → length text ≤ 65536 → pairs_unless (first_fault [] (pieces text)) (map pair_in (pieces text))
+    ≡ Ok pairs → text_pairs text ≡ Ok pairs
 unfolding text_pairs
 reads text pairs le e = rw (le-ltb longest_text (length text) le) e
 

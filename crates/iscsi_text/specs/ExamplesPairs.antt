@@ -6,7 +6,8 @@ use Rattle.iscsi_text.specs.Pairs.{pieces, own_fault, text_pairs, text_of, value
 
 -- ---- what is read
 
-two_pairs : text_pairs (codes "InitiatorName=a" ++ 0 ∷ codes "TargetName=t1" ++ 0 ∷ []) ≡ Ok ((codes "InitiatorName", codes "a") ∷ (codes "TargetName", codes "t1") ∷ [])
+two_pairs : text_pairs (codes "InitiatorName=a" ++ 0 ∷ codes "TargetName=t1" ++ 0 ∷ [])
+    ≡ Ok ((codes "InitiatorName", codes "a") ∷ (codes "TargetName", codes "t1") ∷ [])
 unfolding text_pairs pieces own_fault is_utf8 chars lib.Utf8.encode
 two_pairs = refl
 
@@ -52,19 +53,22 @@ unfolding text_pairs pieces own_fault is_utf8 chars lib.Utf8.encode
 key_twice = refl
 
 -- a key of 63 bytes and one of 64
-keys_at_the_limit : (text_pairs (replicate 63 107 ++ codes "=v" ++ 0 ∷ []) ≡ Ok ((replicate 63 107, codes "v") ∷ [])) × (text_pairs (replicate 64 107 ++ codes "=v" ++ 0 ∷ []) ≡ Err faults.LongKey)
+keys_at_the_limit : (text_pairs (replicate 63 107 ++ codes "=v" ++ 0 ∷ []) ≡ Ok ((replicate 63 107, codes "v") ∷ []))
+    × (text_pairs (replicate 64 107 ++ codes "=v" ++ 0 ∷ []) ≡ Err faults.LongKey)
 unfolding text_pairs pieces own_fault is_utf8 chars lib.Utf8.encode
 keys_at_the_limit = (refl, refl)
 
 -- a value of 255 bytes and one of 256
-values_at_the_limit : (text_pairs (codes "k=" ++ replicate 255 118 ++ 0 ∷ []) ≡ Ok ((codes "k", replicate 255 118) ∷ [])) × (text_pairs (codes "k=" ++ replicate 256 118 ++ 0 ∷ []) ≡ Err faults.LongValue)
+values_at_the_limit : (text_pairs (codes "k=" ++ replicate 255 118 ++ 0 ∷ []) ≡ Ok ((codes "k", replicate 255 118) ∷ []))
+    × (text_pairs (codes "k=" ++ replicate 256 118 ++ 0 ∷ []) ≡ Err faults.LongValue)
 unfolding text_pairs pieces own_fault is_utf8 chars lib.Utf8.encode
 values_at_the_limit = (refl, refl)
 
 -- ---- which fault is told
 
 -- of a piece: that it is not ended, then that it is not UTF-8, then that it has no key, then a long value
-first_of_a_piece : (text_pairs (0xFF ∷ []) ≡ Err faults.NotTerminated) × (text_pairs (0xFF ∷ 0 ∷ []) ≡ Err faults.NotUtf8) × (text_pairs (codes "=" ++ replicate 256 118 ++ 0 ∷ []) ≡ Err faults.NoKey)
+first_of_a_piece : (text_pairs (0xFF ∷ []) ≡ Err faults.NotTerminated) × (text_pairs (0xFF ∷ 0 ∷ []) ≡ Err faults.NotUtf8)
+    × (text_pairs (codes "=" ++ replicate 256 118 ++ 0 ∷ []) ≡ Err faults.NoKey)
 unfolding text_pairs pieces own_fault is_utf8 chars lib.Utf8.encode
 first_of_a_piece = (refl, refl, refl)
 
@@ -74,7 +78,8 @@ unfolding text_pairs pieces own_fault is_utf8 chars lib.Utf8.encode
 long_before_twice = refl
 
 -- of a text: the fault of its first faulty piece
-first_of_a_text : (text_pairs (codes "a=1" ++ 0 ∷ codes "a=2" ++ 0 ∷ codes "b") ≡ Err faults.KeyTwice) × (text_pairs (codes "a=1" ++ 0 ∷ codes "b" ++ 0 ∷ codes "a=2") ≡ Err faults.NoKey)
+first_of_a_text : (text_pairs (codes "a=1" ++ 0 ∷ codes "a=2" ++ 0 ∷ codes "b") ≡ Err faults.KeyTwice)
+    × (text_pairs (codes "a=1" ++ 0 ∷ codes "b" ++ 0 ∷ codes "a=2") ≡ Err faults.NoKey)
 unfolding text_pairs pieces own_fault is_utf8 chars lib.Utf8.encode
 first_of_a_text = (refl, refl)
 
@@ -84,5 +89,6 @@ written : text_of ((codes "AuthMethod", codes "None") ∷ (codes "X-a", []) ∷ 
 written = refl
 
 -- letters count as they are, and the first pair with a key counts
-found : (value_of (codes "a") ((codes "A", codes "1") ∷ (codes "a", codes "2") ∷ (codes "a", codes "3") ∷ []) ≡ Some (codes "2")) × (value_of (codes "b") ((codes "a", codes "1") ∷ []) ≡ None)
+found : (value_of (codes "a") ((codes "A", codes "1") ∷ (codes "a", codes "2") ∷ (codes "a", codes "3") ∷ []) ≡ Some (codes "2"))
+    × (value_of (codes "b") ((codes "a", codes "1") ∷ []) ≡ None)
 found = (refl, refl)

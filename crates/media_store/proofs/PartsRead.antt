@@ -61,7 +61,8 @@ HasComeTo-more origin at buffer after part done end old now within is parts come
     agrees-append content at (take done buffer) part done long in
     record {
       content = come.content;
-      honest = rw (parts, whole, come.content, come.honest) (and_assoc (is_honest origin old) (agrees (Read at (take done buffer)) content) (agrees (Read (at + done) part) content));
+      honest = rw (parts, whole, come.content, come.honest) (and_assoc (is_honest origin old) (agrees (Read at (take done buffer)) content)
+          (agrees (Read (at + done) part) content));
     }
 
 -- a call fails

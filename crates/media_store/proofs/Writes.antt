@@ -21,7 +21,8 @@ overlaid-grown at bytes content short =
     let all : take (at + length bytes) content ≡ content = take_all _ content short in
     let ended : drop (at + length bytes) content ≡ [] = drop_all _ content short in
     let as_long : length (resized (at + length bytes) content) ≤ at + length bytes = simp (all, length-append, length-replicate) (omega arith) in
-    let grown : drop (at + length bytes) (resized (at + length bytes) content) ≡ [] = drop_all (at + length bytes) (resized (at + length bytes) content) as_long in
+    let grown : drop (at + length bytes) (resized (at + length bytes) content) ≡ [] =
+    drop_all (at + length bytes) (resized (at + length bytes) content) as_long in
     rw (grown, ended, take-resized at (at + length bytes) content (omega arith)) refl
 
 -- some bytes are written

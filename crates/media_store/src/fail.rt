@@ -113,7 +113,8 @@ impl<S: Store> Store for FailStore<S> {
     fn read_at(&mut self, at: u64, buf: &mut [u8]) -> Result<(), StoreFault>
         ensures read { OnOk result (IsTrue (S.Store.honest (store_of self.new))
             → buf.new ≡ slice_range (S.Store.content (store_of self.old)) at (at + length buf.old)) }
-        ensures agreed { HasAgreed (S.Store.content (store_of self.old)) at buf.new (is_ok result) (S.Store.honest (store_of self.old)) (S.Store.honest (store_of self.new)) }
+        ensures agreed { HasAgreed (S.Store.content (store_of self.old)) at buf.new (is_ok result) (S.Store.honest (store_of self.old))
+            (S.Store.honest (store_of self.new)) }
         ensures back { IsTrue (S.Store.honest (store_of self.new)) → IsTrue (S.Store.honest (store_of self.old)) }
         ensures content { S.Store.content (store_of self.new) ≡ S.Store.content (store_of self.old) }
         ensures synced { (S.Store.synced (store_of self.new) && not (is_torn self.new))

@@ -72,7 +72,9 @@ impl<S: Store> Store for LyingStore<S> {
     fn read_at(&mut self, at: u64, buf: &mut [u8]) -> Result<(), StoreFault>
         ensures read { OnOk result (IsTrue (S.Store.honest (store_of self.new) && not (has_lied self.new))
             → buf.new ≡ slice_range (S.Store.content (store_of self.old)) at (at + length buf.old)) }
-        ensures agreed { HasAgreed (S.Store.content (store_of self.old)) at buf.new (is_ok result) (S.Store.honest (store_of self.old) && not (has_lied self.old)) (S.Store.honest (store_of self.new) && not (has_lied self.new)) }
+        ensures agreed { HasAgreed (S.Store.content (store_of self.old)) at buf.new (is_ok result)
+            (S.Store.honest (store_of self.old) && not (has_lied self.old))
+            (S.Store.honest (store_of self.new) && not (has_lied self.new)) }
         ensures back { IsTrue (S.Store.honest (store_of self.new) && not (has_lied self.new))
             → IsTrue (S.Store.honest (store_of self.old) && not (has_lied self.old)) }
         ensures content { S.Store.content (store_of self.new) ≡ S.Store.content (store_of self.old) }
@@ -80,7 +82,9 @@ impl<S: Store> Store for LyingStore<S> {
         ensures failures { S.Store.failures (store_of self.new) ≡ counted_calls result (S.Store.failures (store_of self.old)) }
         ensures told { HasTold (length buf.old) (is_ok result) self.old self.new }
         ensures lie { OnOk result (IsTrue (S.Store.honest (store_of self.new))
-            → buf.new ≡ (if is_lie (length buf.old) self.old then turned (slice_range (S.Store.content (store_of self.old)) at (at + length buf.old)) else slice_range (S.Store.content (store_of self.old)) at (at + length buf.old))) }
+            → buf.new ≡ (if is_lie (length buf.old) self.old then turned
+            (slice_range (S.Store.content (store_of self.old)) at (at + length buf.old)) else slice_range
+            (S.Store.content (store_of self.old)) at (at + length buf.old))) }
     {
         self.store.read_at(at, buf)?;
         if self.has_lied || buf.is_empty() {

@@ -35,7 +35,8 @@ pub file_repeats : (units : List UnitConfiguration) (others : List UnitEntry) (i
     → list_any (λ other. shares_file (unit_view other) (unit_view unit)) (behind i units) ≡ true
     → is_distinct_before shares_file (units_view (drop i units)) others ≡ false
 file_repeats units others i unit lt e found =
-    let again : list_any (λ other. shares_file other (unit_view unit)) (units_view (drop (i + 1) units)) ≡ true = sym (tests (λ other. shares_file other (unit_view unit)) (drop (i + 1) units)) ∙ rw (behind-drop i units) at found in
+    let again : list_any (λ other. shares_file other (unit_view unit)) (units_view (drop (i + 1) units)) ≡ true =
+    sym (tests (λ other. shares_file other (unit_view unit)) (drop (i + 1) units)) ∙ rw (behind-drop i units) at found in
     rw (drop_more units i unit lt, ← e, again) refl
 
 -- or among those of the targets behind
@@ -44,7 +45,8 @@ pub file_repeats_behind : (units : List UnitConfiguration) (targets : List Targe
     → list_any (λ target. list_any (λ other. shares_file (unit_view other) (unit_view unit)) target.units.items) targets ≡ true
     → is_distinct_before shares_file (units_view (drop i units)) (units_in (targets_view targets)) ≡ false
 file_repeats_behind units targets i unit lt e found =
-    let again = true_or (list_any (λ other. shares_file other (unit_view unit)) (units_view (drop (i + 1) units))) _ (sym (tests_in (λ other. shares_file other (unit_view unit)) targets) ∙ found) in
+    let again = true_or (list_any (λ other. shares_file other (unit_view unit)) (units_view (drop (i + 1) units))) _
+    (sym (tests_in (λ other. shares_file other (unit_view unit)) targets) ∙ found) in
     rw (drop_more units i unit lt, ← e, again) refl
 
 -- it comes in neither, and the units behind it decide
@@ -55,7 +57,8 @@ pub file_differs : (units : List UnitConfiguration) (targets : List TargetConfig
     → is_distinct_before shares_file (units_view (drop i units)) (units_in (targets_view targets))
     ≡ is_distinct_before shares_file (units_view (drop (i + 1) units)) (units_in (targets_view targets))
 file_differs units targets i unit lt e here there =
-    let apart : list_any (λ other. shares_file other (unit_view unit)) (units_view (drop (i + 1) units)) ≡ false = sym (tests (λ other. shares_file other (unit_view unit)) (drop (i + 1) units)) ∙ rw (behind-drop i units) at here in
+    let apart : list_any (λ other. shares_file other (unit_view unit)) (units_view (drop (i + 1) units)) ≡ false =
+    sym (tests (λ other. shares_file other (unit_view unit)) (drop (i + 1) units)) ∙ rw (behind-drop i units) at here in
     let apart_behind = sym (tests_in (λ other. shares_file other (unit_view unit)) targets) ∙ there in
     rw (drop_more units i unit lt, ← e, apart, apart_behind) refl
 
@@ -68,13 +71,15 @@ distinct_append : {X : Type 0} (same : X → X → Bool) (xs ys : List X)
     → is_distinct same (xs ++ ys) ≡ (is_distinct_before same xs ys && is_distinct same ys)
 distinct_append same [] ys = refl
 distinct_append same (x ∷ xs) ys =
-    rw (list_any-append (λ y. same y x) xs ys, distinct_append same xs ys) (sym (and_assoc (not (list_any (λ y. same y x) xs || list_any (λ y. same y x) ys)) (is_distinct_before same xs ys) (is_distinct same ys)))
+    rw (list_any-append (λ y. same y x) xs ys, distinct_append same xs ys)
+    (sym (and_assoc (not (list_any (λ y. same y x) xs || list_any (λ y. same y x) ys)) (is_distinct_before same xs ys) (is_distinct same ys)))
 
 -- the units of the targets from one on: its own come again, or those behind it decide
 from_target : (targets : List TargetConfiguration) (i : ℕ) (target : TargetConfiguration) → i < length targets
     → target ≡ get_or targets i target
     → is_distinct shares_file (units_in (targets_view (drop i targets)))
-    ≡ (is_distinct_before shares_file (units_view target.units.items) (units_in (targets_view (drop (i + 1) targets))) && is_distinct shares_file (units_in (targets_view (drop (i + 1) targets))))
+    ≡ (is_distinct_before shares_file (units_view target.units.items) (units_in (targets_view (drop (i + 1) targets)))
+    && is_distinct shares_file (units_in (targets_view (drop (i + 1) targets))))
 from_target targets i target lt e =
     rw (drop_more targets i target lt, ← e) (distinct_append shares_file (units_view target.units.items) (units_in (targets_view (drop (i + 1) targets))))
 

@@ -77,7 +77,7 @@ memory_tape_of table = do
   early ← number_at table (codes "early") 0 capacity
   Some (MemoryTape capacity early)
 
--- for now no tape is in a file
+-- a tape is in memory: a `file` is not accepted for it
 abbrev pub tape_of : Members → Option MediumEntry
 tape_of table = if has_member (codes "file") table then None else memory_tape_of table
 

@@ -30,7 +30,8 @@ below-more : {X : Type 0} (f : ℕ → List X) (c : ℕ) → below f (c + 1) ≡
 below-more {X} f c =
     let one_more : c + 1 ≡ suc c = omega arith in
     let same : 0 + c ≡ c = omega arith in
-    ap (below f) one_more ∙ ap (flat_map f) (range_more 0 c ∙ ap (λ (n : ℕ). range_with_len 0 c ++ n ∷ []) same) ∙ flat_map-append f (range_with_len 0 c) (c ∷ []) ∙ ap (λ (xs : List X). below f c ++ xs) (append-nil (f c))
+    ap (below f) one_more ∙ ap (flat_map f) (range_more 0 c ∙ ap (λ (n : ℕ). range_with_len 0 c ++ n ∷ []) same)
+    ∙ flat_map-append f (range_with_len 0 c) (c ∷ []) ∙ ap (λ (xs : List X). below f c ++ xs) (append-nil (f c))
 
 -- ---- the connections below one were printed
 
@@ -58,7 +59,8 @@ print_none s before h target stands =
       lives = λ d le. ap (λ (h : History). present d (world s h)) same;
     }
 
-gone_by : (s : Setting) (past : History) (c d : ℕ) (closed : Bool) (w : World) → is_closed (present c w) ≡ closed → d ≢ c → present d (world s (past ++ gone_of w c)) ≡ present d (world s past)
+gone_by : (s : Setting) (past : History) (c d : ℕ) (closed : Bool) (w : World) → is_closed (present c w) ≡ closed → d ≢ c
+    → present d (world s (past ++ gone_of w c)) ≡ present d (world s past)
 gone_by s past c d true w e differ = rw e (present-gone_other s past c d differ)
 gone_by s past c d false w e differ = rw e (ap (λ (h : History). present d (world s h)) (append-nil past))
 
@@ -76,9 +78,11 @@ gone_same v w c f = rw f refl
 
 -- the history after one more
 next_past : (s : Setting) (h : History) (c : ℕ) → gone_below s h (c + 1) ≡ gone_below s h c ++ gone_of (world s h) c
-next_past s h c = ap (λ (xs : History). h ++ xs) (below-more (gone_of (world s h)) c) ∙ sym (append_assoc h (below (gone_of (world s h)) c) (gone_of (world s h) c))
+next_past s h c = ap (λ (xs : History). h ++ xs) (below-more (gone_of (world s h)) c)
+    ∙ sym (append_assoc h (below (gone_of (world s h)) c) (gone_of (world s h) c))
 
-pub print_next : (s : Setting) (before : ℕ → ℕ) (h : History) (c : ℕ) (text more : List ℕ) (target next : Machine) (b : HasPrintedBelow s before h c text target) → HasPrintedOne s b.sent (gone_below s h c) c text more next
+pub print_next : (s : Setting) (before : ℕ → ℕ) (h : History) (c : ℕ) (text more : List ℕ) (target next : Machine)
+    (b : HasPrintedBelow s before h c text target) → HasPrintedOne s b.sent (gone_below s h c) c text more next
     → HasPrintedBelow s before h (c + 1) more next
 print_next s before h c text more target next b one =
     let past = gone_below s h c in
@@ -119,16 +123,20 @@ closed_gone w c e = rw e refl
 open_stays : (w : World) (c : ℕ) → is_closed (present c w) ≡ false → gone_of w c ≡ []
 open_stays w c e = rw e refl
 
-lines_printed : (sent : ℕ → ℕ) (w : World) (c : ℕ) (text bytes more : List ℕ) (closed : Bool) → bytes ≡ unsent sent w c → is_closed (present c w) ≡ closed → more ≡ (text ++ bytes_line c bytes) ++ closed_line c closed
+lines_printed : (sent : ℕ → ℕ) (w : World) (c : ℕ) (text bytes more : List ℕ) (closed : Bool) → bytes ≡ unsent sent w c
+    → is_closed (present c w) ≡ closed → more ≡ (text ++ bytes_line c bytes) ++ closed_line c closed
     → more ≡ text ++ printed_of sent w c
 unfolding printed_of lines_of
 lines_printed sent w c text bytes more closed e f g =
     rw (← e, f) (g ∙ append_assoc text (bytes_line c bytes) (closed_line c closed))
 
 -- its lines were printed, and it is closed
-pub closed_one : (s : Setting) (sent : ℕ → ℕ) (h : History) (c : ℕ) (text bytes more : List ℕ) (target mid next : Machine) → c < connection_limit → Stands s sent target h → bytes ≡ (link_at target c).waiting
-    → Stands s (with_sent sent c (all_sent (world s h) c)) mid h → true ≡ is_closing (link_at mid c).phase → more ≡ (text ++ bytes_line c bytes) ++ closed_line c true
-    → ((s : Setting) (sent : ℕ → ℕ) (h : History) → Stands s sent mid h → Stands s (with_sent sent c 0) next (h ++ plain (Gone c) ∷ [])) → HasPrintedOne s sent h c text more next
+pub closed_one : (s : Setting) (sent : ℕ → ℕ) (h : History) (c : ℕ) (text bytes more : List ℕ) (target mid next : Machine) → c < connection_limit
+    → Stands s sent target h → bytes ≡ (link_at target c).waiting
+    → Stands s (with_sent sent c (all_sent (world s h) c)) mid h → true ≡ is_closing (link_at mid c).phase → more ≡ (text ++ bytes_line c bytes)
+    ++ closed_line c true
+    → ((s : Setting) (sent : ℕ → ℕ) (h : History) → Stands s sent mid h → Stands s (with_sent sent c 0) next (h ++ plain (Gone c) ∷ []))
+    → HasPrintedOne s sent h c text more next
 closed_one s sent h c text bytes more target mid next lt stands taken drained closing e ends =
     let w = world s h in
     let all : ℕ → ℕ = with_sent sent c (all_sent w c) in
@@ -150,15 +158,18 @@ closed_one s sent h c text bytes more target mid next lt stands taken drained cl
     }
 
 -- its lines were printed, and it stays open
-pub open_one : (s : Setting) (sent : ℕ → ℕ) (h : History) (c : ℕ) (text bytes more : List ℕ) (target mid : Machine) → c < connection_limit → Stands s sent target h → bytes ≡ (link_at target c).waiting
-    → Stands s (with_sent sent c (all_sent (world s h) c)) mid h → false ≡ is_closing (link_at mid c).phase → more ≡ text ++ bytes_line c bytes → HasPrintedOne s sent h c text more mid
+pub open_one : (s : Setting) (sent : ℕ → ℕ) (h : History) (c : ℕ) (text bytes more : List ℕ) (target mid : Machine) → c < connection_limit
+    → Stands s sent target h → bytes ≡ (link_at target c).waiting
+    → Stands s (with_sent sent c (all_sent (world s h) c)) mid h → false ≡ is_closing (link_at mid c).phase → more ≡ text ++ bytes_line c bytes
+    → HasPrintedOne s sent h c text more mid
 open_one s sent h c text bytes more target mid lt stands taken drained closing e =
     let w = world s h in
     let all : ℕ → ℕ = with_sent sent c (all_sent w c) in
     let open_ : is_closed (present c w) ≡ false = sym (closing ∙ closing_same s all w mid c lt drained) in
     let same : h ++ gone_of w c ≡ h = ap (λ (gone : History). h ++ gone) (open_stays w c open_) ∙ append-nil h in
     record {
-      prints = lines_printed sent w c text bytes more false (taken ∙ waiting_same s sent w target c lt stands) open_ (e ∙ sym (append-nil (text ++ bytes_line c bytes)));
+      prints = lines_printed sent w c text bytes more false (taken ∙ waiting_same s sent w target c lt stands) open_ (e
+          ∙ sym (append-nil (text ++ bytes_line c bytes)));
       stands = subst (λ (h : History). Stands s (with_sent sent c (all_sent (world s h) c)) mid h) (sym same) drained;
     }
 
@@ -171,7 +182,8 @@ no_lines sent w c e = rw e (rw (drop-nil {A = ℕ} (sent c)) refl)
 none_gone : (w : World) (c : ℕ) → present c w ≡ None → gone_of w c ≡ []
 none_gone w c e = rw e refl
 
-pub pass_one : (s : Setting) (sent : ℕ → ℕ) (h : History) (c : ℕ) (text : List ℕ) (target : Machine) → c < connection_limit → Stands s sent target h → is_open_at target c ≡ false → HasPrintedOne s sent h c text text target
+pub pass_one : (s : Setting) (sent : ℕ → ℕ) (h : History) (c : ℕ) (text : List ℕ) (target : Machine) → c < connection_limit → Stands s sent target h
+    → is_open_at target c ≡ false → HasPrintedOne s sent h c text text target
 pass_one s sent h c text target lt stands free =
     let w = world s h in
     let none = is_free_there s sent w target c lt stands free in
@@ -185,12 +197,14 @@ pass_one s sent h c text target lt stands free =
     ] in
     record {
       prints = sym (ap (λ (more : List ℕ). text ++ more) (no_lines sent w c none) ∙ append-nil text);
-      stands = subst (λ (h : History). Stands s (with_sent sent c (all_sent (world s h) c)) target h) (sym same) (stands_sent s sent (with_sent sent c (all_sent w c)) target h as_before stands);
+      stands = subst (λ (h : History). Stands s (with_sent sent c (all_sent (world s h) c)) target h) (sym same)
+          (stands_sent s sent (with_sent sent c (all_sent w c)) target h as_before stands);
     }
 
 -- ---- all of them
 
-pub print_all : (s : Setting) (before : ℕ → ℕ) (h : History) (text : List ℕ) (target : Machine) → HasPrintedBelow s before h 64 text target → HasPrintedAll s before h text target
+pub print_all : (s : Setting) (before : ℕ → ℕ) (h : History) (text : List ℕ) (target : Machine) → HasPrintedBelow s before h 64 text target
+    → HasPrintedAll s before h text target
 unfolding printed after_printing
 print_all s before h text target b = record {
   prints = b.prints;

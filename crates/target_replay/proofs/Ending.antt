@@ -20,14 +20,16 @@ consumed (Some xs) None bytes P h p = absurd h
 consumed (Some xs) (Some ys) bytes P h p = subst P (sym h) (p ys)
 
 -- a read that gives no byte tells the end
-pub read_end : {E : Type 0} (r0 r1 r2 : Option (List ℕ)) (r : Result ℕ E) (buffer bytes : List ℕ) (n : ℕ) → Consumes r0 r1 bytes → r ≡ Ok n → n ≡ 0 → 0 < length buffer
+pub read_end : {E : Type 0} (r0 r1 r2 : Option (List ℕ)) (r : Result ℕ E) (buffer bytes : List ℕ) (n : ℕ) → Consumes r0 r1 bytes → r ≡ Ok n → n ≡ 0
+    → 0 < length buffer
     → ReadConsumes r1 r2 r buffer → Consumes r0 r2 bytes × IsAtEnd r2
 read_end {E} r0 r1 r2 r buffer bytes n took is none room read =
     let now : ReadConsumes {E = E} r1 r2 (Ok 0) buffer = subst (λ (r : Result ℕ E). ReadConsumes r1 r2 r buffer) (is ∙ ap (λ (n : ℕ). Ok n) none) read in
     (subst (λ (bytes : List ℕ). Consumes r0 r2 bytes) (append-nil bytes) (Consumes-trans r0 r1 r2 bytes [] took now.0), now.1 refl room)
 
 -- the input ended, and its last line was carried out
-pub whole_done : (s : Setting) (engine : Progress) (bytes text : List ℕ) (r0 r1 w0 w1 w2 : Option (List ℕ)) → Consumes r0 r1 bytes → IsAtEnd r1 → Appends w0 w1 text
+pub whole_done : (s : Setting) (engine : Progress) (bytes text : List ℕ) (r0 r1 w0 w1 w2 : Option (List ℕ)) → Consumes r0 r1 bytes → IsAtEnd r1
+    → Appends w0 w1 text
     → HasTaken s bytes engine text → Finishes engine w1 w2 → Ends r0 r1 w0 w2 s
 whole_done s engine bytes text r0 r1 w0 w1 w2 took end printed h last =
     let more = last s bytes text h in
@@ -35,7 +37,8 @@ whole_done s engine bytes text r0 r1 w0 w1 w2 took end printed h last =
     (text ++ more.0, Appends-trans w0 w1 w2 text more.0 printed more.1, more.2)
 
 -- a line ends a replay by no fault of the input
-ends : (fault : ReplayFault) (s : Setting) (r0 r1 w0 w1 : Option (List ℕ)) (input text : List ℕ) → StopsBy (reply s) fault [] input text → EndsAtLine r0 r1 w0 w1 s fault → EndsBy r0 r1 w0 w1 s fault
+ends : (fault : ReplayFault) (s : Setting) (r0 r1 w0 w1 : Option (List ℕ)) (input text : List ℕ) → StopsBy (reply s) fault [] input text
+    → EndsAtLine r0 r1 w0 w1 s fault → EndsBy r0 r1 w0 w1 s fault
 unfolding StopsBy
 ends (faults.Refused number) s r0 r1 w0 w1 input text stop e = e
 ends faults.OutOfMemory s r0 r1 w0 w1 input text stop e = e
@@ -43,20 +46,27 @@ ends faults.Output s r0 r1 w0 w1 input text stop e = e
 ends faults.Input s r0 r1 w0 w1 input text stop e = absurd stop
 
 -- the input ended, and its last line stopped the replay
-pub whole_stopped : (fault : ReplayFault) (s : Setting) (engine : Progress) (bytes text : List ℕ) (r0 r1 w0 w1 w2 : Option (List ℕ)) → Consumes r0 r1 bytes → IsAtEnd r1 → Appends w0 w1 text
+pub whole_stopped : (fault : ReplayFault) (s : Setting) (engine : Progress) (bytes text : List ℕ) (r0 r1 w0 w1 w2 : Option (List ℕ))
+    → Consumes r0 r1 bytes → IsAtEnd r1 → Appends w0 w1 text
     → HasTaken s bytes engine text → StopsLast engine w1 w2 fault → EndsBy r0 r1 w0 w2 s fault
 whole_stopped fault s engine bytes text r0 r1 w0 w1 w2 took end printed h last =
     let more = last s bytes text h in
     ends fault s r0 r1 w0 w2 bytes (text ++ more.0) more.2
-    (Consumes-whole r0 r1 bytes (λ input. (text : List ℕ) × Appends w0 w2 text × StopsBy (reply s) fault [] input text) took end (text ++ more.0, Appends-trans w0 w1 w2 text more.0 printed more.1, more.2))
+    (Consumes-whole r0 r1 bytes (λ input. (text : List ℕ) × Appends w0 w2 text × StopsBy (reply s) fault [] input text) took end (
+      text ++ more.0,
+      Appends-trans w0 w1 w2 text more.0 printed more.1,
+      more.2,
+    ))
 
 -- a line stopped the replay before the input ended
-pub part_stopped : (fault : ReplayFault) (s : Setting) (engine : Progress) (bytes piece text : List ℕ) (r0 r1 r2 w0 w1 w2 : Option (List ℕ)) → Consumes r0 r1 bytes → Consumes r1 r2 piece → Appends w0 w1 text
+pub part_stopped : (fault : ReplayFault) (s : Setting) (engine : Progress) (bytes piece text : List ℕ) (r0 r1 r2 w0 w1 w2 : Option (List ℕ))
+    → Consumes r0 r1 bytes → Consumes r1 r2 piece → Appends w0 w1 text
     → HasTaken s bytes engine text → Stops engine piece w1 w2 fault → EndsBy r0 r2 w0 w2 s fault
 part_stopped fault s engine bytes piece text r0 r1 r2 w0 w1 w2 took next printed h last =
     let more = last s bytes text h in
     ends fault s r0 r2 w0 w2 (bytes ++ (piece ++ [])) (text ++ more.0) (more.2 [])
-    (consumed r0 r2 (bytes ++ piece) (λ input. (text : List ℕ) × Appends w0 w2 text × StopsBy (reply s) fault [] input text) (Consumes-trans r0 r1 r2 bytes piece took next)
+    (consumed r0 r2 (bytes ++ piece) (λ input. (text : List ℕ) × Appends w0 w2 text × StopsBy (reply s) fault [] input text)
+    (Consumes-trans r0 r1 r2 bytes piece took next)
     (λ rest. (
       text ++ more.0,
       Appends-trans w0 w1 w2 text more.0 printed more.1,
@@ -64,7 +74,8 @@ part_stopped fault s engine bytes piece text r0 r1 r2 w0 w1 w2 took next printed
     )))
 
 -- the input failed
-pub unread : (s : Setting) (engine : Progress) (bytes text : List ℕ) (r0 r1 w0 w1 : Option (List ℕ)) → Consumes r0 r1 bytes → Appends w0 w1 text → HasTaken s bytes engine text → EndsUnread r0 r1 w0 w1 s
+pub unread : (s : Setting) (engine : Progress) (bytes text : List ℕ) (r0 r1 w0 w1 : Option (List ℕ)) → Consumes r0 r1 bytes → Appends w0 w1 text
+    → HasTaken s bytes engine text → EndsUnread r0 r1 w0 w1 s
 unread s engine bytes text r0 r1 w0 w1 took printed h = (
   bytes,
   h.ended,
@@ -72,7 +83,8 @@ unread s engine bytes text r0 r1 w0 w1 took printed h = (
   text,
   took,
   ap (slice_split is_newline) (sym (append-nil bytes)) ∙ h.cut []
-      ∙ ap (λ (line : List ℕ). h.ended ++ slice_split is_newline line) (append-nil engine.pending) ∙ ap (λ (parts : List (List ℕ)). h.ended ++ parts) (split_last engine.pending engine.one_line),
+      ∙ ap (λ (line : List ℕ). h.ended ++ slice_split is_newline line) (append-nil engine.pending)
+      ∙ ap (λ (parts : List (List ℕ)). h.ended ++ parts) (split_last engine.pending engine.one_line),
   (h.now, h.prints),
   printed,
 )

@@ -14,11 +14,13 @@ use Rattle.target_replay.specs.Printed.{is_closing_phase, is_closed, all_sent, u
 
 -- ---- one connection
 
-open_by : (s : Setting) (sent : ℕ → ℕ) (w : World) (machine : Machine) (c : ℕ) (b : Bool) → c < connection_limit → StandsAt s sent w machine → is_open_at machine c ≡ b → b ≡ is_some (present c w)
+open_by : (s : Setting) (sent : ℕ → ℕ) (w : World) (machine : Machine) (c : ℕ) (b : Bool) → c < connection_limit → StandsAt s sent w machine
+    → is_open_at machine c ≡ b → b ≡ is_some (present c w)
 open_by s sent w machine c true lt h e = let there = is_open_there s sent w machine c lt h e in sym (ap is_some there.1)
 open_by s sent w machine c false lt h e = sym (ap is_some (is_free_there s sent w machine c lt h e))
 
-pub open_same : (s : Setting) (sent : ℕ → ℕ) (w : World) (machine : Machine) (c : ℕ) → c < connection_limit → StandsAt s sent w machine → is_open_at machine c ≡ is_some (present c w)
+pub open_same : (s : Setting) (sent : ℕ → ℕ) (w : World) (machine : Machine) (c : ℕ) → c < connection_limit → StandsAt s sent w machine
+    → is_open_at machine c ≡ is_some (present c w)
 open_same s sent w machine c lt h = open_by s sent w machine c (is_open_at machine c) lt h refl
 
 closing_in : (names : List (List ℕ)) (life : Life) (phase : Phase) → is_closing (phase_for names life phase) ≡ is_closing_phase phase
@@ -31,16 +33,19 @@ closing_of : (names : List (List ℕ)) (sent : ℕ) (half : List ℕ) (o : Optio
 closing_of names sent half None = refl
 closing_of names sent half (Some life) = closing_in names life life.phase
 
-pub closing_same : (s : Setting) (sent : ℕ → ℕ) (w : World) (machine : Machine) (c : ℕ) → c < connection_limit → StandsAt s sent w machine → is_closing (link_at machine c).phase ≡ is_closed (present c w)
+pub closing_same : (s : Setting) (sent : ℕ → ℕ) (w : World) (machine : Machine) (c : ℕ) → c < connection_limit → StandsAt s sent w machine
+    → is_closing (link_at machine c).phase ≡ is_closed (present c w)
 closing_same s sent w machine c lt h =
     ap (λ (link : LinkState). is_closing link.phase) (link_stands s sent w machine c lt h) ∙ closing_of s.names (sent c) (half_of (present c w)) (present c w)
 
-pub waiting_same : (s : Setting) (sent : ℕ → ℕ) (w : World) (machine : Machine) (c : ℕ) → c < connection_limit → StandsAt s sent w machine → (link_at machine c).waiting ≡ unsent sent w c
+pub waiting_same : (s : Setting) (sent : ℕ → ℕ) (w : World) (machine : Machine) (c : ℕ) → c < connection_limit → StandsAt s sent w machine
+    → (link_at machine c).waiting ≡ unsent sent w c
 unfolding unsent
 waiting_same s sent w machine c lt h = waits_there s sent w machine c lt h
 
 -- where all that waits is sent, all that was answered is
-pub sent_whole : (s : Setting) (sent : ℕ → ℕ) (w : World) (machine : Machine) (c : ℕ) → c < connection_limit → StandsAt s sent w machine → sent c + length (link_at machine c).waiting ≡ all_sent w c
+pub sent_whole : (s : Setting) (sent : ℕ → ℕ) (w : World) (machine : Machine) (c : ℕ) → c < connection_limit → StandsAt s sent w machine
+    → sent c + length (link_at machine c).waiting ≡ all_sent w c
 sent_whole s sent w machine c lt h =
     omega (arith, h.answered c lt, ap length (waits_there s sent w machine c lt h) ∙ length-drop (sent c) (out_now (present c w)))
 

@@ -16,10 +16,12 @@ without_empty_end-cons part (next ∷ parts) lt = refl
 without_empty_end-append : (front parts : List (List ℕ)) → 0 < length parts → without_empty_end (front ++ parts) ≡ front ++ without_empty_end parts
 without_empty_end-append [] parts lt = refl
 without_empty_end-append (part ∷ front) parts lt =
-    without_empty_end-cons part (front ++ parts) (omega (arith, length-append front parts)) ∙ ap (λ (parts : List (List ℕ)). part ∷ parts) (without_empty_end-append front parts lt)
+    without_empty_end-cons part (front ++ parts) (omega (arith, length-append front parts))
+    ∙ ap (λ (parts : List (List ℕ)). part ∷ parts) (without_empty_end-append front parts lt)
 
 -- where the parts of some bytes begin with these lines, the lines do
-pub lines_behind : (bytes pending : List ℕ) (front : List (List ℕ)) → slice_split is_newline bytes ≡ front ++ slice_split is_newline pending → lines bytes ≡ front ++ lines pending
+pub lines_behind : (bytes pending : List ℕ) (front : List (List ℕ)) → slice_split is_newline bytes ≡ front ++ slice_split is_newline pending
+    → lines bytes ≡ front ++ lines pending
 unfolding lines
 lines_behind bytes pending front e =
     ap without_empty_end e ∙ without_empty_end-append front (slice_split is_newline pending) (omega (arith, length-slice_split is_newline pending))
@@ -60,11 +62,13 @@ module _ {S : Type 0} (reply : S → List ℕ → Option (List ℕ × S)) where
   printed_before_twice t u None = refl
   printed_before_twice t u (Some p) = ap (λ (text : List ℕ). Some (text, p.1)) (sym (append_assoc t u p.0))
 
-  printed_before_behind : (t : List ℕ) (behind : List (List ℕ)) (r : Option (List ℕ × S)) → printed_before reply t (and_behind behind r) ≡ and_behind behind (printed_before reply t r)
+  printed_before_behind : (t : List ℕ) (behind : List (List ℕ)) (r : Option (List ℕ × S))
+      → printed_before reply t (and_behind behind r) ≡ and_behind behind (printed_before reply t r)
   printed_before_behind t behind None = refl
   printed_before_behind t behind (Some p) = printed_before_twice t p.0 (carried_out reply p.1 behind)
 
-  first_of_more : (front behind : List (List ℕ)) → ((s : S) → carried_out reply s (front ++ behind) ≡ and_behind behind (carried_out reply s front)) → (r : Option (List ℕ × S))
+  first_of_more : (front behind : List (List ℕ)) → ((s : S) → carried_out reply s (front ++ behind) ≡ and_behind behind (carried_out reply s front))
+      → (r : Option (List ℕ × S))
       → and_behind (front ++ behind) r ≡ and_behind behind (and_behind front r)
   first_of_more front behind rest None = refl
   first_of_more front behind rest (Some p) = ap (printed_before reply p.0) (rest p.1) ∙ printed_before_behind p.0 behind (carried_out reply p.1 front)
@@ -74,9 +78,11 @@ module _ {S : Type 0} (reply : S → List ℕ → Option (List ℕ × S)) where
   carried_out-append (line ∷ front) behind s = first_of_more front behind (carried_out-append front behind) (reply s line)
 
   -- one more line
-  pub carried_out_more : (s now next : S) (front : List (List ℕ)) (line text more : List ℕ) → carried_out reply s front ≡ Some (text, now) → reply now line ≡ Some (more, next)
+  pub carried_out_more : (s now next : S) (front : List (List ℕ)) (line text more : List ℕ) → carried_out reply s front ≡ Some (text, now)
+      → reply now line ≡ Some (more, next)
       → carried_out reply s (front ++ line ∷ []) ≡ Some (text ++ more, next)
-  carried_out_more s now next front line text more so_far e = carried_out-append front (line ∷ []) s ∙ ap (and_behind (line ∷ [])) so_far ∙ rw e (rw (append-nil more) refl)
+  carried_out_more s now next front line text more so_far e = carried_out-append front (line ∷ []) s ∙ ap (and_behind (line ∷ [])) so_far
+      ∙ rw e (rw (append-nil more) refl)
 
   pub carried_out_refused : (s now : S) (front : List (List ℕ)) (line text : List ℕ) → carried_out reply s front ≡ Some (text, now) → reply now line ≡ None
       → carried_out reply s (front ++ line ∷ []) ≡ None

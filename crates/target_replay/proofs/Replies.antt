@@ -27,7 +27,8 @@ no_event line other = rw (is_no_text line other) refl
 -- ---- an event
 
 pub open_acts : (s : Setting) (h : History) (c : ℕ) (target now : Machine) → c < connection_limit → is_open_at target c ≡ false
-    → ((s : Setting) (sent : ℕ → ℕ) (h : History) → Stands s sent target h → Stands s (with_sent sent c 0) now (h ++ plain (Open c) ∷ [])) → HasSentAll s h target → HasActed s h (Open c) now
+    → ((s : Setting) (sent : ℕ → ℕ) (h : History) → Stands s sent target h → Stands s (with_sent sent c 0) now (h ++ plain (Open c) ∷ []))
+    → HasSentAll s h target → HasActed s h (Open c) now
 unfolding unsent
 open_acts s h c target now lt free opens stands =
     let all = all_sent (world s h) in
@@ -42,14 +43,16 @@ open_acts s h c target now lt free opens stands =
       ];
     }
 
-pub bytes_act : (s : Setting) (h : History) (c : ℕ) (piece : List ℕ) (now : Machine) → Stands s (all_sent (world s h)) now (h ++ plain (Bytes c piece) ∷ []) → HasActed s h (Bytes c piece) now
+pub bytes_act : (s : Setting) (h : History) (c : ℕ) (piece : List ℕ) (now : Machine)
+    → Stands s (all_sent (world s h)) now (h ++ plain (Bytes c piece) ∷ []) → HasActed s h (Bytes c piece) now
 bytes_act s h c piece now stands = record { sent = all_sent (world s h); stands = stands; waiting = λ d. refl }
 
 nothing_left : (a b : ℕ) (o : Option Life) → o ≡ None → drop a (out_now o) ≡ drop b (out_now o)
 nothing_left a b o e = rw e (drop-nil {A = ℕ} a ∙ sym (drop-nil {A = ℕ} b))
 
 pub gone_acts : (s : Setting) (h : History) (c : ℕ) (target now : Machine)
-    → ((s : Setting) (sent : ℕ → ℕ) (h : History) → Stands s sent target h → Stands s (with_sent sent c 0) now (h ++ plain (Gone c) ∷ [])) → HasSentAll s h target → HasActed s h (Gone c) now
+    → ((s : Setting) (sent : ℕ → ℕ) (h : History) → Stands s sent target h → Stands s (with_sent sent c 0) now (h ++ plain (Gone c) ∷ []))
+    → HasSentAll s h target → HasActed s h (Gone c) now
 unfolding unsent
 gone_acts s h c target now ends stands =
     let all = all_sent (world s h) in
@@ -81,7 +84,8 @@ pub other_form : (s : Setting) (h : History) (line : List ℕ) → event_in line
 unfolding reply
 other_form s h line e = rw e refl
 
-pub refused : (s : Setting) (h : History) (line : List ℕ) (event : Event) → event_in line ≡ Some event → is_allowed (world s h) event ≡ false → reply s h line ≡ None
+pub refused : (s : Setting) (h : History) (line : List ℕ) (event : Event) → event_in line ≡ Some event → is_allowed (world s h) event ≡ false
+    → reply s h line ≡ None
 unfolding reply
 refused s h line event e not_allowed = rw e (rw not_allowed refl)
 
@@ -90,7 +94,8 @@ says : (s : Setting) (h : History) (line : List ℕ) (event : Event) → event_i
 unfolding reply
 says s h line event e allowed = rw e (rw allowed refl)
 
-pub replied : (s : Setting) (h : History) (line text : List ℕ) (event : Event) (acted now : Machine) → event_in line ≡ Some event → is_allowed (world s h) event ≡ true → HasActed s h event acted
+pub replied : (s : Setting) (h : History) (line text : List ℕ) (event : Event) (acted now : Machine) → event_in line ≡ Some event
+    → is_allowed (world s h) event ≡ true → HasActed s h event acted
     → ((s : Setting) (sent : ℕ → ℕ) (h : History) → Stands s sent acted h → HasPrintedAll s sent h text now) → HasReplied s h line text now
 replied s h line text event acted now e allowed did prints =
     let next = h ++ plain event ∷ [] in
@@ -98,6 +103,7 @@ replied s h line text event acted now e allowed did prints =
     record {
       now = after_printing s next;
       replied = says s h line event e allowed
-          ∙ ap (λ (text : List ℕ). Some (text, after_printing s next)) (sym (all.prints ∙ printed_same did.sent (all_sent (world s h)) (world s next) did.waiting));
+          ∙ ap (λ (text : List ℕ). Some (text, after_printing s next))
+          (sym (all.prints ∙ printed_same did.sent (all_sent (world s h)) (world s next) did.waiting));
       stands = all.stands;
     }

@@ -29,7 +29,8 @@ begun s engine stands pending number = record {
 }
 
 -- more of the pending line
-pub pending_more : (s : Setting) (bytes more text : List ℕ) (old new : Progress) → new.target ≡ old.target → new.number ≡ old.number → new.pending ≡ old.pending ++ more
+pub pending_more : (s : Setting) (bytes more text : List ℕ) (old new : Progress) → new.target ≡ old.target → new.number ≡ old.number
+    → new.pending ≡ old.pending ++ more
     → HasTaken s bytes old text → HasTaken s (bytes ++ more) new text
 pending_more s bytes more text old new target number pending h = record {
   ended = h.ended;
@@ -44,7 +45,8 @@ pending_more s bytes more text old new target number pending h = record {
 }
 
 -- the pending line is ended by a newline
-pub line_ended : (s : Setting) (bytes text : List ℕ) (old new : Progress) (w0 w1 : Option (List ℕ)) (h : HasTaken s bytes old text) (e : LineEnds s h.now old.pending new.target w0 w1) → new.pending ≡ []
+pub line_ended : (s : Setting) (bytes text : List ℕ) (old new : Progress) (w0 w1 : Option (List ℕ)) (h : HasTaken s bytes old text)
+    (e : LineEnds s h.now old.pending new.target w0 w1) → new.pending ≡ []
     → new.number ≡ old.number + 1 → HasTaken s (bytes ++ 10 ∷ []) new (text ++ e.text)
 line_ended s bytes text old new w0 w1 h e pending number = record {
   ended = h.ended ++ old.pending ∷ [];
@@ -61,7 +63,8 @@ line_ended s bytes text old new w0 w1 h e pending number = record {
 
 -- ---- a line that is carried out
 
-pub line_ends : (G : Type 0) (r : Result (Unit {0}) ReplayFault) (old : Progress) (target : Machine) (text : List ℕ) (w0 w1 : Option (List ℕ)) → (G → (s : Setting) (h : History) → HasSentAll s h old.target → HasReplied s h old.pending text target)
+pub line_ends : (G : Type 0) (r : Result (Unit {0}) ReplayFault) (old : Progress) (target : Machine) (text : List ℕ) (w0 w1 : Option (List ℕ))
+    → (G → (s : Setting) (h : History) → HasSentAll s h old.target → HasReplied s h old.pending text target)
     → OnOk r (Appends w0 w1 text) → OnOk r (G → (s : Setting) (h : History) → HasSentAll s h old.target → LineEnds s h old.pending target w0 w1)
 line_ends G (Err fault) old target text w0 w1 replied whole = tt
 line_ends G (Ok x) old target text w0 w1 replied whole = λ sound s h stands.
@@ -71,7 +74,8 @@ line_ends G (Ok x) old target text w0 w1 replied whole = λ sound s h stands.
 -- ---- how a line stops it
 
 -- a write failed
-pub line_fails : (G : Type 0) (r : Result (Unit {0}) ReplayFault) (old : Progress) (target : Machine) (text : List ℕ) (w0 w1 : Option (List ℕ)) → (G → (s : Setting) (h : History) → HasSentAll s h old.target → HasReplied s h old.pending text target)
+pub line_fails : (G : Type 0) (r : Result (Unit {0}) ReplayFault) (old : Progress) (target : Machine) (text : List ℕ) (w0 w1 : Option (List ℕ))
+    → (G → (s : Setting) (h : History) → HasSentAll s h old.target → HasReplied s h old.pending text target)
     → OnErr r ((part : List ℕ) × (unprinted : List ℕ) × (text ≡ part ++ unprinted) × Appends w0 w1 part) → IfErr r (λ fault. fault ≡ faults.Output)
     → IfErr r (λ fault. G → (s : Setting) (h : History) → HasSentAll s h old.target → LineFails s h old w0 w1 fault)
 line_fails G (Ok x) old target text w0 w1 replied part output = tt
@@ -79,15 +83,18 @@ line_fails G (Err fault) old target text w0 w1 replied part output = λ sound s 
     (let now = replied sound s h stands in
     subst (LineFails s h old w0 w1) (sym output) (part.0, part.1, now.now, now.replied ∙ ap (λ (text : List ℕ). Some (text, now.now)) part.2, part.3))
 
-shown : (s : Setting) (past : History) (old : Progress) (w0 w1 : Option (List ℕ)) (fault : ReplayFault) → LineFails s past old w0 w1 fault → (text : List ℕ) × Appends w0 w1 text
+shown : (s : Setting) (past : History) (old : Progress) (w0 w1 : Option (List ℕ)) (fault : ReplayFault) → LineFails s past old w0 w1 fault
+    → (text : List ℕ) × Appends w0 w1 text
 shown s past old w0 w1 (faults.Refused number) f = ([], Appends-kept w0 w0 w1 [] (Appends-nil w0) f.2)
 shown s past old w0 w1 faults.OutOfMemory f = ([], Appends-kept w0 w0 w1 [] (Appends-nil w0) f)
 shown s past old w0 w1 faults.Output f = (f.0, f.4)
 shown s past old w0 w1 faults.Input f = absurd f
 
 -- the pending line is the next one of the input
-stopped : (old : Progress) (w0 w1 : Option (List ℕ)) (fault : ReplayFault) (s : Setting) (bytes text input : List ℕ) (h : HasTaken s bytes old text) (f : LineFails s h.now old w0 w1 fault)
-    (behind : List (List ℕ)) → lines input ≡ (h.ended ++ old.pending ∷ []) ++ behind → StopsBy (reply s) fault [] input (text ++ (shown s h.now old w0 w1 fault f).0)
+stopped : (old : Progress) (w0 w1 : Option (List ℕ)) (fault : ReplayFault) (s : Setting) (bytes text input : List ℕ) (h : HasTaken s bytes old text)
+    (f : LineFails s h.now old w0 w1 fault)
+    (behind : List (List ℕ)) → lines input ≡ (h.ended ++ old.pending ∷ []) ++ behind
+    → StopsBy (reply s) fault [] input (text ++ (shown s h.now old w0 w1 fault f).0)
 unfolding StopsBy shown
 stopped old w0 w1 (faults.Refused number) s bytes text input h f behind e = (
   h.ended,
@@ -115,7 +122,8 @@ stopped old w0 w1 faults.Output s bytes text input h f behind e = (
 stopped old w0 w1 faults.Input s bytes text input h f behind e = absurd f
 
 -- a newline ends the pending line, and it stops the replay
-pub line_stops : (old : Progress) (w0 w1 : Option (List ℕ)) (fault : ReplayFault) → ((s : Setting) (h : History) → HasSentAll s h old.target → LineFails s h old w0 w1 fault) → Stops old (10 ∷ []) w0 w1 fault
+pub line_stops : (old : Progress) (w0 w1 : Option (List ℕ)) (fault : ReplayFault)
+    → ((s : Setting) (h : History) → HasSentAll s h old.target → LineFails s h old w0 w1 fault) → Stops old (10 ∷ []) w0 w1 fault
 line_stops old w0 w1 fault fails s bytes before h = (let f = fails s h.now h.stands in (
   (shown s h.now old w0 w1 fault f).0,
   (shown s h.now old w0 w1 fault f).1,
@@ -130,12 +138,14 @@ all_lines s bytes text old h =
     lines_behind bytes old.pending h.ended
     (ap (slice_split is_newline) (sym (append-nil bytes)) ∙ h.cut [] ∙ ap (λ (line : List ℕ). h.ended ++ slice_split is_newline line) (append-nil old.pending))
 
-with_last : (s : Setting) (bytes text : List ℕ) (old : Progress) (h : HasTaken s bytes old text) → 0 < length old.pending → lines bytes ≡ h.ended ++ old.pending ∷ []
+with_last : (s : Setting) (bytes text : List ℕ) (old : Progress) (h : HasTaken s bytes old text) → 0 < length old.pending → lines bytes ≡ h.ended
+    ++ old.pending ∷ []
 with_last s bytes text old h some =
     all_lines s bytes text old h ∙ ap (λ (behind : List (List ℕ)). h.ended ++ behind) (lines_last old.pending old.one_line some)
 
 -- the input ends, and its last line stops the replay
-pub last_stops : (old : Progress) (w0 w1 : Option (List ℕ)) (fault : ReplayFault) → 0 < length old.pending → ((s : Setting) (h : History) → HasSentAll s h old.target → LineFails s h old w0 w1 fault) → StopsLast old w0 w1 fault
+pub last_stops : (old : Progress) (w0 w1 : Option (List ℕ)) (fault : ReplayFault) → 0 < length old.pending
+    → ((s : Setting) (h : History) → HasSentAll s h old.target → LineFails s h old w0 w1 fault) → StopsLast old w0 w1 fault
 last_stops old w0 w1 fault some fails s bytes before h = (let f = fails s h.now h.stands in (
   (shown s h.now old w0 w1 fault f).0,
   (shown s h.now old w0 w1 fault f).1,
@@ -149,17 +159,23 @@ none_finishes old w none s bytes before h = (
   Appends-nil w,
   (
     h.now,
-    ap (carried_out (reply s) []) (all_lines s bytes before old h ∙ ap (λ (line : List ℕ). h.ended ++ lines line) none ∙ ap (λ (behind : List (List ℕ)). h.ended ++ behind) no_lines ∙ append-nil h.ended)
+    ap (carried_out (reply s) []) (all_lines s bytes before old h ∙ ap (λ (line : List ℕ). h.ended ++ lines line) none
+        ∙ ap (λ (behind : List (List ℕ)). h.ended ++ behind) no_lines ∙ append-nil h.ended)
         ∙ h.prints ∙ ap (λ (text : List ℕ). Some (text, h.now)) (sym (append-nil before)),
   ),
 )
 
-last_finishes : (old new : Progress) (w0 w1 : Option (List ℕ)) → 0 < length old.pending → ((s : Setting) (h : History) → HasSentAll s h old.target → LineEnds s h old.pending new.target w0 w1)
+last_finishes : (old new : Progress) (w0 w1 : Option (List ℕ)) → 0 < length old.pending
+    → ((s : Setting) (h : History) → HasSentAll s h old.target → LineEnds s h old.pending new.target w0 w1)
     → Finishes old w0 w1
 last_finishes old new w0 w1 some ends s bytes before h = (let e = ends s h.now h.stands in (
   e.text,
   e.printed,
-  (e.now, ap (carried_out (reply s) []) (with_last s bytes before old h some) ∙ carried_out_more (reply s) [] h.now e.now h.ended old.pending before e.text h.prints e.replied),
+  (
+    e.now,
+    ap (carried_out (reply s) []) (with_last s bytes before old h some)
+        ∙ carried_out_more (reply s) [] h.now e.now h.ended old.pending before e.text h.prints e.replied,
+  ),
 ))
 
 pub last_line_finishes : (G : Type 0) (r : Result (Unit {0}) ReplayFault) (old new : Progress) (w0 w1 : Option (List ℕ)) → 0 < length old.pending
@@ -183,14 +199,16 @@ takes_more a b c p q w0 w1 w2 first second s bytes before h =
           (subst (λ (text : List ℕ). HasTaken s ((bytes ++ p) ++ q) c text) (append_assoc before now.0 then.0) then.2),
     )
 
-pub stops_behind : (a b : Progress) (p q : List ℕ) (w0 w1 w2 : Option (List ℕ)) (fault : ReplayFault) → Takes a p b w0 w1 → Stops b q w1 w2 fault → Stops a (p ++ q) w0 w2 fault
+pub stops_behind : (a b : Progress) (p q : List ℕ) (w0 w1 w2 : Option (List ℕ)) (fault : ReplayFault) → Takes a p b w0 w1 → Stops b q w1 w2 fault
+    → Stops a (p ++ q) w0 w2 fault
 stops_behind a b p q w0 w1 w2 fault first second s bytes before h =
     let now = first s bytes before h in
     let then = second s (bytes ++ p) (before ++ now.0) now.2 in (
       now.0 ++ then.0,
       Appends-trans w0 w1 w2 now.0 then.0 now.1 then.1,
       λ rest.
-          subst (λ (input : List ℕ). StopsBy (reply s) fault [] input (before ++ (now.0 ++ then.0))) (append_assoc bytes p (q ++ rest) ∙ ap (λ (behind : List ℕ). bytes ++ behind) (sym (append_assoc p q rest)))
+          subst (λ (input : List ℕ). StopsBy (reply s) fault [] input (before ++ (now.0 ++ then.0))) (append_assoc bytes p (q ++ rest)
+          ∙ ap (λ (behind : List ℕ). bytes ++ behind) (sym (append_assoc p q rest)))
           (subst (λ (text : List ℕ). StopsBy (reply s) fault [] ((bytes ++ p) ++ (q ++ rest)) text) (append_assoc before now.0 then.0) (then.2 rest)),
     )
 
@@ -203,14 +221,21 @@ stops_before a p q w0 w1 fault first s bytes before h =
     )
 
 -- more of the pending line takes the engine on, and prints nothing
-pub pushed : (old new : Progress) (more : List ℕ) (w : Option (List ℕ)) → new.pending ≡ old.pending ++ more → new.target ≡ old.target → new.number ≡ old.number → Takes old more new w w
-pushed old new more w pending target number s bytes before h =
-    ([], Appends-nil w, subst (λ (text : List ℕ). HasTaken s (bytes ++ more) new text) (sym (append-nil before)) (pending_more s bytes more before old new target number pending h))
+pub pushed : (old new : Progress) (more : List ℕ) (w : Option (List ℕ)) → new.pending ≡ old.pending ++ more → new.target ≡ old.target
+    → new.number ≡ old.number → Takes old more new w w
+pushed old new more w pending target number s bytes before h = (
+  [],
+  Appends-nil w,
+  subst (λ (text : List ℕ). HasTaken s (bytes ++ more) new text) (sym (append-nil before))
+      (pending_more s bytes more before old new target number pending h),
+)
 
 -- ---- a line that comes whole
 
-pub line_takes : (G : Type 0) (r : Result (Unit {0}) ReplayFault) (old mid new : Progress) (rest : List ℕ) (w0 w1 : Option (List ℕ)) → mid.pending ≡ old.pending ++ rest → mid.target ≡ old.target → mid.number ≡ old.number
-    → OnOk r (G → (s : Setting) (h : History) → HasSentAll s h mid.target → LineEnds s h mid.pending new.target w0 w1) → OnOk r (new.pending ≡ []) → OnOk r (new.number ≡ mid.number + 1)
+pub line_takes : (G : Type 0) (r : Result (Unit {0}) ReplayFault) (old mid new : Progress) (rest : List ℕ) (w0 w1 : Option (List ℕ))
+    → mid.pending ≡ old.pending ++ rest → mid.target ≡ old.target → mid.number ≡ old.number
+    → OnOk r (G → (s : Setting) (h : History) → HasSentAll s h mid.target → LineEnds s h mid.pending new.target w0 w1) → OnOk r (new.pending ≡ [])
+    → OnOk r (new.number ≡ mid.number + 1)
     → OnOk r (G → Takes old (rest ++ 10 ∷ []) new w0 w1)
 line_takes G (Err fault) old mid new rest w0 w1 pending target number replied none next = tt
 line_takes G (Ok x) old mid new rest w0 w1 pending target number ends none next = λ sound s bytes before h.
@@ -218,13 +243,17 @@ line_takes G (Ok x) old mid new rest w0 w1 pending target number ends none next 
     let e = ends sound s more.now more.stands in (
       e.text,
       e.printed,
-      subst (λ (bytes : List ℕ). HasTaken s bytes new (before ++ e.text)) (append_assoc bytes rest (10 ∷ [])) (line_ended s (bytes ++ rest) before mid new w0 w1 more e none next),
+      subst (λ (bytes : List ℕ). HasTaken s bytes new (before ++ e.text)) (append_assoc bytes rest (10 ∷ []))
+          (line_ended s (bytes ++ rest) before mid new w0 w1 more e none next),
     ))
 
-pub line_stopped : (G : Type 0) (r : Result (Unit {0}) ReplayFault) (old mid : Progress) (rest : List ℕ) (w0 w1 : Option (List ℕ)) → mid.pending ≡ old.pending ++ rest → mid.target ≡ old.target → mid.number ≡ old.number
-    → IfErr r (λ fault. G → (s : Setting) (h : History) → HasSentAll s h mid.target → LineFails s h mid w0 w1 fault) → IfErr r (λ fault. G → Stops old (rest ++ 10 ∷ []) w0 w1 fault)
+pub line_stopped : (G : Type 0) (r : Result (Unit {0}) ReplayFault) (old mid : Progress) (rest : List ℕ) (w0 w1 : Option (List ℕ))
+    → mid.pending ≡ old.pending ++ rest → mid.target ≡ old.target → mid.number ≡ old.number
+    → IfErr r (λ fault. G → (s : Setting) (h : History) → HasSentAll s h mid.target → LineFails s h mid w0 w1 fault)
+    → IfErr r (λ fault. G → Stops old (rest ++ 10 ∷ []) w0 w1 fault)
 line_stopped G (Ok x) old mid rest w0 w1 pending target number f = tt
-line_stopped G (Err fault) old mid rest w0 w1 pending target number f = λ sound. stops_behind old mid rest (10 ∷ []) w0 w0 w1 fault (pushed old mid rest w0 pending target number) (line_stops mid w0 w1 fault (f sound))
+line_stopped G (Err fault) old mid rest w0 w1 pending target number f =
+    λ sound. stops_behind old mid rest (10 ∷ []) w0 w0 w1 fault (pushed old mid rest w0 pending target number) (line_stops mid w0 w1 fault (f sound))
 
 -- ---- memory that runs out before a line is carried out
 
@@ -243,32 +272,39 @@ memory_stops old piece w s bytes before h = (
 -- ---- a piece, line by line
 
 -- a fault that is passed on is the same
-pub passed_on : (r : Result (Unit {0}) ReplayFault) (fault : ReplayFault) (P : ReplayFault → Type 0) → IsErrAnd r (λ (other : ReplayFault). other ≡ fault) → P fault → IfErr r P
+pub passed_on : (r : Result (Unit {0}) ReplayFault) (fault : ReplayFault) (P : ReplayFault → Type 0)
+    → IsErrAnd r (λ (other : ReplayFault). other ≡ fault) → P fault → IfErr r P
 passed_on (Ok x) fault P is h = tt
 passed_on (Err other) fault P is h = subst P (sym is) h
 
-pub memory_passed_on : (G : Type 0) (r : Result (Unit {0}) ReplayFault) (fault : ReplayFault) (old : Progress) (piece : List ℕ) (w : Option (List ℕ)) → IsErrAnd r (λ (other : ReplayFault). other ≡ fault) → fault ≡ faults.OutOfMemory
+pub memory_passed_on : (G : Type 0) (r : Result (Unit {0}) ReplayFault) (fault : ReplayFault) (old : Progress) (piece : List ℕ)
+    (w : Option (List ℕ)) → IsErrAnd r (λ (other : ReplayFault). other ≡ fault) → fault ≡ faults.OutOfMemory
     → IfErr r (λ fault. G → Stops old piece w w fault)
-memory_passed_on G r fault old piece w is memory = passed_on r fault (λ fault. G → Stops old piece w w fault) is (λ sound. subst (Stops old piece w w) (sym memory) (memory_stops old piece w))
+memory_passed_on G r fault old piece w is memory = passed_on r fault (λ fault. G → Stops old piece w w fault) is
+    (λ sound. subst (Stops old piece w w) (sym memory) (memory_stops old piece w))
 
 pub cut_more : (piece taken rest line behind : List ℕ) → piece ≡ taken ++ rest → rest ≡ line ++ 10 ∷ behind → piece ≡ (taken ++ (line ++ 10 ∷ [])) ++ behind
 cut_more piece taken rest line behind e f =
     e ∙ ap (λ (rest : List ℕ). taken ++ rest) (f ∙ sym (append_assoc line (10 ∷ []) behind)) ∙ sym (append_assoc taken (line ++ 10 ∷ []) behind)
 
-pub stops_within : (a b : Progress) (piece taken rest line behind : List ℕ) (w0 w1 w2 : Option (List ℕ)) (fault : ReplayFault) → piece ≡ taken ++ rest → rest ≡ line ++ 10 ∷ behind → Takes a taken b w0 w1
+pub stops_within : (a b : Progress) (piece taken rest line behind : List ℕ) (w0 w1 w2 : Option (List ℕ)) (fault : ReplayFault) → piece ≡ taken
+    ++ rest → rest ≡ line ++ 10 ∷ behind → Takes a taken b w0 w1
     → Stops b (line ++ 10 ∷ []) w1 w2 fault → Stops a piece w0 w2 fault
 stops_within a b piece taken rest line behind w0 w1 w2 fault e f first second =
     subst (λ (piece : List ℕ). Stops a piece w0 w2 fault) (sym (cut_more piece taken rest line behind e f))
     (stops_before a (taken ++ (line ++ 10 ∷ [])) behind w0 w2 fault (stops_behind a b taken (line ++ 10 ∷ []) w0 w1 w2 fault first second))
 
 -- the rest of the piece has no newline
-pub rest_takes : (G : Type 0) (r : Result (Unit {0}) ReplayFault) (a b new : Progress) (piece taken rest : List ℕ) (w0 w1 : Option (List ℕ)) → piece ≡ taken ++ rest → (G → Takes a taken b w0 w1)
+pub rest_takes : (G : Type 0) (r : Result (Unit {0}) ReplayFault) (a b new : Progress) (piece taken rest : List ℕ) (w0 w1 : Option (List ℕ))
+    → piece ≡ taken ++ rest → (G → Takes a taken b w0 w1)
     → OnOk r (new.pending ≡ b.pending ++ rest) → new.target ≡ b.target → new.number ≡ b.number → OnOk r (G → Takes a piece new w0 w1)
 rest_takes G (Err fault) a b new piece taken rest w0 w1 e first pending target number = tt
 rest_takes G (Ok x) a b new piece taken rest w0 w1 e first pending target number = λ sound.
-    subst (λ (piece : List ℕ). Takes a piece new w0 w1) (sym e) (takes_more a b new taken rest w0 w1 w1 (first sound) (pushed b new rest w1 pending target number))
+    subst (λ (piece : List ℕ). Takes a piece new w0 w1) (sym e) (takes_more a b new taken rest w0 w1 w1 (first sound)
+    (pushed b new rest w1 pending target number))
 
-pub rest_stopped : (G : Type 0) (r : Result (Unit {0}) ReplayFault) (a b : Progress) (piece taken rest : List ℕ) (w0 w1 : Option (List ℕ)) → piece ≡ taken ++ rest → (G → Takes a taken b w0 w1)
+pub rest_stopped : (G : Type 0) (r : Result (Unit {0}) ReplayFault) (a b : Progress) (piece taken rest : List ℕ) (w0 w1 : Option (List ℕ))
+    → piece ≡ taken ++ rest → (G → Takes a taken b w0 w1)
     → IfErr r (λ fault. fault ≡ faults.OutOfMemory) → IfErr r (λ fault. G → Stops a piece w0 w1 fault)
 rest_stopped G (Ok x) a b piece taken rest w0 w1 e first memory = tt
 rest_stopped G (Err fault) a b piece taken rest w0 w1 e first memory = λ sound.

@@ -74,10 +74,12 @@ impl<S: Store> Engine<S> {
     /// The pending line has ended.
     fn end_line<W: Write>(&mut self, writer: &mut W) -> Result<(), ReplayFault>
         requires counts { self.old.number + 1 < 2 ^ 64 }
-        ensures reply { OnOk result (IsSound self.new.target → (s : Setting) (h : History) → HasSentAll s h self.old.target → LineEnds s h self.old.pending self.new.target (W.contents writer.old) (W.contents writer.new)) }
+        ensures reply { OnOk result (IsSound self.new.target → (s : Setting) (h : History) → HasSentAll s h self.old.target
+            → LineEnds s h self.old.pending self.new.target (W.contents writer.old) (W.contents writer.new)) }
         ensures pending { OnOk result (self.new.pending ≡ []) }
         ensures number { OnOk result (self.new.number ≡ self.old.number + 1) }
-        ensures fails { IfErr result (λ fault. IsSound self.new.target → (s : Setting) (h : History) → HasSentAll s h self.old.target → LineFails s h self.old (W.contents writer.old) (W.contents writer.new) fault) }
+        ensures fails { IfErr result (λ fault. IsSound self.new.target → (s : Setting) (h : History) → HasSentAll s h self.old.target
+            → LineFails s h self.old (W.contents writer.old) (W.contents writer.new) fault) }
         ensures sound { IsSound self.new.target → IsSound self.old.target }
         ensures sure { IsSure self.old.target → IsSure self.new.target }
     {
@@ -107,7 +109,8 @@ impl<S: Store> Engine<S> {
         requires one_line { All (λ byte. (byte == 10) ≡ false) rest.now }
         ensures takes { OnOk result (IsSound self.new.target → Takes self.old (rest.now ++ 10 ∷ []) self.new (W.contents writer.old) (W.contents writer.new)) }
         ensures number { OnOk result (self.new.number ≡ self.old.number + 1) }
-        ensures stops { IfErr result (λ fault. IsSound self.new.target → Stops self.old (rest.now ++ 10 ∷ []) (W.contents writer.old) (W.contents writer.new) fault) }
+        ensures stops { IfErr result (λ fault. IsSound self.new.target
+            → Stops self.old (rest.now ++ 10 ∷ []) (W.contents writer.old) (W.contents writer.new) fault) }
         ensures sound { IsSound self.new.target → IsSound self.old.target }
         ensures sure { IsSure self.old.target → IsSure self.new.target }
     {

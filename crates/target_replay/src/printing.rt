@@ -22,7 +22,8 @@ fn drain<S: Store>(alloc: Global, target: &mut Target<S>, c: usize) -> Result<Ve
     requires open { is_open_at target.old c ≡ true }
     ensures bytes { IfOk result (λ bytes. bytes.items ≡ (link_at target.old c).waiting) }
     ensures open { is_open_at target.new c ≡ true }
-    ensures stands { OnOk result (IsSound target.new → (s : Setting) (sent : ℕ → ℕ) (h : History) → Stands s sent target.old h → Stands s (with_sent sent c (all_sent (world s h) c)) target.new h) }
+    ensures stands { OnOk result (IsSound target.new → (s : Setting) (sent : ℕ → ℕ) (h : History) → Stands s sent target.old h
+        → Stands s (with_sent sent c (all_sent (world s h) c)) target.new h) }
     ensures sound { IsSound target.new → IsSound target.old }
     ensures sure { IsSure target.old → IsSure target.new }
 {
@@ -60,7 +61,8 @@ fn print_connection<S: Store>(
 ) -> Result<(), Memory>
     requires in_range { c < 64 }
     requires open { is_open_at target.old c ≡ true }
-    ensures prints { OnOk result (IsSound target.new → (s : Setting) (sent : ℕ → ℕ) (h : History) → Stands s sent target.old h → HasPrintedOne s sent h c (string_bytes text.old) (string_bytes text.new) target.new) }
+    ensures prints { OnOk result (IsSound target.new → (s : Setting) (sent : ℕ → ℕ) (h : History) → Stands s sent target.old h
+        → HasPrintedOne s sent h c (string_bytes text.old) (string_bytes text.new) target.new) }
     ensures sound { IsSound target.new → IsSound target.old }
     ensures sure { IsSure target.old → IsSure target.new }
 {
@@ -75,7 +77,8 @@ fn print_connection<S: Store>(
 
 /// Prints what has come of a line, connection by connection.
 pub fn print<S: Store>(alloc: Global, target: &mut Target<S>) -> Result<String, Memory>
-    ensures prints { IfOk result (λ text. IsSound target.new → (s : Setting) (sent : ℕ → ℕ) (h : History) → Stands s sent target.old h → HasPrintedAll s sent h (string_bytes text) target.new) }
+    ensures prints { IfOk result (λ text. IsSound target.new → (s : Setting) (sent : ℕ → ℕ) (h : History) → Stands s sent target.old h
+        → HasPrintedAll s sent h (string_bytes text) target.new) }
     ensures sound { IsSound target.new → IsSound target.old }
     ensures sure { IsSure target.old → IsSure target.new }
 {
@@ -92,7 +95,8 @@ pub fn print<S: Store>(alloc: Global, target: &mut Target<S>) -> Result<String, 
 /// say so much.
 pub fn print_all<W: Write>(text: &[u8], writer: &mut W) -> Result<(), ReplayFault>
     ensures whole { OnOk result (Appends (W.contents writer.old) (W.contents writer.new) text.now) }
-    ensures part { OnErr result ((part : List ℕ) × (unprinted : List ℕ) × (text.now ≡ part ++ unprinted) × Appends (W.contents writer.old) (W.contents writer.new) part) }
+    ensures part { OnErr result ((part : List ℕ) × (unprinted : List ℕ) × (text.now ≡ part ++ unprinted)
+        × Appends (W.contents writer.old) (W.contents writer.new) part) }
     ensures fault { IfErr result (λ fault. fault ≡ ReplayFault.Output) }
 {
     let mut rest = text;

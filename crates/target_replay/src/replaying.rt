@@ -24,8 +24,10 @@ pub fn replay<S: Store, R: Read, W: Write>(
 ) -> Result<(), ReplayFault>
     requires pending { engine.old.pending ≡ [] }
     requires number { engine.old.number ≡ 0 }
-    ensures done { OnOk result (IsSound engine.new.target → (s : Setting) → HasSentAll s [] engine.old.target → Ends (R.remaining reader.old) (R.remaining reader.new) (W.contents writer.old) (W.contents writer.new) s) }
-    ensures fails { IfErr result (λ fault. IsSound engine.new.target → (s : Setting) → HasSentAll s [] engine.old.target → EndsBy (R.remaining reader.old) (R.remaining reader.new) (W.contents writer.old) (W.contents writer.new) s fault) }
+    ensures done { OnOk result (IsSound engine.new.target → (s : Setting) → HasSentAll s [] engine.old.target
+        → Ends (R.remaining reader.old) (R.remaining reader.new) (W.contents writer.old) (W.contents writer.new) s) }
+    ensures fails { IfErr result (λ fault. IsSound engine.new.target → (s : Setting) → HasSentAll s [] engine.old.target
+        → EndsBy (R.remaining reader.old) (R.remaining reader.new) (W.contents writer.old) (W.contents writer.new) s fault) }
     ensures sure { IsSure engine.old.target → IsSure engine.new.target }
 {
     let mut chunk = [0u8; 4096];

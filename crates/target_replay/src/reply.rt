@@ -19,8 +19,10 @@ use std::str;
 /// Carries out an event where it is allowed, and says whether it is.
 fn act<S: Store>(target: &mut Target<S>, event: &Event) -> Result<bool, Starved>
     requires { connection_in event.now < 64 }
-    ensures allowed { IfOk result (λ allowed. (s : Setting) (h : History) → HasSentAll s h target.old → allowed ≡ is_allowed (world s h) (event_view event.now)) }
-    ensures acted { IfOk result (λ allowed. allowed ≡ true → IsSound target.new → (s : Setting) (h : History) → HasSentAll s h target.old → HasActed s h (event_view event.now) target.new) }
+    ensures allowed { IfOk result (λ allowed. (s : Setting) (h : History) → HasSentAll s h target.old
+        → allowed ≡ is_allowed (world s h) (event_view event.now)) }
+    ensures acted { IfOk result (λ allowed. allowed ≡ true → IsSound target.new → (s : Setting) (h : History) → HasSentAll s h target.old
+        → HasActed s h (event_view event.now) target.new) }
     ensures sound { IsSound target.new → IsSound target.old }
     ensures sure { IsSure target.old → IsSure target.new }
 {
@@ -65,7 +67,8 @@ pub fn reply<S: Store>(
     target: &mut Target<S>,
     bytes: &[u8],
 ) -> Result<Option<String>, Memory>
-    ensures reply { IfOk result (λ text. IsSound target.new → (s : Setting) (h : History) → HasSentAll s h target.old → MatchOption text (reply_of s h bytes.now ≡ None) (λ text. HasReplied s h bytes.now (string_bytes text) target.new)) }
+    ensures reply { IfOk result (λ text. IsSound target.new → (s : Setting) (h : History) → HasSentAll s h target.old
+        → MatchOption text (reply_of s h bytes.now ≡ None) (λ text. HasReplied s h bytes.now (string_bytes text) target.new)) }
     ensures sound { IsSound target.new → IsSound target.old }
     ensures sure { IsSure target.old → IsSure target.new }
 {

@@ -100,7 +100,8 @@ pub made_stands : (s : Setting) (target : Machine) → Stands s (λ c. 0) target
 made_stands s target h = stands_sent s (λ c. 0) (all_sent (world s [])) target [] (λ c lt. sym (nothing_answered s c)) h
 
 pub replay_ends : (held : Held) (left : LeftState) (r0 r1 w0 w1 : Option (List ℕ)) (document : Document) (units : List UnitStates) (first last target : Machine)
-    → AreUnitsOf held document.targets units → left.replayed ≡ Some target → target ≡ last → HasSentAll (setting_of document units) [] first → first.units ≡ units
+    → AreUnitsOf held document.targets units → left.replayed ≡ Some target → target ≡ last → HasSentAll (setting_of document units) [] first
+    → first.units ≡ units
     → (IsSure first → IsSure last) → (IsSound last → (s : Setting) → HasSentAll s [] first → Ends r0 r1 w0 w1 s)
     → IsReplay held left r0 r1 w0 w1 document (Ok tt)
 replay_ends held left r0 r1 w0 w1 document units first last target opened is same stands made sure done =
@@ -109,13 +110,16 @@ replay_ends held left r0 r1 w0 w1 document units first last target opened is sam
       opened = opened;
       target = target;
       is_left = is;
-      sure = λ in_memory. subst IsSound (sym same) (sound_if_sure last (sure (subst (λ (us : List UnitStates). All AreSure us) (sym made) (targets_sure held document.targets units opened in_memory))));
+      sure = λ in_memory. subst IsSound (sym same) (sound_if_sure last
+          (sure (subst (λ (us : List UnitStates). All AreSure us) (sym made) (targets_sure held document.targets units opened in_memory))));
       carried = λ sound. done (subst IsSound same sound) (setting_of document units) stands;
     }
 
-pub replay_fails : (held : Held) (left : LeftState) (r0 r1 w0 w1 : Option (List ℕ)) (document : Document) (units : List UnitStates) (first last target : Machine)
+pub replay_fails : (held : Held) (left : LeftState) (r0 r1 w0 w1 : Option (List ℕ)) (document : Document) (units : List UnitStates)
+    (first last target : Machine)
     (result : Result (Unit {0}) Fault) (fault : ReplayFault) → IsErrAnd result (λ seen. seen ≡ replay_fault fault)
-    → AreUnitsOf held document.targets units → left.replayed ≡ Some target → target ≡ last → HasSentAll (setting_of document units) [] first → first.units ≡ units
+    → AreUnitsOf held document.targets units → left.replayed ≡ Some target → target ≡ last → HasSentAll (setting_of document units) [] first
+    → first.units ≡ units
     → (IsSure first → IsSure last) → (IsSound last → (s : Setting) → HasSentAll s [] first → EndsBy r0 r1 w0 w1 s fault)
     → IsReplay held left r0 r1 w0 w1 document result
 replay_fails held left r0 r1 w0 w1 document units first last target (Ok end) fault told opened is same stands made sure fails = absurd told
@@ -125,36 +129,42 @@ replay_fails held left r0 r1 w0 w1 document units first last target (Err seen) f
       opened = opened;
       target = target;
       is_left = is;
-      sure = λ in_memory. subst IsSound (sym same) (sound_if_sure last (sure (subst (λ (us : List UnitStates). All AreSure us) (sym made) (targets_sure held document.targets units opened in_memory))));
+      sure = λ in_memory. subst IsSound (sym same) (sound_if_sure last
+          (sure (subst (λ (us : List UnitStates). All AreSure us) (sym made) (targets_sure held document.targets units opened in_memory))));
       carried = λ sound. (fault, told, fails (subst IsSound same sound) (setting_of document units) stands);
     }
 
 -- ---- serving
 
-pub fails_to_print : (line : List ℕ) (count : ℕ) (tells : Bool) (log : List Entry) (target : Machine) (w0 w1 : Option (List ℕ)) (result : Result (Unit {0}) Fault) (fault : ReplayFault) (text : List ℕ)
+pub fails_to_print : (line : List ℕ) (count : ℕ) (tells : Bool) (log : List Entry) (target : Machine) (w0 w1 : Option (List ℕ))
+    (result : Result (Unit {0}) Fault) (fault : ReplayFault) (text : List ℕ)
     → IsErrAnd result (λ seen. seen ≡ replay_fault fault) → fault ≡ replays.Output → text ≡ line
     → (part : List ℕ) × (unprinted : List ℕ) × (text ≡ part ++ unprinted) × Appends w0 w1 part → Serves line count tells log log target target w0 w1 result
 fails_to_print line count tells log target w0 w1 (Ok end) fault text told output same cut = absurd told
 fails_to_print line count tells log target w0 w1 (Err seen) fault text told output same cut =
     inl (inr (told ∙ ap replay_fault output, (cut.0, cut.1, sym same ∙ cut.2, cut.3)), refl, refl)
 
-pub serving_fails : (line : List ℕ) (count : ℕ) (tells : Bool) (log log_then : List Entry) (target target_then : Machine) (w0 w1 : Option (List ℕ)) (result : Result (Unit {0}) Fault) (fault : ServeFault)
+pub serving_fails : (line : List ℕ) (count : ℕ) (tells : Bool) (log log_then : List Entry) (target target_then : Machine) (w0 w1 : Option (List ℕ))
+    (result : Result (Unit {0}) Fault) (fault : ServeFault)
     → IsErrAnd result (λ seen. seen ≡ faults.Socket) → HasServed line count tells log log_then target target_then w0 w1 (Err fault)
     → Serves line count tells log log_then target target_then w0 w1 result
 serving_fails line count tells log log_then target target_then w0 w1 (Ok end) fault told served = absurd told
 serving_fails line count tells log log_then target target_then w0 w1 (Err seen) fault told served = inr (Err fault, ap (λ (f : Fault). Err f) told, served)
 
-sure_behind : (line : List ℕ) (count : ℕ) (tells : Bool) (log log_then : List Entry) (target target_then : Machine) (w0 w1 : Option (List ℕ)) (result : Result (Unit {0}) Fault)
+sure_behind : (line : List ℕ) (count : ℕ) (tells : Bool) (log log_then : List Entry) (target target_then : Machine) (w0 w1 : Option (List ℕ))
+    (result : Result (Unit {0}) Fault)
     → Serves line count tells log log_then target target_then w0 w1 result → IsSure target → IsSure target_then
 sure_behind line count tells log log_then target target_then w0 w1 result (inl unserved) sure = subst IsSure (sym unserved.2) sure
 sure_behind line count tells log log_then target target_then w0 w1 result (inr served) sure = served.2.sure sure
 
-pub serving : (held : Held) (left : LeftState) (w0 w1 : Option (List ℕ)) (document : Document) (count : ℕ) (units : List UnitStates) (address : SocketAddr) (log : List Entry) (first : Machine) (served : ServedState)
+pub serving : (held : Held) (left : LeftState) (w0 w1 : Option (List ℕ)) (document : Document) (count : ℕ) (units : List UnitStates)
+    (address : SocketAddr) (log : List Entry) (first : Machine) (served : ServedState)
     (result : Result (Unit {0}) Fault) → AreUnitsOf held document.targets units → left.served ≡ Some served → log ≡ listening document.listen address
     → first ≡ new_machine (names_of document.targets) units
     → Serves (listening_line address) count true log served.log first served.target w0 w1 result → IsServing held left w0 w1 document count result
 serving held left w0 w1 document count units address log first served result opened is asked made serves =
-    let from_listening : Serves (listening_line address) count true (listening document.listen address) served.log (new_machine (names_of document.targets) units) served.target w0 w1 result =
+    let from_listening : Serves (listening_line address) count true (listening document.listen address) served.log
+    (new_machine (names_of document.targets) units) served.target w0 w1 result =
     subst (λ (m : Machine). Serves (listening_line address) count true (listening document.listen address) served.log m served.target w0 w1 result) made
     (subst (λ (es : List Entry). Serves (listening_line address) count true es served.log first served.target w0 w1 result) asked serves) in
     record {
@@ -162,7 +172,8 @@ serving held left w0 w1 document count units address log first served result ope
       opened = opened;
       served = served;
       is_left = is;
-      sure = λ in_memory. sound_if_sure served.target (sure_behind _ _ _ _ _ _ _ _ _ result from_listening (targets_sure held document.targets units opened in_memory));
+      sure = λ in_memory. sound_if_sure served.target (sure_behind _ _ _ _ _ _ _ _ _ result from_listening
+          (targets_sure held document.targets units opened in_memory));
       address = address;
       serves = from_listening;
     }
@@ -176,7 +187,8 @@ run_starves held left r w told None (Err seen) is = ((Keeps-refl r, Keeps-refl w
 run_starves held left r w told (Some (Replay path)) (Err seen) is = inl (ap (λ (f : Fault). Err f) is, (Keeps-refl r, Keeps-refl w))
 run_starves held left r w told (Some (Serve path turns)) (Err seen) is = inl (ap (λ (f : Fault). Err f) is, (Keeps-refl r, Keeps-refl w))
 
-pub run_unnamed : (held : Held) (left : LeftState) (r w : Option (List ℕ)) (told : List Noted) (command : Option Command) (result : Result (Unit {0}) Fault) (fault : WordsFault)
+pub run_unnamed : (held : Held) (left : LeftState) (r w : Option (List ℕ)) (told : List Noted) (command : Option Command)
+    (result : Result (Unit {0}) Fault) (fault : WordsFault)
     → IsErrAnd result (λ seen. seen ≡ words_fault fault) → ((fault ≡ words.Usage) × (command ≡ None)) ⊎ (fault ≡ words.Memory)
     → Runs held left r r w w told command result
 run_unnamed held left r w told command (Ok end) fault is named = absurd is
@@ -186,7 +198,8 @@ run_unnamed held left r w told command (Err seen) fault is (inr memory) =
     run_starves held left r w told command (Err seen) (is ∙ ap words_fault memory)
 
 -- the configuration's file could not be read
-pub serve_unread : (held : Held) (left : LeftState) (r w : Option (List ℕ)) (told : List Noted) (path : List ℕ) (turns : ℕ) (result : Result (Unit {0}) Fault) (fault : ConfigFault)
+pub serve_unread : (held : Held) (left : LeftState) (r w : Option (List ℕ)) (told : List Noted) (path : List ℕ) (turns : ℕ)
+    (result : Result (Unit {0}) Fault) (fault : ConfigFault)
     → IsErrAnd result (λ seen. seen ≡ config_fault fault) → Loads path told left.told (Err fault) → Runs held left r r w w told (Some (Serve path turns)) result
 serve_unread held left r w told path turns (Ok end) fault is loads = absurd is
 serve_unread held left r w told path turns (Err seen) why.OutOfMemory is loads = inl (ap (λ (f : Fault). Err f) is, (Keeps-refl r, Keeps-refl w))

@@ -23,7 +23,12 @@ unfolding blocks_of
 zero_blocks zero = refl
 zero_blocks (suc count) =
     let less : block_length * suc count - block_length ≡ block_length * count = omega arith in
-    rw (take-replicate {X = ℕ} block_length (block_length * suc count) 0 (omega arith), drop-replicate {X = ℕ} block_length (block_length * suc count) 0, less, zero_blocks count) refl
+    rw (
+      take-replicate {X = ℕ} block_length (block_length * suc count) 0 (omega arith),
+      drop-replicate {X = ℕ} block_length (block_length * suc count) 0,
+      less,
+      zero_blocks count,
+    ) refl
 
 zero_content : (count : ℕ) → disk_of (replicate (block_length * count) 0) ≡ replicate count (replicate block_length 0)
 zero_content count =
@@ -49,7 +54,8 @@ zero_opened count disk said synced failures honest steady =
     ∙ ap (λ (b : Bool). record disk { blocks = replicate count (replicate block_length 0); synced = false; failures = 0; honest = true; steady = b }) steady
 
 -- a unit over its medium
-pub unit_over : (held : Held) (entry : UnitEntry) (lun : ℕ) (medium : DeviceState) (unit : UnitState) → unit ≡ free_unit lun entry.serial medium → lun ≡ natural entry.lun
+pub unit_over : (held : Held) (entry : UnitEntry) (lun : ℕ) (medium : DeviceState) (unit : UnitState) → unit ≡ free_unit lun entry.serial medium
+    → lun ≡ natural entry.lun
     → IsMediumOf held entry.medium medium → IsUnitOf held entry unit
 unit_over held entry lun medium unit free number is =
     let same : unit.device ≡ medium = ap (λ (unit : UnitState). unit.device) free in
@@ -59,14 +65,16 @@ unit_over held entry lun medium unit free number is =
     }
 
 -- one more of each
-pub each_more : {X Y : Type 0} (R : X → Y → Type 0) (xs : List X) (ys : List Y) (x : X) (y : Y) → AreEach R xs ys → R x y → AreEach R (xs ++ x ∷ []) (ys ++ y ∷ [])
+pub each_more : {X Y : Type 0} (R : X → Y → Type 0) (xs : List X) (ys : List Y) (x : X) (y : Y) → AreEach R xs ys → R x y
+    → AreEach R (xs ++ x ∷ []) (ys ++ y ∷ [])
 each_more R [] [] x y h one = (one, tt)
 each_more R [] (z ∷ ys) x y h one = absurd h
 each_more R (z ∷ xs) [] x y h one = absurd h
 each_more R (z ∷ xs) (w ∷ ys) x y h one = (h.0, each_more R xs ys x y h.1 one)
 
 -- one more of each, seen by `view`
-pub each_view_more : {X Y Z : Type 0} (R : Y → Z → Type 0) (view : X → Y) (xs : List X) (zs now : List Z) (x : X) (z : Z) → now ≡ zs ++ z ∷ [] → AreEach R (map view xs) zs → R (view x) z
+pub each_view_more : {X Y Z : Type 0} (R : Y → Z → Type 0) (view : X → Y) (xs : List X) (zs now : List Z) (x : X) (z : Z) → now ≡ zs ++ z ∷ []
+    → AreEach R (map view xs) zs → R (view x) z
     → AreEach R (map view (xs ++ x ∷ [])) now
 each_view_more R view xs zs now x z pushed h one = rw (pushed, map-append view xs (x ∷ [])) (each_more R (map view xs) zs (view x) z h one)
 
@@ -79,29 +87,37 @@ true_or true b e = refl
 true_or false b e = e
 
 -- the units behind one keep their limits, and have no LUN that those from it on lack
-pub units_next : (now rest : List UnitConfiguration) (unit : UnitConfiguration) (all : List UnitConfiguration) → now ≡ unit ∷ rest → list_all unit_keeps (units_view now) ≡ true
+pub units_next : (now rest : List UnitConfiguration) (unit : UnitConfiguration) (all : List UnitConfiguration) → now ≡ unit ∷ rest
+    → list_all unit_keeps (units_view now) ≡ true
     → ((lun : ℕ) → has_file_unit lun (units_view now) ≡ true → has_file_unit lun (units_view all) ≡ true)
     → (list_all unit_keeps (units_view rest) ≡ true) × ((lun : ℕ) → has_file_unit lun (units_view rest) ≡ true → has_file_unit lun (units_view all) ≡ true)
-units_next now rest unit all taken kept named =
-    ((both (unit_keeps (unit_view unit)) (list_all unit_keeps (units_view rest)) (rw taken at kept)).1, λ lun found. named lun (rw taken (true_or _ (has_file_unit lun (units_view rest)) found)))
+units_next now rest unit all taken kept named = (
+  (both (unit_keeps (unit_view unit)) (list_all unit_keeps (units_view rest)) (rw taken at kept)).1,
+  λ lun found. named lun (rw taken (true_or _ (has_file_unit lun (units_view rest)) found)),
+)
 
 -- the same of targets
-pub targets_next : (now rest : List TargetConfiguration) (target : TargetConfiguration) (all : List TargetEntry) → now ≡ target ∷ rest → list_all target_keeps (targets_view now) ≡ true
+pub targets_next : (now rest : List TargetConfiguration) (target : TargetConfiguration) (all : List TargetEntry) → now ≡ target ∷ rest
+    → list_all target_keeps (targets_view now) ≡ true
     → ((name : List ℕ) (lun : ℕ) → has_file_unit_at name lun (targets_view now) ≡ true → has_file_unit_at name lun all ≡ true)
-    → (list_all target_keeps (targets_view rest) ≡ true) × ((name : List ℕ) (lun : ℕ) → has_file_unit_at name lun (targets_view rest) ≡ true → has_file_unit_at name lun all ≡ true)
+    → (list_all target_keeps (targets_view rest) ≡ true) × ((name : List ℕ) (lun : ℕ) → has_file_unit_at name lun (targets_view rest) ≡ true
+    → has_file_unit_at name lun all ≡ true)
 targets_next now rest target all taken kept named = (
   (both (target_keeps (target_view target)) (list_all target_keeps (targets_view rest)) (rw taken at kept)).1,
   λ name lun found. named name lun (rw taken (true_or _ (has_file_unit_at name lun (targets_view rest)) found)),
 )
 
 -- one more name
-pub names_next : (targets : List TargetConfiguration) (target : TargetConfiguration) (names now : List (String Global)) → now ≡ names ++ target.name ∷ [] → map string_bytes names ≡ names_of (targets_view targets)
+pub names_next : (targets : List TargetConfiguration) (target : TargetConfiguration) (names now : List (String Global)) → now ≡ names
+    ++ target.name ∷ [] → map string_bytes names ≡ names_of (targets_view targets)
     → map string_bytes now ≡ names_of (targets_view (targets ++ target ∷ []))
 names_next targets target names now pushed e =
-    rw (pushed, map-append string_bytes names (target.name ∷ []), e, map-append target_view targets (target ∷ [])) (sym (map-append (λ (target : TargetEntry). target.name) (targets_view targets) (target_view target ∷ [])))
+    rw (pushed, map-append string_bytes names (target.name ∷ []), e, map-append target_view targets (target ∷ []))
+    (sym (map-append (λ (target : TargetEntry). target.name) (targets_view targets) (target_view target ∷ [])))
 
 -- a target is made with units for each of its names
-pub as_many : (held : Held) (targets : List TargetEntry) (units : List UnitStates) (names : List (String Global)) → AreUnitsOf held targets units → map string_bytes names ≡ names_of targets → length units ≡ length names
+pub as_many : (held : Held) (targets : List TargetEntry) (units : List UnitStates) (names : List (String Global)) → AreUnitsOf held targets units
+    → map string_bytes names ≡ names_of targets → length units ≡ length names
 as_many held targets units names opened e =
     as_long targets units opened ∙ sym (length-map targets (λ target. target.name)) ∙ sym (ap length e) ∙ length-map names string_bytes
   where

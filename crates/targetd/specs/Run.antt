@@ -64,7 +64,8 @@ module _ (held : Held) (left : LeftState) (printed printed_then : Option (List �
     pub sure : keeps_in_memory document ≡ true → IsSound served.target
     -- where they listen
     pub address : SocketAddr
-    pub serves : Serves (listening_line address) count true (listening document.listen address) served.log (new_machine (names_of document.targets) units) served.target printed printed_then result
+    pub serves : Serves (listening_line address) count true (listening document.listen address) served.log
+        (new_machine (names_of document.targets) units) served.target printed printed_then result
 
   abbrev pub IsServingAt : ℕ → Result Document ConfigFault → Result (Unit {0}) Fault → Type 0
   IsServingAt count (Ok document) result = IsServing document count result
@@ -110,7 +111,9 @@ module _ (held : Held) (left : LeftState) (unread unread_then printed printed_th
   -- How a run by these words ends. What the file of the configuration holds is what was told of it, by its path.
   abbrev pub Runs : List Noted → Option Command → Result (Unit {0}) Fault → Type 0
   Runs told None result = IsUntouched × IsErrAnd result (λ fault. (fault ≡ Usage) ⊎ (fault ≡ OutOfMemory))
-  Runs told (Some (Replay path)) result = IsStarved result ⊎ ((file : Option (List ℕ)) × (left.told ≡ told_of path file told) × Replays (configured_by file) result)
+  Runs told (Some (Replay path)) result = IsStarved result ⊎ ((file : Option (List ℕ)) × (left.told ≡ told_of path file told)
+      × Replays (configured_by file) result)
   Runs told (Some (Serve path turns)) result =
       IsStarved result
-      ⊎ (Keeps unread unread_then × ((file : Option (List ℕ)) × (left.told ≡ told_of path file told) × ServesAt held left printed printed_then turns (configured_by file) result))
+      ⊎ (Keeps unread unread_then × ((file : Option (List ℕ)) × (left.told ≡ told_of path file told)
+      × ServesAt held left printed printed_then turns (configured_by file) result))

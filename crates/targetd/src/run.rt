@@ -32,7 +32,8 @@ fn replay_at<S: Start, R: Read, W: Write>(
     writer: &mut W,
 ) -> Result<(), Fault>
     ensures told { left.new.told.calls ≡ left.old.told.calls }
-    ensures ends { Replays S.held (left_view ⟦<MioPorts as Ports>⟧.log left.new) (R.remaining reader.old) (R.remaining reader.new) (W.contents writer.old) (W.contents writer.new) (file_config_of contents.now) result }
+    ensures ends { Replays S.held (left_view ⟦<MioPorts as Ports>⟧.log left.new) (R.remaining reader.old) (R.remaining reader.new)
+        (W.contents writer.old) (W.contents writer.new) (file_config_of contents.now) result }
 {
     let alloc = rt.alloc();
     let configuration = file_config(alloc, contents)?;
@@ -54,7 +55,8 @@ fn serve_at<S: Start, W: Write>(
     writer: &mut W,
 ) -> Result<(), Fault>
     ensures told { left.new.told.calls ≡ left.old.told.calls }
-    ensures ends { ServesAt S.held (left_view ⟦<MioPorts as Ports>⟧.log left.new) (W.contents writer.old) (W.contents writer.new) count (file_config_of contents.now) result }
+    ensures ends { ServesAt S.held (left_view ⟦<MioPorts as Ports>⟧.log left.new) (W.contents writer.old) (W.contents writer.new) count
+        (file_config_of contents.now) result }
 {
     let alloc = rt.alloc();
     let configuration = file_config(alloc, contents)?;
@@ -78,7 +80,8 @@ pub fn run<S: Start, R: Read, W: Write>(
     reader: &mut R,
     writer: &mut W,
 ) -> Result<(), Fault>
-    ensures { Runs S.held (left_view ⟦<MioPorts as Ports>⟧.log left.new) (R.remaining reader.old) (R.remaining reader.new) (W.contents writer.old) (W.contents writer.new) left.old.told.calls (mode_in (map string_bytes words.now)) result }
+    ensures { Runs S.held (left_view ⟦<MioPorts as Ports>⟧.log left.new) (R.remaining reader.old) (R.remaining reader.new)
+        (W.contents writer.old) (W.contents writer.new) left.old.told.calls (mode_in (map string_bytes words.now)) result }
 {
     let alloc = rt.alloc();
     let texts = texts(alloc, words)?;

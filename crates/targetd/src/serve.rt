@@ -30,7 +30,8 @@ pub fn serve<P: Ports, S: Store, W: Write>(
     count: u64,
     writer: &mut W,
 ) -> Result<(), Fault>
-    ensures { Serves (listening_line address) count (P.tells ports.new) (P.log ports.old) (P.log ports.new) target.old target.new (W.contents writer.old) (W.contents writer.new) result }
+    ensures { Serves (listening_line address) count (P.tells ports.new) (P.log ports.old) (P.log ports.new) target.old target.new
+        (W.contents writer.old) (W.contents writer.new) result }
 {
     let line = announcement(alloc, address)?;
     print_all(line.as_bytes(), writer)?;

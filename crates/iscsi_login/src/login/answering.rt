@@ -98,7 +98,8 @@ impl Login {
     fn accept(&self, request: &Frame, piece: Vec<u8>) -> LoginResponse
         requires next { piece.items ≡ take longest_piece self.now.due }
         requires short { length piece.items ≤ longest_piece }
-        ensures { result ≡ login_response self.now request.now (handle_with self.now request.now.header (step_of request.now.header self.now.due)) (accepted request.now.header self.now.due) }
+        ensures { result ≡ login_response self.now request.now
+            (handle_with self.now request.now.header (step_of request.now.header self.now.due)) (accepted request.now.header self.now.due) }
     {
         let header = &request.header;
         let step = self.step(header);

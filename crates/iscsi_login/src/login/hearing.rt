@@ -79,7 +79,8 @@ impl Login {
         due: BytesMut,
     ) -> Result<(), Memory>
         requires { due.items ≡ text_of (answer_pairs (is_none self.old.session) (declares self.old header.now) pairs) }
-        ensures ok { OnOk result ((names : List (List ℕ)) → asked ≡ asked_by self.old.session names header.now pairs → self.new ≡ heard names self.old header.now pairs) }
+        ensures ok { OnOk result ((names : List (List ℕ)) → asked ≡ asked_by self.old.session names header.now pairs
+            → self.new ≡ heard names self.old header.now pairs) }
         ensures due { OnOk result (self.new.due ≡ due.items) }
         ensures target { OnOk result ((count : ℕ) → AsksBelow count self.old.session → AsksBelow count asked → AsksBelow count self.new.session) }
         ensures err { OnErr result (self.new ≡ self.old) }

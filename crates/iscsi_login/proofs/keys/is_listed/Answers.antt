@@ -9,4 +9,5 @@ pub returns : goal.returns
 unfolding is_listed
 returns c =
     any_from_yields_List (bytes_eq c.args.word.now) _ _ _ c.any.ensures.ran
-    (YieldsList-from_str_split 44 c.args.offer.now (lit< tt) c.split.ensures.text c.split.ensures.has_more c.split.ensures.pattern) (λ x b q k. search (rules, tests))
+    (YieldsList-from_str_split 44 c.args.offer.now (lit< tt) c.split.ensures.text c.split.ensures.has_more c.split.ensures.pattern)
+    (λ x b q k. search (rules, tests))

@@ -11,4 +11,5 @@ returns-then-starts_with c =
 pub returns : goal.returns
 returns c =
     let is_sign = c.starts_with.ensures.byte (omega arith) (omega arith) (λ w o h. h) in
-    c.ok.ensures.value ∙ numeral_read c.args.radix c.args.digits.now c.from_str_radix.result (λ e. let t = ap (λ (n : ℕ). eqb n 43) e in absurd (cc (is_sign, c.if-starts_with.false))) c.from_str_radix.ensures.value
+    c.ok.ensures.value ∙ numeral_read c.args.radix c.args.digits.now c.from_str_radix.result (λ e. let t = ap (λ (n : ℕ). eqb n 43) e in
+    absurd (cc (is_sign, c.if-starts_with.false))) c.from_str_radix.ensures.value

@@ -9,4 +9,5 @@ returns-then-is_again c =
 
 pub loop-at-preserved : goal.loop-at-preserved
 loop-at-preserved c =
-    list_any_goes_on (is_again c.args.earlier.now) c.args.pairs.now c.loop-at.at _ c.pair.ensures (sym c.is_again.ensures ∙ c.if-is_again.false) c.loop-at.invariant
+    list_any_goes_on (is_again c.args.earlier.now) c.args.pairs.now c.loop-at.at _ c.pair.ensures (sym c.is_again.ensures ∙ c.if-is_again.false)
+    c.loop-at.invariant

@@ -6,5 +6,6 @@ use Rattle.target_config.proofs.distinct.has_lun_zero.Goals as goal
 
 pub returns : goal.returns
 returns c =
-    let found : c.are_with_zero.result ≡ list_any (λ unit. int_eq unit.lun (pos 0)) c.args.target.now.units.items = rw (← c.as_slice.ensures.value) c.are_with_zero.ensures in
+    let found : c.are_with_zero.result ≡ list_any (λ unit. int_eq unit.lun (pos 0)) c.args.target.now.units.items =
+    rw (← c.as_slice.ensures.value) c.are_with_zero.ensures in
     found ∙ list_any-luns (pos 0) c.args.target.now.units.items

@@ -6,4 +6,5 @@ use Rattle.target_config.proofs.distinct.is_apart.Given as goal
 -- the units from this one on decide
 abbrev pub invariant-loop-i : goal.invariant-loop-i
 invariant-loop-i l =
-    is_distinct_before shares_file (units_view l.units) (units_in (targets_view l.behind)) ≡ is_distinct_before shares_file (units_view (drop l.i l.units)) (units_in (targets_view l.behind))
+    is_distinct_before shares_file (units_view l.units) (units_in (targets_view l.behind))
+    ≡ is_distinct_before shares_file (units_view (drop l.i l.units)) (units_in (targets_view l.behind))

@@ -4,7 +4,11 @@ use Rattle.target_replay.proofs.printing.print.Goals as goal
 use Rattle.target_replay.proofs.printing.print.Goals.{then-is_open+in_ok-print_connection, else-is_open}
 
 pub loop-c-init : goal.loop-c-init
-loop-c-init g c = record { printed = rw c.new-text.ensures.bytes (λ sound s sent h stands. print_none s sent h c.args.target.now stands); sound = λ sound. sound; sure = λ sure. sure }
+loop-c-init g c = record {
+  printed = rw c.new-text.ensures.bytes (λ sound s sent h stands. print_none s sent h c.args.target.now stands);
+  sound = λ sound. sound;
+  sure = λ sure. sure;
+}
 
 pub loop-c-preserved : goal.loop-c-preserved
 loop-c-preserved g c =
@@ -14,7 +18,8 @@ loop-c-preserved g c =
           rw (w.target-is, w.text-is) record {
             printed = λ sound s sent h stands.
                 (let so_far = c.loop-c.invariant.printed (w.print_connection.ensures.sound sound) s sent h stands in
-                print_next s sent h at (string_bytes c.loop-c.text) (string_bytes w.print_connection.new.text) c.loop-c.target w.print_connection.new.target so_far
+                print_next s sent h at (string_bytes c.loop-c.text) (string_bytes w.print_connection.new.text) c.loop-c.target
+                w.print_connection.new.target so_far
                 (w.in_ok-print_connection.ensures.prints sound s so_far.sent (gone_below s h at) so_far.stands));
             sound = λ sound. c.loop-c.invariant.sound (w.print_connection.ensures.sound sound);
             sure = λ sure. w.print_connection.ensures.sure (c.loop-c.invariant.sure sure);
@@ -24,7 +29,8 @@ loop-c-preserved g c =
             printed = λ sound s sent h stands.
                 (let so_far = c.loop-c.invariant.printed sound s sent h stands in
                 print_next s sent h at (string_bytes c.loop-c.text) (string_bytes c.loop-c.text) c.loop-c.target c.loop-c.target so_far
-                (pass_one s so_far.sent (gone_below s h at) at (string_bytes c.loop-c.text) c.loop-c.target c.loop-c-test.true so_far.stands (sym w.if-is_open.ensures)));
+                (pass_one s so_far.sent (gone_below s h at) at (string_bytes c.loop-c.text) c.loop-c.target c.loop-c-test.true so_far.stands
+                (sym w.if-is_open.ensures)));
             sound = c.loop-c.invariant.sound;
             sure = c.loop-c.invariant.sure;
           }

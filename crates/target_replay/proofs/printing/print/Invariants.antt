@@ -9,7 +9,8 @@ use Rattle.target_replay.proofs.printing.print.Given as goal
 -- the connections below were printed
 abbrev pub invariant-loop-c : goal.invariant-loop-c
 invariant-loop-c g l = record {
-  printed : IsSound l.target → (s : Setting) (sent : ℕ → ℕ) (h : History) → Stands s sent l.fn.target h → HasPrintedBelow s sent h l.c (string_bytes l.text) l.target;
+  printed : IsSound l.target → (s : Setting) (sent : ℕ → ℕ) (h : History) → Stands s sent l.fn.target h
+      → HasPrintedBelow s sent h l.c (string_bytes l.text) l.target;
   sound : IsSound l.target → IsSound l.fn.target;
   sure : IsSure l.fn.target → IsSure l.target;
 }

@@ -10,6 +10,10 @@ loop-preserved g c =
     elim c.match-write.branch [
       | in-Ok w ↦
           let more = take w.in-Ok.count c.loop.rest.now in
-          rw w.rest-is (so_far.0 ++ more, written_more c.args.text.now so_far.0 c.loop.rest.now w.in-Ok.count so_far.1, Appends-trans _ _ _ so_far.0 more so_far.2 w.in-Ok.ensures.bytes)
+          rw w.rest-is (
+            so_far.0 ++ more,
+            written_more c.args.text.now so_far.0 c.loop.rest.now w.in-Ok.count so_far.1,
+            Appends-trans _ _ _ so_far.0 more so_far.2 w.in-Ok.ensures.bytes,
+          )
       | in-Err w ↦ rw w.rest-is (so_far.0, so_far.1, Appends-kept _ _ _ so_far.0 so_far.2 w.in-Err.ensures.bytes)
     ]

@@ -6,15 +6,20 @@ use Rattle.target_replay.proofs.printing.print_connection.Goals.{then-closing+in
 
 pub returns-clause-prints : goal.returns-clause-prints
 returns-clause-prints g c = λ sound s sent h stands.
-    (let printed : string_bytes c.print_bytes.new.text ≡ string_bytes c.args.text.now ++ bytes_line c.args.c c.in_ok-bytes.bytes.items = rw c.as_slice.ensures.value at c.in_ok-print_bytes.ensures in
+    (let printed : string_bytes c.print_bytes.new.text ≡ string_bytes c.args.text.now
+    ++ bytes_line c.args.c c.in_ok-bytes.bytes.items = rw c.as_slice.ensures.value at c.in_ok-print_bytes.ensures in
     elim c.if-closing.branch [
       | then-closing+in_ok-print_closed w ↦
           rw (w.target-is, w.text-is)
-          (closed_one s sent h c.args.c (string_bytes c.args.text.now) c.in_ok-bytes.bytes.items (string_bytes w.print_closed.new.text) c.args.target.now c.drain.new.target w.gone.new.self c.requires.in_range stands
-          c.in_ok-bytes.ensures.bytes (c.in_ok-bytes.ensures.stands (w.gone.ensures.sound (rw w.target-is at sound)) s sent h stands) w.if-closing.ensures (rw printed at w.in_ok-print_closed.ensures) (λ s sent h stands. w.gone.ensures.stands s sent h (λ _. stands) (rw w.target-is at sound)))
+          (closed_one s sent h c.args.c (string_bytes c.args.text.now) c.in_ok-bytes.bytes.items (string_bytes w.print_closed.new.text)
+          c.args.target.now c.drain.new.target w.gone.new.self c.requires.in_range stands
+          c.in_ok-bytes.ensures.bytes (c.in_ok-bytes.ensures.stands (w.gone.ensures.sound (rw w.target-is at sound)) s sent h stands)
+          w.if-closing.ensures (rw printed at w.in_ok-print_closed.ensures)
+          (λ s sent h stands. w.gone.ensures.stands s sent h (λ _. stands) (rw w.target-is at sound)))
       | else-closing w ↦
           rw (w.target-is, w.text-is)
-          (open_one s sent h c.args.c (string_bytes c.args.text.now) c.in_ok-bytes.bytes.items (string_bytes c.print_bytes.new.text) c.args.target.now c.drain.new.target c.requires.in_range stands
+          (open_one s sent h c.args.c (string_bytes c.args.text.now) c.in_ok-bytes.bytes.items (string_bytes c.print_bytes.new.text)
+          c.args.target.now c.drain.new.target c.requires.in_range stands
           c.in_ok-bytes.ensures.bytes (c.in_ok-bytes.ensures.stands (rw w.target-is at sound) s sent h stands) w.if-closing.ensures printed)
     ])
 

@@ -46,17 +46,21 @@ loop-preserved g c =
 pub returns-in-Ok-eq0-clause-done : goal.returns-in-Ok-eq0-clause-done
 returns-in-Ok-eq0-clause-done g c =
     let so_far = c.loop.invariant in
-    let end = read_end _ _ _ c.read.result c.read.new.buf so_far.bytes c.in-Ok-eq0.field-0 so_far.read c.in-Ok-eq0.is c.in-Ok-eq0.field-0-test (search rules) c.read.ensures.bytes in
+    let end = read_end _ _ _ c.read.result c.read.new.buf so_far.bytes c.in-Ok-eq0.field-0 so_far.read c.in-Ok-eq0.is c.in-Ok-eq0.field-0-test
+    (search rules) c.read.ensures.bytes in
     on_ok_weaker c.end.result
-    (λ last sound s made. let before = so_far.taken (c.end.ensures.sound sound) s made in whole_done s c.loop.engine so_far.bytes before.0 _ _ _ _ _ end.0 end.1 before.1 before.2 (last sound))
+    (λ last sound s made. let before = so_far.taken (c.end.ensures.sound sound) s made in
+    whole_done s c.loop.engine so_far.bytes before.0 _ _ _ _ _ end.0 end.1 before.1 before.2 (last sound))
     c.end.ensures.finishes
 
 pub returns-in-Ok-eq0-clause-fails : goal.returns-in-Ok-eq0-clause-fails
 returns-in-Ok-eq0-clause-fails g c =
     let so_far = c.loop.invariant in
-    let end = read_end _ _ _ c.read.result c.read.new.buf so_far.bytes c.in-Ok-eq0.field-0 so_far.read c.in-Ok-eq0.is c.in-Ok-eq0.field-0-test (search rules) c.read.ensures.bytes in
+    let end = read_end _ _ _ c.read.result c.read.new.buf so_far.bytes c.in-Ok-eq0.field-0 so_far.read c.in-Ok-eq0.is c.in-Ok-eq0.field-0-test
+    (search rules) c.read.ensures.bytes in
     IfErr-weaker c.end.result _ _
-    (λ fault last sound s made. let before = so_far.taken (c.end.ensures.sound sound) s made in whole_stopped fault s c.loop.engine so_far.bytes before.0 _ _ _ _ _ end.0 end.1 before.1 before.2 (last sound))
+    (λ fault last sound s made. let before = so_far.taken (c.end.ensures.sound sound) s made in
+    whole_stopped fault s c.loop.engine so_far.bytes before.0 _ _ _ _ _ end.0 end.1 before.1 before.2 (last sound))
     c.end.ensures.stops
 
 pub returns-in_err-take-in-Ok-clause-fails : goal.returns-in_err-take-in-Ok-clause-fails
@@ -65,7 +69,8 @@ returns-in_err-take-in-Ok-clause-fails g c =
     passed_on c.from_residual.result c.in_err-take-in-Ok.field-0.0 _ c.from_residual.ensures.1
     (λ sound s made.
     (let before = so_far.taken (c.take.ensures.sound sound) s made in
-    part_stopped c.in_err-take-in-Ok.field-0.0 s c.loop.engine so_far.bytes _ before.0 _ _ _ _ _ _ so_far.read c.in-Ok.ensures.bytes.0 before.1 before.2 (c.in_err-take-in-Ok.ensures.stops sound)))
+    part_stopped c.in_err-take-in-Ok.field-0.0 s c.loop.engine so_far.bytes _ before.0 _ _ _ _ _ _ so_far.read c.in-Ok.ensures.bytes.0 before.1
+    before.2 (c.in_err-take-in-Ok.ensures.stops sound)))
 
 pub returns-in-Err-2-clause-fails : goal.returns-in-Err-2-clause-fails
 returns-in-Err-2-clause-fails g c = λ sound s made.

@@ -14,5 +14,6 @@ invariant-loop g l = record {
   number : l.engine.number ≤ 4096 * l.counter;
   sound : IsSound l.engine.target → IsSound l.fn.engine.target;
   sure : IsSure l.fn.engine.target → IsSure l.engine.target;
-  taken : IsSound l.engine.target → (s : Setting) → HasSentAll s [] l.fn.engine.target → (text : List ℕ) × Appends (g.W.Write.contents l.fn.writer) (g.W.Write.contents l.writer) text × HasTaken s bytes l.engine text;
+  taken : IsSound l.engine.target → (s : Setting) → HasSentAll s [] l.fn.engine.target → (text : List ℕ)
+      × Appends (g.W.Write.contents l.fn.writer) (g.W.Write.contents l.writer) text × HasTaken s bytes l.engine text;
 }

@@ -36,12 +36,15 @@ returns-else-not-is_open-2-clause-allowed g c =
 pub returns-in_ok-open-in-Open-clause-acted : goal.returns-in_ok-open-in-Open-clause-acted
 returns-in_ok-open-in-Open-clause-acted g c =
     let lt = rw c.in-Open.is at c.requires in
-    rw c.in-Open.is (λ _ sound s h stands. open_acts s h c.in-Open.c c.args.target.now c.open.new.self lt (sym c.if-is_open.ensures) (λ s sent h stands. c.open.ensures.stands s sent h (λ _. stands) sound) stands)
+    rw c.in-Open.is (λ _ sound s h stands. open_acts s h c.in-Open.c c.args.target.now c.open.new.self lt (sym c.if-is_open.ensures)
+    (λ s sent h stands. c.open.ensures.stands s sent h (λ _. stands) sound) stands)
 
 pub returns-in_ok-feed-in-Bytes-clause-acted : goal.returns-in_ok-feed-in-Bytes-clause-acted
 returns-in_ok-feed-in-Bytes-clause-acted g c =
-    rw c.in-Bytes.is (λ _ sound s h stands. bytes_act s h c.in-Bytes.c c.in-Bytes.piece.items c.feed.new.self (rw c.as_slice.ensures.value at (c.in_ok-feed-in-Bytes.ensures.stands s _ h (λ _. stands) sound)))
+    rw c.in-Bytes.is (λ _ sound s h stands. bytes_act s h c.in-Bytes.c c.in-Bytes.piece.items c.feed.new.self
+    (rw c.as_slice.ensures.value at (c.in_ok-feed-in-Bytes.ensures.stands s _ h (λ _. stands) sound)))
 
 pub returns-else-not-is_open-2-clause-acted : goal.returns-else-not-is_open-2-clause-acted
 returns-else-not-is_open-2-clause-acted g c =
-    rw c.in-Gone.is (λ _ sound s h stands. gone_acts s h c.in-Gone.c c.args.target.now c.gone.new.self (λ s sent h stands. c.gone.ensures.stands s sent h (λ _. stands) sound) stands)
+    rw c.in-Gone.is (λ _ sound s h stands. gone_acts s h c.in-Gone.c c.args.target.now c.gone.new.self
+    (λ s sent h stands. c.gone.ensures.stands s sent h (λ _. stands) sound) stands)

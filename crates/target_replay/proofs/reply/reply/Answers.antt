@@ -6,7 +6,8 @@ use Rattle.target_replay.proofs.Replies.{other_form, refused, replied}
 use Rattle.target_replay.proofs.reply.reply.Goals as goal
 
 pub returns-in_default-clause-reply : goal.returns-in_default-clause-reply
-returns-in_default-clause-reply g c = λ sound s h stands. other_form s h c.args.bytes.now (sym c.in_ok-event.ensures.event ∙ ap (option_map event_view) c.in_default.is)
+returns-in_default-clause-reply g c = λ sound s h stands. other_form s h c.args.bytes.now (sym c.in_ok-event.ensures.event
+    ∙ ap (option_map event_view) c.in_default.is)
 
 pub returns-in-Ok-true-clause-reply : goal.returns-in-Ok-true-clause-reply
 returns-in-Ok-true-clause-reply g c = λ sound s h stands.

@@ -5,11 +5,14 @@ use Rattle.targetd.proofs.opening.open.Goals as goal
 
 pub loop-target-preserved : goal.loop-target-preserved
 loop-target-preserved g c =
-    let next = targets_next _ _ c.in-Some.target (targets_view c.args.configuration.targets.items) c.in-Some.ensures.steps.0 c.loop-target.invariant.2 c.loop-target.invariant.3 in (
+    let next = targets_next _ _ c.in-Some.target (targets_view c.args.configuration.targets.items) c.in-Some.ensures.steps.0
+    c.loop-target.invariant.2 c.loop-target.invariant.3 in (
       tt,
       tt,
       next.0,
       next.1,
-      names_next c.loop-target.yielded c.in-Some.target c.loop-target.targets.items c.push-in-loop-target.new.self.items c.in_ok-push.ensures.items c.loop-target.invariant.4,
-      each_view_more (IsTargetOf g.S.Start.held) target_view c.loop-target.yielded c.loop-target.units.items c.push.new.self.items c.in-Some.target c.in-Ok.opened c.in_ok-push-in-Ok.ensures.items c.loop-target.invariant.5 c.in-Ok.ensures.units,
+      names_next c.loop-target.yielded c.in-Some.target c.loop-target.targets.items c.push-in-loop-target.new.self.items c.in_ok-push.ensures.items
+          c.loop-target.invariant.4,
+      each_view_more (IsTargetOf g.S.Start.held) target_view c.loop-target.yielded c.loop-target.units.items c.push.new.self.items c.in-Some.target
+          c.in-Ok.opened c.in_ok-push-in-Ok.ensures.items c.loop-target.invariant.5 c.in-Ok.ensures.units,
     )

@@ -13,6 +13,7 @@ abbrev pub invariant-loop-target : goal.invariant-loop-target
 invariant-loop-target g l =
     (goal.iterator-loop-target g).can_next l.target-iterator × (goal.iterator-loop-target g).is_finite l.target-iterator
     × (list_all target_keeps (targets_view (into_iter_items l.target-iterator)) ≡ true)
-    × ((name : List ℕ) (lun : ℕ) → has_file_unit_at name lun (targets_view (into_iter_items l.target-iterator)) ≡ true → has_file_unit_at name lun (targets_view l.fn.configuration.targets.items) ≡ true)
+    × ((name : List ℕ) (lun : ℕ) → has_file_unit_at name lun (targets_view (into_iter_items l.target-iterator)) ≡ true
+    → has_file_unit_at name lun (targets_view l.fn.configuration.targets.items) ≡ true)
     × (map string_bytes l.targets.items ≡ names_of (targets_view l.yielded))
     × AreUnitsOf g.S.Start.held (targets_view l.yielded) l.units.items

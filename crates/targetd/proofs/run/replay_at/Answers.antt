@@ -13,7 +13,8 @@ new-requires g c =
 pub returns-in_err-ended-clause-ends : goal.returns-in_err-ended-clause-ends
 returns-in_err-ended-clause-ends g c =
     rw c.in_ok-configuration.ensures.read
-    (inr (replay_fails g.S.Start.held _ _ _ _ _ (configuration_view c.in_ok-configuration.configuration) c.in_ok-config.field-0.units.items c.new-engine.result.target
+    (inr (replay_fails g.S.Start.held _ _ _ _ _ (configuration_view c.in_ok-configuration.configuration) c.in_ok-config.field-0.units.items
+    c.new-engine.result.target
     c.replay-ended.new.engine.target c.into_target.result c.from_residual-in_err-ended.result c.in_err-ended.field-0.0 c.from_residual-in_err-ended.ensures.1
     c.in_ok-config.ensures.units refl c.into_target.ensures
     (rw c.new-engine.ensures.target (made_stands _ c.in_ok-target.target (rw c.in_ok-config.ensures.names at c.in_ok-target.ensures.stands)))
@@ -22,7 +23,8 @@ returns-in_err-ended-clause-ends g c =
 pub returns-clause-ends : goal.returns-clause-ends
 returns-clause-ends g c =
     rw c.in_ok-configuration.ensures.read
-    (inr (replay_ends g.S.Start.held _ _ _ _ _ (configuration_view c.in_ok-configuration.configuration) c.in_ok-config.field-0.units.items c.new-engine.result.target
+    (inr (replay_ends g.S.Start.held _ _ _ _ _ (configuration_view c.in_ok-configuration.configuration) c.in_ok-config.field-0.units.items
+    c.new-engine.result.target
     c.replay-ended.new.engine.target c.into_target.result c.in_ok-config.ensures.units refl c.into_target.ensures
     (rw c.new-engine.ensures.target (made_stands _ c.in_ok-target.target (rw c.in_ok-config.ensures.names at c.in_ok-target.ensures.stands)))
     (rw c.new-engine.ensures.target (ap (λ (m : Machine). m.units) c.in_ok-target.ensures.made)) c.replay-ended.ensures.sure c.in_ok-ended.ensures.done))

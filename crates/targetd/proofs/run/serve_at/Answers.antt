@@ -19,7 +19,9 @@ returns-clause-ends g c =
     let asked = c.in-Ok.ensures.told
     ∙ ap (λ (es : List Entry). es ++ Located (ip_octets (socket_ip address)) (socket_port address) ∷ [])
     (c.in_ok-ports.ensures.log ∙ ap (λ (text : List ℕ). Listened text ∷ []) (c.as_str.ensures.value ∙ c.in_ok-config.ensures.listen)) in
-    let made = c.in_ok-target.ensures.made ∙ ap (λ (names : List (List ℕ)). new_machine names c.in_ok-config.field-0.units.items) c.in_ok-config.ensures.names in
+    let made = c.in_ok-target.ensures.made ∙ ap (λ (names : List (List ℕ)). new_machine names c.in_ok-config.field-0.units.items)
+    c.in_ok-config.ensures.names in
     rw c.in_ok-configuration.ensures.read
-    (inr (serving g.S.Start.held _ _ _ (configuration_view c.in_ok-configuration.configuration) c.args.count c.in_ok-config.field-0.units.items address _ c.in_ok-target.target _
+    (inr (serving g.S.Start.held _ _ _ (configuration_view c.in_ok-configuration.configuration) c.args.count c.in_ok-config.field-0.units.items
+    address _ c.in_ok-target.target _
     c.serve-ended.result c.in_ok-config.ensures.units refl asked made c.serve-ended.ensures))

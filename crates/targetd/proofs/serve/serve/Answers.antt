@@ -4,7 +4,8 @@ use Rattle.targetd.proofs.serve.serve.Goals as goal
 
 pub returns-in_err-print_all : goal.returns-in_err-print_all
 returns-in_err-print_all g c =
-    fails_to_print _ _ _ _ _ _ _ c.from_residual-in_err-print_all.result c.in_err-print_all.field-0.0 c.as_bytes.result.now c.from_residual-in_err-print_all.ensures.1
+    fails_to_print _ _ _ _ _ _ _ c.from_residual-in_err-print_all.result c.in_err-print_all.field-0.0 c.as_bytes.result.now
+    c.from_residual-in_err-print_all.ensures.1
     c.in_err-print_all.ensures.fault (c.as_bytes.ensures.value ∙ c.in_ok-line.ensures) c.in_err-print_all.ensures.part
 
 pub returns-in_err-turns : goal.returns-in_err-turns

@@ -11,7 +11,9 @@ returns-then-is_empty-clause-finishes g c =
     λ sound. none_finishes c.args.self.now _ (nil_from_length c.args.self.now.pending none)
 
 pub returns-clause-finishes : goal.returns-clause-finishes
-returns-clause-finishes g c = last_line_finishes (IsSound c.end_line.new.self.target) c.end_line.result c.args.self.now c.end_line.new.self _ _ (search rules) c.end_line.ensures.reply
+returns-clause-finishes g c = last_line_finishes (IsSound c.end_line.new.self.target) c.end_line.result c.args.self.now c.end_line.new.self _ _
+    (search rules) c.end_line.ensures.reply
 
 pub returns-clause-stops : goal.returns-clause-stops
-returns-clause-stops g c = IfErr-weaker c.end_line.result _ _ (λ fault fails sound. last_stops c.args.self.now _ _ fault (search rules) (fails sound)) c.end_line.ensures.fails
+returns-clause-stops g c = IfErr-weaker c.end_line.result _ _ (λ fault fails sound. last_stops c.args.self.now _ _ fault (search rules)
+    (fails sound)) c.end_line.ensures.fails

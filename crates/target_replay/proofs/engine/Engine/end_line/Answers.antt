@@ -6,15 +6,27 @@ use Rattle.target_replay.proofs.engine.Engine.end_line.Goals as goal
 
 pub returns-clause-fails : goal.returns-clause-fails
 returns-clause-fails g c =
-    let old : Progress = record { target = c.self.inside.target; pending = c.self.inside.pending.items; number = c.self.inside.number; one_line = c.self.inside.one_line } in
+    let old : Progress = record {
+      target = c.self.inside.target;
+      pending = c.self.inside.pending.items;
+      number = c.self.inside.number;
+      one_line = c.self.inside.one_line;
+    } in
     rw (← c.self.view_is)
-    (line_fails (IsSound c.reply.new.target) c.print_all.result old c.reply.new.target c.as_bytes.result.now _ _ (rw c.as_bytes.ensures.value (search rules)) c.print_all.ensures.part c.print_all.ensures.fault)
+    (line_fails (IsSound c.reply.new.target) c.print_all.result old c.reply.new.target c.as_bytes.result.now _ _
+    (rw c.as_bytes.ensures.value (search rules)) c.print_all.ensures.part c.print_all.ensures.fault)
 
 pub returns-clause-reply : goal.returns-clause-reply
 returns-clause-reply g c =
-    let old : Progress = record { target = c.self.inside.target; pending = c.self.inside.pending.items; number = c.self.inside.number; one_line = c.self.inside.one_line } in
+    let old : Progress = record {
+      target = c.self.inside.target;
+      pending = c.self.inside.pending.items;
+      number = c.self.inside.number;
+      one_line = c.self.inside.one_line;
+    } in
     rw (← c.self.view_is)
-    (line_ends (IsSound c.reply.new.target) c.print_all.result old c.reply.new.target c.as_bytes.result.now _ _ (rw c.as_bytes.ensures.value (search rules)) c.print_all.ensures.whole)
+    (line_ends (IsSound c.reply.new.target) c.print_all.result old c.reply.new.target c.as_bytes.result.now _ _
+    (rw c.as_bytes.ensures.value (search rules)) c.print_all.ensures.whole)
 
 pub returns-in_err-text-clause-sure : goal.returns-in_err-text-clause-sure
 returns-in_err-text-clause-sure g c = rw (← c.self.view_is) c.reply.ensures.sure
