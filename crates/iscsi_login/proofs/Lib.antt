@@ -3,3 +3,4 @@ pub mod Lists
 pub mod After
 pub mod Ranges
 pub mod Replying
+mod Dialogue

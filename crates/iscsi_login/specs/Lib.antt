@@ -13,5 +13,6 @@ pub mod Lookup
 pub mod LoginState
 pub mod Rules
 pub mod Login
+pub mod Laws
 pub mod ExamplesKeys
 pub mod ExamplesLogin

@@ -20,6 +20,7 @@
 mod answer;
 mod fault;
 mod keys;
+pub mod laws;
 mod login;
 mod names;
 mod number;
