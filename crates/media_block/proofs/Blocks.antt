@@ -22,7 +22,8 @@ pub take-blocks_of : (k count : ℕ) (content : List ℕ) → k ≤ count → ta
 unfolding blocks_of
 take-blocks_of zero count content within = refl
 take-blocks_of (suc k) zero content within = absurd (omega arith)
-take-blocks_of (suc k) (suc count) content within = ap (λ (blocks : List (List ℕ)). take block_length content ∷ blocks) (take-blocks_of k count (drop block_length content) (omega arith))
+take-blocks_of (suc k) (suc count) content within = ap (λ (blocks : List (List ℕ)). take block_length content ∷ blocks)
+    (take-blocks_of k count (drop block_length content) (omega arith))
 
 pub drop-blocks_of : (k count : ℕ) (content : List ℕ) → k ≤ count → drop k (blocks_of count content) ≡ blocks_of (count - k) (drop (block_length * k) content)
 unfolding blocks_of
@@ -34,22 +35,26 @@ drop-blocks_of (suc k) (suc count) content within =
     drop-blocks_of k count (drop block_length content) (omega arith) ∙ rw (less, whole, drop-drop (block_length * k) block_length content) refl
 
 -- they are those of the front
-blocks_of-take : (count m : ℕ) (content : List ℕ) → count ≤ m → blocks_of count (take (block_length * m) content) ≡ blocks_of count content
+pub blocks_of-take : (count m : ℕ) (content : List ℕ) → count ≤ m → blocks_of count (take (block_length * m) content) ≡ blocks_of count content
 unfolding blocks_of
 blocks_of-take zero m content within = refl
 blocks_of-take (suc count) m content within =
     let whole : block_length * m ≡ block_length + block_length * (m - 1) = omega arith in
-    let first : take block_length (take (block_length * m) content) ≡ take block_length content = take-take block_length (block_length * m) content (omega arith) in
-    let rest : drop block_length (take (block_length * m) content) ≡ take (block_length * (m - 1)) (drop block_length content) = rw whole (drop-take block_length (block_length * (m - 1)) content) in
+    let first : take block_length (take (block_length * m) content) ≡ take block_length content =
+    take-take block_length (block_length * m) content (omega arith) in
+    let rest : drop block_length (take (block_length * m) content) ≡ take (block_length * (m - 1)) (drop block_length content) =
+    rw whole (drop-take block_length (block_length * (m - 1)) content) in
     rw (first, rest, blocks_of-take count (m - 1) (drop block_length content) (omega arith)) refl
 
 -- equal fronts have equal blocks
-pub blocks_of-same : (count : ℕ) (old new : List ℕ) → take (block_length * count) new ≡ take (block_length * count) old → blocks_of count new ≡ blocks_of count old
+pub blocks_of-same : (count : ℕ) (old new : List ℕ) → take (block_length * count) new ≡ take (block_length * count) old
+    → blocks_of count new ≡ blocks_of count old
 blocks_of-same count old new same =
     sym (blocks_of-take count count new (omega arith)) ∙ ap (blocks_of count) same ∙ blocks_of-take count count old (omega arith)
 
 -- the blocks before a place and those from it on
-blocks_of-split : (k count : ℕ) (content : List ℕ) → k ≤ count → blocks_of count content ≡ blocks_of k content ++ blocks_of (count - k) (drop (block_length * k) content)
+blocks_of-split : (k count : ℕ) (content : List ℕ) → k ≤ count → blocks_of count content ≡ blocks_of k content
+    ++ blocks_of (count - k) (drop (block_length * k) content)
 blocks_of-split k count content within =
     sym (take-append-drop k (blocks_of count content)) ∙ rw (take-blocks_of k count content within, drop-blocks_of k count content within) refl
 
@@ -70,7 +75,7 @@ whole-blocks_of n content long first count within =
     ∙ length-take-le (block_length * count) (drop (block_length * first) content) (omega (arith, place, long, below))
 
 -- as many bytes as blocks come first, and then others
-blocks_of-append : (count rest : ℕ) (bytes content : List ℕ) → length bytes ≡ block_length * count
+pub blocks_of-append : (count rest : ℕ) (bytes content : List ℕ) → length bytes ≡ block_length * count
     → blocks_of (count + rest) (bytes ++ content) ≡ blocks_of count bytes ++ blocks_of rest content
 blocks_of-append count rest bytes content long =
     let others : count + rest - count ≡ rest = omega arith in
@@ -97,8 +102,13 @@ blocks_of-replaced first count n bytes old new within long whole is =
     let as_long : length front ≡ block_length * first = length-take-le (block_length * first) old (omega arith) in
     let parts : n ≡ first + (count + rest) = omega arith in
     let cut : blocks_of n new ≡ blocks_of first front ++ (blocks_of count bytes ++ blocks_of rest behind) =
-    ap (λ (m : ℕ). blocks_of m new) parts ∙ rw (is, blocks_of-append first (count + rest) front (bytes ++ behind) as_long, blocks_of-append count rest bytes behind whole) refl in
-    let before : take first (blocks_of n old) ≡ blocks_of first front = take-blocks_of first n old (omega arith) ∙ sym (blocks_of-take first first old (omega arith)) in
+    ap (λ (m : ℕ). blocks_of m new) parts ∙ rw (
+      is,
+      blocks_of-append first (count + rest) front (bytes ++ behind) as_long,
+      blocks_of-append count rest bytes behind whole,
+    ) refl in
+    let before : take first (blocks_of n old) ≡ blocks_of first front = take-blocks_of first n old (omega arith)
+    ∙ sym (blocks_of-take first first old (omega arith)) in
     cut ∙ rw (length-blocks_of count bytes, before, drop-range first count n old within) refl
 
 -- bytes outside a range of whole blocks that are as before

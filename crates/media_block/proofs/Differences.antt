@@ -15,7 +15,8 @@ data_of-add blocks first k m =
     let whole : first + (k + m) - first ≡ k + m = omega arith in
     let front : first + k - first ≡ k = omega arith in
     let behind : first + k + m - (first + k) ≡ m = omega arith in
-    rw (whole, front, behind, take-add k m (drop first blocks), drop-drop k first blocks) (concat-append (take k (drop first blocks)) (take m (drop (first + k) blocks)))
+    rw (whole, front, behind, take-add k m (drop first blocks), drop-drop k first blocks)
+    (concat-append (take k (drop first blocks)) (take m (drop (first + k) blocks)))
 
 -- where the fronts are the same
 pub first_difference-behind : (xs ys us vs : List ℕ) → length xs ≡ length ys → first_difference xs ys ≡ None
@@ -37,10 +38,12 @@ first_difference-front (x ∷ xs) (y ∷ ys) us vs at differ =
 
 -- bytes in front of some blocks, those against them, and those behind them
 bytes-parts : (bytes : List ℕ) (k p : ℕ)
-    → take (block_length * k) bytes ++ (slice_range bytes (block_length * k) (block_length * k + block_length * p) ++ drop (block_length * k + block_length * p) bytes) ≡ bytes
+    → take (block_length * k) bytes ++ (slice_range bytes (block_length * k) (block_length * k + block_length * p)
+    ++ drop (block_length * k + block_length * p) bytes) ≡ bytes
 bytes-parts bytes k p =
     let many : block_length * k + block_length * p - block_length * k ≡ block_length * p = omega arith in
-    rw (many, ← drop-drop (block_length * p) (block_length * k) bytes, take-append-drop (block_length * p) (drop (block_length * k) bytes)) (take-append-drop (block_length * k) bytes)
+    rw (many, ← drop-drop (block_length * p) (block_length * k) bytes, take-append-drop (block_length * p) (drop (block_length * k) bytes))
+    (take-append-drop (block_length * k) bytes)
 
 -- the bytes as far as some blocks, and those against them
 bytes-more : (bytes : List ℕ) (k p : ℕ)
@@ -61,12 +64,16 @@ found-difference blocks first count k p at bytes below long long_front same diff
     let behind = data_of blocks (first + k + p) (count - k - p) in
     let parts : data_of blocks first count ≡ data_of blocks first k ++ (data_of blocks (first + k) p ++ behind) =
     let counts : count ≡ k + (p + (count - k - p)) = omega arith in
-    ap (data_of blocks first) counts ∙ data_of-add blocks first k (p + (count - k - p)) ∙ ap (λ (xs : List ℕ). data_of blocks first k ++ xs) (data_of-add blocks (first + k) p (count - k - p)) in
-    let as_long : length (data_of blocks first k) ≡ length (take (block_length * k) bytes) = long_front ∙ sym (length-take-le (block_length * k) bytes (omega arith)) in
+    ap (data_of blocks first) counts ∙ data_of-add blocks first k (p + (count - k - p))
+    ∙ ap (λ (xs : List ℕ). data_of blocks first k ++ xs) (data_of-add blocks (first + k) p (count - k - p)) in
+    let as_long : length (data_of blocks first k) ≡ length (take (block_length * k) bytes) = long_front
+    ∙ sym (length-take-le (block_length * k) bytes (omega arith)) in
     let here : first_difference (data_of blocks (first + k) p ++ behind) (part ++ rest) ≡ Some at =
     first_difference-front (data_of blocks (first + k) p) part behind rest at (sym differ) in
-    let shifted : first_difference (data_of blocks first k ++ (data_of blocks (first + k) p ++ behind)) (take (block_length * k) bytes ++ (part ++ rest)) ≡ Some (at + length (data_of blocks first k)) =
-    first_difference-behind (data_of blocks first k) (take (block_length * k) bytes) (data_of blocks (first + k) p ++ behind) (part ++ rest) as_long same ∙ rw here refl in
+    let shifted : first_difference (data_of blocks first k ++ (data_of blocks (first + k) p ++ behind)) (take (block_length * k) bytes
+    ++ (part ++ rest)) ≡ Some (at + length (data_of blocks first k)) =
+    first_difference-behind (data_of blocks first k) (take (block_length * k) bytes) (data_of blocks (first + k) p ++ behind) (part ++ rest) as_long
+    same ∙ rw here refl in
     let place : block_length * k + at ≡ at + length (data_of blocks first k) = omega (arith, long_front) in
     ap (λ (n : ℕ). Some n) place ∙ sym (rw (← parts, bytes-parts bytes k p) at shifted)
 
@@ -77,7 +84,8 @@ pub no-difference : (blocks : List (List ℕ)) (first count k p : ℕ) (bytes : 
     → first_difference (data_of blocks first (k + p)) (take (block_length * (k + p)) bytes) ≡ None
 no-difference blocks first count k p bytes below long long_front same none =
     let part = slice_range bytes (block_length * k) (block_length * k + block_length * p) in
-    let as_long : length (data_of blocks first k) ≡ length (take (block_length * k) bytes) = long_front ∙ sym (length-take-le (block_length * k) bytes (omega arith)) in
+    let as_long : length (data_of blocks first k) ≡ length (take (block_length * k) bytes) = long_front
+    ∙ sym (length-take-le (block_length * k) bytes (omega arith)) in
     rw (data_of-add blocks first k p, ← bytes-more bytes k p)
     (first_difference-behind (data_of blocks first k) (take (block_length * k) bytes) (data_of blocks (first + k) p) part as_long same ∙ rw (← none) refl)
 

@@ -7,16 +7,12 @@ ghost use Rattle.media_block.specs.Blocks.{block_length, blocks_of, is_disk, dis
 
 use crate::difference::difference;
 use crate::fault::{DiskOpenFault, NotOpened};
+use crate::part::{PART, PART_LENGTH, repeated};
 use media_store::{Store, StoreFault};
 use std::marker::Model;
 
 /// The bytes of a block.
 pub const BLOCK_LENGTH: usize = 512;
-
-/// The most blocks that are compared at a time.
-const PART: u64 = 16;
-
-const PART_LENGTH: usize = 16 * BLOCK_LENGTH;
 
 /// Logical blocks of 512 bytes over a store. Places and lengths are in blocks.
 #[derive(Drop)]
@@ -31,9 +27,18 @@ impl<S: Store> Model for Disk<S> {
 
     ghost Value = { DiskState };
 
-    ghost view = { λ disk. record { blocks = blocks_of disk.block_count (S.Store.content disk.store); synced = S.Store.synced disk.store; failures = S.Store.failures disk.store; honest = S.Store.honest disk.store; steady = S.Store.steady disk.store } };
+    ghost view = { λ disk. record {
+      blocks = blocks_of disk.block_count
+          (S.Store.content disk.store);
+      synced = S.Store.synced disk.store;
+      failures = S.Store.failures disk.store;
+      honest = S.Store.honest disk.store;
+      steady = S.Store.steady disk.store;
+    } };
 
-    ghost invariant = { λ disk. (block_length * disk.block_count < 2 ^ 64) × (IsTrue (S.Store.honest disk.store) → length (S.Store.content disk.store) ≡ block_length * disk.block_count) × (0 < disk.block_count) };
+    ghost invariant = { λ disk. (block_length * disk.block_count < 2 ^ 64)
+        × (IsTrue (S.Store.honest disk.store) → length (S.Store.content disk.store) ≡ block_length * disk.block_count)
+        × (0 < disk.block_count) };
 }
 
 impl<S: Store> Disk<S> {
@@ -126,7 +131,7 @@ impl<S: Store> Disk<S> {
         count: u64,
         bytes: &[u8],
     ) -> Result<Option<usize>, StoreFault>
-        requires few { count ≤ 16 }
+        requires few { count ≤ PART }
         requires range { first + count ≤ length self.old.blocks }
         requires whole { length bytes.now ≡ block_length * count }
         ensures compared { IfOk result (λ at. IsTrue self.new.honest
@@ -191,8 +196,13 @@ impl<S: Store> Disk<S> {
     {
         // So the place of each block fits a u64.
         let _ = &self.block_count;
-        for number in 0..count {
-            self.write(first + number, 1, block)?;
+        let copies = repeated(block);
+        let mut number = 0;
+        while number < count {
+            let part = (count - number).min(PART);
+            let bytes = &copies[..BLOCK_LENGTH * part as usize];
+            self.write(first + number, part, bytes)?;
+            number += part;
         }
         Ok(())
     }

@@ -20,6 +20,7 @@ mod difference;
 mod disk;
 mod fault;
 pub mod laws;
+mod part;
 
 pub use disk::{BLOCK_LENGTH, Disk};
 pub use fault::{DiskOpenFault, NotOpened};

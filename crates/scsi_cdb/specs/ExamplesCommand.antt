@@ -15,22 +15,27 @@ test_unit_ready : (command_of (0x00 ∷ replicate 15 0xff) Disk ≡ Ok (to.Unit 
 test_unit_ready = (refl, refl)
 
 -- no code of that kind
-unknown_code : (command_of (0x01 ∷ replicate 15 0) Tape ≡ Err invalid_operation_code) × (command_of (0xff ∷ replicate 15 0) Disk ≡ Err invalid_operation_code) × (command_of (0x28 ∷ replicate 15 0) Tape ≡ Err invalid_operation_code)
+unknown_code : (command_of (0x01 ∷ replicate 15 0) Tape ≡ Err invalid_operation_code)
+    × (command_of (0xff ∷ replicate 15 0) Disk ≡ Err invalid_operation_code) × (command_of (0x28 ∷ replicate 15 0) Tape ≡ Err invalid_operation_code)
 unknown_code = (refl, refl, refl)
 
 -- READ (10) of logical block address 01020304h, 0800h blocks; FUA, DPO and the group number are not looked at
-read_10 : command_of (0x28 ∷ 0x18 ∷ 0x01 ∷ 0x02 ∷ 0x03 ∷ 0x04 ∷ 0x1f ∷ 0x08 ∷ 0x00 ∷ 0x00 ∷ replicate 6 0) Disk ≡ Ok (to.Disk (Read (record { first = 0x01020304; count = 2048 })))
+read_10 : command_of (0x28 ∷ 0x18 ∷ 0x01 ∷ 0x02 ∷ 0x03 ∷ 0x04 ∷ 0x1f ∷ 0x08 ∷ 0x00 ∷ 0x00 ∷ replicate 6 0) Disk
+    ≡ Ok (to.Disk (Read (record { first = 0x01020304; count = 2048 })))
 read_10 = refl
 
 -- one block too many, and protection information
-read_10_refused : (command_of (0x28 ∷ replicate 6 0 ++ 0x08 ∷ 0x01 ∷ replicate 7 0) Disk ≡ Err invalid_field) × (command_of (0x28 ∷ 0x20 ∷ replicate 14 0) Disk ≡ Err invalid_field)
+read_10_refused : (command_of (0x28 ∷ replicate 6 0 ++ 0x08 ∷ 0x01 ∷ replicate 7 0) Disk ≡ Err invalid_field)
+    × (command_of (0x28 ∷ 0x20 ∷ replicate 14 0) Disk ≡ Err invalid_field)
 read_10_refused = (refl, refl)
 
 -- READ (16) of logical block address 0102030405060708h, 2 blocks
-read_16 : command_of (0x88 ∷ 0x00 ∷ 0x01 ∷ 0x02 ∷ 0x03 ∷ 0x04 ∷ 0x05 ∷ 0x06 ∷ 0x07 ∷ 0x08 ∷ 0 ∷ 0 ∷ 0 ∷ 0x02 ∷ 0 ∷ 0 ∷ []) Disk ≡ Ok (to.Disk (Read (record { first = 0x0102030405060708; count = 2 })))
+read_16 : command_of (0x88 ∷ 0x00 ∷ 0x01 ∷ 0x02 ∷ 0x03 ∷ 0x04 ∷ 0x05 ∷ 0x06 ∷ 0x07 ∷ 0x08 ∷ 0 ∷ 0 ∷ 0 ∷ 0x02 ∷ 0 ∷ 0 ∷ []) Disk
+    ≡ Ok (to.Disk (Read (record { first = 0x0102030405060708; count = 2 })))
 read_16 = refl
 
-read_capacity : (command_of (0x25 ∷ replicate 15 0) Disk ≡ Ok (to.Disk ReadCapacity10)) × (command_of (0x9e ∷ 0x10 ∷ replicate 11 0 ++ 0x20 ∷ 0 ∷ 0 ∷ []) Disk ≡ Ok (to.Disk (ReadCapacity16 32)))
+read_capacity : (command_of (0x25 ∷ replicate 15 0) Disk ≡ Ok (to.Disk ReadCapacity10))
+    × (command_of (0x9e ∷ 0x10 ∷ replicate 11 0 ++ 0x20 ∷ 0 ∷ 0 ∷ []) Disk ≡ Ok (to.Disk (ReadCapacity16 32)))
 read_capacity = (refl, refl)
 
 -- another service action of SERVICE ACTION IN (16), GET LBA STATUS
@@ -38,7 +43,8 @@ other_service_action : command_of (0x9e ∷ 0x12 ∷ replicate 14 0) Disk ≡ Er
 other_service_action = refl
 
 -- REQUEST SENSE of 18 bytes; in the descriptor format (DESC)
-request_sense : (command_of (0x03 ∷ 0 ∷ 0 ∷ 0 ∷ 0x12 ∷ replicate 11 0) Tape ≡ Ok (to.Unit (RequestSense 18))) × (command_of (0x03 ∷ 0x01 ∷ 0 ∷ 0 ∷ 0x12 ∷ replicate 11 0) Disk ≡ Err invalid_field)
+request_sense : (command_of (0x03 ∷ 0 ∷ 0 ∷ 0 ∷ 0x12 ∷ replicate 11 0) Tape ≡ Ok (to.Unit (RequestSense 18)))
+    × (command_of (0x03 ∷ 0x01 ∷ 0 ∷ 0 ∷ 0x12 ∷ replicate 11 0) Disk ≡ Err invalid_field)
 request_sense = (refl, refl)
 
 -- standard INQUIRY data, 36 bytes; page 83h, 0102h bytes; a page without EVPD
@@ -54,17 +60,26 @@ mode_select : (command_of (0x15 ∷ 0x10 ∷ 0 ∷ 0 ∷ 0x10 ∷ replicate 11 0
 mode_select = (refl, refl, refl)
 
 -- MODE SENSE (6) of all pages, 255 bytes; (10) of the default of page 0Ah without descriptor, 0102h bytes; all subpages of all pages
-mode_sense : (command_of (0x1a ∷ 0 ∷ 0x3f ∷ 0 ∷ 0xff ∷ replicate 11 0) Disk ≡ Ok (to.Unit (ModeSense (record { header = Six; block_descriptor = true; control = Current; page = 0x3f; allocation_length = 255 }))))
-    × (command_of (0x5a ∷ 0x08 ∷ 0x8a ∷ 0 ∷ 0 ∷ 0 ∷ 0 ∷ 0x01 ∷ 0x02 ∷ replicate 7 0) Tape ≡ Ok (to.Unit (ModeSense (record { header = Ten; block_descriptor = false; control = Default; page = 0x0a; allocation_length = 0x0102 }))))
-    × (command_of (0x1a ∷ 0 ∷ 0x7f ∷ 0xff ∷ 0xff ∷ replicate 11 0) Disk ≡ Ok (to.Unit (ModeSense (record { header = Six; block_descriptor = true; control = Changeable; page = 0x3f; allocation_length = 255 }))))
+mode_sense : (command_of (0x1a ∷ 0 ∷ 0x3f ∷ 0 ∷ 0xff ∷ replicate 11 0) Disk
+    ≡ Ok (to.Unit (ModeSense (record { header = Six; block_descriptor = true; control = Current; page = 0x3f; allocation_length = 255 }))))
+    × (command_of (0x5a ∷ 0x08 ∷ 0x8a ∷ 0 ∷ 0 ∷ 0 ∷ 0 ∷ 0x01 ∷ 0x02 ∷ replicate 7 0) Tape
+    ≡ Ok (to.Unit (ModeSense (record { header = Ten; block_descriptor = false; control = Default; page = 0x0a; allocation_length = 0x0102 }))))
+    × (command_of (0x1a ∷ 0 ∷ 0x7f ∷ 0xff ∷ 0xff ∷ replicate 11 0) Disk
+    ≡ Ok (to.Unit (ModeSense (record { header = Six; block_descriptor = true; control = Changeable; page = 0x3f; allocation_length = 255 }))))
 mode_sense = (refl, refl, refl)
 
 -- another subpage; saved values, which is told first
-mode_sense_refused : (command_of (0x1a ∷ 0 ∷ 0x0a ∷ 0x01 ∷ 0xff ∷ replicate 11 0) Disk ≡ Err invalid_field) × (command_of (0x1a ∷ 0 ∷ 0x0a ∷ 0xff ∷ 0xff ∷ replicate 11 0) Disk ≡ Err invalid_field)
+mode_sense_refused : (command_of (0x1a ∷ 0 ∷ 0x0a ∷ 0x01 ∷ 0xff ∷ replicate 11 0) Disk ≡ Err invalid_field)
+    × (command_of (0x1a ∷ 0 ∷ 0x0a ∷ 0xff ∷ 0xff ∷ replicate 11 0) Disk ≡ Err invalid_field)
     × (command_of (0x1a ∷ 0 ∷ 0xca ∷ 0x01 ∷ 0xff ∷ replicate 11 0) Disk ≡ Err saving_not_supported)
 mode_sense_refused = (refl, refl, refl)
 
 -- REPORT LUNS, 256 bytes: without the well known ones, those alone, all; another SELECT REPORT
-report_luns : (command_of (0xa0 ∷ replicate 7 0 ++ 0x01 ∷ replicate 7 0) Disk ≡ Ok (to.Unit (ReportLuns (record { select = LogicalUnits; allocation_length = 256 })))) × (command_of (0xa0 ∷ 0 ∷ 0x01 ∷ replicate 5 0 ++ 0x01 ∷ replicate 7 0) Disk ≡ Ok (to.Unit (ReportLuns (record { select = WellKnown; allocation_length = 256 }))))
-    × (command_of (0xa0 ∷ 0 ∷ 0x02 ∷ replicate 5 0 ++ 0x01 ∷ replicate 7 0) Tape ≡ Ok (to.Unit (ReportLuns (record { select = All; allocation_length = 256 })))) × (command_of (0xa0 ∷ 0 ∷ 0x03 ∷ replicate 13 0) Disk ≡ Err invalid_field)
+report_luns : (command_of (0xa0 ∷ replicate 7 0 ++ 0x01 ∷ replicate 7 0) Disk
+    ≡ Ok (to.Unit (ReportLuns (record { select = LogicalUnits; allocation_length = 256 }))))
+    × (command_of (0xa0 ∷ 0 ∷ 0x01 ∷ replicate 5 0 ++ 0x01 ∷ replicate 7 0) Disk
+    ≡ Ok (to.Unit (ReportLuns (record { select = WellKnown; allocation_length = 256 }))))
+    × (command_of (0xa0 ∷ 0 ∷ 0x02 ∷ replicate 5 0 ++ 0x01 ∷ replicate 7 0) Tape
+    ≡ Ok (to.Unit (ReportLuns (record { select = All; allocation_length = 256 }))))
+    × (command_of (0xa0 ∷ 0 ∷ 0x03 ∷ replicate 13 0) Disk ≡ Err invalid_field)
 report_luns = (refl, refl, refl, refl)

@@ -8,6 +8,12 @@ use std::marker::Model;
 /// The most blocks of one READ.
 pub const MOST_BLOCKS: u32 = 2048;
 
+/// The most blocks of one COMPARE AND WRITE.
+pub const MOST_COMPARED: u32 = 128;
+
+/// The most blocks of one WRITE SAME.
+pub const MOST_SAME: u32 = 32768;
+
 /// So many blocks from the first one on, of which there are 2048 at most. Whether a disk has them is not
 /// known here.
 #[derive(Clone, Copy, Debug, PartialEq, Eq)]

@@ -37,7 +37,7 @@ mod mode;
 mod operation;
 mod report_luns;
 
-pub use block_range::{BlockRange, MOST_BLOCKS};
+pub use block_range::{BlockRange, MOST_BLOCKS, MOST_COMPARED, MOST_SAME};
 pub use cdb::Cdb;
 pub use command::{Command, DiskCommand, UnitCommand};
 pub use fault::FieldFault;

@@ -10,14 +10,17 @@ found_more : (test : ℕ → Bool) (n : ℕ) → filter test (range_with_len 0 (
 found_more test n =
     let more = filter_of_map_range_with_len_more test (λ (k : ℕ). k) 0 n n (omega arith) in
     let before : filter test (map (λ (k : ℕ). k) (range_with_len 0 n)) ≡ filter test (range_with_len 0 n) = ap (filter test) (map-id (range_with_len 0 n)) in
-    let after : filter test (map (λ (k : ℕ). k) (range_with_len 0 (n + 1))) ≡ filter test (range_with_len 0 (n + 1)) = ap (filter test) (map-id (range_with_len 0 (n + 1))) in
+    let after : filter test (map (λ (k : ℕ). k) (range_with_len 0 (n + 1))) ≡ filter test (range_with_len 0 (n + 1)) =
+    ap (filter test) (map-id (range_with_len 0 (n + 1))) in
     sym after ∙ more ∙ ap (λ (xs : List ℕ). xs ++ cond (test n) (n ∷ []) []) before
 
 -- and is there, or is not
-pub found_there : (test : ℕ → Bool) (n : ℕ) (list : List ℕ) → test n ≡ true → list ≡ filter test (range_with_len 0 n) → list ++ n ∷ [] ≡ filter test (range_with_len 0 (n + 1))
+pub found_there : (test : ℕ → Bool) (n : ℕ) (list : List ℕ) → test n ≡ true → list ≡ filter test (range_with_len 0 n) → list
+    ++ n ∷ [] ≡ filter test (range_with_len 0 (n + 1))
 found_there test n list there found = rw (found_more test n, there, found) refl
 
-pub found_none : (test : ℕ → Bool) (n : ℕ) (list : List ℕ) → test n ≡ false → list ≡ filter test (range_with_len 0 n) → list ≡ filter test (range_with_len 0 (n + 1))
+pub found_none : (test : ℕ → Bool) (n : ℕ) (list : List ℕ) → test n ≡ false → list ≡ filter test (range_with_len 0 n)
+    → list ≡ filter test (range_with_len 0 (n + 1))
 found_none test n list none found = rw (found_more test n, none, append-nil) found
 
 -- all numbers have been looked for

@@ -3,7 +3,7 @@ use Rattle.std.specs.Prelude.{ℕ, List, [], ◌∷◌, ◌++◌, map, length, f
 use Rattle.std.specs.Int.{w16, w32, w64, to_be_bytes}
 use Rattle.scsi_cdb.specs.declared.operation.Kind.{Kind}
 use Rattle.scsi_cdb.specs.declared.operation.Kind.TheVariants.{Disk, Tape}
-use Rattle.scsi_cdb.specs.Range.{most_blocks}
+use Rattle.scsi_cdb.specs.Range.{most_blocks, most_compared, most_same}
 use Rattle.scsi_inquiry.specs.Standard.{peripheral_byte, vendor}
 use Rattle.scsi_inquiry.specs.declared.peripheral.Peripheral.TheVariants.{Unit}
 use Rattle.scsi_inquiry.specs.declared.vpd_page.VpdPage.{VpdPage}
@@ -63,11 +63,11 @@ supported_pages kind = map (λ row. row.code) (filter (is_for kind) page_codes)
 abbrev pub designator : List ℕ → List ℕ
 designator serial = 0x02 ∷ 0x01 ∷ 0 ∷ length (vendor ++ serial) ∷ vendor ++ serial
 
--- SBC-3 "Block Limits VPD page": WSNZ in byte 4, MAXIMUM COMPARE AND WRITE LENGTH of 128 blocks in byte 5,
--- MAXIMUM TRANSFER LENGTH in bytes 8 to 11, the most blocks of one READ, MAXIMUM WRITE SAME LENGTH of 32768 in bytes 36 to 43
+-- SBC-3 "Block Limits VPD page": WSNZ in byte 4, MAXIMUM COMPARE AND WRITE LENGTH in byte 5, MAXIMUM TRANSFER LENGTH in
+-- bytes 8 to 11, the most blocks of one READ, MAXIMUM WRITE SAME LENGTH in bytes 36 to 43
 abbrev pub block_limits : List ℕ
 block_limits =
-    0x01 ∷ 0x80 ∷ replicate 2 0 ++ to_be_bytes w32 most_blocks ++ replicate 24 0 ++ to_be_bytes w64 32768 ++ replicate 20 0
+    0x01 ∷ most_compared ∷ replicate 2 0 ++ to_be_bytes w32 most_blocks ++ replicate 24 0 ++ to_be_bytes w64 most_same ++ replicate 20 0
 
 -- what stands behind the first four bytes of a page
 abbrev pub page_parameters : Kind → List ℕ → VpdPage → List ℕ

@@ -7,7 +7,7 @@ use crate::peripheral::Peripheral;
 use crate::put::put;
 use crate::vpd_page::VpdPage;
 use arrayvec::ArrayVec;
-use scsi_cdb::{Kind, MOST_BLOCKS};
+use scsi_cdb::{Kind, MOST_BLOCKS, MOST_COMPARED, MOST_SAME};
 
 /// The pages of a disk, and those of a tape.
 const DISK_PAGES: [u8; 5] = [0x00, 0x80, 0x83, 0xb0, 0xb1];
@@ -16,11 +16,6 @@ const TAPE_PAGES: [u8; 3] = [0x00, 0x80, 0x83];
 
 /// T10 vendor identification.
 const VENDOR: [u8; 8] = *b"ISCSIPRJ";
-
-/// In blocks, the most of a COMPARE AND WRITE, and of a WRITE SAME.
-const MOST_COMPARED: u8 = 128;
-
-const MOST_SAME: u64 = 32768;
 
 /// WSNZ: a WRITE SAME of no block is refused.
 const WRITE_SAME_NONZERO: u8 = 0x01;
@@ -46,10 +41,10 @@ fn block_limits() -> ArrayVec<u8, 64>
     ensures { result.items ≡ Rattle.scsi_inquiry.specs.VpdPages.block_limits }
 {
     let mut data = ArrayVec::new();
-    put(&mut data, &[WRITE_SAME_NONZERO, MOST_COMPARED, 0, 0]);
+    put(&mut data, &[WRITE_SAME_NONZERO, MOST_COMPARED as u8, 0, 0]);
     put(&mut data, &MOST_BLOCKS.to_be_bytes());
     put(&mut data, &[0; 24]);
-    put(&mut data, &MOST_SAME.to_be_bytes());
+    put(&mut data, &u64::from(MOST_SAME).to_be_bytes());
     put(&mut data, &[0; 20]);
     data
 }

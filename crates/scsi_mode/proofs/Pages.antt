@@ -22,7 +22,8 @@ pages_within-none zero parameters bytes none = refl
 pages_within-none (suc n) parameters bytes none = rw none refl
 
 -- what two functions make alike of each Ok
-and_then_same : (f g : Parameters → Result Parameters ListFault) (after : Result Parameters ListFault) → ((parameters : Parameters) → f parameters ≡ g parameters) → and_then f after ≡ and_then g after
+and_then_same : (f g : Parameters → Result Parameters ListFault) (after : Result Parameters ListFault)
+    → ((parameters : Parameters) → f parameters ≡ g parameters) → and_then f after ≡ and_then g after
 and_then_same f g (Ok parameters) same = same parameters
 and_then_same f g (Err fault) same = refl
 
@@ -45,9 +46,11 @@ pages_within-enough (suc n) (suc m) parameters bytes p q =
       | inl whole ↦
           let is = has_page-true bytes whole in
           let shorter = length-drop (page_length bytes) bytes in
-          let same = and_then_same (λ (after : Parameters). pages_within n after (drop (page_length bytes) bytes)) (λ (after : Parameters). pages_within m after (drop (page_length bytes) bytes))
+          let same = and_then_same (λ (after : Parameters). pages_within n after (drop (page_length bytes) bytes))
+          (λ (after : Parameters). pages_within m after (drop (page_length bytes) bytes))
           (after_page parameters (take (page_length bytes) bytes))
-          (λ after. pages_within-enough n m after (drop (page_length bytes) bytes) (omega (arith, shorter, is.some, is.within)) (omega (arith, shorter, is.some, is.within))) in
+          (λ after. pages_within-enough n m after (drop (page_length bytes) bytes) (omega (arith, shorter, is.some, is.within))
+          (omega (arith, shorter, is.some, is.within))) in
           pages_within-whole n parameters bytes whole ∙ same ∙ sym (pages_within-whole m parameters bytes whole)
       | inr broken ↦ rw broken refl
     ]
@@ -85,9 +88,11 @@ after_whole parameters bytes k after found is_after =
     let front = page_if-Some bytes k found in
     let is = has_page-true bytes front.whole in
     let shorter = length-drop (page_length bytes) bytes in
-    let same = and_then_same (λ (s : Parameters). pages_within (length bytes) s (drop (page_length bytes) bytes)) (λ (s : Parameters). pages_within (length (drop (page_length bytes) bytes)) s (drop (page_length bytes) bytes))
+    let same = and_then_same (λ (s : Parameters). pages_within (length bytes) s (drop (page_length bytes) bytes))
+    (λ (s : Parameters). pages_within (length (drop (page_length bytes) bytes)) s (drop (page_length bytes) bytes))
     (after_page parameters (take (page_length bytes) bytes))
-    (λ s. pages_within-enough (length bytes) (length (drop (page_length bytes) bytes)) s (drop (page_length bytes) bytes) (omega (arith, shorter, is.some, is.within)) (omega arith)) in
+    (λ s. pages_within-enough (length bytes) (length (drop (page_length bytes) bytes)) s (drop (page_length bytes) bytes)
+    (omega (arith, shorter, is.some, is.within)) (omega arith)) in
     rw (is_after, front.long)
     (pages_within-enough (length bytes) (suc (length bytes)) parameters bytes (omega arith) (omega arith)
     ∙ pages_within-whole (length bytes) parameters bytes front.whole ∙ same)

@@ -54,7 +54,8 @@ longer_header : mode_data (asked Ten Current 0x3f) disk ≡ Some
 longer_header = refl
 
 -- page 00h: header and descriptor alone; with DBD the header alone
-page_00 : (mode_data (asked Six Current 0x00) Tape ≡ Some (0x0b ∷ 0x00 ∷ 0x10 ∷ 0x08 ∷ replicate 8 0)) × (mode_data (without_descriptor Current 0x00) Tape ≡ Some (0x03 ∷ 0x00 ∷ 0x10 ∷ 0x00 ∷ []))
+page_00 : (mode_data (asked Six Current 0x00) Tape ≡ Some (0x0b ∷ 0x00 ∷ 0x10 ∷ 0x08 ∷ replicate 8 0))
+    × (mode_data (without_descriptor Current 0x00) Tape ≡ Some (0x03 ∷ 0x00 ∷ 0x10 ∷ 0x00 ∷ []))
 page_00 = (refl, refl)
 
 -- with SWP set: WP in the header, and bit 3 of byte 4 of page 0Ah
@@ -62,12 +63,14 @@ protected : mode_data (without_descriptor Current 0x0a) (Disk 4096 true) ≡ Som
 protected = refl
 
 -- what can be changed: a disk's SWP alone; the header shows SWP as it is
-changeable : (mode_data (without_descriptor Changeable 0x3f) (Disk 4096 true) ≡ Some (0x23 ∷ 0x00 ∷ 0x90 ∷ 0x00 ∷ 0x08 ∷ 0x12 ∷ replicate 18 0 ++ 0x0a ∷ 0x0a ∷ 0x00 ∷ 0x00 ∷ 0x08 ∷ replicate 7 0))
+changeable : (mode_data (without_descriptor Changeable 0x3f) (Disk 4096 true) ≡ Some (0x23 ∷ 0x00 ∷ 0x90 ∷ 0x00 ∷ 0x08 ∷ 0x12 ∷ replicate 18 0
+    ++ 0x0a ∷ 0x0a ∷ 0x00 ∷ 0x00 ∷ 0x08 ∷ replicate 7 0))
     × (mode_data (without_descriptor Changeable 0x0a) Tape ≡ Some (0x0f ∷ 0x00 ∷ 0x10 ∷ 0x00 ∷ 0x0a ∷ 0x0a ∷ replicate 10 0))
 changeable = (refl, refl)
 
 -- the default of SWP is 0, that of WCE is 1
-defaults : mode_data (without_descriptor Default 0x3f) (Disk 4096 true) ≡ Some (0x23 ∷ 0x00 ∷ 0x90 ∷ 0x00 ∷ 0x08 ∷ 0x12 ∷ 0x04 ∷ replicate 17 0 ++ 0x0a ∷ 0x0a ∷ replicate 10 0)
+defaults : mode_data (without_descriptor Default 0x3f) (Disk 4096 true) ≡ Some (0x23 ∷ 0x00 ∷ 0x90 ∷ 0x00 ∷ 0x08 ∷ 0x12 ∷ 0x04 ∷ replicate 17 0
+    ++ 0x0a ∷ 0x0a ∷ replicate 10 0)
 defaults = refl
 
 -- a tape has no page 08h, and nobody has 1Ch
@@ -80,7 +83,9 @@ abbrev control : ℕ → List ℕ
 control protect = 0x0a ∷ 0x0a ∷ 0 ∷ 0 ∷ protect ∷ replicate 7 0
 
 -- header, no descriptor, page 0Ah with SWP
-sets_swp : (selected disk Six (0 ∷ 0 ∷ 0 ∷ 0 ∷ control 0x08) ≡ Ok (Disk 4096 true)) × (selected disk Ten (replicate 8 0 ++ control 0x08) ≡ Ok (Disk 4096 true)) × (selected (Disk 4096 true) Six (0 ∷ 0 ∷ 0 ∷ 0 ∷ control 0) ≡ Ok (Disk 4096 false))
+sets_swp : (selected disk Six (0 ∷ 0 ∷ 0 ∷ 0 ∷ control 0x08) ≡ Ok (Disk 4096 true))
+    × (selected disk Ten (replicate 8 0 ++ control 0x08) ≡ Ok (Disk 4096 true))
+    × (selected (Disk 4096 true) Six (0 ∷ 0 ∷ 0 ∷ 0 ∷ control 0) ≡ Ok (Disk 4096 false))
 unfolding selected after_header after_pages has_page after_page is_page
 sets_swp = (refl, refl, refl)
 
@@ -92,32 +97,39 @@ unfolding selected after_header after_descriptor after_pages has_page after_page
 taken_back = refl
 
 -- page 0Ah twice: the last SWP counts. An empty list, and one with no page, change nothing
-last_counts : (selected disk Six (0 ∷ 0 ∷ 0 ∷ 0 ∷ control 0x08 ++ control 0) ≡ Ok (Disk 4096 false)) × (selected (Disk 4096 true) Six [] ≡ Ok (Disk 4096 true)) × (selected (Disk 4096 true) Six (replicate 4 0) ≡ Ok (Disk 4096 true))
+last_counts : (selected disk Six (0 ∷ 0 ∷ 0 ∷ 0 ∷ control 0x08 ++ control 0) ≡ Ok (Disk 4096 false))
+    × (selected (Disk 4096 true) Six [] ≡ Ok (Disk 4096 true)) × (selected (Disk 4096 true) Six (replicate 4 0) ≡ Ok (Disk 4096 true))
 unfolding selected after_header after_pages has_page after_page is_page
 last_counts = (refl, refl, refl)
 
 -- a header, a descriptor, the first two bytes of a page, and a page that end early
 ends_early : (selected disk Six (0 ∷ 0 ∷ 0 ∷ []) ≡ Err EndsEarly) × (selected disk Six (0 ∷ 0 ∷ 0 ∷ 8 ∷ 0 ∷ []) ≡ Err EndsEarly)
-    × (selected disk Six (0 ∷ 0 ∷ 0 ∷ 0 ∷ 0x0a ∷ []) ≡ Err EndsEarly) × (selected disk Six (0 ∷ 0 ∷ 0 ∷ 0 ∷ 0x0a ∷ 0x0a ∷ 0 ∷ 0 ∷ 0x08 ∷ replicate 6 0) ≡ Err EndsEarly)
+    × (selected disk Six (0 ∷ 0 ∷ 0 ∷ 0 ∷ 0x0a ∷ []) ≡ Err EndsEarly) × (selected disk Six
+    (0 ∷ 0 ∷ 0 ∷ 0 ∷ 0x0a ∷ 0x0a ∷ 0 ∷ 0 ∷ 0x08 ∷ replicate 6 0) ≡ Err EndsEarly)
 unfolding selected after_header after_descriptor after_pages has_page after_page is_page
 ends_early = (refl, refl, refl, refl)
 
 -- a descriptor length of 7, also where the list ends; a block length of 1024; another number of blocks; another bit of page 0Ah; a
 -- page of another length; a tape's SWP, page 08h and block length
-is_refused : (selected disk Six (0 ∷ 0 ∷ 0 ∷ 7 ∷ []) ≡ Err InvalidField) × (selected disk Six (0 ∷ 0 ∷ 0 ∷ 8 ∷ 0 ∷ 0 ∷ 0 ∷ 0 ∷ 0 ∷ 0 ∷ 0x04 ∷ 0 ∷ []) ≡ Err InvalidField)
-    × (selected disk Six (0 ∷ 0 ∷ 0 ∷ 8 ∷ 0 ∷ 0 ∷ 0x0f ∷ 0xff ∷ 0 ∷ 0 ∷ 0x02 ∷ 0 ∷ []) ≡ Err InvalidField) × (selected disk Six (0 ∷ 0 ∷ 0 ∷ 0 ∷ control 0x0c) ≡ Err InvalidField)
+is_refused : (selected disk Six (0 ∷ 0 ∷ 0 ∷ 7 ∷ []) ≡ Err InvalidField)
+    × (selected disk Six (0 ∷ 0 ∷ 0 ∷ 8 ∷ 0 ∷ 0 ∷ 0 ∷ 0 ∷ 0 ∷ 0 ∷ 0x04 ∷ 0 ∷ []) ≡ Err InvalidField)
+    × (selected disk Six (0 ∷ 0 ∷ 0 ∷ 8 ∷ 0 ∷ 0 ∷ 0x0f ∷ 0xff ∷ 0 ∷ 0 ∷ 0x02 ∷ 0 ∷ []) ≡ Err InvalidField)
+    × (selected disk Six (0 ∷ 0 ∷ 0 ∷ 0 ∷ control 0x0c) ≡ Err InvalidField)
     × (selected disk Six (0 ∷ 0 ∷ 0 ∷ 0 ∷ 0x0a ∷ 0x02 ∷ 0 ∷ 0 ∷ []) ≡ Err InvalidField) × (selected Tape Six (0 ∷ 0 ∷ 0 ∷ 0 ∷ control 0x08) ≡ Err InvalidField)
-    × (selected Tape Six (0 ∷ 0 ∷ 0 ∷ 0 ∷ 0x08 ∷ 0x12 ∷ 0x04 ∷ replicate 17 0) ≡ Err InvalidField) × (selected Tape Six (0 ∷ 0 ∷ 0 ∷ 8 ∷ 0 ∷ 0 ∷ 0 ∷ 0 ∷ 0 ∷ 0 ∷ 0x02 ∷ 0 ∷ []) ≡ Err InvalidField)
+    × (selected Tape Six (0 ∷ 0 ∷ 0 ∷ 0 ∷ 0x08 ∷ 0x12 ∷ 0x04 ∷ replicate 17 0) ≡ Err InvalidField)
+    × (selected Tape Six (0 ∷ 0 ∷ 0 ∷ 8 ∷ 0 ∷ 0 ∷ 0 ∷ 0 ∷ 0 ∷ 0 ∷ 0x02 ∷ 0 ∷ []) ≡ Err InvalidField)
 unfolding selected after_header after_descriptor after_pages has_page after_page is_page
 is_refused = (refl, refl, refl, refl, refl, refl, refl, refl)
 
 -- the first fault counts: a page that is refused, then one that ends early; and the other way round
-first_fault : (selected disk Six (0 ∷ 0 ∷ 0 ∷ 0 ∷ control 0x0c ++ 0x0a ∷ []) ≡ Err InvalidField) × (selected disk Six (0 ∷ 0 ∷ 0 ∷ 0 ∷ 0x0a ∷ 0x0c ∷ 0xff ∷ []) ≡ Err EndsEarly)
+first_fault : (selected disk Six (0 ∷ 0 ∷ 0 ∷ 0 ∷ control 0x0c ++ 0x0a ∷ []) ≡ Err InvalidField)
+    × (selected disk Six (0 ∷ 0 ∷ 0 ∷ 0 ∷ 0x0a ∷ 0x0c ∷ 0xff ∷ []) ≡ Err EndsEarly)
 unfolding selected after_header after_pages has_page after_page is_page
 first_fault = (refl, refl)
 
 -- descriptors that change nothing: no number of blocks, all blocks, the disk's own; of a tape any bytes 1 to 4
-same_descriptors : (selected disk Six (0 ∷ 0 ∷ 0 ∷ 8 ∷ 0 ∷ 0 ∷ 0 ∷ 0 ∷ 0 ∷ 0 ∷ 0x02 ∷ 0 ∷ []) ≡ Ok (Disk 4096 false)) × (selected disk Six (0 ∷ 0 ∷ 0 ∷ 8 ∷ 0xff ∷ 0xff ∷ 0xff ∷ 0xff ∷ 0 ∷ 0 ∷ 0x02 ∷ 0 ∷ []) ≡ Ok (Disk 4096 false))
+same_descriptors : (selected disk Six (0 ∷ 0 ∷ 0 ∷ 8 ∷ 0 ∷ 0 ∷ 0 ∷ 0 ∷ 0 ∷ 0 ∷ 0x02 ∷ 0 ∷ []) ≡ Ok (Disk 4096 false))
+    × (selected disk Six (0 ∷ 0 ∷ 0 ∷ 8 ∷ 0xff ∷ 0xff ∷ 0xff ∷ 0xff ∷ 0 ∷ 0 ∷ 0x02 ∷ 0 ∷ []) ≡ Ok (Disk 4096 false))
     × (selected Tape Six (0 ∷ 0 ∷ 0 ∷ 8 ∷ 0 ∷ 1 ∷ 2 ∷ 3 ∷ 4 ∷ 0 ∷ 0 ∷ 0 ∷ []) ≡ Ok Tape)
 unfolding selected after_header after_descriptor after_pages
 same_descriptors = (refl, refl, refl)

@@ -29,7 +29,8 @@ descriptor_if is_asked parameters = if is_asked then descriptor parameters else 
 -- SPC-4 "MODE SENSE (6) command": the data with these pages
 abbrev pub data_with : ModeSenseFields → Parameters → List ModePage → List ℕ
 data_with fields parameters pages =
-    with_header fields.header (device_parameter parameters) (descriptor_if fields.block_descriptor parameters) (flat_map (page_bytes fields.control parameters) pages)
+    with_header fields.header (device_parameter parameters) (descriptor_if fields.block_descriptor parameters)
+    (flat_map (page_bytes fields.control parameters) pages)
 
 -- SPC-4 "MODE SENSE (6) command": the data, or none where there is no such page
 abbrev pub mode_data : ModeSenseFields → Parameters → Option (List ℕ)

@@ -5,9 +5,7 @@ ghost use Rattle.scsi_mode.specs.Descriptor.{descriptor, is_descriptor};
 
 use crate::parameters::Parameters;
 use byteorder::{BigEndian, ByteOrder};
-
-/// The bytes of a block of a disk.
-const BLOCK_LENGTH: u32 = 512;
+use media_block::BLOCK_LENGTH;
 
 /// What stands for all blocks, and for more of them than four bytes can tell.
 const ALL_BLOCKS: u32 = 0xffff_ffff;
@@ -19,7 +17,7 @@ pub(crate) fn descriptor(parameters: Parameters) -> [u8; 8]
     match parameters {
         Parameters::Disk { block_count, .. } => {
             let blocks = (block_count.min(u64::from(ALL_BLOCKS)) as u32).to_be_bytes();
-            let length = BLOCK_LENGTH.to_be_bytes();
+            let length = (BLOCK_LENGTH as u32).to_be_bytes();
             [
                 blocks[0], blocks[1], blocks[2], blocks[3], length[0], length[1], length[2],
                 length[3],
@@ -38,7 +36,7 @@ pub(crate) fn is_descriptor(parameters: Parameters, bytes: &[u8]) -> bool
     match parameters {
         Parameters::Disk { block_count, .. } => {
             let blocks = BigEndian::read_u32(bytes);
-            length == BLOCK_LENGTH
+            length == BLOCK_LENGTH as u32
                 && (blocks == 0 || blocks == ALL_BLOCKS || u64::from(blocks) == block_count)
         }
         Parameters::Tape => bytes[0] == 0 && length == 0,

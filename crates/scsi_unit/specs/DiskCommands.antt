@@ -1,12 +1,12 @@
 -- What commands do to disks (SBC-3 "Commands for direct access block devices").
-use Rattle.std.specs.Prelude.{◌≡◌, ℕ, ◌-◌, ◌^◌, min, nat_lt, List, ◌++◌, length, take, replicate, false, Option, Some, None}
+use Rattle.std.specs.Prelude.{◌≡◌, ℕ, ◌-◌, ◌*◌, ◌^◌, min, nat_lt, List, ◌++◌, length, take, replicate, false, Option, Some, None}
 use Rattle.std.specs.Int.{w32, w64, to_be_bytes}
 use Rattle.media_block.specs.Blocks.{block_length, data_of}
 use Rattle.scsi_sense.specs.Sense.{plain_sense}
 use Rattle.scsi_sense.specs.Done.{Outcome, good_with, check_condition}
 use Rattle.scsi_sense.specs.declared.sense.Sense.{Sense}
 use Rattle.scsi_sense.specs.declared.condition.Condition.TheVariants.{UnrecoveredReadError, WriteError}
-use Rattle.scsi_cdb.specs.Range.{Range}
+use Rattle.scsi_cdb.specs.Range.{Range, most_blocks}
 use Rattle.scsi_cdb.specs.declared.command.DiskCommand.{DiskCommand}
 use Rattle.scsi_cdb.specs.declared.command.DiskCommand.TheVariants.{Read, ReadCapacity10, ReadCapacity16}
 use Rattle.scsi_unit.specs.Device.{DiskUnit, Disk}
@@ -60,6 +60,6 @@ pub record IsDiskDone (command : DiskCommand) (old new : DiskUnit) (done : Outco
   pub disk : new ≡ disk_after came old
   pub told : done ≡ disk_told came old.disk.blocks command
 
--- profile: a command gives no more data than this, in bytes
+-- profile: a command gives no more data than the longest READ, in bytes
 abbrev pub most_given : ℕ
-most_given = 1048576
+most_given = most_blocks * block_length

@@ -1,5 +1,4 @@
-use Rattle.std.proofs.Common.{◌≡◌, ◌+◌, ◌≤◌, ap, refl, sym, arith, rules, IsTrue, Some, None, ◌∙◌}
-use Rattle.std.proofs.lemmas.Bool.{false≢true}
+use Rattle.std.proofs.Common.{◌≡◌, ◌+◌, ◌≤◌, ap, refl, arith, rules, ◌∙◌}
 use Rattle.media_block.proofs.Blocks.{length-blocks_of}
 use Rattle.media_block.proofs.Results.{passed}
 use Rattle.media_block.proofs.Differences.{found-difference, no-difference, length-data_of-more}

@@ -25,7 +25,8 @@ invariant_of-self g c =
           let was_honest = rw c.write_at.ensures.honest at honest in
           let long = c.self.invariant.1 was_honest in
           let within : block_length * c.args.first + length c.args.bytes.now ≤ length content = omega (arith, count_is, range, long, c.requires.whole) in
-          length-kept c.write_at.result (block_length * c.args.first) c.args.bytes.now content (g.S.Store.content c.write_at.new.self) within c.write_at.ensures.written c.write_at.ensures.torn ∙ long,
+          length-kept c.write_at.result (block_length * c.args.first) c.args.bytes.now content (g.S.Store.content c.write_at.new.self) within
+          c.write_at.ensures.written c.write_at.ensures.torn ∙ long,
       c.self.invariant.2,
     )
 
@@ -36,7 +37,8 @@ returns-clause-written g c =
     let range = rw (← c.self.view_is) at c.requires.range in
     let within : c.args.first + c.args.count ≤ c.self.inside.block_count = omega (arith, count_is, range) in
     rw (← c.self.view_is) (on_ok_weaker c.write_at.result
-    (λ said honest. written-blocks c.args.first c.args.count c.self.inside.block_count c.args.bytes.now content (g.S.Store.content c.write_at.new.self) within (c.self.invariant.1 honest) c.requires.whole said)
+    (λ said honest. written-blocks c.args.first c.args.count c.self.inside.block_count c.args.bytes.now content
+    (g.S.Store.content c.write_at.new.self) within (c.self.invariant.1 honest) c.requires.whole said)
     c.write_at.ensures.written)
 
 pub returns-clause-torn : goal.returns-clause-torn
@@ -46,7 +48,8 @@ returns-clause-torn g c =
     let range = rw (← c.self.view_is) at c.requires.range in
     let within : c.args.first + c.args.count ≤ c.self.inside.block_count = omega (arith, count_is, range) in
     rw (← c.self.view_is) (on_err_weaker c.write_at.result
-    (λ said honest. torn-blocks c.args.first c.args.count c.self.inside.block_count (length c.args.bytes.now) content (g.S.Store.content c.write_at.new.self) within (c.self.invariant.1 honest) c.requires.whole said)
+    (λ said honest. torn-blocks c.args.first c.args.count c.self.inside.block_count (length c.args.bytes.now) content
+    (g.S.Store.content c.write_at.new.self) within (c.self.invariant.1 honest) c.requires.whole said)
     c.write_at.ensures.torn)
 
 pub returns-clause-length : goal.returns-clause-length

@@ -1,0 +1,4 @@
+pub mod Names
+pub mod Once
+pub mod Stays
+pub mod Fenced

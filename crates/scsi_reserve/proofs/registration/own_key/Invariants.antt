@@ -1,0 +1,7 @@
+use Rattle.std.proofs.Common.{◌≡◌, drop}
+use Rattle.scsi_reserve.specs.Registration.{own_key}
+use Rattle.scsi_reserve.proofs.registration.own_key.Given as goal
+
+-- it is not among those that were looked at
+abbrev pub invariant-loop-row : goal.invariant-loop-row
+invariant-loop-row l = own_key l.nexus l.rows ≡ own_key l.nexus (drop l.row-index l.rows)

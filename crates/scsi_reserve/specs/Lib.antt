@@ -1,0 +1,12 @@
+pub use Rattle.scsi_sense.specs.Nexus
+pub mod ReservationType
+pub mod Conflict
+pub mod Request
+pub mod Registration
+pub mod Ending
+pub mod News
+pub mod Table
+pub mod Out
+pub mod ReadIn
+pub mod Laws
+pub mod Examples

@@ -1,0 +1,68 @@
+//! What PERSISTENT RESERVE OUT ends with, and whom it tells.
+
+ghost use Rattle.std.specs.Prelude.{◌≡◌};
+
+use scsi_sense::{Attention, Condition, Nexus};
+use std::alloc::Global;
+use std::marker::Model;
+
+/// How a command ended: its status, with its sense.
+#[derive(Clone, Copy, Debug, PartialEq, Eq)]
+pub enum Ended {
+    Good,
+    ReservationConflict,
+    CheckCondition(Condition),
+}
+
+/// A nexus that has a unit attention to be told.
+#[derive(Debug, Drop)]
+pub struct Due {
+    pub nexus: Nexus,
+    pub attention: Attention,
+}
+
+/// What PERSISTENT RESERVE OUT ends with, and the unit attentions that it gives to others, each nexus one at most.
+#[derive(Debug, Drop)]
+pub struct Outcome {
+    pub ended: Ended,
+    pub due: Vec<Due>,
+}
+
+impl Model for Outcome {
+    ghost use Rattle.scsi_reserve.specs.Ending.{Ending};
+
+    ghost Value = { Ending };
+
+    ghost view = { λ outcome. record { ended = outcome.ended; due = outcome.due.items } };
+}
+
+impl Outcome {
+    ghost use Rattle.scsi_reserve.specs.Ending.{good_telling, ended_with};
+
+    /// GOOD.
+    pub(crate) fn good(due: Vec<Due>) -> Outcome
+        ensures { result ≡ good_telling due.items }
+    {
+        Outcome {
+            ended: Ended::Good,
+            due,
+        }
+    }
+
+    /// It tells nobody. It takes no memory.
+    pub(crate) fn new(alloc: Global, ended: Ended) -> Outcome
+        ensures { result ≡ ended_with ended }
+    {
+        Outcome {
+            ended,
+            due: Vec::new(alloc),
+        }
+    }
+
+    /// CHECK CONDITION.
+    pub(crate) fn refused(alloc: Global, condition: Condition) -> Outcome
+        ensures { result ≡ ended_with (Ended.CheckCondition condition) }
+    {
+        Outcome::new(alloc, Ended::CheckCondition(condition))
+    }
+}

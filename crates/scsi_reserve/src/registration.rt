@@ -1,0 +1,117 @@
+//! Who is registered with a logical unit, and who holds a reservation of it.
+
+ghost use Rattle.std.specs.Prelude.{◌≡◌, ◌≤◌, length, map};
+ghost use Rattle.scsi_reserve.specs.Registration.{with_key, without_nexus, is_held_by, who_of, ends_with, is_held_with};
+
+use crate::conflict::Who;
+use crate::reservation_type::ReservationType;
+use scsi_sense::Nexus;
+
+/// A nexus that is registered, and its reservation key (SPC-4 "Registering").
+#[derive(Debug, Drop)]
+pub(crate) struct Row {
+    pub nexus: Nexus,
+    pub key: u64,
+}
+
+/// A reservation of the logical unit.
+#[derive(Debug, Drop)]
+pub(crate) struct Reservation {
+    pub kind: ReservationType,
+    /// The nexus that made it. It holds it alone, unless the type is of all registrants.
+    pub holder: Nexus,
+}
+
+/// The key that a nexus is registered with, where it is.
+pub(crate) fn own_key(rows: &[Row], nexus: &Nexus) -> Option<u64>
+    ensures { result ≡ Rattle.scsi_reserve.specs.Registration.own_key nexus.now rows.now }
+{
+    for row in rows {
+        if row.nexus.is_same(nexus) {
+            return Some(row.key);
+        }
+    }
+    None
+}
+
+/// Whether any nexus is registered with this key.
+pub(crate) fn has_key(rows: &[Row], key: u64) -> bool
+    ensures { result ≡ Rattle.scsi_reserve.specs.Registration.has_key key rows.now }
+{
+    rows.iter().any(|row| row.key == key)
+}
+
+impl Row {
+    /// Sets the key, where this is the registration of the nexus.
+    fn set_key_of(&mut self, nexus: &Nexus, key: u64)
+        ensures { self.new ≡ with_key nexus.now key self.old }
+    {
+        if self.nexus.is_same(nexus) {
+            self.key = key;
+        }
+    }
+}
+
+/// Sets the key of the registration of a nexus.
+pub(crate) fn set_key(rows: &mut [Row], nexus: &Nexus, key: u64)
+    ensures { rows.new ≡ map (with_key nexus.now key) rows.old }
+{
+    for at in 0..rows.len() {
+        let row = &mut rows[at];
+        row.set_key_of(nexus, key);
+    }
+}
+
+/// Takes the registration of a nexus out.
+pub(crate) fn take_out(rows: &mut Vec<Row>, nexus: &Nexus)
+    ensures left { rows.new.items ≡ without_nexus nexus.now rows.old.items }
+    ensures fewer { length rows.new.items ≤ length rows.old.items }
+{
+    rows.retain(|row| !row.nexus.is_same(nexus));
+}
+
+impl Reservation {
+    /// Whether a nexus holds it, of those that are registered (SPC-4 "Persistent reservation holder").
+    pub fn is_held_by(&self, rows: &[Row], nexus: &Nexus) -> bool
+        ensures { result ≡ is_held_by nexus.now rows.now self.now }
+    {
+        if self.kind.is_of_all() {
+            own_key(rows, nexus).is_some()
+        } else {
+            self.holder.is_same(nexus)
+        }
+    }
+
+    /// What a nexus is to it.
+    pub fn who(&self, rows: &[Row], nexus: &Nexus) -> Who
+        ensures { result ≡ who_of nexus.now rows.now self.now }
+    {
+        if self.is_held_by(rows, nexus) {
+            Who::Holder
+        } else if own_key(rows, nexus).is_some() {
+            Who::Registrant
+        } else {
+            Who::Neither
+        }
+    }
+
+    /// Whether it ends with the registration of a nexus, which holds it alone.
+    pub fn ends_with(&self, nexus: &Nexus) -> bool
+        ensures { result ≡ ends_with nexus.now self.now }
+    {
+        !self.kind.is_of_all() && self.holder.is_same(nexus)
+    }
+
+    /// Whether one nexus holds it alone, which is registered with this key.
+    pub fn is_held_with(&self, rows: &[Row], key: u64) -> bool
+        ensures { result ≡ is_held_with key rows.now self.now }
+    {
+        if self.kind.is_of_all() {
+            return false;
+        }
+        match own_key(rows, &self.holder) {
+            Some(own) => own == key,
+            None => false,
+        }
+    }
+}

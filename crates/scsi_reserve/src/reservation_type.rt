@@ -1,0 +1,81 @@
+//! Types of persistent reservations.
+
+ghost use Rattle.std.specs.Prelude.{◌≡◌};
+ghost use Rattle.scsi_reserve.specs.ReservationType.{type_code, type_of, is_same_type, is_of_all, is_of_registrants};
+
+/// The type of a reservation of the logical unit (SPC-4 "Persistent reservations type").
+#[derive(Clone, Copy, Debug, PartialEq, Eq)]
+pub enum ReservationType {
+    /// 1h
+    WriteExclusive,
+    /// 3h
+    ExclusiveAccess,
+    /// 5h
+    WriteExclusiveRegistrantsOnly,
+    /// 6h
+    ExclusiveAccessRegistrantsOnly,
+    /// 7h
+    WriteExclusiveAllRegistrants,
+    /// 8h
+    ExclusiveAccessAllRegistrants,
+}
+
+impl ReservationType {
+    /// The type that SCOPE and TYPE name: the scope is the logical unit.
+    pub fn of(scope: u8, code: u8) -> Option<ReservationType>
+        ensures { result ≡ type_of scope code }
+    {
+        match (scope, code) {
+            (0x0, 0x1) => Some(ReservationType::WriteExclusive),
+            (0x0, 0x3) => Some(ReservationType::ExclusiveAccess),
+            (0x0, 0x5) => Some(ReservationType::WriteExclusiveRegistrantsOnly),
+            (0x0, 0x6) => Some(ReservationType::ExclusiveAccessRegistrantsOnly),
+            (0x0, 0x7) => Some(ReservationType::WriteExclusiveAllRegistrants),
+            (0x0, 0x8) => Some(ReservationType::ExclusiveAccessAllRegistrants),
+            _ => None,
+        }
+    }
+
+    /// Its TYPE.
+    pub fn code(self) -> u8
+        ensures { result ≡ type_code self }
+    {
+        match self {
+            ReservationType::WriteExclusive => 0x1,
+            ReservationType::ExclusiveAccess => 0x3,
+            ReservationType::WriteExclusiveRegistrantsOnly => 0x5,
+            ReservationType::ExclusiveAccessRegistrantsOnly => 0x6,
+            ReservationType::WriteExclusiveAllRegistrants => 0x7,
+            ReservationType::ExclusiveAccessAllRegistrants => 0x8,
+        }
+    }
+
+    /// Whether both are the same type.
+    pub(crate) fn is_same(self, other: ReservationType) -> bool
+        ensures { result ≡ is_same_type self other }
+    {
+        self.code() == other.code()
+    }
+
+    /// Whether every registrant holds a reservation of this type (All Registrants).
+    pub(crate) fn is_of_all(self) -> bool
+        ensures { result ≡ is_of_all self }
+    {
+        matches!(
+            self,
+            ReservationType::WriteExclusiveAllRegistrants
+                | ReservationType::ExclusiveAccessAllRegistrants
+        )
+    }
+
+    /// Whether it gives rights to every registrant (Registrants Only, All Registrants): they are told when it is
+    /// released.
+    pub(crate) fn is_of_registrants(self) -> bool
+        ensures { result ≡ is_of_registrants self }
+    {
+        !matches!(
+            self,
+            ReservationType::WriteExclusive | ReservationType::ExclusiveAccess
+        )
+    }
+}

@@ -1,0 +1,90 @@
+//! What PERSISTENT RESERVE OUT asks for.
+
+ghost use Rattle.std.specs.Prelude.{◌≡◌};
+ghost use Rattle.scsi_reserve.specs.Request.{action_of, request_of, may_ask};
+
+use crate::reservation_type::ReservationType;
+use scsi_sense::Condition;
+
+/// A service action of PERSISTENT RESERVE OUT (SPC-4 "PERSISTENT RESERVE OUT service actions").
+#[derive(Clone, Copy, Debug, PartialEq, Eq)]
+pub enum ServiceAction {
+    /// 00h
+    Register,
+    /// 01h
+    Reserve,
+    /// 02h
+    Release,
+    /// 03h
+    Clear,
+    /// 04h
+    Preempt,
+    /// 06h
+    RegisterAndIgnoreExistingKey,
+}
+
+impl ServiceAction {
+    /// The one of this code.
+    pub fn of(code: u8) -> Option<ServiceAction>
+        ensures { result ≡ action_of code }
+    {
+        match code {
+            0x00 => Some(ServiceAction::Register),
+            0x01 => Some(ServiceAction::Reserve),
+            0x02 => Some(ServiceAction::Release),
+            0x03 => Some(ServiceAction::Clear),
+            0x04 => Some(ServiceAction::Preempt),
+            0x06 => Some(ServiceAction::RegisterAndIgnoreExistingKey),
+            _ => None,
+        }
+    }
+}
+
+/// A service action with the type that it needs.
+#[derive(Clone, Copy, Debug, PartialEq, Eq)]
+pub(crate) enum Request {
+    Register,
+    Reserve(ReservationType),
+    Release(ReservationType),
+    Clear,
+    /// The type is looked at where a new reservation is made.
+    Preempt(Option<ReservationType>),
+    RegisterAndIgnoreExistingKey,
+}
+
+impl Request {
+    /// A service action with the type that SCOPE and TYPE name, where they name one.
+    pub fn new(action: ServiceAction, kind: Option<ReservationType>) -> Result<Request, Condition>
+        ensures { result ≡ request_of action kind }
+    {
+        match (action, kind) {
+            (ServiceAction::Register, _) => Ok(Request::Register),
+            (ServiceAction::Reserve, Some(kind)) => Ok(Request::Reserve(kind)),
+            (ServiceAction::Release, Some(kind)) => Ok(Request::Release(kind)),
+            (ServiceAction::Reserve | ServiceAction::Release, None) => {
+                Err(Condition::InvalidFieldInCdb)
+            }
+            (ServiceAction::Clear, _) => Ok(Request::Clear),
+            (ServiceAction::Preempt, kind) => Ok(Request::Preempt(kind)),
+            (ServiceAction::RegisterAndIgnoreExistingKey, _) => {
+                Ok(Request::RegisterAndIgnoreExistingKey)
+            }
+        }
+    }
+
+    /// Whether a nexus may ask for it, which is registered with the first key or is not, and gives the second one.
+    pub fn may_be_asked(self, own: Option<u64>, key: u64) -> bool
+        ensures { result ≡ may_ask self own key }
+    {
+        match self {
+            Request::RegisterAndIgnoreExistingKey => true,
+            Request::Register => key == own.unwrap_or(0),
+            Request::Reserve(_) | Request::Release(_) | Request::Clear | Request::Preempt(_) => {
+                match own {
+                    Some(own) => own == key,
+                    None => false,
+                }
+            }
+        }
+    }
+}
