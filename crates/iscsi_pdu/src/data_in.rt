@@ -61,7 +61,7 @@ impl<'a> DataIn<'a> {
     }
 
     /// The 48 header bytes.
-    pub(crate) fn header(&self) -> [u8; HEADER_LENGTH]
+    pub fn header(&self) -> [u8; HEADER_LENGTH]
         ensures { result ≡ data_in_header self.now }
     {
         let mut header = [0; HEADER_LENGTH];

@@ -13,3 +13,4 @@ mod Served
 pub mod Steps
 pub mod Lawful
 pub mod Runs
+mod InPlace

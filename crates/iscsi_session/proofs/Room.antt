@@ -1,7 +1,8 @@
 -- The answers of a command fit into the room that is made for them.
-use Rattle.std.proofs.Common.{◌≡◌, ℕ, ◌+◌, ◌-◌, ◌*◌, ◌<◌, ◌≤◌, ◌==◌, min, replicate, List, [], ◌∷◌, ◌++◌, length, map, take, get_or, Bool, true, false, cond, ◌&&◌, ◌||◌, not, refl, sym, ap, ◌∙◌, arith}
+use Rattle.std.proofs.Common.{◌≡◌, ℕ, ◌+◌, ◌-◌, ◌*◌, ◌<◌, ◌≤◌, ◌==◌, min, replicate, List, [], ◌∷◌, ◌++◌, length, map, take, get_or, Bool, true, false, cond, ◌&&◌, ◌||◌, not, Some, refl, sym, ap, subst, ◌∙◌, arith}
 use Rattle.std.specs.Prelude.{flat_map}
-use Rattle.std.specs.List.{enumerate_from}
+use Rattle.std.specs.List.{enumerate_from, slice_get}
+use Rattle.std.proofs.lemmas.Option.{slice_get-get_or, slice_get_within}
 use Rattle.std.proofs.lemmas.List.{length-append, length-map, length-take, length-replicate, get_or-map, take_more, append_assoc, append-nil}
 use Rattle.std.proofs.lemmas.List.Folds.{length-flat_map-take}
 use Rattle.std.proofs.lemmas.List.FromFn.{length-enumerate_from, get_or-enumerate_from}
@@ -123,13 +124,21 @@ pub record IsOneOf (values : Values) (sent : List ℕ) (k : ℕ) (piece : Piece)
   pub short : piece.length ≤ 262144
   pub early : k < length sent
 
-pub piece_there : (values : Values) (sent : List ℕ) (k : ℕ) (d : Piece) → AreInRange values → k < length (sent_pieces values sent)
-    → IsOneOf values sent k (get_or (sent_pieces values sent) k d)
-piece_there values sent k d range lt =
+-- what is found at a place
+pub piece_found : (values : Values) (sent : List ℕ) (k : ℕ) (d piece : Piece) → slice_get (sent_pieces values sent) k ≡ Some piece
+    → get_or (sent_pieces values sent) k d ≡ piece
+piece_found values sent k d piece is =
+    let found = slice_get-get_or (sent_pieces values sent) k d (slice_get_within (sent_pieces values sent) k piece is) in
+    cc
+
+pub piece_there : (values : Values) (sent : List ℕ) (k : ℕ) (piece : Piece) → AreInRange values
+    → slice_get (sent_pieces values sent) k ≡ Some piece → IsOneOf values sent k piece
+piece_there values sent k piece range is =
     let burst = values.max_burst_length in
     let segment_ = values.max_recv_data_segment_length in
-    let lies : Lies (get_or (sent_pieces values sent) k d) (length sent) burst = pieces_lie (length sent) burst segment_ (let some = range.burst
-    in omega arith) (let some = range.segment in omega arith) k d lt in
+    let lt : k < length (sent_pieces values sent) = slice_get_within (sent_pieces values sent) k piece is in
+    let lies : Lies piece (length sent) burst = subst (λ (p : Piece). Lies p (length sent) burst) (piece_found values sent k piece piece is)
+    (pieces_lie (length sent) burst segment_ (let some = range.burst in omega arith) (let some = range.segment in omega arith) k piece lt) in
     let count = pieces_counted values sent range in
     let fits = count_fits (length sent) burst segment_ (let some = range.burst in omega arith) (let some = range.segment in omega arith) in
     record {
@@ -140,14 +149,17 @@ piece_there values sent k d range lt =
 
 -- ---- as the loop writes them
 
-pub data_answer_at : (numbers : Stamp) (values : Values) (frame : Frame) (sent : List ℕ) (k : ℕ) (d : Answer) (p : Piece) → k < length (sent_pieces values sent)
-    → get_or (data_answers numbers values frame sent) k d ≡ data_in numbers frame sent (k, get_or (sent_pieces values sent) k p)
+pub data_answer_at : (numbers : Stamp) (values : Values) (frame : Frame) (sent : List ℕ) (k : ℕ) (d : Answer) (piece : Piece)
+    → slice_get (sent_pieces values sent) k ≡ Some piece
+    → get_or (data_answers numbers values frame sent) k d ≡ data_in numbers frame sent (k, piece)
 unfolding data_answers
-data_answer_at numbers values frame sent k d p lt =
+data_answer_at numbers values frame sent k d piece is =
     let pieces = sent_pieces values sent in
+    let lt : k < length pieces = slice_get_within pieces k piece is in
     let below : k < length (enumerate_from 0 pieces) = omega (arith, lt, length-enumerate_from 0 pieces) in
-    get_or-map (data_in numbers frame sent) (enumerate_from 0 pieces) k (0, p) d below
-    ∙ ap (data_in numbers frame sent) (get_or-enumerate_from 0 pieces k (0, p) lt ∙ ap (λ (n : ℕ). (n, get_or pieces k p)) (omega arith))
+    get_or-map (data_in numbers frame sent) (enumerate_from 0 pieces) k (0, piece) d below
+    ∙ ap (data_in numbers frame sent) (get_or-enumerate_from 0 pieces k (0, piece) lt
+    ∙ ap (λ (n : ℕ). (n, get_or pieces k piece)) (omega arith) ∙ ap (λ (p : Piece). (k, p)) (piece_found values sent k piece piece is))
 
 pub data_answers_count : (numbers : Stamp) (values : Values) (frame : Frame) (sent : List ℕ)
     → length (data_answers numbers values frame sent) ≡ length (sent_pieces values sent)

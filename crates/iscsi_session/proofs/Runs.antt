@@ -203,7 +203,8 @@ module _ (kind : ℕ → ℕ → Step) (line : Past → List ℕ) (does : ℕ �
   -- the first of the line takes a step, and the session goes on, or not
   pub record StepsTo (goes_on : Bool) (now next : SessionState) (before waiting : List ℕ) (units after : UnitStates) : Type 0 where
     pub steps : (work : Work) → Starts work now units
-        → (request : ℕ) × (others : List ℕ) × (line work.past ≡ request ∷ others) × ((does request work).goes_on ≡ goes_on) × Leaves work (does request work) next before waiting after
+        → (request : ℕ) × (others : List ℕ) × (line work.past ≡ request ∷ others) × ((does request work).goes_on ≡ goes_on)
+        × Leaves work (does request work) next before waiting after
     pub some : (work : Work) → Starts work now units → 0 < count now
 
   one_step : (turn left place : ℕ) (fails : Step → Bool) (work : Work) (request : ℕ) (others : List ℕ) → line work.past ≡ request ∷ others

@@ -5,7 +5,7 @@ use Rattle.iscsi_pdu.specs.declared.answer.Answer.{Answer}
 use Rattle.iscsi_session.specs.Requests.{Past, queue, due}
 use Rattle.iscsi_session.specs.Judging.{verdict, judged_answers}
 use Rattle.iscsi_session.specs.Acts.{act_answers}
-use Rattle.iscsi_session.specs.Steps.{Step, Judging, Taking, Doing, is_of, Work, reaches, take_step, judge, act, finish, first_steps, one_by_one, waiting_in, act_all, served, settled}
+use Rattle.iscsi_session.specs.Steps.{Step, Judging, Taking, Doing, Work, reaches, take_step, judge, act, finish, first_steps, one_by_one, waiting_in, act_all, served, settled}
 use Rattle.iscsi_session.proofs.Served.{judged_same}
 use Rattle.iscsi_session.proofs.Answered.{moved_same}
 
@@ -28,18 +28,21 @@ all_agree f g step line does turn (suc most) work same =
     all_agree f g step line does (suc turn) most (first_steps f (step turn) does (line work.past) work) same
     ∙ ap (one_by_one g step line does (suc turn) most) (first_agrees f g (step turn) does (line work.past) work (same turn))
 
-act_all_agrees : (f g : Step → Bool) (place : ℕ) (work : Work) → ((k : ℕ) → f (Taking place k) ≡ g (Taking place k)) → act_all f place work ≡ act_all g place work
+act_all_agrees : (f g : Step → Bool) (place : ℕ) (work : Work) → ((k : ℕ) → f (Taking place k) ≡ g (Taking place k))
+    → act_all f place work ≡ act_all g place work
 unfolding act_all
 act_all_agrees f g place work acts = all_agree f g (Taking place) due act 0 (waiting_in work.past) work acts
 
-pub served_agrees : (f g : Step → Bool) (place : ℕ) (frame : Frame) (work : Work) → f (Judging place) ≡ g (Judging place) → ((k : ℕ) → f (Taking place k) ≡ g (Taking place k))
+pub served_agrees : (f g : Step → Bool) (place : ℕ) (frame : Frame) (work : Work) → f (Judging place) ≡ g (Judging place)
+    → ((k : ℕ) → f (Taking place k) ≡ g (Taking place k))
     → served f place frame work ≡ served g place frame work
 unfolding served
 served_agrees f g place frame work judges acts =
     act_all_agrees f g place (take_step f (Judging place) (judge frame) work) acts
     ∙ ap (act_all g place) (step_agrees f g (Judging place) (judge frame) work judges)
 
-pub settled_agrees : (f g : Step → Bool) (place : ℕ) (work : Work) → ((k : ℕ) → f (Doing place k) ≡ g (Doing place k)) → settled f place work ≡ settled g place work
+pub settled_agrees : (f g : Step → Bool) (place : ℕ) (work : Work) → ((k : ℕ) → f (Doing place k) ≡ g (Doing place k))
+    → settled f place work ≡ settled g place work
 unfolding settled
 settled_agrees f g place work does = all_agree f g (Doing place) queue finish 0 (length (queue work.past)) work does
 

@@ -19,6 +19,7 @@ mod act;
 mod acting;
 mod answering;
 mod answers;
+mod data_ins;
 mod fault;
 mod judging;
 pub mod laws;

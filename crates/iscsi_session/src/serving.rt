@@ -107,10 +107,11 @@ impl Session {
         let Some(frame) = self.first() else {
             return Ok(false);
         };
-        let pieces = make_room(alloc, out, &self.params.values, frame)?;
+        make_room(out, &self.params.values, frame)?;
         let done = carry_out(alloc, units, &self.params.nexus, frame)?;
         // There is room for the answers, so nothing fails any more.
-        self.done(out, pieces, &done);
+        let buffer = self.done(out, done);
+        units.give_back(buffer);
         Ok(true)
     }
 }

@@ -25,5 +25,5 @@ pub use event::Event;
 pub use fault::{Memory, Starved};
 pub use history::well_formed;
 pub use run::Outputs;
-pub use scsi_unit::{Unit, Units};
+pub use scsi_unit::{Serial, Unit, Units};
 pub use target::Target;

@@ -1,5 +1,5 @@
 -- How many pieces data has.
-use Rattle.std.proofs.Common.{◌≡◌, ℕ, zero, suc, ◌+◌, ◌-◌, ◌*◌, ◌/◌, ◌%◌, ◌<◌, ◌≤◌, List, length, take, get_or, refl, ap, sym, ◌∙◌, inl, inr, arith, zero-add}
+use Rattle.std.proofs.Common.{◌≡◌, ℕ, zero, suc, ◌+◌, ◌-◌, ◌*◌, ◌/◌, ◌%◌, ◌<◌, ◌≤◌, List, length, take, refl, ap, sym, ◌∙◌, inl, inr, arith}
 use Rattle.std.specs.Int.{div_ceil}
 use Rattle.std.specs.List.{flat_map, range_with_len}
 use Rattle.std.proofs.Math.Nat.{add-mul, suc-mul, zero-mul, mul-le-mul_right, mul-le-mul_left, lt_of_mul-lt-mul_right}
@@ -8,8 +8,7 @@ use Rattle.std.proofs.lemmas.Nat.{div-add-mod'}
 use Rattle.std.proofs.lemmas.Bool.{cases_lt}
 use Rattle.std.proofs.lemmas.Grind.{div_ceil_times}
 use Rattle.std.proofs.lemmas.List.{length-append, map-id}
-use Rattle.std.proofs.lemmas.List.Folds.{length-flat_map-take}
-use Rattle.std.proofs.lemmas.List.FromFn.{length-map-range_with_len, length-range_with_len, get_or-range_with_len, take-map-range_with_len}
+use Rattle.std.proofs.lemmas.List.FromFn.{length-map-range_with_len, take-map-range_with_len}
 use Rattle.iscsi_transfer.specs.declared.data_in.Piece.{Piece}
 use Rattle.iscsi_transfer.specs.DataIn.{burst_start, burst_end, piece_in, pieces_in, piece_count}
 use Rattle.iscsi_transfer.specs.Laws.{PiecesAreCounted, LessHasFewer}
@@ -23,7 +22,7 @@ pub pieces_in-count : (start end segment : ℕ) → length (pieces_in start end 
 pieces_in-count start end segment = length-map-range_with_len (piece_in start end segment) 0 (div_ceil (end - start) segment)
 
 -- a part is cut into no more pieces than what it is a part of
-div_ceil-le : (less size limit : ℕ) → 1 ≤ limit → less ≤ size → div_ceil less limit ≤ div_ceil size limit
+pub div_ceil-le : (less size limit : ℕ) → 1 ≤ limit → less ≤ size → div_ceil less limit ≤ div_ceil size limit
 div_ceil-le less size limit some le =
     let above : div_ceil less limit * limit < less + limit = (div_ceil_times less limit (omega arith)).1 in
     let reach : size ≤ div_ceil size limit * limit = (div_ceil_times size limit (omega arith)).0 in
@@ -33,7 +32,8 @@ div_ceil-le less size limit some le =
     omega (arith, less_)
 
 -- the pieces of the first bursts, where these are whole
-whole_bursts : (size burst segment n : ℕ) → n * burst ≤ size → length (flat_map (burst_pieces size burst segment) (range_with_len 0 n)) ≡ n * div_ceil burst segment
+pub whole_bursts : (size burst segment n : ℕ) → n * burst ≤ size → length (flat_map (burst_pieces size burst segment) (range_with_len 0 n))
+    ≡ n * div_ceil burst segment
 whole_bursts size burst segment zero le = sym (zero-mul (div_ceil burst segment))
 whole_bursts size burst segment (suc n) le =
     let whole : suc n * burst ≡ n * burst + burst = suc-mul n burst in
@@ -43,7 +43,8 @@ whole_bursts size burst segment (suc n) le =
     ∙ ap (λ (xs : List Piece). length xs) (bursts-more size burst segment n)
     ∙ length-append (flat_map (burst_pieces size burst segment) (range_with_len 0 n)) (burst_pieces size burst segment n)
     ∙ ap (λ (m : ℕ). m + length (burst_pieces size burst segment n)) (whole_bursts size burst segment n (omega (arith, le, whole)))
-    ∙ ap (λ (m : ℕ). n * div_ceil burst segment + m) (pieces_in-count (burst_start burst n) (burst_end size burst n) segment ∙ ap (λ (m : ℕ). div_ceil m segment) long)
+    ∙ ap (λ (m : ℕ). n * div_ceil burst segment + m) (pieces_in-count (burst_start burst n) (burst_end size burst n) segment
+    ∙ ap (λ (m : ℕ). div_ceil m segment) long)
     ∙ sym (suc-mul n (div_ceil burst segment))
 
 none_left : (limit : ℕ) → 1 ≤ limit → div_ceil 0 limit ≡ 0
@@ -65,7 +66,8 @@ pieces_are_counted size burst segment some_burst some =
           ∙ ap (λ (xs : List Piece). length xs) (bursts-more size burst segment q)
           ∙ length-append (flat_map (burst_pieces size burst segment) (range_with_len 0 q)) (burst_pieces size burst segment q)
           ∙ ap (λ (m : ℕ). m + length (burst_pieces size burst segment q)) whole
-          ∙ ap (λ (m : ℕ). q * div_ceil burst segment + m) (pieces_in-count (burst_start burst q) (burst_end size burst q) segment ∙ ap (λ (m : ℕ). div_ceil m segment) long))
+          ∙ ap (λ (m : ℕ). q * div_ceil burst segment + m) (pieces_in-count (burst_start burst q) (burst_end size burst q) segment
+          ∙ ap (λ (m : ℕ). div_ceil m segment) long))
       | inr none ↦ (
           let n : div_ceil size burst ≡ q = omega (arith, none) in
           let left : div_ceil r segment ≡ 0 = ap (λ (m : ℕ). div_ceil m segment) (omega (arith, none)) ∙ none_left segment some in
@@ -90,7 +92,8 @@ less_has_fewer less size burst segment some_burst some le =
       | inr later ↦ (
           let back : q * burst ≤ p * burst = mul-le-mul_right burst later in
           let same : p ≡ q = same_quotient p q (p * burst) (q * burst) burst some_burst refl refl later (omega (arith, parts_less, parts, below, le)) in
-          let rest : div_ceil (less % burst) segment ≤ div_ceil (size % burst) segment = div_ceil-le (less % burst) (size % burst) segment some (omega (arith, parts_less, parts, le, ap (λ (n : ℕ). n * burst) same)) in
+          let rest : div_ceil (less % burst) segment ≤ div_ceil (size % burst) segment =
+          div_ceil-le (less % burst) (size % burst) segment some (omega (arith, parts_less, parts, le, ap (λ (n : ℕ). n * burst) same)) in
           omega (arith, rest, ap (λ (n : ℕ). n * each) same))
     ]
   where
@@ -101,25 +104,11 @@ less_has_fewer less size burst segment some_burst some le =
         let less_ = lt_of_mul-lt-mul_right burst below in
         omega (arith, less_, le)
 
--- ---- as the loops count them
+-- ---- some of them
 
-take-range : (n k : ℕ) → k ≤ n → take k (range_with_len 0 n) ≡ range_with_len 0 k
+pub take-range : (n k : ℕ) → k ≤ n → take k (range_with_len 0 n) ≡ range_with_len 0 k
 take-range n k le =
     ap (take k) (sym (map-id (range_with_len 0 n))) ∙ take-map-range_with_len (λ (x : ℕ). x) 0 n k le ∙ map-id (range_with_len 0 k)
-
--- the pieces of the first bursts and of the next one are some of all pieces
-pub next_has_room : (size burst segment n : ℕ) → 1 ≤ burst → 1 ≤ segment → n < div_ceil size burst
-    → length (flat_map (burst_pieces size burst segment) (range_with_len 0 n)) + div_ceil (burst_end size burst n - burst_start burst n) segment ≤ piece_count size burst segment
-next_has_room size burst segment n some_burst some lt =
-    let all = div_ceil size burst in
-    let g = burst_pieces size burst segment in
-    let below : n < length (range_with_len 0 all) = rw (length-range_with_len 0 all) lt in
-    let le = length-flat_map-take g (range_with_len 0 all) n 0 below in
-    let front : length (flat_map g (take n (range_with_len 0 all))) ≡ length (flat_map g (range_with_len 0 n)) = ap (λ (xs : List ℕ). length (flat_map g xs)) (take-range all n (omega arith)) in
-    let next : length (g (get_or (range_with_len 0 all) n 0)) ≡ div_ceil (burst_end size burst n - burst_start burst n) segment =
-    ap (λ (b : ℕ). length (g b)) (get_or-range_with_len 0 all n 0 lt ∙ zero-add n) ∙ pieces_in-count (burst_start burst n) (burst_end size burst n) segment in
-    let count : length (flat_map g (range_with_len 0 all)) ≡ piece_count size burst segment = pieces_are_counted size burst segment some_burst some in
-    omega (arith, le, front, next, count)
 
 -- they are no more than the bytes
 pub count_fits : (size burst segment : ℕ) → 1 ≤ burst → 1 ≤ segment → piece_count size burst segment ≤ size

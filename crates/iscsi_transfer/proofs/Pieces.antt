@@ -17,7 +17,7 @@ use Rattle.iscsi_transfer.specs.DataIn.{burst_start, burst_end, piece_start, pie
 use Rattle.iscsi_transfer.specs.Laws.{PiecesFit, PiecesAreJoined}
 
 -- the parts up to the last but one do not reach the end, and all parts together do
-part_within : (length limit k : ℕ) → 1 ≤ limit → k < div_ceil length limit → k * limit < length
+pub part_within : (length limit k : ℕ) → 1 ≤ limit → k < div_ceil length limit → k * limit < length
 part_within length limit k some below =
     let above : div_ceil length limit * limit < length + limit = (div_ceil_times length limit (omega arith)).1 in
     let next : (k + 1) * limit ≤ div_ceil length limit * limit = mul-le-mul_right limit (omega arith) in
@@ -45,7 +45,12 @@ piece-bytes bytes start end segment k =
     let next : (k + 1) * segment ≡ k * segment + segment = omega (arith, add-mul k 1 segment) in
     let offset = piece_start start segment k in
     let long : offset + (min end (piece_start start segment (k + 1)) - offset) - offset ≡ min segment (end - start - k * segment) = omega (arith, next) in
-    rw (← between_is (drop start bytes) (k * segment) (end - start), drop-drop (k * segment) start bytes, take-take_min segment (end - start - k * segment) (drop (start + k * segment) bytes), long) refl
+    rw (
+      ← between_is (drop start bytes) (k * segment) (end - start),
+      drop-drop (k * segment) start bytes,
+      take-take_min segment (end - start - k * segment) (drop (start + k * segment) bytes),
+      long,
+    ) refl
 
 -- the first n pieces are the front of the burst
 burst-front : (bytes : List ℕ) (start end segment n : ℕ)
@@ -55,7 +60,13 @@ burst-front bytes start end segment (suc n) =
     let f = piece_in start end segment in
     let whole : suc n * segment ≡ n * segment + segment = suc-mul n segment in
     ap (λ (m : ℕ). flat_map (part_of bytes) (map f (range_with_len 0 m))) (suc-eq-add-one n)
-    ∙ rw (map-range_with_len_more f 0 n n (zero-add n), flat_map-append (part_of bytes) (map f (range_with_len 0 n)) (f n ∷ []), burst-front bytes start end segment n, whole, take-add (n * segment) segment (slice_range bytes start end))
+    ∙ rw (
+      map-range_with_len_more f 0 n n (zero-add n),
+      flat_map-append (part_of bytes) (map f (range_with_len 0 n)) (f n ∷ []),
+      burst-front bytes start end segment n,
+      whole,
+      take-add (n * segment) segment (slice_range bytes start end),
+    )
     (ap (λ (x : List ℕ). take (n * segment) (slice_range bytes start end) ++ x) (append-nil (part_of bytes (f n)) ∙ piece-bytes bytes start end segment n))
 
 -- all pieces are the burst
@@ -73,30 +84,41 @@ burst-joined bytes start end segment some =
 burst-bytes : (bytes : List ℕ) (burst n : ℕ) → slice_range bytes (burst_start burst n) (burst_end (length bytes) burst n) ≡ take burst (drop (n * burst) bytes)
 burst-bytes bytes burst n =
     let next : (n + 1) * burst ≡ n * burst + burst = omega (arith, add-mul n 1 burst) in
-    let long : burst_end (length bytes) burst n - n * burst ≡ min burst (length (drop (n * burst) bytes)) = omega (arith, next, length-drop (n * burst) bytes) in
+    let long : burst_end (length bytes) burst n - n * burst ≡ min burst (length (drop (n * burst) bytes)) =
+    omega (arith, next, length-drop (n * burst) bytes) in
     rw long (take_min burst (drop (n * burst) bytes))
 
 range-more : (n : ℕ) → range_with_len 0 (n + 1) ≡ range_with_len 0 n ++ n ∷ []
 range-more n =
-    sym (map-id (range_with_len 0 (n + 1))) ∙ map-range_with_len_more (λ (x : ℕ). x) 0 n n (zero-add n) ∙ ap (λ (xs : List ℕ). xs ++ n ∷ []) (map-id (range_with_len 0 n))
+    sym (map-id (range_with_len 0 (n + 1))) ∙ map-range_with_len_more (λ (x : ℕ). x) 0 n n (zero-add n)
+    ∙ ap (λ (xs : List ℕ). xs ++ n ∷ []) (map-id (range_with_len 0 n))
 
 -- one burst more
 pub bursts-more : (length burst segment n : ℕ)
     → flat_map (λ b. pieces_in (burst_start burst b) (burst_end length burst b) segment) (range_with_len 0 (n + 1))
-    ≡ flat_map (λ b. pieces_in (burst_start burst b) (burst_end length burst b) segment) (range_with_len 0 n) ++ pieces_in (burst_start burst n) (burst_end length burst n) segment
+    ≡ flat_map (λ b. pieces_in (burst_start burst b) (burst_end length burst b) segment) (range_with_len 0 n)
+    ++ pieces_in (burst_start burst n) (burst_end length burst n) segment
 bursts-more length burst segment n =
     let g : ℕ → List Piece = λ b. pieces_in (burst_start burst b) (burst_end length burst b) segment in
     rw (range-more n, flat_map-append g (range_with_len 0 n) (n ∷ [])) (ap (λ (xs : List Piece). flat_map g (range_with_len 0 n) ++ xs) (append-nil (g n)))
 
 -- the first n bursts are the front of the data
 bursts-front : (bytes : List ℕ) (burst segment n : ℕ) → 1 ≤ segment
-    → flat_map (part_of bytes) (flat_map (λ b. pieces_in (burst_start burst b) (burst_end (length bytes) burst b) segment) (range_with_len 0 n)) ≡ take (n * burst) bytes
+    → flat_map (part_of bytes) (flat_map (λ b. pieces_in (burst_start burst b) (burst_end (length bytes) burst b) segment) (range_with_len 0 n))
+    ≡ take (n * burst) bytes
 bursts-front bytes burst segment zero some = rw (zero-mul burst) refl
 bursts-front bytes burst segment (suc n) some =
     let g : ℕ → List Piece = λ b. pieces_in (burst_start burst b) (burst_end (length bytes) burst b) segment in
     let whole : suc n * burst ≡ n * burst + burst = suc-mul n burst in
     ap (λ (m : ℕ). flat_map (part_of bytes) (flat_map g (range_with_len 0 m))) (suc-eq-add-one n)
-    ∙ rw (bursts-more (length bytes) burst segment n, flat_map-append (part_of bytes) (flat_map g (range_with_len 0 n)) (g n), bursts-front bytes burst segment n some, burst-joined bytes (burst_start burst n) (burst_end (length bytes) burst n) segment some, whole, take-add (n * burst) burst bytes)
+    ∙ rw (
+      bursts-more (length bytes) burst segment n,
+      flat_map-append (part_of bytes) (flat_map g (range_with_len 0 n)) (g n),
+      bursts-front bytes burst segment n some,
+      burst-joined bytes (burst_start burst n) (burst_end (length bytes) burst n) segment some,
+      whole,
+      take-add (n * burst) burst bytes,
+    )
     (ap (λ (xs : List ℕ). take (n * burst) bytes ++ xs) (burst-bytes bytes burst n))
 
 pub pieces_are_joined : PiecesAreJoined
@@ -125,29 +147,11 @@ pieces_fit length burst segment b k some_burst some below_bursts below =
       behind = omega arith;
       below = omega (arith, start, offset, next_burst, next);
       within = omega (arith, start, offset, next_burst, next);
-      last = rw (stop-is (burst_start burst b + k * segment) (min (burst_end length burst b) (piece_start (burst_start burst b) segment (k + 1))) (omega (arith, offset, next)))
+      last = rw (stop-is (burst_start burst b + k * segment) (min (burst_end length burst b) (piece_start (burst_start burst b) segment (k + 1)))
+          (omega (arith, offset, next)))
           (last-of-burst length ((b + 1) * burst) (min (burst_end length burst b) (piece_start (burst_start burst b) segment (k + 1))) (omega arith));
     }
-
--- ---- as the loops compute them
-
--- one piece more of a burst, of this size
-pub pieces-more : (start end segment k size : ℕ) → start + k * segment ≤ end → size ≡ min segment (end - (start + k * segment))
-    → map (piece_in start end segment) (range_with_len 0 k) ++ record { offset = start + k * segment; length = size; is_final = (start + k * segment + size == end) } ∷ []
-    ≡ map (piece_in start end segment) (range_with_len 0 (k + 1))
-pieces-more start end segment k size within is =
-    let next : (k + 1) * segment ≡ k * segment + segment = omega (arith, add-mul k 1 segment) in
-    let long : size ≡ min end (piece_start start segment (k + 1)) - (start + k * segment) = omega (arith, next, is) in
-    let stop : start + k * segment + size ≡ min end (piece_start start segment (k + 1)) = omega (arith, next, is) in
-    rw (map-range_with_len_more (piece_in start end segment) 0 k k (zero-add k), stop, long) refl
 
 -- the end of a burst
 pub burst_end-is : (length burst n : ℕ) → n * burst ≤ length → n * burst + min burst (length - n * burst) ≡ burst_end length burst n
 burst_end-is length burst n within = omega (arith, add-mul n 1 burst)
-
--- each piece of a burst begins before its end, and each burst before the end of the data
-pub piece-begins : (start end segment k : ℕ) → 1 ≤ segment → start ≤ end → k < div_ceil (end - start) segment → start + k * segment < end
-piece-begins start end segment k some ordered below = omega (arith, part_within (end - start) segment k some below)
-
-pub burst-begins : (length burst n : ℕ) → 1 ≤ burst → n < div_ceil length burst → n * burst < length
-burst-begins = part_within

@@ -3,7 +3,11 @@ use Rattle.std.specs.Prelude.{◌≡◌, [], ◌∷◌, true, false, codes, map,
 use Rattle.iscsi_transfer.specs.DataIn.{pieces_of, piece_count, part_of}
 
 -- 20 blocks of 512 bytes, MaxBurstLength 8192, MaxRecvDataSegmentLength 4096
-twenty_blocks : pieces_of 10240 8192 4096 ≡ record { offset = 0; length = 4096; is_final = false } ∷ record { offset = 4096; length = 4096; is_final = true } ∷ record { offset = 8192; length = 2048; is_final = true } ∷ []
+twenty_blocks : pieces_of 10240 8192 4096 ≡ record { offset = 0; length = 4096; is_final = false } ∷ record {
+  offset = 4096;
+  length = 4096;
+  is_final = true;
+} ∷ record { offset = 8192; length = 2048; is_final = true } ∷ []
 twenty_blocks = refl
 
 -- a burst that is no multiple of the segment: each burst is cut from its own start

@@ -1,8 +1,7 @@
 //! The data of a command in SCSI Data-In PDUs.
 
-ghost use Rattle.std.specs.Prelude.{◌≡◌, ◌≤◌, ◌+◌, ◌-◌, ◌++◌, IfOk, vec_len, vec_capacity};
-ghost use Rattle.std.specs.Int.{div_ceil};
-ghost use Rattle.iscsi_transfer.specs.DataIn.{pieces_in, pieces_of, piece_count};
+ghost use Rattle.std.specs.Prelude.{◌≡◌, ◌≤◌, ◌<◌, Some, IfOk, slice_get};
+ghost use Rattle.iscsi_transfer.specs.DataIn.{pieces_of, piece_count};
 
 use std::alloc::{AllocError, Global};
 
@@ -18,25 +17,6 @@ pub struct Piece {
     pub is_final: bool,
 }
 
-/// Puts the pieces of a burst behind others, where there is room for them.
-fn cut_burst(pieces: &mut Vec<Piece>, start: usize, end: usize, segment: usize)
-    requires ordered { start ≤ end }
-    requires some { 1 ≤ segment }
-    requires room { vec_len pieces.old + div_ceil (end - start) segment ≤ vec_capacity pieces.old }
-    ensures cut { pieces.new.items ≡ pieces.old.items ++ pieces_in start end segment }
-    ensures room { vec_capacity pieces.new ≡ vec_capacity pieces.old }
-{
-    for number in 0..(end - start).div_ceil(segment) {
-        let offset = start + number * segment;
-        let length = segment.min(end - offset);
-        pieces.push_reserved(Piece {
-            offset,
-            length,
-            is_final: offset + length == end,
-        });
-    }
-}
-
 /// How many pieces data of this length has: no less data has more. It takes no memory.
 pub fn piece_count(length: usize, burst: usize, segment: usize) -> usize
     requires burst { 1 ≤ burst }
@@ -46,24 +26,28 @@ pub fn piece_count(length: usize, burst: usize, segment: usize) -> usize
     length / burst * burst.div_ceil(segment) + (length % burst).div_ceil(segment)
 }
 
-/// Puts the pieces of data behind others, as [`data_ins`] gives them, where there is room for them. It
-/// takes no memory.
-pub fn cut_into(pieces: &mut Vec<Piece>, length: usize, burst: usize, segment: usize)
+/// Piece number `number` of data of this length, counted from 0: the data is cut at the multiples of
+/// MaxBurstLength, here `burst`, and each burst at the multiples of the initiator's
+/// MaxRecvDataSegmentLength, here `segment`, from its start (RFC 7143 §13.12, §13.13).
+pub fn piece_at(length: usize, burst: usize, segment: usize, number: usize) -> Piece
     requires burst { 1 ≤ burst }
     requires segment { 1 ≤ segment }
-    requires room { vec_len pieces.old + piece_count length burst segment ≤ vec_capacity pieces.old }
-    ensures { pieces.new.items ≡ pieces.old.items ++ pieces_of length burst segment }
+    requires number { number < piece_count length burst segment }
+    ensures { slice_get (pieces_of length burst segment) number ≡ Some result }
 {
-    for number in 0..length.div_ceil(burst) {
-        let start = number * burst;
-        let end = start + burst.min(length - start);
-        cut_burst(pieces, start, end, segment);
+    let each = burst.div_ceil(segment);
+    let start = number / each * burst;
+    let end = start + burst.min(length - start);
+    let offset = start + number % each * segment;
+    let length = segment.min(end - offset);
+    Piece {
+        offset,
+        length,
+        is_final: offset + length == end,
     }
 }
 
-/// The pieces in which data of this length is sent, in order: it is cut at the multiples of
-/// MaxBurstLength, here `burst`, and each burst at the multiples of the initiator's
-/// MaxRecvDataSegmentLength, here `segment`, from its start (RFC 7143 §13.12, §13.13). No data is no
+/// The pieces in which data of this length is sent, in order, as [`piece_at`] gives them. No data is no
 /// piece.
 pub fn data_ins(
     alloc: Global,
@@ -75,7 +59,10 @@ pub fn data_ins(
     requires segment { 1 ≤ segment }
     ensures { IfOk result (λ pieces. pieces.items ≡ pieces_of length burst segment) }
 {
-    let mut pieces = Vec::with_capacity(alloc, piece_count(length, burst, segment))?;
-    cut_into(&mut pieces, length, burst, segment);
+    let count = piece_count(length, burst, segment);
+    let mut pieces = Vec::with_capacity(alloc, count)?;
+    for number in 0..count {
+        pieces.push_reserved(piece_at(length, burst, segment, number));
+    }
     Ok(pieces)
 }

@@ -12,12 +12,12 @@
 //!
 //! - [`data_ins`] cuts the data at the multiples of MaxBurstLength, and each burst at the multiples of
 //!   MaxRecvDataSegmentLength from its start. F is set on the last piece of each burst.
-//! - [`piece_count`] is how many pieces there are, and [`cut_into`] cuts into a list that has room for
-//!   them, so that neither can fail.
+//! - [`piece_count`] is how many pieces there are, and [`piece_at`] computes each from its number, so that
+//!   no list of them has to be kept.
 //! - Joined, the pieces are the data ([`laws::pieces_are_the_data`]).
 #![tactic(auto)]
 
 mod data_in;
 pub mod laws;
 
-pub use data_in::{Piece, cut_into, data_ins, piece_count};
+pub use data_in::{Piece, data_ins, piece_at, piece_count};

@@ -13,19 +13,43 @@ power_on : sense_bytes (plain_sense (UnitAttention PowerOnOrReset)) ≡ 0x70 ∷
 power_on = refl
 
 -- a filemark that stops a read of 8 bytes
-filemark_read : sense_bytes (record { condition = FilemarkDetected; filemark = true; end_of_medium = false; incorrect_length = false; information = Some 8 }) ≡ 0xf0 ∷ 0 ∷ 0x80 ∷ 0 ∷ 0 ∷ 0 ∷ 8 ∷ 0x0a ∷ 0 ∷ 0 ∷ 0 ∷ 0 ∷ 0x00 ∷ 0x01 ∷ 0 ∷ 0 ∷ 0 ∷ 0 ∷ []
+filemark_read : sense_bytes (record {
+  condition = FilemarkDetected;
+  filemark = true;
+  end_of_medium = false;
+  incorrect_length = false;
+  information = Some 8;
+}) ≡ 0xf0 ∷ 0 ∷ 0x80 ∷ 0 ∷ 0 ∷ 0 ∷ 8 ∷ 0x0a ∷ 0 ∷ 0 ∷ 0 ∷ 0 ∷ 0x00 ∷ 0x01 ∷ 0 ∷ 0 ∷ 0 ∷ 0 ∷ []
 filemark_read = refl
 
 -- COMPARE AND WRITE found a difference at byte 511
-difference_found : sense_bytes (record { condition = MiscompareDuringVerifyOperation; filemark = false; end_of_medium = false; incorrect_length = false; information = Some 511 }) ≡ 0xf0 ∷ 0 ∷ 0x0e ∷ 0 ∷ 0 ∷ 0x01 ∷ 0xff ∷ 0x0a ∷ 0 ∷ 0 ∷ 0 ∷ 0 ∷ 0x1d ∷ 0x00 ∷ 0 ∷ 0 ∷ 0 ∷ 0 ∷ []
+difference_found : sense_bytes (record {
+  condition = MiscompareDuringVerifyOperation;
+  filemark = false;
+  end_of_medium = false;
+  incorrect_length = false;
+  information = Some 511;
+}) ≡ 0xf0 ∷ 0 ∷ 0x0e ∷ 0 ∷ 0 ∷ 0x01 ∷ 0xff ∷ 0x0a ∷ 0 ∷ 0 ∷ 0 ∷ 0 ∷ 0x1d ∷ 0x00 ∷ 0 ∷ 0 ∷ 0 ∷ 0 ∷ []
 difference_found = refl
 
 -- the end of the medium and another length than asked for: EOM 40h, ILI 20h
-flags_read : sense_bytes (record { condition = FilemarkDetected; filemark = false; end_of_medium = true; incorrect_length = true; information = None }) ≡ 0x70 ∷ 0 ∷ 0x60 ∷ 0 ∷ 0 ∷ 0 ∷ 0 ∷ 0x0a ∷ 0 ∷ 0 ∷ 0 ∷ 0 ∷ 0x00 ∷ 0x01 ∷ 0 ∷ 0 ∷ 0 ∷ 0 ∷ []
+flags_read : sense_bytes (record {
+  condition = FilemarkDetected;
+  filemark = false;
+  end_of_medium = true;
+  incorrect_length = true;
+  information = None;
+}) ≡ 0x70 ∷ 0 ∷ 0x60 ∷ 0 ∷ 0 ∷ 0 ∷ 0 ∷ 0x0a ∷ 0 ∷ 0 ∷ 0 ∷ 0 ∷ 0x00 ∷ 0x01 ∷ 0 ∷ 0 ∷ 0 ∷ 0 ∷ []
 flags_read = refl
 
 -- a tape with no room, 0D/0002 with EOM, of which 20 bytes were not written
-no_room : sense_bytes (record { condition = VolumeOverflow; filemark = false; end_of_medium = true; incorrect_length = false; information = Some 20 }) ≡ 0xf0 ∷ 0 ∷ 0x4d ∷ 0 ∷ 0 ∷ 0 ∷ 20 ∷ 0x0a ∷ 0 ∷ 0 ∷ 0 ∷ 0 ∷ 0x00 ∷ 0x02 ∷ 0 ∷ 0 ∷ 0 ∷ 0 ∷ []
+no_room : sense_bytes (record {
+  condition = VolumeOverflow;
+  filemark = false;
+  end_of_medium = true;
+  incorrect_length = false;
+  information = Some 20;
+}) ≡ 0xf0 ∷ 0 ∷ 0x4d ∷ 0 ∷ 0 ∷ 0 ∷ 20 ∷ 0x0a ∷ 0 ∷ 0 ∷ 0 ∷ 0 ∷ 0x00 ∷ 0x02 ∷ 0 ∷ 0 ∷ 0 ∷ 0 ∷ []
 no_room = refl
 
 conflict_number : status_number ReservationConflict ≡ 0x18

@@ -1,6 +1,7 @@
 pub mod Codes
 pub mod Sense
 pub mod Done
+pub mod Given
 pub mod Nexus
 pub mod Attentions
 pub mod ExamplesSense

@@ -15,7 +15,8 @@ response_code sense = if is_some sense.information then 0xf0 else 0x70
 
 -- SPC-4 "Fixed format sense data": byte 2, FILEMARK, EOM, ILI and the sense key
 abbrev pub flags : Sense → ℕ
-flags sense = (if sense.filemark then 0x80 else 0) + (if sense.end_of_medium then 0x40 else 0) + (if sense.incorrect_length then 0x20 else 0) + key_of sense.condition
+flags sense = (if sense.filemark then 0x80 else 0) + (if sense.end_of_medium then 0x40 else 0) + (if sense.incorrect_length then 0x20
+    else 0) + key_of sense.condition
 
 -- SPC-4 "Fixed format sense data"
 abbrev pub sense_bytes : Sense → List ℕ

@@ -3,8 +3,8 @@
 ghost use Rattle.std.specs.Prelude.{◌≡◌, ◌<◌, ◌^◌, length};
 ghost use Rattle.scsi_sense.specs.Codes.{status_number};
 
+use crate::given::Given;
 use crate::sense::Sense;
-use bytes::BytesMut;
 use std::alloc::Global;
 use std::marker::Model;
 
@@ -36,7 +36,7 @@ pub struct Done {
     /// There is sense where the status is CHECK CONDITION.
     pub sense: Option<Sense>,
     /// The data given, before it is cut to the expected length.
-    pub given: BytesMut,
+    pub given: Given,
     /// The bytes that the command gave, or needed of what it was sent: the residual counts from it.
     pub moved: u32,
 }
@@ -46,7 +46,7 @@ impl Model for Done {
 
     ghost Value = { Outcome };
 
-    ghost view = { λ done. record { status = done.status; sense = done.sense; given = done.given.items; moved = done.moved } };
+    ghost view = { λ done. record { status = done.status; sense = done.sense; given = done.given; moved = done.moved } };
 }
 
 impl Done {
@@ -59,15 +59,15 @@ impl Done {
         Done {
             status: Status::Good,
             sense: None,
-            given: BytesMut::new(alloc),
+            given: Given::nothing(alloc),
             moved: 0,
         }
     }
 
     /// GOOD with data.
-    pub fn good_with(given: BytesMut) -> Done
-        requires { length given.items < 2 ^ 32 }
-        ensures { result ≡ good_outcome_with given.items }
+    pub fn good_with(given: Given) -> Done
+        requires { length given < 2 ^ 32 }
+        ensures { result ≡ good_outcome_with given }
     {
         let moved = given.len() as u32;
         Done {
@@ -85,7 +85,7 @@ impl Done {
         Done {
             status: Status::Good,
             sense: None,
-            given: BytesMut::new(alloc),
+            given: Given::nothing(alloc),
             moved: count,
         }
     }
@@ -97,7 +97,7 @@ impl Done {
         Done {
             status: Status::CheckCondition,
             sense: Some(sense),
-            given: BytesMut::new(alloc),
+            given: Given::nothing(alloc),
             moved: 0,
         }
     }

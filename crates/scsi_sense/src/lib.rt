@@ -13,17 +13,20 @@
 //!
 //! Promised: [`Sense::bytes`] is exactly that layout, and each number is that of SPC-4's tables. A
 //! [`Condition`] has its sense key, so no code stands under another.
-//! [`Attentions`] keeps the codes in the order in which they were raised, and none twice.
+//! [`Attentions`] keeps the codes in the order in which they were raised, and none twice. The data that a
+//! command gives lies in its buffer behind room for a header ([`Given`]); clauses see the data alone.
 #![tactic(auto)]
 
 mod attentions;
 mod condition;
 mod done;
+mod given;
 mod nexus;
 mod sense;
 
 pub use attentions::Attentions;
 pub use condition::{Attention, Condition};
 pub use done::{Done, Status};
+pub use given::{Given, HEADROOM, TAILROOM};
 pub use nexus::Nexus;
 pub use sense::Sense;

@@ -11,13 +11,6 @@ use Rattle.scsi_unit.specs.State.{UnitState}
 use Rattle.scsi_unit.specs.Unit.{IsPerformed}
 use Rattle.scsi_unit.specs.Units.{IsSoundStore, IsSureStore, IsTrustedStore}
 
--- the store of a disk
-pub store_of_disk : (came : CameOut) (disk : DiskUnit) → store_of (Disk (disk_after came disk)) ≡ store_after came (store_of (Disk disk))
-store_of_disk AsDefined disk = refl
-store_of_disk (Misread given) disk = refl
-store_of_disk (ReadFailed honest) disk = refl
-store_of_disk (WriteFailed left) disk = refl
-
 -- what reads or writes touches the medium
 reads_touch : (reads : Bool) (writes : Option Range) → IsTrue reads → (reads || is_some writes) ≡ true
 reads_touch true writes is = refl
@@ -34,7 +27,7 @@ pub failed_touch : (came : CameOut) (touch : Touch) (device : DeviceState) → I
 failed_touch AsDefined touch device possible = inl refl
 failed_touch (Misread given) touch device possible = inr (reads_touch touch.reads touch.writes possible.0)
 failed_touch (ReadFailed honest) touch device possible = inr (reads_touch touch.reads touch.writes possible.0)
-failed_touch (WriteFailed left) touch device possible = inr (writes_touch touch.reads touch.writes device left possible.0)
+failed_touch (WriteFailed left synced) touch device possible = inr (writes_touch touch.reads touch.writes device left possible.0)
 
 -- a store that cannot fail does not
 pub steady_as_defined : (came : CameOut) (touch : Touch) (device : DeviceState) → IsPossible came touch device → IsSteady (store_of device)
@@ -42,21 +35,21 @@ pub steady_as_defined : (came : CameOut) (touch : Touch) (device : DeviceState) 
 steady_as_defined AsDefined touch device possible steady = refl
 steady_as_defined (Misread given) touch device possible steady = absurd (possible.1 steady)
 steady_as_defined (ReadFailed honest) touch device possible steady = absurd (possible.2 steady)
-steady_as_defined (WriteFailed left) touch device possible steady = absurd (possible.1 steady)
+steady_as_defined (WriteFailed left synced) touch device possible steady = absurd (possible.1 steady)
 
 -- a store that is still honest, and did not fail
 pub trusted_as_defined : (came : CameOut) (old : StoreState) → IsTrustedStore old (store_after came old) → came ≡ AsDefined
 trusted_as_defined AsDefined old trusted = refl
 trusted_as_defined (Misread given) old trusted = absurd (false≢true trusted.honest)
 trusted_as_defined (ReadFailed honest) old trusted = absurd (omega (arith, trusted.none.same, trusted.none.known))
-trusted_as_defined (WriteFailed left) old trusted = absurd (omega (arith, trusted.none.same, trusted.none.known))
+trusted_as_defined (WriteFailed left synced) old trusted = absurd (omega (arith, trusted.none.same, trusted.none.known))
 
 -- a store that is sound was so before
 pub sound_back : (came : CameOut) (old : StoreState) → IsSoundStore (store_after came old) → IsSoundStore old
 sound_back AsDefined old sound = sound
 sound_back (Misread given) old sound = absurd (false≢true sound.honest)
 sound_back (ReadFailed honest) old sound = absurd (omega (arith, sound.unfailed))
-sound_back (WriteFailed left) old sound = absurd (omega (arith, sound.unfailed))
+sound_back (WriteFailed left synced) old sound = absurd (omega (arith, sound.unfailed))
 
 -- ---- one unit
 

@@ -1,6 +1,6 @@
 pub mod Lists
-pub mod Rooms
 pub mod CameOut
+pub mod Room
 pub mod DiskDone
 pub mod Found
 pub mod Sound

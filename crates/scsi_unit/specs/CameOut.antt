@@ -1,7 +1,7 @@
 -- How a command came out, as its medium has it.
 use Rattle.std.specs.Prelude.{ℕ, List, Bool, false, ◌||◌, IsTrue, Option, Some, None, is_some}
 use Rattle.media_store.specs.Failures.{risen}
-use Rattle.media_block.specs.Blocks.{KeepsOthers}
+use Rattle.media_block.specs.Blocks.{DiskState, KeepsOthers}
 use Rattle.scsi_cdb.specs.Range.{Range}
 use Rattle.scsi_unit.specs.Device.{DiskUnit, DeviceState, Disk, Tape, StoreState, store_of, IsSteady}
 
@@ -12,25 +12,25 @@ pub data CameOut : Type 0 where
   Misread : (given : List ℕ) → CameOut
   -- a read failed, and the store is honest after it or not
   ReadFailed : (honest : Bool) → CameOut
-  -- a write failed, and these are the blocks after it
-  WriteFailed : (left : List (List ℕ)) → CameOut
+  -- a write or a sync failed, and these are the blocks after it, synced or not
+  WriteFailed : (left : List (List ℕ)) (synced : Bool) → CameOut
 
 -- own: the store after it
 abbrev pub store_after : CameOut → StoreState → StoreState
 store_after AsDefined store = store
 store_after (Misread given) store = record store { honest = false }
 store_after (ReadFailed honest) store = record store { failures = risen store.failures; honest = honest }
-store_after (WriteFailed left) store = record store { failures = risen store.failures }
+store_after (WriteFailed left synced) store = record store { failures = risen store.failures }
 
--- own: the disk after it, where a command changes none
-abbrev pub disk_after : CameOut → DiskUnit → DiskUnit
-disk_after AsDefined disk = disk
-disk_after (Misread given) disk = record disk { disk = record disk.disk { honest = false } }
-disk_after (ReadFailed honest) disk =
+-- own: the disk after it, where its definition leaves this one
+abbrev pub disk_after : CameOut → DiskState → DiskUnit → DiskUnit
+disk_after AsDefined defined disk = record disk { disk = defined }
+disk_after (Misread given) defined disk = record disk { disk = record disk.disk { honest = false } }
+disk_after (ReadFailed honest) defined disk =
     record disk { disk = record disk.disk { failures = risen disk.disk.failures; honest = honest } }
-disk_after (WriteFailed left) disk =
+disk_after (WriteFailed left synced) defined disk =
     record disk {
-      disk = record disk.disk { blocks = left; synced = false; failures = risen disk.disk.failures };
+      disk = record disk.disk { blocks = left; synced = synced; failures = risen disk.disk.failures };
       is_ready = false;
     }
 
@@ -62,4 +62,4 @@ IsPossible AsDefined touch device = Unit {0}
 IsPossible (Misread given) touch device = IsTrue touch.reads × CanFail device
 IsPossible (ReadFailed honest) touch device =
     IsTrue touch.reads × (IsTrue honest → IsTrue (store_of device).honest) × CanFail device
-IsPossible (WriteFailed left) touch device = AreLeft touch.writes device left × CanFail device
+IsPossible (WriteFailed left synced) touch device = AreLeft touch.writes device left × CanFail device

@@ -1,7 +1,7 @@
 -- What commands do to disks (SBC-3 "Commands for direct access block devices").
 use Rattle.std.specs.Prelude.{◌≡◌, ℕ, ◌-◌, ◌*◌, ◌^◌, min, nat_lt, List, ◌++◌, length, take, replicate, false, Option, Some, None}
 use Rattle.std.specs.Int.{w32, w64, to_be_bytes}
-use Rattle.media_block.specs.Blocks.{block_length, data_of}
+use Rattle.media_block.specs.Blocks.{DiskState, block_length, data_of}
 use Rattle.scsi_sense.specs.Sense.{plain_sense}
 use Rattle.scsi_sense.specs.Done.{Outcome, good_with, check_condition}
 use Rattle.scsi_sense.specs.declared.sense.Sense.{Sense}
@@ -34,12 +34,18 @@ disk_outcome blocks (Read range) = good_with (data_of blocks range.first range.c
 disk_outcome blocks ReadCapacity10 = good_with (capacity_10 (length blocks))
 disk_outcome blocks (ReadCapacity16 allocation_length) = good_with (take allocation_length (capacity_16 (length blocks)))
 
+-- own: the disk as a command leaves it; none changes it yet
+abbrev pub disk_defined : DiskCommand → DiskState → DiskState
+disk_defined (Read range) disk = disk
+disk_defined ReadCapacity10 disk = disk
+disk_defined (ReadCapacity16 allocation_length) disk = disk
+
 -- own: what is told of a command, by how it came out
 abbrev pub disk_told : CameOut → List (List ℕ) → DiskCommand → Outcome
 disk_told AsDefined blocks command = disk_outcome blocks command
 disk_told (Misread given) blocks command = good_with given
 disk_told (ReadFailed honest) blocks command = check_condition unrecovered_read
-disk_told (WriteFailed left) blocks command = check_condition write_error
+disk_told (WriteFailed left synced) blocks command = check_condition write_error
 
 -- the blocks that a command names
 abbrev pub range_named : DiskCommand → Option Range
@@ -57,7 +63,7 @@ touch_of (ReadCapacity16 allocation_length) = record { reads = false; writes = N
 pub record IsDiskDone (command : DiskCommand) (old new : DiskUnit) (done : Outcome) : Type 0 where
   pub came : CameOut
   pub possible : IsPossible came (touch_of command) (Disk old)
-  pub disk : new ≡ disk_after came old
+  pub disk : new ≡ disk_after came (disk_defined command old.disk) old
   pub told : done ≡ disk_told came old.disk.blocks command
 
 -- profile: a command gives no more data than the longest READ, in bytes

@@ -16,7 +16,7 @@ use Rattle.scsi_cdb.specs.declared.command.UnitCommand.TheVariants.{TestUnitRead
 use Rattle.scsi_cdb.specs.declared.fault.FieldFault.{FieldFault}
 use Rattle.scsi_cdb.specs.declared.report_luns.ReportLunsFields.{ReportLunsFields}
 use Rattle.scsi_inquiry.specs.Standard.{standard_data}
-use Rattle.scsi_inquiry.specs.VpdPages.{most_serial, page_of, page_data}
+use Rattle.scsi_inquiry.specs.VpdPages.{page_of, page_data}
 use Rattle.scsi_inquiry.specs.Luns.{lun_data}
 use Rattle.scsi_inquiry.specs.declared.peripheral.Peripheral.TheVariants as peripheral
 use Rattle.scsi_inquiry.specs.declared.vpd_page.VpdPage.{VpdPage}
@@ -26,14 +26,10 @@ abbrev pub page_outcome : Kind → List ℕ → ℕ → Option VpdPage → Outco
 page_outcome kind serial allocation_length None = check_condition invalid_field
 page_outcome kind serial allocation_length (Some page) = good_with (take allocation_length (page_data kind serial page))
 
--- profile: of a serial number 32 bytes are told
-unfoldable pub told_serial : List ℕ → List ℕ
-told_serial serial = take most_serial serial
-
 -- SPC-4 "INQUIRY command": standard INQUIRY data, or a page
 unfoldable pub inquiry_outcome : Kind → List ℕ → Option ℕ → ℕ → Outcome
 inquiry_outcome kind serial None allocation_length = good_with (take allocation_length (standard_data (peripheral.Unit kind)))
-inquiry_outcome kind serial (Some code) allocation_length = page_outcome kind (told_serial serial) allocation_length (page_of code kind)
+inquiry_outcome kind serial (Some code) allocation_length = page_outcome kind serial allocation_length (page_of code kind)
 
 -- SPC-4 "REPORT LUNS command", for units of these numbers
 unfoldable pub luns_outcome : List ℕ → ReportLunsFields → Outcome

@@ -19,7 +19,7 @@ use Rattle.scsi_mode.specs.declared.list_fault.ListFault.{ListFault}
 use Rattle.scsi_mode.specs.declared.parameters.Parameters.{Parameters}
 use Rattle.scsi_unit.specs.Device.{DeviceState, Disk, Tape, kind_of, parameters_of, with_parameters, store_of}
 use Rattle.scsi_unit.specs.CameOut.{CameOut, AsDefined, store_after, disk_after, Touch, no_touch, IsPossible}
-use Rattle.scsi_unit.specs.DiskCommands.{disk_told, touch_of}
+use Rattle.scsi_unit.specs.DiskCommands.{disk_defined, disk_told, touch_of}
 use Rattle.scsi_unit.specs.Joined.{with_nexus, without_nexus, told, raised_for, raised_for_others}
 use Rattle.scsi_unit.specs.Identity.{inquiry_outcome, luns_outcome, sense_outcome, pending_sense, without_unit}
 use Rattle.scsi_unit.specs.Lun.{lun_number}
@@ -89,7 +89,7 @@ unit_done nexus bytes unit (ModeSelect fields) =
 
 abbrev pub disk_done : CameOut → UnitState → DeviceState → DiskCommand → UnitState × Outcome
 disk_done came unit (Disk disk) command =
-    (record unit { device = Disk (disk_after came disk) }, disk_told came disk.disk.blocks command)
+    (record unit { device = Disk (disk_after came (disk_defined command disk.disk) disk) }, disk_told came disk.disk.blocks command)
 disk_done came unit Tape command = (unit, check_condition invalid_operation_code)
 
 -- ---- any command

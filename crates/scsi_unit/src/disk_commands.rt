@@ -1,8 +1,9 @@
 //! The commands to disks.
 
-ghost use Rattle.std.specs.Prelude.{◌≡◌, ◌+◌, ◌*◌, ◌<◌, ◌≤◌, [], length, false, IsTrue, IsOk, IfOk, OnOk, OnErr};
+ghost use Rattle.std.specs.Prelude.{◌≡◌, ◌+◌, ◌*◌, ◌<◌, ◌≤◌, [], length, drop, false, IsTrue, IsOk, IfOk, OnOk, OnErr};
 ghost use Rattle.media_store.specs.Failures.{counted};
 ghost use Rattle.media_block.specs.Blocks.{block_length, data_of};
+ghost use Rattle.scsi_sense.specs.Given.{headroom};
 ghost use Rattle.scsi_cdb.specs.declared.command.DiskCommand.TheVariants.{Read};
 ghost use Rattle.scsi_unit.specs.Device.{disk_view, Disk as DiskDeviceOf};
 ghost use Rattle.scsi_unit.specs.CameOut.{touches};
@@ -17,7 +18,7 @@ use bytes::BytesMut;
 use media_block::{BLOCK_LENGTH, Disk};
 use media_store::{Store, StoreFault};
 use scsi_cdb::{BlockRange, DiskCommand};
-use scsi_sense::{Condition, Done, Sense};
+use scsi_sense::{Condition, Done, Given, HEADROOM, Sense, TAILROOM};
 use std::alloc::Global;
 
 /// READ CAPACITY (10) data of a disk of so many blocks.
@@ -47,30 +48,32 @@ fn capacity_16(block_count: u64) -> [u8; 32]
     ]
 }
 
-/// Reads blocks into an empty buffer, where it has room for them. The room is not filled before.
+/// Reads blocks into an empty buffer, behind room for a header, where it has room for both. The room is
+/// not filled before.
 fn read_into<S: Store>(
     disk: &mut Disk<S>,
     range: BlockRange,
-    given: &mut BytesMut,
+    buffer: &mut BytesMut,
 ) -> Result<(), StoreFault>
     requires range { range.first + range.count ≤ length disk.old.blocks }
-    requires empty { given.old.items ≡ [] }
-    requires room { block_length * range.count ≤ given.old.spare }
-    ensures length { length given.new.items ≡ block_length * range.count }
-    ensures read { OnOk result (IsTrue disk.new.honest → given.new.items ≡ data_of disk.old.blocks range.first range.count) }
+    requires empty { buffer.old.items ≡ [] }
+    requires room { headroom + block_length * range.count ≤ buffer.old.spare }
+    ensures length { length (drop headroom buffer.new.items) ≡ block_length * range.count }
+    ensures read { OnOk result (IsTrue disk.new.honest → drop headroom buffer.new.items ≡ data_of disk.old.blocks range.first range.count) }
     ensures none { range.count ≡ 0 → IsOk result × (disk.new ≡ disk.old) }
     ensures back { IsTrue disk.new.honest → IsTrue disk.old.honest }
     ensures disk { disk.new ≡ record disk.old { failures = counted result disk.old.failures; honest = disk.new.honest } }
     ensures succeeds { IsTrue disk.old.steady → IsTrue disk.old.honest → IsOk result × (disk.new ≡ disk.old) }
 {
     let count = u64::from(range.count());
-    given.advance_mut(BLOCK_LENGTH * count as usize);
-    disk.read(range.first(), count, given.as_mut_slice())
+    buffer.advance_mut(HEADROOM + BLOCK_LENGTH * count as usize);
+    disk.read(range.first(), count, &mut buffer.as_mut_slice()[HEADROOM..])
 }
 
 impl<S: Store> DiskDevice<S> {
-    /// READ of blocks that the disk has. The room for the data is made first, so that where an allocation
-    /// fails nothing changes. It takes no memory where no block is read.
+    /// READ of blocks that the disk has. The room for the data is made first, with room for a header in
+    /// front of it and for what is sent behind it, so that where an allocation fails nothing changes. It takes
+    /// no memory where no block is read.
     fn read(
         &mut self,
         alloc: Global,
@@ -84,11 +87,15 @@ impl<S: Store> DiskDevice<S> {
             → data_of self.old.disk.blocks range.first range.count ≡ [] → IsOk result }
         ensures err { OnErr result (disk_view self.new ≡ disk_view self.old) }
     {
+        if range.count() == 0 {
+            return Ok(Done::good(alloc));
+        }
         // So each block has its bytes, where the store is honest.
         let _ = self.disk.block_count();
-        let mut given = take(alloc, used, BLOCK_LENGTH * range.count() as usize)?;
-        match read_into(&mut self.disk, range, &mut given) {
-            Ok(()) => Ok(Done::good_with(given)),
+        let room = HEADROOM + BLOCK_LENGTH * range.count() as usize + TAILROOM;
+        let mut buffer = take(alloc, used, room)?;
+        match read_into(&mut self.disk, range, &mut buffer) {
+            Ok(()) => Ok(Done::good_with(Given::behind_room(buffer))),
             Err(_) => Ok(Done::check_condition(alloc, Sense::new(Condition::UnrecoveredReadError))),
         }
     }

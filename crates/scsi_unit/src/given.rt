@@ -4,8 +4,7 @@ ghost use Rattle.std.specs.Prelude.{◌≡◌, ◌≤◌, [], length, take, IsOk
 ghost use Rattle.scsi_sense.specs.Done.{good_with};
 
 use crate::fault::Memory;
-use bytes::BytesMut;
-use scsi_sense::Done;
+use scsi_sense::{Done, Given};
 use std::alloc::Global;
 
 /// The bytes in front, so many at most.
@@ -30,7 +29,6 @@ pub(crate) fn done_with_front(
     ensures done { IfOk result (λ done. done ≡ good_with (take allocation_length bytes.now)) }
     ensures nothing { take allocation_length bytes.now ≡ [] → IsOk result }
 {
-    let mut given = BytesMut::new(alloc);
-    given.extend_from_slice(front(bytes, allocation_length as usize))?;
+    let given = Given::copied(alloc, front(bytes, allocation_length as usize))?;
     Ok(Done::good_with(given))
 }

@@ -6,17 +6,14 @@ ghost use Rattle.scsi_cdb.specs.Fault.{invalid_field};
 ghost use Rattle.scsi_inquiry.specs.Standard.{standard_data};
 ghost use Rattle.scsi_inquiry.specs.VpdPages.{most_serial, page_of};
 ghost use Rattle.scsi_unit.specs.DiskCommands.{most_given};
-ghost use Rattle.scsi_unit.specs.Identity.{told_serial, page_outcome, inquiry_outcome, luns_outcome, sense_outcome, unsupported, without_unit};
+ghost use Rattle.scsi_unit.specs.Identity.{page_outcome, inquiry_outcome, luns_outcome, sense_outcome, unsupported, without_unit};
 
 use crate::fault::Memory;
-use crate::given::{done_with_front, front};
+use crate::given::done_with_front;
 use scsi_cdb::{Command, FieldFault, Kind, ReportLunsFields, Row, UnitCommand};
 use scsi_inquiry::{Peripheral, VpdPage, luns, page, standard};
 use scsi_sense::{Condition, Done, Sense};
 use std::alloc::Global;
-
-/// The most bytes of a serial number that are told.
-const MOST_SERIAL: usize = 32;
 
 /// INVALID FIELD IN CDB.
 pub(crate) fn field_refused(alloc: Global) -> Done
@@ -38,14 +35,6 @@ fn standard_inquiry(
     done_with_front(alloc, &standard(peripheral), allocation_length)
 }
 
-/// The part of a serial number that is told.
-fn told_serial(serial: &[u8]) -> &[u8]
-    ensures value { result.now ≡ told_serial serial.now }
-    ensures short { length result.now ≤ most_serial }
-{
-    front(serial, MOST_SERIAL)
-}
-
 /// A vital product data page.
 fn page_inquiry(
     alloc: Global,
@@ -54,14 +43,15 @@ fn page_inquiry(
     code: u8,
     allocation_length: u32,
 ) -> Result<Done, Memory>
-    ensures done { IfOk result (λ done. done ≡ page_outcome kind (told_serial serial.now) allocation_length (page_of code kind)) }
+    requires { length serial.now ≤ most_serial }
+    ensures done { IfOk result (λ done. done ≡ page_outcome kind serial.now allocation_length (page_of code kind)) }
     ensures given { IfOk result (λ done. length done.given ≤ most_given) }
-    ensures nothing { (page_outcome kind (told_serial serial.now) allocation_length (page_of code kind)).given ≡ [] → IsOk result }
+    ensures nothing { (page_outcome kind serial.now allocation_length (page_of code kind)).given ≡ [] → IsOk result }
 {
     let Some(asked) = VpdPage::of(code, kind) else {
         return Ok(field_refused(alloc));
     };
-    let bytes = page(kind, told_serial(serial), asked);
+    let bytes = page(kind, serial, asked);
     done_with_front(alloc, bytes.as_slice(), allocation_length)
 }
 
@@ -74,6 +64,7 @@ pub(crate) fn inquiry(
     page: Option<u8>,
     allocation_length: u32,
 ) -> Result<Done, Memory>
+    requires { length serial.now ≤ most_serial }
     ensures done { IfOk result (λ done. done ≡ inquiry_outcome kind serial.now page allocation_length) }
     ensures given { IfOk result (λ done. length done.given ≤ most_given) }
     ensures nothing { (inquiry_outcome kind serial.now page allocation_length).given ≡ [] → IsOk result }

@@ -30,13 +30,15 @@ mod fault;
 mod given;
 mod identity;
 mod joined;
-mod logical_unit;
 mod lun;
 mod modes;
+mod performing;
 mod refusal;
+mod serial;
 mod unit;
 mod units;
 
 pub use fault::Memory;
+pub use serial::Serial;
 pub use unit::Unit;
 pub use units::Units;

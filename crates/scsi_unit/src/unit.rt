@@ -1,19 +1,17 @@
 //! One logical unit.
 
-ghost use Rattle.std.specs.Prelude.{◌≡◌, ◌≤◌, [], length, IsTrue, IsOk, IfOk, OnOk, OnErr, string_bytes};
+ghost use Rattle.std.specs.Prelude.{◌≡◌, ◌≤◌, [], length, IsTrue, IsOk, IfOk, OnOk, OnErr};
 ghost use Rattle.scsi_unit.specs.Device.{opened, store_of, Tape as TapeDevice};
 ghost use Rattle.scsi_unit.specs.CameOut.{touches, AsDefined};
 ghost use Rattle.scsi_unit.specs.DiskCommands.{most_given};
-ghost use Rattle.scsi_unit.specs.State.{unit_view};
-ghost use Rattle.scsi_unit.specs.Unit.{free_unit, joined_unit, left_unit, raised_unit, perform_as, touch_with, IsPerformed};
+ghost use Rattle.scsi_unit.specs.Unit.{free_unit, joined_unit, left_unit, raised_unit, names_unit, perform_as, touch_with, IsPerformed};
 
 use crate::device::{Device, DiskDevice};
 use crate::fault::Memory;
 use crate::identity::without_unit;
-use crate::joined::Joined;
-use crate::logical_unit::LogicalUnit;
+use crate::joined::{Joined, join, leave, raise};
 use crate::lun::Lun;
-use bytes::BytesMut;
+use crate::serial::Serial;
 use media_block::Disk;
 use media_store::Store;
 use scsi_sense::{Attention, Done, Nexus};
@@ -23,61 +21,61 @@ use std::marker::Model;
 /// A logical unit: a disk or a tape, and the unit attentions that each nexus has still to be told.
 #[derive(Drop)]
 pub struct Unit<S: Store> {
-    unit: LogicalUnit<S>,
-    used: Vec<BytesMut>,
-    alloc: Global,
+    pub(crate) lun: Lun,
+    pub(crate) serial: Serial,
+    pub(crate) device: Device<S>,
+    pub(crate) joined: Vec<Joined>,
+    pub(crate) alloc: Global,
 }
 
 impl<S: Store> Model for Unit<S> {
-    ghost use Rattle.scsi_unit.specs.State.{UnitState, unit_view};
+    ghost use Rattle.scsi_unit.specs.Device.{device_view};
+    ghost use Rattle.scsi_unit.specs.State.{UnitState};
 
     ghost Value = { UnitState };
 
-    ghost view = { λ u. unit_view u.unit };
+    ghost view = { λ u. record { lun = u.lun; serial = u.serial; device = device_view u.device; joined = u.joined.items } };
 }
 
 impl<S: Store> Unit<S> {
     /// A disk. It takes no memory.
-    pub fn disk(alloc: Global, lun: u8, serial: String, disk: Disk<S>) -> Unit<S>
-        ensures { result ≡ free_unit lun (string_bytes serial) (opened disk) }
+    pub fn disk(alloc: Global, lun: u8, serial: Serial, disk: Disk<S>) -> Unit<S>
+        ensures { result ≡ free_unit lun serial (opened disk) }
     {
         Unit {
-            unit: LogicalUnit {
-                lun: Lun::new(lun),
-                serial,
-                device: Device::Disk(DiskDevice {
-                    disk,
-                    is_ready: true,
-                    write_protect: false,
-                }),
-                joined: Vec::new(alloc),
-            },
-            used: Vec::new(alloc),
+            lun: Lun::new(lun),
+            serial,
+            device: Device::Disk(DiskDevice {
+                disk,
+                is_ready: true,
+                write_protect: false,
+            }),
+            joined: Vec::new(alloc),
             alloc,
         }
     }
 
     /// An empty tape, loaded. It takes no memory.
-    pub fn tape(alloc: Global, lun: u8, serial: String) -> Unit<S>
-        ensures { result ≡ free_unit lun (string_bytes serial) TapeDevice }
+    pub fn tape(alloc: Global, lun: u8, serial: Serial) -> Unit<S>
+        ensures { result ≡ free_unit lun serial TapeDevice }
     {
         Unit {
-            unit: LogicalUnit {
-                lun: Lun::new(lun),
-                serial,
-                device: Device::Tape,
-                joined: Vec::new(alloc),
-            },
-            used: Vec::new(alloc),
+            lun: Lun::new(lun),
+            serial,
+            device: Device::Tape,
+            joined: Vec::new(alloc),
             alloc,
         }
     }
 
-    /// The unit as it lies in memory.
-    pub(crate) fn into_unit(self) -> LogicalUnit<S>
-        ensures { unit_view result ≡ self }
+    /// Whether a LUN field names this unit.
+    fn is_named(&self, field: [u8; 8]) -> bool
+        ensures { result ≡ names_unit field self.now }
     {
-        self.unit
+        match Lun::read(field) {
+            Some(lun) => lun.number() == self.lun.number(),
+            None => false,
+        }
     }
 
     /// A nexus joins: it has the power-on attention, and no other, also where it was joined before.
@@ -86,8 +84,8 @@ impl<S: Store> Unit<S> {
         ensures ok { OnOk result (self.new ≡ joined_unit nexus self.old) }
         ensures err { OnErr result (self.new ≡ self.old) }
     {
-        self.unit.make_room()?;
-        self.unit.join(nexus);
+        self.joined.reserve(1)?;
+        join(&mut self.joined, nexus);
         Ok(())
     }
 
@@ -95,14 +93,14 @@ impl<S: Store> Unit<S> {
     pub fn leave(&mut self, nexus: &Nexus)
         ensures { self.new ≡ left_unit nexus.now self.old }
     {
-        self.unit.leave(nexus);
+        leave(&mut self.joined, nexus);
     }
 
     /// A nexus that is joined has an attention to be told, unless it has it already. It takes no memory.
     pub fn raise(&mut self, nexus: &Nexus, attention: Attention)
         ensures { self.new ≡ raised_unit nexus.now attention self.old }
     {
-        self.unit.raise(nexus, attention);
+        raise(self.joined.as_mut_slice(), nexus, attention);
     }
 
     /// A command with this data that a LUN sends to the unit. The first check that fails answers, in this
@@ -126,10 +124,10 @@ impl<S: Store> Unit<S> {
             → (perform_as AsDefined nexus.now lun cdb «data».now self.old).1.given ≡ [] → IsOk result }
         ensures err { OnErr result (self.new ≡ self.old) }
     {
-        if !self.unit.is_named(lun) {
-            return without_unit(self.alloc, cdb);
+        let alloc = self.alloc;
+        if !self.is_named(lun) {
+            return without_unit(alloc, cdb);
         }
-        self.unit
-            .perform(self.alloc, &mut self.used, nexus, cdb, data)
+        self.perform_with(&mut Vec::new(alloc), nexus, cdb, data)
     }
 }

@@ -1,10 +1,8 @@
 //! The logical units of one target.
 
-ghost use Rattle.std.specs.Prelude.{All, ◌≡◌, ◌<◌, ◌≤◌, ◌+◌, ◌++◌, ◌∷◌, ℕ, List, [], length, map, replicate, IsTrue, IsOk, IfSome, IfOk, OnOk, OnErr, slice_set};
-ghost use Rattle.scsi_sense.specs.Nexus.{NexusName};
+ghost use Rattle.std.specs.Prelude.{◌≡◌, ◌<◌, ◌≤◌, [], length, map, IsTrue, IsOk, IfSome, IfOk, OnOk, OnErr};
 ghost use Rattle.scsi_unit.specs.DiskCommands.{most_given};
-ghost use Rattle.scsi_unit.specs.State.{unit_view, HasRoom};
-ghost use Rattle.scsi_unit.specs.Unit.{joined_unit, left_unit};
+ghost use Rattle.scsi_unit.specs.Unit.{joined_unit};
 ghost use Rattle.scsi_unit.specs.Lun.{lun_number as number_of_lun};
 ghost use Rattle.scsi_unit.specs.Units.{join, leave, perform as performed, unit_of, AreSound, AreSure, AreAnswered, IsTrusted, touches_at};
 ghost use Rattle.scsi_unit.specs.Identity.{reported_luns, is_row_of_target};
@@ -13,7 +11,7 @@ ghost use Rattle.scsi_cdb.specs.Operation.{row_of};
 use crate::buffers::{MOST_KEPT, give_back};
 use crate::fault::Memory;
 use crate::identity::{report_luns, without_unit};
-use crate::logical_unit::LogicalUnit;
+use crate::joined::join as join_list;
 use crate::lun::Lun;
 use crate::unit::Unit;
 use bytes::BytesMut;
@@ -26,60 +24,38 @@ use std::marker::Model;
 /// The logical units of one target.
 #[derive(Drop)]
 pub struct Units<S: Store> {
-    units: Vec<LogicalUnit<S>>,
+    units: Vec<Unit<S>>,
     /// Buffers that were given back. Their bytes never leave the target.
     used: Vec<BytesMut>,
     alloc: Global,
 }
 
 impl<S: Store> Model for Units<S> {
-    ghost use Rattle.std.specs.Prelude.{List, map};
-    ghost use Rattle.scsi_unit.specs.State.{UnitState, unit_view};
+    ghost use Rattle.std.specs.Prelude.{List};
+    ghost use Rattle.scsi_unit.specs.State.{UnitState};
 
     ghost Value = { List UnitState };
 
-    ghost view = { λ u. map unit_view u.units.items };
+    ghost view = { λ u. u.units.items };
 }
 
-/// So many copies of a nexus.
-fn copies(alloc: Global, nexus: &Nexus, count: usize) -> Result<Vec<Nexus>, Memory>
-    ensures { IfOk result (λ names. names.items ≡ replicate count nexus.now) }
+/// A nexus joins each of these units. What that takes is there for all of them before the first is joined.
+fn join_each<S: Store>(units: &mut [Unit<S>], nexus: &Nexus) -> Result<(), Memory>
+    ensures ok { OnOk result (units.new ≡ map (joined_unit nexus.now) units.old) }
+    ensures err { OnErr result (units.new ≡ units.old) }
 {
-    let mut names = Vec::with_capacity(alloc, count)?;
-    for _ in 0..count {
-        names.push(nexus.clone()?)?;
-    }
-    Ok(names)
-}
-
-/// Room for one more nexus at each unit.
-fn reserve<S: Store>(units: &mut [LogicalUnit<S>]) -> Result<(), Memory>
-    ensures same { map unit_view units.new ≡ map unit_view units.old }
-    ensures room { OnOk result (All HasRoom units.new) }
-{
-    for at in 0..units.len() {
-        let unit = &mut units[at];
-        unit.make_room()?;
-    }
+    let Some((unit, others)) = units.split_first_mut() else {
+        return Ok(());
+    };
+    let name = nexus.clone()?;
+    unit.joined.reserve(1)?;
+    join_each(others, nexus)?;
+    join_list(&mut unit.joined, name);
     Ok(())
 }
 
-/// A copy of the nexus joins each unit, where there is room for it.
-fn admit<S: Store>(units: &mut [LogicalUnit<S>], mut names: Vec<Nexus>)
-    requires { All HasRoom units.old }
-    ensures { (nexus : NexusName) → names.items ≡ replicate (length units.old) nexus
-        → map unit_view units.new ≡ map (joined_unit nexus) (map unit_view units.old) }
-{
-    for at in 0..units.len() {
-        if let Some(nexus) = names.pop() {
-            let unit = &mut units[at];
-            unit.join(nexus);
-        }
-    }
-}
-
 /// The numbers of units.
-fn numbers<S: Store>(alloc: Global, units: &[LogicalUnit<S>]) -> Result<Vec<u8>, Memory>
+fn numbers<S: Store>(alloc: Global, units: &[Unit<S>]) -> Result<Vec<u8>, Memory>
     ensures { IfOk result (λ numbers. numbers.items ≡ map (λ unit. unit.lun) units.now) }
 {
     let mut numbers = Vec::new(alloc);
@@ -91,11 +67,7 @@ fn numbers<S: Store>(alloc: Global, units: &[LogicalUnit<S>]) -> Result<Vec<u8>,
 
 /// REPORT LUNS with these bytes, to these units. It takes no memory where no data is given.
 #[tactic(auto, unfolding(crate::specs::Identity::reported_luns, crate::specs::Identity::luns_outcome))]
-fn reported_luns<S: Store>(
-    alloc: Global,
-    units: &[LogicalUnit<S>],
-    cdb: [u8; 16],
-) -> Result<Done, Memory>
+fn reported_luns<S: Store>(alloc: Global, units: &[Unit<S>], cdb: [u8; 16]) -> Result<Done, Memory>
     ensures done { IfOk result (λ done. done ≡ reported_luns (map (λ unit. unit.lun) units.now) cdb) }
     ensures given { IfOk result (λ done. length done.given ≤ most_given) }
     ensures nothing { (reported_luns (map (λ unit. unit.lun) units.now) cdb).given ≡ [] → IsOk result }
@@ -127,16 +99,8 @@ impl<S: Store + Drop> Units<S> {
     pub fn new(alloc: Global, units: Vec<Unit<S>>) -> Result<Units<S>, Memory>
         ensures { IfOk result (λ made. made ≡ units.items) }
     {
-        let mut made = Vec::with_capacity(alloc, units.len())?;
-        for unit in units {
-            made.push(unit.into_unit())?;
-        }
         let used = Vec::with_capacity(alloc, MOST_KEPT)?;
-        Ok(Units {
-            units: made,
-            used,
-            alloc,
-        })
+        Ok(Units { units, used, alloc })
     }
 }
 
@@ -148,10 +112,7 @@ impl<S: Store> Units<S> {
         ensures ok { OnOk result (self.new ≡ join nexus.now self.old) }
         ensures err { OnErr result (self.new ≡ self.old) }
     {
-        let names = copies(self.alloc, nexus, self.units.len())?;
-        reserve(self.units.as_mut_slice())?;
-        admit(self.units.as_mut_slice(), names);
-        Ok(())
+        join_each(self.units.as_mut_slice(), nexus)
     }
 
     /// A nexus leaves, with its attentions.
@@ -214,6 +175,6 @@ impl<S: Store> Units<S> {
             return reported_luns(self.alloc, self.units.as_slice(), cdb);
         }
         let unit = &mut self.units[at];
-        unit.perform(self.alloc, &mut self.used, nexus, cdb, data)
+        unit.perform_with(&mut self.used, nexus, cdb, data)
     }
 }

@@ -13,7 +13,7 @@
 #![tactic(auto)]
 
 use hex::FromHexError;
-use iscsi_target::{Config, Memory, Target, Unit, Units};
+use iscsi_target::{Config, Memory, Serial, Target, Unit, Units};
 use media_block::{BLOCK_LENGTH, Disk, NotOpened};
 use media_store::MemStore;
 use std::alloc::{AllocError, AllocFailed, Global};
@@ -109,7 +109,12 @@ fn target(alloc: Global) -> Result<Target<MemStore>, Fault> {
     names.push(String::from_str(alloc, "t")?)?;
     let store = MemStore::new(alloc, BLOCKS * BLOCK_LENGTH, BLOCKS * BLOCK_LENGTH)?;
     let mut disks = Vec::new(alloc);
-    disks.push(Unit::disk(alloc, 0, String::from_str(alloc, "D0")?, Disk::open(store)?))?;
+    disks.push(Unit::disk(
+        alloc,
+        0,
+        Serial::new(String::from_str(alloc, "D0")?),
+        Disk::open(store)?,
+    ))?;
     let mut units = Vec::new(alloc);
     units.push(Units::new(alloc, disks)?)?;
     let config = Config {

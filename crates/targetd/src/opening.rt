@@ -14,7 +14,7 @@ use crate::store::{MediumStore, SystemStore};
 use iscsi_target::Config;
 use media_block::{BLOCK_LENGTH, Disk};
 use media_store::{FileStore, MemStore, Start, Store, SystemFile};
-use scsi_unit::{Memory, Unit, Units};
+use scsi_unit::{Memory, Serial, Unit, Units};
 use std::alloc::{AllocError, AllocFailed, Global};
 use std::fs::File;
 use std::io;
@@ -109,7 +109,7 @@ fn open_unit<S: Start>(
     rt: &(impl Files<File = File> + AllocGlobal),
     unit: UnitConfiguration,
 ) -> Result<Unit<SystemStore<S>>, Unopened>
-    requires { is_lun unit.lun ≡ true }
+    requires { unit_keeps (unit_view unit) ≡ true }
     ensures unit { IfOk result (IsUnitOf S.held (unit_view unit)) }
     ensures fault { IfErr result (IsFaultAt (unit_view unit)) }
 {
@@ -120,6 +120,7 @@ fn open_unit<S: Start>(
         medium,
     } = unit;
     let lun = lun as u8;
+    let serial = Serial::new(serial);
     match medium {
         MediumConfiguration::MemoryDisk(blocks) => {
             Ok(Unit::disk(alloc, lun, serial, memory_disk(alloc, blocks)?))

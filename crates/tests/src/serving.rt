@@ -2,7 +2,7 @@
 //! over a socket.
 
 use iscsi_serve::{Carried, Entry, MemPorts, MioPorts, Script, Step, turn, turns};
-use iscsi_target::{Config, Target, Unit, Units};
+use iscsi_target::{Config, Serial, Target, Unit, Units};
 use media_block::{BLOCK_LENGTH, Disk, NotOpened};
 use media_store::MemStore;
 use std::alloc::{AllocError, AllocFailed, Global};
@@ -97,7 +97,12 @@ fn target(alloc: Global) -> Result<Target<MemStore>, NoTarget> {
     targets.push(String::from_str(alloc, "t1")?)?;
     let store = MemStore::new(alloc, BLOCK_LENGTH, BLOCK_LENGTH)?;
     let mut disks = Vec::new(alloc);
-    disks.push(Unit::disk(alloc, 0, String::from_str(alloc, "D0")?, Disk::open(store)?))?;
+    disks.push(Unit::disk(
+        alloc,
+        0,
+        Serial::new(String::from_str(alloc, "D0")?),
+        Disk::open(store)?,
+    ))?;
     let mut units = Vec::new(alloc);
     units.push(Units::new(alloc, disks)?)?;
     let config = Config {

@@ -1,4 +1,4 @@
-use Rattle.std.proofs.Common.{◌≡◌, ◌≤◌, ◌++◌, ◌∷◌, List, sym, ap, subst, ◌∙◌, vec_capacity}
+use Rattle.std.proofs.Common.{◌≡◌, ◌≤◌, ◌++◌, ◌∷◌, List, sym, ap, subst, ◌∙◌}
 use Rattle.std.specs.Prelude.{flat_map}
 use Rattle.iscsi_pdu.specs.Frames.{Frame}
 use Rattle.iscsi_pdu.specs.Answer.{spelling}
@@ -6,7 +6,7 @@ use Rattle.iscsi_pdu.specs.declared.stamp.Stamp.{Stamp}
 use Rattle.iscsi_login.specs.declared.params.Params.{Params}
 use Rattle.iscsi_session.specs.Requests.{frame_of, stamp, finished}
 use Rattle.iscsi_session.specs.Answers.{command_answers}
-use Rattle.iscsi_session.specs.Room.{most_pieces, room_for}
+use Rattle.iscsi_session.specs.Room.{room_for}
 use Rattle.iscsi_session.specs.State.{SessionState, Stands}
 use Rattle.iscsi_session.proofs.Parts.{parts}
 use Rattle.iscsi_session.proofs.Answered.{done_here, some_queued}
@@ -23,13 +23,6 @@ returns-in_default-clause-out c past k rest s is =
     let known = subst (λ (x : SessionState). Stands past x) (sym c.self.view_is) s in
     absurd (some_queued past _ k rest known is c.in_default.ensures.none)
 
-pub put_answers-requires-clause-list : goal.put_answers-requires-clause-list
-put_answers-requires-clause-list c =
-    let known = subst (λ (x : SessionState). (frame : Frame) (others : List Frame) → x.tasks.queue ≡ frame ∷ others
-    → most_pieces x.params.values frame ≤ vec_capacity c.args.pieces) (sym c.self.view_is) c.requires.list in
-    let same : c.self-2.inside.params ≡ c.self.inside.params = ap (λ (x : SessionState). x.params) (c.self-2.view_is ∙ c.next_stamp-stamp.ensures.same) in
-    subst (λ (p : Params). most_pieces p.values c.in-Some.frame ≤ vec_capacity c.args.pieces) (sym same) (known _ _ c.in-Some.ensures.some)
-
 pub put_answers-requires-clause-room : goal.put_answers-requires-clause-room
 put_answers-requires-clause-room c =
     let known = subst (λ (x : SessionState). (frame : Frame) (others : List Frame) → x.tasks.queue ≡ frame ∷ others
@@ -42,8 +35,8 @@ returns-clause-stands c past k rest s is =
     let known = subst (λ (x : SessionState). Stands past x) (sym c.self.view_is) s in
     let f = done_here past _ k rest c.in-Some.frame _ known is c.in-Some.ensures.some c.in-Some.ensures.same in
     c.next_stamp-stamp.ensures.stands (finished k past)
-    (command_answers (stamp (finished k past)) past.params.values (frame_of past.came k) c.args.done.now) f.1
-    (command_bears (stamp (finished k past)) past.params.values (frame_of past.came k) c.args.done.now)
+    (command_answers (stamp (finished k past)) past.params.values (frame_of past.came k) c.args.done) f.1
+    (command_bears (stamp (finished k past)) past.params.values (frame_of past.came k) c.args.done)
 
 pub returns-clause-out : goal.returns-clause-out
 returns-clause-out c past k rest s is =
@@ -52,7 +45,7 @@ returns-clause-out c past k rest s is =
     let same : c.self-2.inside.params ≡ past.params = ap (λ (x : SessionState). x.params) (c.self-2.view_is ∙ c.next_stamp-stamp.ensures.same)
     ∙ (parts past _ known).params_is in
     c.put_answers.ensures
-    ∙ ap (λ (x : Stamp). c.args.out.now.items ++ flat_map spelling (command_answers x c.self-2.inside.params.values c.in-Some.frame c.args.done.now))
+    ∙ ap (λ (x : Stamp). c.args.out.now.items ++ flat_map spelling (command_answers x c.self-2.inside.params.values c.in-Some.frame c.args.done))
     (c.next_stamp-stamp.ensures.stamp (finished k past) f.1)
-    ∙ ap (λ (p : Params). c.args.out.now.items ++ flat_map spelling (command_answers (stamp (finished k past)) p.values c.in-Some.frame c.args.done.now)) same
-    ∙ ap (λ (x : Frame). c.args.out.now.items ++ flat_map spelling (command_answers (stamp (finished k past)) past.params.values x c.args.done.now)) f.0
+    ∙ ap (λ (p : Params). c.args.out.now.items ++ flat_map spelling (command_answers (stamp (finished k past)) p.values c.in-Some.frame c.args.done)) same
+    ∙ ap (λ (x : Frame). c.args.out.now.items ++ flat_map spelling (command_answers (stamp (finished k past)) past.params.values x c.args.done)) f.0

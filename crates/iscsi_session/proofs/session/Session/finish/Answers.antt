@@ -12,11 +12,16 @@ pub returns-in_default-clause-steps : goal.returns-in_default-clause-steps
 returns-in_default-clause-steps g c sound work s = none_steps finish _ work _ _ _ (no_queue work _ _ s c.in_default.ensures.none) s.units
 
 pub returns-clause-steps : goal.returns-clause-steps
-returns-clause-steps g c sound work s =
+returns-clause-steps g c =
+    rw c.give_back.ensures
+    (λ sound work s.
     finish_steps work _ _ _ _ _ _ _ _ _ _ s c.in-Some.ensures.some (ap (λ (x : SessionState). x.params.nexus) c.self.view_is) (c.in_ok-done.ensures.done sound)
     (record {
-      stands = c.done-2.ensures.stands;
-      out = λ past k others st is. c.done-2.ensures.out past k others st is
+      stands = c.done-buffer.ensures.stands;
+      out = λ past k others st is. c.done-buffer.ensures.out past k others st is
           ∙ ap (λ (bytes : List ℕ). bytes ++ flat_map spelling
           (command_answers (stamp (finished k past)) past.params.values (frame_of past.came k) c.in_ok-done.done)) c.make_room.ensures.same;
-    })
+    }))
+
+pub returns-clause-back : goal.returns-clause-back
+returns-clause-back g c = rw c.give_back.ensures c.carry_out.ensures.back

@@ -1,4 +1,4 @@
-use Rattle.std.proofs.Common.{nat_lt, refl}
+use Rattle.std.proofs.Common.{nat_lt, refl, drop}
 use Rattle.std.proofs.lemmas.Bool.{false≢true}
 use Rattle.scsi_unit.specs.Device.{disk_view}
 use Rattle.scsi_unit.proofs.DiskDone.{some_block, read_failed, read_given}
@@ -13,8 +13,8 @@ returns-in-Err-clause-done g c =
 
 pub returns-in-Ok-clause-done : goal.returns-in-Ok-clause-done
 returns-in-Ok-clause-done g c =
-    rw c.good_with.ensures
-    (read_given c.args.range (disk_view c.args.self.now) c.read_into.new.disk c.read_into.new.given.items
+    rw (c.good_with.ensures, c.behind_room.ensures)
+    (read_given c.args.range (disk_view c.args.self.now) c.read_into.new.disk (drop 48 c.read_into.new.buffer.items)
     (nat_lt 0 c.args.range.count) c.read_into.new.disk.honest refl refl
     c.in-Ok.ensures.length c.in-Ok.ensures.disk c.in-Ok.ensures.back (λ honest. c.in-Ok.ensures.read honest)
     (λ none. (c.in-Ok.ensures.none none).1) (λ steady honest. (c.in-Ok.ensures.succeeds steady honest).1))

@@ -2,7 +2,6 @@ use Rattle.std.proofs.Common.{◌≡◌, ◌==◌, ◌∙◌, Some, ap, rules, t
 use Rattle.std.proofs.lemmas.Iterator.{YieldsList-from_slice}
 use Rattle.std.proofs.lemmas.Iterator.Search.{position_from_yields_List}
 use Rattle.scsi_unit.specs.Lun.{lun_number}
-use Rattle.scsi_unit.proofs.Found.{unit_found}
 use Rattle.scsi_unit.proofs.units.Units.position.Goals as goal
 
 pub returns-clause-value : goal.returns-clause-value
@@ -11,4 +10,4 @@ returns-clause-value g c =
     let named : lun_number c.args.lun ≡ Some number = sym c.in_ok-named.ensures ∙ ap Some (sym c.number-number.ensures) in
     let found = position_from_yields_List (λ unit. unit.lun == number) _ _ c.position.result c.position.ensures.ran
     (YieldsList-from_slice c.deref.result.now c.iter.ensures.rest) (λ x b q k. search (rules, tests)) in
-    unit_found c.args.self.now c.self.inside.units.items _ number c.position.result (sym c.self.view_is) named (rw (← c.deref.ensures.value) found)
+    rw (named, ← c.self.view_is) (rw c.deref.ensures.value at found)

@@ -1,0 +1,70 @@
+use Rattle.std.proofs.Common.{◌≡◌, ◌+◌, ◌<◌, ◌≤◌, ◌++◌, List, length, get_or, sym, ap, ◌∙◌, arith}
+use Rattle.std.specs.Prelude.{flat_map}
+use Rattle.std.proofs.lemmas.List.{take_all}
+use Rattle.std.proofs.lemmas.Option.{slice_get_within}
+use Rattle.iscsi_pdu.specs.Answer.{spelling}
+use Rattle.iscsi_pdu.specs.declared.answer.Answer.{Answer}
+use Rattle.iscsi_pdu.specs.declared.answer.Answer.TheVariants as answers
+use Rattle.iscsi_session.specs.Answers.{sent_pieces, data_answers}
+use Rattle.iscsi_session.proofs.Room.{piece_there, pieces_counted, data_answer_at, data_answers_count, written_more, next_fits}
+use Rattle.iscsi_session.proofs.data_ins.put_data.Goals as goal
+
+pub data_in-requires-clause-within : goal.data_in-requires-clause-within
+data_in-requires-clause-within c =
+    (piece_there c.args.values.now c.args.sent.now c.loop-data_sn.data_sn c.piece_of-piece.result c.requires.values c.piece_of-piece.ensures).within
+
+pub data_in-requires-clause-short : goal.data_in-requires-clause-short
+data_in-requires-clause-short c =
+    (piece_there c.args.values.now c.args.sent.now c.loop-data_sn.data_sn c.piece_of-piece.result c.requires.values c.piece_of-piece.ensures).short
+
+pub data_in-requires-clause-data_sn : goal.data_in-requires-clause-data_sn
+data_in-requires-clause-data_sn c =
+    let early = (piece_there c.args.values.now c.args.sent.now c.loop-data_sn.data_sn c.piece_of-piece.result
+    c.requires.values c.piece_of-piece.ensures).early in
+    omega (arith, early, c.requires.short)
+
+pub put-requires : goal.put-requires
+put-requires c =
+    let i = c.loop-data_sn.data_sn in
+    let answer = answers.DataIn c.data_in.result in
+    let all = data_answers c.args.numbers c.args.values.now c.args.frame.now c.args.sent.now in
+    let below : i < length (sent_pieces c.args.values.now c.args.sent.now) = slice_get_within _ i _ c.piece_of-piece.ensures in
+    let is : get_or all i answer ≡ answer = data_answer_at c.args.numbers c.args.values.now c.args.frame.now c.args.sent.now i answer
+    c.piece_of-piece.result c.piece_of-piece.ensures ∙ sym c.data_in.ensures in
+    next_fits all i c.loop-data_sn.out.items c.args.out.now.items c.loop-data_sn.out.spare c.args.out.now.spare answer
+    (omega (arith, below, data_answers_count c.args.numbers c.args.values.now c.args.frame.now c.args.sent.now)) is c.loop-data_sn.invariant c.requires.room
+
+pub loop-data_sn-preserved : goal.loop-data_sn-preserved
+loop-data_sn-preserved c =
+    let i = c.loop-data_sn.data_sn in
+    let answer = answers.DataIn c.data_in.result in
+    let all = data_answers c.args.numbers c.args.values.now c.args.frame.now c.args.sent.now in
+    let below : i < length (sent_pieces c.args.values.now c.args.sent.now) = slice_get_within _ i _ c.piece_of-piece.ensures in
+    let is : get_or all i answer ≡ answer = data_answer_at c.args.numbers c.args.values.now c.args.frame.now c.args.sent.now i answer
+    c.piece_of-piece.result c.piece_of-piece.ensures ∙ sym c.data_in.ensures in
+    written_more all i c.loop-data_sn.out.items c.put.new.out.items c.args.out.now.items c.loop-data_sn.out.spare c.put.new.out.spare c.args.out.now.spare
+    answer (omega (arith, below, data_answers_count c.args.numbers c.args.values.now c.args.frame.now c.args.sent.now)) is c.loop-data_sn.invariant
+    c.put.ensures.written c.put.ensures.spare
+
+pub returns-clause-written : goal.returns-clause-written
+returns-clause-written c =
+    let all = data_answers c.args.numbers c.args.values.now c.args.frame.now c.args.sent.now in
+    let past : length all ≤ c.loop-data_sn.data_sn = omega (
+      arith,
+      data_answers_count c.args.numbers c.args.values.now c.args.frame.now c.args.sent.now,
+      pieces_counted c.args.values.now c.args.sent.now c.requires.values,
+      c.count_of-data_sn-end.ensures,
+    ) in
+    c.loop-data_sn.invariant.written ∙ ap (λ (xs : List Answer). c.args.out.now.items ++ flat_map spelling xs) (take_all c.loop-data_sn.data_sn all past)
+
+pub returns-clause-spare : goal.returns-clause-spare
+returns-clause-spare c =
+    let all = data_answers c.args.numbers c.args.values.now c.args.frame.now c.args.sent.now in
+    let past : length all ≤ c.loop-data_sn.data_sn = omega (
+      arith,
+      data_answers_count c.args.numbers c.args.values.now c.args.frame.now c.args.sent.now,
+      pieces_counted c.args.values.now c.args.sent.now c.requires.values,
+      c.count_of-data_sn-end.ensures,
+    ) in
+    ap (λ (xs : List Answer). c.loop-data_sn.out.spare + length (flat_map spelling xs)) (sym (take_all c.loop-data_sn.data_sn all past))
+    ∙ c.loop-data_sn.invariant.spare

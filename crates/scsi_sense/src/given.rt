@@ -1,0 +1,97 @@
+//! The data that a command gives.
+
+ghost use Rattle.std.specs.Prelude.{◌≡◌, ◌<◌, ◌^◌, ◌==◌, [], length, drop, IsOk, IfOk};
+ghost use Rattle.scsi_sense.specs.Given.{headroom};
+
+use bytes::BytesMut;
+use std::alloc::{AllocError, Global};
+use std::marker::Model;
+
+/// How many bytes are kept free in front of the data, for the header of the PDU that carries it: what a
+/// basic header segment takes (RFC 7143 §11.2.1). The header is written there by the layer that sends the
+/// data, which shows that it fits.
+pub const HEADROOM: usize = 48;
+
+/// How many bytes more a buffer should take behind the data, so that it is sent from there with the PDUs
+/// that end the command: the padding of the data, 3 at most (RFC 7143 §11.1), and a SCSI Response with
+/// sense data, 68 (§11.4). Where it takes fewer, the data is copied.
+pub const TAILROOM: usize = 71;
+
+/// The data that a command gives, as it lies in a buffer: behind [`HEADROOM`] bytes, so that it is sent
+/// from where it was read. Clauses see the data.
+#[derive(Debug, Drop)]
+pub struct Given {
+    buffer: BytesMut,
+}
+
+impl Model for Given {
+    ghost use Rattle.std.specs.Prelude.{List, ℕ, drop};
+    ghost use Rattle.scsi_sense.specs.Given.{headroom};
+
+    ghost Value = { List ℕ };
+
+    ghost view = { λ given. drop headroom given.buffer.items };
+}
+
+impl Given {
+    /// No data. It takes no memory.
+    pub fn nothing(alloc: Global) -> Given
+        ensures { result ≡ [] }
+    {
+        Given {
+            buffer: BytesMut::new(alloc),
+        }
+    }
+
+    /// What lies behind the room for a header in this buffer.
+    pub fn behind_room(buffer: BytesMut) -> Given
+        ensures { result ≡ drop headroom buffer.items }
+    {
+        Given { buffer }
+    }
+
+    /// A copy of this data. It takes no memory where there is none.
+    pub fn copied(alloc: Global, data: &[u8]) -> Result<Given, AllocError>
+        ensures data { IfOk result (λ given. given ≡ «data».now) }
+        ensures nothing { «data».now ≡ [] → IsOk result }
+    {
+        if data.is_empty() {
+            return Ok(Given::nothing(alloc));
+        }
+        let mut buffer = BytesMut::new(alloc);
+        buffer.reserve(HEADROOM + data.len())?;
+        buffer.extend_reserved(&[0; HEADROOM]);
+        buffer.extend_reserved(data);
+        Ok(Given { buffer })
+    }
+
+    pub fn is_empty(&self) -> bool
+        ensures { result ≡ (length self.now == 0) }
+    {
+        self.as_slice().is_empty()
+    }
+
+    pub fn len(&self) -> usize
+        ensures value { result ≡ length self.now }
+        ensures bound { result < 2 ^ 63 }
+    {
+        self.as_slice().len()
+    }
+
+    pub fn as_slice(&self) -> &[u8]
+        ensures { result.now ≡ self.now }
+    {
+        if self.buffer.len() < HEADROOM {
+            return &[];
+        }
+        &self.buffer.as_slice()[HEADROOM..]
+    }
+
+    /// The buffer, in which the data lies behind [`HEADROOM`] bytes. Where there is no data it may be
+    /// shorter than that.
+    pub fn into_buffer(self) -> BytesMut
+        ensures { drop headroom result.items ≡ self }
+    {
+        self.buffer
+    }
+}

@@ -1,0 +1,222 @@
+//! What a unit does with a command: the checks, and then the command.
+
+ghost use Rattle.std.specs.Prelude.{◌≡◌, ◌≤◌, [], length, take, false, IsTrue, IsOk, IfOk, OnOk, OnErr};
+ghost use Rattle.scsi_mode.specs.ParameterList.{selected};
+ghost use Rattle.scsi_unit.specs.Device.{parameters_of, store_of};
+ghost use Rattle.scsi_unit.specs.CameOut.{touches, AsDefined};
+ghost use Rattle.scsi_unit.specs.Checks.{judged, has_range, range_of, needed};
+ghost use Rattle.scsi_unit.specs.DiskCommands.{most_given};
+ghost use Rattle.scsi_unit.specs.Unit.{mode_selected, unit_done, carried_out, refused_with, performed_as, perform_at, touch_by, touch_at, IsPerformed};
+ghost use Rattle.scsi_unit.specs.Joined.{told};
+ghost use Rattle.scsi_unit.specs.Identity.{sense_outcome, pending_sense};
+
+use crate::device::Device;
+use crate::fault::Memory;
+use crate::identity::{inquiry, report_luns, sense_data};
+use crate::joined::{pending, raise_for_others, tell};
+use crate::modes::mode_sense;
+use crate::refusal::Refusal;
+use crate::unit::Unit;
+use bytes::BytesMut;
+use media_store::Store;
+use scsi_cdb::{Cdb, Command, ModeSelectFields, Row, UnitCommand};
+use scsi_mode::{ListFault, select};
+use scsi_sense::{Attention, Condition, Done, Nexus, Sense};
+
+/// How many bytes of data a command needs.
+fn needed(command: &Command) -> usize
+    ensures { result ≡ needed command.now }
+{
+    match command {
+        Command::Unit(UnitCommand::ModeSelect(fields)) => fields.list_length as usize,
+        _ => 0,
+    }
+}
+
+impl<S: Store> Unit<S> {
+    /// REQUEST SENSE: the first attention is given as data, and is then taken away. The room for the data
+    /// is made first, so that where an allocation fails nothing changes.
+    fn request_sense(&mut self, nexus: &Nexus, allocation_length: u32) -> Result<Done, Memory>
+        ensures ok { OnOk result (self.new ≡ record self.old { joined = (told nexus.now self.old.joined).0 }) }
+        ensures done { IfOk result (λ done. done ≡ sense_outcome (pending_sense (told nexus.now self.old.joined).1) allocation_length) }
+        ensures given { IfOk result (λ done. length done.given ≤ most_given) }
+        ensures nothing { (sense_outcome (pending_sense (told nexus.now self.old.joined).1) allocation_length).given ≡ [] → IsOk result }
+        ensures err { OnErr result (self.new ≡ self.old) }
+    {
+        let condition = match pending(self.joined.as_slice(), nexus) {
+            Some(attention) => Condition::UnitAttention(attention),
+            None => Condition::NoAdditionalSenseInformation,
+        };
+        let done = sense_data(self.alloc, Sense::new(condition), allocation_length)?;
+        let _ = tell(self.joined.as_mut_slice(), nexus);
+        Ok(done)
+    }
+
+    /// MODE SELECT with this data, which has the parameter list. Where a parameter changes, all but this
+    /// nexus are to be told. It takes no memory.
+    fn mode_select(&mut self, nexus: &Nexus, fields: ModeSelectFields, data: &[u8]) -> Done
+        requires { fields.list_length ≤ length «data».now }
+        ensures selected { (self.new, result) ≡ mode_selected nexus.now self.old fields.list_length
+            (selected (parameters_of self.old.device) fields.header (take fields.list_length «data».now)) }
+        ensures store { store_of self.new.device ≡ store_of self.old.device }
+        ensures given { result.given ≡ [] }
+    {
+        let before = self.device.parameters();
+        let list = &data[..fields.list_length as usize];
+        match select(before, fields.header, list) {
+            Ok(parameters) => {
+                if parameters.write_protect() != before.write_protect() {
+                    let attention = Attention::ModeParametersChanged;
+                    raise_for_others(self.joined.as_mut_slice(), nexus, attention);
+                }
+                self.device.set_parameters(parameters);
+                Done::good_taking(self.alloc, fields.list_length)
+            }
+            Err(fault) => Done::check_condition(self.alloc, fault.sense()),
+        }
+    }
+
+    /// A command to units of every kind. Where an allocation fails nothing changes.
+    #[tactic(auto, unfolding(crate::specs::Unit::unit_done))]
+    fn carry_out_of_any(
+        &mut self,
+        nexus: &Nexus,
+        command: UnitCommand,
+        data: &[u8],
+    ) -> Result<Done, Memory>
+        requires { needed (Command.Unit command) ≤ length «data».now }
+        ensures done { IfOk result (λ done. (self.new, done) ≡ unit_done nexus.now «data».now self.old command) }
+        ensures store { store_of self.new.device ≡ store_of self.old.device }
+        ensures given { IfOk result (λ done. length done.given ≤ most_given) }
+        ensures nothing { (unit_done nexus.now «data».now self.old command).1.given ≡ [] → IsOk result }
+        ensures err { OnErr result (self.new ≡ self.old) }
+    {
+        match command {
+            UnitCommand::TestUnitReady => Ok(Done::good(self.alloc)),
+            UnitCommand::RequestSense { allocation_length } => {
+                self.request_sense(nexus, allocation_length)
+            }
+            UnitCommand::Inquiry {
+                page,
+                allocation_length,
+            } => {
+                let serial = self.serial.as_bytes();
+                inquiry(
+                    self.alloc,
+                    self.device.kind(),
+                    serial,
+                    page,
+                    allocation_length,
+                )
+            }
+            UnitCommand::ReportLuns(fields) => report_luns(
+                self.alloc,
+                &[self.lun.number()],
+                fields,
+            ),
+            UnitCommand::ModeSense(fields) => mode_sense(
+                self.alloc,
+                self.device.parameters(),
+                fields,
+            ),
+            UnitCommand::ModeSelect(fields) => Ok(self.mode_select(nexus, fields, data)),
+        }
+    }
+
+    /// A command that no check refuses. Where an allocation fails nothing changes.
+    fn carry_out(
+        &mut self,
+        used: &mut Vec<BytesMut>,
+        nexus: &Nexus,
+        command: Command,
+        data: &[u8],
+    ) -> Result<Done, Memory>
+        requires range { IsTrue (has_range self.old.device (range_of command)) }
+        requires enough { needed command ≤ length «data».now }
+        ensures done { IfOk result (IsPerformed (touch_by self.old.device command)
+            (λ came. carried_out came nexus.now «data».now self.old command) self.old self.new) }
+        ensures given { IfOk result (λ done. length done.given ≤ most_given) }
+        ensures nothing { (IsTrue (touches (touch_by self.old.device command)) → IsTrue (store_of self.old.device).honest)
+            → (carried_out AsDefined nexus.now «data».now self.old command).1.given ≡ [] → IsOk result }
+        ensures err { OnErr result (self.new ≡ self.old) }
+    {
+        match command {
+            Command::Unit(command) => self.carry_out_of_any(nexus, command, data),
+            Command::Disk(command) => match &mut self.device {
+                Device::Disk(disk) => disk.carry_out(self.alloc, used, command),
+                Device::Tape => Ok(Done::check_condition(self.alloc, Cdb::no_operation())),
+            },
+        }
+    }
+
+    /// The command that the bytes spell, or the first check that refuses it (own, after SPC-4).
+    #[tactic(auto, unfolding(crate::specs::Checks::judged))]
+    fn judge(&self, nexus: &Nexus, cdb: [u8; 16], data: &[u8]) -> Result<Command, Refusal>
+        ensures judged { result ≡ judged nexus.now cdb «data».now self.now }
+        ensures range { IfOk result (λ command. IsTrue (has_range self.now.device (range_of command))) }
+        ensures needed { IfOk result (λ command. needed command ≤ length «data».now) }
+    {
+        let Some(row) = Row::for_kind(cdb[0], self.device.kind()) else {
+            return Err(Refusal::Refused(Cdb::no_operation()));
+        };
+        if !row.passes_attention {
+            if let Some(attention) = pending(self.joined.as_slice(), nexus) {
+                return Err(Refusal::Told(attention));
+            }
+        }
+        if row.needs_ready && !self.device.is_ready() {
+            return Err(Refusal::Refused(Sense::new(Condition::InternalTargetFailure)));
+        }
+        let command = match row.operation.command(cdb) {
+            Ok(command) => command,
+            Err(fault) => return Err(Refusal::Refused(fault.sense())),
+        };
+        if !self.device.has_range(&command) {
+            let condition = Condition::LogicalBlockAddressOutOfRange;
+            return Err(Refusal::Refused(Sense::new(condition)));
+        }
+        if data.len() < needed(&command) {
+            return Err(Refusal::Refused(ListFault::EndsEarly.sense()));
+        }
+        Ok(command)
+    }
+
+    /// Tells why a command is refused.
+    fn refuse(&mut self, nexus: &Nexus, refusal: Refusal) -> Done
+        ensures refused { (self.new, result) ≡ refused_with nexus.now self.old refusal }
+        ensures store { store_of self.new.device ≡ store_of self.old.device }
+        ensures given { result.given ≡ [] }
+    {
+        match refusal {
+            Refusal::Refused(sense) => Done::check_condition(self.alloc, sense),
+            Refusal::Told(attention) => {
+                let _ = tell(self.joined.as_mut_slice(), nexus);
+                let sense = Sense::new(Condition::UnitAttention(attention));
+                Done::check_condition(self.alloc, sense)
+            }
+        }
+    }
+
+    /// A command to the unit with this data; what it gives is in a buffer of these, where there is one.
+    /// Where an allocation fails nothing changes.
+    #[tactic(auto, unfolding(crate::specs::Unit::performed_as, crate::specs::Unit::touch_at))]
+    pub(crate) fn perform_with(
+        &mut self,
+        used: &mut Vec<BytesMut>,
+        nexus: &Nexus,
+        cdb: [u8; 16],
+        data: &[u8],
+    ) -> Result<Done, Memory>
+        ensures done { IfOk result (IsPerformed (touch_at nexus.now cdb «data».now self.old)
+            (λ came. performed_as came nexus.now cdb «data».now self.old) self.old self.new) }
+        ensures given { IfOk result (λ done. length done.given ≤ most_given) }
+        ensures nothing { (IsTrue (touches (touch_at nexus.now cdb «data».now self.old)) → IsTrue (store_of self.old.device).honest)
+            → (perform_at nexus.now cdb «data».now self.old).1.given ≡ [] → IsOk result }
+        ensures err { OnErr result (self.new ≡ self.old) }
+    {
+        match self.judge(nexus, cdb, data) {
+            Ok(command) => self.carry_out(used, nexus, command, data),
+            Err(refusal) => Ok(self.refuse(nexus, refusal)),
+        }
+    }
+}
