@@ -43,8 +43,15 @@ impl<'a> Model for DataIn<'a> {
 
     ghost Value = { DataInFields };
 
-    ghost view = { λ d. record { is_final = d.is_final; initiator_task_tag = d.initiator_task_tag; exp_cmd_sn = d.exp_cmd_sn;
-        max_cmd_sn = d.max_cmd_sn; data_sn = d.data_sn; buffer_offset = d.buffer_offset; body = d.body.now } };
+    ghost view = { λ d. record {
+      is_final = d.is_final;
+      initiator_task_tag = d.initiator_task_tag;
+      exp_cmd_sn = d.exp_cmd_sn;
+      max_cmd_sn = d.max_cmd_sn;
+      data_sn = d.data_sn;
+      buffer_offset = d.buffer_offset;
+      body = d.body.now;
+    } };
 
     ghost invariant = { λ d. length d.body.now ≤ most_data };
 }
