@@ -1,3 +1,4 @@
 pub mod Frames
 pub mod LoginHeader
+pub mod R2tHeader
 pub mod Cuts

@@ -5,6 +5,7 @@ use Rattle.iscsi_pdu.specs.ScsiResponse.{scsi_response_bytes}
 use Rattle.iscsi_pdu.specs.LoginResponse.{login_response_bytes}
 use Rattle.iscsi_pdu.specs.DataIn.{data_in_bytes}
 use Rattle.iscsi_pdu.specs.LogoutResponse.{logout_response_bytes}
+use Rattle.iscsi_pdu.specs.R2t.{r2t_bytes}
 use Rattle.iscsi_pdu.specs.Reject.{reject_bytes}
 use Rattle.iscsi_pdu.specs.declared.answer.Answer.{Answer}
 use Rattle.iscsi_pdu.specs.declared.answer.Answer.TheVariants as answers
@@ -16,4 +17,5 @@ spelling (answers.ScsiResponse response) = scsi_response_bytes response
 spelling (answers.LoginResponse response) = login_response_bytes response
 spelling (answers.DataIn piece) = data_in_bytes piece
 spelling (answers.LogoutResponse response) = logout_response_bytes response
+spelling (answers.R2t ask) = r2t_bytes ask
 spelling (answers.Reject reject) = reject_bytes reject

@@ -1,5 +1,5 @@
--- The bytes of answers to a login, to a refused login and to commands, of their data, and of answers to a
--- NOP-Out, to a logout and to a refused PDU, computed.
+-- The bytes of answers to a login, to a refused login and to commands, of their data, and of an R2T, and of
+-- answers to a NOP-Out, to a logout and to a refused PDU, computed.
 use Rattle.std.specs.Prelude.{◌≡◌, ℕ, List, [], ◌∷◌, ◌++◌, Some, None, true, codes, refl}
 use Rattle.iscsi_pdu.specs.declared.answer.Answer.TheVariants as answers
 use Rattle.iscsi_pdu.specs.declared.login_response.LoginRefusal.TheVariants as refusals
@@ -153,6 +153,24 @@ logout_spelled : spelling (answers.LogoutResponse (record {
   response = results.NoRecovery;
 })) ≡ logout_response
 logout_spelled = refl
+
+-- the second R2T of a command for LUN 1 asks for 262144 bytes from the 327680th on; the next StatSN is 3
+abbrev r2t : List ℕ
+r2t =
+    0x31 ∷ 0x80 ∷ 0x00 ∷ 0x00 ∷ 0x00 ∷ 0x00 ∷ 0x00 ∷ 0x00 ∷ 0x00 ∷ 0x01 ∷ 0x00 ∷ 0x00 ∷ 0x00 ∷ 0x00 ∷ 0x00 ∷ 0x00 ∷
+    0x00 ∷ 0x00 ∷ 0x00 ∷ 0x07 ∷ 0x00 ∷ 0x00 ∷ 0x00 ∷ 0x05 ∷ 0x00 ∷ 0x00 ∷ 0x00 ∷ 0x03 ∷ 0x00 ∷ 0x00 ∷ 0x00 ∷ 0x80 ∷
+    0x00 ∷ 0x00 ∷ 0x00 ∷ 0x9e ∷ 0x00 ∷ 0x00 ∷ 0x00 ∷ 0x01 ∷ 0x00 ∷ 0x05 ∷ 0x00 ∷ 0x00 ∷ 0x00 ∷ 0x04 ∷ 0x00 ∷ 0x00 ∷ []
+
+r2t_spelled : spelling (answers.R2t (record {
+  lun = 0 ∷ 1 ∷ 0 ∷ 0 ∷ 0 ∷ 0 ∷ 0 ∷ 0 ∷ [];
+  initiator_task_tag = 7;
+  target_transfer_tag = 5;
+  stamp = record { stat_sn = 3; exp_cmd_sn = 128; max_cmd_sn = 158 };
+  r2t_sn = 1;
+  buffer_offset = 327680;
+  desired_length = 262144;
+})) ≡ r2t
+r2t_spelled = refl
 
 -- the header of a SCSI Command comes back as 48 bytes of data
 abbrev reject : List ℕ

@@ -1,9 +1,10 @@
--- The fields of a Login Request, of a SCSI Command and of a Logout Request, computed.
+-- The fields of a Login Request, of a SCSI Command, of SCSI Data-Outs and of a Logout Request, computed.
 use Rattle.std.specs.Prelude.{◌≡◌, ℕ, List, [], ◌∷◌, ◌++◌, true, false, Some, None, replicate, refl}
 use Rattle.iscsi_pdu.specs.declared.header.Opcode.TheVariants as opcodes
 use Rattle.iscsi_pdu.specs.declared.stage.Stage.TheVariants as stages
 use Rattle.iscsi_pdu.specs.Header.{opcode_of, opcode_number, is_immediate, additional_length, data_length, lun_field, initiator_task_tag, cmd_sn}
 use Rattle.iscsi_pdu.specs.ScsiCommand.{is_final, is_read, is_write, expected_transfer_length, cdb}
+use Rattle.iscsi_pdu.specs.DataOut.{target_transfer_tag, data_sn, buffer_offset}
 use Rattle.iscsi_pdu.specs.LoginRequest.{is_transit, is_continued, current_stage, next_stage, version_min, isid, tsih, connection_id}
 use Rattle.iscsi_pdu.specs.LogoutRequest.{logout_reason}
 
@@ -62,6 +63,20 @@ command_lun = refl
 
 command_cdb : cdb command_header ≡ 0x28 ∷ 0 ∷ 0 ∷ 0 ∷ 0 ∷ 7 ∷ 0 ∷ 0 ∷ 1 ∷ replicate 6 0 ++ 0xff ∷ []
 command_cdb = refl
+
+-- the second Data-Out of a part that R2T 5 asked for, 512 bytes from the 1536th on, with F
+abbrev data_out_header : List ℕ
+data_out_header =
+    0x05 ∷ 0x80 ∷ 0x00 ∷ 0x00 ∷ 0x00 ∷ 0x00 ∷ 0x02 ∷ 0x00 ∷ 0x00 ∷ 0x00 ∷ 0x00 ∷ 0x00 ∷ 0x00 ∷ 0x00 ∷ 0x00 ∷ 0x00 ∷
+    0x00 ∷ 0x00 ∷ 0x00 ∷ 0x02 ∷ 0x00 ∷ 0x00 ∷ 0x00 ∷ 0x05 ∷ 0x00 ∷ 0x00 ∷ 0x00 ∷ 0x00 ∷ 0x00 ∷ 0x00 ∷ 0x00 ∷ 0x00 ∷
+    0x00 ∷ 0x00 ∷ 0x00 ∷ 0x00 ∷ 0x00 ∷ 0x00 ∷ 0x00 ∷ 0x01 ∷ 0x00 ∷ 0x00 ∷ 0x06 ∷ 0x00 ∷ 0x00 ∷ 0x00 ∷ 0x00 ∷ 0x00 ∷ []
+
+data_out_opcode : (opcode_of (opcode_number data_out_header) ≡ opcodes.DataOut) × (is_final data_out_header ≡ true)
+data_out_opcode = (refl, refl)
+
+data_out_fields : (initiator_task_tag data_out_header ≡ 2) × (target_transfer_tag data_out_header ≡ 5)
+    × (data_sn data_out_header ≡ 1) × (buffer_offset data_out_header ≡ 1536) × (data_length data_out_header ≡ 512)
+data_out_fields = (refl, refl, refl, refl, refl)
 
 -- an immediate Logout Request that removes connection 7 for recovery
 abbrev logout_header : List ℕ

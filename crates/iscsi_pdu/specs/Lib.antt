@@ -1,6 +1,7 @@
 pub mod Fault
 pub mod Header
 pub mod ScsiCommand
+pub mod DataOut
 pub mod Stage
 pub mod LoginRequest
 pub mod LogoutRequest
@@ -14,6 +15,7 @@ pub mod AcceptedLogin
 pub mod LoginResponse
 pub mod DataIn
 pub mod LogoutResponse
+pub mod R2t
 pub mod Reject
 pub mod Answer
 pub mod ExamplesHeader

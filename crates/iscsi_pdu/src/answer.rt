@@ -7,6 +7,7 @@ use crate::fault::PduFault;
 use crate::login_response::LoginResponse;
 use crate::logout_response::LogoutResponse;
 use crate::nop_in::NopIn;
+use crate::r2t::R2t;
 use crate::reject::Reject;
 use crate::scsi_response::{ScsiResponse, sense_segment};
 use crate::segment::put;
@@ -25,6 +26,8 @@ pub enum Answer<'a> {
     DataIn(DataIn<'a>),
     /// 26h Logout Response
     LogoutResponse(LogoutResponse),
+    /// 31h Ready To Transfer
+    R2t(R2t),
     /// 3Fh Reject
     Reject(Reject),
 }
@@ -45,6 +48,7 @@ impl<'a> Answer<'a> {
             Answer::LoginResponse(response) => response.length(),
             Answer::DataIn(piece) => piece.length(),
             Answer::LogoutResponse(response) => response.length(),
+            Answer::R2t(ask) => ask.length(),
             Answer::Reject(reject) => reject.length(),
         }
     }
@@ -71,6 +75,7 @@ impl<'a> Answer<'a> {
             }
             Answer::DataIn(piece) => put(out, &piece.header(), piece.segment()),
             Answer::LogoutResponse(response) => put(out, &response.header(), &[]),
+            Answer::R2t(ask) => put(out, &ask.header(), &[]),
             Answer::Reject(reject) => put(out, &reject.header(), reject.segment()),
         }
     }

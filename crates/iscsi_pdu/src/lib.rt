@@ -20,6 +20,7 @@
 
 mod answer;
 mod data_in;
+mod data_out;
 mod fault;
 mod frame;
 mod framer;
@@ -30,6 +31,7 @@ mod login_response;
 mod logout_request;
 mod logout_response;
 mod nop_in;
+mod r2t;
 mod reject;
 mod scsi_command;
 mod scsi_response;
@@ -46,6 +48,7 @@ pub use header::{Header, Opcode};
 pub use login_response::{LoginAccepted, LoginRefusal, LoginReply, LoginResponse, LoginStep};
 pub use logout_response::{LogoutResponse, LogoutResult};
 pub use nop_in::NopIn;
+pub use r2t::R2t;
 pub use reject::{Reject, RejectReason};
 pub use scsi_response::{Residual, ScsiResponse};
 pub use stage::Stage;

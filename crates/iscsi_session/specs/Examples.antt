@@ -75,6 +75,7 @@ command_stamp (answers.ScsiResponse response) = Some response.stamp
 command_stamp (answers.LoginResponse response) = None
 command_stamp (answers.DataIn piece) = None
 command_stamp (answers.NopIn ping) = None
+command_stamp (answers.R2t r2t) = None
 command_stamp (answers.LogoutResponse response) = None
 command_stamp (answers.Reject refusal) = None
 

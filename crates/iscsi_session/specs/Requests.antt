@@ -121,12 +121,13 @@ unfinished past = frames_of past.came (held past ++ due past ++ queue past)
 
 -- ---- sequence numbers of answers (RFC 7143 §4.2.2)
 
--- an answer that bears status uses a StatSN; a Data-In does not
+-- an answer that bears status uses a StatSN; a Data-In and an R2T do not
 abbrev pub bears_status : Answer → Bool
 bears_status (answers.LoginResponse response) = true
 bears_status (answers.ScsiResponse response) = true
 bears_status (answers.DataIn piece) = false
 bears_status (answers.NopIn ping) = true
+bears_status (answers.R2t ask) = false
 bears_status (answers.LogoutResponse response) = true
 bears_status (answers.Reject refusal) = true
 
