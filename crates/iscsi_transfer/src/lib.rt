@@ -18,6 +18,10 @@
 #![tactic(auto)]
 
 mod data_in;
+mod fault;
 pub mod laws;
+mod task;
 
 pub use data_in::{Piece, data_ins, piece_at, piece_count};
+pub use fault::DataFault;
+pub use task::{Ask, Task, command_fault};

@@ -1,0 +1,129 @@
+-- The rules of a command's data (RFC 7143 §11.7, §11.8), in terms of what is remembered of its past.
+use Rattle.std.specs.Prelude.{ℕ, ◌+◌, ◌-◌, ◌*◌, ◌/◌, min, List, ◌++◌, length, Bool, ◌&&◌, ◌||◌, not, ◌==◌, nat_lt, nat_le, Option, Some, None, if◌then◌else◌}
+use Rattle.iscsi_pdu.specs.Frames.{Frame}
+use Rattle.iscsi_pdu.specs.ScsiCommand.{is_write}
+use Rattle.iscsi_pdu.specs.DataOut.{no_transfer_tag, target_transfer_tag, data_sn, buffer_offset}
+use Rattle.iscsi_login.specs.declared.values.Values.{Values}
+use Rattle.iscsi_transfer.specs.Payload.{Past, is_last, announces, is_open, payload, u, sequence_length, expected}
+use Rattle.iscsi_transfer.specs.declared.fault.DataFault.{DataFault}
+use Rattle.iscsi_transfer.specs.declared.fault.DataFault.TheVariants as faults
+use Rattle.iscsi_transfer.specs.declared.task.Ask.{Ask}
+
+-- where the data of a command stands
+pub record TaskState : Type 0 where
+  -- what has come of it
+  pub payload : List ℕ
+  -- how many bytes the command takes
+  pub expected : ℕ
+  -- FirstBurstLength and MaxBurstLength
+  pub first_burst : ℕ
+  pub burst : ℕ
+  -- how many bytes came unasked, and whether more unsolicited Data-Outs are to come
+  pub unsolicited : ℕ
+  pub is_open : Bool
+  -- how many Data-Outs of the open sequence have come
+  pub sequence_length : ℕ
+  -- the Target Transfer Tag of the last R2T
+  pub tag : ℕ
+
+unfoldable pub remembered : Past → TaskState
+remembered past = record {
+  payload = payload past;
+  expected = expected past.command;
+  first_burst = past.values.first_burst_length;
+  burst = past.values.max_burst_length;
+  unsolicited = u past;
+  is_open = is_open past;
+  sequence_length = sequence_length past;
+  tag = past.tag;
+}
+
+-- ---- the command
+
+-- RFC 7143 §13.14: what may come unasked
+abbrev pub unsolicited_limit : ℕ → ℕ → ℕ
+unsolicited_limit first_burst expected = min first_burst expected
+
+-- what is wrong with a command: immediate data that was not agreed (RFC 7143 §13.11), unsolicited Data-Outs
+-- that were not agreed (§13.10), or too much data
+abbrev pub command_fault : Values → Frame → Option DataFault
+command_fault values command =
+    if nat_lt 0 (length command.body) && not (is_write command.header && values.immediate_data) then Some faults.ImmediateData
+    else if announces command && values.initial_r2t then Some faults.UnsolicitedData
+    else if nat_lt (unsolicited_limit values.first_burst_length (expected command)) (length command.body) then Some faults.TooMuch
+    else None
+
+-- ---- what the target asks for
+
+-- profile: so many bytes are asked for at most
+abbrev pub most_wanted : ℕ
+most_wanted = 1048576
+
+-- profile: the length that the payload is to have; where that is too long, what comes unasked is all
+abbrev pub wanted : TaskState → ℕ
+wanted task = if nat_le task.expected most_wanted then task.expected else task.unsolicited
+
+-- RFC 7143 §11.8.4 and §13.13: R2T number k asks for the k-th burst behind the unsolicited data, up to the end
+abbrev pub ask_at : ℕ → ℕ → ℕ → ℕ → Ask
+ask_at start burst end k = let offset = start + k * burst in record { number = k; offset = offset; length = min burst (end - offset) }
+
+abbrev pub ask : TaskState → ℕ → Ask
+ask task k = ask_at task.unsolicited task.burst (wanted task) k
+
+-- the one that the payload has come to
+abbrev pub next_ask : TaskState → Ask
+next_ask task = ask task ((length task.payload - task.unsolicited) / task.burst)
+
+-- the unsolicited data has ended, and more is wanted
+abbrev pub lacks_data : TaskState → Bool
+lacks_data task = not task.is_open && nat_lt (length task.payload) (wanted task)
+
+-- the ask that the last frame made due: the payload has just come to its offset
+abbrev pub due_ask : TaskState → Option Ask
+due_ask task =
+    if lacks_data task && task.sequence_length == 0 && (next_ask task).offset == length task.payload then Some (next_ask task) else None
+
+-- the payload is whole
+abbrev pub is_whole : TaskState → Bool
+is_whole task = not task.is_open && length task.payload == wanted task
+
+-- ---- a Data-Out
+
+-- RFC 7143 §11.7.4: the tag of the open sequence: FFFFFFFFh of unsolicited data, else that of its R2T
+abbrev pub sequence_tag : TaskState → ℕ
+sequence_tag task = if task.is_open then no_transfer_tag else task.tag
+
+-- where the open sequence ends at the latest
+abbrev pub sequence_end : TaskState → ℕ
+sequence_end task =
+    if task.is_open then unsolicited_limit task.first_burst task.expected else (next_ask task).offset + (next_ask task).length
+
+abbrev pub has_sequence : TaskState → Bool
+has_sequence task = task.is_open || lacks_data task
+
+-- RFC 7143 §11.7.1: F ends unsolicited data anywhere, and what an R2T asked for exactly at its end
+abbrev pub ends_rightly : TaskState → Frame → Bool
+ends_rightly task out =
+    let at_end = length task.payload + length out.body == sequence_end task in
+    task.is_open || (if is_last out then at_end else not at_end)
+
+-- the first thing that is wrong with a Data-Out
+unfoldable pub fault_of : TaskState → Frame → Option DataFault
+fault_of task out =
+    if not (has_sequence task && target_transfer_tag out.header == sequence_tag task) then Some faults.TransferTag
+    else if not (data_sn out.header == task.sequence_length) then Some faults.DataSn
+    else if not (buffer_offset out.header == length task.payload) then Some faults.BufferOffset
+    else if nat_lt (sequence_end task) (length task.payload + length out.body) then Some faults.TooMuch
+    else if not (ends_rightly task out) then Some faults.Final
+    else None
+
+-- ---- what happens
+
+-- a Data-Out is accepted
+unfoldable pub with_data : TaskState → Frame → TaskState
+with_data task out = record task {
+  payload = task.payload ++ out.body;
+  unsolicited = if task.is_open then length (task.payload ++ out.body) else task.unsolicited;
+  is_open = task.is_open && not (is_last out);
+  sequence_length = if is_last out then 0 else task.sequence_length + 1;
+}
