@@ -6,3 +6,4 @@ pub mod Task
 pub mod Room
 pub mod Laws
 pub mod Examples
+pub mod ExamplesTask

@@ -134,7 +134,8 @@ impl Task {
         requires { 1 ≤ values.now.max_burst_length }
         ensures stands { IfOk result (λ task. task ≡ remembered (begun values.now command.now)) }
         ensures lawful { OnOk result (command_fault_in values.now command.now ≡ None) }
-        ensures fault { IfErr result (λ fault. fault ≡ Memory ⊎ command_fault_in values.now command.now ≡ Some fault) }
+        ensures fault { IfErr result (λ fault. (command_fault_in values.now command.now ≡ Some fault)
+            ⊎ ((command_fault_in values.now command.now ≡ None) × (fault ≡ Memory) × (1 ≤ expected_in command.now))) }
     {
         if let Some(fault) = command_fault(command, values) {
             return Err(fault);
