@@ -5,5 +5,6 @@ pub mod Payload
 pub mod Task
 pub mod Room
 pub mod Laws
+pub mod TaskLaws
 pub mod Examples
 pub mod ExamplesTask

@@ -1,6 +1,8 @@
-//! What holds of the pieces of all data. The functions do nothing: their contracts are the laws.
+//! What holds of the pieces of all data, and of what is asked for. The functions do nothing: their contracts
+//! are the laws.
 
 ghost use Rattle.iscsi_transfer.specs.Laws.{PiecesFit, PiecesAreJoined, PiecesAreCounted, LessHasFewer, PiecesLie};
+ghost use Rattle.iscsi_transfer.specs.TaskLaws.{EachByteIsAskedFor, NoByteIsAskedForTwice, NothingElseIsAskedFor};
 
 /// Each piece has some bytes of one burst, no more than a segment, and F where it ends its burst.
 /// Joined, the pieces are the data. Less data has no more pieces.
@@ -10,4 +12,12 @@ pub fn pieces_are_the_data()
     ensures joined { PiecesAreJoined }
     ensures counted { PiecesAreCounted }
     ensures fewer { LessHasFewer }
+{}
+
+/// The R2Ts of a command, by their numbers, ask for each byte behind the unsolicited data up to the length
+/// that is wanted once, and for no other.
+pub fn each_byte_is_asked_for_once()
+    ensures each { EachByteIsAskedFor }
+    ensures once { NoByteIsAskedForTwice }
+    ensures no_other { NothingElseIsAskedFor }
 {}
