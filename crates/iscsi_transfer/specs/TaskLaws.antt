@@ -24,7 +24,8 @@ NothingElseIsAskedFor = (start burst end i k : ℕ) → AsksFor start burst end 
 
 -- where a command announces no more data, an R2T is due, or the payload is whole
 abbrev pub CommandIsWholeOrAsks : Type 0
-CommandIsWholeOrAsks = (values : Values) (command : Frame) → 1 ≤ values.max_burst_length → command_fault values command ≡ None → announces command ≡ false
+CommandIsWholeOrAsks = (values : Values) (command : Frame) → 1 ≤ values.max_burst_length
+    → command_fault values command ≡ None → announces command ≡ false
     → is_some (due_ask (remembered (begun values command))) ≡ not (is_whole (remembered (begun values command)))
 
 -- where a sequence ends, the next R2T is due, or the payload is whole

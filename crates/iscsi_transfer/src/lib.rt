@@ -1,4 +1,5 @@
-//! The data of one command, as it goes between a target and an initiator (RFC 7143 §11.7).
+//! The data of one command, as it goes between a target and an initiator (RFC 7143 §11.7): to the initiator
+//! in Data-Ins, and from it with the command, in Data-Outs that come unasked, and in those that R2Ts ask for.
 //!
 //! ```text
 //! 10240 bytes, MaxBurstLength 8192, MaxRecvDataSegmentLength 4096:
@@ -8,6 +9,14 @@
 //!                             F          F
 //! ```
 //!
+//! ```text
+//! a write of 2048 blocks, FirstBurstLength 65536, MaxBurstLength 262144:
+//!
+//! | immediate | Data-Outs | R2T 0          | R2T 1           | R2T 2           | R2T 3            |
+//! | 0 ..      | 8192 ..   | 65536 ..       | 327680 ..       | 589824 ..       | 851968 .. 1048575|
+//!                       F                F                 F                 F                  F
+//! ```
+//!
 //! Promised, and proved:
 //!
 //! - [`data_ins`] cuts the data at the multiples of MaxBurstLength, and each burst at the multiples of
@@ -15,6 +24,12 @@
 //! - [`piece_count`] is how many pieces there are, and [`piece_at`] computes each from its number, so that
 //!   no list of them has to be kept.
 //! - Joined, the pieces are the data ([`laws::pieces_are_the_data`]).
+//! - A [`Task`] takes a command's data: it tells the first fault of the command and of each Data-Out
+//!   ([`DataFault`]), and what stands of the payload, for every past of the task (`specs/Payload.antt`).
+//! - It asks for each byte behind the unsolicited data once and for no other
+//!   ([`laws::each_byte_is_asked_for_once`]), and where a sequence ends, it asks for more exactly where the
+//!   payload is not whole ([`laws::whole_or_asked_for`]).
+//! - Only [`Task::start`] takes memory, and for a command that takes no data it takes none.
 #![tactic(auto)]
 
 mod data_in;

@@ -68,16 +68,7 @@ impl Model for Task {
       tag = t.tag;
     } };
 
-    ghost invariant = { λ t. HasRoom (record {
-      payload = t.payload.items;
-      expected = t.expected;
-      first_burst = t.first_burst;
-      burst = t.burst;
-      unsolicited = t.unsolicited;
-      is_open = t.is_open;
-      sequence_length = t.sequence_length;
-      tag = t.tag;
-    }) t.payload.spare };
+    ghost invariant = { HasRoom };
 }
 
 /// Behind the command unsolicited Data-Outs come: it has W and no F (RFC 7143 §11.3.1).
@@ -156,6 +147,7 @@ impl Task {
             tag: NO_TRANSFER_TAG,
         })
     }
+
     /// How long the payload is to be.
     fn wanted(&self) -> usize
         ensures { result ≡ wanted_in self.now }
