@@ -111,7 +111,8 @@ opened task out is_open f last =
     let p = length (task.payload ++ out.body) in
     let le : p ≤ task.expected = rw (length-append task.payload out.body)
     (above_least (length task.payload + length out.body) task.first_burst task.expected (rw is_open at f.within)) in
-    settled (with_data task out) (rw last (shut_now task.is_open)) (rw last refl) (rw is_open (open_within (nat_le task.expected most_wanted) p task.expected le))
+    settled (with_data task out) (rw last (shut_now task.is_open)) (rw last refl)
+    (rw is_open (open_within (nat_le task.expected most_wanted) p task.expected le))
     (λ less. rw is_open (none_come p task.burst))
 
 -- ---- what an R2T asked for ends
@@ -135,7 +136,8 @@ next_burst p start burst end n some behind less at_end =
           rw (came, whole) (omega (arith, parts, low, at_end, step, came));
     }
 
-closed : (task : TaskState) (out : Frame) → 1 ≤ task.burst → task.unsolicited ≤ length task.payload → task.is_open ≡ false → Fits task out → is_last out ≡ true
+closed : (task : TaskState) (out : Frame) → 1 ≤ task.burst → task.unsolicited ≤ length task.payload → task.is_open ≡ false
+    → Fits task out → is_last out ≡ true
     → is_some (due_ask (with_data task out)) ≡ not (is_whole (with_data task out))
 unfolding with_data
 closed task out some behind shut f last =
@@ -154,7 +156,8 @@ sequence_is_whole_or_asks task out some behind lawful last = elim (true_or_false
 
 -- ---- the command alone
 
-third : (a b c : Bool) → (if a then Some faults.ImmediateData else if b then Some faults.UnsolicitedData else if c then Some faults.TooMuch else None) ≡ None
+third : (a b c : Bool)
+    → (if a then Some faults.ImmediateData else if b then Some faults.UnsolicitedData else if c then Some faults.TooMuch else None) ≡ None
     → c ≡ false
 third true b c h = absurd (cc)
 third false true c h = absurd (cc)

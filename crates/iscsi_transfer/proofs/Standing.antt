@@ -53,14 +53,16 @@ last_alone : (b : Bool) (out : Frame) → out ∷ (if b then [] else []) ≡ out
 last_alone true out = refl
 last_alone false out = refl
 
-up_to_last_step : (b any : Bool) (first out : Frame) (rest : List Frame) → up_to_last (rest ++ out ∷ []) ≡ (if any then up_to_last rest else rest ++ out ∷ [])
+up_to_last_step : (b any : Bool) (first out : Frame) (rest : List Frame)
+    → up_to_last (rest ++ out ∷ []) ≡ (if any then up_to_last rest else rest ++ out ∷ [])
     → first ∷ (if b then [] else up_to_last (rest ++ out ∷ []))
     ≡ (if b || any then first ∷ (if b then [] else up_to_last rest) else first ∷ rest ++ out ∷ [])
 up_to_last_step true any first out rest h = refl
 up_to_last_step false true first out rest h = ap (λ (xs : List Frame). first ∷ xs) h
 up_to_last_step false false first out rest h = ap (λ (xs : List Frame). first ∷ xs) h
 
-up_to_last-more : (outs : List Frame) (out : Frame) → up_to_last (outs ++ out ∷ []) ≡ (if list_any is_last outs then up_to_last outs else outs ++ out ∷ [])
+up_to_last-more : (outs : List Frame) (out : Frame)
+    → up_to_last (outs ++ out ∷ []) ≡ (if list_any is_last outs then up_to_last outs else outs ++ out ∷ [])
 up_to_last-more [] out = last_alone (is_last out) out
 up_to_last-more (first ∷ rest) out = up_to_last_step (is_last first) (list_any is_last rest) first out rest (up_to_last-more rest out)
 
@@ -68,9 +70,11 @@ up_to_last-more (first ∷ rest) out = up_to_last_step (is_last first) (list_any
 unasked : (announced any : Bool) (bytes : List ℕ) (outs : List Frame) (out : Frame)
     → up_to_last (outs ++ out ∷ []) ≡ (if any then up_to_last outs else outs ++ out ∷ [])
     → length (bytes ++ data_of (if announced then up_to_last (outs ++ out ∷ []) else []))
-    ≡ (if announced && not any then length ((bytes ++ data_of outs) ++ out.body) else length (bytes ++ data_of (if announced then up_to_last outs else [])))
+    ≡ (if announced && not any then length ((bytes ++ data_of outs) ++ out.body)
+    else length (bytes ++ data_of (if announced then up_to_last outs else [])))
 unasked true true bytes outs out h = ap (λ (xs : List Frame). length (bytes ++ data_of xs)) h
-unasked true false bytes outs out h = ap (λ (xs : List Frame). length (bytes ++ data_of xs)) h ∙ ap (λ (xs : List ℕ). length xs) (data_of-more bytes outs out)
+unasked true false bytes outs out h =
+    ap (λ (xs : List Frame). length (bytes ++ data_of xs)) h ∙ ap (λ (xs : List ℕ). length xs) (data_of-more bytes outs out)
 unasked false any bytes outs out h = refl
 
 open_still : (announced any here : Bool) → (announced && not (any || (here || false))) ≡ ((announced && not any) && not here)
