@@ -1,8 +1,8 @@
 -- What a command descriptor block spells: the fields of each operation.
-use Rattle.std.specs.Prelude.{ℕ, List, Bool, ◌&&◌, ◌||◌, ◌==◌, Option, Some, None, if◌then◌else◌, Result, Ok, Err, slice_index, bit_and}
+use Rattle.std.specs.Prelude.{ℕ, List, Bool, not, ◌&&◌, ◌||◌, ◌==◌, Option, Some, None, if◌then◌else◌, Result, Ok, Err, slice_index, bit_and}
 use Rattle.byteorder.specs.Endian.{big_from}
 use Rattle.scsi_sense.specs.declared.sense.Sense.{Sense}
-use Rattle.scsi_cdb.specs.Range.{Range, range_of}
+use Rattle.scsi_cdb.specs.Range.{Range, range_of, compared_range_of, same_range_of}
 use Rattle.scsi_cdb.specs.Fault.{invalid_operation_code, field_sense}
 use Rattle.scsi_cdb.specs.Operation.{row_for}
 use Rattle.scsi_cdb.specs.declared.operation.Kind.{Kind}
@@ -12,7 +12,7 @@ use Rattle.scsi_cdb.specs.declared.command.Command.TheVariants as to
 use Rattle.scsi_cdb.specs.declared.command.UnitCommand.{UnitCommand}
 use Rattle.scsi_cdb.specs.declared.command.UnitCommand.TheVariants.{TestUnitReady, RequestSense, Inquiry, ModeSelect, ModeSense, ReportLuns}
 use Rattle.scsi_cdb.specs.declared.command.DiskCommand.{DiskCommand}
-use Rattle.scsi_cdb.specs.declared.command.DiskCommand.TheVariants.{Read, ReadCapacity10, ReadCapacity16}
+use Rattle.scsi_cdb.specs.declared.command.DiskCommand.TheVariants.{Read, ReadCapacity10, ReadCapacity16, Write, Verify, VerifyData, SynchronizeCache, WriteSame, CompareAndWrite}
 use Rattle.scsi_cdb.specs.declared.fault.FieldFault.{FieldFault}
 use Rattle.scsi_cdb.specs.declared.fault.FieldFault.TheVariants.{InvalidField, SavingNotSupported}
 use Rattle.scsi_cdb.specs.declared.mode.ParameterHeader.{ParameterHeader}
@@ -87,13 +87,55 @@ abbrev pub to_report : Result ReportLunsFields FieldFault → Result UnitCommand
 to_report (Ok fields) = Ok (ReportLuns fields)
 to_report (Err fault) = Err fault
 
-abbrev pub read_with : Bool → Option Range → Result DiskCommand FieldFault
-read_with is_taken None = Err InvalidField
-read_with is_taken (Some range) = command_if is_taken (Read range)
+-- SBC-3 "READ (10) command", "READ (16) command", and others alike: LOGICAL BLOCK ADDRESS and the number of blocks
+abbrev pub range_10 : List ℕ → Range
+range_10 cdb = record { first = big_from 2 4 cdb; count = big_from 7 2 cdb }
 
--- SBC-3 "READ (10) command": RDPROTECT, bits 7 to 5 of byte 1, is 0, since there is no protection information
-abbrev pub read_of : ℕ → ℕ → ℕ → Result DiskCommand FieldFault
-read_of byte_1 first blocks = read_with (bit_and byte_1 0xe0 == 0) (range_of first blocks)
+abbrev pub range_16 : List ℕ → Range
+range_16 cdb = record { first = big_from 2 8 cdb; count = big_from 10 4 cdb }
+
+-- SBC-3 "COMPARE AND WRITE command": NUMBER OF LOGICAL BLOCKS, byte 13
+abbrev pub range_compared : List ℕ → Range
+range_compared cdb = record { first = big_from 2 8 cdb; count = slice_index cdb 13 }
+
+-- a command of blocks, where it takes so many and its other fields are taken
+abbrev pub command_of_blocks : (Range → DiskCommand) → Bool → Option Range → Result DiskCommand FieldFault
+command_of_blocks command is_taken None = Err InvalidField
+command_of_blocks command is_taken (Some range) = command_if is_taken (command range)
+
+-- SBC-3 "READ (10) command": RDPROTECT, WRPROTECT or VRPROTECT, bits 7 to 5 of byte 1, is 0, since there is no
+-- protection information
+abbrev pub is_without_protection : ℕ → Bool
+is_without_protection byte_1 = bit_and byte_1 0xe0 == 0
+
+-- SBC-3 "WRITE (10) command": FUA, bit 3 of byte 1
+abbrev pub forces_access : ℕ → Bool
+forces_access byte_1 = not (bit_and byte_1 0x08 == 0)
+
+-- SBC-3 "READ (10) command"
+abbrev pub read_of : ℕ → Range → Result DiskCommand FieldFault
+read_of byte_1 range = command_of_blocks Read (is_without_protection byte_1) (range_of range.first range.count)
+
+-- SBC-3 "WRITE (10) command"
+abbrev pub write_of : ℕ → Range → Result DiskCommand FieldFault
+write_of byte_1 range =
+    command_of_blocks (λ range. Write range (forces_access byte_1)) (is_without_protection byte_1) (range_of range.first range.count)
+
+-- SBC-3 "VERIFY (10) command": BYTCHK, bits 2 and 1 of byte 1, is 00b (no data) or 01b (as much data as blocks)
+abbrev pub verify_of : ℕ → Range → Result DiskCommand FieldFault
+verify_of byte_1 range =
+    if bit_and byte_1 0x06 == 0x00 then command_if (is_without_protection byte_1) (Verify range)
+    else command_of_blocks VerifyData (is_without_protection byte_1 && bit_and byte_1 0x06 == 0x02) (range_of range.first range.count)
+
+-- SBC-3 "WRITE SAME (10) command": byte 1 (WRPROTECT, ANCHOR, UNMAP, NDOB) is 0 (profile)
+abbrev pub write_same_of : ℕ → Range → Result DiskCommand FieldFault
+write_same_of byte_1 range = command_of_blocks WriteSame (byte_1 == 0) (same_range_of range.first range.count)
+
+-- SBC-3 "COMPARE AND WRITE command"
+abbrev pub compare_and_write_of : ℕ → Range → Result DiskCommand FieldFault
+compare_and_write_of byte_1 range =
+    command_of_blocks (λ range. CompareAndWrite range (forces_access byte_1)) (is_without_protection byte_1)
+    (compared_range_of range.first range.count)
 
 -- SPC-4 "Commands for all device types": the fields of each operation
 abbrev pub unit_fields : UnitOperation → List ℕ → Result UnitCommand FieldFault
@@ -108,11 +150,20 @@ unit_fields unit.ReportLuns cdb = to_report (report_luns_of cdb)
 
 -- SBC-3 "Commands for direct access block devices": the fields of each operation
 abbrev pub disk_fields : DiskOperation → List ℕ → Result DiskCommand FieldFault
-disk_fields disk.Read10 cdb = read_of (slice_index cdb 1) (big_from 2 4 cdb) (big_from 7 2 cdb)
-disk_fields disk.Read16 cdb = read_of (slice_index cdb 1) (big_from 2 8 cdb) (big_from 10 4 cdb)
+disk_fields disk.Read10 cdb = read_of (slice_index cdb 1) (range_10 cdb)
+disk_fields disk.Read16 cdb = read_of (slice_index cdb 1) (range_16 cdb)
 disk_fields disk.ReadCapacity10 cdb = Ok ReadCapacity10
 disk_fields disk.ServiceActionIn16 cdb =
     command_if (bit_and (slice_index cdb 1) 0x1f == 0x10) (ReadCapacity16 (big_from 10 4 cdb))
+disk_fields disk.Write10 cdb = write_of (slice_index cdb 1) (range_10 cdb)
+disk_fields disk.Write16 cdb = write_of (slice_index cdb 1) (range_16 cdb)
+disk_fields disk.Verify10 cdb = verify_of (slice_index cdb 1) (range_10 cdb)
+disk_fields disk.Verify16 cdb = verify_of (slice_index cdb 1) (range_16 cdb)
+disk_fields disk.SynchronizeCache10 cdb = Ok (SynchronizeCache (range_10 cdb))
+disk_fields disk.SynchronizeCache16 cdb = Ok (SynchronizeCache (range_16 cdb))
+disk_fields disk.WriteSame10 cdb = write_same_of (slice_index cdb 1) (range_10 cdb)
+disk_fields disk.WriteSame16 cdb = write_same_of (slice_index cdb 1) (range_16 cdb)
+disk_fields disk.CompareAndWrite cdb = compare_and_write_of (slice_index cdb 1) (range_compared cdb)
 
 abbrev pub to_unit : Result UnitCommand FieldFault → Result Command FieldFault
 to_unit (Ok command) = Ok (to.Unit command)

@@ -2,7 +2,7 @@
 use Rattle.std.specs.Prelude.{◌≡◌, [], ◌∷◌, ◌++◌, true, false, Some, None, Ok, Err, replicate, refl}
 use Rattle.scsi_cdb.specs.declared.command.Command.TheVariants as to
 use Rattle.scsi_cdb.specs.declared.command.UnitCommand.TheVariants.{TestUnitReady, RequestSense, Inquiry, ModeSelect, ModeSense, ReportLuns}
-use Rattle.scsi_cdb.specs.declared.command.DiskCommand.TheVariants.{Read, ReadCapacity10, ReadCapacity16}
+use Rattle.scsi_cdb.specs.declared.command.DiskCommand.TheVariants.{Read, ReadCapacity10, ReadCapacity16, Write, Verify, VerifyData, SynchronizeCache, WriteSame, CompareAndWrite}
 use Rattle.scsi_cdb.specs.declared.operation.Kind.TheVariants.{Disk, Tape}
 use Rattle.scsi_cdb.specs.Fault.{invalid_operation_code, invalid_field, saving_not_supported}
 use Rattle.scsi_cdb.specs.Command.{command_of}
@@ -33,6 +33,47 @@ read_10_refused = (refl, refl)
 read_16 : command_of (0x88 ∷ 0x00 ∷ 0x01 ∷ 0x02 ∷ 0x03 ∷ 0x04 ∷ 0x05 ∷ 0x06 ∷ 0x07 ∷ 0x08 ∷ 0 ∷ 0 ∷ 0 ∷ 0x02 ∷ 0 ∷ 0 ∷ []) Disk
     ≡ Ok (to.Disk (Read (record { first = 0x0102030405060708; count = 2 })))
 read_16 = refl
+
+-- WRITE (10) of logical block address 01020304h, 2048 blocks, with FUA; (16) of 2 blocks without; a tape has none
+write : (command_of (0x2a ∷ 0x08 ∷ 0x01 ∷ 0x02 ∷ 0x03 ∷ 0x04 ∷ 0 ∷ 0x08 ∷ 0x00 ∷ replicate 7 0) Disk
+    ≡ Ok (to.Disk (Write (record { first = 0x01020304; count = 2048 }) true)))
+    × (command_of (0x8a ∷ replicate 8 0 ++ 0x09 ∷ 0 ∷ 0 ∷ 0 ∷ 0x02 ∷ 0 ∷ 0 ∷ []) Disk ≡ Ok (to.Disk (Write (record { first = 9; count = 2 }) false)))
+    × (command_of (0x2a ∷ replicate 15 0) Tape ≡ Err invalid_operation_code)
+write = (refl, refl, refl)
+
+-- one block too many, and protection information
+write_refused : (command_of (0x2a ∷ replicate 6 0 ++ 0x08 ∷ 0x01 ∷ replicate 7 0) Disk ≡ Err invalid_field)
+    × (command_of (0x8a ∷ 0x20 ∷ replicate 14 0) Disk ≡ Err invalid_field)
+write_refused = (refl, refl)
+
+-- VERIFY (10) of 65535 blocks without data; (10) of 1 block with data, (16) of 2049 blocks with data; BYTCHK 10b and 11b
+verify : (command_of (0x2f ∷ replicate 6 0 ++ 0xff ∷ 0xff ∷ replicate 7 0) Disk ≡ Ok (to.Disk (Verify (record { first = 0; count = 65535 }))))
+    × (command_of (0x2f ∷ 0x02 ∷ replicate 6 0 ++ 0x01 ∷ replicate 7 0) Disk ≡ Ok (to.Disk (VerifyData (record { first = 0; count = 1 }))))
+    × (command_of (0x8f ∷ 0x02 ∷ replicate 10 0 ++ 0x08 ∷ 0x01 ∷ 0 ∷ 0 ∷ []) Disk ≡ Err invalid_field)
+    × (command_of (0x2f ∷ 0x04 ∷ replicate 14 0) Disk ≡ Err invalid_field)
+    × (command_of (0x2f ∷ 0x06 ∷ replicate 14 0) Disk ≡ Err invalid_field)
+verify = (refl, refl, refl, refl, refl)
+
+-- SYNCHRONIZE CACHE (10) from logical block address 01020304h on; (16) of 01000000h blocks; IMMED is not looked at
+synchronize_cache : (command_of (0x35 ∷ 0x02 ∷ 0x01 ∷ 0x02 ∷ 0x03 ∷ 0x04 ∷ replicate 10 0) Disk
+    ≡ Ok (to.Disk (SynchronizeCache (record { first = 0x01020304; count = 0 }))))
+    × (command_of (0x91 ∷ replicate 9 0 ++ 0x01 ∷ replicate 5 0) Disk ≡ Ok (to.Disk (SynchronizeCache (record { first = 0; count = 0x01000000 }))))
+synchronize_cache = (refl, refl)
+
+-- WRITE SAME (10) of 1 block, (16) of 32768; of none, of one more, and with UNMAP
+write_same : (command_of (0x41 ∷ replicate 7 0 ++ 0x01 ∷ replicate 7 0) Disk ≡ Ok (to.Disk (WriteSame (record { first = 0; count = 1 }))))
+    × (command_of (0x93 ∷ replicate 11 0 ++ 0x80 ∷ 0 ∷ 0 ∷ 0 ∷ []) Disk ≡ Ok (to.Disk (WriteSame (record { first = 0; count = 32768 }))))
+    × (command_of (0x41 ∷ replicate 15 0) Disk ≡ Err invalid_field)
+    × (command_of (0x93 ∷ replicate 11 0 ++ 0x80 ∷ 0x01 ∷ 0 ∷ 0 ∷ []) Disk ≡ Err invalid_field)
+    × (command_of (0x41 ∷ 0x08 ∷ replicate 6 0 ++ 0x01 ∷ replicate 7 0) Disk ≡ Err invalid_field)
+write_same = (refl, refl, refl, refl, refl)
+
+-- COMPARE AND WRITE of 128 blocks with FUA, and of none; of 129
+compare_and_write : (command_of (0x89 ∷ 0x08 ∷ replicate 7 0 ++ 0x03 ∷ 0 ∷ 0 ∷ 0 ∷ 0x80 ∷ 0 ∷ 0 ∷ []) Disk
+    ≡ Ok (to.Disk (CompareAndWrite (record { first = 3; count = 128 }) true)))
+    × (command_of (0x89 ∷ replicate 15 0) Disk ≡ Ok (to.Disk (CompareAndWrite (record { first = 0; count = 0 }) false)))
+    × (command_of (0x89 ∷ replicate 12 0 ++ 0x81 ∷ 0 ∷ 0 ∷ []) Disk ≡ Err invalid_field)
+compare_and_write = (refl, refl, refl)
 
 read_capacity : (command_of (0x25 ∷ replicate 15 0) Disk ≡ Ok (to.Disk ReadCapacity10))
     × (command_of (0x9e ∷ 0x10 ∷ replicate 11 0 ++ 0x20 ∷ 0 ∷ 0 ∷ []) Disk ≡ Ok (to.Disk (ReadCapacity16 32)))

@@ -6,7 +6,7 @@ use Rattle.scsi_cdb.specs.declared.operation.Kind.TheVariants as kind
 use Rattle.scsi_cdb.specs.declared.operation.Operation.{Operation}
 use Rattle.scsi_cdb.specs.declared.operation.Operation.TheVariants.{Unit, Disk}
 use Rattle.scsi_cdb.specs.declared.operation.UnitOperation.TheVariants.{TestUnitReady, RequestSense, Inquiry, ModeSelect6, ModeSelect10, ModeSense6, ModeSense10, ReportLuns}
-use Rattle.scsi_cdb.specs.declared.operation.DiskOperation.TheVariants.{Read10, Read16, ReadCapacity10, ServiceActionIn16}
+use Rattle.scsi_cdb.specs.declared.operation.DiskOperation.TheVariants.{Read10, Read16, ReadCapacity10, ServiceActionIn16, Write10, Write16, Verify10, Verify16, SynchronizeCache10, SynchronizeCache16, WriteSame10, WriteSame16, CompareAndWrite}
 use Rattle.scsi_cdb.specs.declared.operation.ReservationClass.{ReservationClass}
 use Rattle.scsi_cdb.specs.declared.operation.ReservationClass.TheVariants.{Always, Reading, Writing}
 use Rattle.scsi_cdb.specs.declared.operation.Row.{Row}
@@ -40,9 +40,18 @@ operation_table =
     ∷ entry 0x1a (row (Unit ModeSense6) false false false Reading)
     ∷ entry 0x25 (row (Disk ReadCapacity10) false false false Always)
     ∷ entry 0x28 (row (Disk Read10) false false true Reading)
+    ∷ entry 0x2a (row (Disk Write10) false false true Writing)
+    ∷ entry 0x2f (row (Disk Verify10) false false true Reading)
+    ∷ entry 0x35 (row (Disk SynchronizeCache10) false false true Writing)
+    ∷ entry 0x41 (row (Disk WriteSame10) false false true Writing)
     ∷ entry 0x55 (row (Unit ModeSelect10) false false false Writing)
     ∷ entry 0x5a (row (Unit ModeSense10) false false false Reading)
     ∷ entry 0x88 (row (Disk Read16) false false true Reading)
+    ∷ entry 0x89 (row (Disk CompareAndWrite) false false true Writing)
+    ∷ entry 0x8a (row (Disk Write16) false false true Writing)
+    ∷ entry 0x8f (row (Disk Verify16) false false true Reading)
+    ∷ entry 0x91 (row (Disk SynchronizeCache16) false false true Writing)
+    ∷ entry 0x93 (row (Disk WriteSame16) false false true Writing)
     ∷ entry 0x9e (row (Disk ServiceActionIn16) false false false Always)
     ∷ entry 0xa0 (row (Unit ReportLuns) true false false Always)
     ∷ []

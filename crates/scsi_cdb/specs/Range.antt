@@ -1,12 +1,12 @@
 -- Blocks that a command names.
-use Rattle.std.specs.Prelude.{ℕ, Option, Some, None, nat_le, if◌then◌else◌}
+use Rattle.std.specs.Prelude.{ℕ, Bool, ◌&&◌, Option, Some, None, nat_le, if◌then◌else◌}
 
 -- so many from the first one on
 pub record Range : Type 0 where
   pub first : ℕ
   pub count : ℕ
 
--- profile: the most blocks of one READ
+-- profile: the most blocks of one READ, of one WRITE and of one VERIFY with data
 abbrev pub most_blocks : ℕ
 most_blocks = 2048
 
@@ -18,6 +18,18 @@ most_compared = 128
 abbrev pub most_same : ℕ
 most_same = 32768
 
--- the range, where it is short enough
+-- the range, where its length is taken
+abbrev pub range_if : Bool → ℕ → ℕ → Option Range
+range_if is_taken first count = if is_taken then Some (record { first = first; count = count }) else None
+
+-- the blocks of a READ, of a WRITE, of a VERIFY with data
 abbrev pub range_of : ℕ → ℕ → Option Range
-range_of first count = if nat_le count most_blocks then Some (record { first = first; count = count }) else None
+range_of first count = range_if (nat_le count most_blocks) first count
+
+-- the blocks of a COMPARE AND WRITE
+abbrev pub compared_range_of : ℕ → ℕ → Option Range
+compared_range_of first count = range_if (nat_le count most_compared) first count
+
+-- the blocks of a WRITE SAME: one at least (SBC-3 "Block Limits VPD page", WSNZ)
+abbrev pub same_range_of : ℕ → ℕ → Option Range
+same_range_of first count = range_if (nat_le 1 count && nat_le count most_same) first count

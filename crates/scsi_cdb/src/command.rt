@@ -1,6 +1,6 @@
 //! Commands with their fields.
 
-use crate::block_range::BlockRange;
+use crate::block_range::{AnyRange, BlockRange, ComparedRange, SameRange};
 use crate::mode::{ModeSelectFields, ModeSenseFields};
 use crate::report_luns::ReportLunsFields;
 
@@ -47,5 +47,29 @@ pub enum DiskCommand {
     ReadCapacity10,
     /// Asks for the same with the address in eight bytes, of which so many bytes are wanted (SBC-3
     /// "READ CAPACITY (16) command").
-    ReadCapacity16 { allocation_length: u32 },
+    ReadCapacity16 {
+        allocation_length: u32,
+    },
+    /// Puts data in the place of blocks; where FUA is set it is on the medium before the command ends (SBC-3
+    /// "WRITE (10) command", "WRITE (16) command").
+    Write {
+        range: BlockRange,
+        force_unit_access: bool,
+    },
+    /// Asks whether blocks can be read (SBC-3 "VERIFY (10) command", "VERIFY (16) command", BYTCHK 00b).
+    Verify(AnyRange),
+    /// Asks whether blocks have this data (the same, BYTCHK 01b).
+    VerifyData(BlockRange),
+    /// Asks that all that was written is on the medium (SBC-3 "SYNCHRONIZE CACHE (10) command", "SYNCHRONIZE
+    /// CACHE (16) command").
+    SynchronizeCache(AnyRange),
+    /// Puts one block of data in the place of each of these (SBC-3 "WRITE SAME (10) command", "WRITE SAME (16)
+    /// command").
+    WriteSame(SameRange),
+    /// Puts the second half of the data in the place of blocks that have the first half (SBC-3 "COMPARE AND
+    /// WRITE command"); FUA as of WRITE.
+    CompareAndWrite {
+        range: ComparedRange,
+        force_unit_access: bool,
+    },
 }

@@ -1,9 +1,9 @@
 //! The fields of command descriptor blocks.
 
-ghost use Rattle.std.specs.Prelude.{◌≡◌};
-ghost use Rattle.scsi_cdb.specs.Command.{fields_of, unit_fields, disk_fields, command_if, inquiry_of, mode_select_of, control_of, mode_sense_of, read_of};
+ghost use Rattle.std.specs.Prelude.{◌≡◌, slice_index};
+ghost use Rattle.scsi_cdb.specs.Command.{fields_of, unit_fields, disk_fields, command_if, inquiry_of, mode_select_of, control_of, mode_sense_of, range_10 as range_of_10, range_16 as range_of_16, range_compared, is_without_protection, forces_access as forces_unit_access, read_of, write_of, verify_of, write_same_of, compare_and_write_of};
 
-use crate::block_range::BlockRange;
+use crate::block_range::{AnyRange, BlockRange, ComparedRange, SameRange};
 use crate::command::{Command, DiskCommand, UnitCommand};
 use crate::fault::FieldFault;
 use crate::mode::{ModeSelectFields, ModeSenseFields, PageControl, ParameterHeader};
@@ -25,8 +25,18 @@ const PAGE_CODE: u8 = 0x3F;
 
 const ALL_PAGES: u8 = 0x3F;
 
-/// RDPROTECT, in byte 1.
+/// RDPROTECT, WRPROTECT and VRPROTECT, in byte 1.
 const PROTECT: u8 = 0xE0;
+
+/// FUA of WRITE and COMPARE AND WRITE, in byte 1.
+const FORCE_UNIT_ACCESS: u8 = 0x08;
+
+/// BYTCHK of VERIFY, in byte 1, and its values: no data, and as much data as blocks.
+const BYTE_CHECK: u8 = 0x06;
+
+const NO_DATA: u8 = 0x00;
+
+const DATA_OF_BLOCKS: u8 = 0x02;
 
 /// SERVICE ACTION, in byte 1.
 const SERVICE_ACTION: u8 = 0x1F;
@@ -86,16 +96,8 @@ impl DiskOperation {
         ensures { result ≡ disk_fields self bytes.now }
     {
         match self {
-            DiskOperation::Read10 => {
-                let first = BigEndian::read_u32(&bytes[2..]);
-                let blocks = BigEndian::read_u16(&bytes[7..]);
-                read(bytes[1], u64::from(first), u32::from(blocks))
-            }
-            DiskOperation::Read16 => {
-                let first = BigEndian::read_u64(&bytes[2..]);
-                let blocks = BigEndian::read_u32(&bytes[10..]);
-                read(bytes[1], first, blocks)
-            }
+            DiskOperation::Read10 => read(bytes[1], range_10(bytes)),
+            DiskOperation::Read16 => read(bytes[1], range_16(bytes)),
             DiskOperation::ReadCapacity10 => Ok(DiskCommand::ReadCapacity10),
             DiskOperation::ServiceActionIn16 => {
                 let allocation_length = BigEndian::read_u32(&bytes[10..]);
@@ -104,6 +106,15 @@ impl DiskOperation {
                     DiskCommand::ReadCapacity16 { allocation_length },
                 )
             }
+            DiskOperation::Write10 => write(bytes[1], range_10(bytes)),
+            DiskOperation::Write16 => write(bytes[1], range_16(bytes)),
+            DiskOperation::Verify10 => verify(bytes[1], range_10(bytes)),
+            DiskOperation::Verify16 => verify(bytes[1], range_16(bytes)),
+            DiskOperation::SynchronizeCache10 => Ok(DiskCommand::SynchronizeCache(range_10(bytes))),
+            DiskOperation::SynchronizeCache16 => Ok(DiskCommand::SynchronizeCache(range_16(bytes))),
+            DiskOperation::WriteSame10 => write_same(bytes[1], range_10(bytes)),
+            DiskOperation::WriteSame16 => write_same(bytes[1], range_16(bytes)),
+            DiskOperation::CompareAndWrite => compare_and_write(bytes),
         }
     }
 }
@@ -190,12 +201,100 @@ fn mode_sense(
     )
 }
 
-/// READ of so many blocks from the first one on, with this byte 1.
-fn read(byte_1: u8, first: u64, blocks: u32) -> Result<DiskCommand, FieldFault>
-    ensures { result ≡ read_of byte_1 first blocks }
+/// LOGICAL BLOCK ADDRESS and the number of blocks of a descriptor block of 10 bytes.
+fn range_10(bytes: &[u8; 16]) -> AnyRange
+    ensures { result ≡ range_of_10 bytes.now }
 {
-    match BlockRange::new(first, blocks) {
-        Some(range) => command_where(byte_1 & PROTECT == 0, DiskCommand::Read(range)),
+    let first = BigEndian::read_u32(&bytes[2..]);
+    let count = BigEndian::read_u16(&bytes[7..]);
+    AnyRange::new(u64::from(first), u32::from(count))
+}
+
+/// The same of a descriptor block of 16 bytes.
+fn range_16(bytes: &[u8; 16]) -> AnyRange
+    ensures { result ≡ range_of_16 bytes.now }
+{
+    let first = BigEndian::read_u64(&bytes[2..]);
+    let count = BigEndian::read_u32(&bytes[10..]);
+    AnyRange::new(first, count)
+}
+
+/// Whether no protection information is asked for.
+fn is_unprotected(byte_1: u8) -> bool
+    ensures { result ≡ is_without_protection byte_1 }
+{
+    byte_1 & PROTECT == 0
+}
+
+/// Whether FUA is set.
+fn forces_access(byte_1: u8) -> bool
+    ensures { result ≡ forces_unit_access byte_1 }
+{
+    byte_1 & FORCE_UNIT_ACCESS != 0
+}
+
+/// READ of these blocks, with this byte 1.
+fn read(byte_1: u8, range: AnyRange) -> Result<DiskCommand, FieldFault>
+    ensures { result ≡ read_of byte_1 range }
+{
+    match BlockRange::new(range.first(), range.count()) {
+        Some(range) => command_where(is_unprotected(byte_1), DiskCommand::Read(range)),
         None => Err(FieldFault::InvalidField),
     }
+}
+
+/// WRITE of these blocks, with this byte 1.
+fn write(byte_1: u8, range: AnyRange) -> Result<DiskCommand, FieldFault>
+    ensures { result ≡ write_of byte_1 range }
+{
+    let Some(range) = BlockRange::new(range.first(), range.count()) else {
+        return Err(FieldFault::InvalidField);
+    };
+    let command = DiskCommand::Write {
+        range,
+        force_unit_access: forces_access(byte_1),
+    };
+    command_where(is_unprotected(byte_1), command)
+}
+
+/// VERIFY of these blocks, with this byte 1.
+fn verify(byte_1: u8, range: AnyRange) -> Result<DiskCommand, FieldFault>
+    ensures { result ≡ verify_of byte_1 range }
+{
+    let check = byte_1 & BYTE_CHECK;
+    if check == NO_DATA {
+        return command_where(is_unprotected(byte_1), DiskCommand::Verify(range));
+    }
+    match BlockRange::new(range.first(), range.count()) {
+        Some(range) => command_where(
+            is_unprotected(byte_1) && check == DATA_OF_BLOCKS,
+            DiskCommand::VerifyData(range),
+        ),
+        None => Err(FieldFault::InvalidField),
+    }
+}
+
+/// WRITE SAME to these blocks, with this byte 1.
+fn write_same(byte_1: u8, range: AnyRange) -> Result<DiskCommand, FieldFault>
+    ensures { result ≡ write_same_of byte_1 range }
+{
+    match SameRange::new(range.first(), range.count()) {
+        Some(range) => command_where(byte_1 == 0, DiskCommand::WriteSame(range)),
+        None => Err(FieldFault::InvalidField),
+    }
+}
+
+/// COMPARE AND WRITE.
+fn compare_and_write(bytes: &[u8; 16]) -> Result<DiskCommand, FieldFault>
+    ensures { result ≡ compare_and_write_of (slice_index bytes.now 1) (range_compared bytes.now) }
+{
+    let first = BigEndian::read_u64(&bytes[2..]);
+    let Some(range) = ComparedRange::new(first, u32::from(bytes[13])) else {
+        return Err(FieldFault::InvalidField);
+    };
+    let command = DiskCommand::CompareAndWrite {
+        range,
+        force_unit_access: forces_access(bytes[1]),
+    };
+    command_where(is_unprotected(bytes[1]), command)
 }

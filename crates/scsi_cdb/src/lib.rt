@@ -18,14 +18,25 @@
 //! 1Ah   yes   yes                                               MODE SENSE (6)
 //! 25h   yes                                                     READ CAPACITY (10)
 //! 28h   yes                                              ready  READ (10)
+//! 2Ah   yes                                              ready  WRITE (10)
+//! 2Fh   yes                                              ready  VERIFY (10)
+//! 35h   yes                                              ready  SYNCHRONIZE CACHE (10)
+//! 41h   yes                                              ready  WRITE SAME (10)
 //! 55h   yes   yes                                               MODE SELECT (10)
 //! 5Ah   yes   yes                                               MODE SENSE (10)
 //! 88h   yes                                              ready  READ (16)
+//! 89h   yes                                              ready  COMPARE AND WRITE
+//! 8Ah   yes                                              ready  WRITE (16)
+//! 8Fh   yes                                              ready  VERIFY (16)
+//! 91h   yes                                              ready  SYNCHRONIZE CACHE (16)
+//! 93h   yes                                              ready  WRITE SAME (16)
 //! 9Eh   yes                                                     SERVICE ACTION IN (16): READ CAPACITY (16)
 //! A0h   yes   yes   attention                                   REPORT LUNS
 //! ```
 //!
-//! A command carries its limits in its types: blocks that it names are a [`BlockRange`], of 2048 at most.
+//! A command carries its limits in its types. Blocks that it names are a [`BlockRange`], of 2048 at most
+//! (READ, WRITE, VERIFY with data), a [`ComparedRange`], of 128 at most (COMPARE AND WRITE), a [`SameRange`],
+//! of 1 to 32768 (WRITE SAME), or an [`AnyRange`] (VERIFY without data, SYNCHRONIZE CACHE).
 #![tactic(auto)]
 
 mod block_range;
@@ -37,7 +48,9 @@ mod mode;
 mod operation;
 mod report_luns;
 
-pub use block_range::{BlockRange, MOST_BLOCKS, MOST_COMPARED, MOST_SAME};
+pub use block_range::{
+    AnyRange, BlockRange, ComparedRange, MOST_BLOCKS, MOST_COMPARED, MOST_SAME, SameRange,
+};
 pub use cdb::Cdb;
 pub use command::{Command, DiskCommand, UnitCommand};
 pub use fault::FieldFault;

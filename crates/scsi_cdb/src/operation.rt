@@ -42,6 +42,15 @@ pub enum DiskOperation {
     ReadCapacity10,
     /// Of its service actions READ CAPACITY (16) is read.
     ServiceActionIn16,
+    Write10,
+    Write16,
+    Verify10,
+    Verify16,
+    SynchronizeCache10,
+    SynchronizeCache16,
+    WriteSame10,
+    WriteSame16,
+    CompareAndWrite,
 }
 
 /// What a reservation of another nexus does to an operation (SPC-4 "Persistent reservations"; its tables
@@ -74,7 +83,10 @@ impl Row {
     pub fn of(code: u8) -> Option<Row>
         ensures { result ≡ row_of code }
     {
-        use DiskOperation::{Read10, Read16, ReadCapacity10, ServiceActionIn16};
+        use DiskOperation::{
+            CompareAndWrite, Read10, Read16, ReadCapacity10, ServiceActionIn16, SynchronizeCache10,
+            SynchronizeCache16, Verify10, Verify16, Write10, Write16, WriteSame10, WriteSame16,
+        };
         use Operation::{Disk, Unit};
         use ReservationClass::{Always, Reading, Writing};
         use UnitOperation::{
@@ -90,9 +102,18 @@ impl Row {
             0x1A => make_row(Unit(ModeSense6), false, false, false, Reading),
             0x25 => make_row(Disk(ReadCapacity10), false, false, false, Always),
             0x28 => make_row(Disk(Read10), false, false, true, Reading),
+            0x2A => make_row(Disk(Write10), false, false, true, Writing),
+            0x2F => make_row(Disk(Verify10), false, false, true, Reading),
+            0x35 => make_row(Disk(SynchronizeCache10), false, false, true, Writing),
+            0x41 => make_row(Disk(WriteSame10), false, false, true, Writing),
             0x55 => make_row(Unit(ModeSelect10), false, false, false, Writing),
             0x5A => make_row(Unit(ModeSense10), false, false, false, Reading),
             0x88 => make_row(Disk(Read16), false, false, true, Reading),
+            0x89 => make_row(Disk(CompareAndWrite), false, false, true, Writing),
+            0x8A => make_row(Disk(Write16), false, false, true, Writing),
+            0x8F => make_row(Disk(Verify16), false, false, true, Reading),
+            0x91 => make_row(Disk(SynchronizeCache16), false, false, true, Writing),
+            0x93 => make_row(Disk(WriteSame16), false, false, true, Writing),
             0x9E => make_row(Disk(ServiceActionIn16), false, false, false, Always),
             0xA0 => make_row(Unit(ReportLuns), true, false, false, Always),
             _ => None,
