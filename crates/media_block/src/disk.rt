@@ -159,6 +159,7 @@ impl<S: Store> Disk<S> {
         requires whole { length bytes.now ≡ block_length * count }
         ensures compared { IfOk result (λ at. IsTrue self.new.honest
             → at ≡ first_difference (data_of self.old.blocks first count) bytes.now) }
+        ensures within { IfOk result (λ at. IfSome at (λ n. n < length bytes.now)) }
         ensures none { count ≡ 0 → IsOk result }
         ensures back { IsTrue self.new.honest → IsTrue self.old.honest }
         ensures disk { self.new ≡ record self.old { failures = counted result self.old.failures; honest = self.new.honest } }
