@@ -6,50 +6,48 @@ use Rattle.std.specs.Prelude.{List}
 use Rattle.scsi_sense.specs.Done.{Outcome}
 use Rattle.scsi_cdb.specs.Range.{Range}
 use Rattle.scsi_unit.specs.Device.{DeviceState, DiskUnit, Disk, StoreState, store_of, IsSteady}
-use Rattle.scsi_unit.specs.CameOut.{CameOut, AsDefined, Misread, ReadFailed, WriteFailed, store_after, disk_after, Touch, touches, AreLeft, IsPossible}
+use Rattle.scsi_unit.specs.CameOut.{CameOut, AsDefined, Dishonest, ReadFailed, WriteFailed, store_after, Touch, touches, IsPossible}
 use Rattle.scsi_unit.specs.State.{UnitState}
 use Rattle.scsi_unit.specs.Unit.{IsPerformed}
 use Rattle.scsi_unit.specs.Units.{IsSoundStore, IsSureStore, IsTrustedStore}
 
 -- what reads or writes touches the medium
-reads_touch : (reads : Bool) (writes : Option Range) → IsTrue reads → (reads || is_some writes) ≡ true
+pub reads_touch : (reads : Bool) (writes : Option Range) → IsTrue reads → (reads || is_some writes) ≡ true
 reads_touch true writes is = refl
 reads_touch false writes is = absurd (false≢true is)
 
-writes_touch : (reads : Bool) (writes : Option Range) (device : DeviceState) (left : List (List ℕ)) → AreLeft writes device left
-    → (reads || is_some writes) ≡ true
-writes_touch reads None device left is = absurd is
-writes_touch true (Some range) device left is = refl
-writes_touch false (Some range) device left is = refl
+pub writes_touch : (reads : Bool) (writes : Option Range) → IsTrue (is_some writes) → (reads || is_some writes) ≡ true
+writes_touch true writes is = refl
+writes_touch false writes is = is
 
 pub failed_touch : (came : CameOut) (touch : Touch) (device : DeviceState) → IsPossible came touch device
     → (came ≡ AsDefined) ⊎ (touches touch ≡ true)
 failed_touch AsDefined touch device possible = inl refl
-failed_touch (Misread given) touch device possible = inr (reads_touch touch.reads touch.writes possible.0)
+failed_touch (Dishonest shown left) touch device possible = inr possible.0
 failed_touch (ReadFailed honest) touch device possible = inr (reads_touch touch.reads touch.writes possible.0)
-failed_touch (WriteFailed left synced) touch device possible = inr (writes_touch touch.reads touch.writes device left possible.0)
+failed_touch (WriteFailed left synced honest) touch device possible = inr (writes_touch touch.reads touch.writes possible.0)
 
 -- a store that cannot fail does not
 pub steady_as_defined : (came : CameOut) (touch : Touch) (device : DeviceState) → IsPossible came touch device → IsSteady (store_of device)
     → came ≡ AsDefined
 steady_as_defined AsDefined touch device possible steady = refl
-steady_as_defined (Misread given) touch device possible steady = absurd (possible.1 steady)
+steady_as_defined (Dishonest shown left) touch device possible steady = absurd (possible.3 steady)
 steady_as_defined (ReadFailed honest) touch device possible steady = absurd (possible.2 steady)
-steady_as_defined (WriteFailed left synced) touch device possible steady = absurd (possible.1 steady)
+steady_as_defined (WriteFailed left synced honest) touch device possible steady = absurd (possible.3 steady)
 
 -- a store that is still honest, and did not fail
 pub trusted_as_defined : (came : CameOut) (old : StoreState) → IsTrustedStore old (store_after came old) → came ≡ AsDefined
 trusted_as_defined AsDefined old trusted = refl
-trusted_as_defined (Misread given) old trusted = absurd (false≢true trusted.honest)
+trusted_as_defined (Dishonest shown left) old trusted = absurd (false≢true trusted.honest)
 trusted_as_defined (ReadFailed honest) old trusted = absurd (omega (arith, trusted.none.same, trusted.none.known))
-trusted_as_defined (WriteFailed left synced) old trusted = absurd (omega (arith, trusted.none.same, trusted.none.known))
+trusted_as_defined (WriteFailed left synced honest) old trusted = absurd (omega (arith, trusted.none.same, trusted.none.known))
 
 -- a store that is sound was so before
 pub sound_back : (came : CameOut) (old : StoreState) → IsSoundStore (store_after came old) → IsSoundStore old
 sound_back AsDefined old sound = sound
-sound_back (Misread given) old sound = absurd (false≢true sound.honest)
+sound_back (Dishonest shown left) old sound = absurd (false≢true sound.honest)
 sound_back (ReadFailed honest) old sound = absurd (omega (arith, sound.unfailed))
-sound_back (WriteFailed left synced) old sound = absurd (omega (arith, sound.unfailed))
+sound_back (WriteFailed left synced honest) old sound = absurd (omega (arith, sound.unfailed))
 
 -- ---- one unit
 

@@ -1,13 +1,13 @@
 -- What a unit checks before it does a command: an ordered list (own, after SPC-4), of which the first that refuses counts.
-use Rattle.std.specs.Prelude.{ℕ, ◌+◌, nat_lt, List, [], ◌∷◌, length, Bool, true, ◌&&◌, not, Option, Some, None, Result, Ok, Err, slice_index, if◌then◌else◌}
+use Rattle.std.specs.Prelude.{ℕ, ◌+◌, nat_lt, List, [], ◌∷◌, length, Bool, true, false, ◌&&◌, not, Option, Some, None, Result, Ok, Err, slice_index, if◌then◌else◌}
 use Rattle.std.specs.Option.{option_map}
 use Rattle.scsi_sense.specs.Sense.{plain_sense}
 use Rattle.scsi_sense.specs.Nexus.{NexusName}
 use Rattle.scsi_sense.specs.declared.sense.Sense.{Sense}
 use Rattle.scsi_sense.specs.declared.condition.Attention.{Attention}
-use Rattle.scsi_sense.specs.declared.condition.Condition.TheVariants.{InternalTargetFailure, LogicalBlockAddressOutOfRange}
+use Rattle.scsi_sense.specs.declared.condition.Condition.TheVariants.{InternalTargetFailure, LogicalBlockAddressOutOfRange, WriteProtected}
 use Rattle.scsi_cdb.specs.Range.{Range}
-use Rattle.scsi_cdb.specs.Fault.{invalid_operation_code}
+use Rattle.scsi_cdb.specs.Fault.{invalid_operation_code, invalid_field}
 use Rattle.scsi_cdb.specs.Operation.{row_for}
 use Rattle.scsi_cdb.specs.Command.{command_of}
 use Rattle.scsi_cdb.specs.declared.operation.Row.{Row}
@@ -17,7 +17,7 @@ use Rattle.scsi_cdb.specs.declared.command.UnitCommand.TheVariants.{TestUnitRead
 use Rattle.scsi_mode.specs.ParameterList.{fault_sense}
 use Rattle.scsi_mode.specs.declared.list_fault.ListFault.TheVariants.{EndsEarly}
 use Rattle.scsi_unit.specs.Device.{DeviceState, Disk, Tape, kind_of, is_ready}
-use Rattle.scsi_unit.specs.DiskCommands.{range_named}
+use Rattle.scsi_unit.specs.DiskCommands.{range_named, bytes_needed, is_write}
 use Rattle.scsi_unit.specs.Joined.{told}
 use Rattle.scsi_unit.specs.State.{UnitState}
 use Rattle.scsi_unit.specs.declared.refusal.Refusal.{Refusal}
@@ -30,6 +30,10 @@ out_of_range = plain_sense LogicalBlockAddressOutOfRange
 -- 04/4400
 abbrev pub not_ready : Sense
 not_ready = plain_sense InternalTargetFailure
+
+-- 07/2700
+abbrev pub write_protected : Sense
+write_protected = plain_sense WriteProtected
 
 abbrev pub refused_if : Bool → Sense → Option Refusal
 refused_if holds sense = if holds then Some (Refused sense) else None
@@ -83,12 +87,31 @@ needed (to.Unit (Inquiry page allocation_length)) = 0
 needed (to.Unit (ModeSelect fields)) = fields.list_length
 needed (to.Unit (ModeSense fields)) = 0
 needed (to.Unit (ReportLuns fields)) = 0
-needed (to.Disk command) = 0
+needed (to.Disk command) = bytes_needed command
 
--- SPC-4 "MODE SELECT (6) command", PARAMETER LIST LENGTH: so much data has come (PARAMETER LIST LENGTH ERROR)
+-- what a command is told whose data is too short: PARAMETER LIST LENGTH ERROR (SPC-4 "MODE SELECT (6) command"), and of
+-- blocks that it names too many for its data (profile)
+abbrev pub data_sense : Command → Sense
+data_sense (to.Unit command) = fault_sense EndsEarly
+data_sense (to.Disk command) = invalid_field
+
+-- so much data has come
 abbrev pub data_check : Result Command Sense → List ℕ → Option Refusal
 data_check (Err sense) bytes = None
-data_check (Ok command) bytes = refused_if (nat_lt (length bytes) (needed command)) (fault_sense EndsEarly)
+data_check (Ok command) bytes = refused_if (nat_lt (length bytes) (needed command)) (data_sense command)
+
+abbrev pub writes : Command → Bool
+writes (to.Unit command) = false
+writes (to.Disk command) = is_write command
+
+-- SPC-4 "Control mode page", SWP: writes are refused
+abbrev pub is_protected : DeviceState → Bool
+is_protected (Disk disk) = disk.write_protect
+is_protected Tape = false
+
+abbrev pub protection_check : Result Command Sense → DeviceState → Option Refusal
+protection_check (Err sense) device = None
+protection_check (Ok command) device = refused_if (writes command && is_protected device) write_protected
 
 -- in their order
 abbrev pub checks : Option Row → Option Attention → Result Command Sense → DeviceState → List ℕ → List (Option Refusal)
@@ -100,6 +123,7 @@ checks row attention command device bytes =
     ∷ fields_check command
     ∷ range_check command device
     ∷ data_check command bytes
+    ∷ protection_check command device
     ∷ []
 
 abbrev pub first_refusal : List (Option Refusal) → Option Refusal

@@ -20,6 +20,7 @@ pub mod Lun
 pub mod Device
 pub mod CameOut
 pub mod DiskCommands
+pub mod DiskWrites
 pub mod Identity
 pub mod Joined
 pub mod State

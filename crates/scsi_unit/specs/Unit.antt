@@ -18,8 +18,8 @@ use Rattle.scsi_mode.specs.ParameterList.{fault_sense, selected}
 use Rattle.scsi_mode.specs.declared.list_fault.ListFault.{ListFault}
 use Rattle.scsi_mode.specs.declared.parameters.Parameters.{Parameters}
 use Rattle.scsi_unit.specs.Device.{DeviceState, Disk, Tape, kind_of, parameters_of, with_parameters, store_of}
-use Rattle.scsi_unit.specs.CameOut.{CameOut, AsDefined, store_after, disk_after, Touch, no_touch, IsPossible}
-use Rattle.scsi_unit.specs.DiskCommands.{disk_defined, disk_told, touch_of}
+use Rattle.scsi_unit.specs.CameOut.{CameOut, AsDefined, shown_by, store_after, disk_after, Touch, no_touch, IsPossible}
+use Rattle.scsi_unit.specs.DiskCommands.{shown, disk_defined, disk_told, touch_of}
 use Rattle.scsi_unit.specs.Joined.{with_nexus, without_nexus, told, raised_for, raised_for_others}
 use Rattle.scsi_unit.specs.Identity.{inquiry_outcome, luns_outcome, sense_outcome, pending_sense, without_unit}
 use Rattle.scsi_unit.specs.Lun.{lun_number}
@@ -87,17 +87,20 @@ unit_done nexus bytes unit (ModeSelect fields) =
 
 -- ---- commands to a disk
 
-abbrev pub disk_done : CameOut → UnitState → DeviceState → DiskCommand → UnitState × Outcome
-disk_done came unit (Disk disk) command =
-    (record unit { device = Disk (disk_after came (disk_defined command disk.disk) disk) }, disk_told came disk.disk.blocks command)
-disk_done came unit Tape command = (unit, check_condition invalid_operation_code)
+abbrev pub disk_done : CameOut → List ℕ → UnitState → DeviceState → DiskCommand → UnitState × Outcome
+disk_done came bytes unit (Disk disk) command =
+    let truth = shown disk.disk.blocks bytes command in (
+      record unit { device = Disk (disk_after came (disk_defined (shown_by came truth) bytes command disk.disk) disk) },
+      disk_told came truth disk.disk.blocks command,
+    )
+disk_done came bytes unit Tape command = (unit, check_condition invalid_operation_code)
 
 -- ---- any command
 
 -- a command that no check refused, by how it came out
 abbrev pub carried_out : CameOut → NexusName → List ℕ → UnitState → Command → UnitState × Outcome
 carried_out came nexus bytes unit (to.Unit command) = unit_done nexus bytes unit command
-carried_out came nexus bytes unit (to.Disk command) = disk_done came unit unit.device command
+carried_out came nexus bytes unit (to.Disk command) = disk_done came bytes unit unit.device command
 
 -- SAM-5 "Unit attention condition": one that is told in place of a command is then taken away
 abbrev pub refused_with : NexusName → UnitState → Refusal → UnitState × Outcome

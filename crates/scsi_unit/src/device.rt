@@ -2,11 +2,12 @@
 
 ghost use Rattle.std.specs.Prelude.{◌≡◌};
 ghost use Rattle.scsi_unit.specs.Device.{kind_of, is_ready, device_view, parameters_of, with_parameters};
-ghost use Rattle.scsi_unit.specs.Checks.{has_range, range_of};
+ghost use Rattle.scsi_unit.specs.Checks.{has_range, is_protected, range_of};
+ghost use Rattle.scsi_unit.specs.DiskCommands.{range_named};
 
 use media_block::Disk;
 use media_store::Store;
-use scsi_cdb::{BlockRange, Command, DiskCommand, Kind};
+use scsi_cdb::{AnyRange, Command, DiskCommand, Kind};
 use scsi_mode::Parameters;
 
 /// A disk with its mode parameters.
@@ -17,6 +18,24 @@ pub(crate) struct DiskDevice<S: Store> {
     pub is_ready: bool,
     /// SWP: writes are refused (SPC-4 "Control mode page").
     pub write_protect: bool,
+}
+
+/// The blocks that a command names.
+fn range_named(command: &DiskCommand) -> Option<AnyRange>
+    ensures { result ≡ range_named command.now }
+{
+    let (first, count) = match command {
+        DiskCommand::ReadCapacity10 | DiskCommand::ReadCapacity16 { .. } => return None,
+        DiskCommand::Verify(range) | DiskCommand::SynchronizeCache(range) => {
+            (range.first(), range.count())
+        }
+        DiskCommand::Read(range)
+        | DiskCommand::VerifyData(range)
+        | DiskCommand::Write { range, .. } => (range.first(), range.count()),
+        DiskCommand::WriteSame(range) => (range.first(), range.count()),
+        DiskCommand::CompareAndWrite { range, .. } => (range.first(), range.count()),
+    };
+    Some(AnyRange::new(first, count))
 }
 
 /// What a logical unit is.
@@ -70,18 +89,31 @@ impl<S: Store> Device<S> {
         }
     }
 
+    /// Whether writes to it are refused.
+    pub fn is_protected(&self) -> bool
+        ensures { result ≡ is_protected (device_view self.now) }
+    {
+        match self {
+            Device::Disk(disk) => disk.write_protect,
+            Device::Tape => false,
+        }
+    }
+
     /// Whether it has the blocks that a command names.
     pub fn has_range(&self, command: &Command) -> bool
         ensures { result ≡ has_range (device_view self.now) (range_of command.now) }
     {
         match command {
-            Command::Disk(DiskCommand::Read(range)) => self.has_blocks(*range),
-            _ => true,
+            Command::Disk(command) => match range_named(command) {
+                Some(range) => self.has_blocks(range),
+                None => true,
+            },
+            Command::Unit(_) => true,
         }
     }
 
     /// Whether it has these blocks. A tape is asked for none.
-    fn has_blocks(&self, range: BlockRange) -> bool
+    fn has_blocks(&self, range: AnyRange) -> bool
         ensures { result ≡ has_range (device_view self.now) (Some range) }
     {
         match self {

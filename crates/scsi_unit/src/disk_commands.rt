@@ -1,6 +1,6 @@
 //! The commands to disks.
 
-ghost use Rattle.std.specs.Prelude.{◌≡◌, ◌+◌, ◌*◌, ◌<◌, ◌≤◌, [], length, drop, false, IsTrue, IsOk, IfOk, OnOk, OnErr};
+ghost use Rattle.std.specs.Prelude.{◌≡◌, ◌+◌, ◌*◌, ◌<◌, ◌≤◌, ℕ, List, [], length, drop, false, IsTrue, IsOk, IfOk, OnOk, OnErr};
 ghost use Rattle.media_store.specs.Failures.{counted};
 ghost use Rattle.media_block.specs.Blocks.{block_length, data_of};
 ghost use Rattle.scsi_sense.specs.Given.{headroom};
@@ -8,17 +8,18 @@ ghost use Rattle.scsi_cdb.specs.declared.command.DiskCommand.TheVariants.{Read};
 ghost use Rattle.scsi_unit.specs.Device.{disk_view, Disk as DiskDeviceOf};
 ghost use Rattle.scsi_unit.specs.CameOut.{touches};
 ghost use Rattle.scsi_unit.specs.Checks.{has_range};
-ghost use Rattle.scsi_unit.specs.DiskCommands.{capacity_10 as capacity_10_data, capacity_16 as capacity_16_data, disk_outcome, range_named, touch_of, IsDiskDone, most_given};
+ghost use Rattle.scsi_unit.specs.DiskCommands.{capacity_10 as capacity_10_data, capacity_16 as capacity_16_data, bytes_needed, disk_outcome, range_named, touch_of, IsDiskDone, most_given};
 
 use crate::buffers::take;
 use crate::device::DiskDevice;
+use crate::disk_writes::read_failed;
 use crate::fault::Memory;
 use crate::given::done_with_front;
 use bytes::BytesMut;
 use media_block::{BLOCK_LENGTH, Disk};
 use media_store::{Store, StoreFault};
 use scsi_cdb::{BlockRange, DiskCommand};
-use scsi_sense::{Condition, Done, Given, HEADROOM, Sense, TAILROOM};
+use scsi_sense::{Done, Given, HEADROOM, TAILROOM};
 use std::alloc::Global;
 
 /// READ CAPACITY (10) data of a disk of so many blocks.
@@ -81,7 +82,7 @@ impl<S: Store> DiskDevice<S> {
         range: BlockRange,
     ) -> Result<Done, Memory>
         requires { range.first + range.count ≤ length self.old.disk.blocks }
-        ensures done { IfOk result (IsDiskDone (Read range) (disk_view self.old) (disk_view self.new)) }
+        ensures done { IfOk result (λ done. (bytes : List ℕ) → IsDiskDone (Read range) bytes (disk_view self.old) (disk_view self.new) done) }
         ensures given { IfOk result (λ done. length done.given ≤ most_given) }
         ensures nothing { (IsTrue (touches (touch_of (Read range))) → IsTrue self.old.disk.honest)
             → data_of self.old.disk.blocks range.first range.count ≡ [] → IsOk result }
@@ -96,22 +97,25 @@ impl<S: Store> DiskDevice<S> {
         let mut buffer = take(alloc, used, room)?;
         match read_into(&mut self.disk, range, &mut buffer) {
             Ok(()) => Ok(Done::good_with(Given::behind_room(buffer))),
-            Err(_) => Ok(Done::check_condition(alloc, Sense::new(Condition::UnrecoveredReadError))),
+            Err(_) => Ok(read_failed(alloc)),
         }
     }
 
-    /// A command to the disk, whose blocks it has. Where the store fails it is told so.
+    /// A command to the disk, whose blocks it has, with the data that it needs. Where the store fails it is
+    /// told so. Only what gives data takes memory.
     pub fn carry_out(
         &mut self,
         alloc: Global,
         used: &mut Vec<BytesMut>,
         command: DiskCommand,
+        data: &[u8],
     ) -> Result<Done, Memory>
-        requires { IsTrue (has_range (DiskDeviceOf (disk_view self.old)) (range_named command)) }
-        ensures done { IfOk result (IsDiskDone command (disk_view self.old) (disk_view self.new)) }
+        requires range { IsTrue (has_range (DiskDeviceOf (disk_view self.old)) (range_named command)) }
+        requires enough { bytes_needed command ≤ length «data».now }
+        ensures done { IfOk result (IsDiskDone command «data».now (disk_view self.old) (disk_view self.new)) }
         ensures given { IfOk result (λ done. length done.given ≤ most_given) }
         ensures nothing { (IsTrue (touches (touch_of command)) → IsTrue self.old.disk.honest)
-            → (disk_outcome self.old.disk.blocks command).given ≡ [] → IsOk result }
+            → (disk_outcome self.old.disk.blocks «data».now command).given ≡ [] → IsOk result }
         ensures err { OnErr result (disk_view self.new ≡ disk_view self.old) }
     {
         match command {
@@ -124,6 +128,18 @@ impl<S: Store> DiskDevice<S> {
                 let bytes = capacity_16(self.disk.block_count());
                 done_with_front(alloc, &bytes, allocation_length)
             }
+            DiskCommand::Write {
+                range,
+                force_unit_access,
+            } => Ok(self.write(alloc, range, force_unit_access, data)),
+            DiskCommand::Verify(_) => Ok(Done::good(alloc)),
+            DiskCommand::VerifyData(range) => Ok(self.verify_data(alloc, range, data)),
+            DiskCommand::SynchronizeCache(range) => Ok(self.synchronize(alloc, range)),
+            DiskCommand::WriteSame(range) => Ok(self.write_same(alloc, range, data)),
+            DiskCommand::CompareAndWrite {
+                range,
+                force_unit_access,
+            } => Ok(self.compare_and_write(alloc, range, force_unit_access, data)),
         }
     }
 }

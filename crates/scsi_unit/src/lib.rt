@@ -26,6 +26,7 @@
 mod buffers;
 mod device;
 mod disk_commands;
+mod disk_writes;
 mod fault;
 mod given;
 mod identity;

@@ -4,8 +4,8 @@ ghost use Rattle.std.specs.Prelude.{◌≡◌, ◌≤◌, [], length, take, fals
 ghost use Rattle.scsi_mode.specs.ParameterList.{selected};
 ghost use Rattle.scsi_unit.specs.Device.{parameters_of, store_of};
 ghost use Rattle.scsi_unit.specs.CameOut.{touches, AsDefined};
-ghost use Rattle.scsi_unit.specs.Checks.{judged, has_range, range_of, needed};
-ghost use Rattle.scsi_unit.specs.DiskCommands.{most_given};
+ghost use Rattle.scsi_unit.specs.Checks.{judged, has_range, range_of, needed, data_sense, writes};
+ghost use Rattle.scsi_unit.specs.DiskCommands.{bytes_needed, most_given};
 ghost use Rattle.scsi_unit.specs.Unit.{mode_selected, unit_done, carried_out, refused_with, performed_as, perform_at, touch_by, touch_at, IsPerformed};
 ghost use Rattle.scsi_unit.specs.Joined.{told};
 ghost use Rattle.scsi_unit.specs.Identity.{sense_outcome, pending_sense};
@@ -18,10 +18,29 @@ use crate::modes::mode_sense;
 use crate::refusal::Refusal;
 use crate::unit::Unit;
 use bytes::BytesMut;
+use media_block::BLOCK_LENGTH;
 use media_store::Store;
-use scsi_cdb::{Cdb, Command, ModeSelectFields, Row, UnitCommand};
+use scsi_cdb::{Cdb, Command, DiskCommand, FieldFault, ModeSelectFields, Row, UnitCommand};
 use scsi_mode::{ListFault, select};
 use scsi_sense::{Attention, Condition, Done, Nexus, Sense};
+
+/// How many bytes of data a command to a disk needs.
+fn bytes_needed(command: &DiskCommand) -> usize
+    ensures { result ≡ bytes_needed command.now }
+{
+    match command {
+        DiskCommand::Write { range, .. } | DiskCommand::VerifyData(range) => {
+            BLOCK_LENGTH * range.count() as usize
+        }
+        DiskCommand::WriteSame(_) => BLOCK_LENGTH,
+        DiskCommand::CompareAndWrite { range, .. } => 2 * (BLOCK_LENGTH * range.count() as usize),
+        DiskCommand::Read(_)
+        | DiskCommand::ReadCapacity10
+        | DiskCommand::ReadCapacity16 { .. }
+        | DiskCommand::Verify(_)
+        | DiskCommand::SynchronizeCache(_) => 0,
+    }
+}
 
 /// How many bytes of data a command needs.
 fn needed(command: &Command) -> usize
@@ -29,8 +48,33 @@ fn needed(command: &Command) -> usize
 {
     match command {
         Command::Unit(UnitCommand::ModeSelect(fields)) => fields.list_length as usize,
-        _ => 0,
+        Command::Unit(_) => 0,
+        Command::Disk(command) => bytes_needed(command),
     }
+}
+
+/// What a command is told whose data is too short.
+fn short_data(command: &Command) -> Sense
+    ensures { result ≡ data_sense command.now }
+{
+    match command {
+        Command::Unit(_) => ListFault::EndsEarly.sense(),
+        Command::Disk(_) => FieldFault::InvalidField.sense(),
+    }
+}
+
+/// Whether it is a command that writes blocks.
+fn writes(command: &Command) -> bool
+    ensures { result ≡ writes command.now }
+{
+    matches!(
+        command,
+        Command::Disk(
+            DiskCommand::Write { .. }
+                | DiskCommand::WriteSame(_)
+                | DiskCommand::CompareAndWrite { .. },
+        )
+    )
 }
 
 impl<S: Store> Unit<S> {
@@ -143,7 +187,7 @@ impl<S: Store> Unit<S> {
         match command {
             Command::Unit(command) => self.carry_out_of_any(nexus, command, data),
             Command::Disk(command) => match &mut self.device {
-                Device::Disk(disk) => disk.carry_out(self.alloc, used, command),
+                Device::Disk(disk) => disk.carry_out(self.alloc, used, command, data),
                 Device::Tape => Ok(Done::check_condition(self.alloc, Cdb::no_operation())),
             },
         }
@@ -176,7 +220,10 @@ impl<S: Store> Unit<S> {
             return Err(Refusal::Refused(Sense::new(condition)));
         }
         if data.len() < needed(&command) {
-            return Err(Refusal::Refused(ListFault::EndsEarly.sense()));
+            return Err(Refusal::Refused(short_data(&command)));
+        }
+        if writes(&command) && self.device.is_protected() {
+            return Err(Refusal::Refused(Sense::new(Condition::WriteProtected)));
         }
         Ok(command)
     }
