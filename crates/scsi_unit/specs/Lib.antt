@@ -29,3 +29,4 @@ pub mod Checks
 pub mod Unit
 pub mod Units
 pub mod Examples
+pub mod ExamplesWrites
