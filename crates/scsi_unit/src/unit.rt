@@ -105,10 +105,11 @@ impl<S: Store> Unit<S> {
 
     /// A command with this data that a LUN sends to the unit. The first check that fails answers, in this
     /// order: the LUN names this unit, it has the operation, the nexus has no attention to be told, the
-    /// medium is ready, the fields of the command descriptor block, the range, the data. A store that fails
-    /// is told: UNRECOVERED READ ERROR, and nothing else changes; WRITE ERROR, and the unit is not ready
-    /// until it is opened again. REPORT LUNS reports this unit alone. Where an allocation fails nothing
-    /// changes. A command that gives no data takes no memory; of one that reads, where the store is honest.
+    /// medium is ready, the fields of the command descriptor block, the range, the length of the data, write
+    /// protection. A store that fails is told: UNRECOVERED READ ERROR, and nothing else changes; WRITE ERROR,
+    /// and the unit is not ready until it is opened again. REPORT LUNS reports this unit alone. Where an
+    /// allocation fails nothing changes. A command that gives no data takes no memory; of one that touches
+    /// its medium, where the store is honest.
     #[tactic(auto, unfolding(crate::specs::Unit::perform_as, crate::specs::Unit::touch_with))]
     pub fn perform(
         &mut self,

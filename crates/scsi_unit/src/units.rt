@@ -148,7 +148,7 @@ impl<S: Store> Units<S> {
 
     /// A command with this data to the unit that the LUN names. REPORT LUNS reports all units. It gives
     /// 1,048,576 bytes at most. Where an allocation fails nothing changes. A command that gives no data takes
-    /// no memory; of one that reads, where the units are sound.
+    /// no memory; of one that touches its medium, where the units are sound.
     #[tactic(auto, unfolding(crate::specs::Units::perform))]
     pub fn perform(
         &mut self,
