@@ -2,7 +2,8 @@
 use Rattle.std.specs.Prelude.{◌≡◌, [], ◌∷◌, ◌++◌, true, false, Some, None, Ok, Err, replicate, refl}
 use Rattle.scsi_cdb.specs.declared.command.Command.TheVariants as to
 use Rattle.scsi_cdb.specs.declared.command.UnitCommand.TheVariants.{TestUnitReady, RequestSense, Inquiry, ModeSelect, ModeSense, ReportLuns}
-use Rattle.scsi_cdb.specs.declared.command.DiskCommand.TheVariants.{Read, ReadCapacity10, ReadCapacity16, Write, Verify, VerifyData, SynchronizeCache, WriteSame, CompareAndWrite}
+use Rattle.scsi_cdb.specs.declared.command.DiskCommand.TheVariants.{Read, ReadCapacity10, ReadCapacity16, Write, Verify, VerifyData}
+use Rattle.scsi_cdb.specs.declared.command.DiskCommand.TheVariants.{SynchronizeCache, WriteSame, CompareAndWrite}
 use Rattle.scsi_cdb.specs.declared.operation.Kind.TheVariants.{Disk, Tape}
 use Rattle.scsi_cdb.specs.Fault.{invalid_operation_code, invalid_field, saving_not_supported}
 use Rattle.scsi_cdb.specs.Command.{command_of}

@@ -6,7 +6,9 @@ use Rattle.scsi_cdb.specs.declared.operation.Kind.TheVariants as kind
 use Rattle.scsi_cdb.specs.declared.operation.Operation.{Operation}
 use Rattle.scsi_cdb.specs.declared.operation.Operation.TheVariants.{Unit, Disk}
 use Rattle.scsi_cdb.specs.declared.operation.UnitOperation.TheVariants.{TestUnitReady, RequestSense, Inquiry, ModeSelect6, ModeSelect10, ModeSense6, ModeSense10, ReportLuns}
-use Rattle.scsi_cdb.specs.declared.operation.DiskOperation.TheVariants.{Read10, Read16, ReadCapacity10, ServiceActionIn16, Write10, Write16, Verify10, Verify16, SynchronizeCache10, SynchronizeCache16, WriteSame10, WriteSame16, CompareAndWrite}
+use Rattle.scsi_cdb.specs.declared.operation.DiskOperation.TheVariants.{Read10, Read16, ReadCapacity10, ServiceActionIn16, Write10, Write16}
+use Rattle.scsi_cdb.specs.declared.operation.DiskOperation.TheVariants.{Verify10, Verify16, SynchronizeCache10, SynchronizeCache16, WriteSame10}
+use Rattle.scsi_cdb.specs.declared.operation.DiskOperation.TheVariants.{WriteSame16, CompareAndWrite}
 use Rattle.scsi_cdb.specs.declared.operation.ReservationClass.{ReservationClass}
 use Rattle.scsi_cdb.specs.declared.operation.ReservationClass.TheVariants.{Always, Reading, Writing}
 use Rattle.scsi_cdb.specs.declared.operation.Row.{Row}

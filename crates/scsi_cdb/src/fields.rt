@@ -1,7 +1,9 @@
 //! The fields of command descriptor blocks.
 
 ghost use Rattle.std.specs.Prelude.{◌≡◌, slice_index};
-ghost use Rattle.scsi_cdb.specs.Command.{fields_of, unit_fields, disk_fields, command_if, inquiry_of, mode_select_of, control_of, mode_sense_of, range_10 as range_of_10, range_16 as range_of_16, range_compared, is_without_protection, forces_access as forces_unit_access, read_of, write_of, verify_of, write_same_of, compare_and_write_of};
+ghost use Rattle.scsi_cdb.specs.Command.{fields_of, unit_fields, disk_fields, command_if, inquiry_of, mode_select_of, control_of, mode_sense_of};
+ghost use Rattle.scsi_cdb.specs.Command.{range_10 as range_of_10, range_16 as range_of_16, range_compared, is_without_protection};
+ghost use Rattle.scsi_cdb.specs.Command.{forces_access as forces_unit_access, read_of, write_of, verify_of, write_same_of, compare_and_write_of};
 
 use crate::block_range::{AnyRange, BlockRange, ComparedRange, SameRange};
 use crate::command::{Command, DiskCommand, UnitCommand};

@@ -1,11 +1,10 @@
 -- What follows from how a command came out.
-use Rattle.std.proofs.Common.{◌≡◌, ℕ, Bool, true, false, IsTrue, Option, Some, None, refl, sym, ap, subst, ◌∙◌, arith, ◌||◌, ◌⊎◌, inl, inr}
+use Rattle.std.proofs.Common.{◌≡◌, Bool, true, false, IsTrue, Option, refl, sym, ap, subst, ◌∙◌, arith, ◌||◌, ◌⊎◌, inl, inr}
 use Rattle.std.specs.Prelude.{is_some}
 use Rattle.std.proofs.lemmas.Bool.{false≢true}
-use Rattle.std.specs.Prelude.{List}
 use Rattle.scsi_sense.specs.Done.{Outcome}
 use Rattle.scsi_cdb.specs.Range.{Range}
-use Rattle.scsi_unit.specs.Device.{DeviceState, DiskUnit, Disk, StoreState, store_of, IsSteady}
+use Rattle.scsi_unit.specs.Device.{DeviceState, StoreState, store_of, IsSteady}
 use Rattle.scsi_unit.specs.CameOut.{CameOut, AsDefined, Dishonest, ReadFailed, WriteFailed, store_after, Touch, touches, IsPossible}
 use Rattle.scsi_unit.specs.State.{UnitState}
 use Rattle.scsi_unit.specs.Unit.{IsPerformed}

@@ -1,5 +1,6 @@
 -- How a command to a disk came out, by what the calls to its medium did.
-use Rattle.std.proofs.Common.{◌≡◌, ℕ, zero, suc, ◌+◌, ◌-◌, ◌*◌, List, [], length, take, drop, replicate, Bool, true, false, IsTrue, Option, Some, None, nat_lt, refl, sym, ap, subst, ◌∙◌, arith}
+use Rattle.std.proofs.Common.{◌≡◌, ℕ, zero, suc, ◌+◌, ◌-◌, ◌*◌, List, [], length, take, drop, replicate, Bool, true, false, IsTrue, Option, Some}
+use Rattle.std.proofs.Common.{None, nat_lt, refl, sym, ap, subst, ◌∙◌, arith}
 use Rattle.std.proofs.lemmas.Bool.{false≢true, ltb-false, lt-ltb}
 use Rattle.std.proofs.lemmas.List.{nil_from_length}
 use Rattle.media_store.specs.Failures.{risen}
@@ -8,8 +9,8 @@ use Rattle.scsi_sense.specs.Done.{Outcome, good_with, good_taking, check_conditi
 use Rattle.scsi_cdb.specs.Range.{Range}
 use Rattle.scsi_cdb.specs.declared.command.DiskCommand.{DiskCommand}
 use Rattle.scsi_cdb.specs.declared.command.DiskCommand.TheVariants.{Read, Write, VerifyData, SynchronizeCache, WriteSame, CompareAndWrite}
-use Rattle.scsi_unit.specs.Device.{DiskUnit, Disk}
-use Rattle.scsi_unit.specs.CameOut.{AsDefined, Dishonest, ReadFailed, WriteFailed, Shown, Touch, touches, IsHonesty, IsLeft, AreLeft, IsPossible}
+use Rattle.scsi_unit.specs.Device.{DiskUnit}
+use Rattle.scsi_unit.specs.CameOut.{AsDefined, Dishonest, ReadFailed, WriteFailed, Shown, IsLeft, AreLeft}
 use Rattle.scsi_unit.specs.DiskCommands.{IsDiskDone, shown, compared, miscompare, told_of, disk_defined, written_range, touch_of, unrecovered_read, write_error}
 use Rattle.scsi_unit.specs.DiskWrites.{IsWritten, IsTorn}
 use Rattle.scsi_unit.proofs.CameOut.{reads_touch, writes_touch}

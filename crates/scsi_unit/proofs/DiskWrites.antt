@@ -1,5 +1,6 @@
 -- What calls that write did to a disk, one after the other.
-use Rattle.std.proofs.Common.{◌≡◌, ℕ, zero, suc, ◌+◌, ◌==◌, ◌≤◌, nat_lt, List, ◌++◌, length, take, drop, Bool, true, false, IsTrue, Result, Ok, Err, OnErr, refl, ap, ◌∙◌, arith}
+use Rattle.std.proofs.Common.{◌≡◌, ℕ, zero, suc, ◌+◌, ◌==◌, ◌≤◌, nat_lt, List, ◌++◌, length, take, drop, true, false, IsTrue, Result, Ok, Err}
+use Rattle.std.proofs.Common.{OnErr, refl, ap, arith}
 use Rattle.std.proofs.Math.Dec.{eqb-suc-zero}
 use Rattle.std.proofs.lemmas.Bool.{false≢true}
 use Rattle.std.proofs.lemmas.List.{append_assoc, take_at, drop_at, length-append, length-take-le}

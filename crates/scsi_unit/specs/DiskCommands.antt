@@ -1,5 +1,6 @@
 -- What commands do to disks (SBC-3 "Commands for direct access block devices").
-use Rattle.std.specs.Prelude.{◌≡◌, ℕ, ◌-◌, ◌*◌, ◌^◌, min, nat_lt, List, [], ◌++◌, length, take, drop, replicate, Bool, true, false, Option, Some, None, if◌then◌else◌}
+use Rattle.std.specs.Prelude.{◌≡◌, ℕ, ◌-◌, ◌*◌, ◌^◌, min, nat_lt, List, [], ◌++◌, length, take, drop, replicate, Bool, true, false, Option, Some}
+use Rattle.std.specs.Prelude.{None, if◌then◌else◌}
 use Rattle.std.specs.Int.{w32, w64, to_be_bytes}
 use Rattle.media_block.specs.Blocks.{DiskState, block_length, blocks_of, data_of, replaced, first_difference}
 use Rattle.scsi_sense.specs.Sense.{plain_sense}
@@ -8,7 +9,8 @@ use Rattle.scsi_sense.specs.declared.sense.Sense.{Sense}
 use Rattle.scsi_sense.specs.declared.condition.Condition.TheVariants.{UnrecoveredReadError, WriteError, MiscompareDuringVerifyOperation}
 use Rattle.scsi_cdb.specs.Range.{Range, most_blocks}
 use Rattle.scsi_cdb.specs.declared.command.DiskCommand.{DiskCommand}
-use Rattle.scsi_cdb.specs.declared.command.DiskCommand.TheVariants.{Read, ReadCapacity10, ReadCapacity16, Write, Verify, VerifyData, SynchronizeCache, WriteSame, CompareAndWrite}
+use Rattle.scsi_cdb.specs.declared.command.DiskCommand.TheVariants.{Read, ReadCapacity10, ReadCapacity16, Write, Verify, VerifyData}
+use Rattle.scsi_cdb.specs.declared.command.DiskCommand.TheVariants.{SynchronizeCache, WriteSame, CompareAndWrite}
 use Rattle.scsi_unit.specs.Device.{DiskUnit, Disk}
 use Rattle.scsi_unit.specs.CameOut.{CameOut, AsDefined, Dishonest, ReadFailed, WriteFailed, Shown, shown_by, disk_after, Touch, no_touch, IsPossible}
 

@@ -5,7 +5,7 @@ use Rattle.scsi_sense.specs.Done.{good, good_taking, check_condition}
 use Rattle.scsi_sense.specs.Nexus.{NexusName}
 use Rattle.media_block.specs.Blocks.{blocks_of}
 use Rattle.scsi_cdb.specs.Fault.{invalid_field}
-use Rattle.scsi_unit.specs.Device.{DiskUnit, DeviceState, Disk}
+use Rattle.scsi_unit.specs.Device.{DiskUnit, Disk}
 use Rattle.scsi_unit.specs.CameOut.{Dishonest, ReadFailed, WriteFailed, touches}
 use Rattle.scsi_unit.specs.Checks.{judged, out_of_range, not_ready, write_protected}
 use Rattle.scsi_unit.specs.DiskCommands.{miscompare, unrecovered_read, write_error}

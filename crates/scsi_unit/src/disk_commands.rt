@@ -8,7 +8,8 @@ ghost use Rattle.scsi_cdb.specs.declared.command.DiskCommand.TheVariants.{Read};
 ghost use Rattle.scsi_unit.specs.Device.{disk_view, Disk as DiskDeviceOf};
 ghost use Rattle.scsi_unit.specs.CameOut.{touches};
 ghost use Rattle.scsi_unit.specs.Checks.{has_range};
-ghost use Rattle.scsi_unit.specs.DiskCommands.{capacity_10 as capacity_10_data, capacity_16 as capacity_16_data, bytes_needed, disk_outcome, range_named, touch_of, IsDiskDone, most_given};
+ghost use Rattle.scsi_unit.specs.DiskCommands.{capacity_10 as capacity_10_data, capacity_16 as capacity_16_data, bytes_needed, disk_outcome};
+ghost use Rattle.scsi_unit.specs.DiskCommands.{range_named, touch_of, IsDiskDone, most_given};
 
 use crate::buffers::take;
 use crate::device::DiskDevice;
