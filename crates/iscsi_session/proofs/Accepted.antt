@@ -6,7 +6,7 @@ use Rattle.std.proofs.lemmas.Bool.{ne_eqb, eq-eqb, false_from_ne_true}
 use Rattle.std.proofs.lemmas.List.{append-nil, map-append}
 use Rattle.std.proofs.lemmas.List.Elements.{filter-append, filter_map-append, All-push, All-nil}
 use Rattle.std.proofs.lemmas.List.FromFn.{map-range_with_len_more}
-use Rattle.iscsi_pdu.specs.Header.{is_immediate}
+use Rattle.iscsi_pdu.specs.Header.{is_immediate, initiator_task_tag}
 use Rattle.iscsi_pdu.specs.Frames.{Frame}
 use Rattle.iscsi_login.specs.declared.params.Params.{Params}
 use Rattle.iscsi_order.specs.Window as order
@@ -16,16 +16,18 @@ use Rattle.iscsi_order.specs.Serial.{distance}
 use Rattle.iscsi_order.proofs.Front.{front, front_come, front_missing}
 use Rattle.iscsi_order.proofs.Held.{prefix_range}
 use Rattle.iscsi_order.proofs.Standing.{front_more, front_within, lawful_with as window_with}
-use Rattle.iscsi_session.specs.Requests.{Request, Past, request_at, frame_of, is_in, left, is_command, commands, others, counted, numbered, place_of, taken, taken_at, numbers, due, queue, frames_of, begun}
+use Rattle.iscsi_session.specs.Requests.{Request, DataOut, SentR2t, unfinished, Past, request_at, frame_of, is_in, left, is_command, commands, others, counted, numbered, place_of, taken, taken_at, numbers, due, queue, frames_of, begun}
 use Rattle.iscsi_session.specs.State.{TaskLists, frame_numbered, tasks_with, tasks_of, AreDistinct, IsDelivered, IsLawful, holding, takes_next, takes, takes_all}
-use Rattle.iscsi_session.proofs.Left.{filter_cong, map_cong, distinct_append, left_append, left_all, left_none, in_at, in_front, in_left, in_filter, not_by, below_of, apart_behind}
+use Rattle.iscsi_session.proofs.Left.{filter_cong, map_cong, left_append, left_all, left_none, in_at, in_front, in_left, in_filter, not_by, below_of, apart_behind, distinct_push}
+use Rattle.iscsi_session.proofs.Unfinished.{joined, Below, commands_same, tags_joined}
+use Rattle.iscsi_session.specs.Transfers.{tag_of}
 use Rattle.iscsi_session.proofs.Taken.{request_before, request_new, taken_more, taken_below, distinct_taken}
 use Rattle.iscsi_session.proofs.Fronts.{first_of, taken_now, frame_missing, frame_marked, frame_other, frame_now, counted_places, frames_come}
 
 -- ---- the past at its beginning
 
 pub begun_lawful : (params : Params) → IsLawful (begun params)
-unfolding due queue left taken taken_numbers
+unfolding due queue left taken taken_numbers unfinished
 begun_lawful params = record {
   window = record { finished = omega arith; handed = omega arith; within = λ k come. absurd cc };
   distinct = tt;
@@ -36,6 +38,9 @@ begun_lawful params = record {
   queued = refl;
   at_once = refl;
   handed = refl;
+  fed = All-nil (λ (d : DataOut). d.command < 0);
+  asked = All-nil (λ (r : SentR2t). r.command < 0);
+  tags = tt;
   none_removed = refl;
 }
 
@@ -55,17 +60,12 @@ now frame = record { number = None; frame = frame }
 abbrev pub with : ℕ → Frame → Request
 with k frame = record { number = Some k; frame = frame }
 
-abbrev pub joined : Request → Past → Past
-joined x past = record past { came = past.came ++ x ∷ [] }
-
-abbrev Below : Past → List ℕ → Type 0
-Below past names = All (λ k. k < length past.came) names
+-- a SCSI Command whose tag is not live
+abbrev pub HasFreeTag : Past → Frame → Type 0
+HasFreeTag past frame = is_command frame ≡ true → is_in (initiator_task_tag frame.header) (map (tag_of past.came) (unfinished past)) ≡ false
 
 frames_same : (past : Past) (x : Request) (names : List ℕ) → Below past names → frames_of (past.came ++ x ∷ []) names ≡ frames_of past.came names
 frames_same past x names below = map_cong _ _ names (λ i d lt. ap (λ (r : Request). r.frame) (request_before past.came x _ (below i d lt)))
-
-commands_same : (past : Past) (x : Request) (names : List ℕ) → Below past names → commands (past.came ++ x ∷ []) names ≡ commands past.came names
-commands_same past x names below = filter_cong _ _ names (λ i d lt. ap (λ (r : Request). is_command r.frame) (request_before past.came x _ (below i d lt)))
 
 others_same : (past : Past) (x : Request) (names : List ℕ) → Below past names → others (past.came ++ x ∷ []) names ≡ others past.came names
 others_same past x names below = filter_cong _ _ names (λ i d lt. ap (λ (r : Request). not (is_command r.frame)) (request_before past.came x _ (below i d lt)))
@@ -191,9 +191,10 @@ module _ (past : Past) (lawful : IsLawful past) where
   -- ---- it stays lawful
 
   lawful_joined : (x : Request) → windows.IsLawful (numbers (joined x past)) → AreDistinct (numbered (past.came ++ x ∷ [])) → IsDelivered x
+      → HasFreeTag past x.frame
       → counted (past.came ++ x ∷ []) (taken_at (past.came ++ x ∷ []) (length past.came)) + first_of past.came ≡ first_of (past.came ++ x ∷ [])
       → IsLawful (joined x past)
-  lawful_joined x window distinct delivered more =
+  lawful_joined x window distinct delivered free more =
       let came = past.came ++ x ∷ [] in
       let new = taken_at came (length past.came) in
       record {
@@ -209,6 +210,9 @@ module _ (past : Past) (lawful : IsLawful past) where
         handed = ap (counted came) (taken_more past.came x) ∙ counted_append came (taken past.came) new
             ∙ (let same = counted_same past x (taken past.came) (taken_below past.came)
             in omega (arith, same, lawful.handed, handed_is past, handed_is (joined x past), more));
+        fed = λ i d lt. (let le = lawful.fed i d lt in omega (arith, length-append past.came (x ∷ [])));
+        asked = λ i d lt. (let le = lawful.asked i d lt in omega (arith, length-append past.came (x ∷ [])));
+        tags = tags_joined (is_command x.frame) past x refl lawful.none_removed finished_below lawful.tags free;
         none_removed = lawful.none_removed;
       }
 
@@ -245,10 +249,10 @@ module _ (past : Past) (lawful : IsLawful past) where
   unfolding taken_numbers
   numbers_now frame = rw (numbered_now frame, counted_same past (now frame) past.finished finished_below) refl
 
-  pub lawful_now : (frame : Frame) → is_immediate frame.header ≡ true → IsLawful (joined (now frame) past)
-  lawful_now frame h =
+  pub lawful_now : (frame : Frame) → is_immediate frame.header ≡ true → HasFreeTag past frame → IsLawful (joined (now frame) past)
+  lawful_now frame h free =
       lawful_joined (now frame) (subst windows.IsLawful (sym (numbers_now frame)) lawful.window)
-      (subst AreDistinct (sym (numbered_now frame)) lawful.distinct) (rw h refl)
+      (subst AreDistinct (sym (numbered_now frame)) lawful.distinct) (rw h refl) free
       (let none = ap (counted (past.came ++ now frame ∷ [])) (taken_just frame) ∙ counted_now frame in let e = first_now frame in omega arith)
 
   pub admitted : (frame : Frame) → record (tasks_of past) { due = (tasks_of past).due ++ frame ∷ [] } ≡ tasks_of (joined (now frame) past)
@@ -300,22 +304,16 @@ module _ (past : Past) (lawful : IsLawful past) where
             ∙ sym (numbered_with k frame)) ∙ come) in omega arith);
       }
 
-  distinct_more : (ks : List ℕ) (k : ℕ) → AreDistinct ks → order.has_come ks k ≡ false → AreDistinct (ks ++ k ∷ [])
-  distinct_more ks k distinct missing = distinct_append ks (k ∷ []) distinct (refl, tt)
-      (λ i d lt. differs (get_or ks i d) (λ same. let h = sym (in_at ks i d lt) ∙ ap (λ (n : ℕ). is_in n ks) same ∙ missing in cc))
-    where
-      differs : (a : ℕ) → (a ≡ k → ⊥) → is_in a (k ∷ []) ≡ false
-      differs a ne = rw (ne_eqb k a (λ e. absurd (ne (sym e)))) refl
-
-  pub lawful_with : (k ahead : ℕ) (frame : Frame) → is_immediate frame.header ≡ false → IsAhead k ahead → IsLawful (joined (with k frame) past)
-  lawful_with k ahead frame h at =
+  pub lawful_with : (k ahead : ℕ) (frame : Frame) → is_immediate frame.header ≡ false → IsAhead k ahead → HasFreeTag past frame
+      → IsLawful (joined (with k frame) past)
+  lawful_with k ahead frame h at free =
       let came = past.came ++ with k frame ∷ [] in
       let more = first_with k frame in
       let d = first_of came - first_of past.came in
       let each = counted_places came (first_of past.came) d (λ j le lt. front_come (numbered came) j (omega arith)) in
       let new : counted came (taken_at came (length past.came)) ≡ d = ap (counted came) (taken_now past.came (with k frame) more) ∙ each in
       lawful_joined (with k frame) (window_lawful k ahead frame at)
-      (subst AreDistinct (sym (numbered_with k frame)) (distinct_more (numbered past.came) k lawful.distinct at.missing)) (rw h refl) (omega arith)
+      (subst AreDistinct (sym (numbered_with k frame)) (distinct_push (numbered past.came) k lawful.distinct at.missing)) (rw h refl) free (omega arith)
 
   pub held_now : (k ahead n : ℕ) (frame : Frame) → IsAhead k ahead → ahead ≡ distance (tasks_of past).next n
       → takes_all (holding n frame (tasks_of past)) ≡ tasks_of (joined (with k frame) past)

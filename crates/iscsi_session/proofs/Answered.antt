@@ -19,12 +19,13 @@ use Rattle.iscsi_login.specs.declared.params.Params.{Params}
 use Rattle.iscsi_login.specs.declared.values.Values.{Values}
 use Rattle.iscsi_session.specs.Judging.{reserved_tag, reject}
 use Rattle.iscsi_session.specs.Requests.{Past, frame_of, frames_of, is_command, due, queue, finished, moved, bears_status, bearing, stamp, answering}
-use Rattle.iscsi_session.specs.State.{SessionState, TaskLists, Stands, one_fewer}
+use Rattle.iscsi_session.specs.State.{SessionState, TaskLists, TransferList, Stands, one_fewer, removed_at, place_for}
 use Rattle.iscsi_session.specs.declared.act.Act.{Act}
 use Rattle.iscsi_session.specs.declared.act.Act.TheVariants.{Idle, Taken, Ended}
 use Rattle.iscsi_session.specs.Acts.{acted, act_answers, act_by, acted_by, answers_by, act_answers_by, ends, ends_by, closes, logout_response, logout_answer, ping_answers}
-use Rattle.iscsi_session.proofs.Parts.{parts, due_is, queue_is, stands_tasks}
-use Rattle.iscsi_session.proofs.Moved.{lawful_command, tasks_command, lawful_other, tasks_other, lawful_finished, tasks_finished}
+use Rattle.iscsi_session.proofs.Parts.{parts, due_is, queue_is, stands_tasks, stands_parts}
+use Rattle.iscsi_session.proofs.Feeding.{removed_is}
+use Rattle.iscsi_session.proofs.Moved.{lawful_command, tasks_command, transfers_command, lawful_other, tasks_other, transfers_other, lawful_finished, tasks_finished}
 
 -- ---- a request is counted as acted
 
@@ -183,7 +184,7 @@ stands_command past state k rest s is e =
     (record state { tasks = record state.tasks { due = frames_of past.came rest; queue = state.tasks.queue ++ frame_of past.came k ∷ [] } })) same
     (stands_tasks past after state _ s (lawful_command past s.lawful k rest is e) refl refl
     (ap (λ (t : TaskLists). record t { due = frames_of past.came rest; queue = t.queue ++ frame_of past.came k ∷ [] }) (parts past state s).tasks_is
-    ∙ tasks_command past s.lawful k rest is e))
+    ∙ tasks_command past s.lawful k rest is e) (transfers_command past s.lawful k rest is))
 
 pub stands_queued : (past : Past) (state : SessionState) (k : ℕ) (rest : List ℕ) (frame : Frame) (others : List Frame) (tasks : TaskLists)
     → Stands past state → due past ≡ k ∷ rest → is_command (frame_of past.came k) ≡ true
@@ -202,7 +203,7 @@ stands_other past state k rest s is e =
     (stands_tasks past after state _ s (lawful_other past s.lawful k rest is e) refl refl
     (ap (λ (l : List Frame). one_fewer (frame_of past.came k) (record state.tasks { due = l })) dropped
     ∙ ap (λ (t : TaskLists). one_fewer (frame_of past.came k) (record t { due = frames_of past.came rest })) (parts past state s).tasks_is
-    ∙ tasks_other past s.lawful k rest is e))
+    ∙ tasks_other past s.lawful k rest is e) (transfers_other past s.lawful k rest is e))
 
 pub same_head : (a b : Frame) (x y l : List Frame) → l ≡ a ∷ x → l ≡ b ∷ y → a ≡ b
 same_head a b x y l p q = let both : a ∷ x ≡ b ∷ y = sym p ∙ q in cc
@@ -306,19 +307,22 @@ pub some_queued : (past : Past) (state : SessionState) (k : ℕ) (rest : List �
 some_queued past state k rest s is none = let both : frame_of past.came k ∷ frames_of past.came rest ≡ [] = sym (queue_is past state s
     ∙ ap (frames_of past.came) is) ∙ none in cc
 
-pub done_here : (past : Past) (state : SessionState) (k : ℕ) (rest : List ℕ) (frame : Frame) (tasks : TaskLists) → Stands past state
+pub done_here : (past : Past) (state : SessionState) (k : ℕ) (rest : List ℕ) (frame : Frame) (tasks : TaskLists) (transfers : TransferList) → Stands past state
     → queue past ≡ k ∷ rest → state.tasks.queue ≡ frame ∷ drop 1 state.tasks.queue
     → tasks ≡ one_fewer frame (record state.tasks { queue = drop 1 state.tasks.queue })
-    → (frame ≡ frame_of past.came k) × Stands (finished k past) (record state { tasks = tasks })
-done_here past state k rest frame tasks s is some same =
+    → transfers ≡ record state.transfers { list = removed_at state.transfers.list (place_for frame state.transfers.list) }
+    → (frame ≡ frame_of past.came k) × Stands (finished k past) (record state { tasks = tasks; transfers = transfers })
+done_here past state k rest frame tasks transfers s is some same gone =
     let first : state.tasks.queue ≡ frame_of past.came k ∷ frames_of past.came rest = queue_is past state s ∙ ap (frames_of past.came) is in
     let here = same_head frame (frame_of past.came k) (drop 1 state.tasks.queue) (frames_of past.came rest) state.tasks.queue some first in (
       here,
-      stands_tasks past (finished k past) state tasks s (lawful_finished past s.lawful k rest is) refl refl
+      stands_parts past (finished k past) state tasks transfers s (lawful_finished past s.lawful k rest is) refl refl
           (same ∙ ap (λ (l : List Frame). one_fewer frame (record state.tasks { queue = l })) (ap (drop 1) first)
           ∙ ap (λ (f : Frame). one_fewer f (record state.tasks { queue = frames_of past.came rest })) here
           ∙ ap (λ (t : TaskLists). one_fewer (frame_of past.came k) (record t { queue = frames_of past.came rest })) (parts past state s).tasks_is
-          ∙ tasks_finished past s.lawful k rest is),
+          ∙ tasks_finished past s.lawful k rest is)
+          (gone ∙ ap (λ (f : Frame). record state.transfers { list = removed_at state.transfers.list (place_for f state.transfers.list) }) here
+          ∙ removed_is past state k rest s is),
     )
 
 logout_by : (a b c : Bool) (w x y z : Answer) → a ≡ false → b ≡ false → c ≡ false → cond a w (cond b x (cond c y z)) ≡ z

@@ -3,25 +3,28 @@ use Rattle.std.proofs.Common.{◌≡◌, ℕ, zero, suc, ◌^◌, ◌<◌, List,
 use Rattle.std.specs.Prelude.{filter}
 use Rattle.std.proofs.lemmas.Bool.{ltb-true}
 use Rattle.std.proofs.lemmas.List.Elements.{filter-append}
-use Rattle.iscsi_pdu.specs.Header.{is_immediate, cmd_sn}
+use Rattle.iscsi_pdu.specs.Header.{is_immediate, cmd_sn, initiator_task_tag}
 use Rattle.iscsi_pdu.specs.Frames.{Frame}
 use Rattle.iscsi_order.specs.Window as order
 use Rattle.iscsi_order.specs.Window.{taken as taken_numbers, window}
 use Rattle.iscsi_order.specs.Serial.{distance}
 use Rattle.iscsi_order.proofs.Standing.{window_is}
 use Rattle.iscsi_session.specs.declared.verdict.Verdict.{Verdict}
-use Rattle.iscsi_session.specs.declared.verdict.Verdict.TheVariants.{Ignored, Dropped, Rejected, Violating, Accepted}
+use Rattle.iscsi_session.specs.declared.verdict.Verdict.TheVariants.{Ignored, Dropped, Rejected, Violating, Accepted, Feeding}
 use Rattle.iscsi_session.specs.Requests.{Past, frame_of, is_command, commands, others, taken, numbers, due, queue, moved, finished, accepted}
-use Rattle.iscsi_session.specs.Judging.{is_fresh, verdict, judged}
+use Rattle.iscsi_session.specs.Judging.{verdict, judged}
 use Rattle.iscsi_session.specs.Acts.{act_answers}
 use Rattle.iscsi_session.specs.State.{IsLawful}
-use Rattle.iscsi_session.specs.Steps.{Step, Judging, Taking, Doing, Work, reaches, take_step, judge, act, finish, first_steps, one_by_one, waiting_in, act_all, served, settled}
+use Rattle.iscsi_session.specs.Steps.{Step, Judging, Taking, Asking, Doing, Work, reaches, take_step, judge, act, ask, finish, first_steps, one_by_one, waiting_in, act_all, ask_due, taken_in, served, ready, settled}
+use Rattle.iscsi_session.specs.Transfers.{asking}
+use Rattle.iscsi_session.proofs.Asking.{lawful_asked, asking_came, ready_queue}
 use Rattle.iscsi_session.specs.Laws.{TakenOnce, FinishedAsTaken, DueInOrder, DoneInOrder, StepsAreLawful}
 use Rattle.iscsi_session.proofs.Taken.{distinct_taken}
-use Rattle.iscsi_session.proofs.Accepted.{begun_lawful, IsAhead, lawful_now, lawful_with}
+use Rattle.iscsi_session.proofs.Accepted.{begun_lawful, HasFreeTag, IsAhead, lawful_now, lawful_with}
 use Rattle.iscsi_session.proofs.Moved.{due_after, due_other, lawful_command, lawful_other, lawful_finished, queue_after}
 use Rattle.iscsi_session.proofs.Parts.{both_true, fresh_is, accepted_now, accepted_with}
-use Rattle.iscsi_session.proofs.Verdicts.{accepted_fresh}
+use Rattle.iscsi_session.proofs.Verdicts.{IsFree, accepted_free}
+use Rattle.iscsi_session.proofs.Feeding.{free_by_past, lawful_fed}
 use Rattle.iscsi_session.proofs.Runs.{lawful_answering}
 
 -- ---- the order
@@ -69,15 +72,20 @@ new_ahead past lawful n fits new =
     let few = lawful.window.finished in
     record { number = refl; near = omega arith; missing = both.1 }
 
-accepted_by : (b : Bool) (past : Past) (frame : Frame) → is_immediate frame.header ≡ b → cmd_sn frame.header < 2 ^ 32 → is_fresh past frame ≡ true
+free_of : (past : Past) (frame : Frame) → IsFree past frame → HasFreeTag past frame
+free_of past frame free h = free_by_past past (initiator_task_tag frame.header) (free.tag h)
+
+accepted_by : (b : Bool) (past : Past) (frame : Frame) → is_immediate frame.header ≡ b → cmd_sn frame.header < 2 ^ 32 → IsFree past frame
     → IsLawful past → IsLawful (accepted frame past)
-accepted_by true past frame h fits fresh lawful = subst IsLawful (accepted_now past frame h) (lawful_now past lawful frame h)
-accepted_by false past frame h fits fresh lawful =
+accepted_by true past frame h fits free lawful = subst IsLawful (accepted_now past frame h) (lawful_now past lawful frame h (free_of past frame free))
+accepted_by false past frame h fits free lawful =
     subst IsLawful (accepted_with past frame h)
-    (lawful_with past lawful _ _ frame h (new_ahead past lawful (cmd_sn frame.header) fits (sym (fresh_is past frame h) ∙ fresh)))
+    (lawful_with past lawful _ _ frame h (new_ahead past lawful (cmd_sn frame.header) fits (sym (fresh_is past frame h) ∙ free.fresh))
+    (free_of past frame free))
 
 judged_by : (v : Verdict) (past : Past) (frame : Frame) → verdict past frame ≡ v → cmd_sn frame.header < 2 ^ 32 → IsLawful past → IsLawful (judged v frame past)
-judged_by Accepted past frame e fits lawful = accepted_by _ past frame refl fits (accepted_fresh past frame e) lawful
+judged_by Accepted past frame e fits lawful = accepted_by _ past frame refl fits (accepted_free past frame e) lawful
+judged_by Feeding past frame e fits lawful = lawful_fed past frame lawful
 judged_by (Rejected reason) past frame e fits lawful = lawful_answering _ past lawful
 judged_by Ignored past frame e fits lawful = lawful
 judged_by Dropped past frame e fits lawful = lawful
@@ -91,9 +99,9 @@ act_lawful : (work : Work) (k : ℕ) (rest : List ℕ) → due work.past ≡ k �
 unfolding act
 act_lawful work k rest is lawful = lawful_answering (act_answers k work.past) (moved k work.past) (moved_by _ work.past k rest refl lawful is)
 
-finish_lawful : (work : Work) (k : ℕ) (rest : List ℕ) → queue work.past ≡ k ∷ rest → IsLawful work.past → IsLawful (finish k work).past
+finish_lawful : (work : Work) (k : ℕ) (rest : List ℕ) → ready work.past ≡ k ∷ rest → IsLawful work.past → IsLawful (finish k work).past
 unfolding finish
-finish_lawful work k rest is lawful = lawful_answering _ (finished k work.past) (lawful_finished work.past lawful k rest is)
+finish_lawful work k rest is lawful = lawful_answering _ (finished k work.past) (lawful_finished work.past lawful k rest (ready_queue work.past k rest is))
 
 -- ---- runs
 
@@ -129,16 +137,22 @@ act_all_lawful : (fails : Step → Bool) (place : ℕ) (work : Work) → IsLawfu
 unfolding act_all
 act_all_lawful fails place work lawful = all_lawful fails (Taking place) due act 0 (waiting_in work.past) work act_lawful lawful
 
+ask_lawful : (work : Work) (k : ℕ) (rest : List ℕ) → asking work.past ≡ k ∷ rest → IsLawful work.past → IsLawful (ask k work).past
+unfolding ask
+ask_lawful work k rest is lawful = lawful_asked work.past k (asking_came work.past k rest is) lawful
+
 served_lawful : (fails : Step → Bool) (place : ℕ) (frame : Frame) (work : Work) → cmd_sn frame.header < 2 ^ 32 → IsLawful work.past
     → IsLawful (served fails place frame work).past
-unfolding served
+unfolding served taken_in ask_due
 served_lawful fails place frame work fits lawful =
-    act_all_lawful fails place (take_step fails (Judging place) (judge frame) work)
-    (step_lawful fails (Judging place) (judge frame) work lawful (judge_lawful frame (reaches (Judging place) work) fits lawful))
+    let next = taken_in fails place frame work in
+    first_lawful fails (Asking place) asking ask (asking next.past) next refl ask_lawful
+    (act_all_lawful fails place (take_step fails (Judging place) (judge frame) work)
+    (step_lawful fails (Judging place) (judge frame) work lawful (judge_lawful frame (reaches (Judging place) work) fits lawful)))
 
 settled_lawful : (fails : Step → Bool) (place : ℕ) (work : Work) → IsLawful work.past → IsLawful (settled fails place work).past
 unfolding settled
-settled_lawful fails place work lawful = all_lawful fails (Doing place) queue finish 0 (length (queue work.past)) work finish_lawful lawful
+settled_lawful fails place work lawful = all_lawful fails (Doing place) ready finish 0 (length (queue work.past)) work finish_lawful lawful
 
 pub steps_are_lawful : StepsAreLawful
 steps_are_lawful = record { begun = begun_lawful; served = served_lawful; settled = settled_lawful }

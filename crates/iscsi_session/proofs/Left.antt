@@ -224,3 +224,82 @@ pub filter_every : (q : ℕ → Bool) (a n : ℕ) → ((k : ℕ) → a ≤ k →
 filter_every q a zero all = refl
 filter_every q a (suc n) all = rw (all a (omega arith) (omega arith))
     (ap (λ (l : List ℕ). a ∷ l) (filter_every q (a + 1) n (λ k le lt. all k (omega arith) (omega arith))))
+
+-- ---- distinct values of names
+
+in_map_filter_with : (b : Bool) (f : ℕ → ℕ) (q : ℕ → Bool) (n a : ℕ) (names : List ℕ) → q a ≡ b → eqb (f a) n ≡ false
+    → is_in n (map f (filter q names)) ≡ false → is_in n (map f (filter q (a ∷ names))) ≡ false
+in_map_filter_with true f q n a names e here rest = rw (e, here) rest
+in_map_filter_with false f q n a names e here rest = rw e rest
+
+in_map_filter : (f : ℕ → ℕ) (q : ℕ → Bool) (n : ℕ) (names : List ℕ) → is_in n (map f names) ≡ false → is_in n (map f (filter q names)) ≡ false
+in_map_filter f q n [] none = refl
+in_map_filter f q n (a ∷ names) none =
+    in_map_filter_with (q a) f q n a names refl (or_front _ _ none) (in_map_filter f q n names (or_back _ _ none))
+
+distinct_map_filter_with : (b : Bool) (f : ℕ → ℕ) (q : ℕ → Bool) (a : ℕ) (names : List ℕ) → q a ≡ b → is_in (f a) (map f (filter q names)) ≡ false
+    → AreDistinct (map f (filter q names)) → AreDistinct (map f (filter q (a ∷ names)))
+distinct_map_filter_with true f q a names e here rest = rw e (here, rest)
+distinct_map_filter_with false f q a names e here rest = rw e rest
+
+pub distinct_map_filter : (f : ℕ → ℕ) (q : ℕ → Bool) (names : List ℕ) → AreDistinct (map f names) → AreDistinct (map f (filter q names))
+distinct_map_filter f q [] distinct = tt
+distinct_map_filter f q (a ∷ names) distinct =
+    distinct_map_filter_with (q a) f q a names refl (in_map_filter f q (f a) names distinct.0) (distinct_map_filter f q names distinct.1)
+
+-- one more that does not stand there
+pub distinct_push : (names : List ℕ) (n : ℕ) → AreDistinct names → is_in n names ≡ false → AreDistinct (names ++ n ∷ [])
+distinct_push names n distinct missing = distinct_append names (n ∷ []) distinct (refl, tt)
+    (λ i d lt. differs (get_or names i d) (λ same. let h = sym (in_at names i d lt) ∙ ap (λ (a : ℕ). is_in a names) same ∙ missing in cc))
+  where
+    differs : (a : ℕ) → (a ≡ n → ⊥) → is_in a (n ∷ []) ≡ false
+    differs a ne = rw (ne_eqb n a (λ e. absurd (ne (sym e)))) refl
+
+-- ---- what stands there still stands there
+
+in_filter_back_with : (b : Bool) (k a : ℕ) (q : ℕ → Bool) (names : List ℕ) → q a ≡ b → q k ≡ true
+    → (is_in k names ≡ true → is_in k (filter q names) ≡ true) → is_in k (a ∷ names) ≡ true → is_in k (filter q (a ∷ names)) ≡ true
+in_filter_back_with true k a q names e pass rest h = elim (cases_eq a k) [
+  | inl same ↦ rw (e, eq-eqb a k same) refl
+  | inr apart ↦ let there = rw (ne_eqb a k apart) at h in rw (e, ne_eqb a k apart) (rest there)
+]
+in_filter_back_with false k a q names e pass rest h = elim (cases_eq a k) [
+  | inl same ↦ absurd (let no = sym pass ∙ ap q (sym same) ∙ e in cc)
+  | inr apart ↦ let there = rw (ne_eqb a k apart) at h in rw e (rest there)
+]
+
+pub in_filter_back : (k : ℕ) (q : ℕ → Bool) (names : List ℕ) → is_in k names ≡ true → q k ≡ true → is_in k (filter q names) ≡ true
+in_filter_back k q [] e pass = absurd cc
+in_filter_back k q (a ∷ names) e pass = in_filter_back_with (q a) k a q names refl pass (λ there. in_filter_back k q names there pass) e
+
+pub in_left_back : (k : ℕ) (gone names : List ℕ) → is_in k names ≡ true → is_in k gone ≡ false → is_in k (left gone names) ≡ true
+unfolding left
+in_left_back k gone names e none = in_filter_back k (λ a. not (is_in a gone)) names e (ap not none)
+
+pub in_range : (k a n : ℕ) → a ≤ k → k < a + n → is_in k (range_with_len a n) ≡ true
+in_range k a zero le lt = absurd (omega arith)
+in_range k a (suc n) le lt = elim (cases_eq a k) [
+  | inl same ↦ rw (eq-eqb a k same) refl
+  | inr apart ↦ rw (ne_eqb a k apart) (in_range k (a + 1) n (omega arith) (omega arith))
+]
+
+not_left_with : (b : Bool) (gone : List ℕ) (k : ℕ) → is_in k gone ≡ b → not b ≡ true → is_in k gone ≡ false
+not_left_with true gone k e h = absurd cc
+not_left_with false gone k e h = e
+
+passes_with : (b : Bool) (k a : ℕ) (q : ℕ → Bool) (names : List ℕ) → q a ≡ b → (is_in k (filter q names) ≡ true → q k ≡ true)
+    → is_in k (filter q (a ∷ names)) ≡ true → q k ≡ true
+passes_with true k a q names e rest h = elim (cases_eq a k) [
+  | inl same ↦ ap q (sym same) ∙ e
+  | inr apart ↦ let there = rw (e, ne_eqb a k apart) at h in rest there
+]
+passes_with false k a q names e rest h = let there = rw e at h in rest there
+
+-- what stands there passes
+pub passes_in : (k : ℕ) (q : ℕ → Bool) (names : List ℕ) → is_in k (filter q names) ≡ true → q k ≡ true
+passes_in k q [] e = absurd cc
+passes_in k q (a ∷ names) e = passes_with (q a) k a q names refl (passes_in k q names) e
+
+pub not_gone : (k : ℕ) (gone names : List ℕ) → is_in k (left gone names) ≡ true → is_in k gone ≡ false
+unfolding left
+not_gone k gone names e = not_left_with (is_in k gone) gone k refl (passes_in k (λ a. not (is_in a gone)) names e)

@@ -1,11 +1,15 @@
 mod Room
 pub mod Left
 pub mod Taken
+mod Places
+pub mod Unfinished
 pub mod Fronts
 pub mod Accepted
 pub mod Moved
 mod Lines
 pub mod Parts
+mod Feeding
+mod Asking
 mod Verdicts
 mod Answered
 mod Settled
@@ -14,3 +18,4 @@ pub mod Steps
 pub mod Lawful
 pub mod Runs
 mod InPlace
+mod Asked

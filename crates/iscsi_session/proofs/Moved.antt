@@ -1,15 +1,17 @@
 -- A request acts, and a command is finished: what the session remembers, and that its past stays lawful.
-use Rattle.std.proofs.Common.{◌≡◌, ℕ, zero, ◌+◌, ◌-◌, ◌<◌, ◌≤◌, List, [], ◌∷◌, ◌++◌, length, get_or, Bool, true, false, not, cond, refl, sym, ap, subst, ◌∙◌, arith, append_assoc}
+use Rattle.std.proofs.Common.{◌≡◌, ℕ, zero, ◌+◌, ◌-◌, ◌<◌, ◌≤◌, List, [], ◌∷◌, ◌++◌, length, map, get_or, Bool, true, false, not, cond, refl, sym, ap, subst, ◌∙◌, arith, append_assoc}
 use Rattle.std.specs.Prelude.{is_some, All}
 use Rattle.std.proofs.lemmas.List.{append-nil, map-append}
 use Rattle.std.proofs.lemmas.List.Elements.{filter-append, filter_passes, All-filter, All-head, All-push, All-nil, All-cons}
 use Rattle.iscsi_pdu.specs.Header.{is_immediate}
 use Rattle.iscsi_pdu.specs.Frames.{Frame}
 use Rattle.iscsi_order.specs.Window.{taken as taken_numbers}
-use Rattle.iscsi_session.specs.Requests.{Request, Past, request_at, frame_of, is_in, left, is_command, commands, others, counted, taken, numbers, due, queue, frames_of, finished}
-use Rattle.iscsi_session.specs.State.{TaskLists, tasks_of, AreDistinct, IsDelivered, IsLawful, one_fewer}
+use Rattle.iscsi_session.specs.Requests.{Request, Past, request_at, frame_of, is_in, left, is_command, commands, others, counted, taken, numbers, due, queue, unfinished, frames_of, finished}
+use Rattle.iscsi_session.specs.Transfers.{tag_of, task_at, outs_of, tags_of}
+use Rattle.iscsi_session.specs.State.{TaskLists, tasks_of, transfer_of, transfers_of, AreDistinct, IsDelivered, IsLawful, one_fewer}
 use Rattle.iscsi_session.proofs.Left.{left_append, left_all, left_none, left_more, left_first, left_one, left_passes, in_at, in_front, in_back, in_left, not_by, not_in, below_of, distinct_left, distinct_filter, distinct_front}
 use Rattle.iscsi_session.proofs.Taken.{taken_below, distinct_taken}
+use Rattle.iscsi_session.proofs.Unfinished.{unfinished_without, unfinished_other, tags_left}
 use Rattle.iscsi_session.proofs.Accepted.{handed_le, counted_append, due_is, queue_is, in_queue}
 
 -- ---- counts
@@ -139,6 +141,14 @@ module _ (past : Past) (lawful : IsLawful past) where
         (left_all past.finished (k ∷ []) (All-cons (λ a. is_in a past.finished ≡ false) k [] not_finished (All-nil (λ a. is_in a past.finished ≡ false))))
         ∙ ap (λ (l : List ℕ). l ++ k ∷ []) (sym (queue_is past lawful))
 
+    unfinished_with_command : unfinished with_command ≡ unfinished past
+    unfolding unfinished
+    unfinished_with_command = refl
+
+    pub transfers_command : transfers_of with_command ≡ transfers_of past
+    unfolding transfers_of unfinished task_at outs_of tags_of
+    transfers_command = refl
+
     pub lawful_command : is_command (frame_of past.came k) ≡ true → IsLawful with_command
     lawful_command e = record {
       window = lawful.window;
@@ -152,6 +162,9 @@ module _ (past : Past) (lawful : IsLawful past) where
           ∙ sym (commands_one e);
       at_once = lawful.at_once ∙ sym (others_none e);
       handed = lawful.handed;
+      fed = lawful.fed;
+      asked = lawful.asked;
+      tags = subst (λ (l : List ℕ). AreDistinct (map (tag_of past.came) l)) (sym unfinished_with_command) lawful.tags;
       none_removed = lawful.none_removed;
     }
 
@@ -186,6 +199,17 @@ module _ (past : Past) (lawful : IsLawful past) where
         ∙ left_more past.finished (k ∷ []) (commands past.came past.acted)
         ∙ ap (left (k ∷ [])) (sym (queue_is past lawful)) ∙ left_one k (queue past) apart
 
+    acted_too : unfinished with_other ≡ unfinished (finished k past)
+    unfolding unfinished
+    acted_too = refl
+
+    unfinished_with_other : is_command (frame_of past.came k) ≡ false → unfinished with_other ≡ unfinished past
+    unfinished_with_other e = acted_too ∙ unfinished_other past k lawful.none_removed e
+
+    pub transfers_other : is_command (frame_of past.came k) ≡ false → transfers_of with_other ≡ transfers_of past
+    unfolding transfers_of task_at outs_of tags_of
+    transfers_other e = rw (unfinished_with_other e) refl
+
     pub lawful_other : is_command (frame_of past.came k) ≡ false → IsLawful with_other
     lawful_other e =
         let in_order : taken past.came ≡ (past.acted ++ k ∷ []) ++ due with_other = in_order_after
@@ -211,6 +235,9 @@ module _ (past : Past) (lawful : IsLawful past) where
           queued = queued;
           at_once = at_once;
           handed = handed;
+          fed = lawful.fed;
+          asked = lawful.asked;
+          tags = subst (λ (l : List ℕ). AreDistinct (map (tag_of past.came) l)) (sym (unfinished_with_other e)) lawful.tags;
           none_removed = lawful.none_removed;
         }
 
@@ -285,8 +312,16 @@ module _ (past : Past) (lawful : IsLawful past) where
           queued = queued;
           at_once = at_once;
           handed = handed;
+          fed = lawful.fed;
+          asked = lawful.asked;
+          tags = subst (λ (l : List ℕ). AreDistinct (map (tag_of past.came) l)) (sym (unfinished_without past k lawful.none_removed))
+              (tags_left past k (unfinished past) lawful.tags);
           none_removed = lawful.none_removed;
         }
+
+    pub transfers_finished : transfers_of (finished k past) ≡ record (transfers_of past) { list = map (transfer_of past) (left (k ∷ []) (unfinished past)) }
+    unfolding transfers_of task_at outs_of tags_of
+    transfers_finished = rw (unfinished_without past k lawful.none_removed) refl
 
     pub tasks_finished : one_fewer (frame_of past.came k) (record (tasks_of past) { queue = frames_of past.came rest }) ≡ tasks_of (finished k past)
     unfolding tasks_of taken_numbers

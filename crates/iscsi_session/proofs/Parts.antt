@@ -1,12 +1,11 @@
 -- What a session remembers of its past, part by part.
-use Rattle.std.proofs.Common.{◌≡◌, ℕ, suc, ◌+◌, ◌-◌, ◌^◌, ◌%◌, ◌<◌, List, [], ◌∷◌, ◌++◌, length, map, get_or, ltb, Bool, true, false, not, ◌&&◌, None, refl, sym, ap, ◌∙◌, subst, arith, append_assoc}
-use Rattle.std.specs.Prelude.{filter, filter_map, is_some, Result, Ok, Err, OnErr}
+use Rattle.std.proofs.Common.{◌≡◌, ℕ, suc, ◌+◌, ◌-◌, ◌^◌, ◌%◌, ◌<◌, List, [], ◌∷◌, ◌++◌, map, get_or, ltb, Bool, true, false, not, ◌&&◌, None, refl, sym, ap, ◌∙◌, subst, arith, append-nil}
+use Rattle.std.specs.Prelude.{is_some, Result, Ok, Err, OnOk, OnErr}
+use Rattle.std.specs.Result.{is_err}
 use Rattle.std.specs.List.{range_with_len}
 use Rattle.std.proofs.lemmas.Bool.{ltb-true}
-use Rattle.std.proofs.lemmas.List.{map-append}
-use Rattle.std.proofs.lemmas.List.Elements.{filter-append}
 use Rattle.std.proofs.lemmas.List.FromFn.{get_or-map-range_with_len}
-use Rattle.iscsi_pdu.specs.Header.{is_immediate, cmd_sn}
+use Rattle.iscsi_pdu.specs.Header.{is_immediate, cmd_sn, initiator_task_tag}
 use Rattle.iscsi_pdu.specs.Frames.{Frame}
 use Rattle.iscsi_pdu.specs.declared.answer.Answer.{Answer}
 use Rattle.iscsi_login.specs.declared.params.Params.{Params}
@@ -16,29 +15,38 @@ use Rattle.iscsi_order.specs.WindowState as windows
 use Rattle.iscsi_order.specs.WindowState.{remembered as remembered_window}
 use Rattle.iscsi_order.specs.Serial.{distance}
 use Rattle.iscsi_order.specs.Stat.{stat_sn}
-use Rattle.iscsi_session.specs.Requests.{Request, Past, request_at, frame_of, is_command, left, place_of, numbered, numbers, held, due, queue, frames_of, unfinished, statuses, bearing, answering, accepted, begun, taken}
-use Rattle.iscsi_session.specs.Judging.{is_immediate_command, is_fresh, is_full}
-use Rattle.iscsi_session.specs.State.{SessionState, TaskLists, no_tasks, frame_numbered, tasks_of, window_of, IsDelivered, IsLawful, Stands, is_vacant, is_vacant_for, holding, takes_all}
-use Rattle.iscsi_session.proofs.Left.{left_none}
-use Rattle.iscsi_session.proofs.Taken.{place_has, has_some}
-use Rattle.iscsi_session.proofs.Fronts.{place_come, frame_come, frame_missing, frame_marked}
-use Rattle.iscsi_session.proofs.Accepted.{marks_are, now, with, joined, IsAhead, lawful_now, admitted, lawful_with, held_now}
-use Rattle.iscsi_session.proofs.Runs.{lawful_answering, statuses_answering, tasks_answering}
+use Rattle.iscsi_session.specs.Requests.{Past, is_command, left, numbered, numbers, due, queue, frames_of, is_in, unfinished, statuses, bearing, answering, accepted, begun, taken}
+use Rattle.iscsi_session.specs.Judging.{is_fresh}
+use Rattle.iscsi_session.specs.Transfers.{tag_of}
+use Rattle.iscsi_session.specs.declared.transfers.Transfer.{Transfer}
+use Rattle.iscsi_transfer.specs.Task.{TaskState, remembered as task_of}
+use Rattle.iscsi_transfer.specs.Payload.{begun as begun_data}
+use Rattle.iscsi_session.specs.State.{SessionState, TaskLists, TransferList, no_tasks, no_transfers, transfers_of, begun_transfer, kept, frame_numbered, tasks_of, window_of, IsLawful, Stands, is_vacant, is_vacant_for, holding, takes_all}
+use Rattle.iscsi_session.proofs.Fronts.{frame_marked}
+use Rattle.iscsi_session.proofs.Unfinished.{joined, transfers_joined}
+use Rattle.iscsi_session.proofs.Accepted.{HasFreeTag, marks_are, finished_below, now, with, IsAhead, lawful_now, admitted, lawful_with, held_now}
+use Rattle.iscsi_session.proofs.Runs.{lawful_answering, statuses_answering, tasks_answering, transfers_answering}
 
 pub on_err_known : {T E P : Type 0} (r : Result T E) → P → OnErr r P
 on_err_known (Ok x) known = tt
 on_err_known (Err e) known = known
 
+pub on_ok_known : {T E P : Type 0} (r : Result T E) → is_err r ≡ false → OnOk r P → P
+on_ok_known (Ok x) e known = known
+on_ok_known (Err x) e known = absurd cc
+
 pub record Parts (past : Past) (state : SessionState) : Type 0 where
   pub params_is : state.params ≡ past.params
   pub stat_is : state.stat ≡ stat_sn (statuses past)
   pub tasks_is : state.tasks ≡ tasks_of past
+  pub transfers_is : state.transfers ≡ transfers_of past
 
 pub parts : (past : Past) (state : SessionState) → Stands past state → Parts past state
 parts past state s = record {
   params_is = ap (λ (x : SessionState). x.params) s.remembered;
   stat_is = ap (λ (x : SessionState). x.stat) s.remembered;
   tasks_is = ap (λ (x : SessionState). x.tasks) s.remembered;
+  transfers_is = ap (λ (x : SessionState). x.transfers) s.remembered;
 }
 
 pub due_is : (past : Past) (state : SessionState) → Stands past state → state.tasks.due ≡ frames_of past.came (due past)
@@ -58,95 +66,33 @@ window_is past = rw (marks_are past.came (numbers past).handed window) refl
 pub window_stands : (past : Past) (state : SessionState) → Stands past state → windows.Stands (numbers past) (window_of state.tasks)
 window_stands past state s = record { lawful = s.lawful.window; remembered = ap window_of (parts past state s).tasks_is ∙ window_is past }
 
--- ---- those that are held
-
-shown_by : (b : Bool) (came : List Request) (k : ℕ) (ks : List ℕ) → order.has_come (numbered came) k ≡ b
-    → filter_map (λ o. o) (map (frame_numbered came) ks) ≡ frames_of came (map (place_of came) (filter (order.has_come (numbered came)) ks))
-    → filter_map (λ o. o) (map (frame_numbered came) (k ∷ ks)) ≡ frames_of came (map (place_of came) (filter (order.has_come (numbered came)) (k ∷ ks)))
-shown_by true came k ks h rest = rw (h, frame_come came k (place_come came k h)) (ap (λ (l : List Frame). frame_of came (place_of came k) ∷ l) rest)
-shown_by false came k ks h rest = rw (h, frame_missing came k h) rest
-
-held_shown : (came : List Request) (ks : List ℕ) → filter_map (λ o. o)
-    (map (frame_numbered came) ks) ≡ frames_of came (map (place_of came) (filter (order.has_come (numbered came)) ks))
-held_shown came [] = refl
-held_shown came (k ∷ ks) = shown_by _ came k ks refl (held_shown came ks)
-
-held_is : (past : Past) → IsLawful past → filter_map (λ o. o) (tasks_of past).held ≡ frames_of past.came (held past)
-unfolding tasks_of held
-held_is past lawful =
-    held_shown past.came (range_with_len (numbers past).handed window)
-    ∙ ap (frames_of past.came)
-    (sym (left_none past.removed (map (place_of past.came) (filter (order.has_come (numbered past.came)) (range_with_len (numbers past).handed window)))
-    lawful.none_removed))
-
--- its requests are those that are not finished
-pub open_is : (past : Past) (state : SessionState) → Stands past state
-    → filter_map (λ o. o) state.tasks.held ++ state.tasks.due ++ state.tasks.queue ≡ unfinished past
-open_is past state s =
-    ap (λ (t : TaskLists). filter_map (λ o. o) t.held ++ state.tasks.due ++ state.tasks.queue) (parts past state s).tasks_is
-    ∙ rw (held_is past s.lawful, due_is past state s, queue_is past state s)
-    (ap (λ (l : List Frame). l ++ frames_of past.came (queue past)) (sym (map-append (frame_of past.came) (held past) (due past)))
-    ∙ sym (map-append (frame_of past.came) (held past ++ due past) (queue past)))
-
-not_now_by : (n i c : Bool) → n ≡ not i → n ≡ true → (c && i) ≡ false
-not_now_by true true c e f = absurd cc
-not_now_by true false true e f = refl
-not_now_by true false false e f = refl
-not_now_by false i c e f = absurd cc
-
-none_immediate : (past : Past) → IsLawful past → (ks : List ℕ)
-    → filter is_immediate_command (frames_of past.came (map (place_of past.came) (filter (order.has_come (numbered past.came)) ks))) ≡ []
-none_immediate past lawful [] = refl
-none_immediate past lawful (k ∷ ks) = by_come _ refl (none_immediate past lawful ks)
-  where
-    by_come : (b : Bool) → order.has_come (numbered past.came) k ≡ b
-        → filter is_immediate_command (frames_of past.came (map (place_of past.came) (filter (order.has_come (numbered past.came)) ks))) ≡ []
-        → filter is_immediate_command (frames_of past.came (map (place_of past.came) (filter (order.has_come (numbered past.came)) (k ∷ ks)))) ≡ []
-    by_come false h rest = rw h rest
-    by_come true h rest =
-        let at = place_come past.came k h in
-        let told : IsDelivered (request_at past.came (place_of past.came k)) = lawful.delivered (place_of past.came k) _ at in
-        let has = has_some (request_at past.came (place_of past.came k)).number k (place_has past.came k at) in
-        rw (
-          h,
-          not_now_by (is_some (request_at past.came (place_of past.came k)).number) (is_immediate (frame_of past.came (place_of past.came k)).header)
-              (is_command (frame_of past.came (place_of past.came k))) told has,
-        ) rest
-
--- none that is held is for immediate delivery
-pub full_is : (past : Past) (state : SessionState) → Stands past state → is_full (state.tasks.due ++ state.tasks.queue) ≡ is_full (unfinished past)
-unfolding held
-full_is past state s =
-    let none : filter is_immediate_command (frames_of past.came (held past)) ≡ [] =
-    ap (λ (l : List ℕ). filter is_immediate_command (frames_of past.came l))
-    (left_none past.removed (map (place_of past.came) (filter (order.has_come (numbered past.came)) (range_with_len (numbers past).handed window)))
-    s.lawful.none_removed)
-    ∙ none_immediate past s.lawful (range_with_len (numbers past).handed window) in
-    let all : filter is_immediate_command (unfinished past) ≡ filter is_immediate_command (state.tasks.due ++ state.tasks.queue) =
-    ap (filter is_immediate_command) (map-append (frame_of past.came) (held past ++ due past) (queue past)
-    ∙ ap (λ (l : List Frame). l ++ frames_of past.came (queue past)) (map-append (frame_of past.came) (held past) (due past))
-    ∙ append_assoc (frames_of past.came (held past)) (frames_of past.came (due past)) (frames_of past.came (queue past)))
-    ∙ filter-append is_immediate_command (frames_of past.came (held past)) (frames_of past.came (due past) ++ frames_of past.came (queue past))
-    ∙ rw (none, due_is past state s, queue_is past state s) refl in
-    ap (λ (l : List Frame). not (ltb (length l) 8)) (sym all)
-
 -- ---- a session, one step further on
 
-pub stands_tasks : (past after : Past) (state : SessionState) (tasks : TaskLists) → Stands past state → IsLawful after → after.params ≡ past.params
-    → after.answers ≡ past.answers → tasks ≡ tasks_of after → Stands after (record state { tasks = tasks })
-stands_tasks past after state tasks s lawful params answers is =
+pub stands_parts : (past after : Past) (state : SessionState) (tasks : TaskLists) (transfers : TransferList) → Stands past state → IsLawful after
+    → after.params ≡ past.params → after.answers ≡ past.answers → tasks ≡ tasks_of after → transfers ≡ transfers_of after
+    → Stands after (record state { tasks = tasks; transfers = transfers })
+stands_parts past after state tasks transfers s lawful params answers is same_data =
     let p = parts past state s in
     let same : statuses past ≡ statuses after = rw (params, answers) refl in
     let params_is : state.params ≡ after.params = p.params_is ∙ sym params in
     let stat_is : state.stat ≡ stat_sn (statuses after) = p.stat_is ∙ ap stat_sn same in
-    record { lawful = lawful; remembered = rw (params_is, stat_is, is) refl }
+    record { lawful = lawful; remembered = rw (params_is, stat_is, is, same_data) refl }
+
+-- its commands have the data that they had
+pub stands_tasks : (past after : Past) (state : SessionState) (tasks : TaskLists) → Stands past state → IsLawful after → after.params ≡ past.params
+    → after.answers ≡ past.answers → tasks ≡ tasks_of after → transfers_of after ≡ transfers_of past → Stands after (record state { tasks = tasks })
+stands_tasks past after state tasks s lawful params answers is same_data =
+    stands_parts past after state tasks state.transfers s lawful params answers is ((parts past state s).transfers_is ∙ sym same_data)
 
 pub stands_stat : (past : Past) (more : List Answer) (state : SessionState) (stat : ℕ) → Stands past state → bearing more ≡ 1
     → stat ≡ stat_sn (suc (statuses past)) → Stands (answering more past) (record state { stat = stat })
 stands_stat past more state stat s one is =
     let p = parts past state s in
     let count : suc (statuses past) ≡ statuses (answering more past) = omega (arith, statuses_answering more past, one) in
-    record { lawful = lawful_answering more past s.lawful; remembered = rw (p.params_is, is, count, p.tasks_is, sym (tasks_answering more past)) refl }
+    record {
+      lawful = lawful_answering more past s.lawful;
+      remembered = rw (p.params_is, is, count, p.tasks_is, sym (tasks_answering more past), p.transfers_is, sym (transfers_answering more past)) refl;
+    }
 
 -- ---- a request is accepted
 
@@ -180,28 +126,54 @@ ahead_of past lawful n free =
     ∙ frame_marked past.came ((numbers past).handed + i) in
     record { number = refl; near = omega arith; missing = sym marked ∙ both.1 }
 
-pub stands_now : (past : Past) (state : SessionState) (frame : Frame) → Stands past state → is_immediate frame.header ≡ true
-    → Stands (accepted frame past) (record state { tasks = record state.tasks { due = state.tasks.due ++ frame ∷ [] } })
-stands_now past state frame s h =
-    subst (λ (p : Past). Stands p (record state { tasks = record state.tasks { due = state.tasks.due ++ frame ∷ [] } })) (accepted_now past frame h)
-    (stands_tasks past (joined (now frame) past) state _ s (lawful_now past s.lawful frame h) refl refl
-    (ap (λ (t : TaskLists). record t { due = t.due ++ frame ∷ [] }) (parts past state s).tasks_is ∙ admitted past s.lawful frame))
-
-pub stands_held : (past : Past) (state : SessionState) (frame : Frame) → Stands past state → is_immediate frame.header ≡ false
-    → is_vacant state.tasks (cmd_sn frame.header) ≡ true
-    → Stands (accepted frame past) (record state { tasks = takes_all (holding (cmd_sn frame.header) frame state.tasks) })
-stands_held past state frame s h free =
-    let n = cmd_sn frame.header in
-    let is = (parts past state s).tasks_is in
-    let k = order.index_of (numbers past) n in
-    let at = ahead_of past s.lawful n (ap (λ (t : TaskLists). is_vacant t n) (sym is) ∙ free) in
-    subst (λ (p : Past). Stands p (record state { tasks = takes_all (holding n frame state.tasks) })) (accepted_with past frame h)
-    (stands_tasks past (joined (with k frame) past) state _ s (lawful_with past s.lawful k _ frame h at) refl refl
-    (ap (λ (t : TaskLists). takes_all (holding n frame t)) is ∙ held_now past s.lawful k _ n frame at refl))
-
 pub vacant_of : (tasks : TaskLists) (frame : Frame) → is_immediate frame.header ≡ false → is_vacant_for tasks frame ≡ true
     → is_vacant tasks (cmd_sn frame.header) ≡ true
 vacant_of tasks frame h e = let g = rw h at e in g
+
+-- what is kept is what is remembered
+kept_by : (b : Bool) (past : Past) (state : SessionState) (frame : Frame) → is_immediate frame.header ≡ b → Stands past state
+    → is_vacant_for state.tasks frame ≡ true → HasFreeTag past frame
+    → IsLawful (accepted frame past) × (kept frame state.tasks ≡ tasks_of (accepted frame past))
+kept_by true past state frame h s free tag = (
+  subst IsLawful (accepted_now past frame h) (lawful_now past s.lawful frame h tag),
+  rw h refl ∙ ap (λ (t : TaskLists). record t { due = t.due ++ frame ∷ [] }) (parts past state s).tasks_is ∙ admitted past s.lawful frame
+      ∙ ap tasks_of (accepted_now past frame h),
+)
+kept_by false past state frame h s free tag =
+    let n = cmd_sn frame.header in
+    let is = (parts past state s).tasks_is in
+    let k = order.index_of (numbers past) n in
+    let at = ahead_of past s.lawful n (ap (λ (t : TaskLists). is_vacant t n) (sym is) ∙ vacant_of state.tasks frame h free) in (
+      subst IsLawful (accepted_with past frame h) (lawful_with past s.lawful k _ frame h at tag),
+      rw h refl ∙ ap (λ (t : TaskLists). takes_all (holding n frame t)) is ∙ held_now past s.lawful k _ n frame at refl
+          ∙ ap tasks_of (accepted_with past frame h),
+    )
+
+-- a request that is no SCSI Command
+pub stands_request : (past : Past) (state : SessionState) (frame : Frame) → Stands past state → is_vacant_for state.tasks frame ≡ true
+    → is_command frame ≡ false → Stands (accepted frame past) (record state { tasks = kept frame state.tasks })
+stands_request past state frame s free e =
+    let k = kept_by _ past state frame refl s free (λ h. absurd (let no = sym h ∙ e in cc)) in
+    stands_tasks past (accepted frame past) state (kept frame state.tasks) s k.0 refl refl k.1
+    (transfers_joined false past _ e s.lawful.none_removed (finished_below past s.lawful) s.lawful.fed s.lawful.asked
+    ∙ ap (λ (l : List Transfer). record (transfers_of past) { list = l }) (append-nil (transfers_of past).list))
+
+-- a SCSI Command, with the data that it brings
+pub stands_begun : (past : Past) (state : SessionState) (frame : Frame) (task : TaskState) → Stands past state → is_vacant_for state.tasks frame ≡ true
+    → is_command frame ≡ true → is_in (initiator_task_tag frame.header) (map (tag_of past.came) (unfinished past)) ≡ false
+    → task ≡ task_of (begun_data state.params.values frame)
+    → Stands (accepted frame past) (record state {
+      tasks = kept frame state.tasks;
+      transfers = record state.transfers { list = state.transfers.list ++ begun_transfer frame.header task ∷ [] };
+    })
+stands_begun past state frame task s free e tag is =
+    let k = kept_by _ past state frame refl s free (λ h. tag) in
+    let p = parts past state s in
+    let same : task ≡ task_of (begun_data past.params.values frame) = is ∙ ap (λ (x : Params). task_of (begun_data x.values frame)) p.params_is in
+    stands_parts past (accepted frame past) state (kept frame state.tasks) _ s k.0 refl refl k.1
+    (ap (λ (t : TransferList). record t { list = t.list ++ begun_transfer frame.header task ∷ [] }) p.transfers_is
+    ∙ ap (λ (t : TaskState). record (transfers_of past) { list = (transfers_of past).list ++ begun_transfer frame.header t ∷ [] }) same
+    ∙ sym (transfers_joined true past _ e s.lawful.none_removed (finished_below past s.lawful) s.lawful.fed s.lawful.asked))
 
 -- ---- a session at its beginning
 
@@ -210,3 +182,7 @@ unfolding tasks_of due queue left taken taken_numbers
 begun_tasks params fits =
     let first : params.first_cmd_sn ≡ (params.first_cmd_sn + 0) % 2 ^ 32 = omega arith in
     ap (λ (n : ℕ). record (no_tasks params.first_cmd_sn) { next = n }) first
+
+pub begun_transfers : (params : Params) → no_transfers ≡ transfers_of (begun params)
+unfolding transfers_of unfinished left
+begun_transfers params = refl

@@ -8,15 +8,16 @@ use Rattle.std.proofs.lemmas.List.Elements.{filter-append}
 use Rattle.scsi_unit.specs.Units.{UnitStates}
 use Rattle.iscsi_pdu.specs.Answer.{spelling}
 use Rattle.iscsi_pdu.specs.declared.answer.Answer.{Answer}
-use Rattle.iscsi_session.specs.Requests.{Past, due, queue, bears_status, bearing, statuses, answering}
-use Rattle.iscsi_session.specs.State.{SessionState, IsLawful, Stands, tasks_of, remembered}
+use Rattle.iscsi_session.specs.Transfers.{task_at, outs_of, tags_of}
+use Rattle.iscsi_session.specs.Requests.{Past, due, queue, unfinished, bears_status, bearing, statuses, answering}
+use Rattle.iscsi_session.specs.State.{SessionState, IsLawful, Stands, tasks_of, transfers_of, remembered}
 use Rattle.iscsi_session.specs.Steps.{Step, Taking, Doing, is_step, is_of, Work, reaches, take_step, first_steps, one_by_one}
 use Rattle.iscsi_session.specs.Runs.{Starts, Leaves, FailsAs, IsReached, Runs}
 
 -- ---- a session that was answered more
 
 pub lawful_answering : (more : List Answer) (past : Past) → IsLawful past → IsLawful (answering more past)
-unfolding due queue
+unfolding due queue unfinished
 lawful_answering more past lawful = record {
   window = lawful.window;
   distinct = lawful.distinct;
@@ -27,6 +28,9 @@ lawful_answering more past lawful = record {
   queued = lawful.queued;
   at_once = lawful.at_once;
   handed = lawful.handed;
+  fed = lawful.fed;
+  asked = lawful.asked;
+  tags = lawful.tags;
   none_removed = lawful.none_removed;
 }
 
@@ -39,6 +43,10 @@ statuses_answering more past = omega (arith, bearing_append past.answers more)
 pub tasks_answering : (more : List Answer) (past : Past) → tasks_of (answering more past) ≡ tasks_of past
 unfolding tasks_of due queue
 tasks_answering more past = refl
+
+pub transfers_answering : (more : List Answer) (past : Past) → transfers_of (answering more past) ≡ transfers_of past
+unfolding transfers_of unfinished task_at outs_of tags_of
+transfers_answering more past = refl
 
 -- ---- where the code stands
 
@@ -128,7 +136,7 @@ step_stopped fails step does work off = rw off refl
 
 -- ---- a line that is empty, and a session that does not go on
 
-first_stopped : (fails : Step → Bool) (step : Step) (does : ℕ → Work → Work) (requests : List ℕ) (work : Work) → work.goes_on ≡ false
+pub first_stopped : (fails : Step → Bool) (step : Step) (does : ℕ → Work → Work) (requests : List ℕ) (work : Work) → work.goes_on ≡ false
     → first_steps fails step does requests work ≡ work
 first_stopped fails step does [] work off = refl
 first_stopped fails step does (request ∷ others) work off = step_stopped fails step (does request) work off

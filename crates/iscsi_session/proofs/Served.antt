@@ -12,11 +12,14 @@ use Rattle.iscsi_session.specs.State.{SessionState, IsLawful, Stands, remembered
 use Rattle.iscsi_session.specs.declared.act.Act.{Act}
 use Rattle.iscsi_session.specs.declared.act.Act.TheVariants.{Idle, Taken, Ended}
 use Rattle.iscsi_session.specs.declared.verdict.Verdict.{Verdict}
-use Rattle.iscsi_session.specs.declared.verdict.Verdict.TheVariants.{Ignored, Dropped, Rejected, Violating, Accepted}
+use Rattle.iscsi_session.specs.declared.verdict.Verdict.TheVariants.{Ignored, Dropped, Rejected, Violating, Accepted, Feeding}
 use Rattle.iscsi_session.specs.Judging.{verdict, judged, judged_answers, violates}
 use Rattle.iscsi_session.specs.Acts.{act_answers, act_by, acted_by, answers_by, ends}
-use Rattle.iscsi_session.specs.Steps.{is_serving, Step, Judging, Taking, is_of, Work, reaches, judge, act, act_all, served, waiting_in}
+use Rattle.iscsi_session.specs.Steps.{is_serving, Step, Judging, Taking, is_of, Work, reaches, judge, act, act_all, taken_in, waiting_in}
 use Rattle.iscsi_session.specs.Runs.{Starts, Leaves, FailsAs, IsReached, Runs, is_failed, Stops}
+use Rattle.iscsi_pdu.specs.Header.{initiator_task_tag}
+use Rattle.iscsi_session.specs.Transfers.{command_with}
+use Rattle.iscsi_session.proofs.Feeding.{fed_same}
 use Rattle.iscsi_session.proofs.Parts.{due_is}
 use Rattle.iscsi_session.proofs.Answered.{moved_same}
 use Rattle.iscsi_session.proofs.Runs.{Ran, tasks_count, all_of, ran_more, ran_idle, ran_ended, ran_failed, runs_as, taking_kind, stands_of, starts_again, starts_reaching, leaves_then, leaves_standing, leaves_nothing, step_done, step_fails, stopped, leaves_reaching, leaves_stopped, reached_last}
@@ -182,6 +185,8 @@ pub record Judges (v : Verdict) (frame : Frame) (old new : SessionState) (before
 pub judged_same : (v : Verdict) (frame : Frame) (past : Past)
     → ((judged v frame past).params ≡ past.params) × ((judged v frame past).answers ≡ past.answers ++ judged_answers v past frame)
 judged_same Accepted frame past = (refl, sym (append-nil past.answers))
+judged_same Feeding frame past =
+    let same = fed_same past frame (command_with past (initiator_task_tag frame.header)) in (same.0, same.1 ∙ sym (append-nil past.answers))
 judged_same (Rejected reason) frame past = (refl, refl)
 judged_same Ignored frame past = (refl, sym (append-nil past.answers))
 judged_same Dropped frame past = (refl, sym (append-nil past.answers))
@@ -204,15 +209,15 @@ act_stopped : (fails : Step → Bool) (place : ℕ) (work : Work) → work.goes_
 unfolding act_all
 act_stopped fails place work off = stopped fails (Taking place) due act 0 (waiting_in work.past) work off
 
-served_judged : (fails : Step → Bool) (place : ℕ) (frame : Frame) (work : Work) → work.goes_on ≡ true → fails (Judging place) ≡ false
-    → served fails place frame work ≡ act_all fails place (judge frame (reaches (Judging place) work))
-unfolding served
-served_judged fails place frame work on un = ap (act_all fails place) (step_done fails (Judging place) (judge frame) work on un)
+taken_judged : (fails : Step → Bool) (place : ℕ) (frame : Frame) (work : Work) → work.goes_on ≡ true → fails (Judging place) ≡ false
+    → taken_in fails place frame work ≡ act_all fails place (judge frame (reaches (Judging place) work))
+unfolding taken_in
+taken_judged fails place frame work on un = ap (act_all fails place) (step_done fails (Judging place) (judge frame) work on un)
 
-served_failed : (fails : Step → Bool) (place : ℕ) (frame : Frame) (work : Work) → work.goes_on ≡ true → fails (Judging place) ≡ true
-    → served fails place frame work ≡ record (reaches (Judging place) work) { goes_on = false }
-unfolding served
-served_failed fails place frame work on fail =
+taken_failed : (fails : Step → Bool) (place : ℕ) (frame : Frame) (work : Work) → work.goes_on ≡ true → fails (Judging place) ≡ true
+    → taken_in fails place frame work ≡ record (reaches (Judging place) work) { goes_on = false }
+unfolding taken_in
+taken_failed fails place frame work on fail =
     ap (act_all fails place) (step_fails fails (Judging place) (judge frame) work on fail)
     ∙ act_stopped fails place (record (reaches (Judging place) work) { goes_on = false }) refl
 
@@ -221,29 +226,29 @@ same_place place = eq-eqb place place refl
 
 -- an allocation failed before it
 pub judging_stops : (frame : Frame) (old : SessionState) (before : List ℕ) (units : UnitStates)
-    → Runs (λ fails place. served fails place frame) (Some (λ place. Judging place)) false old old before before units units
+    → Runs (λ fails place. taken_in fails place frame) (Some (λ place. Judging place)) false old old before before units units
 judging_stops frame old before units =
     let fails_at : (place : ℕ) (fails : Step → Bool) (work : Work) → FailsAs (Some (λ place. Judging place)) place fails → Starts work old units
-    → served fails place frame work ≡ record (reaches (Judging place) work) { goes_on = false } =
-    λ place fails work told s. served_failed fails place frame work s.goes_on (told (Judging place) (same_place place) ∙ eq-eqb place place refl) in
+    → taken_in fails place frame work ≡ record (reaches (Judging place) work) { goes_on = false } =
+    λ place fails work told s. taken_failed fails place frame work s.goes_on (told (Judging place) (same_place place) ∙ eq-eqb place place refl) in
     record {
       leads = λ place fails work told s. subst (λ (v : Work). Leaves work v old before before units) (sym (fails_at place fails work told s))
           (leaves_stopped (Judging place) work work old before before units (leaves_nothing work old before units s));
       ends = λ place fails work told s. ap (λ (v : Work). v.goes_on) (fails_at place fails work told s);
-      reached = λ place fails work told s. reached_last (Judging place) work (served fails place frame work) (fails_at place fails work told s);
+      reached = λ place fails work told s. reached_last (Judging place) work (taken_in fails place frame work) (fails_at place fails work told s);
     }
 
 -- the session ends with it
 pub judging_ends : (v : Verdict) (frame : Frame) (old new : SessionState) (before waiting : List ℕ) (units : UnitStates)
-    → Judges v frame old new before waiting → v ≡ Violating → Runs (λ fails place. served fails place frame) None false old new before waiting units units
+    → Judges v frame old new before waiting → v ≡ Violating → Runs (λ fails place. taken_in fails place frame) None false old new before waiting units units
 judging_ends v frame old new before waiting units judges is =
     let there : (place : ℕ) (fails : Step → Bool) (work : Work) → FailsAs None place fails → Starts work old units
-    → (served fails place frame work ≡ judge frame (reaches (Judging place) work)) × Leaves work (judge frame (reaches (Judging place) work)) new before
+    → (taken_in fails place frame work ≡ judge frame (reaches (Judging place) work)) × Leaves work (judge frame (reaches (Judging place) work)) new before
     waiting units × ((judge frame (reaches (Judging place) work)).goes_on ≡ false) =
     λ place fails work told s.
     (let l = judge_leaves v frame (reaches (Judging place) work) old new before waiting units judges (starts_reaching (Judging place) work old units s) in
     let off : (judge frame (reaches (Judging place) work)).goes_on ≡ false = l.1 ∙ ap (λ (x : Verdict). not (violates x)) is in (
-      served_judged fails place frame work s.goes_on (told (Judging place) (same_place place))
+      taken_judged fails place frame work s.goes_on (told (Judging place) (same_place place))
           ∙ act_stopped fails place (judge frame (reaches (Judging place) work)) off,
       leaves_reaching (Judging place) work (judge frame (reaches (Judging place) work)) new before waiting units l.0,
       off,
@@ -256,25 +261,26 @@ judging_ends v frame old new before waiting units judges is =
 
 goes_on_by : (v : Verdict) → v ≢ Violating → not (violates v) ≡ true
 goes_on_by Accepted differ = refl
+goes_on_by Feeding differ = refl
 goes_on_by (Rejected reason) differ = refl
 goes_on_by Ignored differ = refl
 goes_on_by Dropped differ = refl
 goes_on_by Violating differ = absurd (differ refl)
 
 -- the requests that are due act behind it
-pub served_on : (v : Verdict) (frame : Frame) (failed : Option (ℕ
+pub taken_on : (v : Verdict) (frame : Frame) (failed : Option (ℕ
     → Step)) (goes_on : Bool) (old middle new : SessionState) (before waiting items : List ℕ) (units : UnitStates)
     → Judges v frame old middle before waiting → v ≢ Violating
     → ((place : ℕ) → is_failed failed place (Judging place) ≡ false) → Runs act_all failed goes_on middle new waiting items units units
-    → Runs (λ fails place. served fails place frame) failed goes_on old new before items units units
-served_on v frame failed goes_on old middle new before waiting items units judges differ later acts =
+    → Runs (λ fails place. taken_in fails place frame) failed goes_on old new before items units units
+taken_on v frame failed goes_on old middle new before waiting items units judges differ later acts =
     let there : (place : ℕ) (fails : Step → Bool) (work : Work) → FailsAs failed place fails → Starts work old units
-    → (served fails place frame work ≡ act_all fails place (judge frame (reaches (Judging place) work))) × Leaves work
+    → (taken_in fails place frame work ≡ act_all fails place (judge frame (reaches (Judging place) work))) × Leaves work
     (judge frame (reaches (Judging place) work)) middle before waiting units × Starts (judge frame (reaches (Judging place) work)) middle units =
     λ place fails work told s.
     (let l = judge_leaves v frame (reaches (Judging place) work) old middle before waiting units judges (starts_reaching (Judging place) work old units s) in
     let leaves = leaves_reaching (Judging place) work (judge frame (reaches (Judging place) work)) middle before waiting units l.0 in (
-      served_judged fails place frame work s.goes_on (told (Judging place) (same_place place) ∙ later place),
+      taken_judged fails place frame work s.goes_on (told (Judging place) (same_place place) ∙ later place),
       leaves,
       starts_again work (judge frame (reaches (Judging place) work)) middle before waiting units leaves (l.1 ∙ goes_on_by v differ),
     )) in
@@ -300,7 +306,7 @@ pub act_stops : (turn : ℕ) (old now next : SessionState) (before waiting items
 act_stops turn old now next before waiting items same is runs = (turn, λ units. rw (same, is) (runs units))
 
 pub judging_stop : (frame : Frame) (old new : SessionState) (before waiting : List ℕ) → new ≡ old → waiting ≡ before
-    → Stops is_serving (λ failed. (units : UnitStates) → Runs (λ fails place. served fails place frame) failed false old new before waiting units units)
+    → Stops is_serving (λ failed. (units : UnitStates) → Runs (λ fails place. taken_in fails place frame) failed false old new before waiting units units)
 judging_stop frame old new before waiting same is = record {
   step = λ place. Judging place;
   of_frame = λ place. same_place place;
@@ -308,23 +314,23 @@ judging_stop frame old new before waiting same is = record {
   leads = λ units. rw (same, is) (judging_stops frame old before units);
 }
 
-pub served_ok : {E : Type 0} (r : Result Bool E) (v : Verdict) (frame : Frame) (old middle new : SessionState) (before waiting items : List ℕ)
+pub taken_ok : {E : Type 0} (r : Result Bool E) (v : Verdict) (frame : Frame) (old middle new : SessionState) (before waiting items : List ℕ)
     → Judges v frame old middle before waiting → v ≢ Violating
     → IfOk r (λ goes_on. (units : UnitStates) → Runs act_all None goes_on middle new waiting items units units)
-    → IfOk r (λ goes_on. (units : UnitStates) → Runs (λ fails place. served fails place frame) None goes_on old new before items units units)
-served_ok (Ok goes_on) v frame old middle new before waiting items judges differ acts = λ units. served_on v frame None goes_on old middle new before
+    → IfOk r (λ goes_on. (units : UnitStates) → Runs (λ fails place. taken_in fails place frame) None goes_on old new before items units units)
+taken_ok (Ok goes_on) v frame old middle new before waiting items judges differ acts = λ units. taken_on v frame None goes_on old middle new before
     waiting items units judges differ (λ place. refl) (acts units)
-served_ok (Err fault) v frame old middle new before waiting items judges differ acts = tt
+taken_ok (Err fault) v frame old middle new before waiting items judges differ acts = tt
 
-pub served_err : {T E : Type 0} (r : Result T E) (v : Verdict) (frame : Frame) (old middle new : SessionState) (before waiting items : List ℕ)
+pub taken_err : {T E : Type 0} (r : Result T E) (v : Verdict) (frame : Frame) (old middle new : SessionState) (before waiting items : List ℕ)
     → Judges v frame old middle before waiting → v ≢ Violating
     → OnErr r ((turn : ℕ) × ((units : UnitStates) → Runs act_all (Some (λ place. Taking place turn)) false middle new waiting items units units))
-    → OnErr r (Stops is_serving (λ failed. (units : UnitStates) → Runs (λ fails place. served fails place frame) failed false old new before items units units))
-served_err (Ok x) v frame old middle new before waiting items judges differ acts = tt
-served_err (Err fault) v frame old middle new before waiting items judges differ acts = record {
+    → OnErr r (Stops is_serving (λ failed. (units : UnitStates) → Runs (λ fails place. taken_in fails place frame) failed false old new before items units units))
+taken_err (Ok x) v frame old middle new before waiting items judges differ acts = tt
+taken_err (Err fault) v frame old middle new before waiting items judges differ acts = record {
   step = λ place. Taking place acts.0;
   of_frame = λ place. taking_kind.of place acts.0;
   of_kind = λ place. refl;
-  leads = λ units. served_on v frame (Some (λ place. Taking place acts.0)) false old middle new before waiting items units judges differ (λ place. refl)
+  leads = λ units. taken_on v frame (Some (λ place. Taking place acts.0)) false old middle new before waiting items units judges differ (λ place. refl)
       (acts.1 units);
 }

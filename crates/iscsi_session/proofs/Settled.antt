@@ -1,5 +1,5 @@
 -- A command that is done, and a request that acts, as steps of a session's work.
-use Rattle.std.proofs.Common.{◌≡◌, ◌≤◌, ℕ, suc, ◌<◌, List, [], ◌∷◌, ◌++◌, length, map, Bool, true, false, Some, None, refl, sym, ap, ◌∙◌, subst, arith, append-nil}
+use Rattle.std.proofs.Common.{◌≡◌, ◌≤◌, ℕ, suc, ◌<◌, List, [], ◌∷◌, ◌++◌, length, map, Bool, true, false, not, Some, None, refl, sym, ap, ◌∙◌, subst, arith, append-nil}
 use Rattle.std.specs.Prelude.{flat_map, filter}
 use Rattle.std.specs.List.{enumerate_from}
 use Rattle.std.proofs.lemmas.List.{length-map}
@@ -15,12 +15,13 @@ use Rattle.iscsi_login.specs.declared.params.Params.{Params}
 use Rattle.iscsi_login.specs.declared.values.Values.{Values}
 use Rattle.iscsi_transfer.specs.declared.data_in.Piece.{Piece}
 use Rattle.iscsi_session.specs.Requests.{Past, frame_of, frames_of, queue, bears_status, bearing, stamp, finished}
-use Rattle.iscsi_session.specs.State.{SessionState, IsLawful, Stands, remembered, tasks_of}
+use Rattle.iscsi_session.specs.State.{SessionState, IsLawful, Stands, remembered, tasks_of, place_for, whole_at, payload_at, is_waiting, is_waiting_by}
 use Rattle.iscsi_session.specs.Answers.{data_sent, sent_pieces, data_in, data_answers, scsi_answer, command_answers}
 use Rattle.iscsi_session.specs.Commands.{carried_out}
-use Rattle.iscsi_session.specs.Steps.{is_doing, Step, Doing, Work, answered_command, finish, settled}
+use Rattle.iscsi_session.specs.Transfers.{payload_of, is_whole_of}
+use Rattle.iscsi_session.specs.Steps.{is_doing, Step, Doing, Work, answered_command, finish, ready, ready_in, settled}
 use Rattle.iscsi_session.specs.Runs.{Starts, Leaves, StepsFirst, Runs, Stops}
-use Rattle.iscsi_session.proofs.Answered.{none_queued}
+use Rattle.iscsi_session.proofs.Feeding.{whole_is, payload_is, first_unfinished}
 use Rattle.iscsi_session.proofs.Parts.{parts, queue_is}
 use Rattle.iscsi_session.proofs.Runs.{stands_of, leaves_standing, Ran, queue_count, ran_more, ran_idle, ran_failed, all_of, runs_as, doing_kind}
 
@@ -47,8 +48,52 @@ pub none_steps : (does : ℕ → Work → Work) (l : List ℕ) (work : Work) (st
 none_steps does [] work state waiting units none same = (refl, refl, refl, sym same)
 none_steps does (request ∷ others) work state waiting units none same = absurd cc
 
-pub no_queue : (work : Work) (state : SessionState) (units : UnitStates) → Starts work state units → state.tasks.queue ≡ [] → queue work.past ≡ []
-no_queue work state units s e = none_queued work.past state (stands_of work state units s) e
+-- ---- the first of the queue waits for data, or does not
+
+waits_by : (b : Bool) (past : Past) (k : ℕ) (l : List ℕ) → is_whole_of past k ≡ b → not b ≡ true → ready_in past (k ∷ l) ≡ []
+waits_by true past k l e h = absurd cc
+waits_by false past k l e h = rw e refl
+
+none_ready_in : (past : Past) (state : SessionState) (l : List ℕ) → Stands past state → queue past ≡ l
+    → is_waiting_by (frames_of past.came l) state.transfers.list ≡ true → ready_in past l ≡ []
+none_ready_in past state [] s is e = refl
+none_ready_in past state (k ∷ l) s is e =
+    waits_by _ past k l refl (ap not (sym (whole_is past state k s (first_unfinished past k l s.lawful is))) ∙ e)
+
+pub none_ready : (work : Work) (state : SessionState) (units : UnitStates) → Starts work state units → is_waiting state ≡ true → ready work.past ≡ []
+unfolding ready
+none_ready work state units s e =
+    let st = stands_of work state units s in
+    none_ready_in work.past state (queue work.past) st refl (ap (λ (l : List Frame). is_waiting_by l state.transfers.list) (sym (queue_is work.past state st)) ∙ e)
+
+goes_by : (b : Bool) (past : Past) (k : ℕ) (l : List ℕ) → is_whole_of past k ≡ b → not b ≡ false → ready_in past (k ∷ l) ≡ k ∷ l
+goes_by true past k l e h = rw e refl
+goes_by false past k l e h = absurd cc
+
+all_ready_in : (past : Past) (state : SessionState) (l : List ℕ) → Stands past state → queue past ≡ l
+    → is_waiting_by (frames_of past.came l) state.transfers.list ≡ false → (k : ℕ) × (others : List ℕ) × (l ≡ k ∷ others) × (ready_in past l ≡ l)
+all_ready_in past state [] s is e = absurd cc
+all_ready_in past state (k ∷ l) s is e =
+    (k, l, refl, goes_by _ past k l refl (ap not (sym (whole_is past state k s (first_unfinished past k l s.lawful is))) ∙ e))
+
+all_ready : (work : Work) (state : SessionState) (units : UnitStates) → Starts work state units → is_waiting state ≡ false
+    → (k : ℕ) × (others : List ℕ) × (queue work.past ≡ k ∷ others) × (ready work.past ≡ queue work.past)
+unfolding ready
+all_ready work state units s e =
+    let st = stands_of work state units s in
+    all_ready_in work.past state (queue work.past) st refl (ap (λ (l : List Frame). is_waiting_by l state.transfers.list) (sym (queue_is work.past state st)) ∙ e)
+
+some_by : (l : List Frame) (state : SessionState) → is_waiting_by l state.transfers.list ≡ false → 0 < length l
+some_by [] state e = absurd cc
+some_by (frame ∷ l) state e = omega arith
+
+some_queued : (state : SessionState) → is_waiting state ≡ false → 0 < queue_count state
+some_queued state e = some_by state.tasks.queue state e
+
+pub not_waiting : (state : SessionState) (frame : Frame) (rest : List Frame) → state.tasks.queue ≡ frame ∷ rest
+    → whole_at state.transfers.list (place_for frame state.transfers.list) ≡ true → is_waiting state ≡ false
+not_waiting state frame rest first whole =
+    ap (λ (l : List Frame). is_waiting_by l state.transfers.list) first ∙ ap not whole
 
 -- ---- a command is done
 
@@ -60,23 +105,28 @@ pub record Answers (old new : SessionState) (before waiting : List ℕ) (done : 
 
 finish_leaves : (work : Work) (k : ℕ) (others : List ℕ) (old new : SessionState) (before waiting : List ℕ) (units after : UnitStates) (done : Outcome)
     → Starts work old units → queue work.past ≡ k ∷ others
-    → (after, done) ≡ carried_out units work.past.params.nexus (frame_of work.past.came k) → Answers old new before waiting done
+    → (after, done) ≡ carried_out units work.past.params.nexus (frame_of work.past.came k) (payload_of work.past k) → Answers old new before waiting done
     → Leaves work (finish k work) new before waiting after
 unfolding finish
 finish_leaves work k others old new before waiting units after done s is carried answers =
     let past = work.past in
     let standing = stands_of work old units s in
     let more = command_answers (stamp (finished k past)) past.params.values (frame_of past.came k) done in
-    let all : carried_out work.units past.params.nexus (frame_of past.came k) ≡ (after, done) = ap
-    (λ (us : UnitStates). carried_out us past.params.nexus (frame_of past.came k)) s.units ∙ sym carried in
+    let all : carried_out work.units past.params.nexus (frame_of past.came k) (payload_of past k) ≡ (after, done) = ap
+    (λ (us : UnitStates). carried_out us past.params.nexus (frame_of past.came k) (payload_of past k)) s.units ∙ sym carried in
     let same : (finish k work).past ≡ answered_command done k past = ap (λ (p : UnitStates × Outcome). answered_command p.1 k past) all in
     leaves_standing work (finish k work) new before waiting after more
     (subst (λ (p : Past). Stands p new) (sym same) (answers.stands past k others standing is))
     (ap (λ (p : Past). p.params) same) (ap (λ (p : Past). p.answers) same) (answers.out past k others standing is) (ap (λ (p : UnitStates × Outcome). p.0) all)
 
+-- the payload that the code has of it
+abbrev payload_in : SessionState → Frame → List ℕ
+payload_in state frame = payload_at state.transfers.list (place_for frame state.transfers.list)
+
 finish_first : (l : List ℕ) (work : Work) (old new : SessionState) (before waiting : List ℕ) (units after : UnitStates) (frame : Frame) (rest : List Frame)
     (nexus : NexusName) (done : Outcome) → queue work.past ≡ l → Starts work old units
-    → old.tasks.queue ≡ frame ∷ rest → nexus ≡ old.params.nexus → (after, done) ≡ carried_out units nexus frame → Answers old new before waiting done
+    → old.tasks.queue ≡ frame ∷ rest → nexus ≡ old.params.nexus → (after, done) ≡ carried_out units nexus frame (payload_in old frame)
+    → Answers old new before waiting done
     → StepsFirst finish l work true old new before waiting after
 finish_first [] work old new before waiting units after frame rest nexus done is s first named carried answers =
     absurd (let none = sym first ∙ queue_is work.past old (stands_of work old units s) ∙ ap (frames_of work.past.came) is in cc)
@@ -85,18 +135,25 @@ finish_first (k ∷ others) work old new before waiting units after frame rest n
     let heads : frame ∷ rest ≡ frame_of work.past.came k ∷ frames_of work.past.came others = sym first ∙ queue_is work.past old st
     ∙ ap (frames_of work.past.came) is in
     let same : frame ≡ frame_of work.past.came k = cc in
-    let agreed : nexus ≡ work.past.params.nexus = named ∙ ap (λ (x : Params). x.nexus) (parts work.past old st).params_is in (
+    let agreed : nexus ≡ work.past.params.nexus = named ∙ ap (λ (x : Params). x.nexus) (parts work.past old st).params_is in
+    let payload : payload_in old (frame_of work.past.came k) ≡ payload_of work.past k = payload_is work.past old k st
+    (first_unfinished work.past k others st.lawful is) in (
       refl,
-      finish_leaves work k others old new before waiting units after done s is (carried ∙ ap (λ (n : NexusName). carried_out units n frame) agreed
-          ∙ ap (carried_out units work.past.params.nexus) same) answers,
+      finish_leaves work k others old new before waiting units after done s is
+          (carried ∙ ap (λ (n : NexusName). carried_out units n frame (payload_in old frame)) agreed
+          ∙ ap (λ (f : Frame). carried_out units work.past.params.nexus f (payload_in old f)) same
+          ∙ ap (carried_out units work.past.params.nexus (frame_of work.past.came k)) payload) answers,
     )
 
 pub finish_steps : (work : Work) (old new : SessionState) (before waiting : List ℕ) (units after : UnitStates) (frame : Frame) (rest : List Frame)
     (nexus : NexusName) (done : Outcome) → Starts work old units
-    → old.tasks.queue ≡ frame ∷ rest → nexus ≡ old.params.nexus → (after, done) ≡ carried_out units nexus frame → Answers old new before waiting done
-    → StepsFirst finish (queue work.past) work true old new before waiting after
-finish_steps work old new before waiting units after frame rest nexus done s first named carried answers = finish_first (queue work.past) work old new
-    before waiting units after frame rest nexus done refl s first named carried answers
+    → old.tasks.queue ≡ frame ∷ rest → whole_at old.transfers.list (place_for frame old.transfers.list) ≡ true
+    → nexus ≡ old.params.nexus → (after, done) ≡ carried_out units nexus frame (payload_in old frame) → Answers old new before waiting done
+    → StepsFirst finish (ready work.past) work true old new before waiting after
+finish_steps work old new before waiting units after frame rest nexus done s first whole named carried answers =
+    let r = all_ready work old units s (not_waiting old frame rest first whole) in
+    subst (λ (l : List ℕ). StepsFirst finish l work true old new before waiting after) (sym r.3)
+    (finish_first (queue work.past) work old new before waiting units after frame rest nexus done refl s first named carried answers)
 
 -- ---- settling
 
@@ -135,52 +192,47 @@ finish_goes_on request work on = on
 
 abbrev pub FinishesOne : Bool → SessionState → SessionState → List ℕ → List ℕ → UnitStates → UnitStates → Type 0
 FinishesOne more old new before waiting units after = (work : Work) → Starts work old units
-    → StepsFirst finish (queue work.past) work more old new before waiting after
+    → StepsFirst finish (ready work.past) work more old new before waiting after
 
 pub settled_more : (turns : ℕ) (more : Bool) (old now next : SessionState) (before waiting items : List ℕ) (units middle after : UnitStates)
-    → Ran Doing queue finish queue_count queued_in queue_fits turns old now before waiting units middle
+    → Ran Doing ready finish queue_count queued_in queue_fits turns old now before waiting units middle
     → FinishesOne more now next waiting items middle after → more ≡ true → queue_count next < queue_count now
-    → Ran Doing queue finish queue_count queued_in queue_fits (suc turns) old next before items units after
+    → Ran Doing ready finish queue_count queued_in queue_fits (suc turns) old next before items units after
 settled_more turns more old now next before waiting items units middle after ran steps is fewer =
     let F : Bool → Type 0 = λ b. FinishesOne b now next waiting items middle after in
     let one = subst F is steps in
-    ran_more Doing queue finish queue_count queued_in queue_fits turns old now next before waiting items units middle after ran (record {
-      steps = λ work s. (let f = found_finished (queue work.past) work now next waiting items after (one work s)
+    ran_more Doing ready finish queue_count queued_in queue_fits turns old now next before waiting items units middle after ran (record {
+      steps = λ work s. (let f = found_finished (ready work.past) work now next waiting items after (one work s)
           in (f.0, f.1, f.2, finish_goes_on f.0 work s.goes_on, f.3));
       some = λ work s. omega arith;
     }) fewer
 
 settles_all : (fails : Step → Bool) (place : ℕ) (work : Work)
-    → all_of Doing queue finish queue_count queued_in queue_fits fails place work ≡ settled fails place work
+    → all_of Doing ready finish queue_count queued_in queue_fits fails place work ≡ settled fails place work
 unfolding all_of settled
 settles_all fails place work = refl
 
 pub all_settled : (turns : ℕ) (more : Bool) (old now next : SessionState) (before waiting items : List ℕ) (units middle after : UnitStates)
-    → Ran Doing queue finish queue_count queued_in queue_fits turns old now before waiting units middle
+    → Ran Doing ready finish queue_count queued_in queue_fits turns old now before waiting units middle
     → FinishesOne more now next waiting items middle after → more ≡ false → Runs settled None true old next before items units after
 all_settled turns more old now next before waiting items units middle after ran steps is =
     let F : Bool → Type 0 = λ b. FinishesOne b now next waiting items middle after in
     let one = subst F is steps in
-    runs_as settled (all_of Doing queue finish queue_count queued_in queue_fits) None true old next before items units after settles_all
-    (ran_idle Doing queue finish queue_count queued_in queue_fits doing_kind turns old now next before waiting items units middle after ran (record {
-      none = λ work s. (found_none (queue work.past) work now next waiting items middle after s (one work s)).0;
-      leaves = λ work s. (found_none (queue work.past) work now next waiting items middle after s (one work s)).1;
+    runs_as settled (all_of Doing ready finish queue_count queued_in queue_fits) None true old next before items units after settles_all
+    (ran_idle Doing ready finish queue_count queued_in queue_fits doing_kind turns old now next before waiting items units middle after ran (record {
+      none = λ work s. (found_none (ready work.past) work now next waiting items middle after s (one work s)).0;
+      leaves = λ work s. (found_none (ready work.past) work now next waiting items middle after s (one work s)).1;
     }))
 
-some_queue : (past : Past) (l : List ℕ) → 0 < length (frames_of past.came l) → (request : ℕ) × (others : List ℕ) × (l ≡ request ∷ others)
-some_queue past [] some = absurd (omega arith)
-some_queue past (request ∷ others) some = (request, others, refl)
-
 pub settling_stops : (turns : ℕ) (old now : SessionState) (before waiting : List ℕ) (units after : UnitStates)
-    → Ran Doing queue finish queue_count queued_in queue_fits turns old now before waiting units after → 0 < queue_count now
+    → Ran Doing ready finish queue_count queued_in queue_fits turns old now before waiting units after → is_waiting now ≡ false
     → Runs settled (Some (λ place. Doing place turns)) false old now before waiting units after
-settling_stops turns old now before waiting units after ran some =
-    runs_as settled (all_of Doing queue finish queue_count queued_in queue_fits) (Some (λ place. Doing place turns)) false old now before waiting units
+settling_stops turns old now before waiting units after ran more =
+    runs_as settled (all_of Doing ready finish queue_count queued_in queue_fits) (Some (λ place. Doing place turns)) false old now before waiting units
     after settles_all
-    (ran_failed Doing queue finish queue_count queued_in queue_fits doing_kind turns old now before waiting units after ran (record {
-      more = λ work s.
-          some_queue work.past (queue work.past) (omega (arith, ap (λ (l : List Frame). length l) (queue_is work.past now (stands_of work now after s)), some));
-      some = λ work s. some;
+    (ran_failed Doing ready finish queue_count queued_in queue_fits doing_kind turns old now before waiting units after ran (record {
+      more = λ work s. (let r = all_ready work now after s more in (r.0, r.1, r.3 ∙ r.2));
+      some = λ work s. some_queued now more;
     }))
 
 pub settle_stops : (turns : ℕ) (old now next : SessionState) (before waiting items : List ℕ) (units middle after : UnitStates) (Sound : Type 0)

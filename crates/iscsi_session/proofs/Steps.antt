@@ -5,7 +5,8 @@ use Rattle.iscsi_pdu.specs.declared.answer.Answer.{Answer}
 use Rattle.iscsi_session.specs.Requests.{Past, queue, due}
 use Rattle.iscsi_session.specs.Judging.{verdict, judged_answers}
 use Rattle.iscsi_session.specs.Acts.{act_answers}
-use Rattle.iscsi_session.specs.Steps.{Step, Judging, Taking, Doing, Work, reaches, take_step, judge, act, finish, first_steps, one_by_one, waiting_in, act_all, served, settled}
+use Rattle.iscsi_session.specs.Steps.{Step, Judging, Taking, Asking, Doing, Work, reaches, take_step, judge, act, ask, finish, first_steps, one_by_one, waiting_in, act_all, ask_due, taken_in, served, ready, settled}
+use Rattle.iscsi_session.specs.Transfers.{asking, r2t_of}
 use Rattle.iscsi_session.proofs.Served.{judged_same}
 use Rattle.iscsi_session.proofs.Answered.{moved_same}
 
@@ -33,18 +34,26 @@ act_all_agrees : (f g : Step → Bool) (place : ℕ) (work : Work) → ((k : ℕ
 unfolding act_all
 act_all_agrees f g place work acts = all_agree f g (Taking place) due act 0 (waiting_in work.past) work acts
 
-pub served_agrees : (f g : Step → Bool) (place : ℕ) (frame : Frame) (work : Work) → f (Judging place) ≡ g (Judging place)
+pub taken_agrees : (f g : Step → Bool) (place : ℕ) (frame : Frame) (work : Work) → f (Judging place) ≡ g (Judging place)
     → ((k : ℕ) → f (Taking place k) ≡ g (Taking place k))
-    → served f place frame work ≡ served g place frame work
-unfolding served
-served_agrees f g place frame work judges acts =
+    → taken_in f place frame work ≡ taken_in g place frame work
+unfolding taken_in
+taken_agrees f g place frame work judges acts =
     act_all_agrees f g place (take_step f (Judging place) (judge frame) work) acts
     ∙ ap (act_all g place) (step_agrees f g (Judging place) (judge frame) work judges)
+
+pub served_agrees : (f g : Step → Bool) (place : ℕ) (frame : Frame) (work : Work) → f (Judging place) ≡ g (Judging place)
+    → ((k : ℕ) → f (Taking place k) ≡ g (Taking place k)) → f (Asking place) ≡ g (Asking place)
+    → served f place frame work ≡ served g place frame work
+unfolding served ask_due
+served_agrees f g place frame work judges acts asks =
+    ap (ask_due f place) (taken_agrees f g place frame work judges acts)
+    ∙ first_agrees f g (Asking place) ask (asking (taken_in g place frame work).past) (taken_in g place frame work) asks
 
 pub settled_agrees : (f g : Step → Bool) (place : ℕ) (work : Work) → ((k : ℕ) → f (Doing place k) ≡ g (Doing place k))
     → settled f place work ≡ settled g place work
 unfolding settled
-settled_agrees f g place work does = all_agree f g (Doing place) queue finish 0 (length (queue work.past)) work does
+settled_agrees f g place work does = all_agree f g (Doing place) ready finish 0 (length (queue work.past)) work does
 
 -- ---- the parameters stay, and answers only come behind
 
@@ -108,13 +117,24 @@ act_all_extends : (fails : Step → Bool) (place : ℕ) (work : Work) → Extend
 unfolding act_all
 act_all_extends fails place work = all_extend fails (Taking place) due act 0 (waiting_in work.past) work act_extends
 
-pub served_extends : (fails : Step → Bool) (place : ℕ) (frame : Frame) (work : Work) → Extends work (served fails place frame work)
-unfolding served
-served_extends fails place frame work =
+ask_extends : (k : ℕ) (work : Work) → Extends work (ask k work)
+unfolding ask
+ask_extends k work = record { params = refl; more = r2t_of work.past k; answers = refl }
+
+taken_extends : (fails : Step → Bool) (place : ℕ) (frame : Frame) (work : Work) → Extends work (taken_in fails place frame work)
+unfolding taken_in
+taken_extends fails place frame work =
     let next = take_step fails (Judging place) (judge frame) work in
     extends_then work next (act_all fails place next)
     (step_extends fails (Judging place) (judge frame) work (judge_extends frame (reaches (Judging place) work))) (act_all_extends fails place next)
 
+pub served_extends : (fails : Step → Bool) (place : ℕ) (frame : Frame) (work : Work) → Extends work (served fails place frame work)
+unfolding served ask_due
+served_extends fails place frame work =
+    let next = taken_in fails place frame work in
+    extends_then work next (ask_due fails place next) (taken_extends fails place frame work)
+    (first_extends fails (Asking place) ask (asking next.past) next ask_extends)
+
 pub settled_extends : (fails : Step → Bool) (place : ℕ) (work : Work) → Extends work (settled fails place work)
 unfolding settled
-settled_extends fails place work = all_extend fails (Doing place) queue finish 0 (length (queue work.past)) work finish_extends
+settled_extends fails place work = all_extend fails (Doing place) ready finish 0 (length (queue work.past)) work finish_extends

@@ -1,27 +1,24 @@
 -- What a frame is judged to be, case by case.
-use Rattle.std.proofs.Common.{◌≡◌, ◌≢◌, ◌==◌, ℕ, List, length, Bool, true, false, not, ◌&&◌, ◌||◌, inl, inr, refl, sym, ap, ◌∙◌}
-use Rattle.std.specs.Prelude.{◌⊎◌, if◌then◌else◌}
-use Rattle.std.proofs.lemmas.Bool.{eq-eqb, ne_eqb}
+use Rattle.std.proofs.Common.{◌≡◌, ◌≢◌, ◌==◌, ℕ, Bool, true, false, not, ◌&&◌, ◌||◌, inl, inr, refl, sym, ap, ◌∙◌}
+use Rattle.std.specs.Prelude.{◌⊎◌, Option, Some, None, is_some, if◌then◌else◌}
+use Rattle.std.proofs.lemmas.Bool.{eq-eqb, eqb-true, ne_eqb}
 use Rattle.iscsi_pdu.specs.Header.{opcode_of, opcode_number, is_immediate, initiator_task_tag}
-use Rattle.iscsi_pdu.specs.ScsiCommand.{is_write}
 use Rattle.iscsi_pdu.specs.Frames.{Frame}
 use Rattle.iscsi_pdu.specs.declared.header.Opcode.{Opcode}
 use Rattle.iscsi_pdu.specs.declared.header.Opcode.TheVariants as opcodes
 use Rattle.iscsi_pdu.specs.declared.reject.RejectReason.TheVariants as reasons
+use Rattle.iscsi_transfer.specs.Task.{command_fault}
 use Rattle.iscsi_session.specs.declared.verdict.Verdict.{Verdict}
-use Rattle.iscsi_session.specs.declared.verdict.Verdict.TheVariants.{Ignored, Dropped, Rejected, Violating, Accepted}
-use Rattle.iscsi_session.specs.Requests.{Past, unfinished}
-use Rattle.iscsi_session.specs.Judging.{reserved_tag, is_fresh, is_live, is_full, command_verdict, verdict_by, verdict}
+use Rattle.iscsi_session.specs.declared.verdict.Verdict.TheVariants.{Ignored, Rejected, Violating, Accepted, Feeding}
+use Rattle.iscsi_session.specs.Requests.{Past, is_command}
+use Rattle.iscsi_session.specs.Transfers.{command_with, data_fault_of}
+use Rattle.iscsi_session.specs.Judging.{reserved_tag, is_fresh, is_live, is_full, command_verdict, data_verdict, verdict_by, verdict}
 
 -- ---- a command, test by test
 
 -- its tag is reserved, or live
-abbrev pub is_taken : List Frame → ℕ → Bool
-is_taken frames tag = tag == reserved_tag || is_live frames tag
-
--- it writes, or brings data
-abbrev pub has_data : Bool → ℕ → Bool
-has_data writes n = writes || not (n == 0)
+abbrev pub is_taken : Past → ℕ → Bool
+is_taken past tag = tag == reserved_tag || is_live past tag
 
 or_true : (b : Bool) → (b || true) ≡ true
 or_true true = refl
@@ -40,48 +37,35 @@ numbered_below now full e = rw e refl
 pub below_limit : (now full : Bool) → full ≡ false → (now && full) ≡ false
 below_limit now full e = rw e (and_false now)
 
-pub tag_reserved : (frames : List Frame) (tag : ℕ) → tag ≡ reserved_tag → is_taken frames tag ≡ true
-tag_reserved frames tag e = ap (λ (b : Bool). b || is_live frames tag) (eq-eqb tag reserved_tag e)
+pub tag_reserved : (past : Past) (tag : ℕ) → tag ≡ reserved_tag → is_taken past tag ≡ true
+tag_reserved past tag e = ap (λ (b : Bool). b || is_live past tag) (eq-eqb tag reserved_tag e)
 
-pub tag_live : (frames : List Frame) (tag : ℕ) → is_live frames tag ≡ true → is_taken frames tag ≡ true
-tag_live frames tag h = ap (λ (b : Bool). tag == reserved_tag || b) h ∙ or_true (tag == reserved_tag)
+pub tag_live : (past : Past) (tag : ℕ) → is_live past tag ≡ true → is_taken past tag ≡ true
+tag_live past tag h = ap (λ (b : Bool). tag == reserved_tag || b) h ∙ or_true (tag == reserved_tag)
 
-pub tag_free : (frames : List Frame) (tag : ℕ) → tag ≢ reserved_tag → is_live frames tag ≡ false → is_taken frames tag ≡ false
-tag_free frames tag ne h = ap (λ (b : Bool). b || is_live frames tag) (ne_eqb tag reserved_tag ne) ∙ h
-
-pub writes_data : (writes : Bool) (n : ℕ) → writes ≡ true → has_data writes n ≡ true
-writes_data writes n e = rw e refl
-
-pub brings_data : (writes : Bool) (n : ℕ) → (n == 0) ≡ false → has_data writes n ≡ true
-brings_data writes n e = ap (λ (b : Bool). writes || not b) e ∙ or_true writes
-
-pub without_data : (writes : Bool) (n : ℕ) → writes ≡ false → (n == 0) ≡ true → has_data writes n ≡ false
-without_data writes n e none = ap (λ (b : Bool). writes || not b) none ∙ ap (λ (b : Bool). b || false) e
+pub tag_free : (past : Past) (tag : ℕ) → tag ≢ reserved_tag → is_live past tag ≡ false → is_taken past tag ≡ false
+tag_free past tag ne h = ap (λ (b : Bool). b || is_live past tag) (ne_eqb tag reserved_tag ne) ∙ h
 
 abbrev pub by_tests : Bool → Bool → Bool → Bool → Verdict
-by_tests fresh over taken with_data =
-    if not fresh then Ignored else if over then Rejected reasons.TooManyImmediate else if taken then Violating else if with_data then Violating else Accepted
+by_tests fresh over taken faulty =
+    if not fresh then Ignored else if over then Rejected reasons.TooManyImmediate else if taken then Violating else if faulty then Violating else Accepted
 
--- what a session finds of a command is what is read from its past
-pub command_told : (past : Past) (found given : Frame) (fresh full over taken with_data : Bool) → found ≡ given → is_fresh past given ≡ fresh
-    → is_full (unfinished past) ≡ full
-    → (is_immediate found.header && full) ≡ over → is_taken (unfinished past) (initiator_task_tag found.header) ≡ taken
-    → has_data (is_write found.header) (length found.body) ≡ with_data
-    → by_tests fresh over taken with_data ≡ command_verdict (is_fresh past given) (unfinished past) given
-command_told past found given fresh full over taken with_data same fresh_is full_is over_is taken_is data_is =
-    ap (λ (b : Bool). by_tests fresh b taken with_data) (sym over_is)
-    ∙ ap (λ (b : Bool). by_tests fresh (is_immediate found.header && b) taken with_data) (sym full_is)
-    ∙ ap (λ (b : Bool). by_tests fresh (is_immediate found.header && is_full (unfinished past)) b with_data) (sym taken_is)
-    ∙ ap (λ (b : Bool). by_tests fresh (is_immediate found.header && is_full (unfinished past))
-    (is_taken (unfinished past) (initiator_task_tag found.header)) b) (sym data_is)
-    ∙ ap (λ (b : Bool). command_verdict b (unfinished past) found) (sym fresh_is)
-    ∙ ap (λ (f : Frame). command_verdict (is_fresh past given) (unfinished past) f) same
+pub command_told : (past : Past) (frame : Frame) (fresh over taken faulty : Bool) → is_fresh past frame ≡ fresh
+    → (is_immediate frame.header && is_full past) ≡ over → is_taken past (initiator_task_tag frame.header) ≡ taken
+    → is_some (command_fault past.params.values frame) ≡ faulty → command_verdict past frame ≡ by_tests fresh over taken faulty
+unfolding command_verdict
+command_told past frame fresh over taken faulty fresh_is over_is taken_is faulty_is =
+    ap (λ (b : Bool). by_tests b (is_immediate frame.header && is_full past) (is_taken past (initiator_task_tag frame.header))
+    (is_some (command_fault past.params.values frame))) fresh_is
+    ∙ ap (λ (b : Bool). by_tests fresh b (is_taken past (initiator_task_tag frame.header)) (is_some (command_fault past.params.values frame))) over_is
+    ∙ ap (λ (b : Bool). by_tests fresh over b (is_some (command_fault past.params.values frame))) taken_is
+    ∙ ap (by_tests fresh over taken) faulty_is
 
 -- ---- by the opcode
 
 pub verdict_at : (past : Past) (frame : Frame) (opcode : Opcode) → opcode_of (opcode_number frame.header) ≡ opcode
-    → verdict past frame ≡ verdict_by opcode (is_fresh past frame) (unfinished past) frame
-verdict_at past frame opcode e = ap (λ (o : Opcode). verdict_by o (is_fresh past frame) (unfinished past) frame) e
+    → verdict past frame ≡ verdict_by opcode past frame
+verdict_at past frame opcode e = ap (λ (o : Opcode). verdict_by o past frame) e
 
 pub numbered_verdict : (past : Past) (frame : Frame) (opcode : Opcode) (fresh : Bool) → opcode_of (opcode_number frame.header) ≡ opcode
     → (opcode ≡ opcodes.NopOut) ⊎ (opcode ≡ opcodes.Logout) → is_fresh past frame ≡ fresh
@@ -90,11 +74,10 @@ unfolding verdict_by
 numbered_verdict past frame opcode fresh is (inl e) h = verdict_at past frame opcodes.NopOut (is ∙ e) ∙ ap (λ (b : Bool). if b then Accepted else Ignored) h
 numbered_verdict past frame opcode fresh is (inr e) h = verdict_at past frame opcodes.Logout (is ∙ e) ∙ ap (λ (b : Bool). if b then Accepted else Ignored) h
 
-pub data_verdict : (past : Past) (frame : Frame) (live : Bool) → opcode_of (opcode_number frame.header) ≡ opcodes.DataOut
-    → is_live (unfinished past) (initiator_task_tag frame.header) ≡ live
-    → verdict past frame ≡ (if live then Violating else Dropped)
+pub fed_verdict : (past : Past) (frame : Frame) → opcode_of (opcode_number frame.header) ≡ opcodes.DataOut
+    → verdict past frame ≡ data_verdict past frame (command_with past (initiator_task_tag frame.header))
 unfolding verdict_by
-data_verdict past frame live is h = verdict_at past frame opcodes.DataOut is ∙ ap (λ (b : Bool). if b then Violating else Dropped) h
+fed_verdict past frame is = verdict_at past frame opcodes.DataOut is
 
 pub refused_verdict : (past : Past) (frame : Frame) (opcode : Opcode) → opcode_of (opcode_number frame.header) ≡ opcode
     → (opcode ≡ opcodes.TaskManagement) ⊎ ((opcode ≡ opcodes.Text) ⊎ ((n : ℕ) × (opcode ≡ opcodes.Other n)))
@@ -104,24 +87,54 @@ refused_verdict past frame opcode is (inl e) = verdict_at past frame opcodes.Tas
 refused_verdict past frame opcode is (inr (inl e)) = verdict_at past frame opcodes.Text (is ∙ e)
 refused_verdict past frame opcode is (inr (inr (n, e))) = verdict_at past frame (opcodes.Other n) (is ∙ e)
 
--- ---- what is accepted is fresh
+-- ---- what is accepted is fresh, and its tag is free
 
-not_accepted : (b : Bool) → (if b then Violating else Dropped) ≡ Accepted → false ≡ true
-not_accepted true e = absurd cc
-not_accepted false e = absurd cc
+-- what is known of a frame that is accepted
+pub record IsFree (past : Past) (frame : Frame) : Type 0 where
+  pub fresh : is_fresh past frame ≡ true
+  pub tag : is_command frame ≡ true → is_live past (initiator_task_tag frame.header) ≡ false
 
-accepted_by : (opcode : Opcode) (fresh : Bool) (frames : List Frame) (frame : Frame) → verdict_by opcode fresh frames frame ≡ Accepted → fresh ≡ true
-unfolding verdict_by
-accepted_by opcode true frames frame e = refl
-accepted_by opcodes.ScsiCommand false frames frame e = absurd cc
-accepted_by opcodes.NopOut false frames frame e = absurd cc
-accepted_by opcodes.Logout false frames frame e = absurd cc
-accepted_by opcodes.Login false frames frame e = absurd cc
-accepted_by opcodes.DataOut false frames frame e = not_accepted (is_live frames (initiator_task_tag frame.header)) e
-accepted_by opcodes.Snack false frames frame e = absurd cc
-accepted_by opcodes.TaskManagement false frames frame e = absurd cc
-accepted_by opcodes.Text false frames frame e = absurd cc
-accepted_by (opcodes.Other n) false frames frame e = absurd cc
+data_not_accepted : (past : Past) (frame : Frame) (at : Option ℕ) → data_verdict past frame at ≡ Accepted → ⊥
+data_not_accepted past frame None e = cc
+data_not_accepted past frame (Some k) e = by_fault (is_some (data_fault_of past k frame)) e
+  where
+    by_fault : (b : Bool) → (if b then Violating else Feeding) ≡ Accepted → ⊥
+    by_fault true e = cc
+    by_fault false e = cc
 
-pub accepted_fresh : (past : Past) (frame : Frame) → verdict past frame ≡ Accepted → is_fresh past frame ≡ true
-accepted_fresh past frame e = accepted_by (opcode_of (opcode_number frame.header)) (is_fresh past frame) (unfinished past) frame e
+tests_passed : (fresh over taken faulty : Bool) → by_tests fresh over taken faulty ≡ Accepted → (fresh ≡ true) × (taken ≡ false)
+tests_passed false over taken faulty e = absurd cc
+tests_passed true true taken faulty e = absurd cc
+tests_passed true false true faulty e = absurd cc
+tests_passed true false false faulty e = (refl, refl)
+
+or_back : (a b : Bool) → (a || b) ≡ false → b ≡ false
+or_back true b e = absurd cc
+or_back false b e = e
+
+fresh_passed : (fresh : Bool) → (if fresh then Accepted else Ignored) ≡ Accepted → fresh ≡ true
+fresh_passed true e = refl
+fresh_passed false e = absurd cc
+
+no_command : (frame : Frame) (opcode : Opcode) → opcode_of (opcode_number frame.header) ≡ opcode → opcode ≢ opcodes.ScsiCommand → is_command frame ≡ true → ⊥
+no_command frame opcode is other e = other (sym is ∙ ap opcode_of (eqb-true (opcode_number frame.header) 0x01 e))
+
+accepted_by : (opcode : Opcode) (past : Past) (frame : Frame) → opcode_of (opcode_number frame.header) ≡ opcode → verdict_by opcode past frame ≡ Accepted
+    → IsFree past frame
+unfolding verdict_by command_verdict
+accepted_by opcodes.ScsiCommand past frame is e =
+    let t = tests_passed (is_fresh past frame) _ (is_taken past (initiator_task_tag frame.header)) _ e in
+    record { fresh = t.0; tag = λ h. or_back _ _ t.1 }
+accepted_by opcodes.NopOut past frame is e =
+    record { fresh = fresh_passed (is_fresh past frame) e; tag = λ h. absurd (no_command frame opcodes.NopOut is (λ x. absurd cc) h) }
+accepted_by opcodes.Logout past frame is e =
+    record { fresh = fresh_passed (is_fresh past frame) e; tag = λ h. absurd (no_command frame opcodes.Logout is (λ x. absurd cc) h) }
+accepted_by opcodes.Login past frame is e = absurd cc
+accepted_by opcodes.DataOut past frame is e = absurd (data_not_accepted past frame (command_with past (initiator_task_tag frame.header)) e)
+accepted_by opcodes.Snack past frame is e = absurd cc
+accepted_by opcodes.TaskManagement past frame is e = absurd cc
+accepted_by opcodes.Text past frame is e = absurd cc
+accepted_by (opcodes.Other n) past frame is e = absurd cc
+
+pub accepted_free : (past : Past) (frame : Frame) → verdict past frame ≡ Accepted → IsFree past frame
+accepted_free past frame e = accepted_by (opcode_of (opcode_number frame.header)) past frame refl e

@@ -10,16 +10,18 @@ use Rattle.iscsi_login.specs.declared.params.Params.{Params}
 use Rattle.iscsi_login.specs.Values.{default_values}
 use Rattle.iscsi_order.specs.Window as order
 use Rattle.iscsi_session.specs.declared.verdict.Verdict.TheVariants.{Ignored, Dropped, Rejected, Violating, Accepted}
-use Rattle.iscsi_session.specs.Requests.{Past, begun, left, taken, taken_at, held, due, queue, stamp, numbers}
-use Rattle.iscsi_session.specs.Judging.{verdict, verdict_by, judged, reject}
+use Rattle.iscsi_transfer.specs.Task.{remembered as task_of, fault_of}
+use Rattle.iscsi_session.specs.Requests.{Past, begun, left, taken, taken_at, held, due, queue, unfinished, stamp, numbers}
+use Rattle.iscsi_session.specs.Transfers.{outs_of, tags_of, task_at, payload_of, asking, asked_by, r2t_of}
+use Rattle.iscsi_session.specs.Judging.{verdict, verdict_by, command_verdict, judged, reject}
 use Rattle.scsi_sense.specs.Done.{good}
 use Rattle.iscsi_session.specs.Answers.{data_answers, scsi_answer}
-use Rattle.iscsi_session.specs.Steps.{answered_command}
+use Rattle.iscsi_session.specs.Steps.{answered_command, ready}
 use Rattle.iscsi_session.specs.Acts.{acted, act_answers, ends, logout_response}
 
 -- what an example unfolds
 unfoldable pub computed : Bool
-unfolding order.taken left taken taken_at held due queue stamp verdict_by act_answers ends data_answers scsi_answer
+unfolding order.taken left taken taken_at held due queue unfinished stamp command_verdict verdict_by act_answers ends data_answers scsi_answer outs_of tags_of task_at task_of fault_of asking r2t_of ready
 computed = true
 
 -- ---- requests
@@ -98,12 +100,17 @@ does past k = answered_command good k past
 abbrev judges : Past → Frame → Past
 judges past frame = judged (verdict past frame) frame past
 
--- a frame is judged, what is due acts, and what is in the queue is done
+-- the first of the queue is done, where its data is whole
+abbrev does_first : Past → ℕ → Past
+does_first past turn = fold does past (ready past)
+
+-- a frame is judged, what is due acts, what is due is asked for, and what is in the queue is done
 abbrev comes : Past → Frame → Past
 comes past frame =
     let a = judges past frame in
     let b = fold acts a (due a) in
-    fold does b (queue b)
+    let c = asked_by (asking b) b in
+    fold does_first c (queue c)
 
 abbrev all_come : Past → List Frame → Past
 all_come past frames = fold comes past frames
@@ -200,6 +207,7 @@ live_tag_again : verdict (comes prepared (command 3 6)) (command 3 5) ≡ Violat
 unfolding computed
 live_tag_again = refl
 
+-- it takes no data
 data_for_a_live_tag : verdict (comes prepared (command 3 6)) (data_out 3) ≡ Violating
 unfolding computed
 data_for_a_live_tag = refl
@@ -235,6 +243,68 @@ limit_before_tag = refl
 ninth_ping : verdict eight (request 0x40 0x80 (low 0x18) (low 0)) ≡ Accepted
 unfolding computed
 ninth_ping = refl
+
+-- ---- data that is asked for
+
+-- a command with F and W that takes eight bytes
+abbrev writing : ℕ → ℕ → Frame
+writing tag number = record {
+  header = 0x01 ∷ 0xa0 ∷ replicate 14 0 ++ low tag ++ low 8 ++ low number ++ replicate 20 0;
+  body = [];
+}
+
+-- tag, Target Transfer Tag, DataSN, Buffer Offset, and F
+abbrev brings : ℕ → List ℕ → ℕ → ℕ → ℕ → List ℕ → Frame
+brings tag transfer_tag data_sn offset final body = record {
+  header = 0x05 ∷ final ∷ replicate 14 0 ++ low tag ++ transfer_tag ++ replicate 12 0 ++ low data_sn ++ low offset ++ replicate 4 0;
+  body = body;
+}
+
+-- 6 waits for 5 and is asked for its data all the same; the R2T carries the next StatSN, which the answer to 5 then has
+abbrev asking_ahead : Past
+asking_ahead = comes prepared (writing 3 6)
+
+asked_ahead : said asking_ahead ≡ answers.R2t (record {
+  lun = replicate 8 0;
+  initiator_task_tag = 3;
+  target_transfer_tag = 0;
+  stamp = record { stat_sn = 3; exp_cmd_sn = 5; max_cmd_sn = 36 };
+  r2t_sn = 0;
+  buffer_offset = 0;
+  desired_length = 8;
+}) ∷ []
+unfolding computed
+asked_ahead = refl
+
+-- the next command has the next tag, and both wait for their data
+abbrev two_writing : Past
+two_writing = comes asking_ahead (writing 4 5)
+
+two_asked : two_writing.r2ts ≡ record { command = 2; tag = 0 } ∷ record { command = 3; tag = 1 } ∷ []
+unfolding computed
+two_asked = refl
+
+none_done : (ready two_writing ≡ []) × (queue two_writing ≡ 3 ∷ 2 ∷ [])
+unfolding computed
+none_done = (refl, refl)
+
+-- the data of 6 is whole before that of 5: nothing is done
+abbrev later_whole : Past
+later_whole = comes (comes two_writing (brings 3 (low 0) 0 0 0 (1 ∷ 2 ∷ 3 ∷ []))) (brings 3 (low 0) 1 3 0x80 (4 ∷ 5 ∷ 6 ∷ 7 ∷ 8 ∷ []))
+
+still_none : (ready later_whole ≡ []) × (payload_of later_whole 2 ≡ 1 ∷ 2 ∷ 3 ∷ 4 ∷ 5 ∷ 6 ∷ 7 ∷ 8 ∷ [])
+unfolding computed
+still_none = (refl, refl)
+
+-- then that of 5: both are done, in the order of their numbers
+both_done : (comes later_whole (brings 4 (low 1) 0 0 0x80 (replicate 8 9))).finished ≡ 0 ∷ 1 ∷ 3 ∷ 2 ∷ []
+unfolding computed
+both_done = refl
+
+-- data with the tag of the other command's R2T
+tag_of_the_other : verdict two_writing (brings 3 (low 1) 0 0 0x80 (replicate 8 9)) ≡ Violating
+unfolding computed
+tag_of_the_other = refl
 
 -- ---- in which order requests are taken
 

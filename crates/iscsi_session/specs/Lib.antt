@@ -8,8 +8,11 @@ pub use Rattle.iscsi_order.specs.Window
 pub use Rattle.iscsi_order.specs.WindowState
 pub use Rattle.iscsi_order.specs.Stat
 pub use Rattle.iscsi_transfer.specs.DataIn
+pub use Rattle.iscsi_transfer.specs.Payload
+pub use Rattle.iscsi_transfer.specs.Task
 pub use Rattle.scsi_sense.specs.Done
 pub mod Requests
+pub mod Transfers
 pub mod Judging
 pub mod Acts
 pub mod Answers

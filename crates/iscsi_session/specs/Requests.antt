@@ -17,11 +17,25 @@ pub record Request : Type 0 where
   pub number : Option ℕ
   pub frame : Frame
 
+-- a SCSI Data-Out that was accepted, and the name of the SCSI Command whose tag it bore (RFC 7143 §11.7)
+pub record DataOut : Type 0 where
+  pub command : ℕ
+  pub frame : Frame
+
+-- an R2T that was sent, and the name of the SCSI Command for whose data it asked (RFC 7143 §11.8)
+pub record SentR2t : Type 0 where
+  pub command : ℕ
+  -- its Target Transfer Tag
+  pub tag : ℕ
+
 -- A request is named by its place among those that came.
 pub record Past : Type 0 where
   pub params : Params
   -- the requests that were accepted, in the order in which they came
   pub came : List Request
+  -- the data that was accepted for them, and the R2Ts that were sent, each in order
+  pub data_outs : List DataOut
+  pub r2ts : List SentR2t
   -- the names of those that acted, are finished, and were removed, each in the order in which they were
   pub acted : List ℕ
   pub finished : List ℕ
@@ -30,7 +44,7 @@ pub record Past : Type 0 where
   pub answers : List Answer
 
 abbrev pub begun : Params → Past
-begun params = record { params = params; came = []; acted = []; finished = []; removed = []; answers = [] }
+begun params = record { params = params; came = []; data_outs = []; r2ts = []; acted = []; finished = []; removed = []; answers = [] }
 
 -- ---- names
 
@@ -113,11 +127,12 @@ due past = left past.removed (left past.acted (taken past.came))
 unfoldable pub queue : Past → List ℕ
 queue past = left past.removed (left past.finished (commands past.came past.acted))
 
+-- the SCSI Commands that came and are not finished, held or taken, in the order in which they came
+unfoldable pub unfinished : Past → List ℕ
+unfinished past = left past.removed (left past.finished (commands past.came (range_with_len 0 (length past.came))))
+
 abbrev pub frames_of : List Request → List ℕ → List Frame
 frames_of came names = map (frame_of came) names
-
-abbrev pub unfinished : Past → List Frame
-unfinished past = frames_of past.came (held past ++ due past ++ queue past)
 
 -- ---- sequence numbers of answers (RFC 7143 §4.2.2)
 

@@ -1,14 +1,22 @@
 -- What a session remembers of its past.
-use Rattle.std.specs.Prelude.{◌≡◌, All, ℕ, zero, suc, ◌+◌, ◌-◌, ◌^◌, ◌%◌, ◌<◌, List, [], ◌∷◌, ◌++◌, length, map, filter_map, find, drop, take, replicate, Bool, true, false, ◌&&◌, ◌||◌, not, nat_lt, Option, Some, None, is_some, option_map, slice_index_or, slice_set, if◌then◌else◌, ⊤}
+use Rattle.std.specs.Prelude.{◌≡◌, All, ℕ, zero, suc, ◌+◌, ◌-◌, ◌^◌, ◌%◌, ◌<◌, List, [], ◌∷◌, ◌++◌, length, map, filter, filter_map, find, position, remove, drop, take, replicate, Bool, true, false, ◌&&◌, ◌||◌, not, ◌==◌, nat_lt, Option, Some, None, is_some, option_map, slice_index_or, slice_set, if◌then◌else◌, ⊤}
 use Rattle.std.specs.List.{range_with_len, prefix_len}
-use Rattle.iscsi_pdu.specs.Header.{is_immediate, cmd_sn}
+use Rattle.iscsi_pdu.specs.Header.{is_immediate, cmd_sn, initiator_task_tag}
 use Rattle.iscsi_pdu.specs.Frames.{Frame}
 use Rattle.iscsi_login.specs.declared.params.Params.{Params}
 use Rattle.iscsi_order.specs.Window as order
 use Rattle.iscsi_order.specs.WindowState as windows
 use Rattle.iscsi_order.specs.Serial.{distance}
 use Rattle.iscsi_order.specs.Stat.{stat_sn}
-use Rattle.iscsi_session.specs.Requests.{Request, Past, has_number, numbers, numbered, counted, commands, others, is_in, taken, due, queue, frames_of, statuses}
+use Rattle.iscsi_session.specs.Requests.{Request, Past, has_number, numbers, numbered, counted, is_command, commands, others, is_in, frame_of, taken, due, queue, frames_of, unfinished, statuses}
+use Rattle.iscsi_pdu.specs.declared.r2t.R2t.{R2t}
+use Rattle.iscsi_pdu.specs.declared.stamp.Stamp.{Stamp}
+use Rattle.iscsi_transfer.specs.Task.{TaskState, fault_of, due_ask, is_whole, with_data, command_fault}
+use Rattle.iscsi_transfer.specs.declared.task.Ask.{Ask}
+use Rattle.iscsi_session.specs.declared.transfers.Transfer.{Transfer}
+use Rattle.iscsi_session.specs.declared.verdict.Verdict.{Verdict}
+use Rattle.iscsi_session.specs.declared.verdict.Verdict.TheVariants.{Dropped, Violating, Feeding}
+use Rattle.iscsi_session.specs.Transfers.{tag_of, tags_of, task_at, next_transfer_tag, unsent, r2t_for}
 
 -- the requests that are not finished, and the numbers
 pub record TaskLists : Type 0 where
@@ -26,11 +34,18 @@ pub record TaskLists : Type 0 where
 abbrev pub no_tasks : ℕ → TaskLists
 no_tasks first = record { next = first; unfinished = 0; held = replicate 32 None; due = []; queue = [] }
 
+pub record TransferList : Type 0 where
+  -- the Target Transfer Tag of the next R2T
+  pub next_tag : ℕ
+  -- of the SCSI Commands that are not finished, in the order in which they came
+  pub list : List Transfer
+
 pub record SessionState : Type 0 where
   pub params : Params
   -- the StatSN of the next answer
   pub stat : ℕ
   pub tasks : TaskLists
+  pub transfers : TransferList
 
 -- the request with this number
 abbrev pub frame_numbered : List Request → ℕ → Option Frame
@@ -49,8 +64,14 @@ tasks_with past handed line = record {
 unfoldable pub tasks_of : Past → TaskLists
 tasks_of past = tasks_with past (numbers past).handed (frames_of past.came (due past))
 
+abbrev pub transfer_of : Past → ℕ → Transfer
+transfer_of past k = record { header = (frame_of past.came k).header; task = task_at past k; sent = length (tags_of past k) }
+
+unfoldable pub transfers_of : Past → TransferList
+transfers_of past = record { next_tag = next_transfer_tag past; list = map (transfer_of past) (unfinished past) }
+
 abbrev pub remembered : Past → SessionState
-remembered past = record { params = past.params; stat = stat_sn (statuses past); tasks = tasks_of past }
+remembered past = record { params = past.params; stat = stat_sn (statuses past); tasks = tasks_of past; transfers = transfers_of past }
 
 -- the numbers alone
 abbrev pub window_of : TaskLists → windows.WindowState
@@ -80,6 +101,11 @@ pub record IsLawful (past : Past) : Type 0 where
   pub at_once : others past.came past.finished ≡ others past.came past.acted
   -- the numbers that are taken are those of the requests that are
   pub handed : counted past.came (taken past.came) ≡ (numbers past).handed
+  -- data came and was asked for only of commands that came
+  pub fed : All (λ d. d.command < length past.came) past.data_outs
+  pub asked : All (λ r. r.command < length past.came) past.r2ts
+  -- RFC 7143 §11.2.1.8: no two SCSI Commands that are not finished have one tag
+  pub tags : AreDistinct (map (tag_of past.came) (unfinished past))
   -- none is removed yet
   pub none_removed : past.removed ≡ []
 
@@ -120,3 +146,96 @@ takes_all tasks = takes (prefix_len (λ o. is_some o) tasks.held) tasks
 -- one with a number is finished
 abbrev pub one_fewer : Frame → TaskLists → TaskLists
 one_fewer frame tasks = if is_immediate frame.header then tasks else record tasks { unfinished = tasks.unfinished - 1 }
+
+-- a request that is accepted is kept: one for immediate delivery is taken at once
+abbrev pub kept : Frame → TaskLists → TaskLists
+kept frame tasks = if is_immediate frame.header then record tasks { due = tasks.due ++ frame ∷ [] } else takes_all (holding (cmd_sn frame.header) frame tasks)
+
+-- ---- what the code does to the data of its commands
+
+abbrev pub no_transfers : TransferList
+no_transfers = record { next_tag = 0; list = [] }
+
+abbrev pub no_transfer : Transfer
+no_transfer = record {
+  header = [];
+  task = record { payload = []; expected = 0; first_burst = 0; burst = 0; unsolicited = 0; is_open = false; sequence_length = 0; tag = 0 };
+  sent = 0;
+}
+
+abbrev pub transfer_at : List Transfer → ℕ → Transfer
+transfer_at transfers i = slice_index_or transfers i no_transfer
+
+abbrev pub bears : ℕ → Transfer → Bool
+bears tag transfer = initiator_task_tag transfer.header == tag
+
+abbrev pub place_with : ℕ → List Transfer → Option ℕ
+place_with tag transfers = position (bears tag) transfers
+
+abbrev pub place_for : Frame → List Transfer → Option ℕ
+place_for frame transfers = place_with (initiator_task_tag frame.header) transfers
+
+abbrev pub begun_transfer : List ℕ → TaskState → Transfer
+begun_transfer header task = record { header = header; task = task; sent = 0 }
+
+abbrev pub has_most : List Transfer → Bool
+has_most transfers = not (nat_lt (length (filter (λ transfer. is_immediate transfer.header) transfers)) 8)
+
+-- a Data-Out for the command at this place
+abbrev pub judged_at : List Transfer → Frame → Option ℕ → Verdict
+judged_at transfers frame None = Dropped
+judged_at transfers frame (Some i) = if is_some (fault_of (transfer_at transfers i).task frame) then Violating else Feeding
+
+abbrev pub fed_at : List Transfer → Frame → Option ℕ → List Transfer
+fed_at transfers frame None = transfers
+fed_at transfers frame (Some i) = slice_set transfers i (record (transfer_at transfers i) { task = with_data (transfer_at transfers i).task frame })
+
+abbrev pub whole_at : List Transfer → Option ℕ → Bool
+whole_at transfers None = true
+whole_at transfers (Some i) = is_whole (transfer_at transfers i).task
+
+abbrev pub payload_at : List Transfer → Option ℕ → List ℕ
+payload_at transfers None = []
+payload_at transfers (Some i) = (transfer_at transfers i).task.payload
+
+abbrev pub removed_at : List Transfer → Option ℕ → List Transfer
+removed_at transfers None = transfers
+removed_at transfers (Some i) = remove transfers i
+
+-- the part of its data that a command is asked for now
+abbrev pub due_of : Transfer → Option Ask
+due_of transfer = unsent transfer.sent (due_ask transfer.task)
+
+abbrev pub asking_place : List Transfer → Option ℕ
+asking_place transfers = position (λ transfer. is_some (due_of transfer)) transfers
+
+abbrev pub r2t_at : TransferList → Stamp → Option ℕ → Option R2t
+r2t_at transfers numbers_now None = None
+r2t_at transfers numbers_now (Some i) =
+    option_map (r2t_for (transfer_at transfers.list i).header transfers.next_tag numbers_now) (due_of (transfer_at transfers.list i))
+
+abbrev pub sent_to : ℕ → Transfer → Transfer
+sent_to tag transfer = record transfer { task = record transfer.task { tag = tag }; sent = transfer.sent + 1 }
+
+abbrev pub asked_at : TransferList → Option ℕ → TransferList
+asked_at transfers None = transfers
+asked_at transfers (Some i) = record {
+  next_tag = (transfers.next_tag + 1) % 0xFFFFFFFF;
+  list = slice_set transfers.list i (sent_to transfers.next_tag (transfer_at transfers.list i));
+}
+
+-- the first command of the queue waits for data, or there is none
+abbrev pub is_waiting_by : List Frame → List Transfer → Bool
+is_waiting_by [] transfers = true
+is_waiting_by (frame ∷ others) transfers = not (whole_at transfers (place_for frame transfers))
+
+abbrev pub is_waiting : SessionState → Bool
+is_waiting state = is_waiting_by state.tasks.queue state.transfers.list
+
+-- a SCSI Command whose tag is not live, and whose data is as agreed
+pub record IsLawfulCommand (state : SessionState) (frame : Frame) : Type 0 where
+  pub tag : place_for frame state.transfers.list ≡ None
+  pub agreed : command_fault state.params.values frame ≡ None
+
+abbrev pub IsAcceptable : SessionState → Frame → Type 0
+IsAcceptable state frame = is_command frame ≡ true → IsLawfulCommand state frame

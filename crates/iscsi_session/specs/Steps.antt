@@ -4,39 +4,50 @@ use Rattle.scsi_sense.specs.Done.{Outcome}
 use Rattle.scsi_unit.specs.Units.{UnitStates}
 use Rattle.iscsi_pdu.specs.Frames.{Frame}
 use Rattle.iscsi_session.specs.Requests.{Past, frame_of, held, due, queue, finished, stamp, answering}
+use Rattle.iscsi_session.specs.Transfers.{payload_of, is_whole_of, asking, asked}
 use Rattle.iscsi_session.specs.Judging.{verdict, judged, violates}
 use Rattle.iscsi_session.specs.Acts.{acted, ends}
 use Rattle.iscsi_session.specs.Answers.{command_answers}
 use Rattle.iscsi_session.specs.Commands.{carried_out}
 
 -- The place is that of the frame among those of its connection; the turn counts the requests that this frame
--- lets be taken, and then the commands that are done, each from 0 on.
+-- lets be taken, and then the commands that are done, each from 0 on. A frame makes one R2T due at most.
 pub data Step : Type 0 where
   Judging : (place : ℕ) → Step
   Taking : (place : ℕ) (turn : ℕ) → Step
+  Asking : (place : ℕ) → Step
   Doing : (place : ℕ) (turn : ℕ) → Step
 
 abbrev pub is_step : Step → Step → Bool
 is_step (Judging p) (Judging q) = p == q
 is_step (Judging p) (Taking q j) = false
+is_step (Judging p) (Asking q) = false
 is_step (Judging p) (Doing q j) = false
 is_step (Taking p i) (Judging q) = false
 is_step (Taking p i) (Taking q j) = p == q && i == j
+is_step (Taking p i) (Asking q) = false
 is_step (Taking p i) (Doing q j) = false
+is_step (Asking p) (Judging q) = false
+is_step (Asking p) (Taking q j) = false
+is_step (Asking p) (Asking q) = p == q
+is_step (Asking p) (Doing q j) = false
 is_step (Doing p i) (Judging q) = false
 is_step (Doing p i) (Taking q j) = false
+is_step (Doing p i) (Asking q) = false
 is_step (Doing p i) (Doing q j) = p == q && i == j
 
 -- the frame of this place sets it off
 abbrev pub is_of : ℕ → Step → Bool
 is_of place (Judging p) = p == place
 is_of place (Taking p i) = p == place
+is_of place (Asking p) = p == place
 is_of place (Doing p i) = p == place
 
 -- a command is done; every other step serves a frame
 abbrev pub is_doing : Step → Bool
 is_doing (Judging p) = false
 is_doing (Taking p i) = false
+is_doing (Asking p) = false
 is_doing (Doing p i) = true
 
 abbrev pub is_serving : Step → Bool
@@ -74,13 +85,17 @@ judge frame work = record work { past = judged (verdict work.past frame) frame w
 unfoldable pub act : ℕ → Work → Work
 act k work = record work { past = acted k work.past; goes_on = not (ends work.past.params (frame_of work.past.came k)) }
 
+-- a command is asked for a part of its data by an R2T
+unfoldable pub ask : ℕ → Work → Work
+ask k work = record work { past = asked k work.past }
+
 -- a command is done and answered; it counts as finished before its answers are stamped
 abbrev pub answered_command : Outcome → ℕ → Past → Past
 answered_command done k past = answering (command_answers (stamp (finished k past)) past.params.values (frame_of past.came k) done) (finished k past)
 
 unfoldable pub finish : ℕ → Work → Work
 finish k work =
-    let p = carried_out work.units work.past.params.nexus (frame_of work.past.came k) in
+    let p = carried_out work.units work.past.params.nexus (frame_of work.past.came k) (payload_of work.past k) in
     record work { past = answered_command p.1 k work.past; units = p.0 }
 
 -- ---- one after the other
@@ -104,10 +119,26 @@ waiting_in past = length (held past) + length (due past)
 unfoldable pub act_all : (Step → Bool) → ℕ → Work → Work
 act_all fails place work = one_by_one fails (Taking place) due act 0 (waiting_in work.past) work
 
--- a frame is judged, and the requests that it lets be taken act
-unfoldable pub served : (Step → Bool) → ℕ → Frame → Work → Work
-served fails place frame work = act_all fails place (take_step fails (Judging place) (judge frame) work)
+-- the R2T that is due is sent
+unfoldable pub ask_due : (Step → Bool) → ℕ → Work → Work
+ask_due fails place work = first_steps fails (Asking place) ask (asking work.past) work
 
--- the commands that were taken are done
+-- a frame is judged, and the requests that it lets be taken act
+unfoldable pub taken_in : (Step → Bool) → ℕ → Frame → Work → Work
+taken_in fails place frame work = act_all fails place (take_step fails (Judging place) (judge frame) work)
+
+-- and the R2T that it made due is sent
+unfoldable pub served : (Step → Bool) → ℕ → Frame → Work → Work
+served fails place frame work = ask_due fails place (taken_in fails place frame work)
+
+-- the first command of the queue can be done where its data is whole
+abbrev pub ready_in : Past → List ℕ → List ℕ
+ready_in past [] = []
+ready_in past (k ∷ others) = if is_whole_of past k then k ∷ others else []
+
+unfoldable pub ready : Past → List ℕ
+ready past = ready_in past (queue past)
+
+-- the commands that were taken are done, up to the first whose data is not whole
 unfoldable pub settled : (Step → Bool) → ℕ → Work → Work
-settled fails place work = one_by_one fails (Doing place) queue finish 0 (length (queue work.past)) work
+settled fails place work = one_by_one fails (Doing place) ready finish 0 (length (queue work.past)) work

@@ -27,7 +27,7 @@ const ROOM_TO_ACT: usize = 99;
 const MOST_DATA: usize = 262_144;
 
 /// It is a SCSI Command.
-fn is_command(frame: &Frame) -> bool
+pub(crate) fn is_command(frame: &Frame) -> bool
     ensures { result ≡ is_command frame.now }
 {
     matches!(frame.header.opcode(), Opcode::ScsiCommand)

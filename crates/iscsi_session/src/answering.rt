@@ -36,6 +36,7 @@ impl Session {
         let Some(frame) = self.tasks.finish() else {
             return done.given.into_buffer();
         };
+        self.transfers.finish(frame.header.initiator_task_tag());
         let stamp = self.next_stamp();
         put_answers(out, stamp, &self.params.values, &frame, done)
     }

@@ -6,6 +6,8 @@ ghost use Rattle.iscsi_pdu.specs.Answer.{spelling};
 ghost use Rattle.iscsi_pdu.specs.Frames as pdu;
 ghost use Rattle.iscsi_login.specs.Values.{AreInRange};
 ghost use Rattle.iscsi_session.specs.Answers.{expected_length, data_sent, scsi_answer, command_answers, residual_of};
+ghost use Rattle.iscsi_pdu.specs.declared.answer.Answer.{Answer as AnyAnswer};
+ghost use Rattle.iscsi_session.specs.Transfers.{r2t_answers};
 ghost use Rattle.iscsi_session.specs.Judging.{reject};
 ghost use Rattle.scsi_unit.specs.DiskCommands.{most_given};
 ghost use Rattle.iscsi_session.specs.Room.{room_for, most_pieces, most_sent as most_data_sent};
@@ -14,7 +16,7 @@ use crate::data_ins::{count_of, put_around, put_data};
 use crate::fault::Memory;
 use bytes::BytesMut;
 use iscsi_login::Values;
-use iscsi_pdu::{Answer, Frame, Header, Reject, RejectReason, Residual, ScsiResponse, Stamp};
+use iscsi_pdu::{Answer, Frame, Header, R2t, Reject, RejectReason, Residual, ScsiResponse, Stamp};
 use media_block::BLOCK_LENGTH;
 use scsi_cdb::MOST_BLOCKS;
 use scsi_sense::{Done, Given, HEADROOM, TAILROOM};
@@ -169,6 +171,24 @@ pub(crate) fn rejected(reason: RejectReason, stamp: Stamp, header: Header) -> An
         stamp,
         header,
     })
+}
+
+/// An R2T (RFC 7143 §11.8).
+fn asking(r2t: R2t) -> Answer<'static>
+    ensures value { result ≡ AnyAnswer.R2t r2t }
+    ensures short { length (spelling result) ≤ 48 }
+{
+    Answer::R2t(r2t)
+}
+
+/// Writes an R2T, where there is one, and room for it.
+pub(crate) fn put_r2t(out: &mut BytesMut, r2t: Option<R2t>)
+    requires { 48 ≤ out.old.spare }
+    ensures { out.new.items ≡ out.old.items ++ flat_map spelling (r2t_answers r2t) }
+{
+    if let Some(r2t) = r2t {
+        put(out, &asking(r2t));
+    }
 }
 
 /// Makes room for all that a command is answered. Where an allocation fails the buffer holds what it held.

@@ -1,18 +1,22 @@
 //! The judging of a frame.
 
-ghost use Rattle.std.specs.Prelude.{◌≡◌, ◌++◌, ◌∷◌, ℕ, List, [], true, flat_map, IfOk, OnOk, OnErr};
+ghost use Rattle.std.specs.Prelude.{◌≡◌, ◌≢◌, ◌≤◌, ◌++◌, ◌∷◌, ℕ, List, [], true, flat_map, IfOk, OnOk, OnErr};
 ghost use Rattle.iscsi_pdu.specs.Answer.{spelling};
 ghost use Rattle.iscsi_pdu.specs.Frames as pdu;
-ghost use Rattle.iscsi_session.specs.Requests.{Past, unfinished, accepted, answering, stamp};
+ghost use Rattle.iscsi_pdu.specs.Header.{initiator_task_tag};
+ghost use Rattle.iscsi_session.specs.Requests.{Past, is_command as is_command_in, accepted, answering, stamp};
+ghost use Rattle.iscsi_session.specs.Transfers.{command_with, fed};
 ghost use Rattle.iscsi_session.specs.Judging.{verdict, is_fresh, command_verdict, judged, judged_answers, reject};
-ghost use Rattle.iscsi_session.specs.State.{Stands, is_vacant_for};
+ghost use Rattle.iscsi_session.specs.State.{Stands, is_vacant_for, judged_at, place_for, IsAcceptable, IsLawfulCommand};
 
+use crate::acting::is_command;
 use crate::answers::{put, rejected};
 use crate::fault::Memory;
 use crate::session::{RESERVED_TAG, Session};
 use crate::verdict::Verdict;
 use bytes::BytesMut;
 use iscsi_pdu::{Frame, Header, Opcode, RejectReason};
+use iscsi_transfer::command_fault;
 
 /// The length of a Reject, in bytes.
 const LONGEST_REJECT: usize = 96;
@@ -22,6 +26,7 @@ impl Session {
     /// and its data, in this order. One that is accepted is kept until it acts, and one that is rejected
     /// is answered at the end of the buffer. Where an allocation fails nothing changes.
     pub(crate) fn take(&mut self, frame: Frame, out: &mut BytesMut) -> Result<Verdict, Memory>
+        requires { 1 ≤ self.old.params.values.max_burst_length }
         ensures verdict { IfOk result (λ v. (past : Past) → Stands past self.old → v ≡ verdict past frame) }
         ensures stands { OnOk result ((past : Past) → Stands past self.old → Stands (judged (verdict past frame) frame past) self.new) }
         ensures out { OnOk result ((past : Past) → Stands past self.old
@@ -34,6 +39,7 @@ impl Session {
         let verdict = self.judge(&frame);
         match verdict {
             Verdict::Accepted => self.accept(frame)?,
+            Verdict::Feeding => self.feed(&frame),
             Verdict::Rejected(reason) => self.reject(reason, frame.header, out)?,
             Verdict::Ignored | Verdict::Dropped | Verdict::Violating => {}
         }
@@ -44,6 +50,8 @@ impl Session {
     fn judge(&self, frame: &Frame) -> Verdict
         ensures verdict { (past : Past) → Stands past self.now → result ≡ verdict past frame.now }
         ensures vacant { result ≡ Verdict.Accepted → is_vacant_for self.now.tasks frame.now ≡ true }
+        ensures acceptable { result ≡ Verdict.Accepted → IsAcceptable self.now frame.now }
+        ensures lawful { result ≡ Verdict.Feeding → judged_at self.now.transfers.list frame.now (place_for frame.now self.now.transfers.list) ≡ Verdict.Feeding }
     {
         let header = &frame.header;
         match header.opcode() {
@@ -55,12 +63,7 @@ impl Session {
                 Verdict::Ignored
             }
             Opcode::Login => Verdict::Violating,
-            Opcode::DataOut => {
-                if self.tasks.is_live(header.initiator_task_tag()) {
-                    return Verdict::Violating;
-                }
-                Verdict::Dropped
-            }
+            Opcode::DataOut => self.transfers.judge(frame),
             Opcode::Snack => Verdict::Rejected(RejectReason::Snack),
             Opcode::TaskManagement | Opcode::Text | Opcode::Other(_) => {
                 Verdict::Rejected(RejectReason::CommandNotSupported)
@@ -78,21 +81,23 @@ impl Session {
 
     /// What a SCSI Command is judged to be.
     fn judge_command(&self, frame: &Frame) -> Verdict
-        ensures verdict { (past : Past) → Stands past self.now → result ≡ command_verdict (is_fresh past frame.now) (unfinished past) frame.now }
+        ensures verdict { (past : Past) → Stands past self.now → result ≡ command_verdict past frame.now }
         ensures vacant { result ≡ Verdict.Accepted → is_vacant_for self.now.tasks frame.now ≡ true }
+        ensures acceptable { result ≡ Verdict.Accepted → IsLawfulCommand self.now frame.now }
+        ensures no_data { result ≢ Verdict.Feeding }
     {
         let header = &frame.header;
         if !self.is_fresh(frame) {
             return Verdict::Ignored;
         }
-        if header.is_immediate() && self.tasks.is_full() {
+        if header.is_immediate() && self.transfers.is_full() {
             return Verdict::Rejected(RejectReason::TooManyImmediate);
         }
         let tag = header.initiator_task_tag();
-        if tag == RESERVED_TAG || self.tasks.is_live(tag) {
+        if tag == RESERVED_TAG || self.transfers.is_live(tag) {
             return Verdict::Violating;
         }
-        if header.is_write() || !frame.body.is_empty() {
+        if command_fault(frame, &self.params.values).is_some() {
             return Verdict::Violating;
         }
         Verdict::Accepted
@@ -100,15 +105,44 @@ impl Session {
 
     /// A request that is accepted is kept until it acts. Where an allocation fails nothing changes.
     fn accept(&mut self, frame: Frame) -> Result<(), Memory>
-        requires { is_vacant_for self.old.tasks frame ≡ true }
+        requires burst { 1 ≤ self.old.params.values.max_burst_length }
+        requires vacant { is_vacant_for self.old.tasks frame ≡ true }
+        requires acceptable { IsAcceptable self.old frame }
         ensures stands { OnOk result ((past : Past) → Stands past self.old → Stands (accepted frame past) self.new) }
         ensures params { self.new.params ≡ self.old.params }
         ensures err { OnErr result (self.new ≡ self.old) }
     {
-        if frame.header.is_immediate() {
-            return self.tasks.admit(frame);
+        if is_command(&frame) {
+            return self.accept_command(frame);
         }
-        self.tasks.hold(frame.header.cmd_sn(), frame)
+        self.tasks.keep(frame)
+    }
+
+    /// A SCSI Command is kept, with the data that it brings. Where an allocation fails nothing changes.
+    fn accept_command(&mut self, frame: Frame) -> Result<(), Memory>
+        requires burst { 1 ≤ self.old.params.values.max_burst_length }
+        requires command { is_command_in frame ≡ true }
+        requires vacant { is_vacant_for self.old.tasks frame ≡ true }
+        requires lawful { IsLawfulCommand self.old frame }
+        ensures stands { OnOk result ((past : Past) → Stands past self.old → Stands (accepted frame past) self.new) }
+        ensures params { self.new.params ≡ self.old.params }
+        ensures err { OnErr result (self.new ≡ self.old) }
+    {
+        self.transfers.begin(&frame, &self.params.values)?;
+        if self.tasks.keep(frame).is_err() {
+            self.transfers.forget_last();
+            return Err(Memory);
+        }
+        Ok(())
+    }
+
+    /// The data of a Data-Out that is lawful is taken.
+    fn feed(&mut self, frame: &Frame)
+        requires { judged_at self.old.transfers.list frame.now (place_for frame.now self.old.transfers.list) ≡ Verdict.Feeding }
+        ensures stands { (past : Past) → Stands past self.old → Stands (fed (command_with past (initiator_task_tag frame.now.header)) frame.now past) self.new }
+        ensures params { self.new.params ≡ self.old.params }
+    {
+        self.transfers.feed(frame);
     }
 
     /// A frame is answered by a Reject. Where an allocation fails nothing changes.

@@ -2,14 +2,15 @@
 //! them to their answers.
 //!
 //! ```text
-//!   frame   judged   held in the window      due        queue      done
+//!   frame   judged   held in the window      due        queue      done, where its data is whole,
 //!   ----->  --------> behind a missing  ---> acts  ---> SCSI  ---> on the units,
 //!           rejected  number                 │          Commands   and answered
-//!                                            └ NOP-Out, Logout: answered at once
+//!                │                           └ NOP-Out, Logout: answered at once
+//!                └ Data-Out: the data of its command grows; where more is wanted, an R2T asks for it
 //! ```
 //!
-//! [`Session::serve`] judges a frame and lets the requests act that it lets be taken, and
-//! [`Session::settle`] does the commands that acted. What each call does is said of the session's past
+//! [`Session::serve`] judges a frame, lets the requests act that it lets be taken, and sends the R2T that it
+//! made due; [`Session::settle`] does the commands that acted and whose data is whole. What each call does is said of the session's past
 //! (`specs/Requests.antt`), plain lists in which a request is named by its place among those that came: a
 //! session that stood where one past is stands where its steps lead (`specs/Steps.antt`), all of them, or
 //! those before an allocation that failed. What holds of every past is in [`laws`].
@@ -26,6 +27,7 @@ pub mod laws;
 mod serving;
 mod session;
 mod tasks;
+mod transfers;
 mod verdict;
 
 pub use fault::Memory;

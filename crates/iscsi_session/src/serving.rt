@@ -1,15 +1,18 @@
 //! A frame of a session, and the commands that were taken.
 
-ghost use Rattle.std.specs.Prelude.{◌≡◌, ◌<◌, ◌≤◌, ◌++◌, ℕ, List, None, length, true, false, IfOk, OnOk, OnErr};
+ghost use Rattle.std.specs.Prelude.{◌≡◌, ◌<◌, ◌≤◌, ◌++◌, ℕ, List, None, length, flat_map, is_some, true, false, IfOk, OnOk, OnErr};
 ghost use Rattle.scsi_unit.specs.DiskCommands.{most_given};
 ghost use Rattle.scsi_unit.specs.Units.{UnitStates, AreSound, AreSure};
 ghost use Rattle.iscsi_login.specs.Values.{AreInRange};
-ghost use Rattle.iscsi_session.specs.Requests.{queue};
+ghost use Rattle.iscsi_pdu.specs.Answer.{spelling};
+ghost use Rattle.iscsi_session.specs.Requests.{Past};
+ghost use Rattle.iscsi_session.specs.Transfers.{asking, asked_by, r2ts_by};
+ghost use Rattle.iscsi_session.specs.State.{Stands, asking_place, is_waiting};
 ghost use Rattle.iscsi_session.specs.Commands.{carried_out};
-ghost use Rattle.iscsi_session.specs.Steps.{Work, is_doing, is_serving, finish, served, settled};
+ghost use Rattle.iscsi_session.specs.Steps.{Work, is_doing, is_serving, ready, finish, taken_in, served, settled};
 ghost use Rattle.iscsi_session.specs.Runs.{Starts, Runs, Stops, StepsFirst};
 
-use crate::answers::make_room;
+use crate::answers::{make_room, put_r2t};
 use crate::fault::Memory;
 use crate::session::Session;
 use crate::verdict::Verdict;
@@ -20,39 +23,62 @@ use scsi_sense::{Condition, Done, Nexus, Sense};
 use scsi_unit::Units;
 use std::alloc::Global;
 
-/// A command with an additional header is answered INVALID FIELD IN CDB in place of being done. Where
-/// an allocation fails nothing changes.
+/// The length of an R2T, in bytes.
+const R2T_LENGTH: usize = 48;
+
+/// A command with all its data is done. One with an additional header, or with both R and W, is answered
+/// INVALID FIELD IN CDB in place of being done. Where an allocation fails nothing changes.
 #[tactic(auto, unfolding(crate::specs::Commands::carried_out))]
 fn carry_out<S: Store>(
     alloc: Global,
     units: &mut Units<S>,
     nexus: &Nexus,
     frame: &Frame,
+    payload: &[u8],
 ) -> Result<Done, Memory>
-    ensures done { IfOk result (λ done. AreSound units.new → (units.new, done) ≡ carried_out units.old nexus.now frame.now) }
+    ensures done { IfOk result (λ done. AreSound units.new → (units.new, done) ≡ carried_out units.old nexus.now frame.now payload.now) }
     ensures back { AreSound units.new → AreSound units.old }
     ensures sure { AreSure units.old → AreSure units.new }
     ensures given { IfOk result (λ done. length done.given ≤ most_given) }
     ensures err { OnErr result (units.new ≡ units.old) }
 {
     let header = &frame.header;
-    if header.additional_length() > 0 {
+    if header.additional_length() > 0 || header.is_read() && header.is_write() {
         let sense = Sense::new(Condition::InvalidFieldInCdb);
         return Ok(Done::check_condition(alloc, sense));
     }
-    let done = units.perform(nexus, header.lun(), header.cdb(), frame.body.as_slice())?;
+    let done = units.perform(nexus, header.lun(), header.cdb(), payload)?;
     Ok(done)
 }
 
 impl Session {
-    /// A frame is judged, and the requests that it lets be taken act; what they are answered is added at the
-    /// end of the buffer. It tells whether the session goes on: a violation and a Logout that closes end it.
+    /// A frame is judged, the requests that it lets be taken act, and the R2T that it makes due is sent; all
+    /// of that is added at the end of the buffer. It tells whether the session goes on: a violation and a Logout that closes end it.
     /// Where an allocation fails the session is to be closed: the steps before it were done and answered whole.
     pub fn serve(&mut self, frame: Frame, out: &mut BytesMut) -> Result<bool, Memory>
+        requires { AreInRange self.old.params.values }
         ensures ok { IfOk result (λ goes_on. (units : UnitStates)
             → Runs (λ fails place. served fails place frame) None goes_on self.old self.new out.old.items out.new.items units units) }
         ensures err { OnErr result (Stops is_serving (λ failed. (units : UnitStates)
             → Runs (λ fails place. served fails place frame) failed false self.old self.new out.old.items out.new.items units units)) }
+        ensures grows { (more : List ℕ) × (out.new.items ≡ out.old.items ++ more) }
+        ensures params { self.new.params ≡ self.old.params }
+    {
+        if !self.take_in(frame, out)? {
+            return Ok(false);
+        }
+        self.ask_due(out)?;
+        Ok(true)
+    }
+
+    /// A frame is judged, and the requests that it lets be taken act. It tells whether the session goes on. Where
+    /// an allocation fails the steps before it were done.
+    fn take_in(&mut self, frame: Frame, out: &mut BytesMut) -> Result<bool, Memory>
+        requires { AreInRange self.old.params.values }
+        ensures ok { IfOk result (λ goes_on. (units : UnitStates)
+            → Runs (λ fails place. taken_in fails place frame) None goes_on self.old self.new out.old.items out.new.items units units) }
+        ensures err { OnErr result (Stops is_serving (λ failed. (units : UnitStates)
+            → Runs (λ fails place. taken_in fails place frame) failed false self.old self.new out.old.items out.new.items units units)) }
         ensures grows { (more : List ℕ) × (out.new.items ≡ out.old.items ++ more) }
         ensures params { self.new.params ≡ self.old.params }
     {
@@ -62,7 +88,28 @@ impl Session {
         self.act_all(out)
     }
 
-    /// The commands that were taken are done on the target's units and answered, one after the other. Where
+    /// The R2T that is due is added at the end of the buffer. Where an allocation fails nothing changes.
+    fn ask_due(&mut self, out: &mut BytesMut) -> Result<(), Memory>
+        ensures stands { OnOk result ((past : Past) → Stands past self.old → Stands (asked_by (asking past) past) self.new) }
+        ensures out { OnOk result ((past : Past) → Stands past self.old → out.new.items ≡ out.old.items ++ flat_map spelling (r2ts_by (asking past) past)) }
+        ensures grows { (more : List ℕ) × (out.new.items ≡ out.old.items ++ more) }
+        ensures params { self.new.params ≡ self.old.params }
+        ensures due { OnErr result (is_some (asking_place self.old.transfers.list) ≡ true) }
+        ensures err { OnErr result (self.new ≡ self.old) }
+        ensures out_err { OnErr result (out.new.items ≡ out.old.items) }
+    {
+        if !self.transfers.is_asking() {
+            return Ok(());
+        }
+        out.reserve(R2T_LENGTH)?;
+        let stamp = self.stamp();
+        let r2t = self.transfers.ask(stamp);
+        put_r2t(out, r2t);
+        Ok(())
+    }
+
+    /// The commands that were taken are done on the target's units and answered, one after the other, up to
+    /// the first whose data has not all come. Where
     /// an allocation fails the session is to be closed: the steps before it were done and answered whole.
     pub fn settle<S: Store>(
         &mut self,
@@ -83,7 +130,7 @@ impl Session {
         Ok(())
     }
 
-    /// The first command of the queue is done and answered: whether there was one. All room is made before
+    /// The first command of the queue is done and answered, where its data is whole: whether it was. All room is made before
     /// the units act, so that where an allocation fails nothing changes.
     fn finish<S: Store>(
         &mut self,
@@ -93,13 +140,13 @@ impl Session {
     ) -> Result<bool, Memory>
         requires { AreInRange self.old.params.values }
         ensures steps { IfOk result (λ more. AreSound units.new → (work : Work) → Starts work self.old units.old
-            → StepsFirst finish (queue work.past) work more self.old self.new out.old.items out.new.items units.new) }
+            → StepsFirst finish (ready work.past) work more self.old self.new out.old.items out.new.items units.new) }
         ensures fewer { IfOk result (λ more. more ≡ true → length self.new.tasks.queue < length self.old.tasks.queue) }
         ensures back { AreSound units.new → AreSound units.old }
         ensures sure { AreSure units.old → AreSure units.new }
         ensures grows { (more : List ℕ) × (out.new.items ≡ out.old.items ++ more) }
         ensures params { self.new.params ≡ self.old.params }
-        ensures queue { OnErr result (0 < length self.old.tasks.queue) }
+        ensures waits { OnErr result (is_waiting self.old ≡ false) }
         ensures err { OnErr result (self.new ≡ self.old) }
         ensures out_err { OnErr result (out.new.items ≡ out.old.items) }
         ensures units_err { OnErr result (units.new ≡ units.old) }
@@ -108,7 +155,8 @@ impl Session {
             return Ok(false);
         };
         make_room(out, &self.params.values, frame)?;
-        let done = carry_out(alloc, units, &self.params.nexus, frame)?;
+        let payload = self.transfers.payload(frame.header.initiator_task_tag());
+        let done = carry_out(alloc, units, &self.params.nexus, frame, payload)?;
         // There is room for the answers, so nothing fails any more.
         let buffer = self.done(out, done);
         units.give_back(buffer);

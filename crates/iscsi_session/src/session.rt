@@ -1,11 +1,12 @@
 //! A session in full feature phase.
 
-ghost use Rattle.std.specs.Prelude.{◌≡◌, ◌∷◌, List, [], drop, IfSome, IfNone};
+ghost use Rattle.std.specs.Prelude.{◌≡◌, ◌∷◌, List, drop, true, IfSome, IfNone};
 ghost use Rattle.iscsi_pdu.specs.declared.answer.Answer.{Answer};
 ghost use Rattle.iscsi_session.specs.Requests.{Past, begun, bearing, stamp, answering};
-ghost use Rattle.iscsi_session.specs.State.{remembered, Stands};
+ghost use Rattle.iscsi_session.specs.State.{remembered, Stands, whole_at, place_for, is_waiting};
 
 use crate::tasks::Tasks;
+use crate::transfers::Transfers;
 use iscsi_login::Params;
 use iscsi_order::Stat;
 use iscsi_pdu::{Frame, Stamp};
@@ -22,6 +23,7 @@ pub struct Session {
     pub(crate) params: Params,
     pub(crate) stat: Stat,
     pub(crate) tasks: Tasks,
+    pub(crate) transfers: Transfers,
 }
 
 impl Model for Session {
@@ -29,7 +31,7 @@ impl Model for Session {
 
     ghost Value = { SessionState };
 
-    ghost view = { λ s. record { params = s.params; stat = s.stat; tasks = s.tasks } };
+    ghost view = { λ s. record { params = s.params; stat = s.stat; tasks = s.tasks; transfers = s.transfers } };
 }
 
 impl Session {
@@ -40,6 +42,7 @@ impl Session {
         Session {
             stat: Stat::new(params.next_stat_sn),
             tasks: Tasks::new(alloc, params.first_cmd_sn),
+            transfers: Transfers::new(alloc),
             params,
         }
     }
@@ -65,11 +68,30 @@ impl Session {
         }
     }
 
-    /// The first command of the queue: it is to be done now, and then it is answered by [`Session::done`].
+    /// The sequence numbers of an R2T: StatSN is the next one, and is not used by it (RFC 7143 §11.8.2).
+    pub(crate) fn stamp(&self) -> Stamp
+        ensures { (past : Past) → Stands past self.now → result ≡ stamp past }
+    {
+        let numbers = self.tasks.numbers();
+        Stamp {
+            stat_sn: self.stat.now(),
+            exp_cmd_sn: numbers.exp_cmd_sn,
+            max_cmd_sn: numbers.max_cmd_sn,
+        }
+    }
+
+    /// The first command of the queue, where all its data has come: it is to be done now, and then it is
+    /// answered by [`Session::done`].
     pub(crate) fn first(&self) -> Option<&Frame>
         ensures some { IfSome result (λ frame. self.now.tasks.queue ≡ frame.now ∷ drop 1 self.now.tasks.queue) }
-        ensures none { IfNone result (self.now.tasks.queue ≡ []) }
+        ensures whole { IfSome result (λ frame. whole_at self.now.transfers.list (place_for frame.now self.now.transfers.list) ≡ true) }
+        ensures none { IfNone result (is_waiting self.now ≡ true) }
     {
-        self.tasks.first()
+        let frame = self.tasks.first()?;
+        if self.transfers.is_whole(frame.header.initiator_task_tag()) {
+            Some(frame)
+        } else {
+            None
+        }
     }
 }

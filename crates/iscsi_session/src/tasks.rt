@@ -1,23 +1,18 @@
 //! The requests of a session that are not finished, and their numbers.
 
-ghost use Rattle.std.specs.Prelude.{◌≡◌, ◌≤◌, ◌<◌, ◌+◌, ◌++◌, ◌∷◌, List, [], true, length, filter, filter_map, map, drop, vec_capacity, IfSome, IfNone, OnOk, OnErr};
+ghost use Rattle.std.specs.Prelude.{◌≡◌, ◌≤◌, ◌+◌, ◌++◌, ◌∷◌, List, [], true, length, drop, vec_capacity, IfSome, IfNone, OnOk, OnErr};
 ghost use Rattle.iscsi_order.specs.Window as order;
 ghost use Rattle.iscsi_order.specs.WindowState as window;
 ghost use Rattle.iscsi_pdu.specs.Frames as pdu;
-ghost use Rattle.iscsi_session.specs.Requests.{is_command};
-ghost use Rattle.iscsi_session.specs.Judging.{is_live, is_full, is_immediate_command};
-ghost use Rattle.iscsi_session.specs.State.{no_tasks, window_of, is_vacant, holding, takes_all, one_fewer};
-ghost use Rattle.iscsi_session.specs.Tasks.{requests_at, keys_in, held_at, moves_all};
+ghost use Rattle.iscsi_session.specs.State.{no_tasks, window_of, is_vacant, is_vacant_for, holding, kept, takes_all, one_fewer};
+ghost use Rattle.iscsi_session.specs.Tasks.{moves_all};
 
 use crate::fault::Memory;
 use iscsi_order::{CommandNumbers, Window};
-use iscsi_pdu::{Frame, Opcode};
+use iscsi_pdu::Frame;
 use slab::Slab;
 use std::alloc::Global;
 use std::marker::Model;
-
-/// So many SCSI Commands for immediate delivery may be unfinished.
-const MOST_IMMEDIATE: usize = 8;
 
 /// The requests of a session that are not finished. They stand in a slab, so that one that moves from
 /// one line to another is not copied. Clauses see the three lines, and the window of the numbers.
@@ -44,61 +39,6 @@ impl Model for Tasks {
     ghost invariant = { λ t. AreLines t.requests (keys_in t.window.keys) t.due.items t.queue.items };
 }
 
-/// It is a SCSI Command.
-fn is_command(frame: &Frame) -> bool
-    ensures { result ≡ is_command frame.now }
-{
-    frame.header.opcode() == Opcode::ScsiCommand
-}
-
-/// One of these requests is a SCSI Command with this tag.
-fn has_tag(requests: &Slab<Frame>, keys: &[usize], tag: u32) -> bool
-    ensures { result ≡ is_live (requests_at requests.now keys.now) tag }
-{
-    for key in keys {
-        if let Some(frame) = requests.get(*key)
-            && is_command(frame)
-            && frame.header.initiator_task_tag() == tag
-        {
-            return true;
-        }
-    }
-    false
-}
-
-/// One of the requests that are held is a SCSI Command with this tag.
-fn has_held_tag(requests: &Slab<Frame>, keys: &[Option<usize>], tag: u32) -> bool
-    ensures { result ≡ is_live (filter_map (λ o. o) (map (held_at requests.now) keys.now)) tag }
-{
-    for place in keys {
-        if let Some(key) = place
-            && let Some(frame) = requests.get(*key)
-            && is_command(frame)
-            && frame.header.initiator_task_tag() == tag
-        {
-            return true;
-        }
-    }
-    false
-}
-
-/// How many of these requests are SCSI Commands for immediate delivery.
-fn immediate_commands(requests: &Slab<Frame>, keys: &[usize]) -> usize
-    ensures count { result ≡ length (filter is_immediate_command (requests_at requests.now keys.now)) }
-    ensures few { result ≤ length keys.now }
-{
-    let mut count = 0;
-    for key in keys {
-        if let Some(frame) = requests.get(*key)
-            && is_command(frame)
-            && frame.header.is_immediate()
-        {
-            count += 1;
-        }
-    }
-    count
-}
-
 /// The keys of all numbers that come before the first missing one are handed over, in order. There must be
 /// room for them.
 fn take_ready(window: &mut Window, due: &mut Vec<usize>)
@@ -123,8 +63,20 @@ impl Tasks {
         }
     }
 
+    /// A request that is accepted is kept until it acts. Where an allocation fails nothing changes.
+    pub(crate) fn keep(&mut self, frame: Frame) -> Result<(), Memory>
+        requires { is_vacant_for self.old frame ≡ true }
+        ensures ok { OnOk result (self.new ≡ kept frame self.old) }
+        ensures err { OnErr result (self.new ≡ self.old) }
+    {
+        if frame.header.is_immediate() {
+            return self.admit(frame);
+        }
+        self.hold(frame.header.cmd_sn(), frame)
+    }
+
     /// A request for immediate delivery is taken at once. Where an allocation fails nothing changes.
-    pub(crate) fn admit(&mut self, frame: Frame) -> Result<(), Memory>
+    fn admit(&mut self, frame: Frame) -> Result<(), Memory>
         ensures ok { OnOk result (self.new ≡ record self.old { due = self.old.due ++ frame ∷ [] }) }
         ensures err { OnErr result (self.new ≡ self.old) }
     {
@@ -136,7 +88,7 @@ impl Tasks {
 
     /// A request with a number is held, and all that come before the first missing number are taken. Where
     /// an allocation fails nothing changes.
-    pub(crate) fn hold(&mut self, number: u32, frame: Frame) -> Result<(), Memory>
+    fn hold(&mut self, number: u32, frame: Frame) -> Result<(), Memory>
         requires { is_vacant self.old number ≡ true }
         ensures ok { OnOk result (self.new ≡ takes_all (holding number frame self.old)) }
         ensures err { OnErr result (self.new ≡ self.old) }
@@ -162,24 +114,6 @@ impl Tasks {
         ensures { (past : order.Past) → window.Stands past (window_of self.now) → result ≡ order.numbers_of past }
     {
         self.window.numbers()
-    }
-
-    /// A SCSI Command with this tag is not finished.
-    pub(crate) fn is_live(&self, tag: u32) -> bool
-        ensures { result ≡ is_live (filter_map (λ o. o) self.now.held ++ self.now.due ++ self.now.queue) tag }
-    {
-        has_held_tag(&self.requests, self.window.held(), tag)
-            || has_tag(&self.requests, &self.due, tag)
-            || has_tag(&self.requests, &self.queue, tag)
-    }
-
-    /// As many SCSI Commands for immediate delivery as may be are not finished. None of them is held.
-    pub(crate) fn is_full(&self) -> bool
-        ensures { result ≡ is_full (self.now.due ++ self.now.queue) }
-    {
-        let due = immediate_commands(&self.requests, &self.due);
-        let queued = immediate_commands(&self.requests, &self.queue);
-        due + queued >= MOST_IMMEDIATE
     }
 
     /// The first that is due.

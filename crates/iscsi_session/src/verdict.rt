@@ -15,4 +15,6 @@ pub(crate) enum Verdict {
     Violating,
     /// It acts in its turn.
     Accepted,
+    /// It brings data of a command.
+    Feeding,
 }

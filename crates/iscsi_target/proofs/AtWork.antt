@@ -9,15 +9,14 @@ use Rattle.iscsi_login.specs.declared.params.Params.{Params}
 use Rattle.scsi_unit.specs.Units.{UnitStates}
 use Rattle.iscsi_session.specs.Requests.{Past}
 use Rattle.iscsi_session.specs.State.{SessionState, IsLawful, remembered}
-use Rattle.iscsi_session.specs.Steps.{Step, Judging, Taking, Doing, is_step, is_of, is_doing, is_serving, Work, served, settled}
-use Rattle.iscsi_session.specs.Runs.{Starts, Leaves, is_failed, IsReached, Runs, Stops}
+use Rattle.iscsi_session.specs.Steps.{Step, Judging, Taking, Asking, Doing, is_of, is_doing, is_serving, Work, served, settled}
+use Rattle.iscsi_session.specs.Runs.{Starts, is_failed, IsReached, Runs}
 use Rattle.iscsi_session.proofs.Steps.{served_agrees, settled_agrees}
-use Rattle.iscsi_target.specs.History.{Point, Before, Mark, is_same, is_within, connection_limit}
-use Rattle.iscsi_target.specs.Life.{Life, Phase, FullFeature}
-use Rattle.iscsi_target.specs.World.{Setting, World, present, past_of, is_marked, fails, work_of, with_past, changed, reaching, close, worked_on, worked, served_by, take_in, settled_by, settle_one}
-use Rattle.iscsi_target.specs.Machine.{LinkState, Machine, IsSound, link_at, with_link, closed}
+use Rattle.iscsi_target.specs.History.{Point, Before, Mark, is_same, connection_limit}
+use Rattle.iscsi_target.specs.World.{Setting, World, present, past_of, is_marked, fails, work_of, changed, close, worked_on, worked, served_by, take_in, settled_by, settle_one}
+use Rattle.iscsi_target.specs.Machine.{Machine, IsSound, link_at, with_link}
 use Rattle.iscsi_target.specs.Stands.{IsQuiet, IsQuietIn, are_reached}
-use Rattle.iscsi_target.specs.Serving.{Serves, Begins, Agrees, Does, kept, is_taken_at, is_done_at, is_done_by, has_step, SettlesOne}
+use Rattle.iscsi_target.specs.Serving.{Serves, Begins, Agrees, Does, kept, is_taken_at, is_done_by, SettlesOne}
 use Rattle.iscsi_target.specs.declared.phase.Phase.TheVariants as phases
 use Rattle.iscsi_target.proofs.Choices.{cond_true, eqb_self}
 use Rattle.iscsi_target.proofs.Linked.{units_with}
@@ -163,6 +162,7 @@ serve_agrees failed c frame place marks work agree =
     served_agrees (fails marks c) (is_failed failed place) place frame work
     (step_there is_taken_at failed c place marks (Judging place) agree (rw (eqb_self place) refl))
     (λ k. step_there is_taken_at failed c place marks (Taking place k) agree (rw (eqb_self place) refl))
+    (step_there is_taken_at failed c place marks (Asking place) agree (rw (eqb_self place) refl))
 
 pub settle_agrees : (failed : Option (ℕ → Step)) (c place : ℕ) (marks : List Mark) (work : Work)
     → Agrees (is_done_by c place) marks (marks_of c failed place) → settled (fails marks c) place work ≡ settled (is_failed failed place) place work

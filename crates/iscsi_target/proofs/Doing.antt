@@ -1,15 +1,14 @@
 -- Calls one after the other: what each of them does, and what they do together.
-use Rattle.std.proofs.Common.{◌≡◌, ◌≢◌, ℕ, ◌+◌, ◌<◌, List, [], ◌∷◌, ◌++◌, Bool, true, false, ◌||◌, eqb, Option, Some, None, refl, sym, ap, ◌∙◌, subst}
+use Rattle.std.proofs.Common.{◌≡◌, ℕ, List, [], ◌∷◌, ◌++◌, Bool, true, ◌||◌, Option, Some, None, refl, sym, ap, ◌∙◌, subst}
 use Rattle.std.specs.List.{list_any, list_all}
-use Rattle.std.proofs.lemmas.List.{append-nil}
 use Rattle.std.proofs.lemmas.List.Folds.{list_any-append}
-use Rattle.iscsi_target.specs.History.{Point, Mark, is_same}
-use Rattle.iscsi_target.specs.World.{Setting, World, is_marked}
+use Rattle.iscsi_target.specs.History.{Mark, is_same}
+use Rattle.iscsi_target.specs.World.{Setting, World}
 use Rattle.iscsi_target.specs.Machine.{Machine, IsSound}
-use Rattle.iscsi_target.specs.Stands.{IsFirst, are_reached}
-use Rattle.iscsi_target.specs.Serving.{Serves, Begins, Agrees, Does, kept, first_of}
+use Rattle.iscsi_target.specs.Stands.{are_reached}
+use Rattle.iscsi_target.specs.Serving.{Serves, Begins, Agrees, Does, first_of}
 use Rattle.iscsi_target.proofs.Choices.{and_true}
-use Rattle.iscsi_target.proofs.Marks.{mark_at, same_self, Apart, Wider, agrees_left, agrees_right, all_wider, all_append}
+use Rattle.iscsi_target.proofs.Marks.{Apart, Wider, agrees_left, agrees_right, all_wider, all_append}
 use Rattle.iscsi_target.proofs.Keeping.{Goes}
 
 abbrev pub Act : Type 0

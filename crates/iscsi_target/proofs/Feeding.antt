@@ -1,30 +1,29 @@
 -- A whole event of bytes keeps the code where the World is.
-use Rattle.std.proofs.Common.{◌≡◌, ◌≢◌, ℕ, ◌+◌, ◌<◌, ◌≤◌, List, [], ◌∷◌, ◌++◌, length, map, drop, set, get_or, Bool, true, false, not, ◌&&◌, eqb, Option, Some, None, refl, sym, ap, ◌∙◌, subst, arith, inl, inr}
-use Rattle.std.specs.Prelude.{All, nat_lt, Result, Ok, Err, OnOk, IfErr}
-use Rattle.std.specs.List.{fold, enumerate_from, list_all, list_any}
+use Rattle.std.proofs.Common.{◌≡◌, ◌≢◌, ℕ, ◌+◌, ◌<◌, List, [], ◌∷◌, ◌++◌, length, drop, Bool, true, false, ◌&&◌, eqb, Option, Some, None, refl, sym, ap, ◌∙◌, subst, arith, inl, inr}
+use Rattle.std.specs.Prelude.{All, Result, Ok, Err, OnOk, IfErr}
+use Rattle.std.specs.List.{fold, enumerate_from}
 use Rattle.std.proofs.lemmas.Bool.Decides.{eqb_tells}
-use Rattle.std.proofs.lemmas.List.{append-nil, length-set, set-get_or, get_or-set_same, drop_all}
+use Rattle.std.proofs.lemmas.List.{append-nil, get_or-set_same, drop_all}
 use Rattle.std.proofs.lemmas.List.FromFn.{length-enumerate_from}
 use Rattle.iscsi_pdu.specs.Frames.{rest, is_long}
 use Rattle.iscsi_pdu.proofs.Cuts.{rest_in_pieces}
-use Rattle.scsi_unit.specs.Units.{UnitStates, AreSound, AreSure}
-use Rattle.iscsi_target.specs.History.{Bytes, Arriving, Before, AtEnd, Point, Mark, History, Arrival, arrivals, new_arrivals, plain, marked, is_same, connection_limit}
-use Rattle.iscsi_target.specs.Life.{Life, Phase, LoggingIn, FullFeature, Closing, Over, is_over, reads, out_of}
-use Rattle.iscsi_target.specs.World.{Setting, World, is_present, present, changed, reads_life, is_marked, close, reaching, take_step, arrive, brought, longer, bring, world}
-use Rattle.iscsi_target.specs.Output.{out_now}
-use Rattle.iscsi_target.specs.Machine.{LinkState, Machine, IsSound, IsSure, WhereSound, Feeds, link_at, with_link, closed, is_reading, is_open_at, free_link}
-use Rattle.iscsi_target.specs.Stands.{phase_for, link_of, machine_with, half_of, IsQuietIn, IsQuiet, IsShort, IsFirst, IsStarved, StandsAt, Stands, are_reached}
-use Rattle.iscsi_target.specs.Serving.{Serves, first_starved, Begins, with_half, has_place, is_among, KeepsHalf, TakesAll}
+use Rattle.scsi_unit.specs.Units.{UnitStates, AreSound}
+use Rattle.iscsi_target.specs.History.{Bytes, Arriving, AtEnd, Point, Mark, History, Arrival, arrivals, new_arrivals, plain, marked, connection_limit}
+use Rattle.iscsi_target.specs.Life.{Life, Phase, LoggingIn, FullFeature, Closing, Over, reads}
+use Rattle.iscsi_target.specs.World.{Setting, World, present, changed, reads_life, is_marked, close, reaching, take_step, arrive, brought, longer, bring, world}
+use Rattle.iscsi_target.specs.Machine.{LinkState, Machine, IsSound, WhereSound, Feeds, link_at, with_link, closed, is_reading, is_open_at, free_link}
+use Rattle.iscsi_target.specs.Stands.{phase_for, link_of, half_of, IsShort, IsStarved, StandsAt, Stands, are_reached}
+use Rattle.iscsi_target.specs.Serving.{Serves, first_starved, Begins, with_half, is_among, TakesAll}
 use Rattle.iscsi_target.specs.declared.fault.Starved.{Starved}
 use Rattle.iscsi_target.proofs.Arrivals.{new_is}
 use Rattle.iscsi_target.proofs.Moving.{own_self, changes_feeds}
-use Rattle.iscsi_target.proofs.Choices.{eqb_self, cond_true, cond_false, and_true}
-use Rattle.iscsi_target.proofs.Lives.{present-changed, present-changed_other, present-lives, present_is}
-use Rattle.iscsi_target.proofs.Marks.{mark_at, same_self, marked_one, marked_none, unmarked}
+use Rattle.iscsi_target.proofs.Choices.{eqb_self, cond_true, cond_false}
+use Rattle.iscsi_target.proofs.Lives.{present-changed, present-changed_other, present_is}
+use Rattle.iscsi_target.proofs.Marks.{mark_at, marked_one, marked_none, unmarked}
 use Rattle.iscsi_target.proofs.Keeping.{Goes, Stays, on-close, on-reaching, on-fold, on-arrive, on-then, on-same, out-longer}
-use Rattle.iscsi_target.proofs.Linked.{link_is, reads_there, some_reads, closes, present-close, present-close_other, serves_as, serves_world, serves_reaching, present-reaching, units_with}
+use Rattle.iscsi_target.proofs.Linked.{reads_there, some_reads, closes, present-close, serves_as, serves_reaching, present-reaching}
 use Rattle.iscsi_target.proofs.Standing.{fresh, present-fresh, stands_as, machine_same, serving, link_stands, is_open_there, count_stands}
-use Rattle.iscsi_target.proofs.Frames.{idle, idle_step, unmarked_step, marked_step}
+use Rattle.iscsi_target.proofs.Frames.{idle_step, unmarked_step, marked_step}
 use Rattle.iscsi_target.proofs.Doing.{still_reached}
 use Rattle.iscsi_target.proofs.AtWork.{last_there}
 use Rattle.iscsi_target.proofs.Taking.{halving, rehalved, halves_idle, half_twice, idle_all, serves_halves}

@@ -1,7 +1,7 @@
 -- What taking a frame does: by the phase of its connection.
-use Rattle.std.proofs.Common.{◌≡◌, ℕ, ◌+◌, ◌<◌, List, [], ◌∷◌, ◌++◌, length, get_or, Bool, true, false, ◌&&◌, eqb, Option, Some, None, refl, sym, ap, ◌∙◌, subst, arith, inl, inr}
-use Rattle.std.specs.Prelude.{◌⊎◌, nat_lt}
-use Rattle.std.specs.List.{list_any, list_all, fold, range_with_len}
+use Rattle.std.proofs.Common.{◌≡◌, ℕ, ◌+◌, ◌<◌, List, [], ◌∷◌, Bool, true, false, ◌&&◌, eqb, Option, Some, None, refl, sym, ap, ◌∙◌, subst, arith}
+use Rattle.std.specs.Prelude.{nat_lt}
+use Rattle.std.specs.List.{list_all, fold, range_with_len}
 use Rattle.std.proofs.lemmas.List.Sums.{fold-append}
 use Rattle.std.proofs.lemmas.Bool.{ltb-true, lt-ltb, le-ltb, eqb-true, ne_eqb}
 use Rattle.iscsi_pdu.specs.Frames.{Frame}
@@ -10,21 +10,21 @@ use Rattle.iscsi_login.specs.LoginState.{LoginState}
 use Rattle.iscsi_session.specs.Requests.{Past}
 use Rattle.iscsi_session.specs.State.{SessionState, remembered as session_remembered}
 use Rattle.iscsi_session.specs.Steps.{Step, served}
-use Rattle.iscsi_target.specs.History.{Point, Arriving, Before, Mark, is_same, Arrival, Whole, connections, connection_limit}
+use Rattle.iscsi_target.specs.History.{Point, Arriving, Mark, Arrival, Whole, connection_limit}
 use Rattle.iscsi_target.specs.Life.{Life, Phase, LoggingIn, FullFeature, Closing, Over, reads}
-use Rattle.iscsi_target.specs.World.{Setting, World, present, reads_life, is_marked, close, reaching, take_step, log_in, take_in, settle_one, settle, serve, is_login, enter, taken_in, taken_by, comes, arrive}
+use Rattle.iscsi_target.specs.World.{Setting, World, present, reads_life, is_marked, close, reaching, take_step, log_in, take_in, settle_one, settle, serve, is_login, taken_in, taken_by, comes, arrive}
 use Rattle.iscsi_target.specs.Machine.{LinkState, Machine, IsSound, link_at, is_reading, closed, logged_in}
 use Rattle.iscsi_target.specs.Stands.{phase_for, link_of, are_reached}
 use Rattle.iscsi_target.specs.Serving.{Serves, Agrees, Does, kept, first_of, is_of_frame, is_taken_at, is_done_at, is_done_by, is_done_below, Takes, Settles, SettlesOne}
 use Rattle.iscsi_target.specs.declared.phase.Phase.TheVariants as phases
 use Rattle.iscsi_target.proofs.Choices.{eqb_self, cond_true, cond_false, and_true, and_false}
 use Rattle.iscsi_target.proofs.Lists.{range_next}
-use Rattle.iscsi_target.proofs.Linked.{link_is, reads_there, some_reads, closes, present-close, present-reaching, serves_as, serves_world, serves_reaching}
+use Rattle.iscsi_target.proofs.Linked.{link_is, reads_there, some_reads, closes, present-reaching, serves_as, serves_world, serves_reaching}
 use Rattle.iscsi_target.proofs.LoggingIn.{Entering, logs_in}
-use Rattle.iscsi_target.proofs.Marks.{mark_at, same_self, marked_one, marked_none, unmarked, Apart, Wider, all_wider, is_step_at, taken_done, done_taken, taken_step, done_step, step_within}
+use Rattle.iscsi_target.proofs.Marks.{mark_at, marked_one, marked_none, unmarked, Apart, Wider, all_wider, is_step_at, taken_done, done_taken, taken_step, done_step, step_within}
 use Rattle.iscsi_target.proofs.Working.{at_work}
-use Rattle.iscsi_target.proofs.Keeping.{Goes, on-close, on-same, on-settle, on-settle_one}
-use Rattle.iscsi_target.proofs.Doing.{Act, still_reached, does_nothing, does_as, does_then}
+use Rattle.iscsi_target.proofs.Keeping.{on-close, on-settle, on-settle_one}
+use Rattle.iscsi_target.proofs.Doing.{still_reached, does_nothing, does_as, does_then}
 use Rattle.iscsi_target.proofs.AtWork.{last_there, marks_of, starved_if, Calls, serves_does}
 
 -- ---- a connection that does not read

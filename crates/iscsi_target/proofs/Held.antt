@@ -4,8 +4,7 @@ use Rattle.std.specs.Prelude.{All, slice_index_or, slice_set, Result, Ok, Err, I
 use Rattle.iscsi_pdu.specs.Frames.{Frame}
 use Rattle.std.specs.List.{list_all}
 use Rattle.std.proofs.lemmas.Bool.{ne_eqb}
-use Rattle.std.proofs.lemmas.List.{length-set, set-get_or, get_or-set_same, get_or_default}
-use Rattle.iscsi_login.specs.declared.params.Params.{Params}
+use Rattle.std.proofs.lemmas.List.{length-set, set-get_or, get_or-set_same}
 use Rattle.scsi_unit.specs.Units.{UnitStates, AreSound, AreSure}
 use Rattle.iscsi_session.specs.Requests.{Past}
 use Rattle.iscsi_session.specs.State.{SessionState, remembered}
@@ -14,15 +13,15 @@ use Rattle.iscsi_session.specs.Runs.{Runs, Stops}
 use Rattle.iscsi_target.specs.History.{Mark, connection_limit}
 use Rattle.iscsi_target.specs.Life.{Life, Phase, LoggingIn, FullFeature, Closing, Over, past_in}
 use Rattle.iscsi_target.specs.World.{Setting, World, present, past_of, settled_by, settle_one}
-use Rattle.iscsi_target.specs.Machine.{LinkState, Machine, IsSound, IsSure, IsWithin, link_at, with_link, free_link, is_reading, is_logging_in, closed}
+use Rattle.iscsi_target.specs.Machine.{LinkState, Machine, IsSound, IsWithin, link_at, with_link, free_link, is_reading, is_logging_in, closed}
 use Rattle.iscsi_target.specs.Stands.{phase_for, link_of}
-use Rattle.iscsi_target.specs.Serving.{Serves, Moves, kept, is_done_by, is_taken_at, Settles, SettlesOne, Takes, first_of, starved_by, goes_on_by, ended_unless}
+use Rattle.iscsi_target.specs.Serving.{Serves, Moves, kept, is_done_by, is_taken_at, Settles, SettlesOne, Takes, first_of, starved_by, ended_unless}
 use Rattle.iscsi_target.specs.declared.phase.Phase.{Phase as CodePhase}
 use Rattle.iscsi_target.specs.declared.phase.Phase.TheVariants as phases
 use Rattle.iscsi_target.proofs.Asking.{get_or_any}
 use Rattle.iscsi_target.proofs.Choices.{cond_true, cond_false}
 use Rattle.iscsi_target.proofs.Linked.{link_is, serves_world}
-use Rattle.iscsi_target.proofs.Working.{session_link, left_by}
+use Rattle.iscsi_target.proofs.Working.{left_by}
 use Rattle.iscsi_target.proofs.Doing.{does_nothing}
 use Rattle.iscsi_target.proofs.AtWork.{marks_of, starved_if, Calls, settles_does, serve_kind}
 use Rattle.iscsi_target.proofs.Frames.{takes_served}

@@ -1,7 +1,7 @@
 -- What an event of bytes leaves of the World: it begins and ends no life, and each goes on from what it was.
 use Rattle.std.proofs.Common.{◌≡◌, ◌≢◌, ◌&&◌, ℕ, ◌+◌, List, [], ◌∷◌, ◌++◌, map, Bool, true, false, cond, not, eqb, Option, Some, None, refl, sym, ap, ◌∙◌, subst, append_assoc, append-nil, inl, inr}
-use Rattle.std.specs.Prelude.{find, flat_map, slice_index_or, ⊤}
-use Rattle.std.specs.List.{fold, enumerate_from, range_with_len}
+use Rattle.std.specs.Prelude.{find, flat_map, ⊤}
+use Rattle.std.specs.List.{fold}
 use Rattle.std.proofs.lemmas.Bool.Decides.{eqb_tells}
 use Rattle.std.proofs.lemmas.List.Sums.{fold-append}
 use Rattle.iscsi_pdu.specs.Answer.{spelling}
@@ -16,8 +16,8 @@ use Rattle.iscsi_login.specs.declared.reply.Reply.TheVariants.{GoOn, Full, Refus
 use Rattle.iscsi_session.specs.Requests.{Past}
 use Rattle.iscsi_session.specs.Steps.{Work, served, settled}
 use Rattle.iscsi_session.proofs.Steps.{Extends, served_extends, settled_extends}
-use Rattle.iscsi_target.specs.History.{Mark, Point, Arriving, Before, AtEnd, Arrival, Whole, TooLong, Bytes, marked, connections, History, Happening}
-use Rattle.iscsi_target.specs.Life.{Life, Phase, LoggingIn, FullFeature, Closing, Over, is_over, reads, past_in, session_answers, answers_of, out_of, ended_in}
+use Rattle.iscsi_target.specs.History.{Mark, Point, Arriving, AtEnd, Arrival, Whole, TooLong, Bytes, marked, connections, History, Happening}
+use Rattle.iscsi_target.specs.Life.{Life, Phase, LoggingIn, FullFeature, Closing, Over, is_over, reads, past_in, session_answers, out_of, ended_in}
 use Rattle.iscsi_target.specs.World.{Setting, World, is_present, present, changed_first, changed, reads_life, past_of, live, close, reaching, is_marked, take_step, answered, asked, begun, begins, requests_of, lookup_for, end_older, replied, log_in, fails, work_of, with_past, worked_on, worked, served_by, take_in, settled_by, settle_one, settle, serve, is_login, enter, taken_in, taken_by, comes, arrive, brought, longer, bring, happened, new_world, world}
 use Rattle.iscsi_target.specs.Runs.{RowState, open_row, row_of}
 use Rattle.iscsi_target.specs.Laws.{GoesOn, LivesGoOn, AnswersStay}

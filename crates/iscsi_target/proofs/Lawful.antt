@@ -1,6 +1,6 @@
 -- Each session of a World has a lawful past, whatever has happened.
-use Rattle.std.proofs.Common.{◌≡◌, ◌≢◌, ◌&&◌, ℕ, zero, suc, ◌+◌, ◌^◌, ◌<◌, List, [], ◌∷◌, ◌++◌, length, map, take, drop, get_or, Bool, true, false, cond, not, eqb, Option, Some, None, refl, sym, ap, ◌∙◌, subst, arith}
-use Rattle.std.specs.Prelude.{find, ⊤, slice_index}
+use Rattle.std.proofs.Common.{◌≡◌, ◌≢◌, ℕ, zero, suc, ◌+◌, ◌^◌, ◌<◌, List, [], ◌∷◌, ◌++◌, length, map, take, drop, get_or, Bool, true, false, cond, not, eqb, Option, Some, None, refl, sym, ap, ◌∙◌, subst, arith}
+use Rattle.std.specs.Prelude.{find, ⊤}
 use Rattle.std.specs.List.{AllByRecursion, fold, enumerate_from}
 use Rattle.iscsi_pdu.specs.Header.{cmd_sn, header_length}
 use Rattle.iscsi_pdu.specs.Frames.{Frame, frames, frames_within, first_frame, frame_length, has_frame, rest, is_long}
@@ -15,9 +15,9 @@ use Rattle.iscsi_session.specs.Requests.{Past}
 use Rattle.iscsi_session.specs.State.{IsLawful}
 use Rattle.iscsi_session.specs.Steps.{Work, served, settled}
 use Rattle.iscsi_session.proofs.Lawful.{taken_once, finished_as_taken, steps_are_lawful}
-use Rattle.iscsi_target.specs.History.{Event, Open, Bytes, Gone, Mark, Point, Arriving, AtEnd, Arrival, Whole, TooLong, arrivals, new_arrivals, connections, History, Happening, marked}
+use Rattle.iscsi_target.specs.History.{Event, Open, Bytes, Gone, Mark, Point, Arriving, AtEnd, Arrival, Whole, TooLong, arrivals, new_arrivals, connections, History, marked}
 use Rattle.iscsi_target.specs.Life.{Life, Phase, LoggingIn, FullFeature, Closing, Over, born, past_in, ended_in}
-use Rattle.iscsi_target.specs.World.{Setting, World, is_present, present, changed_first, changed, reads_life, past_of, live, close, over, end, reaching, is_marked, take_step, answered, asked, begun, begins, requests_of, lookup_for, end_older, replied, log_in, fails, work_of, with_past, worked_on, worked, served_by, take_in, settled_by, settle_one, settle, serve, is_login, enter, taken_in, taken_by, comes, arrive, brought, longer, bring, happen, happened, new_world, world}
+use Rattle.iscsi_target.specs.World.{Setting, World, is_present, present, changed_first, changed, reads_life, past_of, live, close, over, end, reaching, is_marked, take_step, answered, asked, begun, begins, requests_of, lookup_for, end_older, replied, log_in, fails, work_of, with_past, worked_on, worked, served_by, take_in, settled_by, settle_one, settle, serve, is_login, taken_in, taken_by, comes, arrive, brought, longer, bring, happen, happened, new_world, world}
 use Rattle.iscsi_target.specs.Stands.{IsQuietIn}
 use Rattle.iscsi_target.specs.Laws.{HasBytes, FinishesAsTaken, SessionsFinishAsTaken, OthersStay}
 use Rattle.iscsi_target.proofs.Arrivals.{long_end}

@@ -1,9 +1,9 @@
 -- What the code remembers of a World, where one connection changes.
-use Rattle.std.proofs.Common.{◌≡◌, ◌≢◌, ℕ, ◌<◌, ◌≤◌, List, [], ◌∷◌, ◌++◌, length, map, drop, set, get_or, Bool, true, false, not, eqb, cond, Option, Some, None, refl, sym, ap, ◌∙◌, subst, arith, inl, inr}
+use Rattle.std.proofs.Common.{◌≡◌, ◌≢◌, ℕ, ◌<◌, ◌≤◌, List, [], ◌++◌, length, map, drop, set, get_or, true, not, eqb, Option, Some, None, refl, sym, ap, ◌∙◌, subst, arith, inl, inr}
 use Rattle.std.specs.Prelude.{flat_map}
 use Rattle.std.specs.List.{range_with_len}
 use Rattle.std.proofs.lemmas.Bool.Decides.{eqb_tells}
-use Rattle.std.proofs.lemmas.List.{append-nil, length-map, get_or-map, length-set, length-append, get_or-set_same, get_or-set_other, set-get_or, drop-append-le, ext_get_or}
+use Rattle.std.proofs.lemmas.List.{append-nil, length-map, get_or-map, length-set, length-append, get_or-set_same, get_or-set_other, drop-append-le, ext_get_or}
 use Rattle.std.proofs.lemmas.List.FromFn.{get_or-map-range_with_len, length-map-range_with_len}
 use Rattle.std.proofs.lemmas.Grind.{flat_map-append}
 use Rattle.iscsi_pdu.specs.Answer.{spelling}
@@ -12,13 +12,13 @@ use Rattle.scsi_unit.specs.Units.{UnitStates}
 use Rattle.iscsi_login.specs.declared.params.Params.{Params}
 use Rattle.iscsi_target.specs.History.{Point, connection_limit}
 use Rattle.iscsi_target.specs.Life.{Life, Phase, LoggingIn, FullFeature, Closing, Over, is_over, reads, session_in, session_answers, answers_of, out_of, ended_in}
-use Rattle.iscsi_target.specs.World.{Setting, World, is_present, present, changed, reads_life, session_of, live, left, close, reaching}
+use Rattle.iscsi_target.specs.World.{Setting, World, present, changed, reads_life, session_of, live, left, close, reaching}
 use Rattle.iscsi_target.specs.Output.{out_now}
 use Rattle.iscsi_target.specs.Machine.{LinkState, Machine, link_at, with_link, free_link, shut_link, is_reading, session_in_phase, sessions, closed}
 use Rattle.iscsi_target.specs.declared.phase.Phase.TheVariants as phases
-use Rattle.iscsi_target.specs.Stands.{phase_for, link_of, machine_with, IsQuiet, IsSent}
+use Rattle.iscsi_target.specs.Stands.{phase_for, link_of, machine_with, IsQuiet}
 use Rattle.iscsi_target.specs.Serving.{Serves}
-use Rattle.iscsi_target.proofs.Choices.{cond_true, and_true}
+use Rattle.iscsi_target.proofs.Choices.{and_true}
 use Rattle.iscsi_target.proofs.Lives.{present-changed, present-changed_other, present-lives, present_is}
 
 -- ---- the links

@@ -1,9 +1,8 @@
 -- A Login request does to the World what it does to the code.
-use Rattle.std.proofs.Common.{◌≡◌, ◌≢◌, ℕ, ◌+◌, ◌<◌, ◌≤◌, List, [], ◌∷◌, ◌++◌, length, map, drop, get_or, Bool, true, cond, ◌&&◌, not, eqb, Option, Some, None, refl, sym, ap, ◌∙◌, subst, arith, inl, inr}
-use Rattle.std.specs.Prelude.{flat_map, fold}
+use Rattle.std.proofs.Common.{◌≡◌, ◌≢◌, ℕ, ◌+◌, ◌<◌, ◌≤◌, List, [], ◌∷◌, ◌++◌, length, map, drop, get_or, Bool, true, cond, not, eqb, Option, Some, None, refl, sym, ap, ◌∙◌, subst, arith, inl, inr}
 use Rattle.std.proofs.lemmas.Bool.{eqb-true}
 use Rattle.std.proofs.lemmas.Bool.Decides.{eqb_tells}
-use Rattle.std.proofs.lemmas.List.{length-map, append-nil, append_assoc, get_or-map, get_or-set_same, get_or-set_other, set-get_or}
+use Rattle.std.proofs.lemmas.List.{length-map, append-nil, get_or-map}
 use Rattle.std.proofs.lemmas.List.Sums.{fold-append}
 use Rattle.std.proofs.lemmas.List.Quantifiers.{position-Some}
 use Rattle.iscsi_pdu.specs.Frames.{Frame}
@@ -12,25 +11,23 @@ use Rattle.iscsi_pdu.specs.declared.answer.Answer.{Answer}
 use Rattle.iscsi_pdu.specs.declared.answer.Answer.TheVariants as answers
 use Rattle.scsi_unit.specs.Units.{join}
 use Rattle.iscsi_login.specs.Session.{is_of, older}
-use Rattle.iscsi_login.specs.Lookup.{Lookup}
 use Rattle.iscsi_login.specs.LoginState.{new_login}
 use Rattle.iscsi_login.specs.Login.{login, advanced, remembered, reply_of}
 use Rattle.iscsi_login.specs.declared.params.Params.{Params}
 use Rattle.iscsi_login.specs.declared.reply.Reply.{Reply}
 use Rattle.iscsi_login.specs.declared.reply.Reply.TheVariants.{GoOn, Full, Refused}
-use Rattle.iscsi_session.specs.Requests.{begun as begun_past}
 use Rattle.iscsi_session.proofs.Accepted.{begun_lawful}
 use Rattle.iscsi_target.specs.History.{connection_limit, connections}
-use Rattle.iscsi_target.specs.Life.{Life, Phase, LoggingIn, FullFeature, Closing, is_over, reads, session_answers, answers_of, out_of, ended_in}
+use Rattle.iscsi_target.specs.Life.{Life, Phase, LoggingIn, Closing, is_over, reads, session_answers, out_of, ended_in}
 use Rattle.iscsi_target.specs.World.{Setting, World, is_present, present, changed, session_of, live, left, close, changed_units, answered, asked, begun, begins, end_older, requests_of, lookup_for, replied, log_in}
-use Rattle.iscsi_target.specs.Machine.{LinkState, Machine, link_at, with_link, shut_link, session_in_phase, sessions, free_link, gone_on_link, refused_link, begun_link, shut_older, begun as machine_begun, replied as machine_replied, logged_in}
+use Rattle.iscsi_target.specs.Machine.{LinkState, Machine, link_at, with_link, shut_link, session_in_phase, sessions, free_link, gone_on_link, refused_link, begun_link, shut_older, replied as machine_replied, logged_in}
 use Rattle.iscsi_target.specs.Stands.{link_of, phase_for, IsQuietIn}
 use Rattle.iscsi_target.specs.declared.phase.Phase.{Phase as CodePhase}
 use Rattle.iscsi_target.specs.Serving.{Serves}
 use Rattle.iscsi_target.specs.declared.phase.Phase.TheVariants as phases
 use Rattle.iscsi_target.proofs.Choices.{cond_true, and_true}
 use Rattle.iscsi_target.proofs.Lives.{present-changed, present-changed_other, present-lives, present_is}
-use Rattle.iscsi_target.proofs.Linked.{link_is, session_at, live_there, names_with, units_with, count_there, out-ended, out-more, says, still_sent, serves_one, present-close, present-close_other, serves_world}
+use Rattle.iscsi_target.proofs.Linked.{link_is, session_at, live_there, names_with, units_with, count_there, out-ended, out-more, says, still_sent, serves_one, present-close, present-close_other}
 
 -- a connection that logs in
 pub record Entering (s : Setting) (sent : ℕ → ℕ) (half : ℕ → List ℕ) (w : World) (machine : Machine) (c : ℕ) (life : Life) : Type 0 where

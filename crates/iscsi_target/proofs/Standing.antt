@@ -1,26 +1,26 @@
 -- Between two events: the beginning, and the events that open and end a connection.
-use Rattle.std.proofs.Common.{◌≡◌, ◌≢◌, ℕ, zero, suc, ◌+◌, ◌<◌, ◌≤◌, List, [], ◌∷◌, ◌++◌, length, map, drop, set, get_or, replicate, Bool, true, false, not, ◌&&◌, eqb, Option, Some, None, refl, sym, ap, ◌∙◌, subst, arith, inl, inr}
+use Rattle.std.proofs.Common.{◌≡◌, ◌≢◌, ℕ, zero, suc, ◌+◌, ◌<◌, ◌≤◌, List, [], ◌∷◌, ◌++◌, length, map, drop, set, replicate, Bool, true, false, not, eqb, Option, Some, None, refl, sym, ap, ◌∙◌, subst, arith, inl, inr}
 use Rattle.std.specs.List.{range_with_len}
 use Rattle.std.proofs.lemmas.Bool.Decides.{eqb_tells}
 use Rattle.std.proofs.lemmas.Bool.{ne_eqb}
-use Rattle.std.proofs.lemmas.List.{length-set, set-set, length-replicate, length-drop, drop-drop, set-get_or, get_or-replicate, get_or-set_same, get_or-set_other}
+use Rattle.std.proofs.lemmas.List.{set-set, length-drop, drop-drop, set-get_or}
 use Rattle.std.proofs.Math.Seq.{drop-nil}
-use Rattle.iscsi_pdu.specs.Frames.{is_long, rest}
+use Rattle.iscsi_pdu.specs.Frames.{is_long}
 use Rattle.iscsi_pdu.proofs.Frames.{no_frame, rest_none}
 use Rattle.iscsi_login.specs.Login.{remembered}
 use Rattle.iscsi_login.specs.declared.params.Params.{Params}
 use Rattle.scsi_unit.specs.Units.{UnitStates}
 use Rattle.iscsi_target.specs.History.{Open, Gone, Happening, History, plain, connection_limit}
-use Rattle.iscsi_target.specs.Life.{Life, Phase, LoggingIn, FullFeature, Closing, Over, born, is_over, reads, out_of}
+use Rattle.iscsi_target.specs.Life.{Life, Phase, LoggingIn, FullFeature, Closing, Over, born, is_over, out_of}
 use Rattle.iscsi_target.specs.World.{Setting, World, present, session_of, left, end, happened, new_world, world}
 use Rattle.iscsi_target.specs.Output.{out_now}
-use Rattle.iscsi_target.specs.Machine.{LinkState, Machine, link_at, with_link, closed, is_free, is_reading, is_open_at, free_link, opened_link, shut_link, sent_link, session_in_phase, new_machine}
-use Rattle.iscsi_target.specs.Stands.{phase_for, link_of, machine_with, machine_of, half_of, IsQuiet, IsShort, IsSent, StandsAt, Stands, with_sent}
+use Rattle.iscsi_target.specs.Machine.{LinkState, Machine, link_at, with_link, closed, is_free, is_open_at, free_link, opened_link, shut_link, sent_link, session_in_phase, new_machine}
+use Rattle.iscsi_target.specs.Stands.{phase_for, link_of, machine_with, machine_of, half_of, IsQuiet, IsShort, StandsAt, Stands, with_sent}
 use Rattle.iscsi_target.specs.Serving.{Serves}
 use Rattle.iscsi_target.proofs.Choices.{eqb_self, cond_true, cond_false, and_true, not_true}
 use Rattle.iscsi_target.proofs.Lives.{present-born, present-born_other, present-end, present-end_other, present-lives, present_is}
 use Rattle.iscsi_target.proofs.Keeping.{world-push}
-use Rattle.iscsi_target.proofs.Linked.{link_there, links_count, units_with, relinked, session_at, link_is, count_there}
+use Rattle.iscsi_target.proofs.Linked.{link_there, units_with, relinked, session_at, link_is, count_there}
 
 -- ---- one more event
 

@@ -1,28 +1,28 @@
 -- The whole frames of a piece are taken, one after the other.
-use Rattle.std.proofs.Common.{◌≡◌, ◌≢◌, ℕ, ◌+◌, ◌<◌, ◌≤◌, List, [], ◌∷◌, ◌++◌, length, map, drop, set, get_or, Bool, true, false, not, ◌&&◌, eqb, Option, Some, None, refl, sym, ap, ◌∙◌, subst, arith, inl, inr, append_assoc}
+use Rattle.std.proofs.Common.{◌≡◌, ◌≢◌, ℕ, ◌+◌, ◌<◌, ◌≤◌, List, [], ◌∷◌, ◌++◌, length, map, drop, Bool, true, false, not, ◌&&◌, eqb, Option, Some, None, refl, sym, ap, ◌∙◌, subst, arith, inl, inr, append_assoc}
 use Rattle.std.specs.Prelude.{All, nat_lt}
 use Rattle.scsi_unit.specs.Units.{UnitStates, AreSound, AreSure}
-use Rattle.std.specs.List.{list_all, list_any, fold, enumerate_from}
+use Rattle.std.specs.List.{fold, enumerate_from}
 use Rattle.std.proofs.lemmas.Bool.{eqb-true, ltb-true, lt-ltb, le-ltb, ne_eqb}
 use Rattle.std.proofs.lemmas.Bool.Decides.{eqb_tells}
-use Rattle.std.proofs.lemmas.List.{append-nil, length-append, length-map, map-append, length-set, set-get_or, get_or-set_same}
+use Rattle.std.proofs.lemmas.List.{append-nil, length-append, set-get_or, get_or-set_same}
 use Rattle.iscsi_pdu.specs.Frames.{Frame, frames, rest, is_long, has_frame, first_frame, frame_length}
 use Rattle.iscsi_pdu.proofs.Frames.{no_frame, frames_none, rest_none, frames_step, rest_step, drop_shorter}
 use Rattle.iscsi_pdu.proofs.Cuts.{long_is_no_frame}
-use Rattle.iscsi_session.specs.Steps.{Step, Judging, Taking, Doing, is_of}
+use Rattle.iscsi_session.specs.Steps.{Step, Judging, Taking, Asking, Doing, is_of}
 use Rattle.iscsi_target.specs.History.{Point, Arriving, Before, AtEnd, Mark, Arrival, Whole, TooLong, arrivals, is_within, connection_limit}
 use Rattle.iscsi_target.specs.Life.{Life, reads}
-use Rattle.iscsi_target.specs.World.{Setting, World, present, reads_life, is_marked, close, reaching, take_step, arrive}
-use Rattle.iscsi_target.specs.Machine.{LinkState, Machine, IsSound, IsSure, Feeds, KeepsPart, link_at, with_link, is_reading, is_free, closed, free_link, shut_link, GivesFrame}
-use Rattle.iscsi_target.specs.Stands.{link_of, machine_with, are_reached}
-use Rattle.iscsi_target.specs.Serving.{Serves, IsClosed, Agrees, Does, Begins, is_of_frame, has_step, has_place, place_of, is_among, first_of, kept, with_half, KeepsHalf, Moves, Takes, TakesOne, TakesSome, TakesAll}
+use Rattle.iscsi_target.specs.World.{Setting, World, present, reads_life, close, reaching, arrive}
+use Rattle.iscsi_target.specs.Machine.{LinkState, Machine, IsSound, IsSure, Feeds, KeepsPart, link_at, with_link, is_reading, closed, free_link, shut_link, GivesFrame}
+use Rattle.iscsi_target.specs.Stands.{link_of}
+use Rattle.iscsi_target.specs.Serving.{Serves, IsClosed, Does, is_of_frame, has_place, place_of, is_among, first_of, with_half, KeepsHalf, Moves, Takes, TakesOne, TakesSome, TakesAll}
 use Rattle.iscsi_target.proofs.Arrivals.{long_end, fold-places}
 use Rattle.iscsi_target.proofs.Choices.{eqb_self, cond_true, cond_false, and_true, and_false}
-use Rattle.iscsi_target.proofs.Linked.{link_is, reads_there, count_there, some_reads, serves_one, serves_as, serves_world, serves_reaching, closes, present-close, present-reaching, units_with, link_there}
+use Rattle.iscsi_target.proofs.Linked.{link_is, reads_there, some_reads, serves_one, serves_as, serves_world, serves_reaching, closes, present-close, present-reaching, units_with}
 use Rattle.iscsi_target.proofs.Standing.{nothing_long, machine_same}
-use Rattle.iscsi_target.proofs.Marks.{mark_at, marked_one, marked_none, Apart, Wider, all_wider, within_two}
+use Rattle.iscsi_target.proofs.Marks.{Apart, Wider, all_wider}
 use Rattle.iscsi_target.proofs.Keeping.{on-arrive}
-use Rattle.iscsi_target.proofs.Doing.{Act, Halves, does_nothing, does_as, does_then}
+use Rattle.iscsi_target.proofs.Doing.{Act, Halves, does_nothing, does_then}
 use Rattle.iscsi_target.proofs.Frames.{idle, arrived, starves}
 use Rattle.iscsi_target.proofs.Apart.{part_none, part_closed, part_halved, part_as, part_then}
 use Rattle.iscsi_target.proofs.Moving.{Changes, reading_open, own_self, feeds_then, closed_then, changes_feeds, closed_moves, starved_moves, moves_as, moves_none}
@@ -289,11 +289,13 @@ half_twice c x y half d = elim (eqb_tells d c) [
 step_place : (q : ℕ) (step : Step) → is_of q step ≡ true → place_of step ≡ q
 step_place q (Judging p) e = eqb-true p q e
 step_place q (Taking p i) e = eqb-true p q e
+step_place q (Asking p) e = eqb-true p q e
 step_place q (Doing p i) e = eqb-true p q e
 
 place_step : (q : ℕ) (step : Step) → place_of step ≢ q → is_of q step ≡ false
 place_step q (Judging p) differ = ne_eqb p q differ
 place_step q (Taking p i) differ = ne_eqb p q differ
+place_step q (Asking p) differ = ne_eqb p q differ
 place_step q (Doing p i) differ = ne_eqb p q differ
 
 in_range : (n place p : ℕ) → (not (nat_lt p place) && nat_lt p (place + n)) ≡ true → p < place + n

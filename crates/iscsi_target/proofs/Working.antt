@@ -1,22 +1,21 @@
 -- What the steps of a session make of the code and of the World.
-use Rattle.std.proofs.Common.{◌≡◌, ◌≢◌, ℕ, ◌<◌, ◌≤◌, List, [], ◌∷◌, ◌++◌, length, drop, set, get_or, Bool, true, false, not, cond, eqb, Option, Some, None, refl, sym, ap, ◌∙◌, subst, arith, append_assoc}
-use Rattle.std.specs.Prelude.{flat_map, slice_index_or, slice_set}
+use Rattle.std.proofs.Common.{◌≡◌, ◌≢◌, ℕ, ◌<◌, ◌≤◌, List, ◌++◌, length, drop, Bool, true, false, not, cond, eqb, Option, Some, None, refl, sym, ap, ◌∙◌, append_assoc}
+use Rattle.std.specs.Prelude.{flat_map, slice_set}
 use Rattle.iscsi_pdu.specs.Answer.{spelling}
 use Rattle.iscsi_pdu.specs.declared.answer.Answer.{Answer}
 use Rattle.scsi_unit.specs.Units.{UnitStates}
 use Rattle.iscsi_session.specs.Requests.{Past}
 use Rattle.iscsi_session.specs.State.{SessionState, IsLawful, remembered}
-use Rattle.iscsi_session.specs.Steps.{Work, begun_work}
-use Rattle.iscsi_session.specs.Runs.{Starts, Leaves}
-use Rattle.iscsi_target.specs.History.{Before, connection_limit}
+use Rattle.iscsi_session.specs.Steps.{Work}
+use Rattle.iscsi_session.specs.Runs.{Leaves}
+use Rattle.iscsi_target.specs.History.{connection_limit}
 use Rattle.iscsi_target.specs.Life.{Life, Phase, LoggingIn, FullFeature, Closing, Over, is_over, past_in, session_answers, answers_of, out_of}
-use Rattle.iscsi_target.specs.World.{Setting, World, is_present, present, changed, past_of, work_of, with_past, worked_on, worked}
+use Rattle.iscsi_target.specs.World.{Setting, World, present, changed, past_of, work_of, with_past, worked_on, worked}
 use Rattle.iscsi_target.specs.Machine.{LinkState, Machine, link_at, with_link, closed}
-use Rattle.iscsi_target.specs.Stands.{phase_for, link_of, machine_with, IsQuietIn}
+use Rattle.iscsi_target.specs.Stands.{phase_for, link_of, IsQuietIn}
 use Rattle.iscsi_target.specs.Serving.{Serves}
-use Rattle.iscsi_target.specs.declared.phase.Phase.{Phase as CodePhase}
 use Rattle.iscsi_target.specs.declared.phase.Phase.TheVariants as phases
-use Rattle.iscsi_target.proofs.Choices.{cond_true, cond_false, and_true}
+use Rattle.iscsi_target.proofs.Choices.{and_true}
 use Rattle.iscsi_target.proofs.Lives.{present-changed, present-changed_other, present-lives, present_is}
 use Rattle.iscsi_target.proofs.Linked.{link_is, units_with, out-more, says, still_sent, serves_one, closes}
 

@@ -4,7 +4,7 @@ use Rattle.std.specs.List.{list_any, list_all}
 use Rattle.iscsi_pdu.specs.Frames.{rest, is_long}
 use Rattle.iscsi_login.specs.Login.{remembered}
 use Rattle.iscsi_session.specs.State.{IsLawful, remembered as session_remembered}
-use Rattle.iscsi_target.specs.History.{Event, History, Point, Mark, is_same, connections, connection_limit}
+use Rattle.iscsi_target.specs.History.{Event, History, Mark, is_same, connections, connection_limit}
 use Rattle.iscsi_target.specs.Life.{Life, Phase, LoggingIn, FullFeature, Closing, Over, reads, out_of}
 use Rattle.iscsi_target.specs.World.{Setting, World, present, happen, world}
 use Rattle.iscsi_target.specs.Output.{out_now}

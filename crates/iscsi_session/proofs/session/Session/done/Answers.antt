@@ -1,4 +1,4 @@
-use Rattle.std.proofs.Common.{◌≡◌, ◌≤◌, ◌++◌, ◌∷◌, List, sym, ap, subst, ◌∙◌}
+use Rattle.std.proofs.Common.{◌≡◌, ℕ, ◌≤◌, ◌++◌, ◌∷◌, List, sym, ap, subst, ◌∙◌}
 use Rattle.std.specs.Prelude.{flat_map}
 use Rattle.iscsi_pdu.specs.Frames.{Frame}
 use Rattle.iscsi_pdu.specs.Answer.{spelling}
@@ -7,7 +7,8 @@ use Rattle.iscsi_login.specs.declared.params.Params.{Params}
 use Rattle.iscsi_session.specs.Requests.{frame_of, stamp, finished}
 use Rattle.iscsi_session.specs.Answers.{command_answers}
 use Rattle.iscsi_session.specs.Room.{room_for}
-use Rattle.iscsi_session.specs.State.{SessionState, Stands}
+use Rattle.iscsi_session.specs.State.{SessionState, Stands, removed_at, place_with}
+use Rattle.iscsi_pdu.specs.Header.{initiator_task_tag}
 use Rattle.iscsi_session.proofs.Parts.{parts}
 use Rattle.iscsi_session.proofs.Answered.{done_here, some_queued}
 use Rattle.iscsi_session.proofs.Settled.{command_bears}
@@ -33,7 +34,8 @@ put_answers-requires-clause-room c =
 pub returns-clause-stands : goal.returns-clause-stands
 returns-clause-stands c past k rest s is =
     let known = subst (λ (x : SessionState). Stands past x) (sym c.self.view_is) s in
-    let f = done_here past _ k rest c.in-Some.frame _ known is c.in-Some.ensures.some c.in-Some.ensures.same in
+    let f = done_here past _ k rest c.in-Some.frame _ _ known is c.in-Some.ensures.some c.in-Some.ensures.same (c.finish-2.ensures ∙ ap (λ (t : ℕ). record c.self.inside.transfers { list = removed_at c.self.inside.transfers.list (place_with t c.self.inside.transfers.list) })
+    (c.initiator_task_tag.ensures ∙ ap (λ (f : Frame). initiator_task_tag f.header) c.frame.view_is)) in
     c.next_stamp-stamp.ensures.stands (finished k past)
     (command_answers (stamp (finished k past)) past.params.values (frame_of past.came k) c.args.done) f.1
     (command_bears (stamp (finished k past)) past.params.values (frame_of past.came k) c.args.done)
@@ -41,7 +43,8 @@ returns-clause-stands c past k rest s is =
 pub returns-clause-out : goal.returns-clause-out
 returns-clause-out c past k rest s is =
     let known = subst (λ (x : SessionState). Stands past x) (sym c.self.view_is) s in
-    let f = done_here past _ k rest c.in-Some.frame _ known is c.in-Some.ensures.some c.in-Some.ensures.same in
+    let f = done_here past _ k rest c.in-Some.frame _ _ known is c.in-Some.ensures.some c.in-Some.ensures.same (c.finish-2.ensures ∙ ap (λ (t : ℕ). record c.self.inside.transfers { list = removed_at c.self.inside.transfers.list (place_with t c.self.inside.transfers.list) })
+    (c.initiator_task_tag.ensures ∙ ap (λ (f : Frame). initiator_task_tag f.header) c.frame.view_is)) in
     let same : c.self-2.inside.params ≡ past.params = ap (λ (x : SessionState). x.params) (c.self-2.view_is ∙ c.next_stamp-stamp.ensures.same)
     ∙ (parts past _ known).params_is in
     c.put_answers.ensures

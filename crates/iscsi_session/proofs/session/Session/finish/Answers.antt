@@ -1,21 +1,29 @@
-use Rattle.std.proofs.Common.{◌++◌, ℕ, List, ap, ◌∙◌}
+use Rattle.std.proofs.Common.{◌≡◌, ◌++◌, ℕ, List, [], sym, ap, ◌∙◌, append-nil}
 use Rattle.std.specs.Prelude.{flat_map}
 use Rattle.iscsi_pdu.specs.Answer.{spelling}
 use Rattle.iscsi_session.specs.Requests.{frame_of, stamp, finished}
 use Rattle.iscsi_session.specs.Answers.{command_answers}
-use Rattle.iscsi_session.specs.State.{SessionState}
+use Rattle.iscsi_session.specs.State.{SessionState, payload_at, place_for, place_with}
+use Rattle.iscsi_pdu.specs.Frames.{Frame}
+use Rattle.iscsi_pdu.specs.Header.{initiator_task_tag}
+use Rattle.iscsi_session.specs.Commands.{carried_out}
 use Rattle.iscsi_session.specs.Steps.{finish}
-use Rattle.iscsi_session.proofs.Settled.{none_steps, no_queue, finish_steps}
+use Rattle.iscsi_session.proofs.Settled.{none_steps, none_ready, finish_steps}
 use Rattle.iscsi_session.proofs.session.Session.finish.Goals as goal
 
 pub returns-in_default-clause-steps : goal.returns-in_default-clause-steps
-returns-in_default-clause-steps g c sound work s = none_steps finish _ work _ _ _ (no_queue work _ _ s c.in_default.ensures.none) s.units
+returns-in_default-clause-steps g c sound work s = none_steps finish _ work _ _ _ (none_ready work _ _ s c.in_default.ensures.none) s.units
 
 pub returns-clause-steps : goal.returns-clause-steps
 returns-clause-steps g c =
     rw c.give_back.ensures
     (λ sound work s.
-    finish_steps work _ _ _ _ _ _ _ _ _ _ s c.in-Some.ensures.some (ap (λ (x : SessionState). x.params.nexus) c.self.view_is) (c.in_ok-done.ensures.done sound)
+    let list = c.self.inside.transfers.list in
+    let payload : c.payload-payload.result.now ≡ payload_at c.args.self.now.transfers.list (place_for c.in-Some.frame.now c.args.self.now.transfers.list) =
+    c.payload-payload.ensures
+    ∙ ap (λ (t : ℕ). payload_at list (place_with t list)) (c.initiator_task_tag.ensures ∙ ap (λ (f : Frame). initiator_task_tag f.header) c.frame.view_is)
+    ∙ ap (λ (x : SessionState). payload_at x.transfers.list (place_for c.in-Some.frame.now x.transfers.list)) c.self.view_is in
+    finish_steps work _ _ _ _ _ _ _ _ _ _ s c.in-Some.ensures.some c.in-Some.ensures.whole (ap (λ (x : SessionState). x.params.nexus) c.self.view_is) (c.in_ok-done.ensures.done sound ∙ ap (carried_out c.args.units.now c.self.inside.params.nexus c.in-Some.frame.now) payload)
     (record {
       stands = c.done-buffer.ensures.stands;
       out = λ past k others st is. c.done-buffer.ensures.out past k others st is
@@ -25,3 +33,12 @@ returns-clause-steps g c =
 
 pub returns-clause-back : goal.returns-clause-back
 returns-clause-back g c = rw c.give_back.ensures c.carry_out.ensures.back
+
+pub returns-in_err-make_room-clause-grows : goal.returns-in_err-make_room-clause-grows
+returns-in_err-make_room-clause-grows g c = ([], c.make_room.ensures.same ∙ sym (append-nil _))
+
+pub returns-in_err-done-clause-grows : goal.returns-in_err-done-clause-grows
+returns-in_err-done-clause-grows g c = ([], c.make_room.ensures.same ∙ sym (append-nil _))
+
+pub returns-clause-sure : goal.returns-clause-sure
+returns-clause-sure g c = rw c.give_back.ensures c.carry_out.ensures.sure

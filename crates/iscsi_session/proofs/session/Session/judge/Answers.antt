@@ -1,12 +1,11 @@
-use Rattle.std.proofs.Common.{◌≡◌, ℕ, List, true, false, sym, ap, ◌∙◌, subst}
-use Rattle.iscsi_pdu.specs.Header.{opcode_of, opcode_number, initiator_task_tag}
+use Rattle.std.proofs.Common.{◌≡◌, true, false, sym, ap, ◌∙◌, subst}
+use Rattle.iscsi_pdu.specs.Header.{opcode_of, opcode_number}
 use Rattle.iscsi_pdu.specs.Frames.{Frame}
 use Rattle.iscsi_pdu.specs.declared.header.Opcode.TheVariants as opcodes
-use Rattle.iscsi_session.specs.Requests.{unfinished}
-use Rattle.iscsi_session.specs.Judging.{is_live, verdict_by}
+use Rattle.iscsi_session.specs.Judging.{verdict_by}
 use Rattle.iscsi_session.specs.State.{SessionState, Stands}
-use Rattle.iscsi_session.proofs.Parts.{open_is}
-use Rattle.iscsi_session.proofs.Verdicts.{verdict_at, numbered_verdict, data_verdict, refused_verdict}
+use Rattle.iscsi_session.proofs.Feeding.{judged_is}
+use Rattle.iscsi_session.proofs.Verdicts.{verdict_at, numbered_verdict, fed_verdict, refused_verdict}
 use Rattle.iscsi_session.proofs.session.Session.judge.Goals as goal
 
 pub returns-in-ScsiCommand-clause-verdict : goal.returns-in-ScsiCommand-clause-verdict
@@ -35,25 +34,12 @@ returns-in-Login-clause-verdict c past s =
     (sym c.frame.view_is) ∙ sym c.opcode.ensures in
     sym (verdict_at past c.args.frame.now opcodes.Login (opcode ∙ c.in-Login.is))
 
-pub returns-then-is_live-clause-verdict : goal.returns-then-is_live-clause-verdict
-returns-then-is_live-clause-verdict c past s =
+pub returns-in-DataOut-clause-verdict : goal.returns-in-DataOut-clause-verdict
+returns-in-DataOut-clause-verdict c past s =
     let opcode : opcode_of (opcode_number c.args.frame.now.header) ≡ c.opcode.result = ap (λ (f : Frame). opcode_of (opcode_number f.header))
     (sym c.frame.view_is) ∙ sym c.opcode.ensures in
     let known = subst (λ (state : SessionState). Stands past state) (sym c.self.view_is) s in
-    let tag = c.initiator_task_tag.ensures ∙ ap (λ (f : Frame). initiator_task_tag f.header) c.frame.view_is in
-    let live = ap (λ (n : ℕ). is_live (unfinished past) n) (sym tag)
-    ∙ ap (λ (frames : List Frame). is_live frames c.initiator_task_tag.result) (sym (open_is past _ known)) ∙ sym c.is_live.ensures in
-    sym (data_verdict past c.args.frame.now true (opcode ∙ c.in-DataOut.is) (live ∙ c.if-is_live.true))
-
-pub returns-else-is_live-clause-verdict : goal.returns-else-is_live-clause-verdict
-returns-else-is_live-clause-verdict c past s =
-    let opcode : opcode_of (opcode_number c.args.frame.now.header) ≡ c.opcode.result = ap (λ (f : Frame). opcode_of (opcode_number f.header))
-    (sym c.frame.view_is) ∙ sym c.opcode.ensures in
-    let known = subst (λ (state : SessionState). Stands past state) (sym c.self.view_is) s in
-    let tag = c.initiator_task_tag.ensures ∙ ap (λ (f : Frame). initiator_task_tag f.header) c.frame.view_is in
-    let live = ap (λ (n : ℕ). is_live (unfinished past) n) (sym tag)
-    ∙ ap (λ (frames : List Frame). is_live frames c.initiator_task_tag.result) (sym (open_is past _ known)) ∙ sym c.is_live.ensures in
-    sym (data_verdict past c.args.frame.now false (opcode ∙ c.in-DataOut.is) (live ∙ c.if-is_live.false))
+    c.judge.ensures ∙ judged_is past _ c.args.frame.now known ∙ sym (fed_verdict past c.args.frame.now (opcode ∙ c.in-DataOut.is))
 
 pub returns-in-Snack-clause-verdict : goal.returns-in-Snack-clause-verdict
 unfolding verdict_by

@@ -1,23 +1,30 @@
+use Rattle.std.proofs.Common.{Bool, subst}
+use Rattle.std.specs.Prelude.{None}
+use Rattle.iscsi_session.specs.Runs.{Runs}
+use Rattle.iscsi_session.specs.Steps.{taken_in}
 use Rattle.iscsi_session.proofs.Parts.{on_err_known}
-use Rattle.iscsi_session.proofs.Served.{judging_stop, judging_ends, served_ok, served_err}
+use Rattle.iscsi_session.proofs.Asked.{served_ended, stops_served, served_on, asking_stops}
 use Rattle.iscsi_session.proofs.session.Session.serve.Goals as goal
 
-pub returns-in_err-take-clause-err : goal.returns-in_err-take-clause-err
-returns-in_err-take-clause-err c = on_err_known _ (judging_stop c.args.frame _ _ _ _ c.in_err-take.ensures.err c.in_err-take.ensures.out_err)
+pub returns-in_err-take_in-clause-err : goal.returns-in_err-take_in-clause-err
+returns-in_err-take_in-clause-err c = on_err_known _ (stops_served c.args.frame _ _ _ _ c.in_err-take_in.ensures.err)
 
-pub returns-in-Violating-clause-ok : goal.returns-in-Violating-clause-ok
-returns-in-Violating-clause-ok c units =
-    judging_ends _ c.args.frame _ _ _ _ units
-    (record { judged_is = c.in_ok-take.ensures.verdict; stands = c.in_ok-take.ensures.stands; out = c.in_ok-take.ensures.out }) c.in-Violating.is
+pub returns-then-not-branch-clause-ok : goal.returns-then-not-branch-clause-ok
+returns-then-not-branch-clause-ok c units =
+    served_ended c.args.frame None _ _ _ _ units
+    (subst (λ (on : Bool). Runs (λ fails place. taken_in fails place c.args.frame) None on c.args.self.now c.take_in.new.self c.args.out.now.items
+    c.take_in.new.out.items units units) c.if-not-branch.true (c.in_ok-take_in.ensures.ok units))
+
+pub returns-in_err-ask_due-clause-err : goal.returns-in_err-ask_due-clause-err
+returns-in_err-ask_due-clause-err c =
+    on_err_known _
+    (asking_stops c.args.frame _ _ _ _ _ _ c.in_err-ask_due.ensures.err c.in_err-ask_due.ensures.out_err
+    (λ units. subst (λ (on : Bool). Runs (λ fails place. taken_in fails place c.args.frame) None on c.args.self.now c.take_in.new.self c.args.out.now.items
+    c.take_in.new.out.items units units) c.if-not-branch.false (c.in_ok-take_in.ensures.ok units)) c.in_err-ask_due.ensures.due)
 
 pub returns-clause-ok : goal.returns-clause-ok
-returns-clause-ok c =
-    served_ok _ _ c.args.frame _ _ _ _ _ _
-    (record { judged_is = c.in_ok-take.ensures.verdict; stands = c.in_ok-take.ensures.stands; out = c.in_ok-take.ensures.out }) c.in_default.not-Violating
-    c.act_all.ensures.ok
-
-pub returns-clause-err : goal.returns-clause-err
-returns-clause-err c =
-    served_err _ _ c.args.frame _ _ _ _ _ _
-    (record { judged_is = c.in_ok-take.ensures.verdict; stands = c.in_ok-take.ensures.stands; out = c.in_ok-take.ensures.out }) c.in_default.not-Violating
-    c.act_all.ensures.err
+returns-clause-ok c units =
+    served_on c.args.frame _ _ _ _ _ _ units
+    (subst (λ (on : Bool). Runs (λ fails place. taken_in fails place c.args.frame) None on c.args.self.now c.take_in.new.self c.args.out.now.items
+    c.take_in.new.out.items units units) c.if-not-branch.false (c.in_ok-take_in.ensures.ok units))
+    (record { stands = c.in_ok-ask_due.ensures.stands; out = c.in_ok-ask_due.ensures.out })

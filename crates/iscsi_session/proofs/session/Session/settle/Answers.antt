@@ -1,7 +1,6 @@
 use Rattle.std.proofs.Common.{suc, refl, ◌∙◌}
 use Rattle.scsi_unit.specs.Units.{AreSound}
-use Rattle.iscsi_session.specs.Requests.{queue}
-use Rattle.iscsi_session.specs.Steps.{Doing, finish}
+use Rattle.iscsi_session.specs.Steps.{Doing, ready, finish}
 use Rattle.iscsi_session.proofs.Parts.{on_err_known}
 use Rattle.iscsi_session.proofs.Runs.{none_ran, grows_none, grows_then, queue_count}
 use Rattle.iscsi_session.proofs.Settled.{settled_more, all_settled, settling_stops, settle_stops}
@@ -11,7 +10,7 @@ use Rattle.iscsi_session.proofs.session.Session.settle.Goals as goal
 pub loop-init : goal.loop-init
 loop-init g c = record {
   turns = 0;
-  ran = λ sound. none_ran Doing queue finish queue_count queued_in queue_fits _ _ _;
+  ran = λ sound. none_ran Doing ready finish queue_count queued_in queue_fits _ _ _;
   back = λ sound. sound;
   sure = λ sure. sure;
   grows = grows_none _;
@@ -22,7 +21,7 @@ pub returns-in_err-finish-clause-err : goal.returns-in_err-finish-clause-err
 returns-in_err-finish-clause-err g c = on_err_known _
     (settle_stops c.loop.invariant.turns _ _ _ _ _ _ _ _ _ (AreSound c.finish.new.units) c.in_err-finish.ensures.err c.in_err-finish.ensures.out_err
     c.in_err-finish.ensures.units_err
-    (λ sound. settling_stops _ _ _ _ _ _ _ (c.loop.invariant.ran (c.in_err-finish.ensures.back sound)) c.in_err-finish.ensures.queue))
+    (λ sound. settling_stops _ _ _ _ _ _ _ (c.loop.invariant.ran (c.in_err-finish.ensures.back sound)) c.in_err-finish.ensures.waits))
 
 pub loop-preserved : goal.loop-preserved
 loop-preserved g c = record {

@@ -9,7 +9,11 @@ use Rattle.iscsi_session.proofs.Answered.{one_spelled}
 use Rattle.iscsi_session.proofs.session.Session.take.Goals as goal
 
 pub accept-requires : goal.accept-requires
-accept-requires c = c.judge-verdict.ensures.vacant c.in-Accepted.is
+accept-requires c = record {
+  burst = c.requires;
+  vacant = c.judge-verdict.ensures.vacant c.in-Accepted.is;
+  acceptable = c.judge-verdict.ensures.acceptable c.in-Accepted.is;
+}
 
 pub returns-in_ok-accept-in-Accepted-clause-stands : goal.returns-in_ok-accept-in-Accepted-clause-stands
 returns-in_ok-accept-in-Accepted-clause-stands c past s =

@@ -1,6 +1,6 @@
-use Rattle.std.proofs.Common.{rules, ◌≡◌, ◌<◌, length, true, false, Some, refl, sym, ap, ◌∙◌, arith}
+use Rattle.std.proofs.Common.{rules, ◌≡◌, ◌<◌, length, true, false, Some, sym, ap, ◌∙◌, arith}
 use Rattle.iscsi_target.specs.World.{is_login}
-use Rattle.iscsi_target.specs.Machine.{Machine, link_at, closed, is_reading}
+use Rattle.iscsi_target.specs.Machine.{link_at}
 use Rattle.iscsi_target.proofs.Apart.{part_login}
 use Rattle.iscsi_target.proofs.Asking.{login_there, still_reading}
 use Rattle.iscsi_target.proofs.Doing.{does_starved}

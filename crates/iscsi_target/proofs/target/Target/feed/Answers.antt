@@ -1,11 +1,10 @@
-use Rattle.std.proofs.Common.{◌≡◌, ◌<◌, [], length, None, Some, refl, sym, ap, ◌∙◌, subst, arith}
+use Rattle.std.proofs.Common.{◌≡◌, ◌<◌, [], length, None, refl, sym, ap, ◌∙◌, arith}
 use Rattle.std.proofs.lemmas.Bool.{eqb-true}
 use Rattle.std.proofs.lemmas.List.{nil_from_length}
-use Rattle.iscsi_target.specs.Machine.{LinkState, Machine, Feeds, link_at, closed, is_reading, is_closing}
-use Rattle.iscsi_target.specs.Serving.{first_starved}
+use Rattle.iscsi_target.specs.Machine.{Machine, link_at, closed, is_closing}
 use Rattle.iscsi_target.specs.World.{world}
 use Rattle.iscsi_target.proofs.Apart.{part_none, part_as, part_closed, part_halved, part_then}
-use Rattle.iscsi_target.proofs.Feeding.{comes, comes_starved, comes_idle, comes_empty, Fed, ok_came, err_came, starved_came, kept_feeds, kept_reads}
+use Rattle.iscsi_target.proofs.Feeding.{comes_idle, comes_empty, ok_came, err_came, starved_came, kept_feeds, kept_reads}
 use Rattle.iscsi_target.proofs.Moving.{own_self, closed_closing, closing_if, closed_moves, feeds_then, moves_as}
 use Rattle.iscsi_target.proofs.Sound.{closed_sound, closed_sure, sound_as, sure_as}
 use Rattle.iscsi_target.proofs.Standing.{stands_as}

@@ -1,4 +1,4 @@
-use Rattle.std.proofs.Common.{◌≡◌, ℕ, ◌<◌, length}
+use Rattle.std.proofs.Common.{ℕ, ◌<◌, length}
 use Rattle.iscsi_target.specs.Machine.{KeepsApart}
 use Rattle.iscsi_target.specs.Serving.{Moves, first_starved}
 use Rattle.iscsi_target.proofs.Frames.{SettledBelow}

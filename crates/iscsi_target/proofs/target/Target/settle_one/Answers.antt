@@ -1,9 +1,7 @@
-use Rattle.std.proofs.Common.{◌≡◌, ℕ, true, false, ◌≢◌, ◌<◌, List, length, map, set, string_bytes, Some, None, refl, sym, ap, ◌∙◌, subst, arith}
+use Rattle.std.proofs.Common.{◌≡◌, true, false, ◌≢◌, ◌<◌, List, length, map, set, string_bytes, Some, None, refl, sym, ap, ◌∙◌, arith}
 use Rattle.std.proofs.lemmas.List.{length-set, get_or-set_same}
-use Rattle.scsi_unit.specs.Units.{UnitStates, AreSound}
 use Rattle.iscsi_session.specs.State.{SessionState}
 use Rattle.iscsi_target.specs.Machine.{LinkState, Machine, link_at, closed, is_with, is_reading, is_logging_in, free_link}
-use Rattle.iscsi_target.specs.Serving.{Moves, SettlesOne}
 use Rattle.iscsi_target.specs.declared.phase.Phase.{Phase}
 use Rattle.iscsi_target.specs.declared.phase.Phase.TheVariants as phases
 use Rattle.iscsi_target.proofs.Apart.{apart_none, apart_then, apart_as, apart_from, session_apart, closed_apart, with_session}

@@ -1,9 +1,8 @@
-use Rattle.std.proofs.Common.{◌≡◌, ℕ, ◌<◌, List, [], length, map, set, string_bytes, true, Option, Some, None, refl, sym, ap, ◌∙◌, subst, arith}
+use Rattle.std.proofs.Common.{◌≡◌, ℕ, ◌<◌, List, length, map, string_bytes, true, Option, None, refl, sym, ap, ◌∙◌, subst, arith}
 use Rattle.std.proofs.lemmas.Bool.{eqb-true}
 use Rattle.iscsi_login.specs.declared.params.Params.{Params}
-use Rattle.iscsi_session.specs.State.{SessionState}
-use Rattle.iscsi_target.specs.Machine.{LinkState, Machine, IsWithin, KeepsApart, link_at, with_link, is_with, is_reading, free_link}
-use Rattle.iscsi_target.specs.Serving.{ended_unless, first_of, first_starved, starved_by}
+use Rattle.iscsi_target.specs.Machine.{LinkState, Machine, KeepsApart, link_at, is_with, is_reading}
+use Rattle.iscsi_target.specs.Serving.{first_of, first_starved}
 use Rattle.iscsi_target.specs.declared.phase.Phase.{Phase}
 use Rattle.iscsi_target.specs.declared.phase.Phase.TheVariants as phases
 use Rattle.iscsi_target.proofs.Apart.{apart_from, part_as, part_none, served_apart, with_session}

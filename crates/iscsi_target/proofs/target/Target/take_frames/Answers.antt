@@ -1,5 +1,5 @@
-use Rattle.std.proofs.Common.{◌≡◌, ◌<◌, sym, ap, ◌∙◌, subst}
-use Rattle.iscsi_target.specs.Machine.{Machine, link_at}
+use Rattle.std.proofs.Common.{sym, ◌∙◌, subst}
+use Rattle.iscsi_target.specs.Machine.{Machine}
 use Rattle.iscsi_target.specs.Serving.{first_starved, TakesAll}
 use Rattle.iscsi_target.proofs.Taking.{begins, goes_on, progress_as, ends_idle, ends_whole, taken_is_shorter}
 use Rattle.iscsi_target.proofs.target.Target.take_frames.Goals as goal

@@ -1,4 +1,4 @@
-use Rattle.std.proofs.Common.{ℕ, length}
+use Rattle.std.proofs.Common.{length}
 use Rattle.iscsi_target.specs.Machine.{link_at}
 use Rattle.iscsi_target.specs.Serving.{first_starved}
 use Rattle.iscsi_target.proofs.Taking.{Progress}

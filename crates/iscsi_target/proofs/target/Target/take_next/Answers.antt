@@ -1,6 +1,5 @@
-use Rattle.std.proofs.Common.{◌≡◌, ◌<◌, length, Some, refl, sym, ap, ◌∙◌, subst}
+use Rattle.std.proofs.Common.{refl, sym, ap, ◌∙◌}
 use Rattle.iscsi_target.specs.Machine.{Machine, link_at, closed, GivesFrame}
-use Rattle.iscsi_target.specs.Serving.{TakesOne}
 use Rattle.iscsi_target.proofs.Taking.{none_whole, takes_frame, takes_long, takes_none, takes_as}
 use Rattle.iscsi_target.proofs.target.Target.take_next.Goals as goal
 

@@ -1,0 +1,224 @@
+-- An R2T is sent, and a command of the queue is done where its data is whole.
+use Rattle.std.proofs.Common.{◌≡◌, ◌≢◌, ◌==◌, ℕ, ◌+◌, ◌%◌, ◌<◌, List, [], ◌∷◌, ◌++◌, length, map, set, Bool, true, false, cond, Option, Some, None, eqb, refl, sym, ap, subst, ◌∙◌, arith, append-nil}
+use Rattle.std.specs.Prelude.{filter, fold, find, is_some, option_map, slice_get}
+use Rattle.std.proofs.lemmas.Bool.{eq-eqb, ne_eqb}
+use Rattle.std.proofs.lemmas.List.{length-append, map-append}
+use Rattle.std.proofs.lemmas.List.Elements.{filter-append, All-push}
+use Rattle.iscsi_pdu.specs.DataOut.{no_transfer_tag}
+use Rattle.iscsi_pdu.specs.declared.r2t.R2t.{R2t}
+use Rattle.iscsi_pdu.specs.declared.stamp.Stamp.{Stamp}
+use Rattle.iscsi_transfer.specs.Task.{TaskState, remembered as task_of}
+use Rattle.iscsi_transfer.proofs.Standing.{remembered-asked}
+use Rattle.iscsi_session.specs.declared.transfers.Transfer.{Transfer}
+use Rattle.iscsi_session.specs.Requests.{Past, SentR2t, frame_of, is_in, due, queue, unfinished, stamp, statuses, bearing}
+use Rattle.iscsi_session.specs.Transfers.{outs_of, tags_of, last_tag, data_past, task_at, is_whole_of, ask_of, asking, next_transfer_tag, r2t_for, r2t_answers, r2t_of, asked, asked_by, r2ts_by}
+use Rattle.iscsi_session.specs.State.{SessionState, TransferList, IsLawful, Stands, tasks_of, transfers_of, transfer_of, transfer_at, no_transfer, due_of, asking_place, r2t_at, asked_at, sent_to}
+use Rattle.iscsi_session.specs.Steps.{ready, ready_in}
+use Rattle.iscsi_order.specs.Stat.{stat_sn}
+use Rattle.iscsi_session.proofs.Left.{in_at, in_filter}
+use Rattle.iscsi_session.proofs.Places.{Located, located, index_map, set_map, first_passes, none_passes}
+use Rattle.iscsi_session.proofs.Unfinished.{unfinished_came, unfinished_distinct}
+use Rattle.iscsi_session.proofs.Parts.{parts}
+use Rattle.iscsi_session.proofs.Feeding.{list_is}
+use Rattle.iscsi_session.proofs.Runs.{statuses_answering}
+
+-- ---- its tag is the last one
+
+last_push : (tags : List ℕ) (tag before : ℕ) → fold (λ before tag. tag) before (tags ++ tag ∷ []) ≡ tag
+last_push [] tag before = refl
+last_push (first ∷ tags) tag before = last_push tags tag first
+
+one_tag : (b : Bool) (k j tag : ℕ) (l : List SentR2t) → eqb k j ≡ b
+    → map (λ r. r.tag) (filter (λ r. r.command == j) (l ++ record { command = k; tag = tag } ∷ []))
+    ≡ map (λ r. r.tag) (filter (λ r. r.command == j) l) ++ cond b (tag ∷ []) []
+one_tag true k j tag l e =
+    ap (map (λ (r : SentR2t). r.tag)) (filter-append (λ (r : SentR2t). r.command == j) l (record { command = k; tag = tag } ∷ []))
+    ∙ map-append (λ (r : SentR2t). r.tag) (filter (λ (r : SentR2t). r.command == j) l) (filter (λ (r : SentR2t). r.command == j)
+    (record { command = k; tag = tag } ∷ []))
+    ∙ rw e refl
+one_tag false k j tag l e =
+    ap (map (λ (r : SentR2t). r.tag)) (filter-append (λ (r : SentR2t). r.command == j) l (record { command = k; tag = tag } ∷ []))
+    ∙ map-append (λ (r : SentR2t). r.tag) (filter (λ (r : SentR2t). r.command == j) l) (filter (λ (r : SentR2t). r.command == j)
+    (record { command = k; tag = tag } ∷ []))
+    ∙ rw e refl
+
+abbrev from_tags : Past → ℕ → List ℕ → Transfer
+from_tags past k tags = record {
+  header = (frame_of past.came k).header;
+  task = task_of (record { values = past.params.values; command = frame_of past.came k; outs = outs_of past k; tag = last_tag tags });
+  sent = length tags;
+}
+
+asked_there : (past : Past) (k : ℕ) → transfer_of (asked k past) k ≡ sent_to (next_transfer_tag past) (transfer_of past k)
+unfolding task_at outs_of tags_of
+asked_there past k =
+    let tag = next_transfer_tag past in
+    let tags = tags_of past k in
+    ap (from_tags past k) (one_tag true k k tag past.r2ts (eq-eqb k k refl))
+    ∙ ap (λ (t : ℕ). record (from_tags past k (tags ++ tag ∷ [])) { task = task_of (record (data_past past k) { tag = t }) }) (last_push tags tag no_transfer_tag)
+    ∙ ap (λ (t : TaskState). record (from_tags past k (tags ++ tag ∷ [])) { task = t }) (remembered-asked (data_past past k) tag)
+    ∙ ap (λ (n : ℕ). record (sent_to tag (transfer_of past k)) { sent = n }) (length-append tags (tag ∷ []))
+
+asked_elsewhere : (past : Past) (k j : ℕ) → j ≢ k → transfer_of (asked k past) j ≡ transfer_of past j
+unfolding task_at outs_of tags_of
+asked_elsewhere past k j differ =
+    ap (from_tags past j) (one_tag false k j (next_transfer_tag past) past.r2ts (ne_eqb k j (λ e. differ (sym e)))
+    ∙ append-nil (map (λ (r : SentR2t). r.tag) (filter (λ (r : SentR2t). r.command == j) past.r2ts)))
+
+unfinished_asked : (past : Past) (k : ℕ) → unfinished (asked k past) ≡ unfinished past
+unfolding unfinished
+unfinished_asked past k = refl
+
+tasks_asked : (past : Past) (k : ℕ) → tasks_of (asked k past) ≡ tasks_of past
+unfolding tasks_of due queue
+tasks_asked past k = refl
+
+-- ---- which command is asked
+
+located_asking : (past : Past) → Located (λ transfer. is_some (due_of transfer)) (transfer_of past) (unfinished past)
+    (asking_place (map (transfer_of past) (unfinished past)))
+located_asking past = located (λ (transfer : Transfer). is_some (due_of transfer)) (transfer_of past) (unfinished past)
+
+pub asking_came : (past : Past) (k : ℕ) (rest : List ℕ) → asking past ≡ k ∷ rest → k < length past.came
+unfolding asking
+asking_came past k rest is = unfinished_came past k (in_filter k (λ a. is_some (ask_of past a)) (unfinished past)
+    (ap (λ (l : List ℕ). is_in k l) is ∙ in_at (k ∷ rest) 0 0 (omega arith)))
+
+none_asking : (past : Past) → find (λ k. is_some (ask_of past k)) (unfinished past) ≡ None → asking past ≡ []
+unfolding asking
+none_asking past e = none_passes (λ k. is_some (ask_of past k)) (unfinished past) e
+
+one_asking : (past : Past) (k : ℕ) → find (λ k. is_some (ask_of past k)) (unfinished past) ≡ Some k → (others : List ℕ) × (asking past ≡ k ∷ others)
+unfolding asking
+one_asking past k e = first_passes (λ k. is_some (ask_of past k)) k (unfinished past) e
+
+-- ---- what is remembered behind it
+
+asked_list : (past : Past) (k i : ℕ) → slice_get (unfinished past) i ≡ Some k
+    → set (map (transfer_of past) (unfinished past)) i (sent_to (next_transfer_tag past) (transfer_at (map (transfer_of past) (unfinished past)) i))
+    ≡ map (transfer_of (asked k past)) (unfinished past)
+asked_list past k i at =
+    ap (λ (t : Transfer). set (map (transfer_of past) (unfinished past)) i (sent_to (next_transfer_tag past) t))
+    (index_map (transfer_of past) no_transfer (unfinished past) i k at)
+    ∙ ap (set (map (transfer_of past) (unfinished past)) i) (sym (asked_there past k))
+    ∙ set_map (transfer_of past) (transfer_of (asked k past)) (unfinished past) i k (unfinished_distinct past) at
+    (λ j differ. asked_elsewhere past k j differ)
+
+asked_transfers : (past : Past) (k i : ℕ) → slice_get (unfinished past) i ≡ Some k → asked_at (transfers_of past) (Some i) ≡ transfers_of (asked k past)
+unfolding transfers_of
+asked_transfers past k i at =
+    let next : (length past.r2ts % 0xFFFFFFFF + 1) % 0xFFFFFFFF ≡ length (past.r2ts ++ record { command = k; tag = next_transfer_tag past } ∷ []) % 0xFFFFFFFF =
+    omega (arith, length-append past.r2ts (record { command = k; tag = next_transfer_tag past } ∷ [])) in
+    let list = asked_list past k i at ∙ ap (map (transfer_of (asked k past))) (sym (unfinished_asked past k)) in
+    ap (λ (n : ℕ). record (asked_at (transfers_of past) (Some i)) { next_tag = n }) next
+    ∙ ap (λ (l : List Transfer). record (transfers_of (asked k past)) { list = l }) list
+
+none_bears_by : (r : Option R2t) → bearing (r2t_answers r) ≡ 0
+none_bears_by None = refl
+none_bears_by (Some r2t) = refl
+
+r2t_bears_none : (past : Past) (k : ℕ) → bearing (r2t_of past k) ≡ 0
+unfolding r2t_of
+r2t_bears_none past k = none_bears_by _
+
+statuses_asked : (past : Past) (k : ℕ) → statuses (asked k past) ≡ statuses past
+statuses_asked past k =
+    omega (
+      arith,
+      statuses_answering (r2t_of past k) (record past { r2ts = past.r2ts ++ record { command = k; tag = next_transfer_tag past } ∷ [] }),
+      r2t_bears_none past k,
+    )
+
+pub lawful_asked : (past : Past) (k : ℕ) → k < length past.came → IsLawful past → IsLawful (asked k past)
+unfolding due queue unfinished
+lawful_asked past k lt lawful = record {
+  window = lawful.window;
+  distinct = lawful.distinct;
+  delivered = lawful.delivered;
+  in_order = lawful.in_order;
+  below = lawful.below;
+  acted = lawful.acted;
+  queued = lawful.queued;
+  at_once = lawful.at_once;
+  handed = lawful.handed;
+  fed = lawful.fed;
+  asked = All-push (λ (r : SentR2t). r.command < length past.came) past.r2ts (record { command = k; tag = next_transfer_tag past }) lawful.asked lt;
+  tags = lawful.tags;
+  none_removed = lawful.none_removed;
+}
+
+stands_one : (past : Past) (state : SessionState) (k i : ℕ) (others : List ℕ) → Stands past state → asking past ≡ k ∷ others
+    → slice_get (unfinished past) i ≡ Some k → Stands (asked k past) (record state { transfers = asked_at state.transfers (Some i) })
+stands_one past state k i others s is at =
+    let p = parts past state s in
+    let stat_is : state.stat ≡ stat_sn (statuses (asked k past)) = p.stat_is ∙ ap stat_sn (sym (statuses_asked past k)) in
+    let tasks_is = p.tasks_is ∙ sym (tasks_asked past k) in
+    let transfers_is : asked_at state.transfers (Some i) ≡ transfers_of (asked k past) =
+    ap (λ (t : TransferList). asked_at t (Some i)) p.transfers_is ∙ asked_transfers past k i at in
+    record { lawful = lawful_asked past k (asking_came past k others is) s.lawful; remembered = rw (p.params_is, stat_is, tasks_is, transfers_is) refl }
+
+stands_place : (past : Past) (state : SessionState) (at : Option ℕ) → Stands past state
+    → Located (λ transfer. is_some (due_of transfer)) (transfer_of past) (unfinished past) at
+    → Stands (asked_by (asking past) past) (record state { transfers = asked_at state.transfers at })
+stands_place past state None s found = subst (λ (l : List ℕ). Stands (asked_by l past) state) (sym (none_asking past found)) s
+stands_place past state (Some i) s found =
+    let one = one_asking past found.0 found.1 in
+    subst (λ (l : List ℕ). Stands (asked_by l past) (record state { transfers = asked_at state.transfers (Some i) })) (sym one.1)
+    (stands_one past state found.0 i one.0 s one.1 found.2)
+
+pub stands_asked : (past : Past) (state : SessionState) → Stands past state
+    → Stands (asked_by (asking past) past) (record state { transfers = asked_at state.transfers (asking_place state.transfers.list) })
+stands_asked past state s =
+    stands_place past state (asking_place state.transfers.list) s
+    (subst (λ (l : List Transfer). Located (λ transfer. is_some (due_of transfer)) (transfer_of past) (unfinished past) (asking_place l))
+    (sym (list_is past state s)) (located_asking past))
+
+-- ---- what is sent
+
+r2t_place : (past : Past) (state : SessionState) (numbers : Stamp) (at : Option ℕ) → Stands past state → numbers ≡ stamp past
+    → Located (λ transfer. is_some (due_of transfer)) (transfer_of past) (unfinished past) at
+    → r2t_answers (r2t_at state.transfers numbers at) ≡ r2ts_by (asking past) past
+unfolding r2t_of transfers_of
+r2t_place past state numbers None s same found = ap (λ (l : List ℕ). r2ts_by l past) (sym (none_asking past found))
+r2t_place past state numbers (Some i) s same found =
+    let one = one_asking past found.0 found.1 in
+    ap (λ (t : TransferList). r2t_answers (r2t_at t numbers (Some i))) (parts past state s).transfers_is
+    ∙ ap (λ (t : Transfer). r2t_answers (option_map (r2t_for t.header (next_transfer_tag past) numbers) (due_of t)))
+    (index_map (transfer_of past) no_transfer (unfinished past) i found.0 found.2)
+    ∙ ap (λ (n : Stamp). r2t_answers (option_map (r2t_for (frame_of past.came found.0).header (next_transfer_tag past) n) (ask_of past found.0))) same
+    ∙ ap (λ (l : List ℕ). r2ts_by l past) (sym one.1)
+
+pub r2ts_are : (past : Past) (state : SessionState) (numbers : Stamp) → Stands past state → numbers ≡ stamp past
+    → r2t_answers (r2t_at state.transfers numbers (asking_place state.transfers.list)) ≡ r2ts_by (asking past) past
+r2ts_are past state numbers s same =
+    r2t_place past state numbers (asking_place state.transfers.list) s same
+    (subst (λ (l : List Transfer). Located (λ transfer. is_some (due_of transfer)) (transfer_of past) (unfinished past) (asking_place l))
+    (sym (list_is past state s)) (located_asking past))
+
+-- whether there is one
+there_by : (past : Past) (at : Option ℕ) → Located (λ transfer. is_some (due_of transfer)) (transfer_of past) (unfinished past) at
+    → (is_some at ≡ true → (k : ℕ) × (others : List ℕ) × (asking past ≡ k ∷ others)) × (is_some at ≡ false → asking past ≡ [])
+there_by past None found = (λ e. absurd cc, λ e. none_asking past found)
+there_by past (Some i) found = (λ e. (let one = one_asking past found.0 found.1 in (found.0, one.0, one.1)), λ e. absurd cc)
+
+pub asking_there : (past : Past) (state : SessionState) → Stands past state
+    → (is_some (asking_place state.transfers.list) ≡ true → (k : ℕ) × (others : List ℕ) × (asking past ≡ k ∷ others))
+    × (is_some (asking_place state.transfers.list) ≡ false → asking past ≡ [])
+asking_there past state s =
+    there_by past (asking_place state.transfers.list)
+    (subst (λ (l : List Transfer). Located (λ transfer. is_some (due_of transfer)) (transfer_of past) (unfinished past) (asking_place l))
+    (sym (list_is past state s)) (located_asking past))
+
+-- ---- a command that can be done is the first of the queue
+
+ready_by : (b : Bool) (past : Past) (k a : ℕ) (rest l : List ℕ) → is_whole_of past a ≡ b → ready_in past (a ∷ l) ≡ k ∷ rest → a ∷ l ≡ k ∷ rest
+ready_by true past k a rest l e is = let h = rw e at is in h
+ready_by false past k a rest l e is = absurd (let h : [] ≡ k ∷ rest = rw e at is in cc)
+
+ready_from : (past : Past) (k : ℕ) (rest l : List ℕ) → ready_in past l ≡ k ∷ rest → l ≡ k ∷ rest
+ready_from past k rest [] is = absurd cc
+ready_from past k rest (a ∷ l) is = ready_by (is_whole_of past a) past k a rest l refl is
+
+pub ready_queue : (past : Past) (k : ℕ) (rest : List ℕ) → ready past ≡ k ∷ rest → queue past ≡ k ∷ rest
+unfolding ready
+ready_queue past k rest is = ready_from past k rest (queue past) is

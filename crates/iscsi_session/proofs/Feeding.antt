@@ -1,0 +1,238 @@
+-- The data of the commands: where each stands, what a Data-Out and an R2T make of it.
+use Rattle.std.proofs.Common.{◌≡◌, ◌≢◌, ◌==◌, ℕ, ◌<◌, List, [], ◌∷◌, ◌++◌, length, map, set, ltb, Bool, true, false, not, cond, Option, Some, None, eqb, refl, sym, ap, ◌∙◌, arith, append-nil}
+use Rattle.std.specs.Prelude.{filter, find, is_some, slice_get, if◌then◌else◌}
+use Rattle.std.proofs.lemmas.Bool.{eq-eqb, ne_eqb}
+use Rattle.std.proofs.lemmas.List.{map-append}
+use Rattle.std.proofs.lemmas.List.Elements.{filter-append, All-push}
+use Rattle.iscsi_pdu.specs.Header.{is_immediate, initiator_task_tag}
+use Rattle.iscsi_pdu.specs.Frames.{Frame}
+use Rattle.iscsi_transfer.specs.Task.{TaskState, remembered as task_of, fault_of, is_whole, with_data}
+use Rattle.iscsi_transfer.proofs.Standing.{remembered-accepted}
+use Rattle.iscsi_session.specs.declared.transfers.Transfer.{Transfer}
+use Rattle.iscsi_session.specs.declared.verdict.Verdict.TheVariants.{Violating, Feeding}
+use Rattle.iscsi_session.specs.Requests.{Past, DataOut, frame_of, is_in, due, queue, unfinished, finished}
+use Rattle.iscsi_session.specs.Judging.{is_live, is_full, data_verdict}
+use Rattle.iscsi_session.specs.Transfers.{tag_of, command_with, outs_of, tags_of, last_tag, data_past, task_at, payload_of, is_whole_of, fed}
+use Rattle.iscsi_session.specs.State.{SessionState, TransferList, IsLawful, Stands, tasks_of, transfers_of, transfer_of, no_transfer, bears, place_with, place_for, has_most, judged_at, fed_at, whole_at, payload_at, removed_at}
+use Rattle.iscsi_session.proofs.Left.{in_at}
+use Rattle.iscsi_session.proofs.Places.{Located, located, index_map, set_map, remove_map, missing, found_or_not, found_self, count_map, or_known}
+use Rattle.iscsi_session.proofs.Unfinished.{unfinished_came, unfinished_distinct, queue_unfinished}
+use Rattle.iscsi_session.proofs.Moved.{transfers_finished}
+use Rattle.iscsi_session.proofs.Parts.{parts, stands_parts}
+
+pub list_is : (past : Past) (state : SessionState) → Stands past state → state.transfers.list ≡ map (transfer_of past) (unfinished past)
+unfolding transfers_of
+list_is past state s = ap (λ (t : TransferList). t.list) (parts past state s).transfers_is
+
+-- where the command with a tag stands
+located_with : (past : Past) (tag : ℕ)
+    → Located (bears tag) (transfer_of past) (unfinished past) (place_with tag (map (transfer_of past) (unfinished past)))
+located_with past tag = located (bears tag) (transfer_of past) (unfinished past)
+
+-- ---- tags
+
+pub live_is : (past : Past) (state : SessionState) (tag : ℕ) → Stands past state → is_some (place_with tag state.transfers.list) ≡ is_live past tag
+live_is past state tag s =
+    ap (λ (l : List Transfer). is_some (place_with tag l)) (list_is past state s)
+    ∙ found_or_not (bears tag) (transfer_of past) (unfinished past) _ (located_with past tag)
+
+pub full_is : (past : Past) (state : SessionState) → Stands past state → has_most state.transfers.list ≡ is_full past
+full_is past state s =
+    ap has_most (list_is past state s)
+    ∙ ap (λ (n : ℕ). not (ltb n 8)) (count_map (λ transfer. is_immediate transfer.header) (transfer_of past) (unfinished past))
+
+pub none_by : {A : Type 0} (at : Option A) → is_some at ≡ false → at ≡ None
+none_by None e = refl
+none_by (Some k) e = absurd cc
+
+pub free_by_past : (past : Past) (tag : ℕ) → is_live past tag ≡ false → is_in tag (map (tag_of past.came) (unfinished past)) ≡ false
+free_by_past past tag e = missing (tag_of past.came) tag (unfinished past) (none_by (command_with past tag) e)
+
+pub free_tag : (past : Past) (state : SessionState) (frame : Frame) → Stands past state → place_for frame state.transfers.list ≡ None
+    → is_in (initiator_task_tag frame.header) (map (tag_of past.came) (unfinished past)) ≡ false
+free_tag past state frame s e =
+    free_by_past past (initiator_task_tag frame.header) (sym (live_is past state (initiator_task_tag frame.header) s) ∙ ap is_some e)
+
+-- ---- a Data-Out is judged
+
+judged_place : (past : Past) (frame : Frame) (at : Option ℕ) → Located (bears (initiator_task_tag frame.header)) (transfer_of past) (unfinished past) at
+    → judged_at (map (transfer_of past) (unfinished past)) frame at ≡ data_verdict past frame (command_with past (initiator_task_tag frame.header))
+judged_place past frame None found = ap (data_verdict past frame) (sym found)
+judged_place past frame (Some i) found =
+    ap (λ (t : Transfer). if is_some (fault_of t.task frame) then Violating else Feeding) (index_map (transfer_of past) no_transfer (unfinished past) i found.0
+    found.2) ∙ ap (data_verdict past frame) (sym found.1)
+
+pub judged_is : (past : Past) (state : SessionState) (frame : Frame) → Stands past state
+    → judged_at state.transfers.list frame (place_for frame state.transfers.list) ≡ data_verdict past frame (command_with past (initiator_task_tag frame.header))
+judged_is past state frame s =
+    ap (λ (l : List Transfer). judged_at l frame (place_for frame l)) (list_is past state s)
+    ∙ judged_place past frame _ (located_with past (initiator_task_tag frame.header))
+
+-- ---- a Data-Out is accepted
+
+abbrev feeding : ℕ → Frame → Past → Past
+feeding k frame past = record past { data_outs = past.data_outs ++ record { command = k; frame = frame } ∷ [] }
+
+one_out : (b : Bool) (k j : ℕ) (frame : Frame) (l : List DataOut) → eqb k j ≡ b
+    → map (λ d. d.frame) (filter (λ d. d.command == j) (l ++ record { command = k; frame = frame } ∷ []))
+    ≡ map (λ d. d.frame) (filter (λ d. d.command == j) l) ++ cond b (frame ∷ []) []
+one_out true k j frame l e =
+    ap (map (λ (d : DataOut). d.frame)) (filter-append (λ (d : DataOut). d.command == j) l (record { command = k; frame = frame } ∷ []))
+    ∙ map-append (λ (d : DataOut). d.frame) (filter (λ (d : DataOut). d.command == j) l) (filter (λ (d : DataOut). d.command == j)
+    (record { command = k; frame = frame } ∷ []))
+    ∙ rw e refl
+one_out false k j frame l e =
+    ap (map (λ (d : DataOut). d.frame)) (filter-append (λ (d : DataOut). d.command == j) l (record { command = k; frame = frame } ∷ []))
+    ∙ map-append (λ (d : DataOut). d.frame) (filter (λ (d : DataOut). d.command == j) l) (filter (λ (d : DataOut). d.command == j)
+    (record { command = k; frame = frame } ∷ []))
+    ∙ rw e refl
+
+-- of the past of its data, and of how many R2Ts were sent for it
+abbrev from_outs : Past → ℕ → List Frame → Transfer
+from_outs past k outs = record {
+  header = (frame_of past.came k).header;
+  task = task_of (record { values = past.params.values; command = frame_of past.came k; outs = outs; tag = last_tag (tags_of past k) });
+  sent = length (tags_of past k);
+}
+
+fed_there : (past : Past) (k : ℕ) (frame : Frame)
+    → transfer_of (feeding k frame past) k ≡ record (transfer_of past k) { task = with_data (task_at past k) frame }
+unfolding task_at outs_of tags_of
+fed_there past k frame =
+    ap (from_outs past k) (one_out true k k frame past.data_outs (eq-eqb k k refl))
+    ∙ ap (λ (t : TaskState). record (transfer_of past k) { task = t }) (remembered-accepted (data_past past k) frame)
+
+fed_elsewhere : (past : Past) (k j : ℕ) (frame : Frame) → j ≢ k → transfer_of (feeding k frame past) j ≡ transfer_of past j
+unfolding task_at outs_of tags_of
+fed_elsewhere past k j frame differ =
+    ap (from_outs past j) (one_out false k j frame past.data_outs (ne_eqb k j (λ e. differ (sym e)))
+    ∙ append-nil (map (λ (d : DataOut). d.frame) (filter (λ (d : DataOut). d.command == j) past.data_outs)))
+
+unfinished_fed : (past : Past) (k : ℕ) (frame : Frame) → unfinished (feeding k frame past) ≡ unfinished past
+unfolding unfinished
+unfinished_fed past k frame = refl
+
+fed_list : (past : Past) (k i : ℕ) (frame : Frame) → slice_get (unfinished past) i ≡ Some k
+    → fed_at (map (transfer_of past) (unfinished past)) frame (Some i) ≡ map (transfer_of (feeding k frame past)) (unfinished past)
+fed_list past k i frame at =
+    ap (λ (t : Transfer). set (map (transfer_of past) (unfinished past)) i (record t { task = with_data t.task frame }))
+    (index_map (transfer_of past) no_transfer (unfinished past) i k at)
+    ∙ ap (set (map (transfer_of past) (unfinished past)) i) (sym (fed_there past k frame))
+    ∙ set_map (transfer_of past) (transfer_of (feeding k frame past)) (unfinished past) i k (unfinished_distinct past) at
+    (λ j differ. fed_elsewhere past k j frame differ)
+
+fed_place : (past : Past) (frame : Frame) (at : Option ℕ) → Located (bears (initiator_task_tag frame.header)) (transfer_of past) (unfinished past) at
+    → record (transfers_of past) { list = fed_at (map (transfer_of past) (unfinished past)) frame at }
+    ≡ transfers_of (fed (command_with past (initiator_task_tag frame.header)) frame past)
+unfolding transfers_of
+fed_place past frame None found = ap (λ (c : Option ℕ). transfers_of (fed c frame past)) (sym found)
+fed_place past frame (Some i) found =
+    ap (λ (l : List Transfer). record (transfers_of past) { list = l }) (fed_list past found.0 i frame found.2
+    ∙ ap (map (transfer_of (feeding found.0 frame past))) (sym (unfinished_fed past found.0 frame)))
+    ∙ ap (λ (c : Option ℕ). transfers_of (fed c frame past)) (sym found.1)
+
+pub fed_is : (past : Past) (state : SessionState) (frame : Frame) → Stands past state
+    → record state.transfers { list = fed_at state.transfers.list frame (place_for frame state.transfers.list) }
+    ≡ transfers_of (fed (command_with past (initiator_task_tag frame.header)) frame past)
+unfolding transfers_of
+fed_is past state frame s =
+    ap (λ (t : TransferList). record t { list = fed_at t.list frame (place_for frame t.list) }) (parts past state s).transfers_is
+    ∙ fed_place past frame _ (located_with past (initiator_task_tag frame.header))
+
+lawful_fed_at : (past : Past) (k : ℕ) (frame : Frame) → k < length past.came → IsLawful past → IsLawful (feeding k frame past)
+unfolding due queue unfinished
+lawful_fed_at past k frame lt lawful = record {
+  window = lawful.window;
+  distinct = lawful.distinct;
+  delivered = lawful.delivered;
+  in_order = lawful.in_order;
+  below = lawful.below;
+  acted = lawful.acted;
+  queued = lawful.queued;
+  at_once = lawful.at_once;
+  handed = lawful.handed;
+  fed = All-push (λ (d : DataOut). d.command < length past.came) past.data_outs (record { command = k; frame = frame }) lawful.fed lt;
+  asked = lawful.asked;
+  tags = lawful.tags;
+  none_removed = lawful.none_removed;
+}
+
+pub found_in : (q : ℕ → Bool) (k : ℕ) (names : List ℕ) → find q names ≡ Some k → is_in k names ≡ true
+found_in q k [] e = absurd cc
+found_in q k (a ∷ names) e = found_in_with (q a) refl (λ h. found_in q k names h)
+  where
+    found_in_with : (b : Bool) → q a ≡ b → (find q names ≡ Some k → is_in k names ≡ true) → is_in k (a ∷ names) ≡ true
+    found_in_with true is rest = let same : Some a ≡ Some k = rw is at e in let here : a ≡ k = cc in rw (eq-eqb a k here) refl
+    found_in_with false is rest = let h = rw is at e in or_known (eqb a k) (is_in k names) (rest h)
+
+lawful_fed_by : (past : Past) (frame : Frame) (c : Option ℕ) → command_with past (initiator_task_tag frame.header) ≡ c → IsLawful past → IsLawful (fed c frame past)
+lawful_fed_by past frame None e lawful = lawful
+lawful_fed_by past frame (Some k) e lawful = lawful_fed_at past k frame (unfinished_came past k (found_in _ k (unfinished past) e)) lawful
+
+pub lawful_fed : (past : Past) (frame : Frame) → IsLawful past → IsLawful (fed (command_with past (initiator_task_tag frame.header)) frame past)
+lawful_fed past frame lawful = lawful_fed_by past frame _ refl lawful
+
+pub fed_same : (past : Past) (frame : Frame) (c : Option ℕ) → ((fed c frame past).params ≡ past.params) × ((fed c frame past).answers ≡ past.answers)
+fed_same past frame None = (refl, refl)
+fed_same past frame (Some k) = (refl, refl)
+
+fed_tasks : (past : Past) (frame : Frame) (c : Option ℕ) → tasks_of past ≡ tasks_of (fed c frame past)
+unfolding tasks_of due queue
+fed_tasks past frame None = refl
+fed_tasks past frame (Some k) = refl
+
+pub stands_fed : (past : Past) (state : SessionState) (frame : Frame) → Stands past state
+    → Stands (fed (command_with past (initiator_task_tag frame.header)) frame past)
+    (record state { transfers = record state.transfers { list = fed_at state.transfers.list frame (place_for frame state.transfers.list) } })
+stands_fed past state frame s =
+    let c = command_with past (initiator_task_tag frame.header) in
+    let same = fed_same past frame c in
+    stands_parts past (fed c frame past) state state.tasks _ s (lawful_fed past frame s.lawful) same.0 same.1
+    ((parts past state s).tasks_is ∙ fed_tasks past frame c) (fed_is past state frame s)
+
+-- ---- a command of the queue
+
+-- it is the one with its tag
+located_self : (past : Past) (k : ℕ) (at : Option ℕ) → IsLawful past → is_in k (unfinished past) ≡ true
+    → Located (bears (tag_of past.came k)) (transfer_of past) (unfinished past) at → (i : ℕ) × (at ≡ Some i) × (slice_get (unfinished past) i ≡ Some k)
+located_self past k None lawful there found = absurd (let no = sym (found_self (tag_of past.came) k (unfinished past) lawful.tags there) ∙ found in cc)
+located_self past k (Some i) lawful there found =
+    let both : Some found.0 ≡ Some k = sym found.1 ∙ found_self (tag_of past.came) k (unfinished past) lawful.tags there in
+    let same : found.0 ≡ k = cc in
+    (i, refl, found.2 ∙ ap (λ (n : ℕ). Some n) same)
+
+pub place_self : (past : Past) (k : ℕ) → IsLawful past → is_in k (unfinished past) ≡ true
+    → (i : ℕ) × (place_with (tag_of past.came k) (map (transfer_of past) (unfinished past)) ≡ Some i) × (slice_get (unfinished past) i ≡ Some k)
+place_self past k lawful there = located_self past k _ lawful there (located_with past (tag_of past.came k))
+
+-- the first of the queue is not finished
+pub first_unfinished : (past : Past) (k : ℕ) (rest : List ℕ) → IsLawful past → queue past ≡ k ∷ rest → is_in k (unfinished past) ≡ true
+first_unfinished past k rest lawful is =
+    queue_unfinished past k lawful.none_removed lawful.below (ap (λ (l : List ℕ). is_in k l) is ∙ in_at (k ∷ rest) 0 0 (omega arith))
+
+pub whole_is : (past : Past) (state : SessionState) (k : ℕ) → Stands past state → is_in k (unfinished past) ≡ true
+    → whole_at state.transfers.list (place_for (frame_of past.came k) state.transfers.list) ≡ is_whole_of past k
+whole_is past state k s there =
+    let p = place_self past k s.lawful there in
+    ap (λ (l : List Transfer). whole_at l (place_for (frame_of past.came k) l)) (list_is past state s)
+    ∙ ap (whole_at (map (transfer_of past) (unfinished past))) p.1
+    ∙ ap (λ (t : Transfer). is_whole t.task) (index_map (transfer_of past) no_transfer (unfinished past) p.0 k p.2)
+
+pub payload_is : (past : Past) (state : SessionState) (k : ℕ) → Stands past state → is_in k (unfinished past) ≡ true
+    → payload_at state.transfers.list (place_for (frame_of past.came k) state.transfers.list) ≡ payload_of past k
+payload_is past state k s there =
+    let p = place_self past k s.lawful there in
+    ap (λ (l : List Transfer). payload_at l (place_for (frame_of past.came k) l)) (list_is past state s)
+    ∙ ap (payload_at (map (transfer_of past) (unfinished past))) p.1
+    ∙ ap (λ (t : Transfer). t.task.payload) (index_map (transfer_of past) no_transfer (unfinished past) p.0 k p.2)
+
+pub removed_is : (past : Past) (state : SessionState) (k : ℕ) (rest : List ℕ) → Stands past state → queue past ≡ k ∷ rest
+    → record state.transfers { list = removed_at state.transfers.list (place_for (frame_of past.came k) state.transfers.list) } ≡ transfers_of (finished k past)
+unfolding transfers_of
+removed_is past state k rest s is =
+    let p = place_self past k s.lawful (first_unfinished past k rest s.lawful is) in
+    ap (λ (t : TransferList). record t { list = removed_at t.list (place_for (frame_of past.came k) t.list) }) (parts past state s).transfers_is
+    ∙ ap (λ (at : Option ℕ). record (transfers_of past) { list = removed_at (map (transfer_of past) (unfinished past)) at }) p.1
+    ∙ ap (λ (l : List Transfer). record (transfers_of past) { list = l })
+    (remove_map (transfer_of past) (unfinished past) p.0 k (unfinished_distinct past) p.2)
+    ∙ sym (transfers_finished past s.lawful k rest is)

@@ -1,0 +1,109 @@
+-- The data that initiators send for the SCSI Commands of a session, and the R2Ts that ask for it.
+use Rattle.std.specs.Prelude.{ℕ, ◌%◌, List, [], ◌∷◌, ◌++◌, length, map, filter, fold, find, Bool, ◌==◌, Option, Some, None, is_some, option_map, if◌then◌else◌}
+use Rattle.iscsi_pdu.specs.Header.{initiator_task_tag, lun_field}
+use Rattle.iscsi_pdu.specs.Frames.{Frame}
+use Rattle.iscsi_pdu.specs.declared.answer.Answer.{Answer}
+use Rattle.iscsi_pdu.specs.declared.answer.Answer.TheVariants as answers
+use Rattle.iscsi_pdu.specs.declared.r2t.R2t.{R2t}
+use Rattle.iscsi_pdu.specs.declared.stamp.Stamp.{Stamp}
+use Rattle.iscsi_pdu.specs.DataOut.{no_transfer_tag}
+use Rattle.iscsi_transfer.specs.Payload as payloads
+use Rattle.iscsi_transfer.specs.Task.{TaskState, remembered as task_of, fault_of, due_ask, is_whole}
+use Rattle.iscsi_transfer.specs.declared.task.Ask.{Ask}
+use Rattle.iscsi_transfer.specs.declared.fault.DataFault.{DataFault}
+use Rattle.iscsi_session.specs.Requests.{Request, Past, frame_of, unfinished, stamp, answering}
+
+abbrev pub tag_of : List Request → ℕ → ℕ
+tag_of came k = initiator_task_tag (frame_of came k).header
+
+-- RFC 7143 §11.2.1.8: the SCSI Command with this tag that is not finished
+abbrev pub command_with : Past → ℕ → Option ℕ
+command_with past tag = find (λ k. tag_of past.came k == tag) (unfinished past)
+
+-- ---- of one command
+
+-- its SCSI Data-Outs
+unfoldable pub outs_of : Past → ℕ → List Frame
+outs_of past k = map (λ d. d.frame) (filter (λ d. d.command == k) past.data_outs)
+
+-- the tags of its R2Ts
+unfoldable pub tags_of : Past → ℕ → List ℕ
+tags_of past k = map (λ r. r.tag) (filter (λ r. r.command == k) past.r2ts)
+
+-- the last of them; FFFFFFFFh before the first
+abbrev pub last_tag : List ℕ → ℕ
+last_tag tags = fold (λ before tag. tag) no_transfer_tag tags
+
+-- what has happened to its data
+abbrev pub data_past : Past → ℕ → payloads.Past
+data_past past k = record { values = past.params.values; command = frame_of past.came k; outs = outs_of past k; tag = last_tag (tags_of past k) }
+
+unfoldable pub task_at : Past → ℕ → TaskState
+task_at past k = task_of (data_past past k)
+
+-- all its data so far
+abbrev pub payload_of : Past → ℕ → List ℕ
+payload_of past k = (task_at past k).payload
+
+abbrev pub is_whole_of : Past → ℕ → Bool
+is_whole_of past k = is_whole (task_at past k)
+
+-- why this Data-Out for it is unlawful
+abbrev pub data_fault_of : Past → ℕ → Frame → Option DataFault
+data_fault_of past k frame = fault_of (task_at past k) frame
+
+-- RFC 7143 §11.8.1: R2Ts of a command are numbered, and each is sent once
+abbrev pub unsent : ℕ → Option Ask → Option Ask
+unsent sent None = None
+unsent sent (Some ask) = if ask.number == sent then Some ask else None
+
+-- the part of its data that it is asked for now
+abbrev pub ask_of : Past → ℕ → Option Ask
+ask_of past k = unsent (length (tags_of past k)) (due_ask (task_at past k))
+
+-- ---- R2T (RFC 7143 §11.8)
+
+-- the commands that are asked for data now
+unfoldable pub asking : Past → List ℕ
+asking past = filter (λ k. is_some (ask_of past k)) (unfinished past)
+
+-- own: the number of the session's earlier R2Ts, and never FFFFFFFFh (RFC 7143 §11.7.4)
+abbrev pub next_transfer_tag : Past → ℕ
+next_transfer_tag past = length past.r2ts % 0xFFFFFFFF
+
+-- an R2T to the command with this header; it carries the next StatSN, and does not use it
+abbrev pub r2t_for : List ℕ → ℕ → Stamp → Ask → R2t
+r2t_for header tag numbers_now ask = record {
+  lun = lun_field header;
+  initiator_task_tag = initiator_task_tag header;
+  target_transfer_tag = tag;
+  stamp = numbers_now;
+  r2t_sn = ask.number;
+  buffer_offset = ask.offset;
+  desired_length = ask.length;
+}
+
+abbrev pub r2t_answers : Option R2t → List Answer
+r2t_answers None = []
+r2t_answers (Some r2t) = answers.R2t r2t ∷ []
+
+unfoldable pub r2t_of : Past → ℕ → List Answer
+r2t_of past k = r2t_answers (option_map (r2t_for (frame_of past.came k).header (next_transfer_tag past) (stamp past)) (ask_of past k))
+
+abbrev pub asked : ℕ → Past → Past
+asked k past = answering (r2t_of past k) (record past { r2ts = past.r2ts ++ record { command = k; tag = next_transfer_tag past } ∷ [] })
+
+-- the first of these is asked
+abbrev pub asked_by : List ℕ → Past → Past
+asked_by [] past = past
+asked_by (k ∷ others) past = asked k past
+
+abbrev pub r2ts_by : List ℕ → Past → List Answer
+r2ts_by [] past = []
+r2ts_by (k ∷ others) past = r2t_of past k
+
+-- ---- a Data-Out is accepted
+
+abbrev pub fed : Option ℕ → Frame → Past → Past
+fed None frame past = past
+fed (Some k) frame past = record past { data_outs = past.data_outs ++ record { command = k; frame = frame } ∷ [] }

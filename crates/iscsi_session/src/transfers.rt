@@ -1,0 +1,259 @@
+//! The data that the initiator sends for the SCSI Commands of a session.
+
+ghost use Rattle.std.specs.Prelude.{◌≡◌, ◌≤◌, ◌<◌, ◌+◌, ◌%◌, ◌++◌, ◌∷◌, List, [], None, is_some, IfOk, OnOk, OnErr};
+ghost use Rattle.iscsi_transfer.specs.Payload.{begun};
+ghost use Rattle.iscsi_transfer.specs.Task.{command_fault, remembered as task_of};
+ghost use Rattle.iscsi_session.specs.Transfers.{r2t_for};
+ghost use Rattle.iscsi_session.specs.declared.transfers.Transfer.{Transfer};
+ghost use Rattle.iscsi_session.specs.declared.verdict.Verdict.TheVariants.{Feeding};
+ghost use Rattle.iscsi_session.specs.State.{no_transfers, place_with, has_most, judged_at, fed_at, whole_at, payload_at, removed_at, place_for, begun_transfer, due_of, asking_place, r2t_at, asked_at};
+
+use crate::fault::Memory;
+use crate::verdict::Verdict;
+use iscsi_login::Values;
+use iscsi_pdu::{Frame, Header, R2t, Stamp};
+use iscsi_transfer::{Ask, Task};
+use std::alloc::Global;
+use std::marker::Model;
+
+/// So many SCSI Commands for immediate delivery may be unfinished.
+const MOST_IMMEDIATE: usize = 8;
+
+/// The Target Transfer Tag of unsolicited data (RFC 7143 §11.7.4). Those of R2Ts are below it.
+const NO_TRANSFER_TAG: u32 = 0xffff_ffff;
+
+/// The data of one SCSI Command.
+#[derive(Drop)]
+pub(crate) struct Transfer {
+    /// The header of the command.
+    header: Header,
+    task: Task,
+    /// How many R2Ts were sent for it.
+    sent: usize,
+}
+
+/// The data of the SCSI Commands that are not finished, in the order in which they came.
+#[derive(Drop)]
+pub(crate) struct Transfers {
+    /// The Target Transfer Tag of the next R2T.
+    next_tag: u32,
+    list: Vec<Transfer>,
+    alloc: Global,
+}
+
+impl Model for Transfers {
+    ghost use Rattle.std.specs.Prelude.{◌<◌};
+    ghost use Rattle.iscsi_session.specs.State.{TransferList};
+
+    ghost Value = { TransferList };
+
+    ghost view = { λ t. record { next_tag = t.next_tag; list = t.list.items } };
+
+    ghost invariant = { λ t. t.next_tag < 0xFFFFFFFF };
+}
+
+impl Transfer {
+    /// The part of its data that the command is asked for now. Each R2T is sent once.
+    fn due(&self) -> Option<Ask>
+        ensures { result ≡ due_of self.now }
+    {
+        let ask = self.task.due()?;
+        if ask.number as usize == self.sent {
+            Some(ask)
+        } else {
+            None
+        }
+    }
+}
+
+impl Transfers {
+    /// No command. It takes no memory.
+    pub(crate) fn new(alloc: Global) -> Transfers
+        ensures { result ≡ no_transfers }
+    {
+        Transfers {
+            next_tag: 0,
+            list: Vec::new(alloc),
+            alloc,
+        }
+    }
+
+    /// Where the command with this tag stands.
+    fn place_of(&self, tag: u32) -> Option<usize>
+        ensures { result ≡ place_with tag self.now.list }
+    {
+        self.list
+            .iter()
+            .position(|transfer| transfer.header.initiator_task_tag() == tag)
+    }
+
+    /// A SCSI Command with this tag is not finished.
+    pub(crate) fn is_live(&self, tag: u32) -> bool
+        ensures { result ≡ is_some (place_with tag self.now.list) }
+    {
+        self.place_of(tag).is_some()
+    }
+
+    /// As many SCSI Commands for immediate delivery as may be are not finished.
+    pub(crate) fn is_full(&self) -> bool
+        ensures { result ≡ has_most self.now.list }
+    {
+        let mut immediate = 0;
+        for transfer in &self.list {
+            if transfer.header.is_immediate() {
+                immediate += 1;
+            }
+        }
+        immediate >= MOST_IMMEDIATE
+    }
+
+    /// What a Data-Out is judged to be.
+    pub(crate) fn judge(&self, frame: &Frame) -> Verdict
+        ensures { result ≡ judged_at self.now.list frame.now (place_for frame.now self.now.list) }
+    {
+        let Some(place) = self.place_of(frame.header.initiator_task_tag()) else {
+            return Verdict::Dropped;
+        };
+        match self.list[place].task.fault_of(frame) {
+            Some(_) => Verdict::Violating,
+            None => Verdict::Feeding,
+        }
+    }
+
+    /// The data of a Data-Out that is lawful is taken. It takes no memory.
+    pub(crate) fn feed(&mut self, frame: &Frame)
+        requires { judged_at self.old.list frame.now (place_for frame.now self.old.list) ≡ Feeding }
+        ensures { self.new ≡ record self.old { list = fed_at self.old.list frame.now (place_for frame.now self.old.list) } }
+    {
+        let Some(place) = self.place_of(frame.header.initiator_task_tag()) else {
+            return;
+        };
+        // It is lawful, so this does not fail.
+        let _ = self.list[place].task.data_out(frame);
+    }
+
+    /// A SCSI Command that has just come is kept, with the data that it brings. Where an allocation fails nothing
+    /// changes.
+    pub(crate) fn begin(&mut self, frame: &Frame, values: &Values) -> Result<(), Memory>
+        requires burst { 1 ≤ values.now.max_burst_length }
+        requires lawful { command_fault values.now frame.now ≡ None }
+        ensures ok { OnOk result (self.new ≡ record self.old { list = self.old.list ++ begun_transfer frame.now.header (task_of (begun values.now frame.now)) ∷ [] }) }
+        ensures err { OnErr result (self.new ≡ self.old) }
+    {
+        self.list.reserve(1)?;
+        let task = start(self.alloc, frame, values)?;
+        self.list.push_reserved(Transfer {
+            header: frame.header,
+            task,
+            sent: 0,
+        });
+        Ok(())
+    }
+
+    /// The SCSI Command that was kept last is kept no more.
+    pub(crate) fn forget_last(&mut self)
+        ensures { (list : List Transfer) (last : Transfer) → self.old.list ≡ list ++ last ∷ [] → self.new ≡ record self.old { list = list } }
+    {
+        self.list.pop();
+    }
+
+    /// All data of the command with this tag has come.
+    pub(crate) fn is_whole(&self, tag: u32) -> bool
+        ensures { result ≡ whole_at self.now.list (place_with tag self.now.list) }
+    {
+        match self.place_of(tag) {
+            Some(place) => self.list[place].task.is_whole(),
+            None => true,
+        }
+    }
+
+    /// The data of the command with this tag.
+    pub(crate) fn payload(&self, tag: u32) -> &[u8]
+        ensures { result.now ≡ payload_at self.now.list (place_with tag self.now.list) }
+    {
+        match self.place_of(tag) {
+            Some(place) => self.list[place].task.payload(),
+            None => &[],
+        }
+    }
+
+    /// The command with this tag is finished.
+    pub(crate) fn finish(&mut self, tag: u32)
+        ensures { self.new ≡ record self.old { list = removed_at self.old.list (place_with tag self.old.list) } }
+    {
+        if let Some(place) = self.place_of(tag) {
+            self.list.remove(place);
+        }
+    }
+
+    /// Where the first command stands that is asked for data now.
+    fn asking(&self) -> Option<usize>
+        ensures { result ≡ asking_place self.now.list }
+    {
+        self.list
+            .iter()
+            .position(|transfer| transfer.due().is_some())
+    }
+
+    /// A command is asked for data now.
+    pub(crate) fn is_asking(&self) -> bool
+        ensures { result ≡ is_some (asking_place self.now.list) }
+    {
+        self.asking().is_some()
+    }
+
+    /// The R2T that is due is sent, with these numbers.
+    pub(crate) fn ask(&mut self, stamp: Stamp) -> Option<R2t>
+        ensures r2t { result ≡ r2t_at self.old stamp (asking_place self.old.list) }
+        ensures same { self.new ≡ asked_at self.old (asking_place self.old.list) }
+    {
+        let place = self.asking()?;
+        let tag = self.next_tag;
+        let transfer = &mut self.list[place];
+        let ask = transfer.due()?;
+        transfer.task.asked(tag);
+        transfer.sent = ask.number as usize + 1;
+        let header = transfer.header;
+        self.next_tag = next_after(tag);
+        Some(r2t_to(&header, tag, stamp, ask))
+    }
+}
+
+/// The task of a command whose data is as agreed.
+fn start(alloc: Global, frame: &Frame, values: &Values) -> Result<Task, Memory>
+    requires burst { 1 ≤ values.now.max_burst_length }
+    requires lawful { command_fault values.now frame.now ≡ None }
+    ensures { IfOk result (λ task. task ≡ task_of (begun values.now frame.now)) }
+{
+    // It is lawful, so nothing but an allocation fails.
+    match Task::start(alloc, frame, values) {
+        Ok(task) => Ok(task),
+        Err(_) => Err(Memory),
+    }
+}
+
+/// The Target Transfer Tag behind this one.
+fn next_after(tag: u32) -> u32
+    requires { tag < 0xFFFFFFFF }
+    ensures { result ≡ (tag + 1) % 0xFFFFFFFF }
+{
+    if tag + 1 == NO_TRANSFER_TAG {
+        return 0;
+    }
+    tag + 1
+}
+
+/// An R2T to the command with this header (RFC 7143 §11.8).
+fn r2t_to(header: &Header, tag: u32, stamp: Stamp, ask: Ask) -> R2t
+    ensures { result ≡ r2t_for header.now tag stamp ask }
+{
+    R2t {
+        lun: header.lun(),
+        initiator_task_tag: header.initiator_task_tag(),
+        target_transfer_tag: tag,
+        stamp,
+        r2t_sn: ask.number,
+        buffer_offset: ask.offset,
+        desired_length: ask.length,
+    }
+}
