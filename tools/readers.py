@@ -1,110 +1,17 @@
 """What real initiators must see of disks that targetd serves: a check is a function whose name says it."""
 
-import random
 import re
-import subprocess
-import tempfile
 from concurrent.futures import ThreadPoolExecutor
-from contextlib import contextmanager
-from pathlib import Path
-from typing import NamedTuple
 
+from checks import Skipped, must, qemu_io, run, says
+from disks import (BLOCK, DISKS, LARGE_LIMIT, LARGE_SIZE, MEBIBYTE, NAME, SIZE, folder, is_same, read_back)
 from relay import ANSWERED, SENT, relaying
-from server import targetd
-
-LIMIT, LARGE_LIMIT = 30, 300  # seconds that an initiator may take, and on the large disk
-BLOCK, MEBIBYTE = 512, 1 << 20
-SIZE = 64 * MEBIBYTE  # of the disk in memory, and of that in a file but for the long checks
-LARGE_SIZE = 1024 * MEBIBYTE
-NAME = "iqn.2024-01.com.example"
-UNITS = f"""
-[[target]]
-name = "{NAME}:memory"
-unit = [{{ lun = 0, kind = "disk", serial = "MEMORY0", blocks = {SIZE // BLOCK} }},
-        {{ lun = 1, kind = "tape", serial = "TAPE1", capacity = 1000000, early = 900000 }}]
-[[target]]
-name = "{NAME}:file"
-unit = [{{ lun = 0, kind = "disk", serial = "FILE0", file = "%s" }}]
-"""
-DISKS = (("memory", "MEMORY0"), ("file", "FILE0"))
 
 # Bytes that are read, and where: alone, over the edges of blocks, bursts (262144 bytes) and the longest
 # READ (1 MiB), and up to the end.
 PLACES = [(0, 1), (511, 2), (7 * BLOCK + 3, 4096), ((1 << 18) - 1, 2), (3 * (1 << 18) - 700, (1 << 18) + 1400),
           (MEBIBYTE - 1, MEBIBYTE + 3), (SIZE - 1, 1), (SIZE - BLOCK - 1, BLOCK + 1),
           (SIZE - MEBIBYTE - 1, MEBIBYTE + 1)]
-
-# Tests of libiscsi's own suite that need nothing but reads. Each begins by asking for these two operations,
-# and says that they are skipped where the target has none.
-SUITE = ["SCSI.Inquiry.Standard", "SCSI.Inquiry.AllocLength", "SCSI.Inquiry.EVPD", "SCSI.Inquiry.MandatoryVPDSBC",
-         "SCSI.Inquiry.SupportedVPD", "SCSI.Inquiry.VersionDescriptors", "SCSI.Mandatory.MandatorySBC",
-         "SCSI.ModeSense6.AllPages", "SCSI.ModeSense6.Control", "SCSI.ModeSense6.Residuals",
-         "SCSI.Read10.Simple", "SCSI.Read10.BeyondEol", "SCSI.Read10.ZeroBlocks", "SCSI.Read10.ReadProtect",
-         "SCSI.Read10.DpoFua", "SCSI.Read16.Simple", "SCSI.Read16.BeyondEol", "SCSI.Read16.ZeroBlocks",
-         "SCSI.Read16.ReadProtect", "SCSI.Read16.DpoFua", "SCSI.ReadCapacity10.Simple",
-         "SCSI.ReadCapacity16.Simple", "SCSI.ReadCapacity16.Alloclen", "SCSI.ReadCapacity16.PI",
-         "SCSI.ReadCapacity16.Support", "SCSI.TestUnitReady.Simple",
-         "iSCSI.iSCSIResiduals.Read10Residuals", "iSCSI.iSCSIResiduals.Read16Residuals"]
-SLOW_SUITE = ["iSCSI.iSCSIcmdsn.iSCSICmdSnTooHigh", "iSCSI.iSCSIcmdsn.iSCSICmdSnTooLow"]
-OPTIONAL = re.compile(r"\[SKIPPED\] (PERSISTENT RESERVE IN|REPORT_SUPPORTED_OPCODES) is not implemented")
-
-
-class Failed(Exception):
-    """An initiator did not see what it must."""
-
-
-class NotYet(Exception):
-    """The target answered as it does until something is built, and nothing else was wrong."""
-
-
-class Served(NamedTuple):
-    """The disks, and the port at which they are served."""
-    process: subprocess.Popen
-    port: int
-    file: Path
-
-    def is_running(self):
-        return self.process.poll() is None
-
-    def url(self, disk, unit=0, port=None):
-        return f"iscsi://127.0.0.1:{port or self.port}/{NAME}:{disk}/{unit}"
-
-
-@contextmanager
-def served(program, size):
-    """A disk in memory, and one of random bytes in a file of this size."""
-    chance = random.Random(5)
-    with tempfile.TemporaryDirectory(prefix="clients-") as folder:
-        path = Path(folder) / "disk"
-        with path.open("wb") as file:
-            for _ in range(size // MEBIBYTE):
-                file.write(chance.randbytes(MEBIBYTE))
-        with targetd(program, UNITS % path) as server:
-            yield Served(server.process, server.port, path)
-
-
-def run(*words, limit=LIMIT):
-    """Runs an initiator. Gives its exit status and all that it said."""
-    try:
-        ran = subprocess.run(words, stdin=subprocess.DEVNULL, stdout=subprocess.PIPE, timeout=limit,
-                             stderr=subprocess.STDOUT, text=True, errors="replace", check=False)
-    except subprocess.TimeoutExpired as late:
-        said = (late.stdout or b"").decode(errors="replace")
-        raise Failed(f"{words[0]} took more than {limit} seconds: {said[-200:]!r}") from None
-    return ran.returncode, ran.stdout
-
-
-def must(condition, seen):
-    """Fails with what was seen."""
-    if not condition:
-        raise Failed(repr(seen)[:600])
-
-
-def says(expected, *words):
-    """An initiator ends well, and these lines are among those that it prints."""
-    status, said = run(*words)
-    lines = [line.strip() for line in said.replace("\r", "\n").splitlines()]
-    must(status == 0 and all(line in lines for line in expected), (words, status, said))
 
 
 def tells_what_disks_and_a_tape_are(disks):
@@ -144,7 +51,7 @@ def refuses_a_target_of_another_name(disks):
 def lists_the_targets(disks):
     status, said = run("iscsi-ls", f"iscsi://127.0.0.1:{disks.port}")
     if status and "Login failed. Failed to log in to target. Status: Initiator error(512)" in said:
-        raise NotYet("discovery is refused with status 0200h")
+        raise Skipped("discovery is refused with status 0200h")
     must(all(f"Target:{NAME}:{disk} Portal:127.0.0.1:{disks.port},1\n" in said for disk, _ in DISKS), (status, said))
 
 
@@ -167,42 +74,25 @@ def shows_its_size_to_qemu(disks):
         says(["file format: raw", f"virtual size: 64 MiB ({SIZE} bytes)"], "qemu-img", "info", disks.url(disk))
 
 
-def copied(disks, disk, folder, requests=16, limit=LIMIT):
-    """What qemu-img made of a whole disk, with so many requests in flight."""
-    path = Path(folder) / f"{disk}-{requests}"
-    status, said = run("qemu-img", "convert", "-f", "raw", "-O", "raw", "-W", "-m", str(requests),
-                       disks.url(disk), path, limit=limit)
-    must(status == 0, (status, said))
-    return path
-
-
-def is_same(one, other):
-    """Two files have the same bytes."""
-    with one.open("rb") as left, other.open("rb") as right:
-        while piece := left.read(MEBIBYTE):
-            if piece != right.read(MEBIBYTE):
-                return False
-        return right.read(1) == b""
-
-
 def gives_whole_disks_byte_for_byte(disks):
-    with tempfile.TemporaryDirectory(prefix="clients-") as folder:
+    with folder() as path:
         for requests in (1, 16):
-            must(is_same(copied(disks, "file", folder, requests), disks.file), f"{requests} requests")
-        zeros = copied(disks, "memory", folder)
+            copy = read_back(disks.url("file"), path / str(requests), requests)
+            must(is_same(copy, disks.file), f"{requests} requests")
+        zeros = read_back(disks.url("memory"), path / "zeros")
         must(zeros.stat().st_size == SIZE and not any(zeros.read_bytes()), "the disk in memory")
 
 
 def gives_many_initiators_the_same_bytes_at_once(disks):
-    with tempfile.TemporaryDirectory(prefix="clients-") as folder, ThreadPoolExecutor(8) as pool:
-        copies = pool.map(lambda requests: copied(disks, "file", folder, requests), range(1, 9))
+    with folder() as path, ThreadPoolExecutor(8) as pool:
+        copies = pool.map(lambda requests: read_back(disks.url("file"), path / str(requests), requests), range(1, 9))
         must(all([is_same(copy, disks.file) for copy in copies]), "other bytes")
 
 
 def gives_a_large_disk_byte_for_byte(disks):
     says([f"Total size:{LARGE_SIZE}"], "iscsi-readcapacity16", disks.url("file"))
-    with tempfile.TemporaryDirectory(prefix="clients-") as folder:
-        must(is_same(copied(disks, "file", folder, limit=LARGE_LIMIT), disks.file), "other bytes")
+    with folder() as path:
+        must(is_same(read_back(disks.url("file"), path / "copy", limit=LARGE_LIMIT), disks.file), "other bytes")
 
 
 def dumped(said):
@@ -211,14 +101,6 @@ def dumped(said):
     for line in re.finditer(r"^([0-9a-f]{8,}):  ((?:[0-9a-f]{2} )+)", said, re.MULTILINE):
         found[int(line[1], 16)] = bytes.fromhex(line[2])
     return found
-
-
-def qemu_io(url, *commands):
-    """What qemu-io prints for these commands."""
-    words = [word for command in commands for word in ("-c", command)]
-    status, said = run("qemu-io", "-r", "-f", "raw", *words, url)
-    must(status == 0 and "failed" not in said, (commands, status, said[-600:]))
-    return said
 
 
 def gives_the_same_bytes(disks, command, *ends):
@@ -276,15 +158,3 @@ def answers_the_pings_of_qemu(disks):
         said = qemu_io(disks.url("file", 0, relay.port), "read -v 0 16", "sleep 6000", "read -v 512 16")
         must(dumped(said) == {0: content[:16], 512: content[512:528]}, said)
         must_answer(relay, "NOP-Out", "NOP-In")
-
-
-def passes(test):
-    """A check that a test of libiscsi's suite passes, and is not skipped."""
-    def check(disks):
-        for disk, _ in DISKS:
-            status, said = run("iscsi-test-cu", "--fail", "--normal", "--test", test, disks.url(disk))
-            ran = re.search(r"tests +(\d+) +(\d+) +(\d+) +(\d+)", said)
-            is_passed = ran and ran[2] == ran[3] != "0" and "[SKIPPED]" not in OPTIONAL.sub("", said)
-            must(status == 0 and is_passed, (disk, status, said))
-    check.__name__ = f"passes {test}"
-    return check
