@@ -23,13 +23,13 @@ build:
 test:
 	@./tools/test
 
-# Real initiators (libiscsi, QEMU) on disks of 64 MiB and of 1 GiB. Installs their Debian packages where missing.
+# Real initiators (libiscsi, QEMU) read and write disks of 64 MiB and of 1 GiB. Installs their packages where missing.
 clients:
 	@test -x crates/targetd/out/targetd || ./tools/build
 	@./tools/clients
 
 # Requests each second and processor time, beside a plain C program and beside tgt, on this machine.
-# Installs the Debian packages libiscsi-bin and tgt where missing.
+# Installs the Debian packages libiscsi-bin, qemu-utils, qemu-block-extra and tgt where missing.
 bench:
 	@test -x crates/targetd/out/targetd || ./tools/build
 	@./tools/bench

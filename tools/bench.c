@@ -1,10 +1,13 @@
 /* The two ends of a measurement on loopback.
 
-       bench answer LENGTH                  a plain server: it prints its port, and answers fixed bytes for
-                                            fixed bytes, with so many of data in each answer
-       bench ask PORT COUNT WINDOW LENGTH   an initiator: it logs in, sends COUNT commands with so many in
-                                            flight, READs of so many bytes or, where they are 0, TEST UNIT
-                                            READYs, and prints the seconds that these took */
+       bench answer KIND LENGTH                  a plain server: it prints its port, and answers fixed bytes
+                                                 for commands, with so many bytes of data in each direction
+       bench ask PORT KIND COUNT WINDOW LENGTH   an initiator: it logs in, sends COUNT commands with so many
+                                                 in flight, and prints the seconds that these took
+
+   KIND is read or write: READs or WRITEs of so many bytes; TEST UNIT READYs where they are 0. Of a WRITE
+   the first 65536 bytes come with the command, as the defaults of a login have it, and an R2T asks for
+   the others. */
 
 #include <arpa/inet.h>
 #include <netinet/in.h>
@@ -17,6 +20,13 @@
 #include <unistd.h>
 
 enum { HEADER = 48, LOGIN = 112, ACCEPTED = 104, ATTENTION = 68, BLOCK = 512, MOST = 262144 };
+enum { FIRST_BURST = 65536, WINDOW = 64 };
+enum { COMMAND = 0x01, DATA_OUT = 0x05, RESPONSE = 0x21, R2T = 0x31 };
+
+struct load {
+    int writes;
+    size_t length;
+};
 
 static void fail(const char *what)
 {
@@ -52,13 +62,76 @@ static void no_delay(int fd)
     setsockopt(fd, IPPROTO_TCP, TCP_NODELAY, &on, sizeof on);
 }
 
-/* The bytes of an answer: a Data-In where there is data, and a SCSI Response. */
-static size_t answer_length(size_t length)
+static void number(unsigned char *header, size_t at, unsigned value)
 {
-    return length > 0 ? HEADER + length + HEADER : HEADER;
+    unsigned big = htonl(value);
+    memcpy(header + at, &big, 4);
 }
 
-static void answer(size_t length)
+static size_t smaller(size_t one, size_t other)
+{
+    return one < other ? one : other;
+}
+
+/* The bytes of a WRITE that come with its command. */
+static size_t immediate(struct load load)
+{
+    return load.writes ? smaller(load.length, FIRST_BURST) : 0;
+}
+
+/* The bytes of a READ's answer: a Data-In where there is data, and a SCSI Response. */
+static size_t answer_length(struct load load)
+{
+    return load.length > 0 ? HEADER + load.length + HEADER : HEADER;
+}
+
+static void give_reads(int fd, struct load load)
+{
+    static unsigned char in[65536], out[65536 + 2 * HEADER + MOST];
+    size_t held = 0;
+    ssize_t n;
+    while ((n = read(fd, in, sizeof in)) > 0) {
+        held += (size_t)n;
+        size_t asked = held / HEADER;
+        held %= HEADER;
+        if (load.length == 0 && asked > 0)
+            put(fd, out, asked * HEADER);
+        else
+            for (; asked > 0; asked--)
+                put(fd, out, answer_length(load));
+    }
+}
+
+/* Reads PDUs and passes over their data. One that leaves data to come is answered by an R2T. */
+static void take_writes(int fd, struct load load)
+{
+    static unsigned char in[1 << 20], out[1 << 20];
+    unsigned char header[HEADER];
+    size_t held = 0, rest = 0;
+    ssize_t n;
+    while ((n = read(fd, in, sizeof in)) > 0) {
+        size_t at = 0, answers = 0;
+        while (at < (size_t)n) {
+            size_t more = smaller(held < HEADER ? HEADER - held : rest, (size_t)n - at);
+            if (held < HEADER) {
+                memcpy(header + held, in + at, more);
+                held += more;
+                rest = (size_t)header[5] << 16 | (size_t)header[6] << 8 | header[7];
+            } else {
+                rest -= more;
+            }
+            at += more;
+            if (held == HEADER && rest == 0) {
+                int is_whole = header[0] != COMMAND || immediate(load) == load.length;
+                out[HEADER * answers++] = is_whole ? RESPONSE : R2T;
+                held = 0;
+            }
+        }
+        put(fd, out, HEADER * answers);
+    }
+}
+
+static void answer(struct load load)
 {
     struct sockaddr_in address = {.sin_family = AF_INET, .sin_addr.s_addr = htonl(INADDR_LOOPBACK)};
     socklen_t size = sizeof address;
@@ -69,7 +142,7 @@ static void answer(size_t length)
     printf("listening on 127.0.0.1:%d\n", ntohs(address.sin_port));
     fflush(stdout);
     for (;;) {
-        static unsigned char in[65536], out[65536 + 2 * HEADER + MOST];
+        static unsigned char in[LOGIN], out[ACCEPTED];
         int fd = accept(listener, NULL, NULL);
         if (fd < 0)
             fail("accept");
@@ -78,35 +151,22 @@ static void answer(size_t length)
         put(fd, out, ACCEPTED);
         get(fd, in, HEADER);
         put(fd, out, ATTENTION);
-        size_t held = 0;
-        ssize_t n;
-        while ((n = read(fd, in, sizeof in)) > 0) {
-            held += (size_t)n;
-            size_t asked = held / HEADER;
-            held %= HEADER;
-            if (length == 0 && asked > 0)
-                put(fd, out, asked * HEADER);
-            else
-                for (; asked > 0; asked--)
-                    put(fd, out, answer_length(length));
-        }
+        if (load.writes)
+            take_writes(fd, load);
+        else
+            give_reads(fd, load);
         close(fd);
     }
 }
 
-static void number(unsigned char *header, size_t at, unsigned value)
-{
-    unsigned big = htonl(value);
-    memcpy(header + at, &big, 4);
-}
+static const unsigned char ready[HEADER] = {COMMAND, 0x81};
 
-static int ask(int port, long count, long window, size_t length)
+/* A connection to the port, logged in, whose unit attention was told. */
+static int session(int port)
 {
     static const char text[] = "InitiatorName=a\0TargetName=t1\0MaxRecvDataSegmentLength=262144";
-    static unsigned char login[LOGIN] = {0x43, 0x87, [7] = sizeof text, [8] = 0x80, [13] = 1, [19] = 1, [21] = 1};
-    static unsigned char ready[HEADER] = {0x01, 0x81};
-    static unsigned char command[HEADER] = {0x01, 0xc1, [32] = 0x28};
-    static unsigned char in[1 << 20];
+    unsigned char login[LOGIN] = {0x43, 0x87, [7] = sizeof text, [8] = 0x80, [13] = 1, [19] = 1, [21] = 1};
+    unsigned char in[ACCEPTED];
     struct sockaddr_in address = {.sin_family = AF_INET, .sin_addr.s_addr = htonl(INADDR_LOOPBACK),
                                   .sin_port = htons((unsigned short)port)};
     int fd = socket(AF_INET, SOCK_STREAM, 0);
@@ -118,38 +178,87 @@ static int ask(int port, long count, long window, size_t length)
     get(fd, in, ACCEPTED);
     put(fd, ready, HEADER);
     get(fd, in, ATTENTION);
+    return fd;
+}
 
-    number(command, 20, (unsigned)length);
-    command[39] = (unsigned char)(length / BLOCK >> 8);
-    command[40] = (unsigned char)(length / BLOCK);
-    if (length == 0)
-        memcpy(command, ready, HEADER);
+/* The header of each command, but for its tag and its number. */
+static void command_of(unsigned char *command, struct load load)
+{
+    memcpy(command, ready, HEADER);
+    if (load.length == 0)
+        return;
+    command[1] = load.writes ? 0xa1 : 0xc1;
+    command[32] = load.writes ? 0x2a : 0x28;
+    number(command, 4, (unsigned)immediate(load));
+    number(command, 20, (unsigned)load.length);
+    command[39] = (unsigned char)(load.length / BLOCK >> 8);
+    command[40] = (unsigned char)(load.length / BLOCK);
+}
 
+/* Sends so many commands, the first of them with this number. */
+static void send_commands(int fd, struct load load, unsigned next, long count)
+{
+    static unsigned char batch[WINDOW * (HEADER + FIRST_BURST)];
+    size_t each = HEADER + immediate(load);
+    for (long k = 0; k < count; k++, next++) {
+        unsigned char *command = batch + (size_t)k * each;
+        command_of(command, load);
+        number(command, 16, next + 1);
+        number(command, 24, next);
+    }
+    if (count > 0)
+        put(fd, batch, (size_t)count * each);
+}
+
+/* Sends what an R2T asks for, which is all that did not come with its command. */
+static void send_data(int fd, const unsigned char *r2t, struct load load)
+{
+    static unsigned char data[HEADER + MOST] = {DATA_OUT, 0x80};
+    size_t rest = load.length - immediate(load);
+    number(data, 4, (unsigned)rest);
+    memcpy(data + 16, r2t + 16, 8);
+    number(data, 40, (unsigned)immediate(load));
+    put(fd, data, HEADER + rest);
+}
+
+/* How many WRITEs of these whole answers are done; the R2Ts among them get their data. */
+static long writes_done(int fd, const unsigned char *in, size_t count, struct load load)
+{
+    long done = 0;
+    for (size_t at = 0; at < count; at += HEADER) {
+        if (in[at] == R2T)
+            send_data(fd, in + at, load);
+        else if (in[at] == RESPONSE && in[at + 2] == 0 && in[at + 3] == 0)
+            done++;
+        else
+            fail("a WRITE is refused");
+    }
+    return done;
+}
+
+static int ask(int port, struct load load, long count, long window)
+{
+    static unsigned char in[1 << 20];
+    size_t each = load.writes ? HEADER : answer_length(load), held = 0;
+    int fd = session(port);
     struct timespec start, end;
     clock_gettime(CLOCK_MONOTONIC, &start);
-    unsigned next = 1;
     long sent = 0, answered = 0;
-    size_t held = 0;
     while (answered < count) {
-        static unsigned char batch[64 * HEADER];
         long more = window - (sent - answered);
         if (more > count - sent)
             more = count - sent;
-        for (long k = 0; k < more; k++) {
-            number(command, 16, next + 1);
-            number(command, 24, next);
-            next++;
-            memcpy(batch + k * HEADER, command, HEADER);
-        }
-        if (more > 0)
-            put(fd, batch, (size_t)more * HEADER);
+        send_commands(fd, load, (unsigned)sent + 1, more);
         sent += more;
-        ssize_t n = read(fd, in, sizeof in);
+        ssize_t n = read(fd, in + (load.writes ? held : 0), sizeof in - HEADER);
         if (n <= 0)
             fail("read");
         held += (size_t)n;
-        answered += (long)(held / answer_length(length));
-        held %= answer_length(length);
+        size_t whole = held - held % each;
+        answered += load.writes ? writes_done(fd, in, whole, load) : (long)(whole / each);
+        held -= whole;
+        if (load.writes)
+            memmove(in, in + whole, held);
     }
     clock_gettime(CLOCK_MONOTONIC, &end);
     printf("%.6f\n", (double)(end.tv_sec - start.tv_sec) + (double)(end.tv_nsec - start.tv_nsec) / 1e9);
@@ -158,13 +267,16 @@ static int ask(int port, long count, long window, size_t length)
 
 int main(int count, char **words)
 {
-    long length = count > 2 ? atol(words[count - 1]) : -1;
-    if (length < 0 || length > MOST || length % BLOCK != 0)
-        length = -1;
-    if (length >= 0 && count == 3 && strcmp(words[1], "answer") == 0)
-        answer((size_t)length);
-    if (length >= 0 && count == 6 && strcmp(words[1], "ask") == 0 && atol(words[4]) <= 64)
-        return ask(atoi(words[2]), atol(words[3]), atol(words[4]), (size_t)length);
-    fprintf(stderr, "bench answer LENGTH | bench ask PORT COUNT WINDOW LENGTH\n");
+    const char *kind = count == 4 ? words[2] : count == 7 ? words[3] : "";
+    struct load load = {strcmp(kind, "write") == 0, 0};
+    long length = *kind ? atol(words[count - 1]) : -1;
+    int is_load = (load.writes || strcmp(kind, "read") == 0) && length >= load.writes && length <= MOST
+        && length % BLOCK == 0;
+    load.length = is_load ? (size_t)length : 0;
+    if (is_load && count == 4 && strcmp(words[1], "answer") == 0)
+        answer(load);
+    if (is_load && count == 7 && strcmp(words[1], "ask") == 0 && atol(words[5]) <= WINDOW)
+        return ask(atoi(words[2]), load, atol(words[4]), atol(words[5]));
+    fprintf(stderr, "bench answer KIND LENGTH | bench ask PORT KIND COUNT WINDOW LENGTH\n");
     return 2;
 }
