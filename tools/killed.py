@@ -1,9 +1,10 @@
-"""An initiator that is killed while it writes: each of its writes is whole or absent, and each answered one is there."""
+"""An initiator that is killed while it writes: each write is whole or absent, and each answered one is there."""
 
 import signal
 import subprocess
+import threading
 
-from checks import LIMIT, must
+from checks import LIMIT, Failed, must
 from disks import KINDS, SIZE, folder, read_back, served
 from relay import ANSWERED, SENT, relaying
 from writers import COMMAND, RESPONSE, WRITES, before
@@ -23,6 +24,7 @@ class Killer:
         self.count = count
         self.process = None
         self.places, self.answered = {}, []
+        self.gone = threading.Event()
 
     def see(self, event):
         """Looks at a PDU that a relay is about to pass on."""
@@ -31,6 +33,8 @@ class Killer:
             self.answered.append(self.places[tag])
         if event.side != SENT:
             return
+        if not event.data:
+            self.gone.set()
         is_write = opcode == COMMAND and event.data[32] in WRITES
         if is_write:
             at = slice(34, 38) if event.data[32] == 0x2A else slice(34, 42)
@@ -48,8 +52,13 @@ def kill_while_it_writes(disks, disk, length, count, answered):
         with subprocess.Popen(["qemu-io", "-f", "raw", *words, "-c", "aio_flush", disks.url(disk, 0, relay.port)],
                               stdin=subprocess.DEVNULL, stdout=subprocess.DEVNULL) as process:
             killer.process = process
-            status = process.wait(LIMIT)
-    must(status == -signal.SIGKILL, ("it was not killed", status))
+            try:
+                status = process.wait(LIMIT)
+            except subprocess.TimeoutExpired:
+                process.kill()
+                raise Failed(f"after {len(killer.answered)} answers there were no more in {LIMIT} seconds") from None
+        must(status == -signal.SIGKILL, ("it was not killed", status))
+        must(killer.gone.wait(LIMIT), "not all that it sent was passed on")
     return killer.answered
 
 

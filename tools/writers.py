@@ -94,7 +94,7 @@ def takes_what_many_initiators_write_at_once(program):
                 for at in places:
                     expected[at:at + step] = bytes([1 + at // step % 255]) * step
                 qemu_io(disks.url(disk), *(f"aio_write -P {1 + at // step % 255} {at} {step}" for at in places),
-                        "aio_flush", f"read -P {1 + start // step % 255} {start} {step}", options=())
+                        "aio_flush", f"read -P {1 + start // step % 255} {start} {step}", options=("-t", "writeback"))
             list(pool.map(write, range(MANY)))
             holds(disks, disk, expected)
 
