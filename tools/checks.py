@@ -77,6 +77,7 @@ def says(expected, *words):
 def qemu_io(url, *commands, options=("-r",)):
     """What qemu-io prints for these commands, all of which succeed."""
     words = [word for command in commands for word in ("-c", command)]
-    status, said = run("qemu-io", *options, "-f", "raw", *words, url)
+    form = () if "-f" in options else ("-f", "raw")
+    status, said = run("qemu-io", *form, *options, *words, url)
     must(status == 0 and "failed" not in said, (commands[:4], status, said[-600:]))
     return said

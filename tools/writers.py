@@ -99,6 +99,27 @@ def takes_what_many_initiators_write_at_once(program):
             holds(disks, disk, expected)
 
 
+def keeps_an_image_of_qcow2(program):
+    """QEMU's own format on the disk itself: a snapshot is kept, and what is written behind it."""
+    with served(program) as disks, folder() as path:
+        image = random_image(path / "image", SIZE // 2, 12)
+        expected = bytearray(image.read_bytes())
+        places = [(pattern, at, count) for pattern, (at, count) in enumerate(PLACES, 1) if at + count < SIZE // 2]
+        for pattern, at, count in places:
+            expected[at:at + count] = bytes([pattern]) * count
+        for disk in KINDS:
+            url, form = disks.url(disk), ("-f", "qcow2")
+            succeeds("qemu-img", "create", "-q", *form, url, str(SIZE // 2))
+            succeeds("qemu-img", "convert", "-n", "-f", "raw", "-O", "qcow2", image, url)
+            succeeds("qemu-img", "snapshot", "-c", "before", url)
+            qemu_io(url, *(f"aio_write -P {pattern} {at} {count}" for pattern, at, count in places), "aio_flush",
+                    options=form)
+            says(["No errors were found on the image."], "qemu-img", "check", *form, url)
+            for words, content in (((), expected), (("-l", "snapshot.name=before"), image.read_bytes())):
+                succeeds("qemu-img", "convert", *words, *form, "-O", "raw", url, path / "copy")
+                must((path / "copy").read_bytes() == content, (disk, words))
+
+
 def commands(relay):
     """The CDB of each command that passed, and the status that answered it."""
     cdbs, ended = {}, []
