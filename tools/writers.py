@@ -13,7 +13,7 @@ from disks import (BLOCK, KINDS, LARGE_LIMIT, LARGE_SIZE, MEBIBYTE, SIZE, folder
 from relay import ANSWERED, SENT, relaying
 
 # Requests in flight, and what QEMU does for what it wrote to stay: flush at the end, or FUA with each write.
-WAYS = [(1, "writeback"), (16, "writeback"), (1, "writethrough"), (16, "writethrough")]
+WAYS, OTHER_WAYS = [(16, "writeback"), (1, "writethrough")], [(1, "writeback"), (16, "writethrough")]
 # Bytes that are written, and where: alone, over the edges of blocks, bursts (262144 bytes) and the longest
 # WRITE (1 MiB), and up to the end. No two share a byte, but some share a block.
 PLACES = [(0, 1), (511, 2), (7 * BLOCK + 3, 4096), ((1 << 18) - 1, 2), (3 * (1 << 18) - 700, (1 << 18) + 1400),
@@ -36,10 +36,19 @@ def lays_and_reads_back(disks, image, requests=16, cache="writeback", limit=LIMI
     must(is_same(disks.file, image), ("the file", requests, cache))
 
 
-def takes_whole_disks_byte_for_byte(program):
+def takes_whole_disks(program, ways):
+    """Images are written onto disks in each of these ways, one over the other."""
     with served(program) as disks, folder() as path:
-        for seed, (requests, cache) in enumerate(WAYS):
+        for seed, (requests, cache) in enumerate(ways):
             lays_and_reads_back(disks, random_image(path / "image", SIZE, seed), requests, cache)
+
+
+def takes_whole_disks_byte_for_byte(program):
+    takes_whole_disks(program, WAYS)
+
+
+def takes_whole_disks_byte_for_byte_in_other_ways(program):
+    takes_whole_disks(program, OTHER_WAYS)
 
 
 def takes_a_large_disk_byte_for_byte(program):
