@@ -23,7 +23,7 @@ build:
 test:
 	@./tools/test
 
-# Real initiators (libiscsi, QEMU) read and write disks of 64 MiB and of 1 GiB. Installs their packages where missing.
+# Real initiators (libiscsi, QEMU) read and write disks of up to 1 GiB. Installs their packages where missing.
 clients:
 	@test -x crates/targetd/out/targetd || ./tools/build
 	@./tools/clients

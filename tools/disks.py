@@ -14,6 +14,7 @@ LARGE_LIMIT = 300  # seconds that an initiator may take on the large disk
 BLOCK, MEBIBYTE = 512, 1 << 20
 SIZE = 64 * MEBIBYTE
 LARGE_SIZE = 1024 * MEBIBYTE
+MEMORY_MOST = 512 * MEBIBYTE  # of a disk in memory
 NAME = "iqn.2024-01.com.example"
 UNITS = """
 [[target]]

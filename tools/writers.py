@@ -8,8 +8,8 @@ from concurrent.futures import ThreadPoolExecutor
 from contextlib import contextmanager
 
 from checks import LIMIT, must, qemu_io, run, says, succeeds
-from disks import (BLOCK, KINDS, LARGE_LIMIT, LARGE_SIZE, MEBIBYTE, SIZE, folder, holds, is_same, lay_onto,
-                   random_image, read_back, served)
+from disks import (BLOCK, KINDS, LARGE_LIMIT, LARGE_SIZE, MEBIBYTE, MEMORY_MOST, SIZE, folder, holds, is_same,
+                   lay_onto, random_image, read_back, served)
 from relay import ANSWERED, SENT, relaying
 
 # Requests in flight, and what QEMU does for what it wrote to stay: flush at the end, or FUA with each write.
@@ -27,20 +27,21 @@ FUA = 0x08
 MANY = 8  # initiators that write at once
 
 
-def lays_and_reads_back(disks, image, requests=16, cache="writeback", limit=LIMIT):
-    """An image is written onto each disk, and each has its bytes."""
-    for disk in KINDS:
-        lay_onto(disks.url(disk), image, requests, cache, limit)
-        with folder() as path:
-            must(is_same(read_back(disks.url(disk), path / "copy", requests, limit), image), (disk, requests, cache))
-    must(is_same(disks.file, image), ("the file", requests, cache))
+def lays_and_reads_back(disks, disk, image, requests=16, cache="writeback", limit=LIMIT):
+    """An image is written onto a disk, which then has its bytes."""
+    lay_onto(disks.url(disk), image, requests, cache, limit)
+    with folder() as path:
+        must(is_same(read_back(disks.url(disk), path / "copy", requests, limit), image), (disk, requests, cache))
+    must(disk != "file" or is_same(disks.file, image), ("the file", requests, cache))
 
 
 def takes_whole_disks(program, ways):
     """Images are written onto disks in each of these ways, one over the other."""
     with served(program) as disks, folder() as path:
         for seed, (requests, cache) in enumerate(ways):
-            lays_and_reads_back(disks, random_image(path / "image", SIZE, seed), requests, cache)
+            image = random_image(path / "image", SIZE, seed)
+            for disk in KINDS:
+                lays_and_reads_back(disks, disk, image, requests, cache)
 
 
 def takes_whole_disks_byte_for_byte(program):
@@ -51,9 +52,10 @@ def takes_whole_disks_byte_for_byte_in_other_ways(program):
     takes_whole_disks(program, OTHER_WAYS)
 
 
-def takes_a_large_disk_byte_for_byte(program):
-    with served(program, LARGE_SIZE, LARGE_SIZE) as disks, folder() as path:
-        lays_and_reads_back(disks, random_image(path / "image", LARGE_SIZE, 8), limit=LARGE_LIMIT)
+def takes_large_disks_byte_for_byte(program):
+    with served(program, LARGE_SIZE, MEMORY_MOST) as disks, folder() as path:
+        for disk, size in (("file", LARGE_SIZE), ("memory", MEMORY_MOST)):
+            lays_and_reads_back(disks, disk, random_image(path / "image", size, 8), limit=LARGE_LIMIT)
 
 
 def before(disks, disk):
