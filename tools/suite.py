@@ -15,9 +15,12 @@ PASSED, FAILED, SKIPPED, UNSEEN = "passed", "failed", "skipped", "unseen"
 # Those that wait some seconds.
 SLOW = {"iSCSI.iSCSIcmdsn.iSCSICmdSnTooHigh", "iSCSI.iSCSIcmdsn.iSCSICmdSnTooLow", "SCSI.Reserve6.ITNexusLoss",
         "SCSI.Reserve6.LUNReset"}
-# What each test says before it begins and when it ends, where the target has no such operation.
+# What each test says before it begins and when it ends, where the target has no such operation; some look
+# whether these two know of an operation besides, which is no more than a part of them. Of other tests these
+# are the subject.
 AROUND = ["PERSISTENT RESERVE IN is not implemented.", "REPORT_SUPPORTED_OPCODES is not implemented.",
           "PERSISTENT RESERVE IN is not implemented."]
+SUBJECT = ("SCSI.Prin", "SCSI.Prout", "SCSI.ReportSupportedOpcodes")
 
 
 class Result(NamedTuple):
@@ -49,11 +52,18 @@ def on_one_disk(test, url):
     if status or not ran or ran[2] != ran[3] or ran[3] == "0":
         told = re.findall(r"\[(?:FAILED|WARNING)\] (.*)|^ +\d+\. (.*)", said, re.MULTILINE)
         return Result(FAILED, next((line or place for line, place in told), f"status {status}"))
-    skips = re.findall(r"\[SKIPPED\] (.*)", said)
-    for line in AROUND:
-        if line in skips:
-            skips.remove(line)
+    skips = skips_of(test, re.findall(r"\[SKIPPED\] (.*)", said))
     return Result(SKIPPED, skips[0]) if skips else Result(PASSED, "")
+
+
+def skips_of(test, lines):
+    """What a test itself skips, of all the lines in which the suite says that something is skipped."""
+    if not test.startswith(SUBJECT):
+        return [line for line in lines if line not in AROUND]
+    for line in AROUND:
+        if line in lines:
+            lines.remove(line)
+    return lines
 
 
 def given(program, test, kinds=KINDS):
