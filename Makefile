@@ -1,5 +1,5 @@
 # Pitsagul: each target works from a fresh clone on a machine with the Rattle kit (the command rt).
-.PHONY: demo demo-unproved demo-proved build test clients bench clean
+.PHONY: demo demo-unproved demo-proved build install uninstall test clients bench clean
 
 # Which demo `make demo` is: unproved takes about a minute, proved proves every crate first.
 DEMO = unproved
@@ -18,6 +18,18 @@ demo-proved: build
 build:
 	@echo "== proving the crates and building targetd (some minutes the first time)"
 	@./tools/build
+
+# Puts the program, its pages, an example and a systemd unit below DESTDIR and PREFIX. Nothing outside them is touched.
+PREFIX = /usr/local
+DESTDIR =
+PROGRAM = crates/targetd/out/targetd
+
+install:
+	@test -x $(PROGRAM) || { echo "there is no $(PROGRAM): run 'make build' first"; exit 1; }
+	@./tools/install "$(PROGRAM)" "$(PREFIX)" "$(DESTDIR)"
+
+uninstall:
+	@./tools/install --remove "$(PREFIX)" "$(DESTDIR)"
 
 # The gate: the proofs, the wrong bodies, the cases, sockets, initiators, failing calls, the pages. About 40 minutes.
 test:
