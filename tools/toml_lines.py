@@ -165,8 +165,9 @@ class Reader:
             found = outer.held.get(key)
             if found is None:
                 found = self.keep(outer, key, table(line, made), line)
-            if found.kind != "table" or found.made != made:
+            if found.kind != "table" or found.made not in (made, "implied"):
                 self.fail(f'"{key}" stands already')
+            found.made = made
             outer = found
         if keys[-1] in outer.held:
             self.fail(f'"{keys[-1]}" stands already, at line {outer.lines[keys[-1]]}')
