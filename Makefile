@@ -16,7 +16,7 @@ demo-proved: build
 
 # Proves every crate, builds targetd and leaves it at crates/targetd/out/targetd.
 build:
-	@echo "== proving the crates and building targetd (some minutes the first time)"
+	@echo "== proving the crates and building targetd (the first time a quarter of an hour and more)"
 	@./tools/build
 
 # Puts the program, its pages, an example and a systemd unit below DESTDIR and PREFIX. Nothing outside them is touched.
