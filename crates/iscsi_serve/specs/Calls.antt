@@ -1,5 +1,6 @@
 -- The calls of the system on sockets, how they are noted, and what they tell.
-use Rattle.std.specs.Prelude.{ℕ, zero, suc, List, [], ◌∷◌, ◌++◌, map, take, Bool, true, false, ◌==◌, Option, Some, None, Result, Ok, Err, slice_index, slice_index_or}
+use Rattle.std.specs.Prelude.{ℕ, ℤ, zero, suc, pos, List, [], ◌∷◌, ◌++◌, map, take, Bool, true, false, ◌==◌, ◌||◌, Option, Some, None, Result, Ok, Err, slice_index, slice_index_or, if◌then◌else◌}
+use Rattle.std.specs.Ordering.{int_eq}
 use Rattle.std.specs.declared.io.ErrorKind.{ErrorKind}
 use Rattle.std.specs.declared.io.ErrorKind.TheVariants as kinds
 use Rattle.std.specs.declared.net.ip_addr.IpAddr.{IpAddr}
@@ -10,18 +11,24 @@ use Rattle.iscsi_serve.specs.Log as log
 use Rattle.iscsi_serve.specs.Log.{Entry, Carried, Bytes, End, Fault, Polled, Open, NobodyCame, AcceptFailed, Read, Wrote, Close}
 use Rattle.iscsi_serve.specs.declared.told.Named.{Named}
 use Rattle.iscsi_serve.specs.declared.socket_failure.SocketFailure.{SocketFailure}
-use Rattle.iscsi_serve.specs.declared.socket_failure.SocketFailure.TheVariants.{WouldWait, Interrupted, Passing, Broken}
+use Rattle.iscsi_serve.specs.declared.socket_failure.SocketFailure.TheVariants.{WouldWait, Interrupted, Passing, Refused, Broken}
 
--- what an error of the system means
-abbrev pub failure_of : ErrorKind → SocketFailure
-failure_of kinds.WouldBlock = WouldWait
-failure_of kinds.Interrupted = Interrupted
-failure_of kinds.ConnectionAborted = Passing
-failure_of kinds.ConnectionReset = Passing
-failure_of kinds.HostUnreachable = Passing
-failure_of kinds.NetworkUnreachable = Passing
-failure_of kinds.NetworkDown = Passing
-failure_of _ = Broken
+-- errno(3), by the numbers of Linux: EBADF (9), EINVAL (22) and ENOTSOCK (88) say that what was called is no socket that
+-- can do it; an error that is not the system's says nothing of the socket
+abbrev pub is_broken : Option ℤ → Bool
+is_broken None = false
+is_broken (Some code) = int_eq code (pos 9) || int_eq code (pos 22) || int_eq code (pos 88)
+
+-- what an error of the system means, by its kind and its number
+abbrev pub failure_of : ErrorKind → Option ℤ → SocketFailure
+failure_of kinds.WouldBlock code = WouldWait
+failure_of kinds.Interrupted code = Interrupted
+failure_of kinds.ConnectionAborted code = Passing
+failure_of kinds.ConnectionReset code = Passing
+failure_of kinds.HostUnreachable code = Passing
+failure_of kinds.NetworkUnreachable code = Passing
+failure_of kinds.NetworkDown code = Passing
+failure_of _ code = if is_broken code then Broken else Refused
 
 -- ---- a call, and what the system answered
 
@@ -74,7 +81,7 @@ abbrev pub polled : Result Named SocketFailure → Option Named
 polled (Ok named) = Some named
 polled (Err failure) = None
 
--- nobody came where none waits, or one who was gone before, or whom the system does not watch
+-- nobody came where none waits, or one who was gone before, or whom the system cannot take now or does not watch
 abbrev pub accepted : ℕ → Result Bool SocketFailure → Entry
 accepted c (Ok true) = Open c
 accepted c (Ok false) = NobodyCame
@@ -101,7 +108,8 @@ abbrev pub failure_number : SocketFailure → ℕ
 failure_number WouldWait = 1
 failure_number Interrupted = 2
 failure_number Passing = 3
-failure_number Broken = 4
+failure_number Refused = 4
+failure_number Broken = 5
 
 -- what was answered, by that number
 abbrev pub answered : {X : Type 0} → ℕ → X → Result X SocketFailure
@@ -109,6 +117,7 @@ answered zero x = Ok x
 answered (suc zero) x = Err WouldWait
 answered (suc (suc zero)) x = Err Interrupted
 answered (suc (suc (suc zero))) x = Err Passing
+answered (suc (suc (suc (suc zero)))) x = Err Refused
 answered _ x = Err Broken
 
 -- by the number of the call

@@ -1,11 +1,19 @@
 //! What an error of a socket means.
 
 ghost use Rattle.std.specs.Prelude.{◌≡◌};
-ghost use Rattle.std.specs.IoError.{error_kind};
+ghost use Rattle.std.specs.IoError.{error_kind, raw_os_error};
+ghost use Rattle.iscsi_serve.specs.Calls as calls;
 ghost use Rattle.iscsi_serve.specs.Calls.{failure_of, failure_number};
 
 use std::io;
 use std::io::ErrorKind;
+
+// errno(3), the numbers of Linux.
+const EBADF: i32 = 9;
+
+const EINVAL: i32 = 22;
+
+const ENOTSOCK: i32 = 88;
 
 /// Why a call of a socket did nothing.
 #[derive(Clone, Copy, Debug, PartialEq, Eq)]
@@ -16,7 +24,9 @@ pub enum SocketFailure {
     Interrupted,
     /// A connection ended before it was accepted, or its network was away. An accept may go on.
     Passing,
-    /// All else.
+    /// The system cannot do it now, as for want of descriptors or memory. It says nothing of the socket.
+    Refused,
+    /// What was called is no socket that can do it.
     Broken,
 }
 
@@ -29,14 +39,25 @@ impl SocketFailure {
             SocketFailure::WouldWait => 1,
             SocketFailure::Interrupted => 2,
             SocketFailure::Passing => 3,
-            SocketFailure::Broken => 4,
+            SocketFailure::Refused => 4,
+            SocketFailure::Broken => 5,
         }
+    }
+}
+
+/// The number of an error says that what was called is no socket that can do it (accept(2)).
+fn is_broken(code: Option<i32>) -> bool
+    ensures { result ≡ calls.is_broken code }
+{
+    match code {
+        Some(code) => code == EBADF || code == EINVAL || code == ENOTSOCK,
+        None => false,
     }
 }
 
 /// What an error of the system means.
 pub(crate) fn socket_failure(error: &io::Error) -> SocketFailure
-    ensures { result ≡ failure_of (error_kind error.now) }
+    ensures { result ≡ failure_of (error_kind error.now) (raw_os_error error.now) }
 {
     match error.kind() {
         ErrorKind::WouldBlock => SocketFailure::WouldWait,
@@ -46,6 +67,7 @@ pub(crate) fn socket_failure(error: &io::Error) -> SocketFailure
         ErrorKind::HostUnreachable => SocketFailure::Passing,
         ErrorKind::NetworkUnreachable => SocketFailure::Passing,
         ErrorKind::NetworkDown => SocketFailure::Passing,
-        _ => SocketFailure::Broken,
+        _ if is_broken(error.raw_os_error()) => SocketFailure::Broken,
+        _ => SocketFailure::Refused,
     }
 }

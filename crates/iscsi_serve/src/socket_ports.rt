@@ -1,6 +1,7 @@
 //! Ports over sockets.
 
-ghost use Rattle.std.specs.Prelude.{◌≡◌, ◌≤◌, ◌∷◌, ◌++◌, ℕ, List, [], true, length, IfOk};
+ghost use Rattle.std.specs.Prelude.{◌≡◌, ◌≤◌, ◌∷◌, ◌++◌, ℕ, List, [], true, false, length, IfOk};
+ghost use Rattle.std.specs.Duration.{as_nanos};
 ghost use Rattle.std.specs.Io.{WritesAtMost};
 ghost use Rattle.std.specs.Net.Socket.{socket_ip, socket_port};
 ghost use Rattle.std.specs.Result.{IsErrOf};
@@ -21,6 +22,9 @@ use std::io;
 use std::net::{Net, SocketAddr};
 use std::time::Duration;
 
+/// For how many seconds a poll waits at most where an accept is to be tried again.
+const SHORTLY: u64 = 1;
+
 /// Ports over the calls of the system, whose record they tell.
 ///
 /// A port is named from an event of the system on until a read or an accept of it would wait.
@@ -31,6 +35,8 @@ pub struct SocketPorts<K: SocketCalls + Drop> {
     ready: Named,
     /// Something was read, written or accepted since the last poll, so that there may be more.
     busy: bool,
+    /// The last accept was refused: those who wait are still there, and no event will tell of them.
+    refused: bool,
     /// For how long a poll waits. `None`: until there is an event.
     wait: Option<Duration>,
 }
@@ -62,6 +68,7 @@ impl SocketPorts<MioSockets> {
                 connections: [false; CONNECTIONS],
             },
             busy: false,
+            refused: false,
             wait: wait.map(Duration::from_millis),
         })
     }
@@ -76,6 +83,23 @@ impl SocketPorts<MioSockets> {
     }
 }
 
+/// For how long the next poll waits: not at all where there may be more, and no longer than
+/// [`SHORTLY`] where an accept is to be tried again.
+fn to_wait(busy: bool, refused: bool, wait: Option<Duration>) -> Option<Duration>
+    ensures more { busy ≡ true → (time : Duration) × (result ≡ Some time) × (as_nanos time ≡ 0) }
+    ensures shortly { refused ≡ true → (time : Duration) × (result ≡ Some time) × (as_nanos time ≤ 1000000000) }
+    ensures as_set { busy ≡ false → refused ≡ false → result ≡ wait }
+{
+    if busy {
+        return Some(Duration::ZERO);
+    }
+    if !refused {
+        return wait;
+    }
+    let shortly = Duration::from_secs(SHORTLY);
+    Some(wait.map_or(shortly, |limit| limit.min(shortly)))
+}
+
 /// What an accept came to.
 fn accept_told(answer: Result<bool, SocketFailure>) -> Result<Accepted, PortFault>
     ensures { (c : ℕ) → accept_entry c result ≡ accepted c answer }
@@ -86,6 +110,7 @@ fn accept_told(answer: Result<bool, SocketFailure>) -> Result<Accepted, PortFaul
         Err(SocketFailure::WouldWait) => Ok(Accepted::Nobody),
         Err(SocketFailure::Interrupted) => Ok(Accepted::Nobody),
         Err(SocketFailure::Passing) => Ok(Accepted::Nobody),
+        Err(SocketFailure::Refused) => Ok(Accepted::Nobody),
         Err(SocketFailure::Broken) => Err(PortFault),
     }
 }
@@ -101,6 +126,7 @@ fn read_told(answer: Result<usize, SocketFailure>) -> Told
         Err(SocketFailure::WouldWait) => Told::Bytes(0),
         Err(SocketFailure::Interrupted) => Told::Bytes(0),
         Err(SocketFailure::Passing) => Told::Fault,
+        Err(SocketFailure::Refused) => Told::Fault,
         Err(SocketFailure::Broken) => Told::Fault,
     }
 }
@@ -115,6 +141,7 @@ fn write_told(answer: Result<usize, SocketFailure>) -> Told
         Err(SocketFailure::WouldWait) => Told::Bytes(0),
         Err(SocketFailure::Interrupted) => Told::Bytes(0),
         Err(SocketFailure::Passing) => Told::Fault,
+        Err(SocketFailure::Refused) => Told::Fault,
         Err(SocketFailure::Broken) => Told::Fault,
     }
 }
@@ -138,7 +165,7 @@ fn after_accept(ready: &mut Named, busy: &mut bool, c: usize, answer: Result<boo
         }
         Err(SocketFailure::WouldWait) => ready.listener = false,
         Err(SocketFailure::Interrupted | SocketFailure::Passing) => *busy = true,
-        Err(SocketFailure::Broken) => {}
+        Err(SocketFailure::Refused | SocketFailure::Broken) => {}
     }
 }
 
@@ -159,12 +186,9 @@ impl<K: SocketCalls + Drop> Ports for SocketPorts<K> {
     ghost tells = { λ _. true };
 
     fn poll(&mut self) -> Result<Named, PortFault> {
-        let wait = if self.busy {
-            Some(Duration::ZERO)
-        } else {
-            self.wait
-        };
+        let wait = to_wait(self.busy, self.refused, self.wait);
         self.busy = false;
+        self.refused = false;
         match self.sockets.poll(&mut self.ready, wait) {
             Ok(()) => Ok(self.ready),
             Err(_) => Err(PortFault),
@@ -174,6 +198,7 @@ impl<K: SocketCalls + Drop> Ports for SocketPorts<K> {
     fn accept(&mut self, c: usize) -> Result<Accepted, PortFault> {
         let answer = self.sockets.accept(c);
         after_accept(&mut self.ready, &mut self.busy, c, answer);
+        self.refused = matches!(answer, Err(SocketFailure::Refused));
         accept_told(answer)
     }
 
