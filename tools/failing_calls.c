@@ -1,6 +1,7 @@
 /* Makes calls of the C library fail in the program that this is loaded into (LD_PRELOAD).
  *
- *   FAIL_CALL    allocation, input (read of descriptor 0), file (read of another) or output (write to 1)
+ *   FAIL_CALL    allocation, input (read of descriptor 0), file (read of another), output (write to 1), or
+ *                store (a read or write at a place of a file, or a sync of it)
  *   FAIL_NUMBER  which call of these fails, counted from 1 since the program's own start
  *   FAIL_ON      1: all calls behind it fail too
  *   FAIL_ERROR   errno of the failed call; 0: it reads or writes no byte and is no error
@@ -109,4 +110,34 @@ ssize_t write(int descriptor, const void *bytes, size_t count)
 ssize_t __write(int descriptor, const void *bytes, size_t count)
 {
     return write(descriptor, bytes, count);
+}
+
+ssize_t pread64(int descriptor, void *out, size_t count, off_t at)
+{
+    return fails("store") ? -1 : syscall(SYS_pread64, descriptor, out, count, at);
+}
+
+ssize_t pread(int descriptor, void *out, size_t count, off_t at)
+{
+    return pread64(descriptor, out, count, at);
+}
+
+ssize_t pwrite64(int descriptor, const void *bytes, size_t count, off_t at)
+{
+    return fails("store") ? -1 : syscall(SYS_pwrite64, descriptor, bytes, count, at);
+}
+
+ssize_t pwrite(int descriptor, const void *bytes, size_t count, off_t at)
+{
+    return pwrite64(descriptor, bytes, count, at);
+}
+
+int fsync(int descriptor)
+{
+    return fails("store") ? -1 : (int)syscall(SYS_fsync, descriptor);
+}
+
+int fdatasync(int descriptor)
+{
+    return fails("store") ? -1 : (int)syscall(SYS_fdatasync, descriptor);
 }
