@@ -40,9 +40,9 @@ PARTS = [
     (0, LOGIN.format("a")), (1, LOGIN.format("b")), (0, READY), (1, READY),
     (0, WRITE.format("W", 2, 2, 1048576, "2a000000000000080000", "11*8192")
      + DATA.format(2, 0xFFFFFFFF, 8192, 22, 57344)),
-    (1, WRITE.format("F W", 2, 2, 1024, "890000000000000bb800000000010000", "00*511 01 44*512")),
+    (1, WRITE.format("F W", 2, 2, 1024, "89000000000000000bb8000000010000", "00*511 01 44*512")),
     (0, DATA.format(2, 0, 65536, 33, 262144)),
-    (1, WRITE.format("F W", 3, 3, 1024, "890000000000000bb800000000010000", "00*512 55*512")),
+    (1, WRITE.format("F W", 3, 3, 1024, "89000000000000000bb8000000010000", "00*512 55*512")),
     (0, DATA.format(2, 1, 327680, 44, 262144)),
     (1, WRITE.format("F W", 4, 4, 512, "2a0800000bb900000100", "66*256")),
     (0, DATA.format(2, 2, 589824, 55, 262144)),
@@ -73,7 +73,7 @@ class Failed(Exception):
 
 
 class Ended(NamedTuple):
-    """The answer to each part, or None; the disk; the status of a program that ended by itself; how many calls failed."""
+    """The answer to each part, or None; the disk; the status, where the program ended by itself; how many calls failed."""
     answers: list
     disk: bytes
     status: int | None
@@ -152,11 +152,9 @@ def run(program, shim, **settings):
 
 
 def ended_by_itself(process, answers):
-    """The status of a program that has ended, or is about to where neither initiator was answered to the end."""
-    if all(answers[-2:]) or process.poll() is not None:
-        return process.poll()
+    """The status of a program that has ended; where an initiator has no last answer it may be about to end."""
     try:
-        return process.wait(0.2 if None in answers[-2:] else 0)
+        return process.wait(0 if all(answers[-2:]) else 0.2)
     except subprocess.TimeoutExpired:
         return None
 
