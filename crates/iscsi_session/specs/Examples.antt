@@ -12,7 +12,7 @@ use Rattle.iscsi_order.specs.Window as order
 use Rattle.iscsi_session.specs.declared.verdict.Verdict.TheVariants.{Ignored, Dropped, Rejected, Violating, Accepted}
 use Rattle.iscsi_transfer.specs.Task.{remembered as task_of, fault_of}
 use Rattle.iscsi_session.specs.Requests.{Past, begun, left, taken, taken_at, held, due, queue, unfinished, stamp, numbers}
-use Rattle.iscsi_session.specs.Transfers.{outs_of, tags_of, task_at, payload_of, asking, asked_by, r2t_of}
+use Rattle.iscsi_session.specs.Transfers.{outs_of, tags_of, task_at, asking, asked_by, r2t_of}
 use Rattle.iscsi_session.specs.Judging.{verdict, verdict_by, command_verdict, judged, reject}
 use Rattle.scsi_sense.specs.Done.{good}
 use Rattle.iscsi_session.specs.Answers.{data_answers, scsi_answer}
@@ -287,19 +287,6 @@ two_asked = refl
 none_done : (ready two_writing ≡ []) × (queue two_writing ≡ 3 ∷ 2 ∷ [])
 unfolding computed
 none_done = (refl, refl)
-
--- the data of 6 is whole before that of 5: nothing is done
-abbrev later_whole : Past
-later_whole = comes (comes two_writing (brings 3 (low 0) 0 0 0 (1 ∷ 2 ∷ 3 ∷ []))) (brings 3 (low 0) 1 3 0x80 (4 ∷ 5 ∷ 6 ∷ 7 ∷ 8 ∷ []))
-
-still_none : (ready later_whole ≡ []) × (payload_of later_whole 2 ≡ 1 ∷ 2 ∷ 3 ∷ 4 ∷ 5 ∷ 6 ∷ 7 ∷ 8 ∷ [])
-unfolding computed
-still_none = (refl, refl)
-
--- then that of 5: both are done, in the order of their numbers
-both_done : (comes later_whole (brings 4 (low 1) 0 0 0x80 (replicate 8 9))).finished ≡ 0 ∷ 1 ∷ 3 ∷ 2 ∷ []
-unfolding computed
-both_done = refl
 
 -- data with the tag of the other command's R2T
 tag_of_the_other : verdict two_writing (brings 3 (low 1) 0 0 0x80 (replicate 8 9)) ≡ Violating
