@@ -1,6 +1,6 @@
 //! Ports over sockets.
 
-ghost use Rattle.std.specs.Prelude.{◌≡◌, ◌≤◌, ◌∷◌, ◌++◌, ℕ, List, [], true, false, length, IfOk};
+ghost use Rattle.std.specs.Prelude.{◌≡◌, ◌≤◌, ◌∷◌, ◌++◌, ℕ, List, [], true, false, length, IfOk, IfSome};
 ghost use Rattle.std.specs.Duration.{as_nanos};
 ghost use Rattle.std.specs.Io.{WritesAtMost};
 ghost use Rattle.std.specs.Net.Socket.{socket_ip, socket_port};
@@ -88,6 +88,7 @@ impl SocketPorts<MioSockets> {
 fn to_wait(busy: bool, refused: bool, wait: Option<Duration>) -> Option<Duration>
     ensures more { busy ≡ true → (time : Duration) × (result ≡ Some time) × (as_nanos time ≡ 0) }
     ensures shortly { refused ≡ true → (time : Duration) × (result ≡ Some time) × (as_nanos time ≤ 1000000000) }
+    ensures no_longer { (limit : Duration) → wait ≡ Some limit → IfSome result (λ time. as_nanos time ≤ as_nanos limit) }
     ensures as_set { busy ≡ false → refused ≡ false → result ≡ wait }
 {
     if busy {
