@@ -125,7 +125,8 @@ stopped_before l fails place k others work is on fail =
 no_failure : Step → Bool
 no_failure step = false
 
-record StopsAt (place : ℕ) (fails : Step → Bool) (frame : Frame) (work : Work) (middle : SessionState) (before waiting : List ℕ) (units : UnitStates) : Type 0 where
+record StopsAt (place : ℕ) (fails : Step → Bool) (frame : Frame) (work : Work) (middle : SessionState) (before waiting : List ℕ)
+    (units : UnitStates) : Type 0 where
   pub taken : Work
   pub leaves : Leaves work taken middle before waiting units
   pub is : served fails place frame work ≡ record (reaches (Asking place) taken) { goes_on = false }
@@ -158,7 +159,8 @@ pub served_stops : (frame : Frame) (old middle : SessionState) (before waiting :
 served_stops frame old middle before waiting units r due = record {
   leads = λ place fails work told s.
       (let t = stops_at frame old middle before waiting units r due place fails work told s in
-      subst (λ (v : Work). Leaves work v middle before waiting units) (sym t.is) (leaves_stopped (Asking place) work t.taken middle before waiting units t.leaves));
+      subst (λ (v : Work). Leaves work v middle before waiting units) (sym t.is)
+      (leaves_stopped (Asking place) work t.taken middle before waiting units t.leaves));
   ends = λ place fails work told s.
       (let t = stops_at frame old middle before waiting units r due place fails work told s in ap (λ (v : Work). v.goes_on) t.is);
   reached = λ place fails work told s.

@@ -55,7 +55,8 @@ asked_there past k =
     let tag = next_transfer_tag past in
     let tags = tags_of past k in
     ap (from_tags past k) (one_tag true k k tag past.r2ts (eq-eqb k k refl))
-    ∙ ap (λ (t : ℕ). record (from_tags past k (tags ++ tag ∷ [])) { task = task_of (record (data_past past k) { tag = t }) }) (last_push tags tag no_transfer_tag)
+    ∙ ap (λ (t : ℕ). record (from_tags past k (tags ++ tag ∷ [])) { task = task_of (record (data_past past k) { tag = t }) })
+    (last_push tags tag no_transfer_tag)
     ∙ ap (λ (t : TaskState). record (from_tags past k (tags ++ tag ∷ [])) { task = t }) (remembered-asked (data_past past k) tag)
     ∙ ap (λ (n : ℕ). record (sent_to tag (transfer_of past k)) { sent = n }) (length-append tags (tag ∷ []))
 

@@ -63,7 +63,8 @@ judged_place past frame (Some i) found =
     found.2) ∙ ap (data_verdict past frame) (sym found.1)
 
 pub judged_is : (past : Past) (state : SessionState) (frame : Frame) → Stands past state
-    → judged_at state.transfers.list frame (place_for frame state.transfers.list) ≡ data_verdict past frame (command_with past (initiator_task_tag frame.header))
+    → judged_at state.transfers.list frame (place_for frame state.transfers.list)
+    ≡ data_verdict past frame (command_with past (initiator_task_tag frame.header))
 judged_is past state frame s =
     ap (λ (l : List Transfer). judged_at l frame (place_for frame l)) (list_is past state s)
     ∙ judged_place past frame _ (located_with past (initiator_task_tag frame.header))
@@ -165,7 +166,8 @@ found_in q k (a ∷ names) e = found_in_with (q a) refl (λ h. found_in q k name
     found_in_with true is rest = let same : Some a ≡ Some k = rw is at e in let here : a ≡ k = cc in rw (eq-eqb a k here) refl
     found_in_with false is rest = let h = rw is at e in or_known (eqb a k) (is_in k names) (rest h)
 
-lawful_fed_by : (past : Past) (frame : Frame) (c : Option ℕ) → command_with past (initiator_task_tag frame.header) ≡ c → IsLawful past → IsLawful (fed c frame past)
+lawful_fed_by : (past : Past) (frame : Frame) (c : Option ℕ) → command_with past (initiator_task_tag frame.header) ≡ c → IsLawful past
+    → IsLawful (fed c frame past)
 lawful_fed_by past frame None e lawful = lawful
 lawful_fed_by past frame (Some k) e lawful = lawful_fed_at past k frame (unfinished_came past k (found_in _ k (unfinished past) e)) lawful
 

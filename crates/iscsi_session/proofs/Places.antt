@@ -151,7 +151,8 @@ first_passes q k (a ∷ names) e = first_with (q a) refl (λ h. first_passes q k
   where
     first_with : (b : Bool) → q a ≡ b → (find q names ≡ Some k → (others : List ℕ) × (filter q names ≡ k ∷ others))
         → (others : List ℕ) × (filter q (a ∷ names) ≡ k ∷ others)
-    first_with true is rest = let same : Some a ≡ Some k = rw is at e in let here : a ≡ k = cc in (filter q names, rw is (ap (λ (n : ℕ). n ∷ filter q names) here))
+    first_with true is rest = let same : Some a ≡ Some k = rw is at e in let here : a ≡ k = cc in
+        (filter q names, rw is (ap (λ (n : ℕ). n ∷ filter q names) here))
     first_with false is rest = let h = rw is at e in let f = rest h in (f.0, rw is f.1)
 
 pub none_passes : (q : ℕ → Bool) (names : List ℕ) → find q names ≡ None → filter q names ≡ []
@@ -163,7 +164,8 @@ none_passes q (a ∷ names) e = none_with (q a) refl (λ h. none_passes q names 
     none_with false is rest = let h = rw is at e in rw is (rest h)
 
 count_map_with : {Y : Type 0} (b : Bool) (p : Y → Bool) (f : ℕ → Y) (a : ℕ) (names : List ℕ) → p (f a) ≡ b
-    → length (filter p (map f names)) ≡ length (filter (λ k. p (f k)) names) → length (filter p (map f (a ∷ names))) ≡ length (filter (λ k. p (f k)) (a ∷ names))
+    → length (filter p (map f names)) ≡ length (filter (λ k. p (f k)) names)
+    → length (filter p (map f (a ∷ names))) ≡ length (filter (λ k. p (f k)) (a ∷ names))
 count_map_with true p f a names e rest = rw (e, rest) refl
 count_map_with false p f a names e rest = rw e rest
 

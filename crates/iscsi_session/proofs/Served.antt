@@ -325,7 +325,8 @@ taken_ok (Err fault) v frame old middle new before waiting items judges differ a
 pub taken_err : {T E : Type 0} (r : Result T E) (v : Verdict) (frame : Frame) (old middle new : SessionState) (before waiting items : List ℕ)
     → Judges v frame old middle before waiting → v ≢ Violating
     → OnErr r ((turn : ℕ) × ((units : UnitStates) → Runs act_all (Some (λ place. Taking place turn)) false middle new waiting items units units))
-    → OnErr r (Stops is_serving (λ failed. (units : UnitStates) → Runs (λ fails place. taken_in fails place frame) failed false old new before items units units))
+    → OnErr r (Stops is_serving (λ failed. (units : UnitStates)
+    → Runs (λ fails place. taken_in fails place frame) failed false old new before items units units))
 taken_err (Ok x) v frame old middle new before waiting items judges differ acts = tt
 taken_err (Err fault) v frame old middle new before waiting items judges differ acts = record {
   step = λ place. Taking place acts.0;

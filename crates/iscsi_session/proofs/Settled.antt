@@ -64,7 +64,8 @@ pub none_ready : (work : Work) (state : SessionState) (units : UnitStates) → S
 unfolding ready
 none_ready work state units s e =
     let st = stands_of work state units s in
-    none_ready_in work.past state (queue work.past) st refl (ap (λ (l : List Frame). is_waiting_by l state.transfers.list) (sym (queue_is work.past state st)) ∙ e)
+    none_ready_in work.past state (queue work.past) st refl
+    (ap (λ (l : List Frame). is_waiting_by l state.transfers.list) (sym (queue_is work.past state st)) ∙ e)
 
 goes_by : (b : Bool) (past : Past) (k : ℕ) (l : List ℕ) → is_whole_of past k ≡ b → not b ≡ false → ready_in past (k ∷ l) ≡ k ∷ l
 goes_by true past k l e h = rw e refl
@@ -81,7 +82,8 @@ all_ready : (work : Work) (state : SessionState) (units : UnitStates) → Starts
 unfolding ready
 all_ready work state units s e =
     let st = stands_of work state units s in
-    all_ready_in work.past state (queue work.past) st refl (ap (λ (l : List Frame). is_waiting_by l state.transfers.list) (sym (queue_is work.past state st)) ∙ e)
+    all_ready_in work.past state (queue work.past) st refl
+    (ap (λ (l : List Frame). is_waiting_by l state.transfers.list) (sym (queue_is work.past state st)) ∙ e)
 
 some_by : (l : List Frame) (state : SessionState) → is_waiting_by l state.transfers.list ≡ false → 0 < length l
 some_by [] state e = absurd cc

@@ -21,7 +21,8 @@ use Rattle.iscsi_session.specs.Acts.{acted, act_answers, ends, logout_response}
 
 -- what an example unfolds
 unfoldable pub computed : Bool
-unfolding order.taken left taken taken_at held due queue unfinished stamp command_verdict verdict_by act_answers ends data_answers scsi_answer outs_of tags_of task_at task_of fault_of asking r2t_of ready
+unfolding order.taken left taken taken_at held due queue unfinished stamp command_verdict verdict_by act_answers ends data_answers scsi_answer
+    outs_of tags_of task_at task_of fault_of asking r2t_of ready
 computed = true
 
 -- ---- requests

@@ -51,7 +51,8 @@ impl Session {
         ensures verdict { (past : Past) → Stands past self.now → result ≡ verdict past frame.now }
         ensures vacant { result ≡ Verdict.Accepted → is_vacant_for self.now.tasks frame.now ≡ true }
         ensures acceptable { result ≡ Verdict.Accepted → IsAcceptable self.now frame.now }
-        ensures lawful { result ≡ Verdict.Feeding → judged_at self.now.transfers.list frame.now (place_for frame.now self.now.transfers.list) ≡ Verdict.Feeding }
+        ensures lawful { result ≡ Verdict.Feeding
+            → judged_at self.now.transfers.list frame.now (place_for frame.now self.now.transfers.list) ≡ Verdict.Feeding }
     {
         let header = &frame.header;
         match header.opcode() {

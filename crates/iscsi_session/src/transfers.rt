@@ -137,7 +137,8 @@ impl Transfers {
     pub(crate) fn begin(&mut self, frame: &Frame, values: &Values) -> Result<(), Memory>
         requires burst { 1 ≤ values.now.max_burst_length }
         requires lawful { command_fault values.now frame.now ≡ None }
-        ensures ok { OnOk result (self.new ≡ record self.old { list = self.old.list ++ begun_transfer frame.now.header (task_of (begun values.now frame.now)) ∷ [] }) }
+        ensures ok { OnOk result (self.new ≡ record self.old
+            { list = self.old.list ++ begun_transfer frame.now.header (task_of (begun values.now frame.now)) ∷ [] }) }
         ensures err { OnErr result (self.new ≡ self.old) }
     {
         self.list.reserve(1)?;

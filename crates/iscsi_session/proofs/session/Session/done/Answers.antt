@@ -34,7 +34,9 @@ put_answers-requires-clause-room c =
 pub returns-clause-stands : goal.returns-clause-stands
 returns-clause-stands c past k rest s is =
     let known = subst (λ (x : SessionState). Stands past x) (sym c.self.view_is) s in
-    let f = done_here past _ k rest c.in-Some.frame _ _ known is c.in-Some.ensures.some c.in-Some.ensures.same (c.finish-2.ensures ∙ ap (λ (t : ℕ). record c.self.inside.transfers { list = removed_at c.self.inside.transfers.list (place_with t c.self.inside.transfers.list) })
+    let f = done_here past _ k rest c.in-Some.frame _ _ known is c.in-Some.ensures.some c.in-Some.ensures.same
+    (c.finish-2.ensures ∙ ap (λ (t : ℕ). record c.self.inside.transfers
+    { list = removed_at c.self.inside.transfers.list (place_with t c.self.inside.transfers.list) })
     (c.initiator_task_tag.ensures ∙ ap (λ (f : Frame). initiator_task_tag f.header) c.frame.view_is)) in
     c.next_stamp-stamp.ensures.stands (finished k past)
     (command_answers (stamp (finished k past)) past.params.values (frame_of past.came k) c.args.done) f.1
@@ -43,7 +45,9 @@ returns-clause-stands c past k rest s is =
 pub returns-clause-out : goal.returns-clause-out
 returns-clause-out c past k rest s is =
     let known = subst (λ (x : SessionState). Stands past x) (sym c.self.view_is) s in
-    let f = done_here past _ k rest c.in-Some.frame _ _ known is c.in-Some.ensures.some c.in-Some.ensures.same (c.finish-2.ensures ∙ ap (λ (t : ℕ). record c.self.inside.transfers { list = removed_at c.self.inside.transfers.list (place_with t c.self.inside.transfers.list) })
+    let f = done_here past _ k rest c.in-Some.frame _ _ known is c.in-Some.ensures.some c.in-Some.ensures.same
+    (c.finish-2.ensures ∙ ap (λ (t : ℕ). record c.self.inside.transfers
+    { list = removed_at c.self.inside.transfers.list (place_with t c.self.inside.transfers.list) })
     (c.initiator_task_tag.ensures ∙ ap (λ (f : Frame). initiator_task_tag f.header) c.frame.view_is)) in
     let same : c.self-2.inside.params ≡ past.params = ap (λ (x : SessionState). x.params) (c.self-2.view_is ∙ c.next_stamp-stamp.ensures.same)
     ∙ (parts past _ known).params_is in

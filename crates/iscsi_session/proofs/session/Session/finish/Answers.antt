@@ -23,7 +23,9 @@ returns-clause-steps g c =
     c.payload-payload.ensures
     ∙ ap (λ (t : ℕ). payload_at list (place_with t list)) (c.initiator_task_tag.ensures ∙ ap (λ (f : Frame). initiator_task_tag f.header) c.frame.view_is)
     ∙ ap (λ (x : SessionState). payload_at x.transfers.list (place_for c.in-Some.frame.now x.transfers.list)) c.self.view_is in
-    finish_steps work _ _ _ _ _ _ _ _ _ _ s c.in-Some.ensures.some c.in-Some.ensures.whole (ap (λ (x : SessionState). x.params.nexus) c.self.view_is) (c.in_ok-done.ensures.done sound ∙ ap (carried_out c.args.units.now c.self.inside.params.nexus c.in-Some.frame.now) payload)
+    finish_steps work _ _ _ _ _ _ _ _ _ _ s c.in-Some.ensures.some c.in-Some.ensures.whole
+    (ap (λ (x : SessionState). x.params.nexus) c.self.view_is)
+    (c.in_ok-done.ensures.done sound ∙ ap (carried_out c.args.units.now c.self.inside.params.nexus c.in-Some.frame.now) payload)
     (record {
       stands = c.done-buffer.ensures.stands;
       out = λ past k others st is. c.done-buffer.ensures.out past k others st is

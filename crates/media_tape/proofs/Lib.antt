@@ -1,0 +1,6 @@
+pub mod Items
+pub mod Found
+pub mod Writes
+pub mod Positions
+pub mod Commands
+pub mod Results

@@ -1,0 +1,16 @@
+-- Items and their bytes, computed.
+use Rattle.std.specs.Prelude.{◌≡◌, [], ◌∷◌, refl}
+use Rattle.media_tape.specs.Items.{Record, Filemark, spelling, front, items_in, items_of, torn_at}
+
+-- the record `ab` and a filemark: 00000002 6162 00000002 00000000 00000000
+spelled_items : spelling (Record (97 ∷ 98 ∷ []) ∷ Filemark ∷ []) ≡ 0 ∷ 0 ∷ 0 ∷ 2 ∷ 97 ∷ 98 ∷ 0 ∷ 0 ∷ 0 ∷ 2 ∷ 0 ∷ 0 ∷ 0 ∷ 0 ∷ 0 ∷ 0 ∷ 0 ∷ 0 ∷ []
+spelled_items = refl
+
+read_back : items_of (0 ∷ 0 ∷ 0 ∷ 2 ∷ 97 ∷ 98 ∷ 0 ∷ 0 ∷ 0 ∷ 2 ∷ 0 ∷ 0 ∷ 0 ∷ 0 ∷ 0 ∷ 0 ∷ 0 ∷ 0 ∷ []) ≡ Record (97 ∷ 98 ∷ []) ∷ Filemark ∷ []
+unfolding items_in front
+read_back = refl
+
+-- cut to 17 bytes
+torn : torn_at (0 ∷ 0 ∷ 0 ∷ 2 ∷ 97 ∷ 98 ∷ 0 ∷ 0 ∷ 0 ∷ 2 ∷ 0 ∷ 0 ∷ 0 ∷ 0 ∷ 0 ∷ 0 ∷ 0 ∷ []) ≡ 10
+unfolding items_in front
+torn = refl

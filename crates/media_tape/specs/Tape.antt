@@ -1,0 +1,138 @@
+-- A tape as the items before its position and those behind it (SSC-4 "Position within a partition"), and what commands
+-- do to it.
+use Rattle.std.specs.Prelude.{◌≡◌, ℕ, ◌+◌, ◌*◌, ◌≤◌, ◌==◌, nat_lt, nat_le, List, [], ◌∷◌, ◌++◌, length, take, drop, replicate, Bool, true, false, if◌then◌else◌}
+use Rattle.media_store.specs.Failures.{risen}
+use Rattle.media_tape.specs.Items.{Item, Record, Filemark, size_of, items_of}
+use Rattle.media_tape.specs.declared.outcome.Located.{Located}
+use Rattle.media_tape.specs.declared.outcome.Located.TheVariants as located
+use Rattle.media_tape.specs.declared.outcome.Passed.{Passed}
+use Rattle.media_tape.specs.declared.outcome.Passed.TheVariants as passed
+use Rattle.media_tape.specs.declared.outcome.Written.{Written}
+use Rattle.media_tape.specs.declared.outcome.Written.TheVariants as written
+
+-- own: what a tape shows of itself
+pub record TapeState : Type 0 where
+  pub before : List Item
+  pub after : List Item
+  -- what its store holds behind the last item: some bytes only where a write or a cut failed
+  pub tail : List ℕ
+  pub is_loaded : Bool
+  -- in bytes of items
+  pub capacity : ℕ
+  pub early_mark : ℕ
+  -- as they are of its store
+  pub synced : Bool
+  pub failures : ℕ
+  pub honest : Bool
+  pub steady : Bool
+
+abbrev pub items : TapeState → List Item
+items tape = tape.before ++ tape.after
+
+-- own: the tape with its position behind so many items
+abbrev pub located_at : ℕ → TapeState → TapeState
+located_at number tape = record tape { before = take number (items tape); after = drop number (items tape) }
+
+-- LOCATE (10) (SSC-4)
+abbrev pub located_told : ℕ → TapeState → Located
+located_told number tape = if nat_le number (length (items tape)) then located.There else located.EndOfData
+
+-- ---- READ (6) (SSC-4)
+
+-- what the first of these items is, where it is passed
+abbrev pub first_told : List Item → Passed
+first_told [] = passed.EndOfData
+first_told (Record bytes ∷ items) = passed.Record (length bytes)
+first_told (Filemark ∷ items) = passed.Filemark
+
+-- by its length: a filemark has no byte
+abbrev pub length_told : ℕ → Passed
+length_told length = if length == 0 then passed.Filemark else passed.Record length
+
+-- profile: a read of no byte passes nothing
+abbrev pub read_told : ℕ → TapeState → Passed
+read_told room tape = if room == 0 then passed.Nothing else first_told tape.after
+
+-- its bytes
+abbrev pub first_data : List Item → List ℕ
+first_data [] = []
+first_data (Record bytes ∷ items) = bytes
+first_data (Filemark ∷ items) = []
+
+-- own: a buffer with as many of these bytes in front as there is room for
+abbrev pub filled : List ℕ → List ℕ → List ℕ
+filled bytes buffer = take (length buffer) bytes ++ drop (length bytes) buffer
+
+-- the first item is passed
+abbrev pub tape_read : ℕ → TapeState → TapeState
+tape_read room tape =
+    if room == 0 then tape
+    else record tape { before = tape.before ++ take 1 tape.after; after = drop 1 tape.after }
+
+-- ---- WRITE (6), WRITE FILEMARKS (6), ERASE (6) (SSC-4)
+
+-- profile: items of this size are refused where they would exceed the capacity, and told where they then exceed the
+-- early mark
+abbrev pub size_told : ℕ → TapeState → Written
+size_told more tape =
+    if nat_lt tape.capacity (size_of tape.before + more) then written.Refused
+    else if nat_lt tape.early_mark (size_of tape.before + more) then written.Early
+    else written.Whole
+
+-- profile: items from the position on, in the place of all that stood there
+abbrev pub wrote : List Item → TapeState → TapeState
+wrote others tape = record tape { before = tape.before ++ others; after = []; tail = []; synced = false }
+
+-- unless they are refused
+abbrev pub wrote_if_told : Written → List Item → TapeState → TapeState
+wrote_if_told written.Refused others tape = tape
+wrote_if_told written.Early others tape = wrote others tape
+wrote_if_told written.Whole others tape = wrote others tape
+
+-- profile: a write of no byte changes nothing
+abbrev pub write_told : List ℕ → TapeState → Written
+write_told [] tape = written.Whole
+write_told (byte ∷ bytes) tape = size_told (length (byte ∷ bytes) + 8) tape
+
+abbrev pub tape_written : List ℕ → TapeState → TapeState
+tape_written [] tape = tape
+tape_written (byte ∷ bytes) tape = wrote_if_told (write_told (byte ∷ bytes) tape) (Record (byte ∷ bytes) ∷ []) tape
+
+-- profile: and then all is synced, also where there is no filemark to write
+abbrev pub marks_told : ℕ → TapeState → Written
+marks_told count tape = if count == 0 then written.Whole else size_told (8 * count) tape
+
+abbrev pub synced_if_told : Written → TapeState → TapeState
+synced_if_told written.Refused tape = tape
+synced_if_told written.Early tape = record tape { synced = true }
+synced_if_told written.Whole tape = record tape { synced = true }
+
+abbrev pub tape_marked : ℕ → TapeState → TapeState
+tape_marked count tape =
+    if count == 0 then record tape { synced = true }
+    else synced_if_told (size_told (8 * count) tape) (wrote_if_told (size_told (8 * count) tape) (replicate count Filemark) tape)
+
+-- the items from the position on are removed
+abbrev pub erased : TapeState → TapeState
+erased tape = wrote [] tape
+
+-- own: what is left where a write, a cut or a sync failed: the items before the position
+abbrev pub lost : List ℕ → Bool → TapeState → TapeState
+lost tail synced tape = record tape { after = []; tail = tail; synced = synced; failures = risen tape.failures }
+
+-- ---- own: what a tape knows of the content of its store
+
+-- a position and its place in bytes, among the items in front of an end
+pub record Lies (content : List ℕ) (position place count end : ℕ) : Type 0 where
+  pub long : end ≤ length content
+  pub whole : size_of (items_of (take end content)) ≡ end
+  pub as_many : length (items_of (take end content)) ≡ count
+  pub placed : size_of (take position (items_of (take end content))) ≡ place
+
+-- numbers that fit
+pub record AreNumbers (position place count end capacity : ℕ) : Type 0 where
+  pub before : position ≤ count
+  pub all : 8 * count ≤ end
+  pub within : place ≤ end
+  pub some : 8 * position ≤ place
+  pub most : end ≤ capacity

@@ -1,0 +1,41 @@
+//! Why a store is not opened as a tape.
+
+ghost use Rattle.std.specs.Prelude.{◌≡◌};
+ghost use Rattle.media_tape.specs.Fault.{fault_number};
+
+use media_store::Store;
+use thiserror::Error;
+
+/// Why a store is not opened as a tape.
+#[derive(Clone, Copy, Debug, PartialEq, Eq, Error)]
+pub enum TapeOpenFault {
+    /// At this offset in bytes no whole item begins, and bytes stand there.
+    #[error("no whole item begins at byte {0}")]
+    TornEnd(u64),
+    /// The store failed.
+    #[error("the device failed")]
+    Device,
+    /// It is longer than the capacity.
+    #[error("the tape is longer than its capacity")]
+    TooLong,
+}
+
+impl TapeOpenFault {
+    /// The number of the fault, 1 to 3.
+    pub fn number(self) -> u8
+        ensures { result ≡ fault_number self }
+    {
+        match self {
+            TapeOpenFault::TornEnd(_) => 1,
+            TapeOpenFault::Device => 2,
+            TapeOpenFault::TooLong => 3,
+        }
+    }
+}
+
+/// A store that was not opened, and why.
+#[derive(Drop)]
+pub struct NotOpened<S: Store> {
+    pub fault: TapeOpenFault,
+    pub store: S,
+}

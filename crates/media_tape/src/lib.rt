@@ -1,0 +1,32 @@
+//! A tape: records and filemarks over a store, and a position among them (SSC-4 "Tape model").
+//!
+//! ```text
+//! 00000002 6162 00000002   00000000 00000000        a record of two bytes, and a filemark
+//! |----------------------|-------------------|
+//! 0                      10                  18     bytes of the store
+//! ```
+//!
+//! The store holds item after item: its length in four bytes, its data, and its length again. A filemark
+//! has no data, and a length above [`MOST_BYTES`] begins no item. The calls walk the store by these
+//! lengths.
+//!
+//! Promised of a tape whose store is honest after a call and did not fail in it: a read passes the item
+//! behind the position, a record that is written stands in the place of all that was behind it and in the
+//! store nothing follows it, and a position is set behind as many items as there are. A read or a
+//! positioning that fails leaves the tape as it was; a write or a cut that fails leaves the items before
+//! the position. A fault is told only where the store's count of failures rose in that call.
+//! [`Tape::open`] says where no whole item begins.
+#![tactic(auto)]
+
+mod fault;
+mod item;
+mod outcome;
+mod tape;
+mod walk;
+mod write;
+mod zeros;
+
+pub use fault::{NotOpened, TapeOpenFault};
+pub use item::MOST_BYTES;
+pub use outcome::{Located, Passed, Written};
+pub use tape::Tape;

@@ -1,0 +1,47 @@
+//! How calls on a tape come out, where its store did not fail.
+
+ghost use Rattle.std.specs.Prelude.{◌≡◌};
+ghost use Rattle.media_tape.specs.Tape.{length_told};
+
+/// What a read passed.
+#[derive(Clone, Copy, Debug, PartialEq, Eq)]
+pub enum Passed {
+    /// Nothing, since there was room for no byte.
+    Nothing,
+    /// A record of this length in bytes.
+    Record(u32),
+    Filemark,
+    /// Nothing, since no item stands behind the position.
+    EndOfData,
+}
+
+/// Whether items were written.
+#[derive(Clone, Copy, Debug, PartialEq, Eq)]
+pub enum Written {
+    /// They are, or there were none.
+    Whole,
+    /// They are, and the items before the position now exceed the early mark.
+    Early,
+    /// They are not, since the items would exceed the capacity.
+    Refused,
+}
+
+/// Where a position was set.
+#[derive(Clone, Copy, Debug, PartialEq, Eq)]
+pub enum Located {
+    /// Behind as many items as it was to be.
+    There,
+    /// Behind all items, since there are fewer.
+    EndOfData,
+}
+
+/// What an item of this length is, where it is passed.
+pub(crate) fn passed_item(length: u32) -> Passed
+    ensures { result ≡ length_told length }
+{
+    if length == 0 {
+        Passed::Filemark
+    } else {
+        Passed::Record(length)
+    }
+}

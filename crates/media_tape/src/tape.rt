@@ -1,0 +1,277 @@
+//! The calls on a tape.
+
+ghost use Rattle.std.specs.Prelude.{◌≡◌, ◌≢◌, ◌+◌, ◌*◌, ◌<◌, ◌≤◌, ◌==◌, [], length, drop, take, true, false, is_ok, if◌then◌else◌, IsTrue, IsOk, IfOk, IfErr, OnOk, OnErr};
+ghost use Rattle.media_store.specs.Failures.{counted, risen};
+ghost use Rattle.media_tape.specs.Items.{most_bytes, items_of, is_tape, size_of};
+ghost use Rattle.media_tape.specs.Fault.{failures_after, Explains};
+ghost use Rattle.media_tape.specs.Tape.{TapeState, located_at, located_told, read_told, first_data, filled, tape_read, write_told, tape_written, marks_told, tape_marked, lost, erased};
+
+use crate::fault::{NotOpened, TapeOpenFault};
+use crate::item::{LENGTHS, data_at, item_at};
+use crate::outcome::{Located, Passed, Written, passed_item};
+use crate::walk::{walk, walk_to};
+use crate::write::write_record;
+use crate::zeros::write_zeros;
+use media_store::{Store, StoreFault};
+use std::marker::Model;
+
+/// Records and filemarks over a store, and a position among them. Lengths and sizes are in bytes.
+#[derive(Drop)]
+pub struct Tape<S: Store> {
+    store: S,
+    capacity: u64,
+    early_mark: u64,
+    is_loaded: bool,
+    /// How many items stand before the position, and their size.
+    position: u64,
+    place: u64,
+    /// How many items there are, and their size.
+    count: u64,
+    end: u64,
+}
+
+impl<S: Store> Model for Tape<S> {
+    ghost use Rattle.std.specs.Prelude.{take, drop, IsTrue};
+    ghost use Rattle.media_tape.specs.Items.{items_of};
+    ghost use Rattle.media_tape.specs.Tape.{TapeState, Lies, AreNumbers};
+
+    ghost Value = { TapeState };
+
+    ghost view = { λ tape. record {
+      before = take tape.position (items_of (take tape.end (S.Store.content tape.store)));
+      after = drop tape.position (items_of (take tape.end (S.Store.content tape.store)));
+      tail = drop tape.end (S.Store.content tape.store);
+      is_loaded = tape.is_loaded;
+      capacity = tape.capacity;
+      early_mark = tape.early_mark;
+      synced = S.Store.synced tape.store;
+      failures = S.Store.failures tape.store;
+      honest = S.Store.honest tape.store;
+      steady = S.Store.steady tape.store;
+    } };
+
+    ghost invariant = { λ tape. AreNumbers tape.position tape.place tape.count tape.end tape.capacity
+        × (IsTrue (S.Store.honest tape.store) → Lies (S.Store.content tape.store) tape.position tape.place tape.count tape.end) };
+}
+
+impl<S: Store> Tape<S> {
+    /// Opens a store as a loaded tape with this capacity and early mark, its position before all items,
+    /// or gives it back.
+    pub fn open(mut store: S, capacity: u64, early_mark: u64) -> Result<Tape<S>, NotOpened<S>>
+        ensures before { IfOk result (λ tape. IsTrue tape.honest → tape.before ≡ []) }
+        ensures after { IfOk result (λ tape. IsTrue tape.honest → tape.after ≡ items_of (S.Store.content store)) }
+        ensures tail { IfOk result (λ tape. IsTrue tape.honest → tape.tail ≡ []) }
+        ensures tape { IfOk result (λ tape. IsTrue tape.honest → is_tape (S.Store.content store) ≡ true) }
+        ensures fits { IfOk result (λ tape. IsTrue tape.honest → length (S.Store.content store) ≤ capacity) }
+        ensures set { IfOk result (λ tape. (tape.is_loaded ≡ true) × (tape.capacity ≡ capacity) × (tape.early_mark ≡ early_mark)) }
+        ensures synced { IfOk result (λ tape. tape.synced ≡ S.Store.synced store) }
+        ensures failures { IfOk result (λ tape. tape.failures ≡ S.Store.failures store) }
+        ensures steady { IfOk result (λ tape. tape.steady ≡ S.Store.steady store) }
+        ensures back { IfOk result (λ tape. IsTrue tape.honest → IsTrue (S.Store.honest store)) }
+        ensures succeeds { IsTrue (S.Store.steady store) → IsTrue (S.Store.honest store) → is_tape (S.Store.content store) ≡ true
+            → length (S.Store.content store) ≤ capacity → IsOk result }
+        ensures explained { IfErr result (λ refused. IsTrue (S.Store.honest refused.store)
+            → Explains (S.Store.content store) capacity refused.fault) }
+        ensures counted { IfErr result (λ refused. S.Store.failures refused.store ≡ failures_after refused.fault (S.Store.failures store)) }
+        ensures given_back { IfErr result (λ refused. S.Store.content refused.store ≡ S.Store.content store) }
+        ensures synced_back { IfErr result (λ refused. S.Store.synced refused.store ≡ S.Store.synced store) }
+        ensures back_refused { IfErr result (λ refused. IsTrue (S.Store.honest refused.store) → IsTrue (S.Store.honest store)) }
+    {
+        let Ok(end) = store.len() else {
+            return Err(NotOpened {
+                fault: TapeOpenFault::Device,
+                store,
+            });
+        };
+        let Ok(walked) = walk(&mut store, end) else {
+            return Err(NotOpened {
+                fault: TapeOpenFault::Device,
+                store,
+            });
+        };
+        if walked.place < end {
+            return Err(NotOpened {
+                fault: TapeOpenFault::TornEnd(walked.place),
+                store,
+            });
+        }
+        if capacity < end {
+            return Err(NotOpened {
+                fault: TapeOpenFault::TooLong,
+                store,
+            });
+        }
+        Ok(Tape {
+            store,
+            capacity,
+            early_mark,
+            is_loaded: true,
+            position: 0,
+            place: 0,
+            count: walked.count,
+            end,
+        })
+    }
+
+    /// How many items stand before the position (SSC-4 "READ POSITION").
+    pub fn position(&self) -> u64
+        ensures { IsTrue self.now.honest → result ≡ length self.now.before }
+    {
+        self.position
+    }
+
+    /// Passes the item behind the position, and puts as many bytes of a record into the buffer as there
+    /// is room for (SSC-4 "READ (6)"). Where it fails, the tape is as before.
+    pub fn read(&mut self, bytes: &mut [u8]) -> Result<Passed, StoreFault>
+        ensures passed { IfOk result (λ passed. IsTrue self.new.honest → passed ≡ read_told (length bytes.old) self.old) }
+        ensures given { OnOk result (IsTrue self.new.honest → bytes.new ≡ filled (first_data self.old.after) bytes.old) }
+        ensures tape { OnOk result (IsTrue self.new.honest → self.new ≡ tape_read (length bytes.old) self.old) }
+        ensures failed { OnErr result (self.new ≡ record self.old { failures = risen self.old.failures; honest = self.new.honest }) }
+        ensures rest { self.new ≡ record self.old { before = self.new.before; after = self.new.after; honest = self.new.honest; failures = counted result self.old.failures } }
+        ensures back { IsTrue self.new.honest → IsTrue self.old.honest }
+        ensures succeeds { IsTrue self.old.steady → IsTrue self.old.honest → IsOk result × (self.new.honest ≡ self.old.honest) }
+    {
+        if bytes.is_empty() {
+            return Ok(Passed::Nothing);
+        }
+        if self.position == self.count {
+            return Ok(Passed::EndOfData);
+        }
+        let Some(length) = item_at(&mut self.store, self.place, self.end)? else {
+            // A store that is honest has an item here.
+            return Ok(Passed::EndOfData);
+        };
+        data_at(&mut self.store, self.place, length, bytes)?;
+        self.place += u64::from(length) + LENGTHS;
+        self.position += 1;
+        Ok(passed_item(length))
+    }
+
+    /// Writes a record in the place of all that stands behind the position (SSC-4 "WRITE (6)"). One of
+    /// no byte changes nothing. Where it fails, the items before the position are left.
+    pub fn write(&mut self, bytes: &[u8]) -> Result<Written, StoreFault>
+        requires { length bytes.now ≤ most_bytes }
+        ensures told { IfOk result (λ told. IsTrue self.old.honest → told ≡ write_told bytes.now self.old) }
+        ensures tape { OnOk result (IsTrue self.old.honest → self.new ≡ tape_written bytes.now self.old) }
+        ensures failed { OnErr result (IsTrue self.old.honest → self.new ≡ lost self.new.tail false self.old) }
+        ensures honest { self.new.honest ≡ self.old.honest }
+        ensures rest { self.new ≡ record self.old { before = self.new.before; after = self.new.after; tail = self.new.tail; synced = self.new.synced; failures = counted result self.old.failures } }
+    {
+        let size = bytes.len() as u64 + LENGTHS;
+        if bytes.is_empty() {
+            return Ok(Written::Whole);
+        }
+        if self.capacity - self.place < size {
+            return Ok(Written::Refused);
+        }
+        // What stands behind the position is lost, also where a call fails.
+        self.count = self.position;
+        self.end = self.place;
+        write_record(&mut self.store, self.place, bytes)?;
+        self.count += 1;
+        self.end += size;
+        self.position = self.count;
+        self.place = self.end;
+        Ok(if self.early_mark < self.end {
+            Written::Early
+        } else {
+            Written::Whole
+        })
+    }
+
+    /// Writes filemarks in the place of all that stands behind the position, and waits until all is on the
+    /// medium (SSC-4 "WRITE FILEMARKS (6)"). Where it fails, the items before the position are left.
+    pub fn marks(&mut self, count: u32) -> Result<Written, StoreFault>
+        ensures told { IfOk result (λ told. IsTrue self.old.honest → told ≡ marks_told count self.old) }
+        ensures tape { OnOk result (IsTrue self.old.honest → self.new ≡ tape_marked count self.old) }
+        ensures failed { OnErr result (IsTrue self.old.honest → count ≢ 0 → self.new ≡ lost self.new.tail false self.old) }
+        ensures none_failed { OnErr result (count ≡ 0 → self.new ≡ record self.old { failures = risen self.old.failures }) }
+        ensures honest { self.new.honest ≡ self.old.honest }
+        ensures rest { self.new ≡ record self.old { before = self.new.before; after = self.new.after; tail = self.new.tail; synced = self.new.synced; failures = counted result self.old.failures } }
+    {
+        if count == 0 {
+            self.store.sync()?;
+            return Ok(Written::Whole);
+        }
+        let size = LENGTHS * u64::from(count);
+        if self.capacity - self.place < size {
+            return Ok(Written::Refused);
+        }
+        // What stands behind the position is lost, also where a call fails.
+        self.count = self.position;
+        self.end = self.place;
+        write_zeros(&mut self.store, self.place, size)?;
+        self.store.sync()?;
+        self.count += u64::from(count);
+        self.end += size;
+        self.position = self.count;
+        self.place = self.end;
+        Ok(if self.early_mark < self.end {
+            Written::Early
+        } else {
+            Written::Whole
+        })
+    }
+
+    /// Removes all that stands behind the position (SSC-4 "ERASE (6)"). Where it fails, the items before
+    /// the position are left.
+    pub fn erase(&mut self) -> Result<(), StoreFault>
+        ensures tape { OnOk result (IsTrue self.old.honest → self.new ≡ erased self.old) }
+        ensures failed { OnErr result (IsTrue self.old.honest → self.new ≡ lost self.new.tail false self.old) }
+        ensures honest { self.new.honest ≡ self.old.honest }
+        ensures rest { self.new ≡ record self.old { before = self.new.before; after = self.new.after; tail = self.new.tail; synced = false; failures = counted result self.old.failures } }
+    {
+        self.count = self.position;
+        self.end = self.place;
+        self.store.set_len(self.place)
+    }
+
+    /// Sets the position behind so many items, or behind all where there are fewer (SSC-4 "LOCATE (10)").
+    /// Where it fails, the tape is as before.
+    pub fn locate(&mut self, number: u64) -> Result<Located, StoreFault>
+        ensures told { IfOk result (λ told. IsTrue self.new.honest → told ≡ located_told number self.old) }
+        ensures tape { OnOk result (IsTrue self.new.honest → self.new ≡ located_at number self.old) }
+        ensures failed { OnErr result (self.new ≡ record self.old { failures = risen self.old.failures; honest = self.new.honest }) }
+        ensures rest { self.new ≡ record self.old { before = self.new.before; after = self.new.after; honest = self.new.honest; failures = counted result self.old.failures } }
+        ensures back { IsTrue self.new.honest → IsTrue self.old.honest }
+        ensures succeeds { IsTrue self.old.steady → IsTrue self.old.honest → IsOk result × (self.new.honest ≡ self.old.honest) }
+    {
+        if self.count <= number {
+            let told = if self.count == number {
+                Located::There
+            } else {
+                Located::EndOfData
+            };
+            self.position = self.count;
+            self.place = self.end;
+            return Ok(told);
+        }
+        let walked = walk_to(&mut self.store, number, self.end)?;
+        self.position = walked.count;
+        self.place = walked.place;
+        Ok(Located::There)
+    }
+
+    /// Sets the position before all items (SSC-4 "REWIND").
+    pub fn rewind(&mut self)
+        ensures { self.new ≡ located_at 0 self.old }
+    {
+        self.position = 0;
+        self.place = 0;
+    }
+
+    /// Loads the tape, or unloads it, and rewinds it (SSC-4 "LOAD UNLOAD").
+    pub fn load(&mut self, is_loaded: bool)
+        ensures { self.new ≡ record (located_at 0 self.old) { is_loaded = is_loaded } }
+    {
+        self.rewind();
+        self.is_loaded = is_loaded;
+    }
+
+    /// Whether the tape is loaded.
+    pub fn is_loaded(&self) -> bool
+        ensures { result ≡ self.now.is_loaded }
+    {
+        self.is_loaded
+    }
+}

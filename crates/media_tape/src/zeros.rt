@@ -1,0 +1,31 @@
+//! Filemarks written to a store from a place on: two lengths of zero each.
+
+ghost use Rattle.std.specs.Prelude.{◌≡◌, ◌+◌, ◌*◌, ◌≤◌, ◌<◌, ◌^◌, ◌++◌, false, length, take, replicate, OnOk, OnErr};
+ghost use Rattle.media_store.specs.Failures.{counted};
+ghost use Rattle.media_tape.specs.Writing.{KeepsBefore};
+
+use media_store::{Store, StoreFault};
+
+/// The most bytes that one call of the store writes.
+const PART: u64 = 4096;
+
+/// Writes so many zero bytes, and cuts the store behind them.
+pub(crate) fn write_zeros<S: Store>(store: &mut S, place: u64, size: u64) -> Result<(), StoreFault>
+    requires within { place + size < 2 ^ 64 }
+    ensures written { OnOk result (place ≤ length (S.Store.content store.old)
+        → S.Store.content store.new ≡ take place (S.Store.content store.old) ++ replicate size 0) }
+    ensures torn { OnErr result (KeepsBefore place (S.Store.content store.old) (S.Store.content store.new)) }
+    ensures honest { S.Store.honest store.new ≡ S.Store.honest store.old }
+    ensures synced { S.Store.synced store.new ≡ false }
+    ensures failures { S.Store.failures store.new ≡ counted result (S.Store.failures store.old) }
+    ensures steady { S.Store.steady store.new ≡ S.Store.steady store.old }
+{
+    let zeros = [0; PART as usize];
+    let mut done = 0;
+    while done < size {
+        let part = (size - done).min(PART);
+        store.write_at(place + done, &zeros[..part as usize])?;
+        done += part;
+    }
+    store.set_len(place + size)
+}
