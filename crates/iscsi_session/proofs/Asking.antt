@@ -1,9 +1,9 @@
 -- An R2T is sent, and a command of the queue is done where its data is whole.
-use Rattle.std.proofs.Common.{◌≡◌, ◌≢◌, ◌==◌, ℕ, ◌+◌, ◌%◌, ◌<◌, List, [], ◌∷◌, ◌++◌, length, map, set, Bool, true, false, cond, Option, Some, None, eqb, refl, sym, ap, subst, ◌∙◌, arith, append-nil}
+use Rattle.std.proofs.Common.{◌≡◌, ◌≢◌, ◌==◌, ℕ, ◌+◌, ◌%◌, ◌<◌, List, [], ◌∷◌, ◌++◌, length, map, set, Bool, true, false, Option, Some, None, refl, sym, ap, subst, ◌∙◌, arith, append-nil}
 use Rattle.std.specs.Prelude.{filter, fold, find, is_some, option_map, slice_get}
 use Rattle.std.proofs.lemmas.Bool.{eq-eqb, ne_eqb}
-use Rattle.std.proofs.lemmas.List.{length-append, map-append}
-use Rattle.std.proofs.lemmas.List.Elements.{filter-append, All-push}
+use Rattle.std.proofs.lemmas.List.{length-append}
+use Rattle.std.proofs.lemmas.List.Elements.{All-push}
 use Rattle.iscsi_pdu.specs.DataOut.{no_transfer_tag}
 use Rattle.iscsi_pdu.specs.declared.r2t.R2t.{R2t}
 use Rattle.iscsi_pdu.specs.declared.stamp.Stamp.{Stamp}
@@ -16,11 +16,11 @@ use Rattle.iscsi_session.specs.State.{SessionState, TransferList, IsLawful, Stan
 use Rattle.iscsi_session.specs.Steps.{ready, ready_in}
 use Rattle.iscsi_order.specs.Stat.{stat_sn}
 use Rattle.iscsi_session.proofs.Left.{in_at, in_filter}
-use Rattle.iscsi_session.proofs.Places.{Located, located, index_map, set_map, first_passes, none_passes}
+use Rattle.iscsi_session.proofs.Places.{Located, located, index_map, set_map, first_passes, none_passes, one_more}
 use Rattle.iscsi_session.proofs.Unfinished.{unfinished_came, unfinished_distinct}
 use Rattle.iscsi_session.proofs.Parts.{parts}
 use Rattle.iscsi_session.proofs.Feeding.{list_is}
-use Rattle.iscsi_session.proofs.Runs.{statuses_answering}
+use Rattle.iscsi_session.proofs.Runs.{lawful_data, statuses_answering}
 
 -- ---- its tag is the last one
 
@@ -28,19 +28,8 @@ last_push : (tags : List ℕ) (tag before : ℕ) → fold (λ before tag. tag) b
 last_push [] tag before = refl
 last_push (first ∷ tags) tag before = last_push tags tag first
 
-one_tag : (b : Bool) (k j tag : ℕ) (l : List SentR2t) → eqb k j ≡ b
-    → map (λ r. r.tag) (filter (λ r. r.command == j) (l ++ record { command = k; tag = tag } ∷ []))
-    ≡ map (λ r. r.tag) (filter (λ r. r.command == j) l) ++ cond b (tag ∷ []) []
-one_tag true k j tag l e =
-    ap (map (λ (r : SentR2t). r.tag)) (filter-append (λ (r : SentR2t). r.command == j) l (record { command = k; tag = tag } ∷ []))
-    ∙ map-append (λ (r : SentR2t). r.tag) (filter (λ (r : SentR2t). r.command == j) l) (filter (λ (r : SentR2t). r.command == j)
-    (record { command = k; tag = tag } ∷ []))
-    ∙ rw e refl
-one_tag false k j tag l e =
-    ap (map (λ (r : SentR2t). r.tag)) (filter-append (λ (r : SentR2t). r.command == j) l (record { command = k; tag = tag } ∷ []))
-    ∙ map-append (λ (r : SentR2t). r.tag) (filter (λ (r : SentR2t). r.command == j) l) (filter (λ (r : SentR2t). r.command == j)
-    (record { command = k; tag = tag } ∷ []))
-    ∙ rw e refl
+abbrev sent_now : Past → ℕ → SentR2t
+sent_now past k = record { command = k; tag = next_transfer_tag past }
 
 abbrev from_tags : Past → ℕ → List ℕ → Transfer
 from_tags past k tags = record {
@@ -54,7 +43,7 @@ unfolding task_at outs_of tags_of
 asked_there past k =
     let tag = next_transfer_tag past in
     let tags = tags_of past k in
-    ap (from_tags past k) (one_tag true k k tag past.r2ts (eq-eqb k k refl))
+    ap (from_tags past k) (one_more true (λ r. r.command) (λ r. r.tag) (sent_now past k) k past.r2ts (eq-eqb k k refl))
     ∙ ap (λ (t : ℕ). record (from_tags past k (tags ++ tag ∷ [])) { task = task_of (record (data_past past k) { tag = t }) })
     (last_push tags tag no_transfer_tag)
     ∙ ap (λ (t : TaskState). record (from_tags past k (tags ++ tag ∷ [])) { task = t }) (remembered-asked (data_past past k) tag)
@@ -63,7 +52,7 @@ asked_there past k =
 asked_elsewhere : (past : Past) (k j : ℕ) → j ≢ k → transfer_of (asked k past) j ≡ transfer_of past j
 unfolding task_at outs_of tags_of
 asked_elsewhere past k j differ =
-    ap (from_tags past j) (one_tag false k j (next_transfer_tag past) past.r2ts (ne_eqb k j (λ e. differ (sym e)))
+    ap (from_tags past j) (one_more false (λ r. r.command) (λ r. r.tag) (sent_now past k) j past.r2ts (ne_eqb k j (λ e. differ (sym e)))
     ∙ append-nil (map (λ (r : SentR2t). r.tag) (filter (λ (r : SentR2t). r.command == j) past.r2ts)))
 
 unfinished_asked : (past : Past) (k : ℕ) → unfinished (asked k past) ≡ unfinished past
@@ -131,22 +120,9 @@ statuses_asked past k =
     )
 
 pub lawful_asked : (past : Past) (k : ℕ) → k < length past.came → IsLawful past → IsLawful (asked k past)
-unfolding due queue unfinished
-lawful_asked past k lt lawful = record {
-  window = lawful.window;
-  distinct = lawful.distinct;
-  delivered = lawful.delivered;
-  in_order = lawful.in_order;
-  below = lawful.below;
-  acted = lawful.acted;
-  queued = lawful.queued;
-  at_once = lawful.at_once;
-  handed = lawful.handed;
-  fed = lawful.fed;
-  asked = All-push (λ (r : SentR2t). r.command < length past.came) past.r2ts (record { command = k; tag = next_transfer_tag past }) lawful.asked lt;
-  tags = lawful.tags;
-  none_removed = lawful.none_removed;
-}
+lawful_asked past k lt lawful =
+    lawful_data past past.data_outs (past.r2ts ++ sent_now past k ∷ []) (past.answers ++ r2t_of past k) lawful lawful.fed
+    (All-push (λ (r : SentR2t). r.command < length past.came) past.r2ts (sent_now past k) lawful.asked lt)
 
 stands_one : (past : Past) (state : SessionState) (k i : ℕ) (others : List ℕ) → Stands past state → asking past ≡ k ∷ others
     → slice_get (unfinished past) i ≡ Some k → Stands (asked k past) (record state { transfers = asked_at state.transfers (Some i) })

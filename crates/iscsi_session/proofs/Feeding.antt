@@ -1,9 +1,8 @@
 -- The data of the commands: where each stands, what a Data-Out and an R2T make of it.
-use Rattle.std.proofs.Common.{◌≡◌, ◌≢◌, ◌==◌, ℕ, ◌<◌, List, [], ◌∷◌, ◌++◌, length, map, set, ltb, Bool, true, false, not, cond, Option, Some, None, eqb, refl, sym, ap, ◌∙◌, arith, append-nil}
+use Rattle.std.proofs.Common.{◌≡◌, ◌≢◌, ◌==◌, ℕ, ◌<◌, List, [], ◌∷◌, ◌++◌, length, map, set, ltb, Bool, true, false, not, Option, Some, None, eqb, refl, sym, ap, ◌∙◌, arith, append-nil}
 use Rattle.std.specs.Prelude.{filter, find, is_some, slice_get, if◌then◌else◌}
 use Rattle.std.proofs.lemmas.Bool.{eq-eqb, ne_eqb}
-use Rattle.std.proofs.lemmas.List.{map-append}
-use Rattle.std.proofs.lemmas.List.Elements.{filter-append, All-push}
+use Rattle.std.proofs.lemmas.List.Elements.{All-push}
 use Rattle.iscsi_pdu.specs.Header.{is_immediate, initiator_task_tag}
 use Rattle.iscsi_pdu.specs.Frames.{Frame}
 use Rattle.iscsi_transfer.specs.Task.{TaskState, remembered as task_of, fault_of, is_whole, with_data}
@@ -15,10 +14,11 @@ use Rattle.iscsi_session.specs.Judging.{is_live, is_full, data_verdict}
 use Rattle.iscsi_session.specs.Transfers.{tag_of, command_with, outs_of, tags_of, last_tag, data_past, task_at, payload_of, is_whole_of, fed}
 use Rattle.iscsi_session.specs.State.{SessionState, TransferList, IsLawful, Stands, tasks_of, transfers_of, transfer_of, no_transfer, bears, place_with, place_for, has_most, judged_at, fed_at, whole_at, payload_at, removed_at}
 use Rattle.iscsi_session.proofs.Left.{in_at}
-use Rattle.iscsi_session.proofs.Places.{Located, located, index_map, set_map, remove_map, missing, found_or_not, found_self, count_map, or_known}
+use Rattle.iscsi_session.proofs.Places.{Located, located, index_map, set_map, remove_map, missing, found_or_not, found_self, count_map, or_known, one_more}
 use Rattle.iscsi_session.proofs.Unfinished.{unfinished_came, unfinished_distinct, queue_unfinished}
 use Rattle.iscsi_session.proofs.Moved.{transfers_finished}
 use Rattle.iscsi_session.proofs.Parts.{parts, stands_parts}
+use Rattle.iscsi_session.proofs.Runs.{lawful_data}
 
 pub list_is : (past : Past) (state : SessionState) → Stands past state → state.transfers.list ≡ map (transfer_of past) (unfinished past)
 unfolding transfers_of
@@ -71,22 +71,11 @@ judged_is past state frame s =
 
 -- ---- a Data-Out is accepted
 
-abbrev feeding : ℕ → Frame → Past → Past
-feeding k frame past = record past { data_outs = past.data_outs ++ record { command = k; frame = frame } ∷ [] }
+abbrev out_of : ℕ → Frame → DataOut
+out_of k frame = record { command = k; frame = frame }
 
-one_out : (b : Bool) (k j : ℕ) (frame : Frame) (l : List DataOut) → eqb k j ≡ b
-    → map (λ d. d.frame) (filter (λ d. d.command == j) (l ++ record { command = k; frame = frame } ∷ []))
-    ≡ map (λ d. d.frame) (filter (λ d. d.command == j) l) ++ cond b (frame ∷ []) []
-one_out true k j frame l e =
-    ap (map (λ (d : DataOut). d.frame)) (filter-append (λ (d : DataOut). d.command == j) l (record { command = k; frame = frame } ∷ []))
-    ∙ map-append (λ (d : DataOut). d.frame) (filter (λ (d : DataOut). d.command == j) l) (filter (λ (d : DataOut). d.command == j)
-    (record { command = k; frame = frame } ∷ []))
-    ∙ rw e refl
-one_out false k j frame l e =
-    ap (map (λ (d : DataOut). d.frame)) (filter-append (λ (d : DataOut). d.command == j) l (record { command = k; frame = frame } ∷ []))
-    ∙ map-append (λ (d : DataOut). d.frame) (filter (λ (d : DataOut). d.command == j) l) (filter (λ (d : DataOut). d.command == j)
-    (record { command = k; frame = frame } ∷ []))
-    ∙ rw e refl
+abbrev feeding : ℕ → Frame → Past → Past
+feeding k frame past = record past { data_outs = past.data_outs ++ out_of k frame ∷ [] }
 
 -- of the past of its data, and of how many R2Ts were sent for it
 abbrev from_outs : Past → ℕ → List Frame → Transfer
@@ -100,13 +89,13 @@ fed_there : (past : Past) (k : ℕ) (frame : Frame)
     → transfer_of (feeding k frame past) k ≡ record (transfer_of past k) { task = with_data (task_at past k) frame }
 unfolding task_at outs_of tags_of
 fed_there past k frame =
-    ap (from_outs past k) (one_out true k k frame past.data_outs (eq-eqb k k refl))
+    ap (from_outs past k) (one_more true (λ d. d.command) (λ d. d.frame) (out_of k frame) k past.data_outs (eq-eqb k k refl))
     ∙ ap (λ (t : TaskState). record (transfer_of past k) { task = t }) (remembered-accepted (data_past past k) frame)
 
 fed_elsewhere : (past : Past) (k j : ℕ) (frame : Frame) → j ≢ k → transfer_of (feeding k frame past) j ≡ transfer_of past j
 unfolding task_at outs_of tags_of
 fed_elsewhere past k j frame differ =
-    ap (from_outs past j) (one_out false k j frame past.data_outs (ne_eqb k j (λ e. differ (sym e)))
+    ap (from_outs past j) (one_more false (λ d. d.command) (λ d. d.frame) (out_of k frame) j past.data_outs (ne_eqb k j (λ e. differ (sym e)))
     ∙ append-nil (map (λ (d : DataOut). d.frame) (filter (λ (d : DataOut). d.command == j) past.data_outs)))
 
 unfinished_fed : (past : Past) (k : ℕ) (frame : Frame) → unfinished (feeding k frame past) ≡ unfinished past
@@ -141,22 +130,9 @@ fed_is past state frame s =
     ∙ fed_place past frame _ (located_with past (initiator_task_tag frame.header))
 
 lawful_fed_at : (past : Past) (k : ℕ) (frame : Frame) → k < length past.came → IsLawful past → IsLawful (feeding k frame past)
-unfolding due queue unfinished
-lawful_fed_at past k frame lt lawful = record {
-  window = lawful.window;
-  distinct = lawful.distinct;
-  delivered = lawful.delivered;
-  in_order = lawful.in_order;
-  below = lawful.below;
-  acted = lawful.acted;
-  queued = lawful.queued;
-  at_once = lawful.at_once;
-  handed = lawful.handed;
-  fed = All-push (λ (d : DataOut). d.command < length past.came) past.data_outs (record { command = k; frame = frame }) lawful.fed lt;
-  asked = lawful.asked;
-  tags = lawful.tags;
-  none_removed = lawful.none_removed;
-}
+lawful_fed_at past k frame lt lawful =
+    lawful_data past (past.data_outs ++ out_of k frame ∷ []) past.r2ts past.answers lawful
+    (All-push (λ (d : DataOut). d.command < length past.came) past.data_outs (out_of k frame) lawful.fed lt) lawful.asked
 
 pub found_in : (q : ℕ → Bool) (k : ℕ) (names : List ℕ) → find q names ≡ Some k → is_in k names ≡ true
 found_in q k [] e = absurd cc

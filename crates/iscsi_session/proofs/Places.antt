@@ -1,8 +1,10 @@
 -- A search among what a function makes of names, and what is set or removed where it was found.
-use Rattle.std.proofs.Common.{◌≡◌, ◌≢◌, ℕ, zero, suc, ◌<◌, List, [], ◌∷◌, length, map, set, ltb, Bool, true, false, cond, ◌||◌, Option, Some, None, ◌==◌, eqb, refl, sym, ap, ◌∙◌, inl, inr, arith}
-use Rattle.std.specs.Prelude.{position, find, filter, remove, option_map, is_some, slice_get, slice_index_or}
+use Rattle.std.proofs.Common.{◌≡◌, ◌≢◌, ℕ, zero, suc, ◌<◌, List, [], ◌∷◌, ◌++◌, length, map, set, ltb, Bool, true, false, cond, ◌||◌, Option, Some, None, ◌==◌, eqb, refl, sym, ap, ◌∙◌, inl, inr, arith}
+use Rattle.std.specs.Prelude.{All, position, find, filter, remove, option_map, is_some, slice_get, slice_index_or}
 use Rattle.std.specs.List.{position_or_len}
 use Rattle.std.proofs.lemmas.Bool.{cases_eq, eq-eqb, eqb-true, ne_eqb, ltb-true, ltb-false, lt-ltb, le-ltb}
+use Rattle.std.proofs.lemmas.List.{map-append}
+use Rattle.std.proofs.lemmas.List.Elements.{filter-append, All-head, All-tail}
 use Rattle.iscsi_session.specs.Requests.{is_in, left}
 use Rattle.iscsi_session.specs.State.{AreDistinct}
 use Rattle.iscsi_session.proofs.Left.{left_first}
@@ -172,3 +174,23 @@ count_map_with false p f a names e rest = rw e rest
 pub count_map : {Y : Type 0} (p : Y → Bool) (f : ℕ → Y) (names : List ℕ) → length (filter p (map f names)) ≡ length (filter (λ k. p (f k)) names)
 count_map p f [] = refl
 count_map p f (a ∷ names) = count_map_with (p (f a)) p f a names refl (count_map p f names)
+
+-- ---- what is told of one name
+
+-- one item more, of this name or of another
+pub one_more : {A B : Type 0} (b : Bool) (name : A → ℕ) (value : A → B) (x : A) (j : ℕ) (l : List A) → eqb (name x) j ≡ b
+    → map value (filter (λ a. name a == j) (l ++ x ∷ [])) ≡ map value (filter (λ a. name a == j) l) ++ cond b (value x ∷ []) []
+one_more true name value x j l e =
+    ap (map value) (filter-append (λ a. name a == j) l (x ∷ []))
+    ∙ map-append value (filter (λ a. name a == j) l) (filter (λ a. name a == j) (x ∷ [])) ∙ rw e refl
+one_more false name value x j l e =
+    ap (map value) (filter-append (λ a. name a == j) l (x ∷ []))
+    ∙ map-append value (filter (λ a. name a == j) l) (filter (λ a. name a == j) (x ∷ [])) ∙ rw e refl
+
+-- none of a name above all
+pub none_named : {A : Type 0} (name : A → ℕ) (l : List A) (n : ℕ) → All (λ a. name a < n) l → filter (λ a. name a == n) l ≡ []
+none_named name [] n below = refl
+none_named name (a ∷ l) n below =
+    let lt : name a < n = All-head (λ a. name a < n) a l below in
+    let ne : name a ≢ n = λ e. absurd (omega arith) in
+    rw (ne_eqb (name a) n ne) (none_named name l n (All-tail (λ a. name a < n) a l below))

@@ -1,6 +1,6 @@
 -- Steps one after the other: where the code is after so many, and where it stops.
 use Rattle.std.proofs.Common.{◌≡◌, ◌≢◌, ℕ, zero, suc, ◌+◌, ◌<◌, ◌≤◌, List, [], ◌∷◌, ◌++◌, length, Bool, true, false, Option, Some, None, refl, sym, ap, ◌∙◌, subst, arith, append_assoc, append-nil}
-use Rattle.std.specs.Prelude.{flat_map, filter}
+use Rattle.std.specs.Prelude.{All, flat_map, filter}
 use Rattle.std.proofs.lemmas.Bool.{eq-eqb, ne_eqb}
 use Rattle.std.proofs.lemmas.List.{length-append}
 use Rattle.std.proofs.lemmas.List.Concat.{flat_map-append}
@@ -9,16 +9,18 @@ use Rattle.scsi_unit.specs.Units.{UnitStates}
 use Rattle.iscsi_pdu.specs.Answer.{spelling}
 use Rattle.iscsi_pdu.specs.declared.answer.Answer.{Answer}
 use Rattle.iscsi_session.specs.Transfers.{task_at, outs_of, tags_of}
-use Rattle.iscsi_session.specs.Requests.{Past, due, queue, unfinished, bears_status, bearing, statuses, answering}
+use Rattle.iscsi_session.specs.Requests.{Past, DataOut, SentR2t, due, queue, unfinished, bears_status, bearing, statuses, answering}
 use Rattle.iscsi_session.specs.State.{SessionState, IsLawful, Stands, tasks_of, transfers_of, remembered}
 use Rattle.iscsi_session.specs.Steps.{Step, Taking, Doing, is_step, is_of, Work, reaches, take_step, first_steps, one_by_one}
 use Rattle.iscsi_session.specs.Runs.{Starts, Leaves, FailsAs, IsReached, Runs}
 
--- ---- a session that was answered more
+-- ---- a session that was answered more, or has more data
 
-pub lawful_answering : (more : List Answer) (past : Past) → IsLawful past → IsLawful (answering more past)
+pub lawful_data : (past : Past) (data_outs : List DataOut) (r2ts : List SentR2t) (answers : List Answer) → IsLawful past
+    → All (λ d. d.command < length past.came) data_outs → All (λ r. r.command < length past.came) r2ts
+    → IsLawful (record past { data_outs = data_outs; r2ts = r2ts; answers = answers })
 unfolding due queue unfinished
-lawful_answering more past lawful = record {
+lawful_data past data_outs r2ts answers lawful fed asked = record {
   window = lawful.window;
   distinct = lawful.distinct;
   delivered = lawful.delivered;
@@ -28,11 +30,14 @@ lawful_answering more past lawful = record {
   queued = lawful.queued;
   at_once = lawful.at_once;
   handed = lawful.handed;
-  fed = lawful.fed;
-  asked = lawful.asked;
+  fed = fed;
+  asked = asked;
   tags = lawful.tags;
   none_removed = lawful.none_removed;
 }
+
+pub lawful_answering : (more : List Answer) (past : Past) → IsLawful past → IsLawful (answering more past)
+lawful_answering more past lawful = lawful_data past past.data_outs past.r2ts (past.answers ++ more) lawful lawful.fed lawful.asked
 
 bearing_append : (a b : List Answer) → bearing (a ++ b) ≡ bearing a + bearing b
 bearing_append a b = ap (λ (l : List Answer). length l) (filter-append bears_status a b) ∙ length-append (filter bears_status a) (filter bears_status b)

@@ -1,19 +1,20 @@
 -- The SCSI Commands that are not finished, and what is remembered of their data, as requests come and are finished.
-use Rattle.std.proofs.Common.{◌≡◌, ◌≢◌, ℕ, ◌+◌, ◌<◌, List, [], ◌∷◌, ◌++◌, length, map, Bool, true, false, not, cond, ◌==◌, refl, sym, ap, subst, ◌∙◌, arith, append-nil}
-use Rattle.std.specs.Prelude.{filter, All}
+use Rattle.std.proofs.Common.{◌≡◌, ℕ, ◌+◌, ◌<◌, List, [], ◌∷◌, ◌++◌, length, map, Bool, true, false, not, cond, refl, sym, ap, subst, ◌∙◌, arith, append-nil}
+use Rattle.std.specs.Prelude.{All}
 use Rattle.std.specs.List.{range_with_len}
-use Rattle.std.proofs.lemmas.Bool.{ne_eqb, false_from_ne_true}
+use Rattle.std.proofs.lemmas.Bool.{false_from_ne_true}
 use Rattle.std.proofs.lemmas.List.{length-append, map-append}
-use Rattle.std.proofs.lemmas.List.Elements.{filter-append, All-cons, All-nil, All-head, All-tail}
+use Rattle.std.proofs.lemmas.List.Elements.{filter-append, All-cons, All-nil}
 use Rattle.iscsi_pdu.specs.Frames.{Frame}
 use Rattle.iscsi_pdu.specs.Header.{initiator_task_tag}
 use Rattle.iscsi_transfer.specs.Task.{remembered as task_of}
 use Rattle.iscsi_transfer.specs.Payload.{begun}
 use Rattle.iscsi_session.specs.declared.transfers.Transfer.{Transfer}
-use Rattle.iscsi_session.specs.Requests.{Request, Past, DataOut, SentR2t, frame_of, is_in, left, is_command, commands, queue, unfinished, finished}
+use Rattle.iscsi_session.specs.Requests.{Request, Past, frame_of, is_in, left, is_command, commands, queue, unfinished, finished}
 use Rattle.iscsi_session.specs.Transfers.{tag_of, outs_of, tags_of, task_at, last_tag}
 use Rattle.iscsi_session.specs.State.{AreDistinct, transfer_of, transfers_of, begun_transfer}
 use Rattle.iscsi_session.proofs.Left.{filter_cong, map_cong, left_more, left_append, left_all, left_none, left_one, in_at, in_left, in_left_back, in_filter, in_filter_back, in_range, passes_in, not_gone, below_of, distinct_left, distinct_filter, distinct_range, range_below, range_more, distinct_map_filter, distinct_push}
+use Rattle.iscsi_session.proofs.Places.{none_named}
 use Rattle.iscsi_session.proofs.Taken.{request_before, request_new}
 
 abbrev pub joined : Request → Past → Past
@@ -100,20 +101,6 @@ unfinished_other past k none e =
 
 -- ---- their data, where a request comes
 
-no_outs : (l : List DataOut) (n : ℕ) → All (λ d. d.command < n) l → filter (λ d. d.command == n) l ≡ []
-no_outs [] n below = refl
-no_outs (d ∷ l) n below =
-    let lt : d.command < n = All-head (λ (d : DataOut). d.command < n) d l below in
-    let ne : d.command ≢ n = λ e. absurd (omega arith) in
-    rw (ne_eqb d.command n ne) (no_outs l n (All-tail (λ (d : DataOut). d.command < n) d l below))
-
-no_tags : (l : List SentR2t) (n : ℕ) → All (λ r. r.command < n) l → filter (λ r. r.command == n) l ≡ []
-no_tags [] n below = refl
-no_tags (r ∷ l) n below =
-    let lt : r.command < n = All-head (λ (r : SentR2t). r.command < n) r l below in
-    let ne : r.command ≢ n = λ e. absurd (omega arith) in
-    rw (ne_eqb r.command n ne) (no_tags l n (All-tail (λ (r : SentR2t). r.command < n) r l below))
-
 abbrev with_frame : Past → ℕ → Frame → Transfer
 with_frame past k frame = record {
   header = frame.header;
@@ -128,7 +115,10 @@ transfer_joined past x k lt = ap (λ (r : Request). with_frame past k r.frame) (
 nothing_yet : (past : Past) (frame : Frame) → All (λ d. d.command < length past.came) past.data_outs → All (λ r. r.command < length past.came) past.r2ts
     → with_frame past (length past.came) frame ≡ begun_transfer frame.header (task_of (begun past.params.values frame))
 unfolding outs_of tags_of
-nothing_yet past frame fed asked = rw (no_outs past.data_outs (length past.came) fed, no_tags past.r2ts (length past.came) asked) refl
+nothing_yet past frame fed asked = rw (
+  none_named (λ d. d.command) past.data_outs (length past.came) fed,
+  none_named (λ r. r.command) past.r2ts (length past.came) asked,
+) refl
 
 transfer_new : (past : Past) (x : Request) → All (λ d. d.command < length past.came) past.data_outs → All (λ r. r.command < length past.came) past.r2ts
     → transfer_of (joined x past) (length past.came) ≡ begun_transfer x.frame.header (task_of (begun past.params.values x.frame))

@@ -16,6 +16,7 @@ use Rattle.iscsi_transfer.specs.declared.task.Ask.{Ask}
 use Rattle.iscsi_session.specs.declared.transfers.Transfer.{Transfer}
 use Rattle.iscsi_session.specs.declared.verdict.Verdict.{Verdict}
 use Rattle.iscsi_session.specs.declared.verdict.Verdict.TheVariants.{Dropped, Violating, Feeding}
+use Rattle.iscsi_session.specs.Judging.{most_immediate}
 use Rattle.iscsi_session.specs.Transfers.{tag_of, tags_of, task_at, next_transfer_tag, unsent, r2t_for}
 
 -- the requests that are not finished, and the numbers
@@ -179,7 +180,7 @@ abbrev pub begun_transfer : List ℕ → TaskState → Transfer
 begun_transfer header task = record { header = header; task = task; sent = 0 }
 
 abbrev pub has_most : List Transfer → Bool
-has_most transfers = not (nat_lt (length (filter (λ transfer. is_immediate transfer.header) transfers)) 8)
+has_most transfers = not (nat_lt (length (filter (λ transfer. is_immediate transfer.header) transfers)) most_immediate)
 
 -- a Data-Out for the command at this place
 abbrev pub judged_at : List Transfer → Frame → Option ℕ → Verdict
@@ -202,7 +203,7 @@ abbrev pub removed_at : List Transfer → Option ℕ → List Transfer
 removed_at transfers None = transfers
 removed_at transfers (Some i) = remove transfers i
 
--- the part of its data that a command is asked for now
+-- the part of its data that a command is to be asked for
 abbrev pub due_of : Transfer → Option Ask
 due_of transfer = unsent transfer.sent (due_ask transfer.task)
 

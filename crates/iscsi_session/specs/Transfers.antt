@@ -57,13 +57,13 @@ abbrev pub unsent : ℕ → Option Ask → Option Ask
 unsent sent None = None
 unsent sent (Some ask) = if ask.number == sent then Some ask else None
 
--- the part of its data that it is asked for now
+-- the part of its data that it is to be asked for
 abbrev pub ask_of : Past → ℕ → Option Ask
 ask_of past k = unsent (length (tags_of past k)) (due_ask (task_at past k))
 
 -- ---- R2T (RFC 7143 §11.8)
 
--- the commands that are asked for data now
+-- the commands that are to be asked for data
 unfoldable pub asking : Past → List ℕ
 asking past = filter (λ k. is_some (ask_of past k)) (unfinished past)
 

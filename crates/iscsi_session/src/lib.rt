@@ -10,8 +10,8 @@
 //! ```
 //!
 //! [`Session::serve`] judges a frame, lets the requests act that it lets be taken, and sends the R2T that it
-//! made due; [`Session::settle`] does the commands that acted and whose data is whole. What each call does is said of the session's past
-//! (`specs/Requests.antt`), plain lists in which a request is named by its place among those that came: a
+//! made due; [`Session::settle`] does the commands that acted and whose data is whole. What each call does is
+//! said of the session's past (`specs/Requests.antt`), plain lists in which a request is named by its place among those that came: a
 //! session that stood where one past is stands where its steps lead (`specs/Steps.antt`), all of them, or
 //! those before an allocation that failed. What holds of every past is in [`laws`].
 #![tactic(auto)]

@@ -53,7 +53,8 @@ fn carry_out<S: Store>(
 
 impl Session {
     /// A frame is judged, the requests that it lets be taken act, and the R2T that it makes due is sent; all
-    /// of that is added at the end of the buffer. It tells whether the session goes on: a violation and a Logout that closes end it.
+    /// of that is added at the end of the buffer. It tells whether the session goes on: a violation and a
+    /// Logout that closes end it.
     /// Where an allocation fails the session is to be closed: the steps before it were done and answered whole.
     pub fn serve(&mut self, frame: Frame, out: &mut BytesMut) -> Result<bool, Memory>
         requires { AreInRange self.old.params.values }
@@ -130,7 +131,8 @@ impl Session {
         Ok(())
     }
 
-    /// The first command of the queue is done and answered, where its data is whole: whether it was. All room is made before
+    /// The first command of the queue is done and answered, where its data is whole: whether it was. All room
+    /// is made before
     /// the units act, so that where an allocation fails nothing changes.
     fn finish<S: Store>(
         &mut self,

@@ -12,15 +12,12 @@ use crate::fault::Memory;
 use crate::verdict::Verdict;
 use iscsi_login::Values;
 use iscsi_pdu::{Frame, Header, R2t, Stamp};
-use iscsi_transfer::{Ask, Task};
+use iscsi_transfer::{Ask, DataFault, NO_TRANSFER_TAG, Task};
 use std::alloc::Global;
 use std::marker::Model;
 
 /// So many SCSI Commands for immediate delivery may be unfinished.
 const MOST_IMMEDIATE: usize = 8;
-
-/// The Target Transfer Tag of unsolicited data (RFC 7143 §11.7.4). Those of R2Ts are below it.
-const NO_TRANSFER_TAG: u32 = 0xffff_ffff;
 
 /// The data of one SCSI Command.
 #[derive(Drop)]
@@ -53,7 +50,7 @@ impl Model for Transfers {
 }
 
 impl Transfer {
-    /// The part of its data that the command is asked for now. Each R2T is sent once.
+    /// The part of its data that the command is to be asked for. Each R2T is sent once.
     fn due(&self) -> Option<Ask>
         ensures { result ≡ due_of self.now }
     {
@@ -187,7 +184,7 @@ impl Transfers {
         }
     }
 
-    /// Where the first command stands that is asked for data now.
+    /// Where the first command stands that is to be asked for data.
     fn asking(&self) -> Option<usize>
         ensures { result ≡ asking_place self.now.list }
     {
@@ -196,7 +193,7 @@ impl Transfers {
             .position(|transfer| transfer.due().is_some())
     }
 
-    /// A command is asked for data now.
+    /// A command is to be asked for data.
     pub(crate) fn is_asking(&self) -> bool
         ensures { result ≡ is_some (asking_place self.now.list) }
     {
@@ -226,10 +223,11 @@ fn start(alloc: Global, frame: &Frame, values: &Values) -> Result<Task, Memory>
     requires lawful { command_fault values.now frame.now ≡ None }
     ensures { IfOk result (λ task. task ≡ task_of (begun values.now frame.now)) }
 {
-    // It is lawful, so nothing but an allocation fails.
     match Task::start(alloc, frame, values) {
         Ok(task) => Ok(task),
-        Err(_) => Err(Memory),
+        Err(DataFault::Memory) => Err(Memory),
+        // It is lawful.
+        Err(_) => unreachable!(),
     }
 }
 

@@ -39,4 +39,4 @@ mod task;
 
 pub use data_in::{Piece, data_ins, piece_at, piece_count};
 pub use fault::DataFault;
-pub use task::{Ask, Task, command_fault};
+pub use task::{Ask, NO_TRANSFER_TAG, Task, command_fault};

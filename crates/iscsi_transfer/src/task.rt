@@ -16,8 +16,8 @@ use std::marker::Model;
 /// So many bytes are asked for at most.
 const MOST_WANTED: usize = 1_048_576;
 
-/// The Target Transfer Tag of unsolicited data (RFC 7143 §11.7.4).
-const NO_TRANSFER_TAG: u32 = 0xffff_ffff;
+/// The Target Transfer Tag of unsolicited data (RFC 7143 §11.7.4). That of an R2T is below it.
+pub const NO_TRANSFER_TAG: u32 = 0xffff_ffff;
 
 /// A part of a command's data that is asked for by an R2T (RFC 7143 §11.8).
 #[derive(Clone, Copy, Debug, PartialEq, Eq)]
