@@ -3,5 +3,8 @@ pub use Rattle.scsi_sense.specs.Sense
 pub mod Range
 pub mod Fault
 pub mod Operation
+pub mod PersistentReserve
 pub mod Command
+pub mod ExamplesOperation
+pub mod ExamplesPersistentReserve
 pub mod ExamplesCommand

@@ -1,6 +1,7 @@
 -- The table of operations: what operation codes name (byte 0, SPC-4 "Operation code"), and what a unit tests of each
 -- before its fields.
 use Rattle.std.specs.Prelude.{ℕ, List, [], ◌∷◌, Bool, true, false, ◌==◌, Option, Some, None, if◌then◌else◌}
+use Rattle.std.specs.Option.{option_map}
 use Rattle.scsi_cdb.specs.declared.operation.Kind.{Kind}
 use Rattle.scsi_cdb.specs.declared.operation.Kind.TheVariants as kind
 use Rattle.scsi_cdb.specs.declared.operation.Operation.{Operation}
@@ -91,3 +92,7 @@ row_if kind (Some row) = if is_for kind row.operation then Some row else None
 -- the row of an operation code that units of this kind have
 abbrev pub row_for : Kind → ℕ → Option Row
 row_for kind code = row_if kind (row_of code)
+
+-- the class for reservations of an operation code that units of this kind have
+abbrev pub class_of : Kind → ℕ → Option ReservationClass
+class_of kind code = option_map (λ row. row.reservation) (row_for kind code)

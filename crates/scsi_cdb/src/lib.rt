@@ -7,7 +7,7 @@
 //!   such an operation.
 //! - [`Operation::command`] gives the command with its fields, or why a field is refused.
 //!
-//! [`Cdb::read`] is both. These are read so far; a row also has a class for reservations:
+//! [`Cdb::read`] is both. These are read so far; a row also has a class for reservations ([`class`]):
 //!
 //! ```text
 //! code  disk  tape  passes an attention, a missing unit; needs the medium ready
@@ -46,6 +46,7 @@ mod fault;
 mod fields;
 mod mode;
 mod operation;
+mod persistent_reserve;
 mod report_luns;
 
 pub use block_range::{
@@ -55,5 +56,6 @@ pub use cdb::Cdb;
 pub use command::{Command, DiskCommand, UnitCommand};
 pub use fault::FieldFault;
 pub use mode::{ModeSelectFields, ModeSenseFields, PageControl, ParameterHeader};
-pub use operation::{DiskOperation, Kind, Operation, ReservationClass, Row, UnitOperation};
+pub use operation::{DiskOperation, Kind, Operation, ReservationClass, Row, UnitOperation, class};
+pub use persistent_reserve::{ReadAction, ReserveInFields, ReserveOutFields, ServiceAction};
 pub use report_luns::{ReportLunsFields, SelectReport};

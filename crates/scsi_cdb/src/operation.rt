@@ -1,7 +1,7 @@
 //! What operation codes name, and what a unit tests before it reads the fields of each.
 
 ghost use Rattle.std.specs.Prelude.{◌≡◌};
-ghost use Rattle.scsi_cdb.specs.Operation.{row, row_of, row_for, is_for, is_of_target};
+ghost use Rattle.scsi_cdb.specs.Operation.{row, row_of, row_for, is_for, is_of_target, class_of};
 
 /// The kind of a logical unit (SPC-4 "Standard INQUIRY data", peripheral device type).
 #[derive(Clone, Copy, Debug, PartialEq, Eq)]
@@ -131,6 +131,13 @@ impl Row {
             None
         }
     }
+}
+
+/// The class for reservations of an operation code that units of this kind have.
+pub fn class(code: u8, kind: Kind) -> Option<ReservationClass>
+    ensures { result ≡ class_of kind code }
+{
+    Some(Row::for_kind(code, kind)?.reservation)
 }
 
 impl Operation {

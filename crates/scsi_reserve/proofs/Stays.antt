@@ -17,8 +17,8 @@ use Rattle.scsi_reserve.specs.declared.news.Others.{Others}
 use Rattle.scsi_reserve.specs.declared.news.Others.TheVariants.{All, WithKey}
 use Rattle.scsi_reserve.specs.declared.registration.Reservation.{Reservation}
 use Rattle.scsi_reserve.specs.declared.reservation_type.ReservationType.{ReservationType}
-use Rattle.scsi_reserve.specs.declared.service_action.Request.{Request}
-use Rattle.scsi_reserve.specs.declared.service_action.Request.TheVariants.{Register, Reserve, Release, Clear, Preempt, RegisterAndIgnoreExistingKey}
+use Rattle.scsi_reserve.specs.declared.request.Request.{Request}
+use Rattle.scsi_reserve.specs.declared.request.Request.TheVariants.{Register, Reserve, Release, Clear, Preempt, RegisterAndIgnoreExistingKey}
 use Rattle.scsi_reserve.specs.declared.parameter_list.ParameterList.{ParameterList}
 
 abbrev Left : TableState × Ending → Type 0

@@ -15,11 +15,11 @@ use Rattle.scsi_reserve.specs.Out.{registered, unregistered, reserved, released,
 use Rattle.scsi_reserve.specs.ReadIn.{data_of, keys_data, reservation_data}
 use Rattle.scsi_reserve.specs.declared.conflict.Who.TheVariants.{Holder, Registrant, Neither}
 use Rattle.scsi_reserve.specs.declared.outcome.Ended.TheVariants.{Good, ReservationConflict, CheckCondition}
-use Rattle.scsi_reserve.specs.declared.read_in.ReadAction.TheVariants.{ReadKeys, ReadReservation, ReportCapabilities}
+use Rattle.scsi_cdb.specs.declared.persistent_reserve.ReadAction.TheVariants.{ReadKeys, ReadReservation, ReportCapabilities}
 use Rattle.scsi_reserve.specs.declared.reservation_type.ReservationType.{ReservationType}
 use Rattle.scsi_reserve.specs.declared.reservation_type.ReservationType.TheVariants.{WriteExclusive, WriteExclusiveRegistrantsOnly}
 use Rattle.scsi_reserve.specs.declared.reservation_type.ReservationType.TheVariants.{WriteExclusiveAllRegistrants, ExclusiveAccess}
-use Rattle.scsi_reserve.specs.declared.service_action.ServiceAction.TheVariants.{Register, Reserve, Release, Clear, Preempt, RegisterAndIgnoreExistingKey}
+use Rattle.scsi_cdb.specs.declared.persistent_reserve.ServiceAction.TheVariants.{Register, Reserve, Release, Clear, Preempt, RegisterAndIgnoreExistingKey}
 
 -- ---- what is forbidden
 

@@ -9,7 +9,7 @@ use Rattle.scsi_reserve.specs.Out.{preempted, out_of}
 use Rattle.scsi_reserve.specs.declared.registration.Row.{Row}
 use Rattle.scsi_reserve.specs.declared.registration.Reservation.{Reservation}
 use Rattle.scsi_reserve.specs.declared.reservation_type.ReservationType.{ReservationType}
-use Rattle.scsi_reserve.specs.declared.service_action.ServiceAction.{ServiceAction}
+use Rattle.scsi_cdb.specs.declared.persistent_reserve.ServiceAction.{ServiceAction}
 
 -- SPC-4 "Registering": a nexus is registered once
 abbrev pub AreOnce : List Row → Type 0

@@ -22,9 +22,9 @@ use Rattle.scsi_reserve.specs.declared.news.News.{News}
 use Rattle.scsi_reserve.specs.declared.registration.Row.{Row}
 use Rattle.scsi_reserve.specs.declared.registration.Reservation.{Reservation}
 use Rattle.scsi_reserve.specs.declared.reservation_type.ReservationType.{ReservationType}
-use Rattle.scsi_reserve.specs.declared.service_action.ServiceAction.{ServiceAction}
-use Rattle.scsi_reserve.specs.declared.service_action.Request.{Request}
-use Rattle.scsi_reserve.specs.declared.service_action.Request.TheVariants.{Register, Reserve, Release, Clear, Preempt, RegisterAndIgnoreExistingKey}
+use Rattle.scsi_cdb.specs.declared.persistent_reserve.ServiceAction.{ServiceAction}
+use Rattle.scsi_reserve.specs.declared.request.Request.{Request}
+use Rattle.scsi_reserve.specs.declared.request.Request.TheVariants.{Register, Reserve, Release, Clear, Preempt, RegisterAndIgnoreExistingKey}
 use Rattle.scsi_reserve.specs.declared.parameter_list.ParameterList.{ParameterList}
 
 -- nothing changes, and it ends so

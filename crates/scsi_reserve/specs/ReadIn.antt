@@ -1,5 +1,5 @@
 -- What PERSISTENT RESERVE IN gives (SPC-4 "PERSISTENT RESERVE IN command").
-use Rattle.std.specs.Prelude.{ℕ, ◌*◌, List, [], ◌∷◌, ◌++◌, length, replicate, ◌==◌, Option, Some, None, unwrap_or, if◌then◌else◌}
+use Rattle.std.specs.Prelude.{ℕ, ◌*◌, List, [], ◌∷◌, ◌++◌, length, replicate, Option, Some, None, unwrap_or, if◌then◌else◌}
 use Rattle.std.specs.Int.{w32, w64, to_be_bytes}
 use Rattle.std.specs.List.{flat_map}
 use Rattle.scsi_reserve.specs.ReservationType.{type_code, is_of_all}
@@ -7,14 +7,8 @@ use Rattle.scsi_reserve.specs.Registration.{own_key}
 use Rattle.scsi_reserve.specs.Table.{TableState}
 use Rattle.scsi_reserve.specs.declared.registration.Row.{Row}
 use Rattle.scsi_reserve.specs.declared.registration.Reservation.{Reservation}
-use Rattle.scsi_reserve.specs.declared.read_in.ReadAction.{ReadAction}
-use Rattle.scsi_reserve.specs.declared.read_in.ReadAction.TheVariants.{ReadKeys, ReadReservation, ReportCapabilities}
-
--- SPC-4 "PERSISTENT RESERVE IN command", SERVICE ACTION, those that are built (profile)
-abbrev pub read_action_of : ℕ → Option ReadAction
-read_action_of code =
-    if code == 0x00 then Some ReadKeys else if code == 0x01 then Some ReadReservation
-    else if code == 0x02 then Some ReportCapabilities else None
+use Rattle.scsi_cdb.specs.declared.persistent_reserve.ReadAction.{ReadAction}
+use Rattle.scsi_cdb.specs.declared.persistent_reserve.ReadAction.TheVariants.{ReadKeys, ReadReservation, ReportCapabilities}
 
 -- SPC-4 "READ KEYS service action": a key has 8 bytes
 abbrev pub key_bytes : Row → List ℕ

@@ -5,19 +5,11 @@ use Rattle.byteorder.specs.Endian.{big_from}
 use Rattle.scsi_sense.specs.declared.condition.Condition.{Condition}
 use Rattle.scsi_sense.specs.declared.condition.Condition.TheVariants.{InvalidFieldInCdb, ParameterListLengthError, InvalidFieldInParameterList}
 use Rattle.scsi_reserve.specs.declared.reservation_type.ReservationType.{ReservationType}
-use Rattle.scsi_reserve.specs.declared.service_action.ServiceAction.{ServiceAction}
-use Rattle.scsi_reserve.specs.declared.service_action.ServiceAction.TheVariants as action
-use Rattle.scsi_reserve.specs.declared.service_action.Request.{Request}
-use Rattle.scsi_reserve.specs.declared.service_action.Request.TheVariants.{Register, Reserve, Release, Clear, Preempt, RegisterAndIgnoreExistingKey}
+use Rattle.scsi_cdb.specs.declared.persistent_reserve.ServiceAction.{ServiceAction}
+use Rattle.scsi_cdb.specs.declared.persistent_reserve.ServiceAction.TheVariants as action
+use Rattle.scsi_reserve.specs.declared.request.Request.{Request}
+use Rattle.scsi_reserve.specs.declared.request.Request.TheVariants.{Register, Reserve, Release, Clear, Preempt, RegisterAndIgnoreExistingKey}
 use Rattle.scsi_reserve.specs.declared.parameter_list.ParameterList.{ParameterList}
-
--- SPC-4 "PERSISTENT RESERVE OUT service actions", those that are built (profile)
-abbrev pub action_of : ℕ → Option ServiceAction
-action_of code =
-    if code == 0x00 then Some action.Register else if code == 0x01 then Some action.Reserve
-    else if code == 0x02 then Some action.Release else if code == 0x03 then Some action.Clear
-    else if code == 0x04 then Some action.Preempt
-    else if code == 0x06 then Some action.RegisterAndIgnoreExistingKey else None
 
 -- SPC-4 "PERSISTENT RESERVE OUT command": RESERVE and RELEASE need a type (INVALID FIELD IN CDB); PREEMPT may need one
 abbrev pub request_of : ServiceAction → Option ReservationType → Result Request Condition

@@ -30,12 +30,10 @@ mod outcome;
 mod parameter_list;
 mod read_in;
 mod registration;
+mod request;
 mod reservation_type;
-mod service_action;
 mod table;
 
 pub use outcome::{Due, Ended, Outcome};
-pub use read_in::ReadAction;
 pub use reservation_type::ReservationType;
-pub use service_action::ServiceAction;
 pub use table::Table;

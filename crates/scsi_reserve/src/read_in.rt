@@ -2,39 +2,15 @@
 
 ghost use Rattle.std.specs.Prelude.{◌≡◌, ◌++◌, IfOk, OnOk};
 ghost use Rattle.std.specs.List.{flat_map};
-ghost use Rattle.scsi_reserve.specs.ReadIn.{read_action_of, key_bytes, keys_data, reservation_data, data_of};
+ghost use Rattle.scsi_reserve.specs.ReadIn.{key_bytes, keys_data, reservation_data, data_of};
 
 use crate::registration::{Row, own_key};
 use crate::table::Table;
+use scsi_cdb::ReadAction;
 use std::alloc::AllocError;
 
 /// The types of reservations that there are, and that they are told (TMV).
 const CAPABILITIES: [u8; 8] = [0x00, 0x08, 0x00, 0x80, 0xea, 0x01, 0x00, 0x00];
-
-/// A service action of PERSISTENT RESERVE IN (SPC-4 "PERSISTENT RESERVE IN command").
-#[derive(Clone, Copy, Debug, PartialEq, Eq)]
-pub enum ReadAction {
-    /// 00h
-    ReadKeys,
-    /// 01h
-    ReadReservation,
-    /// 02h
-    ReportCapabilities,
-}
-
-impl ReadAction {
-    /// The one of this code.
-    pub fn of(code: u8) -> Option<ReadAction>
-        ensures { result ≡ read_action_of code }
-    {
-        match code {
-            0x00 => Some(ReadAction::ReadKeys),
-            0x01 => Some(ReadAction::ReadReservation),
-            0x02 => Some(ReadAction::ReportCapabilities),
-            _ => None,
-        }
-    }
-}
 
 /// Puts the keys of registrations behind other bytes.
 fn write_keys(list: &mut Vec<u8>, rows: &[Row]) -> Result<(), AllocError>

@@ -1,7 +1,7 @@
 //! That the calls on a table of reservations succeed where no allocation fails.
 
-use scsi_cdb::ReservationClass;
-use scsi_reserve::{Ended, ReadAction, ServiceAction, Table};
+use scsi_cdb::{ReadAction, ReservationClass, ServiceAction};
+use scsi_reserve::{Ended, Table};
 use scsi_sense::{Attention, Nexus};
 use std::alloc::{AllocError, Global};
 use std::test::Fail;

@@ -1,44 +1,11 @@
 //! What PERSISTENT RESERVE OUT asks for.
 
 ghost use Rattle.std.specs.Prelude.{◌≡◌};
-ghost use Rattle.scsi_reserve.specs.Request.{action_of, request_of, may_ask};
+ghost use Rattle.scsi_reserve.specs.Request.{request_of, may_ask};
 
 use crate::reservation_type::ReservationType;
+use scsi_cdb::ServiceAction;
 use scsi_sense::Condition;
-
-/// A service action of PERSISTENT RESERVE OUT (SPC-4 "PERSISTENT RESERVE OUT service actions").
-#[derive(Clone, Copy, Debug, PartialEq, Eq)]
-pub enum ServiceAction {
-    /// 00h
-    Register,
-    /// 01h
-    Reserve,
-    /// 02h
-    Release,
-    /// 03h
-    Clear,
-    /// 04h
-    Preempt,
-    /// 06h
-    RegisterAndIgnoreExistingKey,
-}
-
-impl ServiceAction {
-    /// The one of this code.
-    pub fn of(code: u8) -> Option<ServiceAction>
-        ensures { result ≡ action_of code }
-    {
-        match code {
-            0x00 => Some(ServiceAction::Register),
-            0x01 => Some(ServiceAction::Reserve),
-            0x02 => Some(ServiceAction::Release),
-            0x03 => Some(ServiceAction::Clear),
-            0x04 => Some(ServiceAction::Preempt),
-            0x06 => Some(ServiceAction::RegisterAndIgnoreExistingKey),
-            _ => None,
-        }
-    }
-}
 
 /// A service action with the type that it needs.
 #[derive(Clone, Copy, Debug, PartialEq, Eq)]
