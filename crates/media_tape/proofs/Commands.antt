@@ -4,7 +4,8 @@ use Rattle.media_tape.specs.Items.{Item, Record, size_of, item_of, Filemark}
 use Rattle.media_tape.specs.declared.outcome.Written.TheVariants as written
 use Rattle.media_tape.specs.Tape.{TapeState, size_told, wrote, wrote_if_told, tape_written, first_told, first_data, length_told, synced_if_told, tape_marked}
 
-early-cases : (early : Bool) (others : List Item) (tape : TapeState) → wrote_if_told (if early then written.Early else written.Whole) others tape ≡ wrote others tape
+early-cases : (early : Bool) (others : List Item) (tape : TapeState)
+    → wrote_if_told (if early then written.Early else written.Whole) others tape ≡ wrote others tape
 early-cases true others tape = refl
 early-cases false others tape = refl
 

@@ -4,3 +4,5 @@ pub mod Writes
 pub mod Positions
 pub mod Commands
 pub mod Results
+pub mod Spacing
+pub mod There

@@ -1,13 +1,15 @@
 -- A position among the items of a content, when one is passed and when others are put behind it.
-use Rattle.std.proofs.Common.{◌≡◌, ℕ, ◌+◌, ◌-◌, ◌*◌, zero, suc, ◌^◌, ◌≤◌, ◌<◌, List, [], ◌∷◌, ◌++◌, length, take, drop, slice_range, Some, None, refl, ap, sym, subst, ◌∙◌, arith}
+use Rattle.std.proofs.Common.{◌≡◌, ℕ, ◌+◌, ◌-◌, ◌*◌, zero, suc, ◌^◌, ◌≤◌, ◌<◌, List, [], ◌∷◌, ◌++◌, length, take, drop, slice_range, Some}
+use Rattle.std.proofs.Common.{None, refl, ap, sym, subst, ◌∙◌, arith}
 use Rattle.std.proofs.Math.Seq.{take-add}
-use Rattle.std.proofs.lemmas.List.{append-nil, take_all, drop_all, take-take, drop-take, drop-drop, take_at, drop_at, length-append, length-drop, length-take-le}
+use Rattle.std.proofs.lemmas.List.{append-nil, take_all, drop_all, take-take, drop-take, drop-drop, take_at, drop_at, length-append}
+use Rattle.std.proofs.lemmas.List.{length-drop, length-take-le}
 use Rattle.byteorder.specs.Endian.{big_bytes, big_number}
 use Rattle.byteorder.specs.Numbers.{big_number-reads_back, length-bytes_high_first}
 use Rattle.media_tape.specs.Items.{most_bytes, Item, Record, item_of, size_of, front, items_in, items_of, Filemark}
 use Rattle.std.proofs.Common.{replicate}
 use Rattle.std.proofs.lemmas.List.{length-replicate}
-use Rattle.media_tape.specs.Tape.{Lies, length_told, first_told, first_data}
+use Rattle.media_tape.specs.Tape.{Lies, IsPlace, length_told, first_told, first_data}
 use Rattle.media_tape.proofs.Commands.{first_told-item, first_data-item}
 use Rattle.media_tape.specs.Writing.{KeepsBefore}
 use Rattle.media_tape.proofs.Items.{is-front, items_of-next, items_of-none, front-is, items_of-replaced, drop-items_of, length-front, item_of-data_of}
@@ -34,11 +36,13 @@ Stands-lies content all position place stands =
           ∙ ap size_of (take_all position all (omega (arith, stands.as_many))) ∙ stands.sized;
     }
 
-pub Stands-before : (content : List ℕ) (all : List Item) (position place : ℕ) → Stands content all position place → take position (items_of (take place content)) ≡ all
+pub Stands-before : (content : List ℕ) (all : List Item) (position place : ℕ) → Stands content all position place
+    → take position (items_of (take place content)) ≡ all
 Stands-before content all position place stands =
     ap (take position) stands.is ∙ take_all position all (omega (arith, stands.as_many))
 
-pub Stands-after : (content : List ℕ) (all : List Item) (position place : ℕ) → Stands content all position place → drop position (items_of (take place content)) ≡ []
+pub Stands-after : (content : List ℕ) (all : List Item) (position place : ℕ) → Stands content all position place
+    → drop position (items_of (take place content)) ≡ []
 Stands-after content all position place stands =
     ap (drop position) stands.is ∙ drop_all position all (omega (arith, stands.as_many))
 
@@ -203,11 +207,6 @@ data-behind content position place count end n lies few some within =
     ∙ sym (ap first_data (some-behind content position place count end n lies few some) ∙ first_data-item (data_at content place end n) rest)
 
 -- ---- from item to item
-
--- a place among the items in front of bytes
-pub record IsPlace (bytes : List ℕ) (position place : ℕ) : Type 0 where
-  pub few : position ≤ length (items_of bytes)
-  pub placed : size_of (take position (items_of bytes)) ≡ place
 
 pub IsPlace-next : (bytes : List ℕ) (position place n : ℕ) → IsPlace bytes position place → Some n ≡ front (drop place bytes)
     → IsPlace bytes (position + 1) (place + (n + 8))

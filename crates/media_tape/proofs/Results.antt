@@ -12,10 +12,12 @@ counted-failed (Ok value) count failed = absurd (false≢true failed)
 counted-failed (Err fault) count failed = refl
 
 -- a weaker fact, with what the count of failures is
-pub on_ok_counted : {T E P Q : Type 0} (result : Result T E) (before after : ℕ) → after ≡ counted result before → (P → after ≡ before → Q) → OnOk result P → OnOk result Q
+pub on_ok_counted : {T E P Q : Type 0} (result : Result T E) (before after : ℕ) → after ≡ counted result before → (P → after ≡ before → Q)
+    → OnOk result P → OnOk result Q
 on_ok_counted (Ok value) before after counts weaker holds = weaker holds counts
 on_ok_counted (Err fault) before after counts weaker holds = tt
 
-pub on_err_counted : {T E P Q : Type 0} (result : Result T E) (before after : ℕ) → after ≡ counted result before → (P → after ≡ risen before → Q) → OnErr result P → OnErr result Q
+pub on_err_counted : {T E P Q : Type 0} (result : Result T E) (before after : ℕ) → after ≡ counted result before → (P → after ≡ risen before → Q)
+    → OnErr result P → OnErr result Q
 on_err_counted (Ok value) before after counts weaker holds = tt
 on_err_counted (Err fault) before after counts weaker holds = weaker holds counts

@@ -1,5 +1,6 @@
 -- What writes from a place on leave of a content, and what they put there.
-use Rattle.std.proofs.Common.{◌≡◌, ℕ, ◌+◌, ◌-◌, ◌≤◌, min, nat_lt, true, List, [], ◌∷◌, ◌++◌, length, take, drop, replicate, refl, ap, sym, subst, ◌∙◌, arith, rules, Result, Ok, Err, OnOk, OnErr}
+use Rattle.std.proofs.Common.{◌≡◌, ℕ, ◌+◌, ◌-◌, ◌≤◌, min, nat_lt, true, List, [], ◌∷◌, ◌++◌, length, take, drop, replicate, refl, ap, sym}
+use Rattle.std.proofs.Common.{subst, ◌∙◌, arith, rules, Result, Ok, Err, OnOk, OnErr}
 use Rattle.std.proofs.lemmas.List.{append_assoc, append-nil, take-take, take_at, take-append-le, length-append, length-take, length-take-le}
 use Rattle.std.proofs.lemmas.List.{length-replicate, replicate-append-replicate}
 use Rattle.media_store.specs.Content.{resized, written, KeepsOutside, KeepsFront}

@@ -1,6 +1,9 @@
 pub use Rattle.media_store.specs.Failures
 pub mod Items
 pub mod Tape
+pub mod Space
 pub mod Writing
 pub mod Fault
 pub mod Examples
+pub mod ExamplesSpace
+pub mod Laws

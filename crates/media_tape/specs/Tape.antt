@@ -1,6 +1,7 @@
 -- A tape as the items before its position and those behind it (SSC-4 "Position within a partition"), and what commands
 -- do to it.
-use Rattle.std.specs.Prelude.{◌≡◌, ℕ, ◌+◌, ◌*◌, ◌≤◌, ◌==◌, nat_lt, nat_le, List, [], ◌∷◌, ◌++◌, length, take, drop, replicate, Bool, true, false, if◌then◌else◌}
+use Rattle.std.specs.Prelude.{◌≡◌, ℕ, ◌+◌, ◌*◌, ◌≤◌, ◌==◌, nat_lt, nat_le, List, [], ◌∷◌, ◌++◌, length, take, drop, replicate}
+use Rattle.std.specs.Prelude.{Bool, true, false, if◌then◌else◌}
 use Rattle.media_store.specs.Failures.{risen}
 use Rattle.media_tape.specs.Items.{Item, Record, Filemark, size_of, items_of}
 use Rattle.media_tape.specs.declared.outcome.Located.{Located}
@@ -116,6 +117,10 @@ tape_marked count tape =
 abbrev pub erased : TapeState → TapeState
 erased tape = wrote [] tape
 
+-- own: the early warning mark is passed where the items before the position are longer (SSC-4 "early-warning")
+abbrev pub is_early : TapeState → Bool
+is_early tape = nat_lt tape.early_mark (size_of tape.before)
+
 -- own: what is left where a write, a cut or a sync failed: the items before the position
 abbrev pub lost : List ℕ → Bool → TapeState → TapeState
 lost tail synced tape = record tape { after = []; tail = tail; synced = synced; failures = risen tape.failures }
@@ -128,6 +133,11 @@ pub record Lies (content : List ℕ) (position place count end : ℕ) : Type 0 w
   pub whole : size_of (items_of (take end content)) ≡ end
   pub as_many : length (items_of (take end content)) ≡ count
   pub placed : size_of (take position (items_of (take end content))) ≡ place
+
+-- a place among the items in front of bytes
+pub record IsPlace (bytes : List ℕ) (position place : ℕ) : Type 0 where
+  pub few : position ≤ length (items_of bytes)
+  pub placed : size_of (take position (items_of bytes)) ≡ place
 
 -- numbers that fit
 pub record AreNumbers (position place count end capacity : ℕ) : Type 0 where

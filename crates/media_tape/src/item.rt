@@ -1,10 +1,10 @@
 //! The item at a place of a store.
 
-ghost use Rattle.std.specs.Prelude.{◌≡◌, ◌+◌, ◌≤◌, ◌<◌, ◌^◌, length, take, drop, slice_range, IsTrue, IsOk, IfOk, IfSome, OnOk};
+ghost use Rattle.std.specs.Prelude.{◌≡◌, ◌+◌, ◌*◌, ◌≤◌, ◌<◌, ◌^◌, length, take, drop, slice_range, IsTrue, IsOk, IfOk, IfSome, OnOk};
 ghost use Rattle.std.specs.Prelude.{length as length_of};
 ghost use Rattle.byteorder.specs.Endian.{big_number};
 ghost use Rattle.media_store.specs.Failures.{counted};
-ghost use Rattle.media_tape.specs.Items.{front, most_bytes};
+ghost use Rattle.media_tape.specs.Items.{front, most_bytes, found_before};
 ghost use Rattle.media_tape.specs.Tape.{filled};
 
 use byteorder::{BigEndian, ByteOrder};
@@ -60,6 +60,33 @@ pub(crate) fn item_at<S: Store>(
     }
     let again = number_at(store, place + 4 + u64::from(length))?;
     Ok(if again == length { Some(length) } else { None })
+}
+
+/// The length of the item that ends at a place, the last of so many items.
+pub(crate) fn item_before<S: Store>(
+    store: &mut S,
+    position: u64,
+    place: u64,
+) -> Result<Option<u32>, StoreFault>
+    requires some { 0 < position }
+    requires few { 8 * position ≤ place }
+    ensures found { IfOk result (λ found. IsTrue (S.Store.honest store.new)
+        → found ≡ found_before position place (S.Store.content store.old)) }
+    ensures within { IfOk result (λ found. IfSome found (λ n. n + 8 * position ≤ place)) }
+    ensures back { IsTrue (S.Store.honest store.new) → IsTrue (S.Store.honest store.old) }
+    ensures content { S.Store.content store.new ≡ S.Store.content store.old }
+    ensures synced { S.Store.synced store.new ≡ S.Store.synced store.old }
+    ensures failures { S.Store.failures store.new ≡ counted result (S.Store.failures store.old) }
+    ensures steady { S.Store.steady store.new ≡ S.Store.steady store.old }
+    ensures succeeds { IsTrue (S.Store.steady store.old) → place ≤ length (S.Store.content store.old)
+        → IsOk result × (S.Store.honest store.new ≡ S.Store.honest store.old) }
+{
+    let length = number_at(store, place - 4)?;
+    Ok(if place - LENGTHS * position < u64::from(length) {
+        None
+    } else {
+        Some(length)
+    })
 }
 
 /// Puts as many bytes of the item at a place into a buffer as there is room for.

@@ -20,7 +20,9 @@
 
 mod fault;
 mod item;
+pub mod laws;
 mod outcome;
+mod space;
 mod tape;
 mod walk;
 mod write;
@@ -28,5 +30,5 @@ mod zeros;
 
 pub use fault::{NotOpened, TapeOpenFault};
 pub use item::MOST_BYTES;
-pub use outcome::{Located, Passed, Written};
+pub use outcome::{Direction, Located, Over, Passed, Spaced, Written};
 pub use tape::Tape;

@@ -35,6 +35,33 @@ pub enum Located {
     EndOfData,
 }
 
+/// What is counted while spacing (SSC-4 "SPACE (6)", the code).
+#[derive(Clone, Copy, Debug, PartialEq, Eq)]
+pub enum Over {
+    Records,
+    Filemarks,
+}
+
+/// Whether spacing goes over the items behind the position, or over those before it.
+#[derive(Clone, Copy, Debug, PartialEq, Eq)]
+pub enum Direction {
+    Forward,
+    Backward,
+}
+
+/// What ended the spacing, and how much was then left of its count.
+#[derive(Clone, Copy, Debug, PartialEq, Eq)]
+pub enum Spaced {
+    /// Nothing was left.
+    Whole,
+    /// A filemark was passed while records were counted.
+    Filemark(u32),
+    /// No item is behind the position.
+    EndOfData(u32),
+    /// No item is before the position.
+    Beginning(u32),
+}
+
 /// What an item of this length is, where it is passed.
 pub(crate) fn passed_item(length: u32) -> Passed
     ensures { result ≡ length_told length }

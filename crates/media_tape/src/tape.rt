@@ -1,15 +1,19 @@
 //! The calls on a tape.
 
-ghost use Rattle.std.specs.Prelude.{◌≡◌, ◌≢◌, ◌+◌, ◌*◌, ◌<◌, ◌≤◌, ◌==◌, [], length, drop, take, true, false, is_ok, if◌then◌else◌, IsTrue, IsOk, IfOk, IfErr, OnOk, OnErr};
+ghost use Rattle.std.specs.Prelude.{◌≡◌, ◌≢◌, ◌+◌, ◌*◌, ◌<◌, ◌≤◌, ◌==◌, [], length, drop};
+ghost use Rattle.std.specs.Prelude.{take, true, false, is_ok, if◌then◌else◌, IsTrue, IsOk, IfOk, IfErr, OnOk, OnErr};
 ghost use Rattle.media_store.specs.Failures.{counted, risen};
 ghost use Rattle.media_tape.specs.Items.{most_bytes, items_of, is_tape, size_of};
 ghost use Rattle.media_tape.specs.Fault.{failures_after, Explains};
-ghost use Rattle.media_tape.specs.Tape.{TapeState, located_at, located_told, read_told, first_data, filled, tape_read, write_told, tape_written, marks_told, tape_marked, lost, erased};
+ghost use Rattle.media_tape.specs.Tape.{TapeState, located_at, located_told, read_told, first_data, filled, tape_read};
+ghost use Rattle.media_tape.specs.Tape.{write_told, tape_written, marks_told, tape_marked, lost, erased, is_early};
+ghost use Rattle.media_tape.specs.Space.{spaced_told, tape_spaced, tape_ended};
 
 use crate::fault::{NotOpened, TapeOpenFault};
 use crate::item::{LENGTHS, data_at, item_at};
-use crate::outcome::{Located, Passed, Written, passed_item};
-use crate::walk::{walk, walk_to};
+use crate::outcome::{Direction, Located, Over, Passed, Spaced, Written, passed_item};
+use crate::space::space_toward;
+use crate::walk::{Walked, walk, walk_to};
 use crate::write::write_record;
 use crate::zeros::write_zeros;
 use media_store::{Store, StoreFault};
@@ -127,7 +131,12 @@ impl<S: Store> Tape<S> {
         ensures given { OnOk result (IsTrue self.new.honest → bytes.new ≡ filled (first_data self.old.after) bytes.old) }
         ensures tape { OnOk result (IsTrue self.new.honest → self.new ≡ tape_read (length bytes.old) self.old) }
         ensures failed { OnErr result (self.new ≡ record self.old { failures = risen self.old.failures; honest = self.new.honest }) }
-        ensures rest { self.new ≡ record self.old { before = self.new.before; after = self.new.after; honest = self.new.honest; failures = counted result self.old.failures } }
+        ensures rest { self.new ≡ record self.old {
+          before = self.new.before;
+          after = self.new.after;
+          honest = self.new.honest;
+          failures = counted result self.old.failures;
+        } }
         ensures back { IsTrue self.new.honest → IsTrue self.old.honest }
         ensures succeeds { IsTrue self.old.steady → IsTrue self.old.honest → IsOk result × (self.new.honest ≡ self.old.honest) }
     {
@@ -155,7 +164,13 @@ impl<S: Store> Tape<S> {
         ensures tape { OnOk result (IsTrue self.old.honest → self.new ≡ tape_written bytes.now self.old) }
         ensures failed { OnErr result (IsTrue self.old.honest → self.new ≡ lost self.new.tail false self.old) }
         ensures honest { self.new.honest ≡ self.old.honest }
-        ensures rest { self.new ≡ record self.old { before = self.new.before; after = self.new.after; tail = self.new.tail; synced = self.new.synced; failures = counted result self.old.failures } }
+        ensures rest { self.new ≡ record self.old {
+          before = self.new.before;
+          after = self.new.after;
+          tail = self.new.tail;
+          synced = self.new.synced;
+          failures = counted result self.old.failures;
+        } }
     {
         let size = bytes.len() as u64 + LENGTHS;
         if bytes.is_empty() {
@@ -187,7 +202,13 @@ impl<S: Store> Tape<S> {
         ensures failed { OnErr result (IsTrue self.old.honest → count ≢ 0 → self.new ≡ lost self.new.tail false self.old) }
         ensures none_failed { OnErr result (count ≡ 0 → self.new ≡ record self.old { failures = risen self.old.failures }) }
         ensures honest { self.new.honest ≡ self.old.honest }
-        ensures rest { self.new ≡ record self.old { before = self.new.before; after = self.new.after; tail = self.new.tail; synced = self.new.synced; failures = counted result self.old.failures } }
+        ensures rest { self.new ≡ record self.old {
+          before = self.new.before;
+          after = self.new.after;
+          tail = self.new.tail;
+          synced = self.new.synced;
+          failures = counted result self.old.failures;
+        } }
     {
         if count == 0 {
             self.store.sync()?;
@@ -219,7 +240,13 @@ impl<S: Store> Tape<S> {
         ensures tape { OnOk result (IsTrue self.old.honest → self.new ≡ erased self.old) }
         ensures failed { OnErr result (IsTrue self.old.honest → self.new ≡ lost self.new.tail false self.old) }
         ensures honest { self.new.honest ≡ self.old.honest }
-        ensures rest { self.new ≡ record self.old { before = self.new.before; after = self.new.after; tail = self.new.tail; synced = false; failures = counted result self.old.failures } }
+        ensures rest { self.new ≡ record self.old {
+          before = self.new.before;
+          after = self.new.after;
+          tail = self.new.tail;
+          synced = false;
+          failures = counted result self.old.failures;
+        } }
     {
         self.count = self.position;
         self.end = self.place;
@@ -232,7 +259,12 @@ impl<S: Store> Tape<S> {
         ensures told { IfOk result (λ told. IsTrue self.new.honest → told ≡ located_told number self.old) }
         ensures tape { OnOk result (IsTrue self.new.honest → self.new ≡ located_at number self.old) }
         ensures failed { OnErr result (self.new ≡ record self.old { failures = risen self.old.failures; honest = self.new.honest }) }
-        ensures rest { self.new ≡ record self.old { before = self.new.before; after = self.new.after; honest = self.new.honest; failures = counted result self.old.failures } }
+        ensures rest { self.new ≡ record self.old {
+          before = self.new.before;
+          after = self.new.after;
+          honest = self.new.honest;
+          failures = counted result self.old.failures;
+        } }
         ensures back { IsTrue self.new.honest → IsTrue self.old.honest }
         ensures succeeds { IsTrue self.old.steady → IsTrue self.old.honest → IsOk result × (self.new.honest ≡ self.old.honest) }
     {
@@ -250,6 +282,51 @@ impl<S: Store> Tape<S> {
         self.position = walked.count;
         self.place = walked.place;
         Ok(Located::There)
+    }
+
+    /// Sets the position behind so many records or filemarks, from where it is, or where spacing ends
+    /// before that (SSC-4 "SPACE (6)"). Where it fails, the tape is as before.
+    pub fn space(&mut self, toward: Direction, over: Over, count: u32) -> Result<Spaced, StoreFault>
+        ensures told { IfOk result (λ told. IsTrue self.new.honest → told ≡ spaced_told toward over count self.old) }
+        ensures tape { OnOk result (IsTrue self.new.honest → self.new ≡ tape_spaced toward over count self.old) }
+        ensures failed { OnErr result (self.new ≡ record self.old { failures = risen self.old.failures; honest = self.new.honest }) }
+        ensures rest { self.new ≡ record self.old {
+          before = self.new.before;
+          after = self.new.after;
+          honest = self.new.honest;
+          failures = counted result self.old.failures;
+        } }
+        ensures back { IsTrue self.new.honest → IsTrue self.old.honest }
+        ensures succeeds { IsTrue self.old.steady → IsTrue self.old.honest → IsOk result × (self.new.honest ≡ self.old.honest) }
+    {
+        let from = Walked {
+            count: self.position,
+            place: self.place,
+        };
+        let all = Walked {
+            count: self.count,
+            place: self.end,
+        };
+        let ended = space_toward(&mut self.store, toward, over, count, from, all)?;
+        self.position = ended.at.count;
+        self.place = ended.at.place;
+        Ok(ended.told)
+    }
+
+    /// Sets the position behind all items (SSC-4 "SPACE (6)", end of data).
+    pub fn space_to_end(&mut self)
+        ensures tape { IsTrue self.old.honest → self.new ≡ tape_ended self.old }
+        ensures rest { self.new ≡ record self.old { before = self.new.before; after = self.new.after } }
+    {
+        self.position = self.count;
+        self.place = self.end;
+    }
+
+    /// Whether the items before the position exceed the early warning mark.
+    pub fn is_early(&self) -> bool
+        ensures { IsTrue self.now.honest → result ≡ is_early self.now }
+    {
+        self.early_mark < self.place
     }
 
     /// Sets the position before all items (SSC-4 "REWIND").

@@ -8,7 +8,7 @@ use crate::item::{LENGTHS, item_at};
 use media_store::{Store, StoreFault};
 
 /// How many items there are, and their size in bytes.
-#[derive(Drop)]
+#[derive(Clone, Copy)]
 pub(crate) struct Walked {
     pub count: u64,
     pub place: u64,

@@ -1,7 +1,8 @@
 use Rattle.std.proofs.Common.{arith}
 use Rattle.media_tape.proofs.Found.{none-short, none-long, none-other, some-item}
 use Rattle.media_tape.proofs.item.item_at.Goals as goal
-use Rattle.media_tape.proofs.item.item_at.Goals.{then-length-gt-MOST_BYTES-via-then-length-gt-MOST_BYTES, then-length-gt-MOST_BYTES-via-else-length-gt-MOST_BYTES+then-end-place}
+use Rattle.media_tape.proofs.item.item_at.Goals.{then-length-gt-MOST_BYTES-via-then-length-gt-MOST_BYTES}
+use Rattle.media_tape.proofs.item.item_at.Goals.{then-length-gt-MOST_BYTES-via-else-length-gt-MOST_BYTES+then-end-place}
 
 pub returns-then-end-place-lt-LENGTHS-clause-found : goal.returns-then-end-place-lt-LENGTHS-clause-found
 returns-then-end-place-lt-LENGTHS-clause-found g c honest long =

@@ -1,5 +1,5 @@
 use Rattle.std.proofs.Common.{◌≡◌, ◌*◌, ◌-◌, ◌≤◌, length, take, IsTrue}
-use Rattle.media_tape.proofs.Positions.{IsPlace}
+use Rattle.media_tape.specs.Tape.{IsPlace}
 use Rattle.media_tape.proofs.walk.walk.Given as goal
 
 abbrev pub invariant-loop-length : goal.invariant-loop-length

@@ -12,7 +12,13 @@ invariant_of-self-in_err-write_zeros g c =
     let content = g.S.Store.content old.store in
     let new = g.S.Store.content c.write_zeros.new.store in
     let numbers = c.self.invariant.0 in (
-      record { before = omega arith; all = omega (arith, numbers.some); within = omega arith; some = numbers.some; most = omega (arith, numbers.within, numbers.most) },
+      record {
+        before = omega arith;
+        all = omega (arith, numbers.some);
+        within = omega arith;
+        some = numbers.some;
+        most = omega (arith, numbers.within, numbers.most);
+      },
       λ honest.
           let was = rw c.write_zeros.ensures.honest at honest in
           Stands-lies new (take old.position (items_of (take old.end content))) old.position old.place
@@ -44,7 +50,13 @@ invariant_of-self-in_err-sync-2 g c =
     let content = g.S.Store.content old.store in
     let new = g.S.Store.content c.write_zeros.new.store in
     let numbers = c.self.invariant.0 in (
-      record { before = omega arith; all = omega (arith, numbers.some); within = omega arith; some = numbers.some; most = omega (arith, numbers.within, numbers.most) },
+      record {
+        before = omega arith;
+        all = omega (arith, numbers.some);
+        within = omega arith;
+        some = numbers.some;
+        most = omega (arith, numbers.within, numbers.most);
+      },
       λ honest.
           let was = rw (c.sync-2.ensures.honest, c.write_zeros.ensures.honest) at honest in
           rw c.sync-2.ensures.content (Stands-lies new (take old.position (items_of (take old.end content))) old.position old.place
@@ -84,7 +96,13 @@ invariant_of-self-2 g c =
     let numbers = c.self.invariant.0 in
     let many = c.args.count in
     let all = take old.position (items_of (take old.end content)) in (
-      record { before = omega arith; all = omega (arith, numbers.some); within = omega arith; some = omega (arith, numbers.some); most = omega (arith, numbers.within, numbers.most) },
+      record {
+        before = omega arith;
+        all = omega (arith, numbers.some);
+        within = omega arith;
+        some = omega (arith, numbers.some);
+        most = omega (arith, numbers.within, numbers.most);
+      },
       λ honest.
           let was = rw (c.sync-2.ensures.honest, c.write_zeros.ensures.honest) at honest in
           let done = written-filemarks content new many old.position old.place old.count old.end (c.self.invariant.1 was)

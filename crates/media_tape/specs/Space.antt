@@ -1,0 +1,63 @@
+-- SPACE (6) (SSC-4): from item to item, over records or over filemarks, behind the position or before it.
+use Rattle.std.specs.Prelude.{ℕ, zero, suc, ◌+◌, ◌-◌, ◌==◌, List, [], ◌∷◌, length, take, drop, reverse, Option, Some, None, if◌then◌else◌}
+use Rattle.media_tape.specs.Items.{Item, Record, Filemark}
+use Rattle.media_tape.specs.Tape.{TapeState, items, located_at}
+use Rattle.media_tape.specs.declared.outcome.Over.{Over}
+use Rattle.media_tape.specs.declared.outcome.Over.TheVariants.{Records, Filemarks}
+use Rattle.media_tape.specs.declared.outcome.Direction.{Direction}
+use Rattle.media_tape.specs.declared.outcome.Direction.TheVariants.{Forward, Backward}
+use Rattle.media_tape.specs.declared.outcome.Spaced.{Spaced}
+use Rattle.media_tape.specs.declared.outcome.Spaced.TheVariants as spaced
+
+-- how many items were passed, and what ended the spacing
+pub record Way : Type 0 where
+  pub passed : ℕ
+  pub told : Spaced
+
+abbrev pub one_more : Way → Way
+one_more way = record { passed = suc way.passed; told = way.told }
+
+-- where no item is left: the end of data, or the beginning of the partition
+abbrev pub edge : Direction → ℕ → Spaced
+edge Forward left = spaced.EndOfData left
+edge Backward left = spaced.Beginning left
+
+-- SSC-4: spacing over records ends behind a filemark, which is not counted; spacing over filemarks passes records
+abbrev pub way : Direction → Over → ℕ → List Item → Way
+way direction over zero items = record { passed = 0; told = spaced.Whole }
+way direction over (suc left) [] = record { passed = 0; told = edge direction (suc left) }
+way direction Records (suc left) (Record bytes ∷ items) = one_more (way direction Records left items)
+way direction Records (suc left) (Filemark ∷ items) = record { passed = 1; told = spaced.Filemark (suc left) }
+way direction Filemarks (suc left) (Record bytes ∷ items) = one_more (way direction Filemarks (suc left) items)
+way direction Filemarks (suc left) (Filemark ∷ items) = one_more (way direction Filemarks left items)
+
+-- own: what is left of a count behind an item of this length: none, where spacing ends there
+abbrev pub left_behind : Over → ℕ → ℕ → Option ℕ
+left_behind Records left length = if length == 0 then None else Some (left - 1)
+left_behind Filemarks left length = if length == 0 then Some (left - 1) else Some left
+
+-- the items on the way, the nearest first
+abbrev pub ahead : Direction → TapeState → List Item
+ahead Forward tape = tape.after
+ahead Backward tape = reverse tape.before
+
+abbrev pub spaced_to : Direction → ℕ → ℕ → ℕ
+spaced_to Forward position passed = position + passed
+spaced_to Backward position passed = position - passed
+
+-- own: the way from a position among these items
+abbrev pub way_from : Direction → Over → ℕ → ℕ → List Item → Way
+way_from Forward over count position items = way Forward over count (drop position items)
+way_from Backward over count position items = way Backward over count (reverse (take position items))
+
+-- SPACE (6) with the code for logical blocks, or for filemarks
+abbrev pub spaced_told : Direction → Over → ℕ → TapeState → Spaced
+spaced_told toward over count tape = (way toward over count (ahead toward tape)).told
+
+abbrev pub tape_spaced : Direction → Over → ℕ → TapeState → TapeState
+tape_spaced toward over count tape =
+    located_at (spaced_to toward (length tape.before) (way toward over count (ahead toward tape)).passed) tape
+
+-- SPACE (6) with the code for the end of data
+abbrev pub tape_ended : TapeState → TapeState
+tape_ended tape = located_at (length (items tape)) tape
