@@ -3,7 +3,7 @@ use Rattle.std.specs.Prelude.{ℕ, List, [], map, Option, Some, None, slice_inde
 use Rattle.iscsi_target.specs.History.{History}
 use Rattle.iscsi_target.specs.Life.{Life, out_of}
 use Rattle.iscsi_target.specs.World.{Setting, world}
-use Rattle.scsi_unit.specs.Medium.{MediumState, medium_of}
+use Rattle.scsi_unit.specs.Medium.{KeptState, kept_of}
 use Rattle.scsi_unit.specs.Units.{UnitStates}
 
 -- the answers of a connection's present life
@@ -15,9 +15,9 @@ out_now (Some life) = out_of life
 unfoldable pub outputs : Setting → History → List (List ℕ)
 outputs s history = map out_of (world s history).lives
 
--- the media of a target's units, in order
-abbrev pub media_in : List UnitStates → ℕ → List MediumState
-media_in units target = map medium_of (slice_index_or units target [])
+-- what a target's units keep, in order: their media, and who is registered and what is reserved
+abbrev pub media_in : List UnitStates → ℕ → List KeptState
+media_in units target = map kept_of (slice_index_or units target [])
 
-abbrev pub media : Setting → History → ℕ → List MediumState
+abbrev pub media : Setting → History → ℕ → List KeptState
 media s history target = media_in (world s history).units target

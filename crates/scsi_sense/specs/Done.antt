@@ -2,7 +2,7 @@
 use Rattle.std.specs.Prelude.{ℕ, List, [], length, Option, Some, None}
 use Rattle.scsi_sense.specs.declared.sense.Sense.{Sense}
 use Rattle.scsi_sense.specs.declared.done.Status.{Status}
-use Rattle.scsi_sense.specs.declared.done.Status.TheVariants.{Good, CheckCondition}
+use Rattle.scsi_sense.specs.declared.done.Status.TheVariants.{Good, CheckCondition, ReservationConflict}
 
 -- profile: its status (SAM-5 "Status codes"), its sense data (SPC-4 "Sense data"), and its data
 pub record Outcome : Type 0 where
@@ -28,3 +28,7 @@ good_taking count = record { status = Good; sense = None; given = []; moved = co
 -- CHECK CONDITION with this sense, with nothing moved
 abbrev pub check_condition : Sense → Outcome
 check_condition sense = record { status = CheckCondition; sense = Some sense; given = []; moved = 0 }
+
+-- RESERVATION CONFLICT, with nothing moved (SAM-5 "Status codes")
+abbrev pub reservation_conflict : Outcome
+reservation_conflict = record { status = ReservationConflict; sense = None; given = []; moved = 0 }

@@ -50,7 +50,7 @@ impl Model for Done {
 }
 
 impl Done {
-    ghost use Rattle.scsi_sense.specs.Done.{good as good_outcome, good_with as good_outcome_with, good_taking as good_outcome_taking, check_condition as check_outcome};
+    ghost use Rattle.scsi_sense.specs.Done.{good as good_outcome, good_with as good_outcome_with, good_taking as good_outcome_taking, check_condition as check_outcome, reservation_conflict as conflict_outcome};
 
     /// GOOD, with nothing moved. It takes no memory.
     pub fn good(alloc: Global) -> Done
@@ -97,6 +97,18 @@ impl Done {
         Done {
             status: Status::CheckCondition,
             sense: Some(sense),
+            given: Given::nothing(alloc),
+            moved: 0,
+        }
+    }
+
+    /// RESERVATION CONFLICT, with nothing moved. It takes no memory.
+    pub fn reservation_conflict(alloc: Global) -> Done
+        ensures { result ≡ conflict_outcome }
+    {
+        Done {
+            status: Status::ReservationConflict,
+            sense: None,
             given: Given::nothing(alloc),
             moved: 0,
         }

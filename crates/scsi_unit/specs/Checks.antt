@@ -15,6 +15,7 @@ use Rattle.scsi_cdb.specs.declared.operation.Row.{Row}
 use Rattle.scsi_cdb.specs.declared.command.Command.{Command}
 use Rattle.scsi_cdb.specs.declared.command.Command.TheVariants as to
 use Rattle.scsi_cdb.specs.declared.command.UnitCommand.TheVariants.{TestUnitReady, RequestSense, Inquiry, ModeSelect, ModeSense, ReportLuns}
+use Rattle.scsi_reserve.specs.Table.{TableState, is_allowed}
 use Rattle.scsi_mode.specs.ParameterList.{fault_sense}
 use Rattle.scsi_mode.specs.declared.list_fault.ListFault.TheVariants.{EndsEarly}
 use Rattle.scsi_unit.specs.Device.{DeviceState, Disk, Tape, kind_of, is_ready}
@@ -22,7 +23,7 @@ use Rattle.scsi_unit.specs.DiskCommands.{range_named, bytes_needed, is_write}
 use Rattle.scsi_unit.specs.Joined.{told}
 use Rattle.scsi_unit.specs.State.{UnitState}
 use Rattle.scsi_unit.specs.declared.refusal.Refusal.{Refusal}
-use Rattle.scsi_unit.specs.declared.refusal.Refusal.TheVariants.{Refused, Told}
+use Rattle.scsi_unit.specs.declared.refusal.Refusal.TheVariants.{Refused, Told, Conflict}
 
 -- 05/2100
 abbrev pub out_of_range : Sense
@@ -51,9 +52,10 @@ abbrev pub attention_check : Option Row → Option Attention → Option Refusal
 attention_check None attention = None
 attention_check (Some row) attention = if row.passes_attention then None else option_map Told attention
 
--- SPC-4 "Persistent reservations": nothing is reserved yet
-abbrev pub reservation_check : Option Row → Option Refusal
-reservation_check row = None
+-- SPC-4 "Persistent reservations": a reservation forbids the nexus operations of this class
+abbrev pub reservation_check : Option Row → NexusName → TableState → Option Refusal
+reservation_check None nexus table = None
+reservation_check (Some row) nexus table = if is_allowed nexus row.reservation table then None else Some Conflict
 
 -- own: no write to the medium has failed, where the operation needs it
 abbrev pub ready_check : Option Row → Bool → Option Refusal
@@ -115,16 +117,16 @@ protection_check (Err sense) device = None
 protection_check (Ok command) device = refused_if (writes command && is_protected device) write_protected
 
 -- in their order
-abbrev pub checks : Option Row → Option Attention → Result Command Sense → DeviceState → List ℕ → List (Option Refusal)
-checks row attention command device bytes =
+abbrev pub checks : Option Row → Result Command Sense → NexusName → List ℕ → UnitState → List (Option Refusal)
+checks row command nexus bytes unit =
     operation_check row
-    ∷ attention_check row attention
-    ∷ reservation_check row
-    ∷ ready_check row (is_ready device)
+    ∷ attention_check row (told nexus unit.joined).1
+    ∷ reservation_check row nexus unit.reservations
+    ∷ ready_check row (is_ready unit.device)
     ∷ fields_check command
-    ∷ range_check command device
+    ∷ range_check command unit.device
     ∷ data_check command bytes
-    ∷ protection_check command device
+    ∷ protection_check command unit.device
     ∷ []
 
 abbrev pub first_refusal : List (Option Refusal) → Option Refusal
@@ -142,4 +144,4 @@ judged_by None (Err sense) = Err (Refused sense)
 unfoldable pub judged : NexusName → List ℕ → List ℕ → UnitState → Result Command Refusal
 judged nexus cdb bytes unit =
     let command = command_of cdb (kind_of unit.device) in
-    judged_by (first_refusal (checks (row_for (kind_of unit.device) (slice_index cdb 0)) (told nexus unit.joined).1 command unit.device bytes)) command
+    judged_by (first_refusal (checks (row_for (kind_of unit.device) (slice_index cdb 0)) command nexus bytes unit)) command

@@ -7,6 +7,7 @@ use Rattle.scsi_sense.specs.declared.condition.Condition.TheVariants.{UnitAttent
 use Rattle.scsi_sense.specs.declared.condition.Attention.TheVariants.{PowerOnOrReset, ModeParametersChanged}
 use Rattle.scsi_cdb.specs.Fault.{invalid_operation_code, invalid_field}
 use Rattle.scsi_cdb.specs.declared.operation.Kind.TheVariants as kind
+use Rattle.scsi_reserve.specs.Table.{empty_table}
 use Rattle.scsi_inquiry.specs.Standard.{standard_data}
 use Rattle.scsi_inquiry.specs.Luns.{rising}
 use Rattle.scsi_inquiry.specs.declared.peripheral.Peripheral.TheVariants as peripheral
@@ -51,7 +52,7 @@ abbrev protected_disk : DeviceState
 protected_disk = Disk (record the_disk { write_protect = true })
 
 abbrev unit_with : DeviceState → List Joined → UnitState
-unit_with device joined = record { lun = 0; serial = []; device = device; joined = joined }
+unit_with device joined = record { lun = 0; serial = []; device = device; reservations = empty_table; joined = joined }
 
 abbrev a_was_told : Joined
 a_was_told = record { nexus = a; attentions = [] }

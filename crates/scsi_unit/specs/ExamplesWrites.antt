@@ -5,6 +5,7 @@ use Rattle.scsi_sense.specs.Done.{good, good_taking, check_condition}
 use Rattle.scsi_sense.specs.Nexus.{NexusName}
 use Rattle.media_block.specs.Blocks.{blocks_of}
 use Rattle.scsi_cdb.specs.Fault.{invalid_field}
+use Rattle.scsi_reserve.specs.Table.{empty_table}
 use Rattle.scsi_unit.specs.Device.{DiskUnit, Disk}
 use Rattle.scsi_unit.specs.CameOut.{Dishonest, ReadFailed, WriteFailed, touches}
 use Rattle.scsi_unit.specs.Checks.{judged, out_of_range, not_ready, write_protected}
@@ -34,7 +35,7 @@ abbrev a_was_told : Joined
 a_was_told = record { nexus = a; attentions = [] }
 
 abbrev unit_of : DiskUnit → UnitState
-unit_of disk = record { lun = 0; serial = []; device = Disk disk; joined = a_was_told ∷ [] }
+unit_of disk = record { lun = 0; serial = []; device = Disk disk; reservations = empty_table; joined = a_was_told ∷ [] }
 
 -- the unit with these blocks, on the medium or not yet
 abbrev with_blocks : List (List ℕ) → Bool → UnitState

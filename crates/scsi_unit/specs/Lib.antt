@@ -9,6 +9,7 @@ pub use Rattle.scsi_cdb.specs.Fault
 pub use Rattle.scsi_cdb.specs.Operation
 pub use Rattle.scsi_sense.specs.Attentions
 pub use Rattle.scsi_cdb.specs.Command
+pub use Rattle.scsi_reserve.specs.Table
 pub use Rattle.scsi_inquiry.specs.Standard
 pub use Rattle.scsi_inquiry.specs.VpdPages
 pub use Rattle.scsi_inquiry.specs.Luns
@@ -30,3 +31,4 @@ pub mod Unit
 pub mod Units
 pub mod Examples
 pub mod ExamplesWrites
+pub mod ExamplesReservations

@@ -1,5 +1,6 @@
 -- What a unit keeps, and nothing of its store.
 use Rattle.std.specs.Prelude.{ℕ, List, Bool}
+use Rattle.scsi_reserve.specs.Table.{TableState}
 use Rattle.scsi_unit.specs.Device.{DeviceState, Disk, Tape}
 use Rattle.scsi_unit.specs.State.{UnitState}
 
@@ -12,5 +13,10 @@ abbrev pub medium_of_device : DeviceState → MediumState
 medium_of_device (Disk disk) = DiskMedium disk.disk.blocks disk.write_protect
 medium_of_device Tape = TapeMedium
 
-abbrev pub medium_of : UnitState → MediumState
-medium_of unit = medium_of_device unit.device
+-- own: its medium, and who is registered with it and what is reserved (SPC-4 "Persistent reservations")
+pub record KeptState : Type 0 where
+  pub medium : MediumState
+  pub reservations : TableState
+
+abbrev pub kept_of : UnitState → KeptState
+kept_of unit = record { medium = medium_of_device unit.device; reservations = unit.reservations }

@@ -1,12 +1,15 @@
 -- A logical unit, as it stands.
 use Rattle.std.specs.Prelude.{ℕ, List}
+use Rattle.scsi_reserve.specs.Table.{TableState}
 use Rattle.scsi_unit.specs.Device.{DeviceState}
 use Rattle.scsi_unit.specs.declared.joined.Joined.{Joined}
 
--- a unit: its number, its serial number, its device, and each nexus that is joined to it with the unit attentions that it
--- has still to be told, in order (SAM-5 "Unit attention condition")
+-- a unit: its number, its serial number, its device, who is registered with it and what is reserved (SPC-4 "Persistent
+-- reservations"), and each nexus that is joined to it with the unit attentions that it has still to be told, in order
+-- (SAM-5 "Unit attention condition")
 pub record UnitState : Type 0 where
   pub lun : ℕ
   pub serial : List ℕ
   pub device : DeviceState
+  pub reservations : TableState
   pub joined : List Joined

@@ -1,7 +1,7 @@
 -- A logical unit, and what a command does to it.
 use Rattle.std.specs.Prelude.{◌≡◌, ℕ, List, [], ◌∷◌, take, Bool, false, ◌==◌, Option, Some, None, Result, Ok, Err, if◌then◌else◌}
 use Rattle.scsi_sense.specs.Sense.{plain_sense}
-use Rattle.scsi_sense.specs.Done.{Outcome, good, good_with, good_taking, check_condition}
+use Rattle.scsi_sense.specs.Done.{Outcome, good, good_with, good_taking, check_condition, reservation_conflict}
 use Rattle.scsi_sense.specs.Nexus.{NexusName}
 use Rattle.scsi_sense.specs.declared.condition.Condition.TheVariants.{UnitAttention}
 use Rattle.scsi_sense.specs.declared.condition.Attention.{Attention}
@@ -12,6 +12,7 @@ use Rattle.scsi_cdb.specs.declared.command.Command.TheVariants as to
 use Rattle.scsi_cdb.specs.declared.command.UnitCommand.{UnitCommand}
 use Rattle.scsi_cdb.specs.declared.command.UnitCommand.TheVariants.{TestUnitReady, RequestSense, Inquiry, ModeSelect, ModeSense, ReportLuns}
 use Rattle.scsi_cdb.specs.declared.command.DiskCommand.{DiskCommand}
+use Rattle.scsi_reserve.specs.Table.{empty_table}
 use Rattle.scsi_mode.specs.ModePages.{write_protect}
 use Rattle.scsi_mode.specs.ModeData.{mode_data}
 use Rattle.scsi_mode.specs.ParameterList.{fault_sense, selected}
@@ -26,13 +27,13 @@ use Rattle.scsi_unit.specs.Lun.{lun_number}
 use Rattle.scsi_unit.specs.State.{UnitState}
 use Rattle.scsi_unit.specs.Checks.{judged}
 use Rattle.scsi_unit.specs.declared.refusal.Refusal.{Refusal}
-use Rattle.scsi_unit.specs.declared.refusal.Refusal.TheVariants.{Refused, Told}
+use Rattle.scsi_unit.specs.declared.refusal.Refusal.TheVariants.{Refused, Told, Conflict}
 
 -- ---- who is joined
 
--- a unit that no nexus is joined to
+-- a unit that no nexus is joined to, and none is registered with
 abbrev pub free_unit : ℕ → List ℕ → DeviceState → UnitState
-free_unit lun serial device = record { lun = lun; serial = serial; device = device; joined = [] }
+free_unit lun serial device = record { lun = lun; serial = serial; device = device; reservations = empty_table; joined = [] }
 
 abbrev pub joined_unit : NexusName → UnitState → UnitState
 joined_unit nexus unit = record unit { joined = with_nexus nexus unit.joined }
@@ -105,6 +106,7 @@ carried_out came nexus bytes unit (to.Disk command) = disk_done came bytes unit 
 -- SAM-5 "Unit attention condition": one that is told in place of a command is then taken away
 abbrev pub refused_with : NexusName → UnitState → Refusal → UnitState × Outcome
 refused_with nexus unit (Refused sense) = (unit, check_condition sense)
+refused_with nexus unit Conflict = (unit, reservation_conflict)
 refused_with nexus unit (Told code) = (record unit { joined = (told nexus unit.joined).0 }, check_condition (plain_sense (UnitAttention code)))
 
 abbrev pub done_by : CameOut → NexusName → List ℕ → UnitState → Result Command Refusal → UnitState × Outcome

@@ -40,8 +40,8 @@ performed_at units nexus cdb bytes None = (units, without_unit cdb)
 performed_at units nexus cdb bytes (Some at) = performed_by units nexus cdb bytes at (slice_get units at)
 
 -- What a command with this data does where no medium fails: the units after it, and what its initiator is told. The
--- first check that fails answers, in this order (own, after SPC-4): unit, operation code, attention, ready, fields,
--- range, length of the data, write protection.
+-- first check that fails answers, in this order (own, after SPC-4): unit, operation code, attention, reservation, ready,
+-- fields, range, length of the data, write protection.
 unfoldable pub perform : UnitStates → NexusName → List ℕ → List ℕ → List ℕ → UnitStates × Outcome
 perform units nexus lun cdb bytes = performed_at units nexus cdb bytes (unit_of units (lun_number lun))
 

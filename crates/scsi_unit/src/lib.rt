@@ -6,8 +6,9 @@
 //! ```
 //!
 //! The first check that fails answers, in this order: the LUN names a unit, the unit has the
-//! operation, the nexus has no unit attention that it is still to be told, the medium is ready, the fields
-//! of the command descriptor block, the range of blocks, the length of the data, write protection, the medium.
+//! operation, the nexus has no unit attention that it is still to be told, no reservation forbids it, the medium is
+//! ready, the fields of the command descriptor block, the range of blocks, the length of the data, write protection,
+//! the medium.
 //! INQUIRY, REPORT LUNS and REQUEST SENSE pass the attentions by, and INQUIRY and REQUEST SENSE the first check
 //! too.
 //!

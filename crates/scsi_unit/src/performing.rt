@@ -208,6 +208,9 @@ impl<S: Store> Unit<S> {
                 return Err(Refusal::Told(attention));
             }
         }
+        if !self.reservations.allows(nexus, row.reservation) {
+            return Err(Refusal::Conflict);
+        }
         if row.needs_ready && !self.device.is_ready() {
             return Err(Refusal::Refused(Sense::new(Condition::InternalTargetFailure)));
         }
@@ -236,6 +239,7 @@ impl<S: Store> Unit<S> {
     {
         match refusal {
             Refusal::Refused(sense) => Done::check_condition(self.alloc, sense),
+            Refusal::Conflict => Done::reservation_conflict(self.alloc),
             Refusal::Told(attention) => {
                 let _ = tell(self.joined.as_mut_slice(), nexus);
                 let sense = Sense::new(Condition::UnitAttention(attention));

@@ -9,4 +9,6 @@ pub(crate) enum Refusal {
     Refused(Sense),
     /// A unit attention is told in its place (SAM-5 "Unit attention condition"), and is then taken away.
     Told(Attention),
+    /// A reservation forbids it (SPC-4 "Persistent reservations").
+    Conflict,
 }

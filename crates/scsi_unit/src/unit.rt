@@ -14,16 +14,19 @@ use crate::lun::Lun;
 use crate::serial::Serial;
 use media_block::Disk;
 use media_store::Store;
+use scsi_reserve::Table;
 use scsi_sense::{Attention, Done, Nexus};
 use std::alloc::Global;
 use std::marker::Model;
 
-/// A logical unit: a disk or a tape, and the unit attentions that each nexus has still to be told.
+/// A logical unit: a disk or a tape, who is registered with it and what is reserved, and the unit attentions that each
+/// nexus has still to be told.
 #[derive(Drop)]
 pub struct Unit<S: Store> {
     pub(crate) lun: Lun,
     pub(crate) serial: Serial,
     pub(crate) device: Device<S>,
+    pub(crate) reservations: Table,
     pub(crate) joined: Vec<Joined>,
     pub(crate) alloc: Global,
 }
@@ -34,7 +37,7 @@ impl<S: Store> Model for Unit<S> {
 
     ghost Value = { UnitState };
 
-    ghost view = { λ u. record { lun = u.lun; serial = u.serial; device = device_view u.device; joined = u.joined.items } };
+    ghost view = { λ u. record { lun = u.lun; serial = u.serial; device = device_view u.device; reservations = u.reservations; joined = u.joined.items } };
 }
 
 impl<S: Store> Unit<S> {
@@ -50,6 +53,7 @@ impl<S: Store> Unit<S> {
                 is_ready: true,
                 write_protect: false,
             }),
+            reservations: Table::new(alloc),
             joined: Vec::new(alloc),
             alloc,
         }
@@ -63,6 +67,7 @@ impl<S: Store> Unit<S> {
             lun: Lun::new(lun),
             serial,
             device: Device::Tape,
+            reservations: Table::new(alloc),
             joined: Vec::new(alloc),
             alloc,
         }
@@ -104,9 +109,9 @@ impl<S: Store> Unit<S> {
     }
 
     /// A command with this data that a LUN sends to the unit. The first check that fails answers, in this
-    /// order: the LUN names this unit, it has the operation, the nexus has no attention to be told, the
-    /// medium is ready, the fields of the command descriptor block, the range, the length of the data, write
-    /// protection. A store that fails is told: UNRECOVERED READ ERROR, and nothing else changes; WRITE ERROR,
+    /// order: the LUN names this unit, it has the operation, the nexus has no attention to be told, no reservation
+    /// forbids it, the medium is ready, the fields of the command descriptor block, the range, the length of the data,
+    /// write protection. A store that fails is told: UNRECOVERED READ ERROR, and nothing else changes; WRITE ERROR,
     /// and the unit is not ready until it is opened again. REPORT LUNS reports this unit alone. Where an
     /// allocation fails nothing changes. A command that gives no data takes no memory; of one that touches
     /// its medium, where the store is honest.
