@@ -5,12 +5,13 @@ use Rattle.scsi_sense.specs.declared.sense.Sense.{Sense}
 use Rattle.scsi_cdb.specs.Range.{Range, range_of, compared_range_of, same_range_of}
 use Rattle.scsi_cdb.specs.Fault.{invalid_operation_code, field_sense}
 use Rattle.scsi_cdb.specs.Operation.{row_for}
+use Rattle.scsi_cdb.specs.PersistentReserve.{reserve_in_of, reserve_out_of}
 use Rattle.scsi_cdb.specs.declared.operation.Kind.{Kind}
 use Rattle.scsi_cdb.specs.declared.operation.Row.{Row}
 use Rattle.scsi_cdb.specs.declared.command.Command.{Command}
 use Rattle.scsi_cdb.specs.declared.command.Command.TheVariants as to
 use Rattle.scsi_cdb.specs.declared.command.UnitCommand.{UnitCommand}
-use Rattle.scsi_cdb.specs.declared.command.UnitCommand.TheVariants.{TestUnitReady, RequestSense, Inquiry, ModeSelect, ModeSense, ReportLuns}
+use Rattle.scsi_cdb.specs.declared.command.UnitCommand.TheVariants.{TestUnitReady, RequestSense, Inquiry, ModeSelect, ModeSense, ReserveIn, ReserveOut, ReportLuns}
 use Rattle.scsi_cdb.specs.declared.command.DiskCommand.{DiskCommand}
 use Rattle.scsi_cdb.specs.declared.command.DiskCommand.TheVariants.{Read, ReadCapacity10, ReadCapacity16, Write, Verify, VerifyData}
 use Rattle.scsi_cdb.specs.declared.command.DiskCommand.TheVariants.{SynchronizeCache, WriteSame, CompareAndWrite}
@@ -20,6 +21,8 @@ use Rattle.scsi_cdb.specs.declared.mode.ParameterHeader.{ParameterHeader}
 use Rattle.scsi_cdb.specs.declared.mode.ParameterHeader.TheVariants.{Six, Ten}
 use Rattle.scsi_cdb.specs.declared.mode.PageControl.{PageControl}
 use Rattle.scsi_cdb.specs.declared.mode.PageControl.TheVariants.{Current, Changeable, Default}
+use Rattle.scsi_cdb.specs.declared.persistent_reserve.ReserveInFields.{ReserveInFields}
+use Rattle.scsi_cdb.specs.declared.persistent_reserve.ReserveOutFields.{ReserveOutFields}
 use Rattle.scsi_cdb.specs.declared.report_luns.ReportLunsFields.{ReportLunsFields}
 use Rattle.scsi_cdb.specs.declared.report_luns.SelectReport.{SelectReport}
 use Rattle.scsi_cdb.specs.declared.report_luns.SelectReport.TheVariants.{LogicalUnits, WellKnown, All}
@@ -88,6 +91,14 @@ abbrev pub to_report : Result ReportLunsFields FieldFault → Result UnitCommand
 to_report (Ok fields) = Ok (ReportLuns fields)
 to_report (Err fault) = Err fault
 
+abbrev pub to_reserve_in : Result ReserveInFields FieldFault → Result UnitCommand FieldFault
+to_reserve_in (Ok fields) = Ok (ReserveIn fields)
+to_reserve_in (Err fault) = Err fault
+
+abbrev pub to_reserve_out : Result ReserveOutFields FieldFault → Result UnitCommand FieldFault
+to_reserve_out (Ok fields) = Ok (ReserveOut fields)
+to_reserve_out (Err fault) = Err fault
+
 -- SBC-3 "READ (10) command", "READ (16) command", and others alike: LOGICAL BLOCK ADDRESS and the number of blocks
 abbrev pub range_10 : List ℕ → Range
 range_10 cdb = record { first = big_from 2 4 cdb; count = big_from 7 2 cdb }
@@ -147,6 +158,8 @@ unit_fields unit.ModeSelect6 cdb = mode_select_of (slice_index cdb 1) Six (slice
 unit_fields unit.ModeSelect10 cdb = mode_select_of (slice_index cdb 1) Ten (big_from 7 2 cdb)
 unit_fields unit.ModeSense6 cdb = mode_sense_of cdb Six (slice_index cdb 4)
 unit_fields unit.ModeSense10 cdb = mode_sense_of cdb Ten (big_from 7 2 cdb)
+unit_fields unit.PersistentReserveIn cdb = to_reserve_in (reserve_in_of cdb)
+unit_fields unit.PersistentReserveOut cdb = to_reserve_out (reserve_out_of cdb)
 unit_fields unit.ReportLuns cdb = to_report (report_luns_of cdb)
 
 -- SBC-3 "Commands for direct access block devices": the fields of each operation

@@ -11,8 +11,8 @@ class_in entry = (entry.code, entry.row.reservation)
 
 all_classes : map class_in operation_table ≡
     (0x00, Always) ∷ (0x03, Always) ∷ (0x12, Always) ∷ (0x15, Writing) ∷ (0x1a, Reading) ∷ (0x25, Always) ∷ (0x28, Reading)
-    ∷ (0x2a, Writing) ∷ (0x2f, Reading) ∷ (0x35, Writing) ∷ (0x41, Writing) ∷ (0x55, Writing) ∷ (0x5a, Reading) ∷ (0x88, Reading)
-    ∷ (0x89, Writing) ∷ (0x8a, Writing) ∷ (0x8f, Reading) ∷ (0x91, Writing) ∷ (0x93, Writing) ∷ (0x9e, Always) ∷ (0xa0, Always) ∷ []
+    ∷ (0x2a, Writing) ∷ (0x2f, Reading) ∷ (0x35, Writing) ∷ (0x41, Writing) ∷ (0x55, Writing) ∷ (0x5a, Reading) ∷ (0x5e, Always)
+    ∷ (0x5f, Always) ∷ (0x88, Reading) ∷ (0x89, Writing) ∷ (0x8a, Writing) ∷ (0x8f, Reading) ∷ (0x91, Writing) ∷ (0x93, Writing) ∷ (0x9e, Always) ∷ (0xa0, Always) ∷ []
 all_classes = refl
 
 -- READ (10) is of disks alone

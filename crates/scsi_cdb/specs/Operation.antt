@@ -7,6 +7,7 @@ use Rattle.scsi_cdb.specs.declared.operation.Kind.TheVariants as kind
 use Rattle.scsi_cdb.specs.declared.operation.Operation.{Operation}
 use Rattle.scsi_cdb.specs.declared.operation.Operation.TheVariants.{Unit, Disk}
 use Rattle.scsi_cdb.specs.declared.operation.UnitOperation.TheVariants.{TestUnitReady, RequestSense, Inquiry, ModeSelect6, ModeSelect10, ModeSense6, ModeSense10, ReportLuns}
+use Rattle.scsi_cdb.specs.declared.operation.UnitOperation.TheVariants.{PersistentReserveIn, PersistentReserveOut}
 use Rattle.scsi_cdb.specs.declared.operation.DiskOperation.TheVariants.{Read10, Read16, ReadCapacity10, ServiceActionIn16, Write10, Write16}
 use Rattle.scsi_cdb.specs.declared.operation.DiskOperation.TheVariants.{Verify10, Verify16, SynchronizeCache10, SynchronizeCache16, WriteSame10}
 use Rattle.scsi_cdb.specs.declared.operation.DiskOperation.TheVariants.{WriteSame16, CompareAndWrite}
@@ -49,6 +50,8 @@ operation_table =
     ∷ entry 0x41 (row (Disk WriteSame10) false false true Writing)
     ∷ entry 0x55 (row (Unit ModeSelect10) false false false Writing)
     ∷ entry 0x5a (row (Unit ModeSense10) false false false Reading)
+    ∷ entry 0x5e (row (Unit PersistentReserveIn) false false false Always)
+    ∷ entry 0x5f (row (Unit PersistentReserveOut) false false false Always)
     ∷ entry 0x88 (row (Disk Read16) false false true Reading)
     ∷ entry 0x89 (row (Disk CompareAndWrite) false false true Writing)
     ∷ entry 0x8a (row (Disk Write16) false false true Writing)
@@ -82,6 +85,8 @@ is_of_target (Unit ModeSelect6) = false
 is_of_target (Unit ModeSelect10) = false
 is_of_target (Unit ModeSense6) = false
 is_of_target (Unit ModeSense10) = false
+is_of_target (Unit PersistentReserveIn) = false
+is_of_target (Unit PersistentReserveOut) = false
 is_of_target (Unit ReportLuns) = true
 is_of_target (Disk operation) = false
 

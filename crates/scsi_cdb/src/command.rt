@@ -2,6 +2,7 @@
 
 use crate::block_range::{AnyRange, BlockRange, ComparedRange, SameRange};
 use crate::mode::{ModeSelectFields, ModeSenseFields};
+use crate::persistent_reserve::{ReserveInFields, ReserveOutFields};
 use crate::report_luns::ReportLunsFields;
 
 /// A command with its fields.
@@ -32,6 +33,10 @@ pub enum UnitCommand {
     ModeSelect(ModeSelectFields),
     /// Asks for mode parameters.
     ModeSense(ModeSenseFields),
+    /// Asks who is registered with the unit, or what is reserved.
+    ReserveIn(ReserveInFields),
+    /// Registers the nexus, or reserves the unit.
+    ReserveOut(ReserveOutFields),
     /// Asks for the logical units of the target (SPC-4 "REPORT LUNS command").
     ReportLuns(ReportLunsFields),
 }

@@ -10,6 +10,7 @@ use crate::command::{Command, DiskCommand, UnitCommand};
 use crate::fault::FieldFault;
 use crate::mode::{ModeSelectFields, ModeSenseFields, PageControl, ParameterHeader};
 use crate::operation::{DiskOperation, Operation, UnitOperation};
+use crate::persistent_reserve::{ReserveInFields, ReserveOutFields};
 use crate::report_luns::ReportLunsFields;
 use byteorder::{BigEndian, ByteOrder};
 
@@ -84,6 +85,12 @@ impl UnitOperation {
             UnitOperation::ModeSense10 => {
                 let allocation_length = u32::from(BigEndian::read_u16(&bytes[7..]));
                 mode_sense(bytes, ParameterHeader::Ten, allocation_length)
+            }
+            UnitOperation::PersistentReserveIn => {
+                Ok(UnitCommand::ReserveIn(ReserveInFields::read(bytes)?))
+            }
+            UnitOperation::PersistentReserveOut => {
+                Ok(UnitCommand::ReserveOut(ReserveOutFields::read(bytes)?))
             }
             UnitOperation::ReportLuns => {
                 Ok(UnitCommand::ReportLuns(ReportLunsFields::read(bytes)?))

@@ -24,6 +24,8 @@
 //! 41h   yes                                              ready  WRITE SAME (10)
 //! 55h   yes   yes                                               MODE SELECT (10)
 //! 5Ah   yes   yes                                               MODE SENSE (10)
+//! 5Eh   yes   yes                                               PERSISTENT RESERVE IN
+//! 5Fh   yes   yes                                               PERSISTENT RESERVE OUT
 //! 88h   yes                                              ready  READ (16)
 //! 89h   yes                                              ready  COMPARE AND WRITE
 //! 8Ah   yes                                              ready  WRITE (16)

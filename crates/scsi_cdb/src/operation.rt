@@ -31,6 +31,8 @@ pub enum UnitOperation {
     ModeSelect10,
     ModeSense6,
     ModeSense10,
+    PersistentReserveIn,
+    PersistentReserveOut,
     ReportLuns,
 }
 
@@ -90,8 +92,8 @@ impl Row {
         use Operation::{Disk, Unit};
         use ReservationClass::{Always, Reading, Writing};
         use UnitOperation::{
-            Inquiry, ModeSelect6, ModeSelect10, ModeSense6, ModeSense10, ReportLuns, RequestSense,
-            TestUnitReady,
+            Inquiry, ModeSelect6, ModeSelect10, ModeSense6, ModeSense10, PersistentReserveIn,
+            PersistentReserveOut, ReportLuns, RequestSense, TestUnitReady,
         };
         // What it passes: an attention, a missing unit. What it needs: the medium ready.
         match code {
@@ -108,6 +110,8 @@ impl Row {
             0x41 => make_row(Disk(WriteSame10), false, false, true, Writing),
             0x55 => make_row(Unit(ModeSelect10), false, false, false, Writing),
             0x5A => make_row(Unit(ModeSense10), false, false, false, Reading),
+            0x5E => make_row(Unit(PersistentReserveIn), false, false, false, Always),
+            0x5F => make_row(Unit(PersistentReserveOut), false, false, false, Always),
             0x88 => make_row(Disk(Read16), false, false, true, Reading),
             0x89 => make_row(Disk(CompareAndWrite), false, false, true, Writing),
             0x8A => make_row(Disk(Write16), false, false, true, Writing),

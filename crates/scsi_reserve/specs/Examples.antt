@@ -1,5 +1,5 @@
 -- Persistent reservations, computed.
-use Rattle.std.specs.Prelude.{◌≡◌, ℕ, List, [], ◌∷◌, ◌++◌, map, replicate, codes, Bool, true, false, Some, None, refl}
+use Rattle.std.specs.Prelude.{◌≡◌, ℕ, List, [], ◌∷◌, ◌++◌, map, replicate, codes, Bool, true, false, Some, None, is_some, refl}
 use Rattle.std.specs.Int.{w64, to_be_bytes}
 use Rattle.scsi_sense.specs.Nexus.{NexusName}
 use Rattle.scsi_sense.specs.declared.condition.Attention.TheVariants.{ReservationsPreempted, ReservationsReleased, RegistrationsPreempted}
@@ -7,6 +7,7 @@ use Rattle.scsi_sense.specs.declared.condition.Condition.TheVariants.{InvalidFie
 use Rattle.scsi_sense.specs.declared.condition.Condition.TheVariants.{InvalidReleaseOfPersistentReservation, InsufficientRegistrationResources}
 use Rattle.scsi_sense.specs.declared.condition.Condition.TheVariants.{ParameterListLengthError}
 use Rattle.scsi_cdb.specs.declared.operation.ReservationClass.TheVariants.{Reading, Writing}
+use Rattle.scsi_cdb.specs.PersistentReserve.{is_type}
 use Rattle.scsi_reserve.specs.ReservationType.{all_types, type_of}
 use Rattle.scsi_reserve.specs.Conflict.{conflict}
 use Rattle.scsi_reserve.specs.Ending.{Ending, ended_with}
@@ -41,6 +42,13 @@ all_conflicts = refl
 -- another scope, and types that are none
 types : (type_of 0 0x5 ≡ Some WriteExclusiveRegistrantsOnly) × (type_of 1 0x5 ≡ None) × (type_of 0 0x0 ≡ None) × (type_of 0 0x2 ≡ None) × (type_of 0 0x9 ≡ None)
 types = (refl, refl, refl, refl, refl)
+
+-- RESERVE and RELEASE are taken with the codes of these types, of scope 0 alone
+abbrev all_codes : List ℕ
+all_codes = 0 ∷ 1 ∷ 2 ∷ 3 ∷ 4 ∷ 5 ∷ 6 ∷ 7 ∷ 8 ∷ 9 ∷ 10 ∷ 11 ∷ 12 ∷ 13 ∷ 14 ∷ 15 ∷ []
+
+taken : (map (is_type 0) all_codes ≡ map (λ code. is_some (type_of 0 code)) all_codes) × (map (is_type 1) all_codes ≡ replicate 16 false)
+taken = (refl, refl)
 
 -- ---- who takes part
 

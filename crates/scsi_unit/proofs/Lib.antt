@@ -4,4 +4,5 @@ pub mod Room
 pub mod DiskDone
 pub mod DiskWrites
 pub mod Found
+pub mod ReserveData
 pub mod Sound

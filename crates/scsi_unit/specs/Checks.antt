@@ -14,7 +14,7 @@ use Rattle.scsi_cdb.specs.Command.{command_of}
 use Rattle.scsi_cdb.specs.declared.operation.Row.{Row}
 use Rattle.scsi_cdb.specs.declared.command.Command.{Command}
 use Rattle.scsi_cdb.specs.declared.command.Command.TheVariants as to
-use Rattle.scsi_cdb.specs.declared.command.UnitCommand.TheVariants.{TestUnitReady, RequestSense, Inquiry, ModeSelect, ModeSense, ReportLuns}
+use Rattle.scsi_cdb.specs.declared.command.UnitCommand.TheVariants.{TestUnitReady, RequestSense, Inquiry, ModeSelect, ModeSense, ReserveIn, ReserveOut, ReportLuns}
 use Rattle.scsi_reserve.specs.Table.{TableState, is_allowed}
 use Rattle.scsi_mode.specs.ParameterList.{fault_sense}
 use Rattle.scsi_mode.specs.declared.list_fault.ListFault.TheVariants.{EndsEarly}
@@ -89,11 +89,13 @@ needed (to.Unit (RequestSense allocation_length)) = 0
 needed (to.Unit (Inquiry page allocation_length)) = 0
 needed (to.Unit (ModeSelect fields)) = fields.list_length
 needed (to.Unit (ModeSense fields)) = 0
+needed (to.Unit (ReserveIn fields)) = 0
+needed (to.Unit (ReserveOut fields)) = fields.list_length
 needed (to.Unit (ReportLuns fields)) = 0
 needed (to.Disk command) = bytes_needed command
 
--- what a command is told whose data is too short: PARAMETER LIST LENGTH ERROR (SPC-4 "MODE SELECT (6) command"), and of
--- blocks that it names too many for its data (profile)
+-- what a command is told whose data is too short: PARAMETER LIST LENGTH ERROR (SPC-4 "MODE SELECT (6) command",
+-- "PERSISTENT RESERVE OUT command"), and of blocks that it names too many for its data (profile)
 abbrev pub data_sense : Command → Sense
 data_sense (to.Unit command) = fault_sense EndsEarly
 data_sense (to.Disk command) = invalid_field

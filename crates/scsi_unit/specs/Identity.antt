@@ -12,7 +12,7 @@ use Rattle.scsi_cdb.specs.declared.operation.Kind.{Kind}
 use Rattle.scsi_cdb.specs.declared.operation.Row.{Row}
 use Rattle.scsi_cdb.specs.declared.command.Command.{Command}
 use Rattle.scsi_cdb.specs.declared.command.Command.TheVariants as to
-use Rattle.scsi_cdb.specs.declared.command.UnitCommand.TheVariants.{TestUnitReady, RequestSense, Inquiry, ModeSelect, ModeSense, ReportLuns}
+use Rattle.scsi_cdb.specs.declared.command.UnitCommand.TheVariants.{TestUnitReady, RequestSense, Inquiry, ModeSelect, ModeSense, ReserveIn, ReserveOut, ReportLuns}
 use Rattle.scsi_cdb.specs.declared.fault.FieldFault.{FieldFault}
 use Rattle.scsi_cdb.specs.declared.report_luns.ReportLunsFields.{ReportLunsFields}
 use Rattle.scsi_inquiry.specs.Standard.{standard_data}
@@ -57,6 +57,8 @@ outcome_without_unit (Ok (to.Unit (RequestSense allocation_length))) = sense_out
 outcome_without_unit (Ok (to.Unit TestUnitReady)) = check_condition unsupported
 outcome_without_unit (Ok (to.Unit (ModeSelect fields))) = check_condition unsupported
 outcome_without_unit (Ok (to.Unit (ModeSense fields))) = check_condition unsupported
+outcome_without_unit (Ok (to.Unit (ReserveIn fields))) = check_condition unsupported
+outcome_without_unit (Ok (to.Unit (ReserveOut fields))) = check_condition unsupported
 outcome_without_unit (Ok (to.Unit (ReportLuns fields))) = check_condition unsupported
 outcome_without_unit (Ok (to.Disk command)) = check_condition unsupported
 

@@ -4,6 +4,7 @@ use Rattle.scsi_sense.specs.Nexus.{NexusName, same_nexus}
 use Rattle.scsi_sense.specs.Attentions.{raised}
 use Rattle.scsi_sense.specs.declared.condition.Attention.{Attention}
 use Rattle.scsi_sense.specs.declared.condition.Attention.TheVariants.{PowerOnOrReset}
+use Rattle.scsi_reserve.specs.declared.outcome.Due.{Due}
 use Rattle.scsi_unit.specs.declared.joined.Joined.{Joined}
 
 -- where a nexus stands among those that are joined
@@ -58,3 +59,8 @@ raised_for nexus attention joined = map (raised_where nexus true attention) join
 -- SAM-5 "Unit attention condition": all but the nexus whose command caused it are to be told
 unfoldable pub raised_for_others : NexusName → Attention → List Joined → List Joined
 raised_for_others nexus attention joined = map (raised_where nexus false attention) joined
+
+-- SAM-5 "Unit attention condition": each of these nexuses is to be told its own; one that is not joined is not told
+abbrev pub raised_due : List Due → List Joined → List Joined
+raised_due [] joined = joined
+raised_due (due ∷ others) joined = raised_due others (raised_for due.nexus due.attention joined)

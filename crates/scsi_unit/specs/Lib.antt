@@ -10,6 +10,8 @@ pub use Rattle.scsi_cdb.specs.Operation
 pub use Rattle.scsi_sense.specs.Attentions
 pub use Rattle.scsi_cdb.specs.Command
 pub use Rattle.scsi_reserve.specs.Table
+pub use Rattle.scsi_reserve.specs.Out
+pub use Rattle.scsi_reserve.specs.ReadIn
 pub use Rattle.scsi_inquiry.specs.Standard
 pub use Rattle.scsi_inquiry.specs.VpdPages
 pub use Rattle.scsi_inquiry.specs.Luns
@@ -26,6 +28,7 @@ pub mod Identity
 pub mod Joined
 pub mod State
 pub mod Medium
+pub mod PersistentReserve
 pub mod Checks
 pub mod Unit
 pub mod Units

@@ -1,5 +1,5 @@
 -- A logical unit, and what a command does to it.
-use Rattle.std.specs.Prelude.{◌≡◌, ℕ, List, [], ◌∷◌, take, Bool, false, ◌==◌, Option, Some, None, Result, Ok, Err, if◌then◌else◌}
+use Rattle.std.specs.Prelude.{◌≡◌, ℕ, List, [], ◌∷◌, take, Bool, true, false, ◌==◌, Option, Some, None, Result, Ok, Err, if◌then◌else◌}
 use Rattle.scsi_sense.specs.Sense.{plain_sense}
 use Rattle.scsi_sense.specs.Done.{Outcome, good, good_with, good_taking, check_condition, reservation_conflict}
 use Rattle.scsi_sense.specs.Nexus.{NexusName}
@@ -10,7 +10,7 @@ use Rattle.scsi_cdb.specs.Fault.{invalid_operation_code, invalid_field}
 use Rattle.scsi_cdb.specs.declared.command.Command.{Command}
 use Rattle.scsi_cdb.specs.declared.command.Command.TheVariants as to
 use Rattle.scsi_cdb.specs.declared.command.UnitCommand.{UnitCommand}
-use Rattle.scsi_cdb.specs.declared.command.UnitCommand.TheVariants.{TestUnitReady, RequestSense, Inquiry, ModeSelect, ModeSense, ReportLuns}
+use Rattle.scsi_cdb.specs.declared.command.UnitCommand.TheVariants.{TestUnitReady, RequestSense, Inquiry, ModeSelect, ModeSense, ReserveIn, ReserveOut, ReportLuns}
 use Rattle.scsi_cdb.specs.declared.command.DiskCommand.{DiskCommand}
 use Rattle.scsi_reserve.specs.Table.{empty_table}
 use Rattle.scsi_mode.specs.ModePages.{write_protect}
@@ -23,6 +23,7 @@ use Rattle.scsi_unit.specs.CameOut.{CameOut, AsDefined, shown_by, store_after, d
 use Rattle.scsi_unit.specs.DiskCommands.{shown, disk_defined, disk_told, touch_of}
 use Rattle.scsi_unit.specs.Joined.{with_nexus, without_nexus, told, raised_for, raised_for_others}
 use Rattle.scsi_unit.specs.Identity.{inquiry_outcome, luns_outcome, sense_outcome, pending_sense, without_unit}
+use Rattle.scsi_unit.specs.PersistentReserve.{reserve_in_outcome, reserved_out}
 use Rattle.scsi_unit.specs.Lun.{lun_number}
 use Rattle.scsi_unit.specs.State.{UnitState}
 use Rattle.scsi_unit.specs.Checks.{judged}
@@ -79,6 +80,8 @@ unit_done nexus bytes unit (RequestSense allocation_length) =
     let p = told nexus unit.joined in (record unit { joined = p.0 }, sense_outcome (pending_sense p.1) allocation_length)
 unit_done nexus bytes unit (Inquiry page allocation_length) =
     (unit, inquiry_outcome (kind_of unit.device) unit.serial page allocation_length)
+unit_done nexus bytes unit (ReserveIn fields) = (unit, reserve_in_outcome fields unit.reservations)
+unit_done nexus bytes unit (ReserveOut fields) = reserved_out nexus bytes unit fields
 unit_done nexus bytes unit (ReportLuns fields) = (unit, luns_outcome (unit.lun ∷ []) fields)
 unit_done nexus bytes unit (ModeSense fields) =
     (unit, mode_sense_outcome fields.allocation_length (mode_data fields (parameters_of unit.device)))
@@ -136,6 +139,29 @@ touch_where device (Ok command) = touch_by device command
 unfoldable pub touch_at : NexusName → List ℕ → List ℕ → UnitState → Touch
 touch_at nexus cdb bytes unit = touch_where unit.device (judged nexus cdb bytes unit)
 
+-- own: PERSISTENT RESERVE OUT alone takes memory and gives no data: for who is registered
+abbrev pub keeps_more : UnitCommand → Bool
+keeps_more TestUnitReady = false
+keeps_more (RequestSense allocation_length) = false
+keeps_more (Inquiry page allocation_length) = false
+keeps_more (ModeSelect fields) = false
+keeps_more (ModeSense fields) = false
+keeps_more (ReserveIn fields) = false
+keeps_more (ReserveOut fields) = true
+keeps_more (ReportLuns fields) = false
+
+abbrev pub keeps_more_by : Command → Bool
+keeps_more_by (to.Unit command) = keeps_more command
+keeps_more_by (to.Disk command) = false
+
+abbrev pub keeps_more_where : Result Command Refusal → Bool
+keeps_more_where (Err refusal) = false
+keeps_more_where (Ok command) = keeps_more_by command
+
+-- own: whether a command that no check refuses is so
+unfoldable pub keeps_more_at : NexusName → List ℕ → List ℕ → UnitState → Bool
+keeps_more_at nexus cdb bytes unit = keeps_more_where (judged nexus cdb bytes unit)
+
 -- own: a command came out in one of the ways in which it can, and the unit and what is told are so
 pub record IsPerformed (touch : Touch) (should : CameOut → UnitState × Outcome) (old new : UnitState) (done : Outcome) : Type 0 where
   pub came : CameOut
@@ -161,3 +187,7 @@ perform_as came nexus lun cdb bytes unit =
 -- and what it does to the medium
 unfoldable pub touch_with : NexusName → List ℕ → List ℕ → List ℕ → UnitState → Touch
 touch_with nexus lun cdb bytes unit = if names_unit lun unit then touch_at nexus cdb bytes unit else no_touch
+
+-- and whether it is PERSISTENT RESERVE OUT that no check refuses
+unfoldable pub keeps_more_with : NexusName → List ℕ → List ℕ → List ℕ → UnitState → Bool
+keeps_more_with nexus lun cdb bytes unit = if names_unit lun unit then keeps_more_at nexus cdb bytes unit else false

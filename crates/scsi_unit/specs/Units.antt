@@ -8,7 +8,7 @@ use Rattle.scsi_unit.specs.CameOut.{touches}
 use Rattle.scsi_unit.specs.State.{UnitState}
 use Rattle.scsi_unit.specs.Identity.{without_unit, is_for_target, reported_luns}
 use Rattle.scsi_unit.specs.Lun.{lun_number}
-use Rattle.scsi_unit.specs.Unit.{joined_unit, left_unit, performed_as, perform_at, touch_at, IsPerformed}
+use Rattle.scsi_unit.specs.Unit.{joined_unit, left_unit, performed_as, perform_at, touch_at, keeps_more_at, IsPerformed}
 
 abbrev pub UnitStates : Type 0
 UnitStates = List UnitState
@@ -107,3 +107,12 @@ touches_there nexus cdb bytes (Some unit) = touches (touch_at nexus cdb bytes un
 -- own: .. of the unit that a LUN names, where it names one
 abbrev pub touches_at : NexusName → List ℕ → List ℕ → UnitStates → Option ℕ → Bool
 touches_at nexus cdb bytes units place = touches_there nexus cdb bytes (option_and_then (slice_get units) place)
+
+-- own: whether a command is PERSISTENT RESERVE OUT that no check of the unit that stands at a place refuses
+abbrev pub keeps_more_there : NexusName → List ℕ → List ℕ → Option UnitState → Bool
+keeps_more_there nexus cdb bytes None = false
+keeps_more_there nexus cdb bytes (Some unit) = keeps_more_at nexus cdb bytes unit
+
+-- own: .. of the unit that a LUN names, where it names one
+abbrev pub keeps_more_in : NexusName → List ℕ → List ℕ → UnitStates → Option ℕ → Bool
+keeps_more_in nexus cdb bytes units place = keeps_more_there nexus cdb bytes (option_and_then (slice_get units) place)

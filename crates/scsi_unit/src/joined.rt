@@ -1,8 +1,9 @@
 //! Who is joined to a unit.
 
 ghost use Rattle.std.specs.Prelude.{◌≡◌, ◌<◌, length, map, IfSome, vec_len, vec_capacity};
-ghost use Rattle.scsi_unit.specs.Joined.{place_of, newly_joined, with_nexus, without_nexus, told, raised_where, raised_for, raised_for_others};
+ghost use Rattle.scsi_unit.specs.Joined.{place_of, newly_joined, with_nexus, without_nexus, told, raised_where, raised_for, raised_for_others, raised_due};
 
+use scsi_reserve::Due;
 use scsi_sense::{Attention, Attentions, Nexus};
 
 /// A nexus that is joined to a unit, and the unit attentions that it has still to be told, in order
@@ -108,4 +109,15 @@ pub(crate) fn raise_for_others(joined: &mut [Joined], nexus: &Nexus, attention: 
     ensures { joined.new ≡ raised_for_others nexus.now attention joined.old }
 {
     raise_each(joined, nexus, false, attention);
+}
+
+/// Each of these has its attention to be told, where it is joined. It takes no memory.
+pub(crate) fn raise_due(joined: &mut [Joined], due: &[Due])
+    ensures { joined.new ≡ raised_due due.now joined.old }
+{
+    let Some((first, others)) = due.split_first() else {
+        return;
+    };
+    raise(joined, &first.nexus, first.attention);
+    raise_due(joined, others);
 }

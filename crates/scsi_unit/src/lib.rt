@@ -23,7 +23,7 @@
 //! store is synced.
 //!
 //! Where an allocation fails nothing changes. No allocation can fail for a command that gives no data, where
-//! the units are sound or it does not touch its medium: what is refused, what writes or compares, what has an
+//! the units are sound or it does not touch its medium, but for PERSISTENT RESERVE OUT: what is refused, what writes or compares, what has an
 //! allocation length of 0, and a READ of no block. The data of a write goes to the store from where it lies.
 #![tactic(auto)]
 
@@ -38,6 +38,7 @@ mod joined;
 mod lun;
 mod modes;
 mod performing;
+mod persistent_reserve;
 mod refusal;
 mod serial;
 mod unit;

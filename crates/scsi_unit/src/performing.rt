@@ -7,6 +7,7 @@ ghost use Rattle.scsi_unit.specs.CameOut.{touches, AsDefined};
 ghost use Rattle.scsi_unit.specs.Checks.{judged, has_range, range_of, needed, data_sense, writes};
 ghost use Rattle.scsi_unit.specs.DiskCommands.{bytes_needed, most_given};
 ghost use Rattle.scsi_unit.specs.Unit.{mode_selected, unit_done, carried_out, refused_with, performed_as, perform_at, touch_by, touch_at, IsPerformed};
+ghost use Rattle.scsi_unit.specs.Unit.{keeps_more, keeps_more_by, keeps_more_at};
 ghost use Rattle.scsi_unit.specs.Joined.{told};
 ghost use Rattle.scsi_unit.specs.Identity.{sense_outcome, pending_sense};
 
@@ -15,6 +16,7 @@ use crate::fault::Memory;
 use crate::identity::{inquiry, report_luns, sense_data};
 use crate::joined::{pending, raise_for_others, tell};
 use crate::modes::mode_sense;
+use crate::persistent_reserve::reserve_in;
 use crate::refusal::Refusal;
 use crate::unit::Unit;
 use bytes::BytesMut;
@@ -48,6 +50,7 @@ fn needed(command: &Command) -> usize
 {
     match command {
         Command::Unit(UnitCommand::ModeSelect(fields)) => fields.list_length as usize,
+        Command::Unit(UnitCommand::ReserveOut(fields)) => fields.list_length as usize,
         Command::Unit(_) => 0,
         Command::Disk(command) => bytes_needed(command),
     }
@@ -132,7 +135,7 @@ impl<S: Store> Unit<S> {
         ensures done { IfOk result (λ done. (self.new, done) ≡ unit_done nexus.now «data».now self.old command) }
         ensures store { store_of self.new.device ≡ store_of self.old.device }
         ensures given { IfOk result (λ done. length done.given ≤ most_given) }
-        ensures nothing { (unit_done nexus.now «data».now self.old command).1.given ≡ [] → IsOk result }
+        ensures nothing { keeps_more command ≡ false → (unit_done nexus.now «data».now self.old command).1.given ≡ [] → IsOk result }
         ensures err { OnErr result (self.new ≡ self.old) }
     {
         match command {
@@ -164,6 +167,8 @@ impl<S: Store> Unit<S> {
                 fields,
             ),
             UnitCommand::ModeSelect(fields) => Ok(self.mode_select(nexus, fields, data)),
+            UnitCommand::ReserveIn(fields) => reserve_in(self.alloc, &self.reservations, fields),
+            UnitCommand::ReserveOut(fields) => self.reserve_out(nexus, fields, data),
         }
     }
 
@@ -181,7 +186,7 @@ impl<S: Store> Unit<S> {
             (λ came. carried_out came nexus.now «data».now self.old command) self.old self.new) }
         ensures given { IfOk result (λ done. length done.given ≤ most_given) }
         ensures nothing { (IsTrue (touches (touch_by self.old.device command)) → IsTrue (store_of self.old.device).honest)
-            → (carried_out AsDefined nexus.now «data».now self.old command).1.given ≡ [] → IsOk result }
+            → keeps_more_by command ≡ false → (carried_out AsDefined nexus.now «data».now self.old command).1.given ≡ [] → IsOk result }
         ensures err { OnErr result (self.new ≡ self.old) }
     {
         match command {
@@ -250,7 +255,7 @@ impl<S: Store> Unit<S> {
 
     /// A command to the unit with this data; what it gives is in a buffer of these, where there is one.
     /// Where an allocation fails nothing changes.
-    #[tactic(auto, unfolding(crate::specs::Unit::performed_as, crate::specs::Unit::touch_at))]
+    #[tactic(auto, unfolding(crate::specs::Unit::performed_as, crate::specs::Unit::touch_at, crate::specs::Unit::keeps_more_at))]
     pub(crate) fn perform_with(
         &mut self,
         used: &mut Vec<BytesMut>,
@@ -262,7 +267,7 @@ impl<S: Store> Unit<S> {
             (λ came. performed_as came nexus.now cdb «data».now self.old) self.old self.new) }
         ensures given { IfOk result (λ done. length done.given ≤ most_given) }
         ensures nothing { (IsTrue (touches (touch_at nexus.now cdb «data».now self.old)) → IsTrue (store_of self.old.device).honest)
-            → (perform_at nexus.now cdb «data».now self.old).1.given ≡ [] → IsOk result }
+            → keeps_more_at nexus.now cdb «data».now self.old ≡ false → (perform_at nexus.now cdb «data».now self.old).1.given ≡ [] → IsOk result }
         ensures err { OnErr result (self.new ≡ self.old) }
     {
         match self.judge(nexus, cdb, data) {

@@ -1,10 +1,10 @@
 //! One logical unit.
 
-ghost use Rattle.std.specs.Prelude.{◌≡◌, ◌≤◌, [], length, IsTrue, IsOk, IfOk, OnOk, OnErr};
+ghost use Rattle.std.specs.Prelude.{◌≡◌, ◌≤◌, [], length, false, IsTrue, IsOk, IfOk, OnOk, OnErr};
 ghost use Rattle.scsi_unit.specs.Device.{opened, store_of, Tape as TapeDevice};
 ghost use Rattle.scsi_unit.specs.CameOut.{touches, AsDefined};
 ghost use Rattle.scsi_unit.specs.DiskCommands.{most_given};
-ghost use Rattle.scsi_unit.specs.Unit.{free_unit, joined_unit, left_unit, raised_unit, names_unit, perform_as, touch_with, IsPerformed};
+ghost use Rattle.scsi_unit.specs.Unit.{free_unit, joined_unit, left_unit, raised_unit, names_unit, perform_as, touch_with, keeps_more_with, IsPerformed};
 
 use crate::device::{Device, DiskDevice};
 use crate::fault::Memory;
@@ -114,8 +114,8 @@ impl<S: Store> Unit<S> {
     /// write protection. A store that fails is told: UNRECOVERED READ ERROR, and nothing else changes; WRITE ERROR,
     /// and the unit is not ready until it is opened again. REPORT LUNS reports this unit alone. Where an
     /// allocation fails nothing changes. A command that gives no data takes no memory; of one that touches
-    /// its medium, where the store is honest.
-    #[tactic(auto, unfolding(crate::specs::Unit::perform_as, crate::specs::Unit::touch_with))]
+    /// its medium, where the store is honest. PERSISTENT RESERVE OUT takes memory.
+    #[tactic(auto, unfolding(crate::specs::Unit::perform_as, crate::specs::Unit::touch_with, crate::specs::Unit::keeps_more_with))]
     pub fn perform(
         &mut self,
         nexus: &Nexus,
@@ -127,7 +127,7 @@ impl<S: Store> Unit<S> {
             (λ came. perform_as came nexus.now lun cdb «data».now self.old) self.old self.new) }
         ensures given { IfOk result (λ done. length done.given ≤ most_given) }
         ensures nothing { (IsTrue (touches (touch_with nexus.now lun cdb «data».now self.old)) → IsTrue (store_of self.old.device).honest)
-            → (perform_as AsDefined nexus.now lun cdb «data».now self.old).1.given ≡ [] → IsOk result }
+            → keeps_more_with nexus.now lun cdb «data».now self.old ≡ false → (perform_as AsDefined nexus.now lun cdb «data».now self.old).1.given ≡ [] → IsOk result }
         ensures err { OnErr result (self.new ≡ self.old) }
     {
         let alloc = self.alloc;

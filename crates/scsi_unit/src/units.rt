@@ -1,10 +1,10 @@
 //! The logical units of one target.
 
-ghost use Rattle.std.specs.Prelude.{◌≡◌, ◌<◌, ◌≤◌, [], length, map, IsTrue, IsOk, IfSome, IfOk, OnOk, OnErr};
+ghost use Rattle.std.specs.Prelude.{◌≡◌, ◌<◌, ◌≤◌, [], length, map, false, IsTrue, IsOk, IfSome, IfOk, OnOk, OnErr};
 ghost use Rattle.scsi_unit.specs.DiskCommands.{most_given};
 ghost use Rattle.scsi_unit.specs.Unit.{joined_unit};
 ghost use Rattle.scsi_unit.specs.Lun.{lun_number as number_of_lun};
-ghost use Rattle.scsi_unit.specs.Units.{join, leave, perform as performed, unit_of, AreSound, AreSure, AreAnswered, IsTrusted, touches_at};
+ghost use Rattle.scsi_unit.specs.Units.{join, leave, perform as performed, unit_of, AreSound, AreSure, AreAnswered, IsTrusted, touches_at, keeps_more_in};
 ghost use Rattle.scsi_unit.specs.Identity.{reported_luns, is_row_of_target};
 ghost use Rattle.scsi_cdb.specs.Operation.{row_of};
 
@@ -148,7 +148,7 @@ impl<S: Store> Units<S> {
 
     /// A command with this data to the unit that the LUN names. REPORT LUNS reports all units. It gives
     /// 1,048,576 bytes at most. Where an allocation fails nothing changes. A command that gives no data takes
-    /// no memory; of one that touches its medium, where the units are sound.
+    /// no memory; of one that touches its medium, where the units are sound. PERSISTENT RESERVE OUT takes memory.
     #[tactic(auto, unfolding(crate::specs::Units::perform))]
     pub fn perform(
         &mut self,
@@ -165,6 +165,7 @@ impl<S: Store> Units<S> {
         ensures sure { AreSure self.old → AreSure self.new }
         ensures given { IfOk result (λ done. length done.given ≤ most_given) }
         ensures nothing { (IsTrue (touches_at nexus.now cdb «data».now self.old (unit_of self.old (number_of_lun lun))) → AreSound self.old)
+            → keeps_more_in nexus.now cdb «data».now self.old (unit_of self.old (number_of_lun lun)) ≡ false
             → (performed self.old nexus.now lun cdb «data».now).1.given ≡ [] → IsOk result }
         ensures err { OnErr result (self.new ≡ self.old) }
     {

@@ -36,7 +36,7 @@ pub returns-then-is_for_target-clause-nothing : goal.returns-then-is_for_target-
 returns-then-is_for_target-clause-nothing g c =
     let report : is_for_target c.args.cdb ≡ true = sym c.is_for_target.ensures ∙ c.if-is_for_target.true in
     let nothing = rw (c.as_slice.ensures.value, c.self.view_is) at c.reported_luns.ensures.nothing in
-    λ calm given. luns_given c.reported_luns.result c.args.self.now c.args.nexus.now c.args.lun c.args.cdb c.args.«data».now c.in-Some.at
+    λ calm plain given. luns_given c.reported_luns.result c.args.self.now c.args.nexus.now c.args.lun c.args.cdb c.args.«data».now c.in-Some.at
     (sym c.in-Some.ensures.value) c.in-Some.ensures.bound report nothing given
 
 -- ---- another command
