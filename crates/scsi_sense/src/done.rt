@@ -50,7 +50,8 @@ impl Model for Done {
 }
 
 impl Done {
-    ghost use Rattle.scsi_sense.specs.Done.{good as good_outcome, good_with as good_outcome_with, good_taking as good_outcome_taking, check_condition as check_outcome, reservation_conflict as conflict_outcome};
+    ghost use Rattle.scsi_sense.specs.Done.{good as good_outcome, good_with as good_outcome_with, good_taking as good_outcome_taking, check_condition as check_outcome};
+    ghost use Rattle.scsi_sense.specs.Done.{reservation_conflict as conflict_outcome};
 
     /// GOOD, with nothing moved. It takes no memory.
     pub fn good(alloc: Global) -> Done

@@ -14,7 +14,8 @@ use Rattle.scsi_cdb.specs.Command.{command_of}
 use Rattle.scsi_cdb.specs.declared.operation.Row.{Row}
 use Rattle.scsi_cdb.specs.declared.command.Command.{Command}
 use Rattle.scsi_cdb.specs.declared.command.Command.TheVariants as to
-use Rattle.scsi_cdb.specs.declared.command.UnitCommand.TheVariants.{TestUnitReady, RequestSense, Inquiry, ModeSelect, ModeSense, ReserveIn, ReserveOut, ReportLuns}
+use Rattle.scsi_cdb.specs.declared.command.UnitCommand.TheVariants.{TestUnitReady, RequestSense, Inquiry, ModeSelect, ModeSense, ReportLuns}
+use Rattle.scsi_cdb.specs.declared.command.UnitCommand.TheVariants.{ReserveIn, ReserveOut}
 use Rattle.scsi_reserve.specs.Table.{TableState, is_allowed}
 use Rattle.scsi_mode.specs.ParameterList.{fault_sense}
 use Rattle.scsi_mode.specs.declared.list_fault.ListFault.TheVariants.{EndsEarly}

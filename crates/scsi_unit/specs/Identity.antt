@@ -12,7 +12,8 @@ use Rattle.scsi_cdb.specs.declared.operation.Kind.{Kind}
 use Rattle.scsi_cdb.specs.declared.operation.Row.{Row}
 use Rattle.scsi_cdb.specs.declared.command.Command.{Command}
 use Rattle.scsi_cdb.specs.declared.command.Command.TheVariants as to
-use Rattle.scsi_cdb.specs.declared.command.UnitCommand.TheVariants.{TestUnitReady, RequestSense, Inquiry, ModeSelect, ModeSense, ReserveIn, ReserveOut, ReportLuns}
+use Rattle.scsi_cdb.specs.declared.command.UnitCommand.TheVariants.{TestUnitReady, RequestSense, Inquiry, ModeSelect, ModeSense, ReportLuns}
+use Rattle.scsi_cdb.specs.declared.command.UnitCommand.TheVariants.{ReserveIn, ReserveOut}
 use Rattle.scsi_cdb.specs.declared.fault.FieldFault.{FieldFault}
 use Rattle.scsi_cdb.specs.declared.report_luns.ReportLunsFields.{ReportLunsFields}
 use Rattle.scsi_inquiry.specs.Standard.{standard_data}

@@ -127,7 +127,8 @@ impl<S: Store> Unit<S> {
             (λ came. perform_as came nexus.now lun cdb «data».now self.old) self.old self.new) }
         ensures given { IfOk result (λ done. length done.given ≤ most_given) }
         ensures nothing { (IsTrue (touches (touch_with nexus.now lun cdb «data».now self.old)) → IsTrue (store_of self.old.device).honest)
-            → keeps_more_with nexus.now lun cdb «data».now self.old ≡ false → (perform_as AsDefined nexus.now lun cdb «data».now self.old).1.given ≡ [] → IsOk result }
+            → keeps_more_with nexus.now lun cdb «data».now self.old ≡ false
+            → (perform_as AsDefined nexus.now lun cdb «data».now self.old).1.given ≡ [] → IsOk result }
         ensures err { OnErr result (self.new ≡ self.old) }
     {
         let alloc = self.alloc;
