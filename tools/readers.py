@@ -3,7 +3,7 @@
 import re
 from concurrent.futures import ThreadPoolExecutor
 
-from checks import Skipped, must, qemu_io, run, says
+from checks import must, qemu_io, run, says
 from disks import (BLOCK, DISKS, LARGE_LIMIT, LARGE_SIZE, MEBIBYTE, NAME, SIZE, folder, is_same, read_back)
 from relay import ANSWERED, SENT, relaying
 
@@ -49,10 +49,11 @@ def refuses_a_target_of_another_name(disks):
 
 
 def lists_the_targets(disks):
-    status, said = run("iscsi-ls", f"iscsi://127.0.0.1:{disks.port}")
-    if status and "Login failed. Failed to log in to target. Status: Initiator error(512)" in said:
-        raise Skipped("discovery is refused with status 0200h")
-    must(all(f"Target:{NAME}:{disk} Portal:127.0.0.1:{disks.port},1\n" in said for disk, _ in DISKS), (status, said))
+    portal = f"127.0.0.1:{disks.port}"
+    targets = [f"Target:{NAME}:{disk} Portal:{portal},1" for disk, _ in DISKS]
+    says(targets, "iscsi-ls", f"iscsi://{portal}")
+    says([*targets, "Lun:0    Type:DIRECT_ACCESS (Size:63M)", "Lun:1    Type:SEQUENTIAL_ACCESS"],
+         "iscsi-ls", "-s", f"iscsi://{portal}")
 
 
 def tells_the_capacity(disks):

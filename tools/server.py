@@ -1,5 +1,6 @@
 """A server on a free port of loopback, which is ended when it is no longer needed."""
 
+import socket
 import subprocess
 import tempfile
 import threading
@@ -34,11 +35,18 @@ def listening(*words):
             process.kill()
 
 
+def free_port():
+    """A port of loopback that nobody listens on."""
+    with socket.create_server(("127.0.0.1", 0)) as free:
+        return free.getsockname()[1]
+
+
 @contextmanager
 def targetd(program, units):
-    """targetd with the targets of a configuration."""
+    """targetd with the targets of a configuration. It listens on the address that it tells in a discovery session,
+    so the port is chosen before it starts."""
     with tempfile.TemporaryDirectory(prefix="targetd-") as folder:
         config = Path(folder) / "config.toml"
-        config.write_text(f'listen = "127.0.0.1:0"\n{units}', encoding="ascii")
+        config.write_text(f'listen = "127.0.0.1:{free_port()}"\n{units}', encoding="ascii")
         with listening(program, "serve", "--config", config) as server:
             yield server

@@ -1,6 +1,6 @@
 -- Facts about lists that several proofs share.
 use Rattle.std.proofs.Common.{◌≡◌, Bool, true, false, ◌||◌, cond, not, map, sym, ℕ, zero, suc, ◌+◌, List, [], ◌∷◌, drop, take, ◌++◌, Option, Some, refl, ap, ◌∙◌, add-one}
-use Rattle.std.specs.List.{fold, slice_get, list_any, position, position_or_len, filter_map}
+use Rattle.std.specs.List.{AllZip, fold, slice_get, list_any, position, position_or_len, filter_map}
 use Rattle.std.proofs.lemmas.List.Elements.{filter_map-append}
 use Rattle.std.proofs.lemmas.Option.{get_or_from_slice_get, slice_get_within}
 use Rattle.std.proofs.lemmas.List.{length-map, take_more}
@@ -46,3 +46,10 @@ pub filter_map_more : {X Y : Type 0} (f : X → Option Y) (xs : List X) (i : ℕ
 filter_map_more f xs i x at =
     let within = slice_get_within xs i x at in
     rw (take_more xs i x within, get_or_from_slice_get xs i x x at) (filter_map-append f (take i xs) (x ∷ []))
+
+-- clones that f makes the same of
+pub map_of_clones : {X Y : Type 0} (f : X → Y) (xs ys : List X) → AllZip (λ x y. f y ≡ f x) xs ys → map f ys ≡ map f xs
+map_of_clones f [] [] zip = refl
+map_of_clones f [] (y ∷ ys) zip = absurd zip
+map_of_clones f (x ∷ xs) [] zip = absurd zip
+map_of_clones f (x ∷ xs) (y ∷ ys) zip = rw (zip.0, map_of_clones f xs ys zip.1) refl

@@ -9,6 +9,7 @@ use Rattle.iscsi_login.specs.Keys.{transfer_negotiation, negotiation_of, result_
 use Rattle.iscsi_login.specs.Values.{AreInRange, with_boolean, with_number, with_result, is_segment_key, segment_in, with_pair, with_pairs}
 use Rattle.iscsi_login.specs.declared.keys.KeyResult.{KeyResult}
 use Rattle.iscsi_login.specs.declared.keys.KeyResult.TheVariants as results
+use Rattle.iscsi_login.specs.Directory.{KnownTargets}
 use Rattle.iscsi_login.specs.LoginState.{LoginState}
 use Rattle.iscsi_login.specs.Login.{heard, BeginsWith, BeginsInRange}
 use Rattle.iscsi_login.specs.declared.reply.Reply.{Reply}
@@ -130,7 +131,7 @@ range_heard old middle new pairs reply same then_ begins was =
     let now = subst AreInRange (sym same) (pairs_stay old pairs was) in
     (subst AreInRange (sym then_) now, begins_in_range middle reply begins now)
 
-pub heard_values : (names : List (List ℕ)) (old middle : LoginState) (header : List ℕ) (pairs : List Pair) → middle ≡ heard names old header pairs
+pub heard_values : (directory : KnownTargets) (old middle : LoginState) (header : List ℕ) (pairs : List Pair) → middle ≡ heard directory old header pairs
     → middle.values ≡ with_pairs old.values pairs
 unfolding heard
-heard_values names old middle header pairs e = ap (λ (login : LoginState). login.values) e
+heard_values directory old middle header pairs e = ap (λ (login : LoginState). login.values) e

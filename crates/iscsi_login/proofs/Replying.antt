@@ -14,7 +14,7 @@ unfolding reply_of
 by_refusal login lookup request refusal e = sym (ap (λ (r : Option LoginRefusal). reply_unless r lookup login request) e)
 
 by_brought : (login middle : LoginState) (lookup : Lookup) (request : Frame) → refusal_of login lookup request ≡ None
-    → brought lookup.names login request ≡ middle
+    → brought lookup.directory login request ≡ middle
     → reply_to middle request ≡ reply_of login lookup request
 unfolding reply_of
 by_brought login middle lookup request e is =
@@ -43,7 +43,7 @@ replies_kept login middle lookup request taken due continued is = by_brought log
 -- the text is whole
 pub replies_heard : (login middle : LoginState) (lookup : Lookup) (request : Frame) → request_refusal login request ≡ None → is_due login ≡ false
     → is_continued request.header ≡ false
-    → text_refusal login lookup request ≡ None → middle ≡ heard lookup.names login request.header (pairs_with login request)
+    → text_refusal login lookup request ≡ None → middle ≡ heard lookup.directory login request.header (pairs_with login request)
     → reply_to middle request ≡ reply_of login lookup request
 unfolding refusal_of
 replies_heard login middle lookup request taken due whole read is = by_brought login middle lookup request (rw (taken, due, whole) read)

@@ -1,12 +1,12 @@
 -- Offers of keys, computed: each key of the table with a value inside its range, at its limits and outside, and each wrong form.
-use Rattle.std.specs.Prelude.{◌≡◌, ℕ, List, [], ◌∷◌, Option, Some, None, Bool, true, codes, map, refl}
+use Rattle.std.specs.Prelude.{◌≡◌, ℕ, List, [], ◌∷◌, Option, Some, None, Bool, true, false, codes, map, refl}
 use Rattle.std.specs.Fmt.{digits}
 use Rattle.iscsi_login.specs.Number.{numeral, number_of, number_in}
-use Rattle.iscsi_login.specs.Keys.{session_negotiation, transfer_negotiation, negotiation_of, is_listed, boolean_of, result_by, is_answer, settled, key_result}
+use Rattle.iscsi_login.specs.Keys.{session_negotiation, transfer_negotiation, negotiation_of, is_listed, boolean_of, result_by, is_answer, is_known, settled, key_result}
 
 -- what the examples unfold
 unfoldable pub computed : Bool
-unfolding digits numeral number_of number_in session_negotiation transfer_negotiation negotiation_of is_listed boolean_of result_by is_answer settled key_result
+unfolding digits numeral number_of number_in session_negotiation transfer_negotiation negotiation_of is_listed boolean_of result_by is_answer is_known settled key_result
 computed = true
 
 -- the results of several offers of a key
@@ -139,3 +139,9 @@ passed_over : (answers_to (codes "MaxBurstLength") (codes "NotUnderstood" ∷ co
     × (answers_to (codes "X-a") (codes "Reject" ∷ codes "reject" ∷ []) ≡ None ∷ Some (codes "NotUnderstood") ∷ [])
 unfolding computed
 passed_over = (refl, refl)
+
+-- ---- the keys of RFC 7143
+
+known : map is_known (codes "AuthMethod" ∷ codes "SendTargets" ∷ codes "OFMarkInt" ∷ codes "X-a" ∷ codes "authmethod" ∷ []) ≡ true ∷ true ∷ true ∷ false ∷ false ∷ []
+unfolding computed
+known = refl

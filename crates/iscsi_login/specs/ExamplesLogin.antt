@@ -17,7 +17,7 @@ use Rattle.iscsi_login.specs.Session.{target_named}
 use Rattle.iscsi_login.specs.Lookup.{Lookup}
 use Rattle.iscsi_login.specs.Values.{default_values, with_result, with_pair}
 use Rattle.iscsi_login.specs.LoginState.{LoginState}
-use Rattle.iscsi_login.specs.Rules.{said, is_normal, is_name_key, is_segment_refused, pairs_with, asked_for, first_refusal, text_refusal, is_other_session, interrupts, is_too_long, request_refusal, refusal_of}
+use Rattle.iscsi_login.specs.Rules.{said, session_type, is_normal, is_discovery, is_name_key, is_segment_refused, pairs_with, target_asked, told_of, asked_for, first_refusal, text_refusal, is_other_session, interrupts, is_too_long, request_refusal, refusal_of}
 use Rattle.iscsi_login.specs.Login.{answer_pairs, heard, advanced, remembered, login_stamp, login_response, params_of, reply_to, reply_of}
 use Rattle.iscsi_login.specs.declared.params.Params.{Params}
 use Rattle.iscsi_login.specs.declared.reply.Reply.{Reply}
@@ -26,8 +26,8 @@ use Rattle.iscsi_login.specs.declared.values.Values.{Values}
 
 -- what the examples unfold
 unfoldable pub computed : Bool
-unfolding keys_computed is_utf8 chars lib.Utf8.encode text_pairs pieces own_fault target_named with_result with_pair said is_normal is_name_key
-    is_segment_refused pairs_with asked_for first_refusal text_refusal is_other_session interrupts is_too_long request_refusal refusal_of
+unfolding keys_computed is_utf8 chars lib.Utf8.encode text_pairs pieces own_fault target_named with_result with_pair said session_type is_normal is_discovery is_name_key
+    is_segment_refused pairs_with target_asked told_of asked_for first_refusal text_refusal is_other_session interrupts is_too_long request_refusal refusal_of
     answer_pairs heard advanced remembered login_stamp login_response params_of reply_to reply_of
 computed = true
 
@@ -75,7 +75,7 @@ names = pair (codes "InitiatorName=a") ++ pair (codes "TargetName=t1")
 
 -- one target `t1`, and no live session
 abbrev pub one_target : Lookup
-one_target = record { names = codes "t1" ∷ []; named = None }
+one_target = record { directory = record { names = codes "t1" ∷ []; portal = codes "127.0.0.1:3260" }; named = None }
 
 -- CSG, the step, TSIH, StatSN, ExpCmdSN, MaxCmdSN and the text of an answer; of a refusal why
 pub data Seen : Type 0 where
@@ -97,7 +97,7 @@ seen (Full response params) = Begun (seen_response response) params
 
 -- the reply to the last of a login's requests on connection 0
 abbrev pub last_reply : Lookup → List Frame → Frame → Seen
-last_reply lookup before last = seen (reply_of (remembered lookup.names 1 before) lookup last)
+last_reply lookup before last = seen (reply_of (remembered lookup.directory 1 before) lookup last)
 
 abbrev pub replied : List Frame → Frame → Seen
 replied before last = last_reply one_target before last
@@ -112,7 +112,8 @@ error = refused_by refusals.InitiatorError 0
 abbrev begun : (count : ℕ) → Values → Params
 begun count values = record {
   nexus = record { initiator_name = codes "a"; isid = 0x80 ∷ 0 ∷ 0 ∷ 0 ∷ 0 ∷ 1 ∷ [] };
-  target = 0;
+  target = Some 0;
+  directory = one_target.directory;
   connection_id = 7;
   first_cmd_sn = 9;
   next_stat_sn = count;
@@ -242,9 +243,9 @@ not_found : replied [] (request operational_to_full (pair (codes "InitiatorName=
 unfolding computed
 not_found = refl
 
--- a session that is not Normal; a length of a segment that is none; a text out of form
+-- a session of another type; a length of a segment that is none; a text out of form
 in_error : map (λ text. replied [] (request operational_to_full text))
-    ((names ++ pair (codes "SessionType=Discovery")) ∷ (names ++ pair (codes "SessionType=")) ∷ (names
+    ((names ++ pair (codes "SessionType=discovery")) ∷ (names ++ pair (codes "SessionType=")) ∷ (names
     ++ pair (codes "MaxRecvDataSegmentLength=511")) ∷ (names ++ pair (codes "MaxRecvDataSegmentLength=0512")) ∷ (names ++ codes "a=b") ∷ [])
     ≡ replicate 5 error
 unfolding computed
@@ -296,15 +297,33 @@ same_session : joining (Some (begun 1 default_values)) ≡ Why refusals.TooManyC
 unfolding computed
 same_session = refl
 
-other_session : joining (Some (record (begun 1 default_values) { target = 1 })) ≡ Why refusals.SessionDoesNotExist 3 (0 ∷ 9 ∷ 40 ∷ [])
+other_session : joining (Some (record (begun 1 default_values) { target = Some 1 })) ≡ Why refusals.SessionDoesNotExist 3 (0 ∷ 9 ∷ 40 ∷ [])
 unfolding computed
 other_session = refl
+
+-- a discovery session names no target, is told no portal group, and may be told of all targets
+discovery : replied [] (request operational_to_full (pair (codes "InitiatorName=a") ++ pair (codes "SessionType=Discovery")))
+    ≡ Begun (Text stages.OperationalNegotiation (steps.Enters stages.FullFeaturePhase) 1 (0 ∷ 9 ∷ 40 ∷ []) segment)
+    (record (begun 1 default_values) { target = None })
+unfolding computed
+discovery = refl
+
+-- the name of a target is not looked at there, and no session is the same
+discovery_elsewhere : replied [] (request operational_to_full (pair (codes "InitiatorName=a") ++ pair (codes "SessionType=Discovery")
+    ++ pair (codes "TargetName=t2")))
+    ≡ replied [] (request operational_to_full (pair (codes "InitiatorName=a") ++ pair (codes "SessionType=Discovery")))
+unfolding computed
+discovery_elsewhere = refl
+
+discovery_of_none : replied [] (request operational_to_full (pair (codes "SessionType=Discovery"))) ≡ Why refusals.MissingParameter 0 (0 ∷ 9 ∷ 40 ∷ [])
+unfolding computed
+discovery_of_none = refl
 
 -- ---- an answer in pieces
 
 -- so many bytes of an answer are due
 abbrev owing : ℕ → LoginState
-owing count = record (remembered one_target.names 1 (stays ∷ [])) { due = replicate count 97 }
+owing count = record (remembered one_target.directory 1 (stays ∷ [])) { due = replicate count 97 }
 
 abbrev then_asked : ℕ → Frame → Seen
 then_asked count last = seen (reply_of (owing count) one_target last)
@@ -314,7 +333,7 @@ piece : then_asked 8193 (request operational_to_full []) ≡ Text stages.Operati
 unfolding computed
 piece = refl
 
-piece_left : (advanced one_target.names (owing 8193) (request operational_to_full [])).due ≡ 97 ∷ []
+piece_left : (advanced one_target.directory (owing 8193) (request operational_to_full [])).due ≡ 97 ∷ []
 unfolding computed
 piece_left = refl
 

@@ -94,6 +94,10 @@ negotiation_in (row ∷ rows) key other = if bytes_eq key row.key then row.negot
 abbrev pub not_understood : Negotiation
 not_understood = kinds.Always (results.Word words.NotUnderstood)
 
+abbrev pub is_understood : Negotiation → Bool
+is_understood (kinds.Always (results.Word words.NotUnderstood)) = false
+is_understood _ = true
+
 -- how a key is negotiated, by the three parts
 unfoldable pub session_negotiation : List ℕ → Negotiation
 session_negotiation key = negotiation_in session_keys key not_understood
@@ -103,6 +107,10 @@ transfer_negotiation key = negotiation_in transfer_keys key (session_negotiation
 
 unfoldable pub negotiation_of : List ℕ → Negotiation
 negotiation_of key = negotiation_in name_keys key (transfer_negotiation key)
+
+-- the key is one of these
+unfoldable pub is_known : List ℕ → Bool
+is_known key = is_understood (negotiation_of key)
 
 -- RFC 7143 §6.2.1: a word of a list of values, which commas separate
 unfoldable pub is_listed : List ℕ → List ℕ → Bool

@@ -4,13 +4,14 @@ use Rattle.iscsi_pdu.specs.Frames.{Frame}
 use Rattle.iscsi_pdu.specs.declared.stage.Stage.{Stage}
 use Rattle.iscsi_pdu.specs.declared.login_response.LoginStep.{LoginStep}
 use Rattle.iscsi_pdu.specs.declared.login_response.LoginStep.TheVariants as steps
+use Rattle.iscsi_login.specs.Directory.{KnownTargets}
 use Rattle.iscsi_login.specs.LoginState.{LoginState}
 use Rattle.iscsi_login.specs.Rules.{interrupts, reads_text}
 use Rattle.iscsi_login.specs.Login.{longest_piece, brought, step_of, advanced, remembered}
 
 -- the step that a request is answered, where this is remembered of those before it
-abbrev pub step_told : List (List ℕ) → LoginState → Frame → LoginStep
-step_told names login request = step_of request.header (brought names login request).due
+abbrev pub step_told : KnownTargets → LoginState → Frame → LoginStep
+step_told directory login request = step_of request.header (brought directory login request).due
 
 -- the stage that is entered with it: T is agreed
 abbrev pub agreed : LoginStep → Option Stage
@@ -19,31 +20,31 @@ agreed steps.Continued = None
 agreed steps.Stays = None
 
 -- behind these requests, none of those that follow agrees to a T
-abbrev pub NoneAgrees : List (List ℕ) → LoginState → List Frame → Type 0
-NoneAgrees names login [] = ⊤
-NoneAgrees names login (request ∷ more) = (agreed (step_told names login request) ≡ None) × NoneAgrees names (advanced names login request) more
+abbrev pub NoneAgrees : KnownTargets → LoginState → List Frame → Type 0
+NoneAgrees directory login [] = ⊤
+NoneAgrees directory login (request ∷ more) = (agreed (step_told directory login request) ≡ None) × NoneAgrees directory (advanced directory login request) more
 
 -- The stage is the one of the last T that was agreed (RFC 7143 §11.13.6, §11.13.7).
 abbrev pub StageIsLastAgreed : Type 0
-StageIsLastAgreed = (names : List (List ℕ)) (handle : ℕ) (before : List Frame) (request : Frame) (later : List Frame) (stage : Stage)
-    → agreed (step_told names (remembered names handle before) request) ≡ Some stage
-    → NoneAgrees names (advanced names (remembered names handle before) request) later
-    → (remembered names handle (before ++ request ∷ later)).stage ≡ Some stage
+StageIsLastAgreed = (directory : KnownTargets) (handle : ℕ) (before : List Frame) (request : Frame) (later : List Frame) (stage : Stage)
+    → agreed (step_told directory (remembered directory handle before) request) ≡ Some stage
+    → NoneAgrees directory (advanced directory (remembered directory handle before) request) later
+    → (remembered directory handle (before ++ request ∷ later)).stage ≡ Some stage
 
 -- behind these requests, none of those that follow ends a text, and none says anything while an answer is due
-abbrev pub NoneIsWhole : List (List ℕ) → LoginState → List Frame → Type 0
-NoneIsWhole names login [] = ⊤
-NoneIsWhole names login (request ∷ more) =
-    (reads_text login request ≡ false) × (interrupts login request ≡ false) × NoneIsWhole names (advanced names login request) more
+abbrev pub NoneIsWhole : KnownTargets → LoginState → List Frame → Type 0
+NoneIsWhole directory login [] = ⊤
+NoneIsWhole directory login (request ∷ more) =
+    (reads_text login request ≡ false) × (interrupts login request ≡ false) × NoneIsWhole directory (advanced directory login request) more
 
 -- The text kept is what came since the last whole text (RFC 7143 §6.2).
 abbrev pub KeptIsSinceWhole : Type 0
-KeptIsSinceWhole = (names : List (List ℕ)) (handle : ℕ) (before : List Frame) (whole : Frame) (later : List Frame)
-    → reads_text (remembered names handle before) whole ≡ true → NoneIsWhole names (advanced names (remembered names handle before) whole) later
-    → (remembered names handle (before ++ whole ∷ later)).kept ≡ flat_map (λ request. request.body) later
+KeptIsSinceWhole = (directory : KnownTargets) (handle : ℕ) (before : List Frame) (whole : Frame) (later : List Frame)
+    → reads_text (remembered directory handle before) whole ≡ true → NoneIsWhole directory (advanced directory (remembered directory handle before) whole) later
+    → (remembered directory handle (before ++ whole ∷ later)).kept ≡ flat_map (λ request. request.body) later
 
 -- What is due is the rest of the last whole answer, of which a piece was sent with each request since (own: 8192 bytes).
 abbrev pub DueIsTheRest : Type 0
-DueIsTheRest = (names : List (List ℕ)) (handle : ℕ) (before : List Frame) (whole : Frame) (later : List Frame)
-    → NoneIsWhole names (advanced names (remembered names handle before) whole) later
-    → (remembered names handle (before ++ whole ∷ later)).due ≡ drop (longest_piece * (length later + 1)) (brought names (remembered names handle before) whole).due
+DueIsTheRest = (directory : KnownTargets) (handle : ℕ) (before : List Frame) (whole : Frame) (later : List Frame)
+    → NoneIsWhole directory (advanced directory (remembered directory handle before) whole) later
+    → (remembered directory handle (before ++ whole ∷ later)).due ≡ drop (longest_piece * (length later + 1)) (brought directory (remembered directory handle before) whole).due

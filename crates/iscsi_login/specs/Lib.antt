@@ -8,6 +8,7 @@ pub use Rattle.scsi_sense.specs.Nexus
 pub mod Number
 pub mod Keys
 pub mod Values
+pub mod Directory
 pub mod Session
 pub mod Lookup
 pub mod LoginState

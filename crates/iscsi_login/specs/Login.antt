@@ -19,8 +19,9 @@ use Rattle.iscsi_login.specs.Keys.{key_result}
 use Rattle.iscsi_login.specs.Values.{AreInRange, with_pairs}
 use Rattle.iscsi_login.specs.declared.values.Values.{Values}
 use Rattle.iscsi_login.specs.Lookup.{Lookup}
-use Rattle.iscsi_login.specs.LoginState.{LoginState, AsksBelow, new_login}
-use Rattle.iscsi_login.specs.Rules.{opening_with, stage_with, is_same_stage, is_due, joined, reads_text, pairs_with, asked_by, refusal_of}
+use Rattle.iscsi_login.specs.Directory.{KnownTargets}
+use Rattle.iscsi_login.specs.LoginState.{LoginState, IsTargetBelow, AsksBelow, new_login}
+use Rattle.iscsi_login.specs.Rules.{opening_with, stage_with, is_same_stage, is_due, joined, reads_text, pairs_with, is_normal, asked_by, refusal_of}
 use Rattle.iscsi_login.specs.declared.params.Params.{Params}
 use Rattle.iscsi_login.specs.declared.reply.Reply.{Reply}
 use Rattle.iscsi_login.specs.declared.reply.Reply.TheVariants.{GoOn, Full, Refused}
@@ -35,9 +36,9 @@ longest_piece = 8192
 abbrev pub answered_pair : Pair → Option Pair
 answered_pair pair = option_map (λ text. (pair.0, text)) (key_result pair.0 pair.1)
 
--- RFC 7143 §13.9: told in the first whole answer
+-- RFC 7143 §13.9: the tag of the portal group, of which there is one
 abbrev pub portal_group : Bool → List Pair
-portal_group is_first = if is_first then (codes "TargetPortalGroupTag", codes "1") ∷ [] else []
+portal_group tells_group = if tells_group then (codes "TargetPortalGroupTag", codes "1") ∷ [] else []
 
 -- RFC 7143 §13.12: what the target takes in one PDU
 abbrev pub declaration : Bool → List Pair
@@ -45,7 +46,12 @@ declaration is_told = if is_told then (codes "MaxRecvDataSegmentLength", codes "
 
 -- the pairs of a whole answer: the results stand in the order of the offers
 unfoldable pub answer_pairs : Bool → Bool → List Pair → List Pair
-answer_pairs is_first is_told offers = portal_group is_first ++ filter_map answered_pair offers ++ declaration is_told
+answer_pairs tells_group is_told offers = portal_group tells_group ++ filter_map answered_pair offers ++ declaration is_told
+
+-- RFC 7143 §13.9: it is told in the first whole answer of a Normal session
+abbrev pub tells_group : Option Session → List Pair → Bool
+tells_group None pairs = is_normal pairs
+tells_group (Some session) pairs = false
 
 -- the stage that a request is in is operational negotiation
 abbrev pub is_operational : List ℕ → Bool
@@ -62,20 +68,20 @@ abbrev pub kept_with : LoginState → Frame → LoginState
 kept_with login request = record login { kept = joined login request }
 
 -- a whole text is read, and its answer is due
-unfoldable pub heard : List (List ℕ) → LoginState → List ℕ → List Pair → LoginState
-heard names login header pairs = record login {
+unfoldable pub heard : KnownTargets → LoginState → List ℕ → List Pair → LoginState
+heard directory login header pairs = record login {
   kept = [];
   earlier = login.earlier ++ pairs;
-  session = option_or login.session (asked_by login.session names header pairs);
+  session = option_or login.session (asked_by login.session directory header pairs);
   values = with_pairs login.values pairs;
   declared = login.declared || is_operational header;
-  due = text_of (answer_pairs (is_none login.session) (declares login header) pairs);
+  due = text_of (answer_pairs (tells_group login.session pairs) (declares login header) pairs);
 }
 
 -- what a request brings, before it is answered
-abbrev pub brought : List (List ℕ) → LoginState → Frame → LoginState
-brought names login request =
-    if reads_text login request then heard names login request.header (pairs_with login request)
+abbrev pub brought : KnownTargets → LoginState → Frame → LoginState
+brought directory login request =
+    if reads_text login request then heard directory login request.header (pairs_with login request)
     else if is_due login then login
     else kept_with login request
 
@@ -100,12 +106,12 @@ answered login header = record login {
 }
 
 -- what is remembered after a request that is not refused
-unfoldable pub advanced : List (List ℕ) → LoginState → Frame → LoginState
-advanced names login request = answered (brought names login request) request.header
+unfoldable pub advanced : KnownTargets → LoginState → Frame → LoginState
+advanced directory login request = answered (brought directory login request) request.header
 
 -- what is remembered of the requests of a login
-unfoldable pub remembered : List (List ℕ) → ℕ → List Frame → LoginState
-remembered names handle requests = fold (advanced names) (new_login handle) requests
+unfoldable pub remembered : KnownTargets → ℕ → List Frame → LoginState
+remembered directory handle requests = fold (advanced directory) (new_login handle) requests
 
 -- ---- the answer
 
@@ -137,6 +143,7 @@ unfoldable pub params_of : LoginState → List ℕ → Session → Params
 params_of login header session = record {
   nexus = session.nexus;
   target = session.target;
+  directory = session.directory;
   connection_id = (opening_with login header).connection_id;
   first_cmd_sn = (opening_with login header).cmd_sn;
   next_stat_sn = (login.answers + 1) % 2 ^ 32;
@@ -172,7 +179,7 @@ refused_reply login request refusal = Refused (login_response login request (tsi
 
 abbrev pub reply_unless : Option LoginRefusal → Lookup → LoginState → Frame → Reply
 reply_unless (Some refusal) lookup login request = refused_reply login request refusal
-reply_unless None lookup login request = reply_to (brought lookup.names login request) request
+reply_unless None lookup login request = reply_to (brought lookup.directory login request) request
 
 -- The reply to a request, by what is remembered of those before it.
 unfoldable pub reply_of : LoginState → Lookup → Frame → Reply
@@ -180,13 +187,13 @@ reply_of login lookup request = reply_unless (refusal_of login lookup request) l
 
 -- The reply to a request behind these others of a login, whose session is given this TSIH.
 abbrev pub login : ℕ → List Frame → Lookup → Frame → Reply
-login handle before lookup request = reply_of (remembered lookup.names handle before) lookup request
+login handle before lookup request = reply_of (remembered lookup.directory handle before) lookup request
 
 -- what is remembered after a reply; full feature phase leaves nothing to remember
-abbrev pub IsAfter : List (List ℕ) → LoginState → Frame → Reply → LoginState → Type 0
-IsAfter names old request (GoOn response) new = new ≡ advanced names old request
-IsAfter names old request (Refused response) new = new ≡ old
-IsAfter names old request (Full response params) new = ⊤
+abbrev pub IsAfter : KnownTargets → LoginState → Frame → Reply → LoginState → Type 0
+IsAfter directory old request (GoOn response) new = new ≡ advanced directory old request
+IsAfter directory old request (Refused response) new = new ≡ old
+IsAfter directory old request (Full response params) new = ⊤
 
 -- what is remembered once a piece of the answer is sent
 abbrev pub IsAnswered : LoginState → Frame → Reply → LoginState → Type 0
@@ -198,7 +205,7 @@ IsAnswered old request (Full response params) new = ⊤
 abbrev pub IsBelow : ℕ → Reply → LoginState → Type 0
 IsBelow count (GoOn response) new = AsksBelow count new.session
 IsBelow count (Refused response) new = AsksBelow count new.session
-IsBelow count (Full response params) new = (params.target < count) × AsksBelow count new.session
+IsBelow count (Full response params) new = IsTargetBelow count params.target × AsksBelow count new.session
 
 -- the session that begins has these values
 abbrev pub BeginsWith : Values → Reply → Type 0

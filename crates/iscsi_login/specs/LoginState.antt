@@ -46,10 +46,15 @@ new_login handle = record {
   due = [];
 }
 
--- the target that is asked for is one of so many
+-- the target of a session, where it has one, is one of so many
+abbrev pub IsTargetBelow : ℕ → Option ℕ → Type 0
+IsTargetBelow count None = ⊤
+IsTargetBelow count (Some target) = target < count
+
+-- and so is the one that is asked for
 abbrev pub AsksBelow : ℕ → Option Session → Type 0
 AsksBelow count None = ⊤
-AsksBelow count (Some session) = session.target < count
+AsksBelow count (Some session) = IsTargetBelow count session.target
 
 -- RFC 7143 §11.12.5 to §11.12.8: what the first request sets
 abbrev pub opening_of : List ℕ → Opening

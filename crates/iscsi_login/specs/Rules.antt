@@ -15,6 +15,7 @@ use Rattle.iscsi_login.specs.Keys.{is_answer}
 use Rattle.iscsi_login.specs.Values.{is_segment_key}
 use Rattle.iscsi_login.specs.Session.{is_of, target_named}
 use Rattle.iscsi_login.specs.Lookup.{Lookup}
+use Rattle.iscsi_login.specs.Directory.{KnownTargets}
 use Rattle.iscsi_login.specs.LoginState.{LoginState, opening_of}
 use Rattle.iscsi_login.specs.declared.fault.Fault.{Fault}
 use Rattle.iscsi_login.specs.declared.fault.Fault.TheVariants as faults
@@ -107,24 +108,35 @@ reads_text login request = not (is_due login) && not (is_continued request.heade
 unfoldable pub said : List ℕ → List Pair → List ℕ
 said key pairs = unwrap_or (value_of key pairs) []
 
--- RFC 7143 §13.21: Normal where nothing is said; own: no Discovery
+-- RFC 7143 §13.21: Normal where nothing is said
+unfoldable pub session_type : List Pair → List ℕ
+session_type pairs = unwrap_or (value_of (codes "SessionType") pairs) (codes "Normal")
+
 unfoldable pub is_normal : List Pair → Bool
-is_normal pairs = bytes_eq (unwrap_or (value_of (codes "SessionType") pairs) (codes "Normal")) (codes "Normal")
+is_normal pairs = bytes_eq (session_type pairs) (codes "Normal")
+
+unfoldable pub is_discovery : List Pair → Bool
+is_discovery pairs = bytes_eq (session_type pairs) (codes "Discovery")
 
 -- RFC 7143 §4.2.7.2: a name is up to 223 bytes
 abbrev pub longest_name : ℕ
 longest_name = 223
 
+-- own: a name that is looked at is too long; of a discovery session it is the initiator's alone
+abbrev pub has_long_name : List Pair → Bool
+has_long_name pairs =
+    nat_lt longest_name (length (said (codes "InitiatorName") pairs))
+    || is_normal pairs && nat_lt longest_name (length (said (codes "TargetName") pairs))
+
 -- of the names in the first whole text (RFC 7143 §6.3, §13.4, §13.5, §13.21)
 abbrev pub rules_of_names : List (List ℕ) → List Pair → List Rule
 rules_of_names names pairs =
-    let initiator = said (codes "InitiatorName") pairs in
     let target = said (codes "TargetName") pairs in
-    rule (length initiator == 0) MissingParameter
-    ∷ rule (not (is_normal pairs)) InitiatorError
-    ∷ rule (length target == 0) MissingParameter
-    ∷ rule (nat_lt longest_name (length initiator) || nat_lt longest_name (length target)) InitiatorError
-    ∷ rule (is_none (target_named names target)) TargetNotFound
+    rule (length (said (codes "InitiatorName") pairs) == 0) MissingParameter
+    ∷ rule (not (is_normal pairs) && not (is_discovery pairs)) InitiatorError
+    ∷ rule (is_normal pairs && length target == 0) MissingParameter
+    ∷ rule (has_long_name pairs) InitiatorError
+    ∷ rule (is_normal pairs && is_none (target_named names target)) TargetNotFound
     ∷ []
 
 -- of the session that it asks for: a TSIH other than 0 would join one (RFC 7143 §6.3.1, §11.12.6)
@@ -166,18 +178,27 @@ pairs_read (Err fault) = []
 unfoldable pub pairs_with : LoginState → Frame → List Pair
 pairs_with login request = pairs_read (text_pairs (joined login request))
 
--- whose session the first whole text asks for, and with which target
-unfoldable pub asked_for : List (List ℕ) → List ℕ → List Pair → Session
-asked_for names header pairs = record {
+-- the target that is asked for: a discovery session is with none
+unfoldable pub target_asked : List (List ℕ) → List Pair → Option ℕ
+target_asked names pairs = if is_normal pairs then target_named names (said (codes "TargetName") pairs) else None
+
+-- RFC 7143 §13.3: a discovery session may be told of all targets, a normal one of its own
+unfoldable pub told_of : KnownTargets → List Pair → KnownTargets
+told_of directory pairs = if is_normal pairs then record directory { names = said (codes "TargetName") pairs ∷ [] } else directory
+
+-- whose session the first whole text asks for, with which target, and what it may be told
+unfoldable pub asked_for : KnownTargets → List ℕ → List Pair → Session
+asked_for directory header pairs = record {
   nexus = record { initiator_name = said (codes "InitiatorName") pairs; isid = isid header };
-  target = unwrap_or (target_named names (said (codes "TargetName") pairs)) 0;
+  target = target_asked directory.names pairs;
+  directory = told_of directory pairs;
 }
 
 -- of the first whole text
 unfoldable pub first_refusal : Lookup → List ℕ → List Pair → Option LoginRefusal
 first_refusal lookup header pairs =
-    option_or (refusal_by (rules_of_names lookup.names pairs))
-    (refusal_by (rules_of_handle (asked_for lookup.names header pairs) (tsih header) lookup.named))
+    option_or (refusal_by (rules_of_names lookup.directory.names pairs))
+    (refusal_by (rules_of_handle (asked_for lookup.directory header pairs) (tsih header) lookup.named))
 
 abbrev pub session_refusal : Option Session → Lookup → List ℕ → List Pair → Option LoginRefusal
 session_refusal None lookup header pairs = first_refusal lookup header pairs
@@ -195,9 +216,9 @@ text_refusal login lookup request =
     (refusal_by (rules_of_keys login.earlier (pairs_with login request))))
 
 -- the session that the first whole text asks for
-abbrev pub asked_by : Option Session → List (List ℕ) → List ℕ → List Pair → Option Session
-asked_by None names header pairs = Some (asked_for names header pairs)
-asked_by (Some session) names header pairs = None
+abbrev pub asked_by : Option Session → KnownTargets → List ℕ → List Pair → Option Session
+asked_by None directory header pairs = Some (asked_for directory header pairs)
+asked_by (Some session) directory header pairs = None
 
 -- Why a request is refused, if it is.
 unfoldable pub refusal_of : LoginState → Lookup → Frame → Option LoginRefusal

@@ -11,10 +11,16 @@ Live = List (Option Params)
 abbrev pub named_by : ℕ → Live → Option Params
 named_by handle live = if handle == 0 then None else slice_index_or live (handle - 1) None
 
+-- both sessions are with this target: a discovery session is with none
+abbrev pub is_same_target : Option ℕ → Option ℕ → Bool
+is_same_target (Some target) (Some other) = target == other
+is_same_target None other = false
+is_same_target (Some target) None = false
+
 -- a session of this nexus with this target
-abbrev pub is_of : NexusName → ℕ → Option Params → Bool
+abbrev pub is_of : NexusName → Option ℕ → Option Params → Bool
 is_of nexus target None = false
-is_of nexus target (Some session) = same_nexus session.nexus nexus && session.target == target
+is_of nexus target (Some session) = same_nexus session.nexus nexus && is_same_target session.target target
 
 -- the connection of an older session of the same nexus with the same target
 unfoldable pub older : Params → Live → Option ℕ

@@ -47,11 +47,11 @@ fn put_results(alloc: Global, answer: &mut Pairs, offers: &Pairs) -> Result<(), 
 
 /// The pairs of a whole answer.
 #[tactic(auto, unfolding(crate::specs::Login::answer_pairs))]
-fn answer(alloc: Global, is_first: bool, is_told: bool, offers: &Pairs) -> Result<Pairs, Memory>
-    ensures { IfOk result (λ answer. answer ≡ answer_pairs is_first is_told offers.now) }
+fn answer(alloc: Global, tells_group: bool, is_told: bool, offers: &Pairs) -> Result<Pairs, Memory>
+    ensures { IfOk result (λ answer. answer ≡ answer_pairs tells_group is_told offers.now) }
 {
     let mut answer = Pairs::new(alloc);
-    if is_first {
+    if tells_group {
         put(&mut answer, "TargetPortalGroupTag", "1")?;
     }
     put_results(alloc, &mut answer, offers)?;
@@ -61,17 +61,17 @@ fn answer(alloc: Global, is_first: bool, is_told: bool, offers: &Pairs) -> Resul
     Ok(answer)
 }
 
-/// The text of a whole answer to these offers: the portal group's tag in the first, and what the
-/// target takes in one PDU where it `is_told` (RFC 7143 §13.9, §13.12).
+/// The text of a whole answer to these offers: the portal group's tag where it is told, and what the
+/// target takes in one PDU where that is told (RFC 7143 §13.9, §13.12).
 pub(crate) fn answer_text(
     alloc: Global,
-    is_first: bool,
+    tells_group: bool,
     is_told: bool,
     offers: &Pairs,
 ) -> Result<Vec<u8>, Memory>
-    ensures { IfOk result (λ text. text.items ≡ text_of (answer_pairs is_first is_told offers.now)) }
+    ensures { IfOk result (λ text. text.items ≡ text_of (answer_pairs tells_group is_told offers.now)) }
 {
-    let answer = answer(alloc, is_first, is_told, offers)?;
+    let answer = answer(alloc, tells_group, is_told, offers)?;
     match text(alloc, &answer) {
         Ok(text) => Ok(text),
         Err(_) => Err(Memory),

@@ -1,7 +1,7 @@
 //! What an offer of a key comes to (RFC 7143 §6.2, §12, §13).
 
 ghost use Rattle.std.specs.Prelude.{◌≡◌, IfOk, decimal, option_map, string_bytes};
-ghost use Rattle.iscsi_login.specs.Keys.{word_text, boolean_text, result_text, negotiation_of, transfer_negotiation as transfer_negotiation_of, session_negotiation as session_negotiation_of, is_listed as is_listed_word, boolean_of, result_by, is_answer as is_answer_value, settled as settled_of, key_result};
+ghost use Rattle.iscsi_login.specs.Keys.{word_text, boolean_text, result_text, negotiation_of, transfer_negotiation as transfer_negotiation_of, session_negotiation as session_negotiation_of, is_listed as is_listed_word, boolean_of, result_by, is_answer as is_answer_value, is_understood, is_known as is_known_key, settled as settled_of, key_result};
 
 use crate::fault::Memory;
 use crate::number::number_in;
@@ -130,6 +130,17 @@ fn session_negotiation(key: &str) -> Negotiation
     }
 }
 
+/// The key is one of RFC 7143.
+#[tactic(auto, unfolding(crate::specs::Keys::is_known))]
+pub fn is_known(key: &str) -> bool
+    ensures { result ≡ is_known_key key.now }
+{
+    !matches!(
+        negotiation_for(key),
+        Negotiation::Always(KeyResult::Word(Word::NotUnderstood))
+    )
+}
+
 /// The word is in the list, which commas separate.
 #[tactic(auto, unfolding(crate::specs::Keys::is_listed))]
 fn is_listed(word: &str, offer: &str) -> bool
@@ -152,7 +163,7 @@ fn boolean(offer: &str) -> Option<bool>
 
 /// The value answers an offer, and is none.
 #[tactic(auto, unfolding(crate::specs::Keys::is_answer))]
-pub(crate) fn is_answer(value: &str) -> bool
+pub fn is_answer(value: &str) -> bool
     ensures { result ≡ is_answer_value value.now }
 {
     value == "NotUnderstood" || value == "Irrelevant" || value == "Reject"

@@ -18,6 +18,7 @@
 #![tactic(auto)]
 
 mod answer;
+mod directory;
 mod fault;
 mod keys;
 pub mod laws;
@@ -32,10 +33,12 @@ mod session;
 mod text;
 mod values;
 
+pub use directory::Directory;
 pub use fault::Memory;
-pub use keys::settle_key;
+pub use keys::{is_answer, is_known, settle_key};
 pub use login::Login;
+pub use names::position;
 pub use params::Params;
 pub use reply::Reply;
-pub use session::Session;
+pub use session::{Session, is_same_target};
 pub use values::Values;

@@ -1,6 +1,6 @@
 //! A login under way.
 
-ghost use Rattle.std.specs.Prelude.{◌≡◌, ◌<◌, ◌+◌, length, map, string_bytes, IfOk, OnErr};
+ghost use Rattle.std.specs.Prelude.{◌≡◌, ◌<◌, ◌+◌, length, IfOk, OnErr};
 ghost use Rattle.iscsi_login.specs.Lookup.{lookup_in};
 ghost use Rattle.iscsi_login.specs.LoginState.{AsksBelow, new_login};
 ghost use Rattle.iscsi_login.specs.Values.{AreInRange};
@@ -11,6 +11,7 @@ mod answering;
 mod hearing;
 
 use crate::answer::first_piece;
+use crate::directory::Directory;
 use crate::fault::{Fault, Memory};
 use crate::opening::Opening;
 use crate::params::Params;
@@ -166,18 +167,18 @@ impl Login {
         None
     }
 
-    /// Takes a request, and answers it. `targets` are the names of the targets in order, and `named`
-    /// is the session in full feature phase whose TSIH the request bears. Where an allocation fails
+    /// Takes a request, and answers it. `directory` has all targets in order, and `named` is the session
+    /// in full feature phase whose TSIH the request bears. Where an allocation fails
     /// the login is as it was. After [`Reply::Full`] and [`Reply::Refused`] it is over.
     pub fn take(
         &mut self,
         request: &Frame,
-        targets: &[String],
+        directory: &Directory,
         named: &Option<Params>,
     ) -> Result<Reply, Memory>
-        ensures reply { IfOk result (λ reply. reply ≡ reply_of self.old (lookup_in targets.now named.now) request.now) }
-        ensures after { IfOk result (λ reply. IsAfter (map string_bytes targets.now) self.old request.now reply self.new) }
-        ensures target { IfOk result (λ reply. AsksBelow (length targets.now) self.old.session → IsBelow (length targets.now) reply self.new) }
+        ensures reply { IfOk result (λ reply. reply ≡ reply_of self.old (lookup_in directory.now named.now) request.now) }
+        ensures after { IfOk result (λ reply. IsAfter directory.now self.old request.now reply self.new) }
+        ensures target { IfOk result (λ reply. AsksBelow (length directory.now.names) self.old.session → IsBelow (length directory.now.names) reply self.new) }
         ensures values { IfOk result (λ reply. AreInRange self.old.values → AreInRange self.new.values × BeginsInRange reply) }
         ensures err { OnErr result (self.new ≡ self.old) }
     {
@@ -192,7 +193,7 @@ impl Login {
             self.keep(request)?;
             return Ok(self.answer(request, Vec::new(self.alloc)));
         }
-        match self.hear(request, targets, named) {
+        match self.hear(request, directory, named) {
             Ok(piece) => Ok(self.answer(request, piece)),
             Err(Fault::Refused(refusal)) => Ok(self.refuse(request, refusal)),
             Err(Fault::Memory) => Err(Memory),

@@ -2,6 +2,7 @@
 
 ghost use Rattle.std.specs.Prelude.{◌≡◌};
 
+use crate::directory::Directory;
 use crate::values::Values;
 use scsi_sense::Nexus;
 use std::alloc::AllocError;
@@ -10,8 +11,10 @@ use std::alloc::AllocError;
 #[derive(Debug, Drop)]
 pub struct Params {
     pub nexus: Nexus,
-    /// The target, by its position among the targets.
-    pub target: usize,
+    /// The target, by its position among the targets. A discovery session has none.
+    pub target: Option<usize>,
+    /// What SendTargets may tell: all targets in a discovery session, else the session's own.
+    pub directory: Directory,
     /// CID of the first request (RFC 7143 §11.12.7)
     pub connection_id: u16,
     /// CmdSN of the first request, which the first command of the session has (RFC 7143 §11.12.8)
@@ -28,6 +31,7 @@ impl Clone for Params {
         Ok(Params {
             nexus: self.nexus.clone()?,
             target: self.target,
+            directory: self.directory.clone()?,
             connection_id: self.connection_id,
             first_cmd_sn: self.first_cmd_sn,
             next_stat_sn: self.next_stat_sn,

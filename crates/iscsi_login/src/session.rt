@@ -1,10 +1,26 @@
 //! The session that a login asks for.
 
+ghost use Rattle.std.specs.Prelude.{◌≡◌};
+ghost use Rattle.iscsi_login.specs.Session.{is_same_target as is_same};
+
+use crate::directory::Directory;
 use scsi_sense::Nexus;
 
-/// Whose session is asked for, and with which target, by its position among the targets.
+/// Whose session is asked for, with which target, by its position among the targets, and what it may
+/// be told of targets. A discovery session has no target.
 #[derive(Debug, Drop)]
 pub struct Session {
     pub nexus: Nexus,
-    pub target: usize,
+    pub target: Option<usize>,
+    pub directory: Directory,
+}
+
+/// Both sessions are with this target: a discovery session is with none.
+pub fn is_same_target(target: Option<usize>, other: Option<usize>) -> bool
+    ensures { result ≡ is_same target other }
+{
+    match (target, other) {
+        (Some(target), Some(other)) => target == other,
+        _ => false,
+    }
 }

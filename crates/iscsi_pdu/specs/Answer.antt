@@ -3,6 +3,7 @@ use Rattle.std.specs.Prelude.{ℕ, List}
 use Rattle.iscsi_pdu.specs.NopIn.{nop_in_bytes}
 use Rattle.iscsi_pdu.specs.ScsiResponse.{scsi_response_bytes}
 use Rattle.iscsi_pdu.specs.LoginResponse.{login_response_bytes}
+use Rattle.iscsi_pdu.specs.TextResponse.{text_response_bytes}
 use Rattle.iscsi_pdu.specs.DataIn.{data_in_bytes}
 use Rattle.iscsi_pdu.specs.LogoutResponse.{logout_response_bytes}
 use Rattle.iscsi_pdu.specs.R2t.{r2t_bytes}
@@ -15,6 +16,7 @@ abbrev pub spelling : Answer → List ℕ
 spelling (answers.NopIn answer) = nop_in_bytes answer
 spelling (answers.ScsiResponse response) = scsi_response_bytes response
 spelling (answers.LoginResponse response) = login_response_bytes response
+spelling (answers.TextResponse response) = text_response_bytes response
 spelling (answers.DataIn piece) = data_in_bytes piece
 spelling (answers.LogoutResponse response) = logout_response_bytes response
 spelling (answers.R2t ask) = r2t_bytes ask

@@ -1,5 +1,5 @@
 -- The bytes of answers to a login, to a refused login and to commands, of their data, and of an R2T, and of
--- answers to a NOP-Out, to a logout and to a refused PDU, computed.
+-- answers to a text, to a NOP-Out, to a logout and to a refused PDU, computed.
 use Rattle.std.specs.Prelude.{◌≡◌, ℕ, List, [], ◌∷◌, ◌++◌, Some, None, true, codes, refl}
 use Rattle.iscsi_pdu.specs.declared.answer.Answer.TheVariants as answers
 use Rattle.iscsi_pdu.specs.declared.login_response.LoginRefusal.TheVariants as refusals
@@ -9,7 +9,9 @@ use Rattle.iscsi_pdu.specs.declared.logout_response.LogoutResult.TheVariants as 
 use Rattle.iscsi_pdu.specs.declared.reject.RejectReason.TheVariants as reasons
 use Rattle.iscsi_pdu.specs.declared.scsi_response.Residual.TheVariants as residuals
 use Rattle.iscsi_pdu.specs.declared.stage.Stage.TheVariants as stages
+use Rattle.iscsi_pdu.specs.declared.text_response.TextStep.TheVariants as text_steps
 use Rattle.iscsi_pdu.specs.LoginResponse.{login_flags}
+use Rattle.iscsi_pdu.specs.TextResponse.{text_flags, exchange_tag}
 use Rattle.iscsi_pdu.specs.Answer.{spelling}
 use Rattle.iscsi_pdu.specs.ExamplesHeader.{command_header}
 
@@ -105,6 +107,35 @@ underflow_spelled : spelling (answers.ScsiResponse (record {
     0x00 ∷ 0x00 ∷ 0x00 ∷ 0x03 ∷ 0x00 ∷ 0x00 ∷ 0x00 ∷ 0x00 ∷ 0x00 ∷ 0x00 ∷ 0x00 ∷ 0x02 ∷ 0x00 ∷ 0x00 ∷ 0x00 ∷ 0x7d ∷
     0x00 ∷ 0x00 ∷ 0x00 ∷ 0x9c ∷ 0x00 ∷ 0x00 ∷ 0x00 ∷ 0x07 ∷ 0x00 ∷ 0x00 ∷ 0x00 ∷ 0x00 ∷ 0x00 ∷ 0x00 ∷ 0x01 ∷ 0x02 ∷ []
 underflow_spelled = refl
+
+-- the end of an exchange: F and FFFFFFFFh; ten bytes of text and two pad bytes
+abbrev text_response : List ℕ
+text_response =
+    0x24 ∷ 0x80 ∷ 0x00 ∷ 0x00 ∷ 0x00 ∷ 0x00 ∷ 0x00 ∷ 0x0a ∷ 0x00 ∷ 0x00 ∷ 0x00 ∷ 0x00 ∷ 0x00 ∷ 0x00 ∷ 0x00 ∷ 0x00 ∷
+    0x00 ∷ 0x00 ∷ 0x00 ∷ 0x08 ∷ 0xff ∷ 0xff ∷ 0xff ∷ 0xff ∷ 0x00 ∷ 0x00 ∷ 0x00 ∷ 0x03 ∷ 0x00 ∷ 0x00 ∷ 0x00 ∷ 0x7f ∷
+    0x00 ∷ 0x00 ∷ 0x00 ∷ 0x9e ∷ 0x00 ∷ 0x00 ∷ 0x00 ∷ 0x00 ∷ 0x00 ∷ 0x00 ∷ 0x00 ∷ 0x00 ∷ 0x00 ∷ 0x00 ∷ 0x00 ∷ 0x00 ∷
+    0x61 ∷ 0x3d ∷ 0x52 ∷ 0x65 ∷ 0x6a ∷ 0x65 ∷ 0x63 ∷ 0x74 ∷ 0x31 ∷ 0x00 ∷ 0x00 ∷ 0x00 ∷ []
+
+text_spelled : spelling (answers.TextResponse (record {
+  initiator_task_tag = 8;
+  stamp = record { stat_sn = 3; exp_cmd_sn = 127; max_cmd_sn = 158 };
+  step = text_steps.Ends;
+  text = codes "a=Reject1" ++ 0 ∷ [];
+})) ≡ text_response
+text_spelled = refl
+
+-- a piece of a long answer, and a whole answer behind which the exchange goes on
+text_continued : text_flags text_steps.Continued ≡ 0x40
+text_continued = refl
+
+text_continued_tag : exchange_tag text_steps.Continued ≡ 0xfffffffe
+text_continued_tag = refl
+
+text_goes_on : text_flags text_steps.GoesOn ≡ 0
+text_goes_on = refl
+
+text_goes_on_tag : exchange_tag text_steps.GoesOn ≡ 0xfffffffe
+text_goes_on_tag = refl
 
 -- the second of a command's pieces, six bytes from the 4096th on, the last of its burst; two pad bytes
 abbrev data_in : List ℕ

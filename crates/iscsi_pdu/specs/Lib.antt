@@ -13,6 +13,7 @@ pub mod NopIn
 pub mod ScsiResponse
 pub mod AcceptedLogin
 pub mod LoginResponse
+pub mod TextResponse
 pub mod DataIn
 pub mod LogoutResponse
 pub mod R2t

@@ -11,6 +11,7 @@ use crate::r2t::R2t;
 use crate::reject::Reject;
 use crate::scsi_response::{ScsiResponse, sense_segment};
 use crate::segment::put;
+use crate::text_response::TextResponse;
 use bytes::BytesMut;
 
 /// What the target sends.
@@ -22,6 +23,8 @@ pub enum Answer<'a> {
     ScsiResponse(ScsiResponse),
     /// 23h Login Response
     LoginResponse(LoginResponse),
+    /// 24h Text Response
+    TextResponse(TextResponse<'a>),
     /// 25h SCSI Data-In
     DataIn(DataIn<'a>),
     /// 26h Logout Response
@@ -46,6 +49,7 @@ impl<'a> Answer<'a> {
             Answer::NopIn(answer) => answer.length(),
             Answer::ScsiResponse(response) => response.length(),
             Answer::LoginResponse(response) => response.length(),
+            Answer::TextResponse(response) => response.length(),
             Answer::DataIn(piece) => piece.length(),
             Answer::LogoutResponse(response) => response.length(),
             Answer::R2t(ask) => ask.length(),
@@ -73,6 +77,7 @@ impl<'a> Answer<'a> {
             Answer::LoginResponse(response) => {
                 put(out, &response.header(), response.reply.text())
             }
+            Answer::TextResponse(response) => put(out, &response.header(), response.segment()),
             Answer::DataIn(piece) => put(out, &piece.header(), piece.segment()),
             Answer::LogoutResponse(response) => put(out, &response.header(), &[]),
             Answer::R2t(ask) => put(out, &ask.header(), &[]),

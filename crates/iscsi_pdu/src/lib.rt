@@ -38,6 +38,7 @@ mod scsi_response;
 mod segment;
 mod stage;
 mod stamp;
+mod text_response;
 
 pub use answer::Answer;
 pub use data_in::DataIn;
@@ -53,3 +54,4 @@ pub use reject::{Reject, RejectReason};
 pub use scsi_response::{Residual, ScsiResponse};
 pub use stage::Stage;
 pub use stamp::Stamp;
+pub use text_response::{EXCHANGE_TAG, NO_EXCHANGE_TAG, TextResponse, TextStep};

@@ -64,7 +64,7 @@ with k frame = record { number = Some k; frame = frame }
 abbrev pub HasFreeTag : Past → Frame → Type 0
 HasFreeTag past frame = is_command frame ≡ true → is_in (initiator_task_tag frame.header) (map (tag_of past.came) (unfinished past)) ≡ false
 
-frames_same : (past : Past) (x : Request) (names : List ℕ) → Below past names → frames_of (past.came ++ x ∷ []) names ≡ frames_of past.came names
+pub frames_same : (past : Past) (x : Request) (names : List ℕ) → Below past names → frames_of (past.came ++ x ∷ []) names ≡ frames_of past.came names
 frames_same past x names below = map_cong _ _ names (λ i d lt. ap (λ (r : Request). r.frame) (request_before past.came x _ (below i d lt)))
 
 others_same : (past : Past) (x : Request) (names : List ℕ) → Below past names → others (past.came ++ x ∷ []) names ≡ others past.came names

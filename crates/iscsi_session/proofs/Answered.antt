@@ -1,7 +1,7 @@
 -- What a request is answered, by its opcode, and what its act leaves of the session.
-use Rattle.std.proofs.Common.{◌≡◌, inl, inr, ℕ, min, List, [], ◌∷◌, ◌++◌, length, take, drop, Bool, true, false, cond, ◌==◌, eqb, refl, sym, ap, ◌∙◌, subst, arith, append-nil}
-use Rattle.std.specs.Prelude.{◌⊎◌, flat_map}
-use Rattle.std.proofs.lemmas.Bool.{eqb-true}
+use Rattle.std.proofs.Common.{◌≡◌, ◌≢◌, inl, inr, ℕ, min, List, [], ◌∷◌, ◌++◌, length, take, drop, Bool, true, false, cond, ◌==◌, eqb, refl, sym, ap, ◌∙◌, subst, arith, append-nil}
+use Rattle.std.specs.Prelude.{◌⊎◌, flat_map, Option, Some, None}
+use Rattle.std.proofs.lemmas.Bool.{eqb-true, false_from_ne_true}
 use Rattle.std.proofs.lemmas.List.{take_min}
 use Rattle.iscsi_pdu.specs.Header.{opcode_of, opcode_number, initiator_task_tag}
 use Rattle.iscsi_pdu.specs.Segment.{most_data}
@@ -23,6 +23,10 @@ use Rattle.iscsi_session.specs.State.{SessionState, TaskLists, TransferList, Sta
 use Rattle.iscsi_session.specs.declared.act.Act.{Act}
 use Rattle.iscsi_session.specs.declared.act.Act.TheVariants.{Idle, Taken, Ended}
 use Rattle.iscsi_session.specs.Acts.{acted, act_answers, act_by, acted_by, answers_by, act_answers_by, ends, ends_by, closes, logout_response, logout_answer, ping_answers}
+use Rattle.iscsi_exchange.specs.ExchangeState.{ExchangeState}
+use Rattle.iscsi_exchange.specs.Exchange.{TextPiece, ToldState, hears}
+use Rattle.iscsi_session.specs.Texts.{is_text, exchange_behind, exchange_of, text_answer}
+use Rattle.iscsi_session.proofs.Exchanging.{exchange_acted, exchange_other, exchange_text, exchange_finished, text_kind, not_text}
 use Rattle.iscsi_session.proofs.Parts.{parts, due_is, queue_is, stands_tasks, stands_parts}
 use Rattle.iscsi_session.proofs.Feeding.{removed_is}
 use Rattle.iscsi_session.proofs.Moved.{lawful_command, tasks_command, transfers_command, lawful_other, tasks_other, transfers_other, lawful_finished, tasks_finished}
@@ -44,7 +48,7 @@ moved_same k past =
 pub command_answers_none : (k : ℕ) (past : Past) → is_command (frame_of past.came k) ≡ true → act_answers k past ≡ []
 unfolding act_answers
 command_answers_none k past e =
-    ap (λ (n : ℕ). act_answers_by (opcode_of n) (stamp (moved k past)) past.params (frame_of past.came k))
+    ap (λ (n : ℕ). act_answers_by (opcode_of n) (exchange_of past) (stamp (moved k past)) past.params (frame_of past.came k))
     (eqb-true (opcode_number (frame_of past.came k).header) 0x01 e)
 
 pub command_goes_on : (params : Params) (frame : Frame) → is_command frame ≡ true → ends params frame ≡ false
@@ -58,7 +62,7 @@ pub ping_is : (k : ℕ) (past : Past) → kind_of (frame_of past.came k) ≡ opc
     → act_answers k past ≡ ping_answers (stamp (moved k past)) (moved k past).params.values (frame_of past.came k)
 unfolding act_answers
 ping_is k past is =
-    ap (λ (o : Opcode). act_answers_by o (stamp (moved k past)) past.params (frame_of past.came k)) is
+    ap (λ (o : Opcode). act_answers_by o (exchange_of past) (stamp (moved k past)) past.params (frame_of past.came k)) is
     ∙ ap (λ (p : Params). ping_answers (stamp (moved k past)) p.values (frame_of past.came k)) (sym (moved_same k past).0)
 
 pub ping_goes_on : (params : Params) (frame : Frame) → kind_of frame ≡ opcodes.NopOut → ends params frame ≡ false
@@ -69,12 +73,29 @@ pub logout_is : (k : ℕ) (past : Past) → kind_of (frame_of past.came k) ≡ o
     → act_answers k past ≡ logout_answer (stamp (moved k past)) (moved k past).params (frame_of past.came k) ∷ []
 unfolding act_answers
 logout_is k past is =
-    ap (λ (o : Opcode). act_answers_by o (stamp (moved k past)) past.params (frame_of past.came k)) is
+    ap (λ (o : Opcode). act_answers_by o (exchange_of past) (stamp (moved k past)) past.params (frame_of past.came k)) is
     ∙ ap (λ (p : Params). logout_answer (stamp (moved k past)) p (frame_of past.came k) ∷ []) (sym (moved_same k past).0)
 
 pub logout_ends : (params : Params) (frame : Frame) → kind_of frame ≡ opcodes.Logout → ends params frame ≡ closes params frame
 unfolding ends
 logout_ends params frame is = ap (λ (o : Opcode). ends_by o params frame) is
+
+no_text_by : (a b c d e f g : Bool) (n : ℕ)
+    → cond a opcodes.NopOut (cond b opcodes.ScsiCommand (cond c opcodes.TaskManagement (cond d opcodes.Login (cond e opcodes.DataOut
+    (cond f opcodes.Logout (cond g opcodes.Snack (opcodes.Other n))))))) ≡ opcodes.Text → ⊥
+no_text_by true b c d e f g n is = cc
+no_text_by false true c d e f g n is = cc
+no_text_by false false true d e f g n is = cc
+no_text_by false false false true e f g n is = cc
+no_text_by false false false false true f g n is = cc
+no_text_by false false false false false true g n is = cc
+no_text_by false false false false false false true n is = cc
+no_text_by false false false false false false false n is = cc
+
+is_no_text : (frame : Frame) → is_text frame ≡ false → kind_of frame ≡ opcodes.Text → ⊥
+is_no_text frame no_text e =
+    let n = opcode_number frame.header in
+    no_text_by (n == 0x00) (n == 0x01) (n == 0x02) (n == 0x03) (n == 0x05) (n == 0x06) (n == 0x10) n (rw no_text at e)
 
 -- no request of any other kind is answered, and none ends the session
 abbrev pub IsOther : Opcode → Type 0
@@ -82,14 +103,15 @@ IsOther o =
     (o ≡ opcodes.ScsiCommand) ⊎ ((o ≡ opcodes.TaskManagement) ⊎ ((o ≡ opcodes.Login) ⊎ ((o ≡ opcodes.Text)
     ⊎ ((o ≡ opcodes.DataOut) ⊎ ((o ≡ opcodes.Snack) ⊎ ((n : ℕ) × (o ≡ opcodes.Other n)))))))
 
-other_answers : (o : Opcode) (numbers_now : Stamp) (params : Params) (frame : Frame) → IsOther o → act_answers_by o numbers_now params frame ≡ []
-other_answers o numbers_now params frame (inl e) = rw e refl
-other_answers o numbers_now params frame (inr (inl e)) = rw e refl
-other_answers o numbers_now params frame (inr (inr (inl e))) = rw e refl
-other_answers o numbers_now params frame (inr (inr (inr (inl e)))) = rw e refl
-other_answers o numbers_now params frame (inr (inr (inr (inr (inl e))))) = rw e refl
-other_answers o numbers_now params frame (inr (inr (inr (inr (inr (inl e)))))) = rw e refl
-other_answers o numbers_now params frame (inr (inr (inr (inr (inr (inr (n, e))))))) = rw e refl
+other_answers : (o : Opcode) (exchange : ExchangeState) (numbers_now : Stamp) (params : Params) (frame : Frame) → IsOther o → o ≢ opcodes.Text
+    → act_answers_by o exchange numbers_now params frame ≡ []
+other_answers o exchange numbers_now params frame (inl e) no_text = rw e refl
+other_answers o exchange numbers_now params frame (inr (inl e)) no_text = rw e refl
+other_answers o exchange numbers_now params frame (inr (inr (inl e))) no_text = rw e refl
+other_answers o exchange numbers_now params frame (inr (inr (inr (inl e)))) no_text = absurd (no_text e)
+other_answers o exchange numbers_now params frame (inr (inr (inr (inr (inl e))))) no_text = rw e refl
+other_answers o exchange numbers_now params frame (inr (inr (inr (inr (inr (inl e)))))) no_text = rw e refl
+other_answers o exchange numbers_now params frame (inr (inr (inr (inr (inr (inr (n, e))))))) no_text = rw e refl
 
 other_ends : (o : Opcode) (params : Params) (frame : Frame) → IsOther o → ends_by o params frame ≡ false
 other_ends o params frame (inl e) = rw e refl
@@ -100,9 +122,28 @@ other_ends o params frame (inr (inr (inr (inr (inl e))))) = rw e refl
 other_ends o params frame (inr (inr (inr (inr (inr (inl e)))))) = rw e refl
 other_ends o params frame (inr (inr (inr (inr (inr (inr (n, e))))))) = rw e refl
 
-pub other_is : (k : ℕ) (past : Past) → IsOther (kind_of (frame_of past.came k)) → act_answers k past ≡ []
+pub other_is : (k : ℕ) (past : Past) → IsOther (kind_of (frame_of past.came k)) → is_text (frame_of past.came k) ≡ false → act_answers k past ≡ []
 unfolding act_answers
-other_is k past is = other_answers (kind_of (frame_of past.came k)) (stamp (moved k past)) past.params (frame_of past.came k) is
+other_is k past is no_text =
+    other_answers (kind_of (frame_of past.came k)) (exchange_of past) (stamp (moved k past)) past.params (frame_of past.came k) is
+    (λ e. is_no_text (frame_of past.came k) no_text e)
+
+pub text_is : (k : ℕ) (past : Past) → is_text (frame_of past.came k) ≡ true
+    → act_answers k past ≡ text_answer (stamp (moved k past)) (hears (exchange_of past) (frame_of past.came k) past.params).piece (frame_of past.came k) ∷ []
+unfolding act_answers
+text_is k past e =
+    ap (λ (o : Opcode). act_answers_by o (exchange_of past) (stamp (moved k past)) past.params (frame_of past.came k)) (text_kind (frame_of past.came k) e)
+
+pub text_goes_on : (params : Params) (frame : Frame) → is_text frame ≡ true → ends params frame ≡ false
+unfolding ends
+text_goes_on params frame e = ap (λ (o : Opcode). ends_by o params frame) (text_kind frame e)
+
+pub text_act : (k : ℕ) (past : Past) → is_text (frame_of past.came k) ≡ true → Taken ≡ cond (ends past.params (frame_of past.came k)) Ended Taken
+text_act k past e = ap (λ (b : Bool). cond b Ended Taken) (sym (text_goes_on past.params (frame_of past.came k) e))
+
+bears_piece : (numbers_now : Stamp) (piece : Option TextPiece) (frame : Frame) → bears_status (text_answer numbers_now piece frame) ≡ true
+bears_piece numbers_now None frame = refl
+bears_piece numbers_now (Some piece) frame = refl
 
 pub other_goes_on : (params : Params) (frame : Frame) → IsOther (kind_of frame) → ends params frame ≡ false
 unfolding ends
@@ -112,8 +153,11 @@ bears_by : (b : Bool) (x y : Answer) → bears_status x ≡ true → bears_statu
 bears_by true x y p q = p
 bears_by false x y p q = q
 
-one_bearing : (x : Answer) → bears_status x ≡ true → bearing (x ∷ []) ≡ 1
+pub one_bearing : (x : Answer) → bears_status x ≡ true → bearing (x ∷ []) ≡ 1
 one_bearing x e = rw e refl
+
+pub text_bears : (numbers_now : Stamp) (piece : Option TextPiece) (frame : Frame) → bearing (text_answer numbers_now piece frame ∷ []) ≡ 1
+text_bears numbers_now piece frame = one_bearing (text_answer numbers_now piece frame) (bears_piece numbers_now piece frame)
 
 pub logout_bears : (numbers_now : Stamp) (params : Params) (frame : Frame) → bearing (logout_answer numbers_now params frame ∷ []) ≡ 1
 logout_bears numbers_now params frame =
@@ -173,6 +217,9 @@ pub first_due : (past : Past) (state : SessionState) (k : ℕ) (rest : List ℕ)
     → state.tasks.due ≡ frame_of past.came k ∷ frames_of past.came rest
 first_due past state k rest s is = due_is past state s ∙ ap (frames_of past.came) is
 
+command_no_text : (frame : Frame) → is_command frame ≡ true → is_text frame ≡ false
+command_no_text frame e = not_text frame opcodes.ScsiCommand (ap opcode_of (eqb-true (opcode_number frame.header) 0x01 e)) (λ x. absurd cc)
+
 pub stands_command : (past : Past) (state : SessionState) (k : ℕ) (rest : List ℕ) → Stands past state → due past ≡ k ∷ rest
     → is_command (frame_of past.came k) ≡ true
     → Stands (acted k past)
@@ -184,7 +231,8 @@ stands_command past state k rest s is e =
     (record state { tasks = record state.tasks { due = frames_of past.came rest; queue = state.tasks.queue ++ frame_of past.came k ∷ [] } })) same
     (stands_tasks past after state _ s (lawful_command past s.lawful k rest is e) refl refl
     (ap (λ (t : TaskLists). record t { due = frames_of past.came rest; queue = t.queue ++ frame_of past.came k ∷ [] }) (parts past state s).tasks_is
-    ∙ tasks_command past s.lawful k rest is e) (transfers_command past s.lawful k rest is))
+    ∙ tasks_command past s.lawful k rest is e) (transfers_command past s.lawful k rest is)
+    (exchange_acted past after k refl refl refl ∙ exchange_other past.params (exchange_of past) (frame_of past.came k) (command_no_text (frame_of past.came k) e)))
 
 pub stands_queued : (past : Past) (state : SessionState) (k : ℕ) (rest : List ℕ) (frame : Frame) (others : List Frame) (tasks : TaskLists)
     → Stands past state → due past ≡ k ∷ rest → is_command (frame_of past.came k) ≡ true
@@ -194,29 +242,62 @@ stands_queued past state k rest frame others tasks s is e here left same = rw (s
 
 pub stands_other : (past : Past) (state : SessionState) (k : ℕ) (rest : List ℕ) → Stands past state → due past ≡ k ∷ rest
     → is_command (frame_of past.came k) ≡ false
-    → Stands (moved k past) (record state { tasks = one_fewer (frame_of past.came k) (record state.tasks { due = drop 1 state.tasks.due }) })
+    → Stands (moved k past) (record state {
+      tasks = one_fewer (frame_of past.came k) (record state.tasks { due = drop 1 state.tasks.due });
+      exchange = exchange_behind past.params (exchange_of past) (frame_of past.came k);
+    })
 stands_other past state k rest s is e =
     let after : Past = record past { acted = past.acted ++ k ∷ []; finished = past.finished ++ k ∷ [] } in
     let dropped : drop 1 state.tasks.due ≡ frames_of past.came rest = ap (drop 1) (first_due past state k rest s is) in
-    subst (λ (p : Past). Stands p (record state { tasks = one_fewer (frame_of past.came k) (record state.tasks { due = drop 1 state.tasks.due }) }))
+    subst (λ (p : Past). Stands p (record state {
+      tasks = one_fewer (frame_of past.came k) (record state.tasks { due = drop 1 state.tasks.due });
+      exchange = exchange_behind past.params (exchange_of past) (frame_of past.came k);
+    }))
     (moved_other k past e)
-    (stands_tasks past after state _ s (lawful_other past s.lawful k rest is e) refl refl
+    (stands_parts past after state _ state.transfers _ s (lawful_other past s.lawful k rest is e) refl refl
     (ap (λ (l : List Frame). one_fewer (frame_of past.came k) (record state.tasks { due = l })) dropped
     ∙ ap (λ (t : TaskLists). one_fewer (frame_of past.came k) (record t { due = frames_of past.came rest })) (parts past state s).tasks_is
-    ∙ tasks_other past s.lawful k rest is e) (transfers_other past s.lawful k rest is e))
+    ∙ tasks_other past s.lawful k rest is e)
+    ((parts past state s).transfers_is ∙ sym (transfers_other past s.lawful k rest is e))
+    (sym (exchange_acted past after k refl refl refl)))
 
 pub same_head : (a b : Frame) (x y l : List Frame) → l ≡ a ∷ x → l ≡ b ∷ y → a ≡ b
 same_head a b x y l p q = let both : a ∷ x ≡ b ∷ y = sym p ∙ q in cc
 
 -- the first that is due is finished, in the code
 pub finished_here : (past : Past) (state : SessionState) (k : ℕ) (rest : List ℕ) (frame : Frame) (tasks : TaskLists) → Stands past state
-    → due past ≡ k ∷ rest → is_command (frame_of past.came k) ≡ false
+    → due past ≡ k ∷ rest → is_command (frame_of past.came k) ≡ false → is_text (frame_of past.came k) ≡ false
     → state.tasks.due ≡ frame ∷ drop 1 state.tasks.due → tasks ≡ one_fewer frame (record state.tasks { due = drop 1 state.tasks.due })
     → (frame ≡ frame_of past.came k) × Stands (moved k past) (record state { tasks = tasks })
-finished_here past state k rest frame tasks s is e some same =
+finished_here past state k rest frame tasks s is e no_text some same =
     let here = same_head frame (frame_of past.came k) (drop 1 state.tasks.due) (frames_of past.came rest) state.tasks.due some
     (first_due past state k rest s is) in
-    (here, rw (same, here) (stands_other past state k rest s is e))
+    let kept : state.exchange ≡ exchange_behind past.params (exchange_of past) (frame_of past.came k) = (parts past state s).exchange_is
+    ∙ sym (exchange_other past.params (exchange_of past) (frame_of past.came k) no_text) in (
+      here,
+      rw (same, here) (subst (λ (x : ExchangeState). Stands (moved k past) (record state {
+        tasks = one_fewer (frame_of past.came k) (record state.tasks { due = drop 1 state.tasks.due });
+        exchange = x;
+      })) (sym kept) (stands_other past state k rest s is e)),
+    )
+
+-- a Text is finished, and its exchange goes on or is over
+pub text_here : (past : Past) (state : SessionState) (k : ℕ) (rest : List ℕ) (frame : Frame) (tasks : TaskLists) (told : ToldState) → Stands past state
+    → due past ≡ k ∷ rest → is_text (frame_of past.came k) ≡ true
+    → state.tasks.due ≡ frame ∷ drop 1 state.tasks.due → tasks ≡ one_fewer frame (record state.tasks { due = drop 1 state.tasks.due })
+    → told ≡ hears state.exchange (frame_of past.came k) state.params
+    → (frame ≡ frame_of past.came k) × (told ≡ hears (exchange_of past) (frame_of past.came k) past.params)
+    × Stands (moved k past) (record state { tasks = tasks; exchange = told.exchange })
+text_here past state k rest frame tasks told s is e some same hears_so =
+    let p = parts past state s in
+    let f = frame_of past.came k in
+    let here = same_head frame f (drop 1 state.tasks.due) (frames_of past.came rest) state.tasks.due some (first_due past state k rest s is) in
+    let heard : told ≡ hears (exchange_of past) f past.params = hears_so ∙ ap (λ (x : ExchangeState). hears x f state.params) p.exchange_is
+    ∙ ap (hears (exchange_of past) f) p.params_is in
+    let next : told.exchange ≡ exchange_behind past.params (exchange_of past) f = ap (λ (t : ToldState). t.exchange) heard
+    ∙ sym (exchange_text past.params (exchange_of past) f e) in
+    let no_command : is_command f ≡ false = false_from_ne_true (is_command f) (λ c. absurd (let no = sym (command_no_text f c) ∙ e in cc)) in
+    (here, heard, rw (same, here, next) (stands_other past state k rest s is no_command))
 
 pub ping_act : (k : ℕ) (past : Past) → kind_of (frame_of past.came k) ≡ opcodes.NopOut → Taken ≡ cond (ends past.params (frame_of past.came k)) Ended Taken
 ping_act k past is = ap (λ (b : Bool). cond b Ended Taken) (sym (ping_goes_on past.params (frame_of past.came k) is))
@@ -238,6 +319,13 @@ ping_same k past frame same kind = ap (ping_answers (stamp (moved k past)) (move
 pub logout_same : (k : ℕ) (past : Past) (frame : Frame) → frame ≡ frame_of past.came k → kind_of (frame_of past.came k) ≡ opcodes.Logout
     → logout_answer (stamp (moved k past)) (moved k past).params frame ∷ [] ≡ act_answers k past
 logout_same k past frame same kind = ap (λ (f : Frame). logout_answer (stamp (moved k past)) (moved k past).params f ∷ []) same ∙ sym (logout_is k past kind)
+
+pub text_same : (k : ℕ) (past : Past) (frame : Frame) (told : ToldState) → frame ≡ frame_of past.came k
+    → told ≡ hears (exchange_of past) (frame_of past.came k) past.params → is_text (frame_of past.came k) ≡ true
+    → text_answer (stamp (moved k past)) told.piece frame ∷ [] ≡ act_answers k past
+text_same k past frame told same heard e =
+    ap (λ (f : Frame). text_answer (stamp (moved k past)) told.piece f ∷ []) same
+    ∙ ap (λ (t : ToldState). text_answer (stamp (moved k past)) t.piece (frame_of past.came k) ∷ []) heard ∙ sym (text_is k past e)
 
 pub one_spelled : (old : List ℕ) (answer : Answer) (all : List Answer) → answer ∷ [] ≡ all → old ++ spelling answer ≡ old ++ flat_map spelling all
 one_spelled old answer all e = ap (λ (bytes : List ℕ). old ++ bytes) (sym (append-nil (spelling answer)))
@@ -316,13 +404,13 @@ done_here past state k rest frame tasks transfers s is some same gone =
     let first : state.tasks.queue ≡ frame_of past.came k ∷ frames_of past.came rest = queue_is past state s ∙ ap (frames_of past.came) is in
     let here = same_head frame (frame_of past.came k) (drop 1 state.tasks.queue) (frames_of past.came rest) state.tasks.queue some first in (
       here,
-      stands_parts past (finished k past) state tasks transfers s (lawful_finished past s.lawful k rest is) refl refl
+      stands_parts past (finished k past) state tasks transfers state.exchange s (lawful_finished past s.lawful k rest is) refl refl
           (same ∙ ap (λ (l : List Frame). one_fewer frame (record state.tasks { queue = l })) (ap (drop 1) first)
           ∙ ap (λ (f : Frame). one_fewer f (record state.tasks { queue = frames_of past.came rest })) here
           ∙ ap (λ (t : TaskLists). one_fewer (frame_of past.came k) (record t { queue = frames_of past.came rest })) (parts past state s).tasks_is
           ∙ tasks_finished past s.lawful k rest is)
           (gone ∙ ap (λ (f : Frame). record state.transfers { list = removed_at state.transfers.list (place_for f state.transfers.list) }) here
-          ∙ removed_is past state k rest s is),
+          ∙ removed_is past state k rest s is) ((parts past state s).exchange_is ∙ sym (exchange_finished k past)),
     )
 
 logout_by : (a b c : Bool) (w x y z : Answer) → a ≡ false → b ≡ false → c ≡ false → cond a w (cond b x (cond c y z)) ≡ z

@@ -18,6 +18,7 @@ use Rattle.iscsi_order.specs.Stat.{stat_sn}
 use Rattle.iscsi_session.proofs.Left.{in_at, in_filter}
 use Rattle.iscsi_session.proofs.Places.{Located, located, index_map, set_map, first_passes, none_passes, one_more}
 use Rattle.iscsi_session.proofs.Unfinished.{unfinished_came, unfinished_distinct}
+use Rattle.iscsi_session.proofs.Exchanging.{exchange_asked}
 use Rattle.iscsi_session.proofs.Parts.{parts}
 use Rattle.iscsi_session.proofs.Feeding.{list_is}
 use Rattle.iscsi_session.proofs.Runs.{lawful_data, statuses_answering}
@@ -132,7 +133,8 @@ stands_one past state k i others s is at =
     let tasks_is = p.tasks_is ∙ sym (tasks_asked past k) in
     let transfers_is : asked_at state.transfers (Some i) ≡ transfers_of (asked k past) =
     ap (λ (t : TransferList). asked_at t (Some i)) p.transfers_is ∙ asked_transfers past k i at in
-    record { lawful = lawful_asked past k (asking_came past k others is) s.lawful; remembered = rw (p.params_is, stat_is, tasks_is, transfers_is) refl }
+    let exchange_is = p.exchange_is ∙ sym (exchange_asked k past) in
+    record { lawful = lawful_asked past k (asking_came past k others is) s.lawful; remembered = rw (p.params_is, stat_is, tasks_is, transfers_is, exchange_is) refl }
 
 stands_place : (past : Past) (state : SessionState) (at : Option ℕ) → Stands past state
     → Located (λ transfer. is_some (due_of transfer)) (transfer_of past) (unfinished past) at

@@ -17,6 +17,7 @@ use Rattle.iscsi_session.proofs.Left.{in_at}
 use Rattle.iscsi_session.proofs.Places.{Located, located, index_map, set_map, remove_map, missing, found_or_not, found_self, count_map, or_known, one_more}
 use Rattle.iscsi_session.proofs.Unfinished.{unfinished_came, unfinished_distinct, queue_unfinished}
 use Rattle.iscsi_session.proofs.Moved.{transfers_finished}
+use Rattle.iscsi_session.proofs.Exchanging.{exchange_fed}
 use Rattle.iscsi_session.proofs.Parts.{parts, stands_parts}
 use Rattle.iscsi_session.proofs.Runs.{lawful_data}
 
@@ -165,8 +166,8 @@ pub stands_fed : (past : Past) (state : SessionState) (frame : Frame) → Stands
 stands_fed past state frame s =
     let c = command_with past (initiator_task_tag frame.header) in
     let same = fed_same past frame c in
-    stands_parts past (fed c frame past) state state.tasks _ s (lawful_fed past frame s.lawful) same.0 same.1
-    ((parts past state s).tasks_is ∙ fed_tasks past frame c) (fed_is past state frame s)
+    stands_parts past (fed c frame past) state state.tasks _ state.exchange s (lawful_fed past frame s.lawful) same.0 same.1
+    ((parts past state s).tasks_is ∙ fed_tasks past frame c) (fed_is past state frame s) ((parts past state s).exchange_is ∙ sym (exchange_fed c frame past))
 
 -- ---- a command of the queue
 

@@ -7,6 +7,7 @@ pub mod Fronts
 pub mod Accepted
 pub mod Moved
 mod Lines
+pub mod Exchanging
 pub mod Parts
 mod Feeding
 mod Asking

@@ -22,6 +22,9 @@ use Rattle.iscsi_session.specs.declared.transfers.Transfer.{Transfer}
 use Rattle.iscsi_transfer.specs.Task.{TaskState, remembered as task_of}
 use Rattle.iscsi_transfer.specs.Payload.{begun as begun_data}
 use Rattle.iscsi_session.specs.State.{SessionState, TaskLists, TransferList, no_tasks, no_transfers, transfers_of, begun_transfer, kept, frame_numbered, tasks_of, window_of, IsLawful, Stands, is_vacant, is_vacant_for, holding, takes_all}
+use Rattle.iscsi_exchange.specs.ExchangeState.{ExchangeState, no_exchange}
+use Rattle.iscsi_session.specs.Texts.{exchange_of}
+use Rattle.iscsi_session.proofs.Exchanging.{exchange_joined, exchange_answering}
 use Rattle.iscsi_session.proofs.Fronts.{frame_marked}
 use Rattle.iscsi_session.proofs.Unfinished.{joined, transfers_joined}
 use Rattle.iscsi_session.proofs.Accepted.{HasFreeTag, marks_are, finished_below, now, with, IsAhead, lawful_now, admitted, lawful_with, held_now}
@@ -40,6 +43,7 @@ pub record Parts (past : Past) (state : SessionState) : Type 0 where
   pub stat_is : state.stat ≡ stat_sn (statuses past)
   pub tasks_is : state.tasks ≡ tasks_of past
   pub transfers_is : state.transfers ≡ transfers_of past
+  pub exchange_is : state.exchange ≡ exchange_of past
 
 pub parts : (past : Past) (state : SessionState) → Stands past state → Parts past state
 parts past state s = record {
@@ -47,6 +51,7 @@ parts past state s = record {
   stat_is = ap (λ (x : SessionState). x.stat) s.remembered;
   tasks_is = ap (λ (x : SessionState). x.tasks) s.remembered;
   transfers_is = ap (λ (x : SessionState). x.transfers) s.remembered;
+  exchange_is = ap (λ (x : SessionState). x.exchange) s.remembered;
 }
 
 pub due_is : (past : Past) (state : SessionState) → Stands past state → state.tasks.due ≡ frames_of past.came (due past)
@@ -68,21 +73,24 @@ window_stands past state s = record { lawful = s.lawful.window; remembered = ap 
 
 -- ---- a session, one step further on
 
-pub stands_parts : (past after : Past) (state : SessionState) (tasks : TaskLists) (transfers : TransferList) → Stands past state → IsLawful after
-    → after.params ≡ past.params → after.answers ≡ past.answers → tasks ≡ tasks_of after → transfers ≡ transfers_of after
-    → Stands after (record state { tasks = tasks; transfers = transfers })
-stands_parts past after state tasks transfers s lawful params answers is same_data =
+pub stands_parts : (past after : Past) (state : SessionState) (tasks : TaskLists) (transfers : TransferList) (exchange : ExchangeState)
+    → Stands past state → IsLawful after
+    → after.params ≡ past.params → after.answers ≡ past.answers → tasks ≡ tasks_of after → transfers ≡ transfers_of after → exchange ≡ exchange_of after
+    → Stands after (record state { tasks = tasks; transfers = transfers; exchange = exchange })
+stands_parts past after state tasks transfers exchange s lawful params answers is same_data same_exchange =
     let p = parts past state s in
     let same : statuses past ≡ statuses after = rw (params, answers) refl in
     let params_is : state.params ≡ after.params = p.params_is ∙ sym params in
     let stat_is : state.stat ≡ stat_sn (statuses after) = p.stat_is ∙ ap stat_sn same in
-    record { lawful = lawful; remembered = rw (params_is, stat_is, is, same_data) refl }
+    record { lawful = lawful; remembered = rw (params_is, stat_is, is, same_data, same_exchange) refl }
 
 -- its commands have the data that they had
 pub stands_tasks : (past after : Past) (state : SessionState) (tasks : TaskLists) → Stands past state → IsLawful after → after.params ≡ past.params
-    → after.answers ≡ past.answers → tasks ≡ tasks_of after → transfers_of after ≡ transfers_of past → Stands after (record state { tasks = tasks })
-stands_tasks past after state tasks s lawful params answers is same_data =
-    stands_parts past after state tasks state.transfers s lawful params answers is ((parts past state s).transfers_is ∙ sym same_data)
+    → after.answers ≡ past.answers → tasks ≡ tasks_of after → transfers_of after ≡ transfers_of past → exchange_of after ≡ exchange_of past
+    → Stands after (record state { tasks = tasks })
+stands_tasks past after state tasks s lawful params answers is same_data same_exchange =
+    stands_parts past after state tasks state.transfers state.exchange s lawful params answers is ((parts past state s).transfers_is ∙ sym same_data)
+    ((parts past state s).exchange_is ∙ sym same_exchange)
 
 pub stands_stat : (past : Past) (more : List Answer) (state : SessionState) (stat : ℕ) → Stands past state → bearing more ≡ 1
     → stat ≡ stat_sn (suc (statuses past)) → Stands (answering more past) (record state { stat = stat })
@@ -91,7 +99,17 @@ stands_stat past more state stat s one is =
     let count : suc (statuses past) ≡ statuses (answering more past) = omega (arith, statuses_answering more past, one) in
     record {
       lawful = lawful_answering more past s.lawful;
-      remembered = rw (p.params_is, is, count, p.tasks_is, sym (tasks_answering more past), p.transfers_is, sym (transfers_answering more past)) refl;
+      remembered = rw (
+        p.params_is,
+        is,
+        count,
+        p.tasks_is,
+        sym (tasks_answering more past),
+        p.transfers_is,
+        sym (transfers_answering more past),
+        p.exchange_is,
+        sym (exchange_answering more past),
+      ) refl;
     }
 
 -- ---- a request is accepted
@@ -156,7 +174,7 @@ stands_request past state frame s free e =
     let k = kept_by _ past state frame refl s free (λ h. absurd (let no = sym h ∙ e in cc)) in
     stands_tasks past (accepted frame past) state (kept frame state.tasks) s k.0 refl refl k.1
     (transfers_joined false past _ e s.lawful.none_removed (finished_below past s.lawful) s.lawful.fed s.lawful.asked
-    ∙ ap (λ (l : List Transfer). record (transfers_of past) { list = l }) (append-nil (transfers_of past).list))
+    ∙ ap (λ (l : List Transfer). record (transfers_of past) { list = l }) (append-nil (transfers_of past).list)) (exchange_joined past _ s.lawful.below)
 
 -- a SCSI Command, with the data that it brings
 pub stands_begun : (past : Past) (state : SessionState) (frame : Frame) (task : TaskState) → Stands past state → is_vacant_for state.tasks frame ≡ true
@@ -170,10 +188,11 @@ stands_begun past state frame task s free e tag is =
     let k = kept_by _ past state frame refl s free (λ h. tag) in
     let p = parts past state s in
     let same : task ≡ task_of (begun_data past.params.values frame) = is ∙ ap (λ (x : Params). task_of (begun_data x.values frame)) p.params_is in
-    stands_parts past (accepted frame past) state (kept frame state.tasks) _ s k.0 refl refl k.1
+    stands_parts past (accepted frame past) state (kept frame state.tasks) _ state.exchange s k.0 refl refl k.1
     (ap (λ (t : TransferList). record t { list = t.list ++ begun_transfer frame.header task ∷ [] }) p.transfers_is
     ∙ ap (λ (t : TaskState). record (transfers_of past) { list = (transfers_of past).list ++ begun_transfer frame.header t ∷ [] }) same
     ∙ sym (transfers_joined true past _ e s.lawful.none_removed (finished_below past s.lawful) s.lawful.fed s.lawful.asked))
+    (p.exchange_is ∙ sym (exchange_joined past _ s.lawful.below))
 
 -- ---- a session at its beginning
 
@@ -186,3 +205,7 @@ begun_tasks params fits =
 pub begun_transfers : (params : Params) → no_transfers ≡ transfers_of (begun params)
 unfolding transfers_of unfinished left
 begun_transfers params = refl
+
+pub begun_exchange : (params : Params) → no_exchange ≡ exchange_of (begun params)
+unfolding exchange_of
+begun_exchange params = refl

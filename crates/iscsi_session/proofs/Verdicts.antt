@@ -12,7 +12,7 @@ use Rattle.iscsi_session.specs.declared.verdict.Verdict.{Verdict}
 use Rattle.iscsi_session.specs.declared.verdict.Verdict.TheVariants.{Ignored, Rejected, Violating, Accepted, Feeding}
 use Rattle.iscsi_session.specs.Requests.{Past, is_command}
 use Rattle.iscsi_session.specs.Transfers.{command_with, data_fault_of}
-use Rattle.iscsi_session.specs.Judging.{reserved_tag, is_fresh, is_live, is_full, command_verdict, data_verdict, verdict_by, verdict}
+use Rattle.iscsi_session.specs.Judging.{reserved_tag, is_fresh, is_live, is_full, command_verdict, data_verdict, is_refused, verdict_by, request_verdict, verdict}
 
 -- ---- a command, test by test
 
@@ -64,28 +64,35 @@ command_told past frame fresh over taken faulty fresh_is over_is taken_is faulty
 -- ---- by the opcode
 
 pub verdict_at : (past : Past) (frame : Frame) (opcode : Opcode) → opcode_of (opcode_number frame.header) ≡ opcode
-    → verdict past frame ≡ verdict_by opcode past frame
+    → request_verdict past frame ≡ verdict_by opcode past frame
 verdict_at past frame opcode e = ap (λ (o : Opcode). verdict_by o past frame) e
 
 pub numbered_verdict : (past : Past) (frame : Frame) (opcode : Opcode) (fresh : Bool) → opcode_of (opcode_number frame.header) ≡ opcode
-    → (opcode ≡ opcodes.NopOut) ⊎ (opcode ≡ opcodes.Logout) → is_fresh past frame ≡ fresh
-    → verdict past frame ≡ (if fresh then Accepted else Ignored)
+    → (opcode ≡ opcodes.NopOut) ⊎ ((opcode ≡ opcodes.Text) ⊎ (opcode ≡ opcodes.Logout)) → is_fresh past frame ≡ fresh
+    → request_verdict past frame ≡ (if fresh then Accepted else Ignored)
 unfolding verdict_by
 numbered_verdict past frame opcode fresh is (inl e) h = verdict_at past frame opcodes.NopOut (is ∙ e) ∙ ap (λ (b : Bool). if b then Accepted else Ignored) h
-numbered_verdict past frame opcode fresh is (inr e) h = verdict_at past frame opcodes.Logout (is ∙ e) ∙ ap (λ (b : Bool). if b then Accepted else Ignored) h
+numbered_verdict past frame opcode fresh is (inr (inl e)) h = verdict_at past frame opcodes.Text (is ∙ e) ∙ ap (λ (b : Bool). if b then Accepted else Ignored) h
+numbered_verdict past frame opcode fresh is (inr (inr e)) h = verdict_at past frame opcodes.Logout (is ∙ e) ∙ ap (λ (b : Bool). if b then Accepted else Ignored) h
 
 pub fed_verdict : (past : Past) (frame : Frame) → opcode_of (opcode_number frame.header) ≡ opcodes.DataOut
-    → verdict past frame ≡ data_verdict past frame (command_with past (initiator_task_tag frame.header))
+    → request_verdict past frame ≡ data_verdict past frame (command_with past (initiator_task_tag frame.header))
 unfolding verdict_by
 fed_verdict past frame is = verdict_at past frame opcodes.DataOut is
 
 pub refused_verdict : (past : Past) (frame : Frame) (opcode : Opcode) → opcode_of (opcode_number frame.header) ≡ opcode
-    → (opcode ≡ opcodes.TaskManagement) ⊎ ((opcode ≡ opcodes.Text) ⊎ ((n : ℕ) × (opcode ≡ opcodes.Other n)))
-    → verdict past frame ≡ Rejected reasons.CommandNotSupported
+    → (opcode ≡ opcodes.TaskManagement) ⊎ ((n : ℕ) × (opcode ≡ opcodes.Other n))
+    → request_verdict past frame ≡ Rejected reasons.CommandNotSupported
 unfolding verdict_by
 refused_verdict past frame opcode is (inl e) = verdict_at past frame opcodes.TaskManagement (is ∙ e)
-refused_verdict past frame opcode is (inr (inl e)) = verdict_at past frame opcodes.Text (is ∙ e)
-refused_verdict past frame opcode is (inr (inr (n, e))) = verdict_at past frame (opcodes.Other n) (is ∙ e)
+refused_verdict past frame opcode is (inr (n, e)) = verdict_at past frame (opcodes.Other n) (is ∙ e)
+
+-- in a discovery session most are refused
+pub verdict_refused : (past : Past) (frame : Frame) → is_refused past.params frame ≡ true → verdict past frame ≡ Rejected reasons.CommandNotSupported
+verdict_refused past frame e = rw e refl
+
+pub verdict_served : (past : Past) (frame : Frame) → is_refused past.params frame ≡ false → verdict past frame ≡ request_verdict past frame
+verdict_served past frame e = rw e refl
 
 -- ---- what is accepted is fresh, and its tag is free
 
@@ -133,8 +140,13 @@ accepted_by opcodes.Login past frame is e = absurd cc
 accepted_by opcodes.DataOut past frame is e = absurd (data_not_accepted past frame (command_with past (initiator_task_tag frame.header)) e)
 accepted_by opcodes.Snack past frame is e = absurd cc
 accepted_by opcodes.TaskManagement past frame is e = absurd cc
-accepted_by opcodes.Text past frame is e = absurd cc
+accepted_by opcodes.Text past frame is e =
+    record { fresh = fresh_passed (is_fresh past frame) e; tag = λ h. absurd (no_command frame opcodes.Text is (λ x. absurd cc) h) }
 accepted_by (opcodes.Other n) past frame is e = absurd cc
 
 pub accepted_free : (past : Past) (frame : Frame) → verdict past frame ≡ Accepted → IsFree past frame
-accepted_free past frame e = accepted_by (opcode_of (opcode_number frame.header)) past frame refl e
+accepted_free past frame e = served_by (is_refused past.params frame) e
+  where
+    served_by : (b : Bool) → (if b then Rejected reasons.CommandNotSupported else request_verdict past frame) ≡ Accepted → IsFree past frame
+    served_by true e = absurd cc
+    served_by false e = accepted_by (opcode_of (opcode_number frame.header)) past frame refl e

@@ -17,6 +17,8 @@ use Rattle.iscsi_login.specs.declared.params.Params.{Params}
 use Rattle.iscsi_login.specs.declared.values.Values.{Values}
 use Rattle.iscsi_session.specs.Requests.{Past, frame_of, moved, answering, stamp}
 use Rattle.iscsi_session.specs.Judging.{reserved_tag, reject}
+use Rattle.iscsi_session.specs.Texts.{exchange_of, text_answer_in}
+use Rattle.iscsi_exchange.specs.ExchangeState.{ExchangeState}
 use Rattle.iscsi_session.specs.declared.act.Act.{Act}
 use Rattle.iscsi_session.specs.declared.act.Act.TheVariants.{Idle, Taken, Ended}
 
@@ -48,20 +50,21 @@ logout_answer numbers_now params frame =
     else reject reasons.InvalidField numbers_now frame
 
 -- by the opcode: a request of any other kind is not accepted
-abbrev pub act_answers_by : Opcode → Stamp → Params → Frame → List Answer
-act_answers_by opcodes.ScsiCommand numbers_now params frame = []
-act_answers_by opcodes.NopOut numbers_now params frame = ping_answers numbers_now params.values frame
-act_answers_by opcodes.Logout numbers_now params frame = logout_answer numbers_now params frame ∷ []
-act_answers_by opcodes.TaskManagement numbers_now params frame = []
-act_answers_by opcodes.Login numbers_now params frame = []
-act_answers_by opcodes.Text numbers_now params frame = []
-act_answers_by opcodes.DataOut numbers_now params frame = []
-act_answers_by opcodes.Snack numbers_now params frame = []
-act_answers_by (opcodes.Other n) numbers_now params frame = []
+abbrev pub act_answers_by : Opcode → ExchangeState → Stamp → Params → Frame → List Answer
+act_answers_by opcodes.ScsiCommand exchange numbers_now params frame = []
+act_answers_by opcodes.NopOut exchange numbers_now params frame = ping_answers numbers_now params.values frame
+act_answers_by opcodes.Logout exchange numbers_now params frame = logout_answer numbers_now params frame ∷ []
+act_answers_by opcodes.TaskManagement exchange numbers_now params frame = []
+act_answers_by opcodes.Login exchange numbers_now params frame = []
+act_answers_by opcodes.Text exchange numbers_now params frame = text_answer_in exchange numbers_now params frame ∷ []
+act_answers_by opcodes.DataOut exchange numbers_now params frame = []
+act_answers_by opcodes.Snack exchange numbers_now params frame = []
+act_answers_by (opcodes.Other n) exchange numbers_now params frame = []
 
 -- a request that is no SCSI Command counts as finished before its answer is stamped
 unfoldable pub act_answers : ℕ → Past → List Answer
-act_answers k past = act_answers_by (opcode_of (opcode_number (frame_of past.came k).header)) (stamp (moved k past)) past.params (frame_of past.came k)
+act_answers k past =
+    act_answers_by (opcode_of (opcode_number (frame_of past.came k).header)) (exchange_of past) (stamp (moved k past)) past.params (frame_of past.came k)
 
 -- a request that was taken acts
 abbrev pub acted : ℕ → Past → Past

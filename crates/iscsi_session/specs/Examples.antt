@@ -13,7 +13,7 @@ use Rattle.iscsi_session.specs.declared.verdict.Verdict.TheVariants.{Ignored, Dr
 use Rattle.iscsi_transfer.specs.Task.{remembered as task_of, fault_of}
 use Rattle.iscsi_session.specs.Requests.{Past, begun, left, taken, taken_at, held, due, queue, unfinished, stamp, numbers}
 use Rattle.iscsi_session.specs.Transfers.{outs_of, tags_of, task_at, asking, asked_by, r2t_of}
-use Rattle.iscsi_session.specs.Judging.{verdict, verdict_by, command_verdict, judged, reject}
+use Rattle.iscsi_session.specs.Judging.{is_refused, verdict, verdict_by, command_verdict, judged, reject}
 use Rattle.scsi_sense.specs.Done.{good}
 use Rattle.iscsi_session.specs.Answers.{data_answers, scsi_answer}
 use Rattle.iscsi_session.specs.Steps.{answered_command, ready}
@@ -21,7 +21,7 @@ use Rattle.iscsi_session.specs.Acts.{acted, act_answers, ends, logout_response}
 
 -- what an example unfolds
 unfoldable pub computed : Bool
-unfolding order.taken left taken taken_at held due queue unfinished stamp command_verdict verdict_by act_answers ends data_answers scsi_answer
+unfolding order.taken left taken taken_at held due queue unfinished stamp command_verdict is_refused verdict_by act_answers ends data_answers scsi_answer
     outs_of tags_of task_at task_of fault_of asking r2t_of ready
 computed = true
 
@@ -65,7 +65,8 @@ data_out tag = request 0x05 0x80 (low tag) (low 0)
 abbrev params_from : ℕ → Params
 params_from first = record {
   nexus = record { initiator_name = 0x61 ∷ []; isid = replicate 6 0 };
-  target = 0;
+  target = Some 0;
+  directory = record { names = (0x74 ∷ 0x31 ∷ []) ∷ []; portal = [] };
   connection_id = 0;
   first_cmd_sn = first;
   next_stat_sn = 1;
@@ -76,6 +77,7 @@ params_from first = record {
 abbrev command_stamp : Answer → Option Stamp
 command_stamp (answers.ScsiResponse response) = Some response.stamp
 command_stamp (answers.LoginResponse response) = None
+command_stamp (answers.TextResponse response) = None
 command_stamp (answers.DataIn piece) = None
 command_stamp (answers.NopIn ping) = None
 command_stamp (answers.R2t r2t) = None

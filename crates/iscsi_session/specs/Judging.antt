@@ -1,5 +1,5 @@
 -- What a frame in full feature phase is judged to be.
-use Rattle.std.specs.Prelude.{ℕ, List, [], ◌∷◌, length, filter, Bool, true, false, ◌&&◌, ◌||◌, not, ◌==◌, nat_lt, Option, Some, None, is_some, if◌then◌else◌}
+use Rattle.std.specs.Prelude.{ℕ, List, [], ◌∷◌, length, filter, Bool, true, false, ◌&&◌, ◌||◌, not, ◌==◌, nat_lt, Option, Some, None, is_some, is_none, if◌then◌else◌}
 use Rattle.iscsi_pdu.specs.Header.{opcode_of, opcode_number, is_immediate, cmd_sn, initiator_task_tag}
 use Rattle.iscsi_pdu.specs.Frames.{Frame}
 use Rattle.iscsi_pdu.specs.declared.header.Opcode.{Opcode}
@@ -9,6 +9,8 @@ use Rattle.iscsi_pdu.specs.declared.reject.RejectReason.TheVariants as reasons
 use Rattle.iscsi_pdu.specs.declared.answer.Answer.{Answer}
 use Rattle.iscsi_pdu.specs.declared.answer.Answer.TheVariants as answers
 use Rattle.iscsi_pdu.specs.declared.stamp.Stamp.{Stamp}
+use Rattle.iscsi_pdu.specs.LogoutRequest.{logout_reason}
+use Rattle.iscsi_login.specs.declared.params.Params.{Params}
 use Rattle.iscsi_order.specs.Window as order
 use Rattle.iscsi_transfer.specs.Task.{command_fault}
 use Rattle.iscsi_session.specs.Requests.{Past, frame_of, numbers, unfinished, accepted, answering, stamp}
@@ -50,7 +52,22 @@ abbrev pub data_verdict : Past → Frame → Option ℕ → Verdict
 data_verdict past frame None = Dropped
 data_verdict past frame (Some k) = if is_some (data_fault_of past k frame) then Violating else Feeding
 
--- By its opcode first. Own: Text and Task Management are refused.
+-- own: a discovery session serves Text, and a Logout of the session
+abbrev pub is_none_of_discovery : Opcode → Frame → Bool
+is_none_of_discovery opcodes.ScsiCommand frame = true
+is_none_of_discovery opcodes.TaskManagement frame = true
+is_none_of_discovery opcodes.NopOut frame = true
+is_none_of_discovery opcodes.DataOut frame = true
+is_none_of_discovery opcodes.Logout frame = not (logout_reason frame.header == 0)
+is_none_of_discovery opcodes.Login frame = false
+is_none_of_discovery opcodes.Text frame = false
+is_none_of_discovery opcodes.Snack frame = false
+is_none_of_discovery (opcodes.Other n) frame = false
+
+unfoldable pub is_refused : Params → Frame → Bool
+is_refused params frame = is_none params.target && is_none_of_discovery (opcode_of (opcode_number frame.header)) frame
+
+-- By its opcode first. Own: Task Management is refused.
 unfoldable pub verdict_by : Opcode → Past → Frame → Verdict
 verdict_by opcodes.ScsiCommand past frame = command_verdict past frame
 verdict_by opcodes.NopOut past frame = if is_fresh past frame then Accepted else Ignored
@@ -59,11 +76,14 @@ verdict_by opcodes.Login past frame = Violating
 verdict_by opcodes.DataOut past frame = data_verdict past frame (command_with past (initiator_task_tag frame.header))
 verdict_by opcodes.Snack past frame = Rejected reasons.Snack
 verdict_by opcodes.TaskManagement past frame = Rejected reasons.CommandNotSupported
-verdict_by opcodes.Text past frame = Rejected reasons.CommandNotSupported
+verdict_by opcodes.Text past frame = if is_fresh past frame then Accepted else Ignored
 verdict_by (opcodes.Other n) past frame = Rejected reasons.CommandNotSupported
 
+abbrev pub request_verdict : Past → Frame → Verdict
+request_verdict past frame = verdict_by (opcode_of (opcode_number frame.header)) past frame
+
 abbrev pub verdict : Past → Frame → Verdict
-verdict past frame = verdict_by (opcode_of (opcode_number frame.header)) past frame
+verdict past frame = if is_refused past.params frame then Rejected reasons.CommandNotSupported else request_verdict past frame
 
 -- ---- what comes of it
 

@@ -14,6 +14,7 @@ pub use Rattle.scsi_sense.specs.Done
 pub mod Requests
 pub mod Transfers
 pub mod Judging
+pub mod Texts
 pub mod Acts
 pub mod Answers
 pub mod Commands

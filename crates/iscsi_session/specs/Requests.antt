@@ -144,6 +144,7 @@ bears_status (answers.DataIn piece) = false
 bears_status (answers.NopIn ping) = true
 bears_status (answers.R2t ask) = false
 bears_status (answers.LogoutResponse response) = true
+bears_status (answers.TextResponse response) = true
 bears_status (answers.Reject refusal) = true
 
 abbrev pub bearing : List Answer → ℕ

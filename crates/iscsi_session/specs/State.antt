@@ -17,6 +17,8 @@ use Rattle.iscsi_session.specs.declared.transfers.Transfer.{Transfer}
 use Rattle.iscsi_session.specs.declared.verdict.Verdict.{Verdict}
 use Rattle.iscsi_session.specs.declared.verdict.Verdict.TheVariants.{Dropped, Violating, Feeding}
 use Rattle.iscsi_session.specs.Judging.{most_immediate}
+use Rattle.iscsi_session.specs.Texts.{exchange_of}
+use Rattle.iscsi_exchange.specs.ExchangeState.{ExchangeState}
 use Rattle.iscsi_session.specs.Transfers.{tag_of, tags_of, task_at, next_transfer_tag, unsent, r2t_for}
 
 -- the requests that are not finished, and the numbers
@@ -47,6 +49,7 @@ pub record SessionState : Type 0 where
   pub stat : ℕ
   pub tasks : TaskLists
   pub transfers : TransferList
+  pub exchange : ExchangeState
 
 -- the request with this number
 abbrev pub frame_numbered : List Request → ℕ → Option Frame
@@ -72,7 +75,7 @@ unfoldable pub transfers_of : Past → TransferList
 transfers_of past = record { next_tag = next_transfer_tag past; list = map (transfer_of past) (unfinished past) }
 
 abbrev pub remembered : Past → SessionState
-remembered past = record { params = past.params; stat = stat_sn (statuses past); tasks = tasks_of past; transfers = transfers_of past }
+remembered past = record { params = past.params; stat = stat_sn (statuses past); tasks = tasks_of past; transfers = transfers_of past; exchange = exchange_of past }
 
 -- the numbers alone
 abbrev pub window_of : TaskLists → windows.WindowState

@@ -20,6 +20,12 @@ impl From<scsi_unit::Memory> for Memory {
     }
 }
 
+impl From<iscsi_exchange::Memory> for Memory {
+    fn from(_e: iscsi_exchange::Memory) -> Memory {
+        Memory
+    }
+}
+
 impl<T: Drop> From<AllocFailed<T>> for Memory {
     fn from(_e: AllocFailed<T>) -> Memory {
         Memory

@@ -6,7 +6,7 @@ ghost use Rattle.iscsi_pdu.specs.Frames as pdu;
 ghost use Rattle.iscsi_pdu.specs.Header.{initiator_task_tag};
 ghost use Rattle.iscsi_session.specs.Requests.{Past, is_command as is_command_in, accepted, answering, stamp};
 ghost use Rattle.iscsi_session.specs.Transfers.{command_with, fed};
-ghost use Rattle.iscsi_session.specs.Judging.{verdict, is_fresh, command_verdict, judged, judged_answers, reject};
+ghost use Rattle.iscsi_session.specs.Judging.{verdict, request_verdict, is_refused, is_fresh, command_verdict, judged, judged_answers, reject};
 ghost use Rattle.iscsi_session.specs.State.{Stands, is_vacant_for, judged_at, place_for, IsAcceptable, IsLawfulCommand};
 
 use crate::acting::is_command;
@@ -46,9 +46,39 @@ impl Session {
         Ok(verdict)
     }
 
-    /// What a frame is judged to be.
+    /// What a frame is judged to be. In a discovery session most are refused.
     fn judge(&self, frame: &Frame) -> Verdict
         ensures verdict { (past : Past) → Stands past self.now → result ≡ verdict past frame.now }
+        ensures vacant { result ≡ Verdict.Accepted → is_vacant_for self.now.tasks frame.now ≡ true }
+        ensures acceptable { result ≡ Verdict.Accepted → IsAcceptable self.now frame.now }
+        ensures lawful { result ≡ Verdict.Feeding
+            → judged_at self.now.transfers.list frame.now (place_for frame.now self.now.transfers.list) ≡ Verdict.Feeding }
+    {
+        if self.is_refused(frame) {
+            return Verdict::Rejected(RejectReason::CommandNotSupported);
+        }
+        self.judge_request(frame)
+    }
+
+    /// The session is a discovery session, and does not serve this.
+    #[tactic(auto, unfolding(crate::specs::Judging::is_refused))]
+    fn is_refused(&self, frame: &Frame) -> bool
+        ensures { result ≡ is_refused self.now.params frame.now }
+    {
+        let header = &frame.header;
+        if self.params.target.is_some() {
+            return false;
+        }
+        match header.opcode() {
+            Opcode::ScsiCommand | Opcode::TaskManagement | Opcode::NopOut | Opcode::DataOut => true,
+            Opcode::Logout => header.logout_reason() != 0,
+            Opcode::Login | Opcode::Text | Opcode::Snack | Opcode::Other(_) => false,
+        }
+    }
+
+    /// What a frame is judged to be that the session serves.
+    fn judge_request(&self, frame: &Frame) -> Verdict
+        ensures verdict { (past : Past) → Stands past self.now → result ≡ request_verdict past frame.now }
         ensures vacant { result ≡ Verdict.Accepted → is_vacant_for self.now.tasks frame.now ≡ true }
         ensures acceptable { result ≡ Verdict.Accepted → IsAcceptable self.now frame.now }
         ensures lawful { result ≡ Verdict.Feeding
@@ -57,7 +87,7 @@ impl Session {
         let header = &frame.header;
         match header.opcode() {
             Opcode::ScsiCommand => self.judge_command(frame),
-            Opcode::NopOut | Opcode::Logout => {
+            Opcode::NopOut | Opcode::Text | Opcode::Logout => {
                 if self.is_fresh(frame) {
                     return Verdict::Accepted;
                 }
@@ -66,7 +96,7 @@ impl Session {
             Opcode::Login => Verdict::Violating,
             Opcode::DataOut => self.transfers.judge(frame),
             Opcode::Snack => Verdict::Rejected(RejectReason::Snack),
-            Opcode::TaskManagement | Opcode::Text | Opcode::Other(_) => {
+            Opcode::TaskManagement | Opcode::Other(_) => {
                 Verdict::Rejected(RejectReason::CommandNotSupported)
             }
         }

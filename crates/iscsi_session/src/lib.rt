@@ -5,7 +5,7 @@
 //!   frame   judged   held in the window      due        queue      done, where its data is whole,
 //!   ----->  --------> behind a missing  ---> acts  ---> SCSI  ---> on the units,
 //!           rejected  number                 │          Commands   and answered
-//!                │                           └ NOP-Out, Logout: answered at once
+//!                │                           └ NOP-Out, Text, Logout: answered at once
 //!                └ Data-Out: the data of its command grows; where more is wanted, an R2T asks for it
 //! ```
 //!
@@ -27,6 +27,7 @@ pub mod laws;
 mod serving;
 mod session;
 mod tasks;
+mod texts;
 mod transfers;
 mod verdict;
 

@@ -7,6 +7,7 @@ ghost use Rattle.iscsi_session.specs.State.{remembered, Stands, whole_at, place_
 
 use crate::tasks::Tasks;
 use crate::transfers::Transfers;
+use iscsi_exchange::Exchange;
 use iscsi_login::Params;
 use iscsi_order::Stat;
 use iscsi_pdu::{Frame, Stamp};
@@ -24,6 +25,7 @@ pub struct Session {
     pub(crate) stat: Stat,
     pub(crate) tasks: Tasks,
     pub(crate) transfers: Transfers,
+    pub(crate) exchange: Exchange,
 }
 
 impl Model for Session {
@@ -31,7 +33,7 @@ impl Model for Session {
 
     ghost Value = { SessionState };
 
-    ghost view = { λ s. record { params = s.params; stat = s.stat; tasks = s.tasks; transfers = s.transfers } };
+    ghost view = { λ s. record { params = s.params; stat = s.stat; tasks = s.tasks; transfers = s.transfers; exchange = s.exchange } };
 }
 
 impl Session {
@@ -43,6 +45,7 @@ impl Session {
             stat: Stat::new(params.next_stat_sn),
             tasks: Tasks::new(alloc, params.first_cmd_sn),
             transfers: Transfers::new(alloc),
+            exchange: Exchange::none(alloc),
             params,
         }
     }

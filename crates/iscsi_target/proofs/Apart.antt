@@ -1,11 +1,12 @@
 -- What is done for a session stays within its target's part.
-use Rattle.std.proofs.Common.{◌≡◌, ◌≢◌, ℕ, ◌<◌, List, [], length, Bool, true, false, Result, Ok, Err, refl, sym, ap, ◌∙◌, subst, arith, inl, inr}
+use Rattle.std.proofs.Common.{◌≡◌, ◌≢◌, ℕ, ◌<◌, List, [], length, Bool, true, false, Result, Ok, Err, refl, sym, ap, ◌∙◌, subst, arith, inl, inr, Option, Some, None}
 use Rattle.std.specs.Prelude.{◌⊎◌, slice_index_or, slice_set}
 use Rattle.std.proofs.lemmas.Bool.{eqb-true, eq-eqb}
 use Rattle.std.proofs.lemmas.Bool.Decides.{eqb_tells}
 use Rattle.std.proofs.lemmas.List.{length-set, get_or-set_same, get_or-set_other}
 use Rattle.iscsi_session.specs.State.{SessionState}
-use Rattle.scsi_unit.specs.Units.{UnitStates}
+use Rattle.scsi_unit.specs.Units.{UnitStates, leave}
+use Rattle.iscsi_login.specs.Session.{is_same_target}
 use Rattle.iscsi_target.specs.World.{left, changed_units}
 use Rattle.iscsi_target.specs.Machine.{LinkState, Machine, KeepsApart, KeepsPart, link_at, with_link, free_link, shut_link, closed, session_in_phase, is_with, is_reading, is_closing, is_logging_in}
 use Rattle.iscsi_target.specs.Serving.{ended_unless}
@@ -77,13 +78,18 @@ link_apart target machine c link lt own then_ = apart_set target machine machine
 
 -- ---- it closes
 
+changed_apart : (f : UnitStates → UnitStates) (o : Option ℕ) (target : ℕ) (all : List UnitStates) → is_same_target o (Some target) ≡ true
+    → (at : ℕ) → at ≢ target → slice_index_or (changed_units f o all) at [] ≡ slice_index_or all at []
+unfolding changed_units
+changed_apart f None target all e at differ = absurd cc
+changed_apart f (Some t) target all e at differ = get_or-set_other all t at _ [] (λ same. differ (same ∙ eqb-true t target e))
+
 left_apart : (target : ℕ) (phase : Phase) (all : List UnitStates) → is_with target phase ≡ true → (at : ℕ) → at ≢ target
     → slice_index_or (left (session_in_phase phase) all) at [] ≡ slice_index_or all at []
 unfolding changed_units
 left_apart target phases.Free all e at differ = refl
 left_apart target (phases.Login login) all e at differ = refl
-left_apart target (phases.FullFeature session) all e at differ = get_or-set_other all session.params.target at _ []
-    (λ same. differ (same ∙ eqb-true session.params.target target e))
+left_apart target (phases.FullFeature session) all e at differ = changed_apart (leave session.params.nexus) session.params.target target all e at differ
 left_apart target phases.Closing all e at differ = refl
 
 pub closed_apart : (target : ℕ) (machine : Machine) (c : ℕ) → c < length machine.links → is_with target (link_at machine c).phase ≡ true
@@ -95,11 +101,11 @@ closed_apart target machine c lt own =
 
 -- ---- a frame
 
-is_session : (target : ℕ) (phase : Phase) (state : SessionState) → phase ≡ phases.FullFeature state → state.params.target ≡ target → is_with target phase ≡ true
-is_session target phase state is same = ap (is_with target) is ∙ eq-eqb state.params.target target same
+is_session : (target : ℕ) (phase : Phase) (state : SessionState) → phase ≡ phases.FullFeature state → state.params.target ≡ Some target → is_with target phase ≡ true
+is_session target phase state is same = ap (is_with target) is ∙ ap (λ (t : Option ℕ). is_same_target t (Some target)) same ∙ eq-eqb target target refl
 
 pub with_session : (target : ℕ) (link : LinkState) (phase : Phase) (state : SessionState) → phase ≡ link.phase → phase ≡ phases.FullFeature state
-    → state.params.target ≡ target → is_with target link.phase ≡ true
+    → state.params.target ≡ Some target → is_with target link.phase ≡ true
 with_session target link phase state at is same = ap (is_with target) (sym at) ∙ is_session target phase state is same
 
 ended_apart : {E : Type 0} (r : Result Bool E) (target : ℕ) (machine : Machine) (c : ℕ) → c < length machine.links

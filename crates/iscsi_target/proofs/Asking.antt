@@ -78,12 +78,12 @@ closed_alike machine c link lt waiting none logs =
     ≡ left (session_in_phase (link_at machine c).phase) machine.units =
     ap (λ (l : LinkState). left (session_in_phase l.phase) machine.units) there ∙ ap (λ (o : Option Params). left o machine.units) (none ∙ sym was) in
     ap (λ (ls : List LinkState). record {
-      names = machine.names;
+      directory = machine.directory;
       units =
           left (session_in_phase (link_at (with_link machine c link) c).phase) machine.units;
       links = ls;
     }) links
-    ∙ ap (λ (us : List UnitStates). record { names = machine.names; units = us; links = set machine.links c (shut_link (link_at machine c)) }) units
+    ∙ ap (λ (us : List UnitStates). record { directory = machine.directory; units = us; links = set machine.links c (shut_link (link_at machine c)) }) units
 
 set_own : {X : Type 0} (xs : List X) (i : ℕ) (x d : X) → get_or xs i d ≡ x → i < length xs → set xs i x ≡ xs
 set_own xs i x d e lt = rw (← e) (set-get_or xs i d)
@@ -106,13 +106,13 @@ begun_alike machine c link session answer lt same now was =
     ≡ set machine.links c (begun_link session answer (link_at machine c)) =
     set-set machine.links c link _ ∙ ap (set machine.links c) begins in
     ap (λ (ls : List LinkState). shut_older (older session (sessions (set machine.links c link)))
-    (record { names = machine.names; units = units; links = ls })) links
+    (record { directory = machine.directory; units = units; links = ls })) links
     ∙ ap (λ (all : List (Option Params)). shut_older (older session all)
-    (record { names = machine.names; units = units; links = set machine.links c (begun_link session answer (link_at machine c)) })) live
+    (record { directory = machine.directory; units = units; links = set machine.links c (begun_link session answer (link_at machine c)) })) live
 
 -- the answer to a Login request, where full feature phase begins
 pub begun_by_request : (machine : Machine) (c : ℕ) (login : LoginState) (request : Frame) (session : Params) (response : LoginResponse)
-    → reply_of login (lookup_for machine.names (sessions machine.links) request) request ≡ Full response session
+    → reply_of login (lookup_for machine.directory (sessions machine.links) request) request ≡ Full response session
     → begun session (answers.LoginResponse response) c machine ≡ logged_in machine c login request
 unfolding logged_in
 begun_by_request machine c login request session response e = rw e refl

@@ -1,6 +1,6 @@
 -- A call of a session, as a call of the target.
-use Rattle.std.proofs.Common.{◌≡◌, ℕ, ◌<◌, List, [], ◌∷◌, ◌++◌, map, Bool, true, false, ◌&&◌, ◌||◌, eqb, Option, Some, None, refl, sym, ap, ◌∙◌, subst}
-use Rattle.std.specs.Prelude.{slice_index_or, slice_set}
+use Rattle.std.proofs.Common.{◌≡◌, ℕ, ◌<◌, List, [], ◌∷◌, ◌++◌, map, Bool, true, false, ◌&&◌, ◌||◌, Option, Some, None, refl, sym, ap, ◌∙◌, subst}
+use Rattle.std.specs.Prelude.{slice_set}
 use Rattle.std.specs.List.{list_any, list_all}
 use Rattle.std.proofs.lemmas.List.{map-append}
 use Rattle.std.proofs.lemmas.List.Folds.{list_any-append}
@@ -12,8 +12,9 @@ use Rattle.iscsi_session.specs.State.{SessionState, IsLawful, remembered}
 use Rattle.iscsi_session.specs.Steps.{Step, Judging, Taking, Asking, Doing, is_of, is_doing, is_serving, Work, served, settled}
 use Rattle.iscsi_session.specs.Runs.{Starts, is_failed, IsReached, Runs}
 use Rattle.iscsi_session.proofs.Steps.{served_agrees, settled_agrees}
+use Rattle.iscsi_login.specs.Session.{is_same_target}
 use Rattle.iscsi_target.specs.History.{Point, Before, Mark, is_same, connection_limit}
-use Rattle.iscsi_target.specs.World.{Setting, World, present, past_of, is_marked, fails, work_of, changed, close, worked_on, worked, served_by, take_in, settled_by, settle_one}
+use Rattle.iscsi_target.specs.World.{Setting, World, present, past_of, is_marked, fails, work_of, changed, close, worked_on, worked, served_by, take_in, settled_by, settle_one, units_at, with_units}
 use Rattle.iscsi_target.specs.Machine.{Machine, IsSound, link_at, with_link}
 use Rattle.iscsi_target.specs.Stands.{IsQuiet, IsQuietIn, are_reached}
 use Rattle.iscsi_target.specs.Serving.{Serves, Begins, Agrees, Does, kept, is_taken_at, is_done_by, SettlesOne}
@@ -92,10 +93,10 @@ pub record Calls (run : (Step → Bool) → ℕ → Work → Work) (failed : Opt
   pub units : UnitStates
   pub units_then : UnitStates
   pub phase : (link_at given c).phase ≡ phases.FullFeature state
-  pub target : slice_index_or given.units state.params.target [] ≡ units
+  pub target : units_at state.params.target given.units ≡ units
   pub runs : IsSound after → Runs run failed goes_on state then_ (link_at given c).waiting waiting units units_then
   pub is : after ≡ left_by goes_on c (record (with_link given c (session_link then_ waiting (link_at given c)))
-      { units = slice_set given.units state.params.target units_then })
+      { units = with_units state.params.target units_then given.units })
 
 params_same : (past : Past) → (remembered past).params ≡ past.params
 params_same past = refl
@@ -108,13 +109,13 @@ lawful_there s sent half w machine c past lt h a =
 
 starts : (s : Setting) (sent : ℕ → ℕ) (half : ℕ → List ℕ) (w : World) (machine : Machine) (c : ℕ) (past : Past) (state : SessionState)
     (units : UnitStates) → c < connection_limit → Serves s sent half w machine → IsAtWork w c past
-    → state ≡ remembered past → slice_index_or machine.units state.params.target [] ≡ units → Starts (work_of past w) state units
+    → state ≡ remembered past → units_at state.params.target machine.units ≡ units → Starts (work_of past w) state units
 starts s sent half w machine c past state units lt h a is target = record {
   lawful = lawful_there s sent half w machine c past lt h a;
   remembered = is;
   units =
-      ap (λ (all : List UnitStates). slice_index_or all past.params.target []) (sym (ap (λ (m : Machine). m.units) h.is ∙ units_with s sent half w))
-      ∙ ap (λ (p : Params). slice_index_or machine.units p.target []) (sym (ap (λ (x : SessionState). x.params) is ∙ params_same past)) ∙ target;
+      ap (λ (all : List UnitStates). units_at past.params.target all) (sym (ap (λ (m : Machine). m.units) h.is ∙ units_with s sent half w))
+      ∙ ap (λ (p : Params). units_at p.target machine.units) (sym (ap (λ (x : SessionState). x.params) is ∙ params_same past)) ∙ target;
   goes_on = refl;
 }
 
@@ -144,7 +145,7 @@ call_does kind act run failed goes_on c given after k acts agrees of_kind = reco
       acts s marks place w past (past_at w c past there.1) params ∙ ap (λ (x : Work). worked c x w) (agrees place marks (work_of past w) agree) in
       let serves = serves_worked s sent half w given c past work k.then_ k.waiting k.units_then goes_on k.in_range h there.1 leaves ends in
       let same = k.is ∙ ap (λ (p : Params). left_by goes_on c (record (with_link given c (session_link k.then_ k.waiting (link_at given c)))
-      { units = slice_set given.units p.target k.units_then })) (sym params) in
+      { units = with_units p.target k.units_then given.units })) (sym params) in
       rw (is, same) (serves, reached_by goes_on failed c place work w ends reached));
 }
 
@@ -176,11 +177,12 @@ unfolding take_in
 serve_acts c frame marks place w past at = ap (λ (o : Option Past). served_by o marks c place frame w) at
 
 settle_acts : (c target : ℕ) (marks : List Mark) (place : ℕ) (w : World) (past : Past) → past_of (present c w) ≡ Some past
-    → past.params.target ≡ target → settle_one marks place target w c ≡ worked c (settled (fails marks c) place (work_of past w)) w
+    → past.params.target ≡ Some target → settle_one marks place target w c ≡ worked c (settled (fails marks c) place (work_of past w)) w
 unfolding settle_one
 settle_acts c target marks place w past at same =
     ap (λ (o : Option Past). settled_by o marks place target c w) at
-    ∙ cond_true (eqb past.params.target target) _ w (ap (λ (t : ℕ). eqb t target) same ∙ eqb_self target)
+    ∙ cond_true (is_same_target past.params.target (Some target)) _ w
+    (ap (λ (t : Option ℕ). is_same_target t (Some target)) same ∙ eqb_self target)
 
 -- a frame was served by the session of a connection
 pub serves_does : (failed : Option (ℕ → Step)) (goes_on : Bool) (c : ℕ) (frame : Frame) (given after : Machine)
@@ -194,7 +196,7 @@ serves_does failed goes_on c frame given after k of_kind =
 
 -- its commands were done
 pub settles_does : (failed : Option (ℕ → Step)) (goes_on : Bool) (c target : ℕ) (given after : Machine)
-    → (k : Calls settled failed goes_on c given after) → k.state.params.target ≡ target
+    → (k : Calls settled failed goes_on c given after) → k.state.params.target ≡ Some target
     → ((place : ℕ) → list_all (is_done_by c place) (marks_of c failed place) ≡ true) → SettlesOne target c (starved_if failed c) given after
 settles_does failed goes_on c target given after k same of_kind =
     call_does (is_done_by c) (λ s marks place w. settle_one marks place target w c) settled failed goes_on c given after k

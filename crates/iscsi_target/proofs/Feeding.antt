@@ -8,6 +8,7 @@ use Rattle.std.proofs.lemmas.List.FromFn.{length-enumerate_from}
 use Rattle.iscsi_pdu.specs.Frames.{rest, is_long}
 use Rattle.iscsi_pdu.proofs.Cuts.{rest_in_pieces}
 use Rattle.scsi_unit.specs.Units.{UnitStates, AreSound}
+use Rattle.iscsi_login.specs.Directory.{KnownTargets}
 use Rattle.iscsi_target.specs.History.{Bytes, Arriving, AtEnd, Point, Mark, History, Arrival, arrivals, new_arrivals, plain, marked, connection_limit}
 use Rattle.iscsi_target.specs.Life.{Life, Phase, LoggingIn, FullFeature, Closing, Over, reads}
 use Rattle.iscsi_target.specs.World.{Setting, World, present, changed, reads_life, is_marked, close, reaching, take_step, arrive, brought, longer, bring, world}
@@ -30,11 +31,11 @@ use Rattle.iscsi_target.proofs.Taking.{halving, rehalved, halves_idle, half_twic
 
 -- ---- the longer bytes
 
-phase_longer : (names : List (List ℕ)) (life : Life) (piece : List ℕ) (phase : Phase) → phase_for names (longer piece life) phase ≡ phase_for names life phase
-phase_longer names life piece LoggingIn = refl
-phase_longer names life piece (FullFeature session) = refl
-phase_longer names life piece Closing = refl
-phase_longer names life piece Over = refl
+phase_longer : (directory : KnownTargets) (life : Life) (piece : List ℕ) (phase : Phase) → phase_for directory (longer piece life) phase ≡ phase_for directory life phase
+phase_longer directory life piece LoggingIn = refl
+phase_longer directory life piece (FullFeature session) = refl
+phase_longer directory life piece Closing = refl
+phase_longer directory life piece Over = refl
 
 abbrev pub piece_came : ℕ → List ℕ → World → World
 piece_came c piece w = changed (longer piece) c (fresh w)
@@ -49,9 +50,9 @@ came_here c piece w life at = present-changed (longer piece) c (fresh w) life (p
 pub came_other : (c d : ℕ) (piece : List ℕ) (w : World) → d ≢ c → present d (piece_came c piece w) ≡ present d w
 came_other c d piece w differ = present-changed_other (longer piece) c d (fresh w) (λ l. refl) differ ∙ present-fresh d w
 
-link_longer : (names : List (List ℕ)) (sent : ℕ) (half : List ℕ) (life : Life) (piece : List ℕ)
-    → link_of names sent half (Some (longer piece life)) ≡ link_of names sent half (Some life)
-link_longer names sent half life piece = rw (phase_longer names life piece life.phase, out-longer life piece) refl
+link_longer : (directory : KnownTargets) (sent : ℕ) (half : List ℕ) (life : Life) (piece : List ℕ)
+    → link_of directory sent half (Some (longer piece life)) ≡ link_of directory sent half (Some life)
+link_longer directory sent half life piece = rw (phase_longer directory life piece life.phase, out-longer life piece) refl
 
 -- the World with the longer bytes is served as the one before
 pub longer_serves : (s : Setting) (sent : ℕ → ℕ) (half : ℕ → List ℕ) (w : World) (machine : Machine) (c : ℕ) (piece : List ℕ) (life : Life)
@@ -62,9 +63,9 @@ longer_serves s sent half w machine c piece life lt at h =
     let here = came_here c piece w life at in
     record {
       is = h.is ∙ sym (machine_same s sent sent half half w v (units_came c piece w) (λ d below. elim (eqb_tells d c) [
-        | inl same ↦ rw same.1 (ap (link_of s.names (sent c) (half c)) here ∙ link_longer s.names (sent c) (half c) life piece
-            ∙ ap (link_of s.names (sent c) (half c)) (sym at))
-        | inr differ ↦ ap (link_of s.names (sent d) (half d)) (came_other c d piece w differ.1)
+        | inl same ↦ rw same.1 (ap (link_of s.directory (sent c) (half c)) here ∙ link_longer s.directory (sent c) (half c) life piece
+            ∙ ap (link_of s.directory (sent c) (half c)) (sym at))
+        | inr differ ↦ ap (link_of s.directory (sent d) (half d)) (came_other c d piece w differ.1)
       ]));
       answered = λ d below. elim (eqb_tells d c) [
         | inl same ↦ rw same.1 (rw (here, out-longer life piece) (let le = h.answered c lt in rw at at le))
@@ -79,12 +80,12 @@ longer_serves s sent half w machine c piece life lt at h =
 -- ---- between two events again
 
 -- what is kept of a present life that stayed
-half_kept : (names : List (List ℕ)) (sent : ℕ) (before after : Option Life) → Stays before after
-    → link_of names sent (half_of before) after ≡ link_of names sent (half_of after) after
-half_kept names sent None None s = refl
-half_kept names sent None (Some y) s = absurd s
-half_kept names sent (Some x) None s = refl
-half_kept names sent (Some x) (Some y) s = ap (λ (bytes : List ℕ). link_of names sent (rest bytes) (Some y)) (sym s.0)
+half_kept : (directory : KnownTargets) (sent : ℕ) (before after : Option Life) → Stays before after
+    → link_of directory sent (half_of before) after ≡ link_of directory sent (half_of after) after
+half_kept directory sent None None s = refl
+half_kept directory sent None (Some y) s = absurd s
+half_kept directory sent (Some x) None s = refl
+half_kept directory sent (Some x) (Some y) s = ap (λ (bytes : List ℕ). link_of directory sent (rest bytes) (Some y)) (sym s.0)
 
 short_kept : (before after : Option Life) → Stays before after → IsShort before → IsShort after
 short_kept None None s h = tt
@@ -93,10 +94,10 @@ short_kept (Some x) None s h = tt
 short_kept (Some x) (Some y) s h = λ e. ap (λ (bytes : List ℕ). is_long (rest bytes)) s.0 ∙ h (s.1 e)
 
 -- the bytes that came on the connection, behind which these are left
-here_kept : (names : List (List ℕ)) (sent : ℕ) (bytes left_ : List ℕ) (x : Life) (after : Option Life) → x.bytes ≡ bytes → rest bytes ≡ left_
-    → Stays (Some x) after → link_of names sent left_ after ≡ link_of names sent (half_of after) after
-here_kept names sent bytes left_ x None e r s = absurd s
-here_kept names sent bytes left_ x (Some y) e r s = ap (λ (half : List ℕ). link_of names sent half (Some y)) (sym (ap rest (s.0 ∙ e) ∙ r))
+here_kept : (directory : KnownTargets) (sent : ℕ) (bytes left_ : List ℕ) (x : Life) (after : Option Life) → x.bytes ≡ bytes → rest bytes ≡ left_
+    → Stays (Some x) after → link_of directory sent left_ after ≡ link_of directory sent (half_of after) after
+here_kept directory sent bytes left_ x None e r s = absurd s
+here_kept directory sent bytes left_ x (Some y) e r s = ap (λ (half : List ℕ). link_of directory sent half (Some y)) (sym (ap rest (s.0 ∙ e) ∙ r))
 
 here_short : (bytes left_ : List ℕ) (x : Life) (after : Option Life) → x.bytes ≡ bytes → rest bytes ≡ left_ → Stays (Some x) after
     → (reads_life after ≡ true → is_long left_ ≡ false) → IsShort after
@@ -116,11 +117,11 @@ stands_again s sent w v machine now c piece left_ life lt h at goes r short serv
     record {
       is = serves.is ∙ sym (machine_same s sent sent (with_half c left_ (λ d. half_of (present d w))) (λ d. half_of (present d v)) v v refl
           (λ d below. elim (eqb_tells d c) [
-            | inl same ↦ rw same.1 (sym (ap (λ (b : List ℕ). link_of s.names (sent c) b (present c v))
+            | inl same ↦ rw same.1 (sym (ap (λ (b : List ℕ). link_of s.directory (sent c) b (present c v))
                 (cond_true (eqb c c) left_ (half_of (present c w)) (eqb_self c))
-                ∙ here_kept s.names (sent c) (life.bytes ++ piece) left_ (longer piece life) (present c v) refl r here))
-            | inr differ ↦ sym (ap (λ (b : List ℕ). link_of s.names (sent d) b (present d v))
-                (cond_false (eqb d c) left_ (half_of (present d w)) differ.0) ∙ half_kept s.names (sent d) (present d w) (present d v) (other d differ.1))
+                ∙ here_kept s.directory (sent c) (life.bytes ++ piece) left_ (longer piece life) (present c v) refl r here))
+            | inr differ ↦ sym (ap (λ (b : List ℕ). link_of s.directory (sent d) b (present d v))
+                (cond_false (eqb d c) left_ (half_of (present d w)) differ.0) ∙ half_kept s.directory (sent d) (present d w) (present d v) (other d differ.1))
           ]));
       answered = serves.answered;
       quiet = serves.quiet;
@@ -193,7 +194,7 @@ comes s sent w machine first now c piece starved f takes sound =
     let there = some_reads (present c w) (sym (reads_there s sent half w machine c f.in_range serves) ∙ f.reads_so) in
     let life = there.0 in
     let short = short_there (present c w) life there.1 (f.stands.short c f.in_range) there.2 in
-    let link = link_stands s sent w machine c f.in_range f.stands ∙ ap (λ (o : Option Life). link_of s.names (sent c) (half_of o) o) there.1 in
+    let link = link_stands s sent w machine c f.in_range f.stands ∙ ap (λ (o : Option Life). link_of s.directory (sent c) (half_of o) o) there.1 in
     let old_half : (link_at machine c).half ≡ rest life.bytes = ap (λ (l : LinkState). l.half) link
     ∙ cond_true (reads life.phase) (rest life.bytes) [] there.2 in
     let count = count_stands s sent w machine f.stands in

@@ -10,12 +10,13 @@ use Rattle.iscsi_login.specs.LoginState.{LoginState}
 use Rattle.iscsi_session.specs.Requests.{Past}
 use Rattle.iscsi_session.specs.State.{SessionState, remembered as session_remembered}
 use Rattle.iscsi_session.specs.Steps.{Step, served}
+use Rattle.iscsi_login.specs.Directory.{KnownTargets}
 use Rattle.iscsi_target.specs.History.{Point, Arriving, Mark, Arrival, Whole, connection_limit}
 use Rattle.iscsi_target.specs.Life.{Life, Phase, LoggingIn, FullFeature, Closing, Over, reads}
-use Rattle.iscsi_target.specs.World.{Setting, World, present, reads_life, is_marked, close, reaching, take_step, log_in, take_in, settle_one, settle, serve, is_login, taken_in, taken_by, comes, arrive}
+use Rattle.iscsi_target.specs.World.{Setting, World, present, reads_life, is_marked, close, reaching, take_step, log_in, take_in, settle_one, settle, serve, is_login, taken_in, taken_by, comes, arrive, settle_for}
 use Rattle.iscsi_target.specs.Machine.{LinkState, Machine, IsSound, link_at, is_reading, closed, logged_in}
 use Rattle.iscsi_target.specs.Stands.{phase_for, link_of, are_reached}
-use Rattle.iscsi_target.specs.Serving.{Serves, Agrees, Does, kept, first_of, is_of_frame, is_taken_at, is_done_at, is_done_by, is_done_below, Takes, Settles, SettlesOne}
+use Rattle.iscsi_target.specs.Serving.{Serves, Agrees, Does, kept, first_of, is_of_frame, is_taken_at, is_done_at, is_done_by, is_done_below, Takes, Settles, SettlesOne, SettlesFor}
 use Rattle.iscsi_target.specs.declared.phase.Phase.TheVariants as phases
 use Rattle.iscsi_target.proofs.Choices.{eqb_self, cond_true, cond_false, and_true, and_false}
 use Rattle.iscsi_target.proofs.Lists.{range_next}
@@ -23,7 +24,7 @@ use Rattle.iscsi_target.proofs.Linked.{link_is, reads_there, some_reads, closes,
 use Rattle.iscsi_target.proofs.LoggingIn.{Entering, logs_in}
 use Rattle.iscsi_target.proofs.Marks.{mark_at, marked_one, marked_none, unmarked, Apart, Wider, all_wider, is_step_at, taken_done, done_taken, taken_step, done_step, step_within}
 use Rattle.iscsi_target.proofs.Working.{at_work}
-use Rattle.iscsi_target.proofs.Keeping.{on-close, on-settle, on-settle_one}
+use Rattle.iscsi_target.proofs.Keeping.{on-close, on-settle, on-settle_one, on-settle_for}
 use Rattle.iscsi_target.proofs.Doing.{still_reached, does_nothing, does_as, does_then}
 use Rattle.iscsi_target.proofs.AtWork.{last_there, marks_of, starved_if, Calls, serves_does}
 
@@ -47,29 +48,29 @@ takes_idle machine c frame lt idle_ = does_nothing is_of_frame (λ s marks place
 -- ---- a login is under way
 
 -- a present life that logs in, and what is remembered of its requests
-record IsLoggingIn (names : List (List ℕ)) (login : LoginState) (o : Option Life) : Type 0 where
+record IsLoggingIn (directory : KnownTargets) (login : LoginState) (o : Option Life) : Type 0 where
   life : Life
   at : o ≡ Some life
   phase : life.phase ≡ LoggingIn
-  known : remembered names (life.connection + 1) life.requests ≡ login
+  known : remembered directory (life.connection + 1) life.requests ≡ login
 
-logging_in_for : (names : List (List ℕ)) (login : LoginState) (life : Life) (ph : Phase) → life.phase ≡ ph
-    → phase_for names life ph ≡ phases.Login login → IsLoggingIn names login (Some life)
-logging_in_for names login life LoggingIn e same = record { life = life; at = refl; phase = e; known = cc }
-logging_in_for names login life (FullFeature session) e same = absurd cc
-logging_in_for names login life Closing e same = absurd cc
-logging_in_for names login life Over e same = absurd cc
+logging_in_for : (directory : KnownTargets) (login : LoginState) (life : Life) (ph : Phase) → life.phase ≡ ph
+    → phase_for directory life ph ≡ phases.Login login → IsLoggingIn directory login (Some life)
+logging_in_for directory login life LoggingIn e same = record { life = life; at = refl; phase = e; known = cc }
+logging_in_for directory login life (FullFeature session) e same = absurd cc
+logging_in_for directory login life Closing e same = absurd cc
+logging_in_for directory login life Over e same = absurd cc
 
-logging_in_of : (names : List (List ℕ)) (sent : ℕ) (half : List ℕ) (login : LoginState) (o : Option Life)
-    → (link_of names sent half o).phase ≡ phases.Login login → IsLoggingIn names login o
-logging_in_of names sent half login None same = absurd cc
-logging_in_of names sent half login (Some life) same = logging_in_for names login life life.phase refl same
+logging_in_of : (directory : KnownTargets) (sent : ℕ) (half : List ℕ) (login : LoginState) (o : Option Life)
+    → (link_of directory sent half o).phase ≡ phases.Login login → IsLoggingIn directory login o
+logging_in_of directory sent half login None same = absurd cc
+logging_in_of directory sent half login (Some life) same = logging_in_for directory login life life.phase refl same
 
 logging_in : (s : Setting) (sent : ℕ → ℕ) (half : ℕ → List ℕ) (w : World) (machine : Machine) (c : ℕ) (login : LoginState) → c < connection_limit
     → Serves s sent half w machine → (link_at machine c).phase ≡ phases.Login login
-    → IsLoggingIn s.names login (present c w)
+    → IsLoggingIn s.directory login (present c w)
 logging_in s sent half w machine c login lt h e =
-    logging_in_of s.names (sent c) (half c) login (present c w) (sym (ap (λ (l : LinkState). l.phase) (link_is s sent half w machine c lt h)) ∙ e)
+    logging_in_of s.directory (sent c) (half c) login (present c w) (sym (ap (λ (l : LinkState). l.phase) (link_is s sent half w machine c lt h)) ∙ e)
 
 pub unmarked_step : (marks : List Mark) (c : ℕ) (point : Point) (act : World → World) (w : World) → reads_life (present c w) ≡ true
     → is_marked marks c point ≡ false → take_step marks c point act w ≡ act (reaching c (point ∷ []) w)
@@ -178,16 +179,16 @@ target_same : (past : Past) → (session_remembered past).params.target ≡ past
 target_same past = refl
 
 -- its session served the frame, and then the sessions of its target were settled
-pub takes_served : (c target : ℕ) (frame : Frame) (given middle after : Machine) (failed : Option (ℕ → Step)) (goes_on : Bool) (starved : Option ℕ)
+pub takes_served : (c : ℕ) (target : Option ℕ) (frame : Frame) (given middle after : Machine) (failed : Option (ℕ → Step)) (goes_on : Bool) (starved : Option ℕ)
     → (k : Calls (λ f place. served f place frame) failed goes_on c given middle)
     → k.state.params.target ≡ target → ((place : ℕ) → list_all (is_taken_at place) (marks_of c failed place) ≡ true)
-    → (IsSound after → IsSound middle) → Settles target starved middle after
+    → (IsSound after → IsSound middle) → SettlesFor target starved middle after
     → Takes c frame (first_of (starved_if failed c) starved) given after
 unfolding serve
 takes_served c target frame given middle after failed goes_on starved k same of_kind back settles =
     let both = does_then is_taken_at is_done_at is_step_at (λ s marks place w. take_in marks c place frame w)
-    (λ s marks place w. settle marks place target w) kept kept (starved_if failed c) starved given middle after
-    taken_done done_taken taken_step done_step back (λ s marks place w. on-settle marks place target w)
+    (λ s marks place w. settle_for marks place target w) kept kept (starved_if failed c) starved given middle after
+    taken_done done_taken taken_step done_step back (λ s marks place w. on-settle_for marks place target w)
     (serves_does failed goes_on c frame given middle k of_kind) settles in
     record {
       failed = both.failed;
@@ -203,7 +204,7 @@ takes_served c target frame given middle after failed goes_on starved k same of_
           (both.of_kind place) (and_false (eqb place place)) in
           let step = arrived_free s marks c w place (Whole frame) (ap reads_life a.at ∙ ap reads a.phase) free
           ∙ arrived_in s marks c w place frame a.life (FullFeature there.0) a.at a.phase
-          ∙ ap (λ (t : ℕ). settle marks place t (take_in marks c place frame v)) target_is in
+          ∙ ap (λ (t : Option ℕ). settle_for marks place t (take_in marks c place frame v)) target_is in
           rw step (both.stands sound s sent half v place marks (λ mark is. agree mark (step_within place mark is))
           (serves_reaching s sent half w given c (Arriving place ∷ []) h)));
     }

@@ -1,21 +1,24 @@
 -- A session's call, as the code makes it: on the link that is borrowed from the list.
 use Rattle.std.proofs.Common.{◌≡◌, ◌≢◌, ℕ, ◌<◌, List, [], ◌++◌, length, set, get_or, Bool, true, false, cond, eqb, Option, Some, None, refl, sym, ap, ◌∙◌, subst, arith}
-use Rattle.std.specs.Prelude.{All, slice_index_or, slice_set, Result, Ok, Err, IfOk, OnErr}
+use Rattle.std.specs.Prelude.{All, slice_set, Result, Ok, Err, IfOk, OnErr}
 use Rattle.iscsi_pdu.specs.Frames.{Frame}
 use Rattle.std.specs.List.{list_all}
-use Rattle.std.proofs.lemmas.Bool.{ne_eqb}
+use Rattle.std.proofs.lemmas.Bool.{ne_eqb, eqb-true, eq-eqb}
 use Rattle.std.proofs.lemmas.List.{length-set, set-get_or, get_or-set_same}
 use Rattle.scsi_unit.specs.Units.{UnitStates, AreSound, AreSure}
 use Rattle.iscsi_session.specs.Requests.{Past}
 use Rattle.iscsi_session.specs.State.{SessionState, remembered}
 use Rattle.iscsi_session.specs.Steps.{Step, Work, is_serving, served, settled}
 use Rattle.iscsi_session.specs.Runs.{Runs, Stops}
+use Rattle.iscsi_login.specs.Directory.{KnownTargets}
+use Rattle.iscsi_login.specs.Session.{is_same_target}
+use Rattle.iscsi_login.specs.LoginState.{IsTargetBelow}
 use Rattle.iscsi_target.specs.History.{Mark, connection_limit}
 use Rattle.iscsi_target.specs.Life.{Life, Phase, LoggingIn, FullFeature, Closing, Over, past_in}
-use Rattle.iscsi_target.specs.World.{Setting, World, present, past_of, settled_by, settle_one}
+use Rattle.iscsi_target.specs.World.{Setting, World, present, past_of, units_at, with_units, settled_by, settle_one, settle_for}
 use Rattle.iscsi_target.specs.Machine.{LinkState, Machine, IsSound, IsWithin, link_at, with_link, free_link, is_reading, is_logging_in, closed}
 use Rattle.iscsi_target.specs.Stands.{phase_for, link_of}
-use Rattle.iscsi_target.specs.Serving.{Serves, Moves, kept, is_done_by, is_taken_at, Settles, SettlesOne, Takes, first_of, starved_by, ended_unless}
+use Rattle.iscsi_target.specs.Serving.{Serves, Moves, kept, is_done_at, is_done_by, is_taken_at, SettlesOne, SettlesFor, Takes, first_of, starved_by, ended_unless}
 use Rattle.iscsi_target.specs.declared.phase.Phase.{Phase as CodePhase}
 use Rattle.iscsi_target.specs.declared.phase.Phase.TheVariants as phases
 use Rattle.iscsi_target.proofs.Asking.{get_or_any}
@@ -25,7 +28,7 @@ use Rattle.iscsi_target.proofs.Working.{left_by}
 use Rattle.iscsi_target.proofs.Doing.{does_nothing}
 use Rattle.iscsi_target.proofs.AtWork.{marks_of, starved_if, Calls, settles_does, serve_kind}
 use Rattle.iscsi_target.proofs.Frames.{takes_served}
-use Rattle.iscsi_target.proofs.Moving.{IsOwn, own_self, changes_moves, session_changes, session_half, units_back, units_sure, moves_as, moves_then, closed_moves, starved_moves}
+use Rattle.iscsi_target.proofs.Moving.{length_with, IsOwn, own_self, changes_moves, session_changes, session_half, units_back, units_sure, moves_as, moves_then, closed_moves, starved_moves}
 
 abbrev pub viewed : List ℕ → CodePhase → List ℕ → LinkState
 viewed framer phase waiting = record { half = cond (is_reading phase) framer []; phase = phase; waiting = waiting }
@@ -42,23 +45,36 @@ held_same links c view e = ap (set links c) e ∙ set-get_or links c free_link
 -- ---- nothing is to be done
 
 abbrev IsOther : ℕ → CodePhase → Type 0
-IsOther target phase = (state : SessionState) → phase ≡ phases.FullFeature state → state.params.target ≢ target
+IsOther target phase = (state : SessionState) → phase ≡ phases.FullFeature state → state.params.target ≢ Some target
+
+-- a session with another target, or with none
+not_same : (o : Option ℕ) (target : ℕ) → o ≢ Some target → is_same_target o (Some target) ≡ false
+not_same None target differ = refl
+not_same (Some t) target differ = ne_eqb t target (λ same. differ (ap (λ (n : ℕ). Some n) same))
+
+pub same_target : (o : Option ℕ) (target : ℕ) → is_same_target o (Some target) ≡ true → o ≡ Some target
+same_target None target e = absurd cc
+same_target (Some t) target e = ap (λ (n : ℕ). Some n) (eqb-true t target e)
+
+pub other_target : (o : Option ℕ) (target : ℕ) → is_same_target o (Some target) ≡ false → o ≢ Some target
+other_target o target e same = let is : is_same_target (Some target) (Some target) ≡ false = ap (λ (t : Option ℕ). is_same_target t (Some target)) (sym same) ∙ e in
+    absurd (cc (is, eq-eqb target target refl))
 
 target_is : (past : Past) → (remembered past).params.target ≡ past.params.target
 target_is past = refl
 
-other_in : (names : List (List ℕ)) (marks : List Mark) (place target c : ℕ) (w : World) (life : Life) (phase : Phase)
-    → IsOther target (phase_for names life phase) → settled_by (past_in phase) marks place target c w ≡ w
-other_in names marks place target c w life LoggingIn other = refl
-other_in names marks place target c w life (FullFeature past) other =
-    cond_false (eqb past.params.target target) _ w (ne_eqb past.params.target target (λ same. other (remembered past) refl (target_is past ∙ same)))
-other_in names marks place target c w life Closing other = refl
-other_in names marks place target c w life Over other = refl
+other_in : (directory : KnownTargets) (marks : List Mark) (place target c : ℕ) (w : World) (life : Life) (phase : Phase)
+    → IsOther target (phase_for directory life phase) → settled_by (past_in phase) marks place target c w ≡ w
+other_in directory marks place target c w life LoggingIn other = refl
+other_in directory marks place target c w life (FullFeature past) other =
+    cond_false (is_same_target past.params.target (Some target)) _ w (not_same past.params.target target (λ same. other (remembered past) refl (target_is past ∙ same)))
+other_in directory marks place target c w life Closing other = refl
+other_in directory marks place target c w life Over other = refl
 
-other_of : (names : List (List ℕ)) (sent : ℕ) (half : List ℕ) (marks : List Mark) (place target c : ℕ) (w : World) (o : Option Life)
-    → IsOther target (link_of names sent half o).phase → settled_by (past_of o) marks place target c w ≡ w
-other_of names sent half marks place target c w None other = refl
-other_of names sent half marks place target c w (Some life) other = other_in names marks place target c w life life.phase other
+other_of : (directory : KnownTargets) (sent : ℕ) (half : List ℕ) (marks : List Mark) (place target c : ℕ) (w : World) (o : Option Life)
+    → IsOther target (link_of directory sent half o).phase → settled_by (past_of o) marks place target c w ≡ w
+other_of directory sent half marks place target c w None other = refl
+other_of directory sent half marks place target c w (Some life) other = other_in directory marks place target c w life life.phase other
 
 settles_other : (s : Setting) (sent : ℕ → ℕ) (half : ℕ → List ℕ) (w : World) (machine : Machine) (c target place : ℕ) (marks : List Mark)
     → c < connection_limit → Serves s sent half w machine → IsOther target (link_at machine c).phase
@@ -66,12 +82,17 @@ settles_other : (s : Setting) (sent : ℕ → ℕ) (half : ℕ → List ℕ) (w 
 unfolding settle_one
 settles_other s sent half w machine c target place marks lt h other =
     let P : LinkState → Type 0 = λ l. IsOther target l.phase in
-    other_of s.names (sent c) (half c) marks place target c w (present c w) (subst P (link_is s sent half w machine c lt h) other)
+    other_of s.directory (sent c) (half c) marks place target c w (present c w) (subst P (link_is s sent half w machine c lt h) other)
 
 pub settles_none : (machine : Machine) (c target : ℕ) → c < connection_limit → IsOther target (link_at machine c).phase
     → SettlesOne target c None machine machine
 settles_none machine c target lt other = does_nothing (is_done_by c) (λ s marks place w. settle_one marks place target w c) kept machine machine
     (λ sound s sent half w place marks agree h. serves_world s sent half w _ machine (settles_other s sent half w machine c target place marks lt h other) h)
+
+-- a session with no target settles nothing
+pub settles_for_none : (machine : Machine) → SettlesFor None None machine machine
+settles_for_none machine = does_nothing is_done_at (λ s marks place w. settle_for marks place None w) kept machine machine
+    (λ sound s sent half w place marks agree h. serves_world s sent half w _ machine refl h)
 
 -- ---- a call
 
@@ -82,9 +103,9 @@ pub session_calls : (run : (Step → Bool) → ℕ → Work → Work) (failed : 
     (framer : List ℕ) (phase : CodePhase) (before waiting : List ℕ)
     (state then_ : SessionState) (units units_then : UnitStates) → c < connection_limit → viewed framer phase before ≡ link_at machine c
     → phase ≡ phases.FullFeature state
-    → slice_index_or machine.units state.params.target [] ≡ units → (IsSound after → Runs run failed goes_on state then_ before waiting units units_then)
+    → units_at state.params.target machine.units ≡ units → (IsSound after → Runs run failed goes_on state then_ before waiting units units_then)
     → after ≡ left_by goes_on c (record machine {
-      units = slice_set machine.units state.params.target units_then;
+      units = with_units state.params.target units_then machine.units;
       links = slice_set machine.links c (viewed framer (phases.FullFeature then_) waiting);
     })
     → Calls run failed goes_on c machine after
@@ -99,7 +120,7 @@ session_calls run failed goes_on c machine after framer phase before waiting sta
   target = target;
   runs = λ sound. subst (λ (b : List ℕ). Runs run failed goes_on state then_ b waiting units units_then) (ap (λ (l : LinkState). l.waiting) link) (runs sound);
   is = e ∙ ap (λ (half : List ℕ). left_by goes_on c (record machine {
-    units = slice_set machine.units state.params.target units_then;
+    units = with_units state.params.target units_then machine.units;
     links = slice_set machine.links c (record { half = half; phase = phases.FullFeature then_; waiting = waiting });
   })) (sym (cond_true (is_reading phase) framer [] (reads_in phase state is)) ∙ ap (λ (l : LinkState). l.half) link);
 }
@@ -107,23 +128,23 @@ session_calls run failed goes_on c machine after framer phase before waiting sta
 -- what it leaves of every target
 pub session_moves : (b c : ℕ) (machine : Machine) (framer : List ℕ) (phase : CodePhase) (before waiting : List ℕ) (state then_ : SessionState)
     (units units_then : UnitStates) → c < length machine.links
-    → viewed framer phase before ≡ link_at machine c → phase ≡ phases.FullFeature state → state.params.target < length machine.units
-    → slice_index_or machine.units state.params.target [] ≡ units
+    → viewed framer phase before ≡ link_at machine c → phase ≡ phases.FullFeature state → IsTargetBelow (length machine.units) state.params.target
+    → units_at state.params.target machine.units ≡ units
     → (more : List ℕ) × (waiting ≡ before ++ more) → (AreSound units_then → AreSound units) → (AreSure units → AreSure units_then)
     → Moves b None machine (record machine {
-      units = slice_set machine.units state.params.target units_then;
+      units = with_units state.params.target units_then machine.units;
       links = slice_set machine.links c (viewed framer (phases.FullFeature then_) waiting);
     })
 session_moves b c machine framer phase before waiting state then_ units units_then lt link is below target grows back sure =
     let new = viewed framer (phases.FullFeature then_) waiting in
-    let all = slice_set machine.units state.params.target units_then in
+    let all = with_units state.params.target units_then machine.units in
     let old_half : framer ≡ (link_at machine c).half = sym (cond_true (is_reading phase) framer [] (reads_in phase state is))
     ∙ ap (λ (l : LinkState). l.half) link in
     let own : IsOwn b machine c = λ other. ap (λ (l : LinkState). is_logging_in l.phase) (sym link) ∙ ap is_logging_in is in
     changes_moves b machine all c new lt
     (session_changes (link_at machine c) new (ap (λ (l : LinkState). is_reading l.phase) (sym link) ∙ reads_in phase state is) refl
     (grows.0, grows.1 ∙ ap (λ (l : LinkState). l.waiting ++ grows.0) link)) own (session_half (link_at machine c) new refl old_half)
-    (length-set machine.units state.params.target units_then)
+    (length_with state.params.target units_then machine.units)
     (units_back machine (slice_set machine.links c new) state.params.target units_then below (λ sound. subst AreSound (sym target) (back sound)))
     (units_sure machine (slice_set machine.links c new) state.params.target units_then (λ s. sure (subst AreSure target s)))
 
@@ -134,9 +155,10 @@ sound_there machine links target units below sound =
     subst AreSound (get_or-set_same machine.units target units [] below) (sound target [] (omega (arith, below, length-set machine.units target units)))
 
 -- the units as they are borrowed
-pub units_here : (all : List UnitStates) (target at : ℕ) (d value : UnitStates) → target < length all → at ≡ target → value ≡ get_or all target d
-    → slice_index_or all at [] ≡ value
-units_here all target at d value below same e = ap (λ (t : ℕ). slice_index_or all t []) same ∙ get_or_any all target [] d below ∙ sym e
+pub units_here : (all : List UnitStates) (target : ℕ) (at : Option ℕ) (d value : UnitStates) → target < length all → at ≡ Some target
+    → value ≡ get_or all target d
+    → units_at at all ≡ value
+units_here all target at d value below same e = ap (λ (t : Option ℕ). units_at t all) same ∙ get_or_any all target [] d below ∙ sym e
 
 pub same_session : (a b : SessionState) → phases.FullFeature a ≡ phases.FullFeature b → a ≡ b
 same_session a b e = cc
@@ -144,80 +166,81 @@ same_session a b e = cc
 -- the same where the target is named otherwise
 pub settle_moves : (b c target : ℕ) (machine : Machine) (framer : List ℕ) (phase : CodePhase) (before waiting : List ℕ) (state then_ : SessionState)
     (units units_then : UnitStates) → c < length machine.links
-    → viewed framer phase before ≡ link_at machine c → phase ≡ phases.FullFeature state → state.params.target ≡ target
-    → target < length machine.units → slice_index_or machine.units state.params.target [] ≡ units
+    → viewed framer phase before ≡ link_at machine c → phase ≡ phases.FullFeature state → state.params.target ≡ Some target
+    → target < length machine.units → units_at state.params.target machine.units ≡ units
     → (more : List ℕ) × (waiting ≡ before ++ more) → (AreSound units_then → AreSound units) → (AreSure units → AreSure units_then)
     → Moves b None machine (record machine {
       units = slice_set machine.units target units_then;
       links = slice_set machine.links c (viewed framer (phases.FullFeature then_) waiting);
     })
 settle_moves b c target machine framer phase before waiting state then_ units units_then lt link is same below at grows back sure =
-    let P : ℕ → Type 0 = λ t. Moves b None machine (record machine {
-      units = slice_set machine.units t units_then;
+    let P : Option ℕ → Type 0 = λ t. Moves b None machine (record machine {
+      units = with_units t units_then machine.units;
       links = slice_set machine.links c (viewed framer (phases.FullFeature then_) waiting);
     }) in
     subst P same (session_moves b c machine framer phase before waiting state then_ units units_then lt link is
-    (subst (λ (t : ℕ). t < length machine.units) (sym same) below) at grows back sure)
+    (subst (IsTargetBelow (length machine.units)) (sym same) below) at grows back sure)
 
 -- the target as a session's call left it
-abbrev pub called : Machine → ℕ → ℕ → UnitStates → LinkState → Machine
-called machine c target units link = record machine { units = slice_set machine.units target units; links = slice_set machine.links c link }
+abbrev pub called : Machine → ℕ → Option ℕ → UnitStates → LinkState → Machine
+called machine c target units link = record machine { units = with_units target units machine.units; links = slice_set machine.links c link }
 
-called_at : (machine : Machine) (c a b : ℕ) (units : UnitStates) (link : LinkState) → a ≡ b → called machine c a units link ≡ called machine c b units link
-called_at machine c a b units link e = ap (λ (t : ℕ). called machine c t units link) e
+called_at : (machine : Machine) (c : ℕ) (a b : Option ℕ) (units : UnitStates) (link : LinkState) → a ≡ b → called machine c a units link ≡ called machine c b units link
+called_at machine c a b units link e = ap (λ (t : Option ℕ). called machine c t units link) e
 
 -- the commands of a session of this target were done, or those before one
 pub settle_does : (failed : Option (ℕ → Step)) (goes_on : Bool) (c target : ℕ) (machine after : Machine) (framer : List ℕ) (phase : CodePhase)
     (before waiting : List ℕ)
     (state then_ : SessionState) (units units_then : UnitStates) → c < connection_limit → viewed framer phase before ≡ link_at machine c
-    → phase ≡ phases.FullFeature state → state.params.target ≡ target
-    → slice_index_or machine.units state.params.target [] ≡ units → (IsSound after → Runs settled failed goes_on state then_ before waiting units units_then)
+    → phase ≡ phases.FullFeature state → state.params.target ≡ Some target
+    → units_at state.params.target machine.units ≡ units → (IsSound after → Runs settled failed goes_on state then_ before waiting units units_then)
     → ((place : ℕ) → list_all (is_done_by c place) (marks_of c failed place) ≡ true)
-    → after ≡ left_by goes_on c (called machine c target units_then (viewed framer (phases.FullFeature then_) waiting))
+    → after ≡ left_by goes_on c (called machine c (Some target) units_then (viewed framer (phases.FullFeature then_) waiting))
     → SettlesOne target c (starved_if failed c) machine after
 unfolding session_calls
 settle_does failed goes_on c target machine after framer phase before waiting state then_ units units_then lt link is same at runs kind e =
     settles_does failed goes_on c target machine after
     (session_calls settled failed goes_on c machine after framer phase before waiting state then_ units units_then lt link is at runs
-    (e ∙ ap (left_by goes_on c) (called_at machine c target state.params.target units_then (viewed framer (phases.FullFeature then_) waiting)
+    (e ∙ ap (left_by goes_on c) (called_at machine c (Some target) state.params.target units_then (viewed framer (phases.FullFeature then_) waiting)
     (sym same)))) same kind
 
 -- ---- a frame that a session serves
 
 -- no units were touched
-same_units : (machine : Machine) (c target : ℕ) (link : LinkState) → called machine c target (slice_index_or machine.units target []) link
+same_units : (machine : Machine) (c : ℕ) (target : Option ℕ) (link : LinkState) → called machine c target (units_at target machine.units) link
     ≡ with_link machine c link
-same_units machine c target link = ap (λ (all : List UnitStates). let m : Machine =
-    record { names = machine.names; units = all; links = slice_set machine.links c link } in m) (set-get_or machine.units target [])
+same_units machine c None link = refl
+same_units machine c (Some target) link = ap (λ (all : List UnitStates). let m : Machine =
+    record { directory = machine.directory; units = all; links = slice_set machine.links c link } in m) (set-get_or machine.units target [])
 
 abbrev pub Served : Frame → Option (ℕ → Step) → Bool → SessionState → SessionState → List ℕ → List ℕ → Type 0
 Served frame failed goes_on state then_ before waiting = (units : UnitStates)
     → Runs (λ fails place. served fails place frame) failed goes_on state then_ before waiting units units
 
-serve_takes_by : (failed : Option (ℕ → Step)) (goes_on : Bool) (c target : ℕ) (frame : Frame) (machine middle after : Machine) (framer : List ℕ)
+serve_takes_by : (failed : Option (ℕ → Step)) (goes_on : Bool) (c : ℕ) (target : Option ℕ) (frame : Frame) (machine middle after : Machine) (framer : List ℕ)
     (phase : CodePhase) (before waiting : List ℕ)
     (state then_ : SessionState) (starved : Option ℕ) → c < connection_limit → viewed framer phase before ≡ link_at machine c
     → phase ≡ phases.FullFeature state → state.params.target ≡ target
     → Served frame failed goes_on state then_ before waiting → ((place : ℕ) → list_all (is_taken_at place) (marks_of c failed place) ≡ true)
     → middle ≡ left_by goes_on c (with_link machine c (viewed framer (phases.FullFeature then_) waiting)) → (IsSound after → IsSound middle)
-    → Settles target starved middle after
+    → SettlesFor target starved middle after
     → Takes c frame (first_of (starved_if failed c) starved) machine after
 unfolding session_calls
 serve_takes_by failed goes_on c target frame machine middle after framer phase before waiting state then_ starved lt link is same runs kind e back settles =
-    let units = slice_index_or machine.units state.params.target [] in
+    let units = units_at state.params.target machine.units in
     takes_served c target frame machine middle after failed goes_on starved
     (session_calls (λ f place. served f place frame) failed goes_on c machine middle framer phase before waiting state then_ units units lt link is
     refl (λ sound. runs units)
     (e ∙ ap (left_by goes_on c) (sym (same_units machine c state.params.target (viewed framer (phases.FullFeature then_) waiting))))) same kind back settles
 
-pub serve_takes : {E : Type 0} (r : Result Bool E) (c target : ℕ) (frame : Frame) (machine middle after : Machine) (framer : List ℕ)
+pub serve_takes : {E : Type 0} (r : Result Bool E) (c : ℕ) (target : Option ℕ) (frame : Frame) (machine middle after : Machine) (framer : List ℕ)
     (phase : CodePhase) (before waiting : List ℕ)
     (state then_ : SessionState) (starved : Option ℕ) → c < connection_limit → viewed framer phase before ≡ link_at machine c
     → phase ≡ phases.FullFeature state → state.params.target ≡ target
     → IfOk r (λ goes_on. Served frame None goes_on state then_ before waiting)
     → OnErr r (Stops is_serving (λ failed. Served frame failed false state then_ before waiting))
     → middle ≡ ended_unless r c (with_link machine c (viewed framer (phases.FullFeature then_) waiting)) → (IsSound after → IsSound middle)
-    → Settles target starved middle after
+    → SettlesFor target starved middle after
     → Takes c frame (first_of (starved_by c r) starved) machine after
 serve_takes (Ok goes_on) c target frame machine middle after framer phase before waiting state then_ starved lt link is same ok err e back settles =
     serve_takes_by None goes_on c target frame machine middle after framer phase before waiting state then_ starved lt link is same ok
@@ -235,12 +258,12 @@ left_moves (Err e) c given machine lt reads own m = moves_then c None (Some c) g
 
 pub serve_moves : {E : Type 0} (r : Result Bool E) (c : ℕ) (machine middle : Machine) (framer : List ℕ) (phase : CodePhase)
     (before waiting : List ℕ) (state then_ : SessionState) → c < length machine.links
-    → viewed framer phase before ≡ link_at machine c → phase ≡ phases.FullFeature state → state.params.target < length machine.units
+    → viewed framer phase before ≡ link_at machine c → phase ≡ phases.FullFeature state → IsTargetBelow (length machine.units) state.params.target
     → (more : List ℕ) × (waiting ≡ before ++ more)
     → middle ≡ ended_unless r c (with_link machine c (viewed framer (phases.FullFeature then_) waiting)) → Moves c (starved_by c r) machine middle
 serve_moves r c machine middle framer phase before waiting state then_ lt link is below grows e =
     let new = viewed framer (phases.FullFeature then_) waiting in
-    let units = slice_index_or machine.units state.params.target [] in
+    let units = units_at state.params.target machine.units in
     let first = session_moves c c machine framer phase before waiting state then_ units units lt link is below refl grows (λ sound. sound) (λ sure. sure) in
     let now : Moves c None machine (with_link machine c new) = subst (Moves c None machine) (same_units machine c state.params.target new) first in
     moves_as c (starved_by c r) machine (ended_unless r c (with_link machine c new)) middle e
@@ -251,7 +274,7 @@ serve_moves r c machine middle framer phase before waiting state then_ lt link i
 -- the target of a session is one of those that there are
 pub within_there : (machine : Machine) (c : ℕ) (state : SessionState) → c < length machine.links
     → (link_at machine c).phase ≡ phases.FullFeature state → All (λ (link : LinkState). IsWithin (length machine.units) link.phase) machine.links
-    → state.params.target < length machine.units
+    → IsTargetBelow (length machine.units) state.params.target
 within_there machine c state lt is all =
     let within : IsWithin (length machine.units) (link_at machine c).phase = all c free_link lt in
     (subst (λ (p : CodePhase). IsWithin (length machine.units) p) is within).0

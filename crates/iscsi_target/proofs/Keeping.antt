@@ -16,9 +16,10 @@ use Rattle.iscsi_login.specs.declared.reply.Reply.TheVariants.{GoOn, Full, Refus
 use Rattle.iscsi_session.specs.Requests.{Past}
 use Rattle.iscsi_session.specs.Steps.{Work, served, settled}
 use Rattle.iscsi_session.proofs.Steps.{Extends, served_extends, settled_extends}
+use Rattle.iscsi_login.specs.Session.{is_same_target}
 use Rattle.iscsi_target.specs.History.{Mark, Point, Arriving, AtEnd, Arrival, Whole, TooLong, Bytes, marked, connections, History, Happening}
 use Rattle.iscsi_target.specs.Life.{Life, Phase, LoggingIn, FullFeature, Closing, Over, is_over, reads, past_in, session_answers, out_of, ended_in}
-use Rattle.iscsi_target.specs.World.{Setting, World, is_present, present, changed_first, changed, reads_life, past_of, live, close, reaching, is_marked, take_step, answered, asked, begun, begins, requests_of, lookup_for, end_older, replied, log_in, fails, work_of, with_past, worked_on, worked, served_by, take_in, settled_by, settle_one, settle, serve, is_login, enter, taken_in, taken_by, comes, arrive, brought, longer, bring, happened, new_world, world}
+use Rattle.iscsi_target.specs.World.{Setting, World, is_present, present, changed_first, changed, reads_life, past_of, live, close, reaching, is_marked, take_step, answered, asked, begun, begins, requests_of, lookup_for, end_older, replied, log_in, fails, work_of, with_past, worked_on, worked, served_by, take_in, settled_by, settle_one, settle, serve, is_login, enter, taken_in, taken_by, comes, arrive, brought, longer, bring, happened, new_world, world, settle_for}
 use Rattle.iscsi_target.specs.Runs.{RowState, open_row, row_of}
 use Rattle.iscsi_target.specs.Laws.{GoesOn, LivesGoOn, AnswersStay}
 use Rattle.iscsi_target.proofs.Working.{answers_grow}
@@ -310,7 +311,7 @@ on-log_in s c request w logs =
       bytes = refl;
       reads_so = λ e. e;
     }))
-    (on-replied (login (c + 1) (requests_of (present c w)) (lookup_for s.names (live w) request) request) c v (asked_logs c request w logs))
+    (on-replied (login (c + 1) (requests_of (present c w)) (lookup_for s.directory (live w) request) request) c v (asked_logs c request w logs))
 
 -- ---- a session
 
@@ -372,7 +373,7 @@ on-settled_by : (o : Option Past) (marks : List Mark) (place target c : ℕ) (w 
 on-settled_by None marks place target c w at = on-same w
 on-settled_by (Some past) marks place target c w at =
     let e : Extends (work_of past w) (settled (fails marks c) place (work_of past w)) = settled_extends (fails marks c) place (work_of past w) in
-    on-cond (eqb past.params.target target) _ w w (on-worked c past (settled (fails marks c) place (work_of past w)) w at e.more e.answers) (on-same w)
+    on-cond (is_same_target past.params.target (Some target)) _ w w (on-worked c past (settled (fails marks c) place (work_of past w)) w at e.more e.answers) (on-same w)
 
 pub on-settle_one : (marks : List Mark) (place target : ℕ) (w : World) (c : ℕ) → Goes w (settle_one marks place target w c)
 unfolding settle_one
@@ -387,11 +388,15 @@ pub on-settle : (marks : List Mark) (place target : ℕ) (w : World) → Goes w 
 unfolding settle
 on-settle marks place target w = on-fold (settle_one marks place target) w connections (on-settle_one marks place target)
 
-pub on-serve : (marks : List Mark) (c place target : ℕ) (frame : Frame) (w : World) → Goes w (serve marks c place target frame w)
+pub on-settle_for : (marks : List Mark) (place : ℕ) (target : Option ℕ) (w : World) → Goes w (settle_for marks place target w)
+on-settle_for marks place None w = on-same w
+on-settle_for marks place (Some target) w = on-settle marks place target w
+
+pub on-serve : (marks : List Mark) (c place : ℕ) (target : Option ℕ) (frame : Frame) (w : World) → Goes w (serve marks c place target frame w)
 unfolding serve
 on-serve marks c place target frame w =
     let v = take_in marks c place frame w in
-    on-then w v (settle marks place target v) (on-take_in marks c place frame w) (on-settle marks place target v)
+    on-then w v (settle_for marks place target v) (on-take_in marks c place frame w) (on-settle_for marks place target v)
 
 -- ---- one event
 

@@ -1,5 +1,5 @@
 -- Each session of a World has a lawful past, whatever has happened.
-use Rattle.std.proofs.Common.{◌≡◌, ◌≢◌, ℕ, zero, suc, ◌+◌, ◌^◌, ◌<◌, List, [], ◌∷◌, ◌++◌, length, map, take, drop, get_or, Bool, true, false, cond, not, eqb, Option, Some, None, refl, sym, ap, ◌∙◌, subst, arith}
+use Rattle.std.proofs.Common.{◌≡◌, ◌≢◌, ℕ, zero, suc, ◌+◌, ◌^◌, ◌<◌, List, [], ◌∷◌, ◌++◌, length, map, take, drop, get_or, Bool, true, false, cond, not, Option, Some, None, refl, sym, ap, ◌∙◌, subst, arith}
 use Rattle.std.specs.Prelude.{find, ⊤}
 use Rattle.std.specs.List.{AllByRecursion, fold, enumerate_from}
 use Rattle.iscsi_pdu.specs.Header.{cmd_sn, header_length}
@@ -15,9 +15,10 @@ use Rattle.iscsi_session.specs.Requests.{Past}
 use Rattle.iscsi_session.specs.State.{IsLawful}
 use Rattle.iscsi_session.specs.Steps.{Work, served, settled}
 use Rattle.iscsi_session.proofs.Lawful.{taken_once, finished_as_taken, steps_are_lawful}
+use Rattle.iscsi_login.specs.Session.{is_same_target}
 use Rattle.iscsi_target.specs.History.{Event, Open, Bytes, Gone, Mark, Point, Arriving, AtEnd, Arrival, Whole, TooLong, arrivals, new_arrivals, connections, History, marked}
 use Rattle.iscsi_target.specs.Life.{Life, Phase, LoggingIn, FullFeature, Closing, Over, born, past_in, ended_in}
-use Rattle.iscsi_target.specs.World.{Setting, World, is_present, present, changed_first, changed, reads_life, past_of, live, close, over, end, reaching, is_marked, take_step, answered, asked, begun, begins, requests_of, lookup_for, end_older, replied, log_in, fails, work_of, with_past, worked_on, worked, served_by, take_in, settled_by, settle_one, settle, serve, is_login, taken_in, taken_by, comes, arrive, brought, longer, bring, happen, happened, new_world, world}
+use Rattle.iscsi_target.specs.World.{Setting, World, is_present, present, changed_first, changed, reads_life, past_of, live, close, over, end, reaching, is_marked, take_step, answered, asked, begun, begins, requests_of, lookup_for, end_older, replied, log_in, fails, work_of, with_past, worked_on, worked, served_by, take_in, settled_by, settle_one, settle, serve, is_login, taken_in, taken_by, comes, arrive, brought, longer, bring, happen, happened, new_world, world, settle_for}
 use Rattle.iscsi_target.specs.Stands.{IsQuietIn}
 use Rattle.iscsi_target.specs.Laws.{HasBytes, FinishesAsTaken, SessionsFinishAsTaken, OthersStay}
 use Rattle.iscsi_target.proofs.Arrivals.{long_end}
@@ -174,7 +175,7 @@ fit-replied (Full response session) c w a =
 fit-log_in : (s : Setting) (c : ℕ) (request : Frame) (w : World) → AreFit w → AreFit (log_in s c request w)
 unfolding log_in
 fit-log_in s c request w a =
-    fit-replied (login (c + 1) (requests_of (present c w)) (lookup_for s.names (live w) request) request) c (changed (asked request) c w)
+    fit-replied (login (c + 1) (requests_of (present c w)) (lookup_for s.directory (live w) request) request) c (changed (asked request) c w)
     (fit-changed (asked request) c w (λ life fit. fit) a)
 
 -- ---- a session
@@ -213,7 +214,7 @@ fit-settled_by : (o : Option Past) (marks : List Mark) (place target c : ℕ) (w
     → AreFit (settled_by o marks place target c w)
 fit-settled_by None marks place target c w at a = a
 fit-settled_by (Some past) marks place target c w at a =
-    fit-cond (eqb past.params.target target) _ w
+    fit-cond (is_same_target past.params.target (Some target)) _ w
     (fit-worked c (settled (fails marks c) place (work_of past w)) w (steps_are_lawful.settled (fails marks c) place (work_of past w)
     (lawful_of (present c w) c w past refl a at)) a) a
 
@@ -225,10 +226,14 @@ fit-all : (marks : List Mark) (place target : ℕ) (w : World) (cs : List ℕ) �
 fit-all marks place target w [] a = a
 fit-all marks place target w (c ∷ cs) a = fit-all marks place target (settle_one marks place target w c) cs (fit-settle_one marks place target w c a)
 
-fit-serve : (marks : List Mark) (c place target : ℕ) (frame : Frame) (w : World) → Fits frame → AreFit w → AreFit (serve marks c place target frame w)
-unfolding serve settle
-fit-serve marks c place target frame w fits a = fit-all marks place target (take_in marks c place frame w) connections
-    (fit-take_in marks c place frame w fits a)
+fit-settle_for : (marks : List Mark) (place : ℕ) (target : Option ℕ) (w : World) → AreFit w → AreFit (settle_for marks place target w)
+unfolding settle
+fit-settle_for marks place None w a = a
+fit-settle_for marks place (Some target) w a = fit-all marks place target w connections a
+
+fit-serve : (marks : List Mark) (c place : ℕ) (target : Option ℕ) (frame : Frame) (w : World) → Fits frame → AreFit w → AreFit (serve marks c place target frame w)
+unfolding serve
+fit-serve marks c place target frame w fits a = fit-settle_for marks place target (take_in marks c place frame w) (fit-take_in marks c place frame w fits a)
 
 -- ---- one event
 

@@ -10,6 +10,7 @@ use Rattle.iscsi_pdu.specs.Answer.{spelling}
 use Rattle.iscsi_pdu.specs.declared.answer.Answer.{Answer}
 use Rattle.scsi_unit.specs.Units.{UnitStates}
 use Rattle.iscsi_login.specs.declared.params.Params.{Params}
+use Rattle.iscsi_login.specs.Directory.{KnownTargets}
 use Rattle.iscsi_target.specs.History.{Point, connection_limit}
 use Rattle.iscsi_target.specs.Life.{Life, Phase, LoggingIn, FullFeature, Closing, Over, is_over, reads, session_in, session_answers, answers_of, out_of, ended_in}
 use Rattle.iscsi_target.specs.World.{Setting, World, present, changed, reads_life, session_of, live, left, close, reaching}
@@ -24,10 +25,10 @@ use Rattle.iscsi_target.proofs.Lives.{present-changed, present-changed_other, pr
 -- ---- the links
 
 abbrev link_in : Setting → (ℕ → ℕ) → (ℕ → List ℕ) → World → ℕ → LinkState
-link_in s sent half w c = link_of s.names (sent c) (half c) (present c w)
+link_in s sent half w c = link_of s.directory (sent c) (half c) (present c w)
 
 pub link_there : (s : Setting) (sent : ℕ → ℕ) (half : ℕ → List ℕ) (w : World) (c : ℕ) → c < connection_limit
-    → link_at (machine_with s sent half w) c ≡ link_of s.names (sent c) (half c) (present c w)
+    → link_at (machine_with s sent half w) c ≡ link_of s.directory (sent c) (half c) (present c w)
 unfolding machine_with
 link_there s sent half w c lt = get_or-map-range_with_len (link_in s sent half w) 0 connection_limit c c free_link lt (omega arith)
 
@@ -40,78 +41,78 @@ links_same : (a b : List LinkState) → length a ≡ connection_limit → length
     → ((c : ℕ) → c < connection_limit → get_or a c free_link ≡ get_or b c free_link) → a ≡ b
 links_same a b m n same = ext_get_or free_link a b (m ∙ sym n) (λ i lt. same i (omega (arith, m)))
 
-pub names_with : (s : Setting) (sent : ℕ → ℕ) (half : ℕ → List ℕ) (w : World) → (machine_with s sent half w).names ≡ s.names
+pub directory_with : (s : Setting) (sent : ℕ → ℕ) (half : ℕ → List ℕ) (w : World) → (machine_with s sent half w).directory ≡ s.directory
 unfolding machine_with
-names_with s sent half w = refl
+directory_with s sent half w = refl
 
 pub units_with : (s : Setting) (sent : ℕ → ℕ) (half : ℕ → List ℕ) (w : World) → (machine_with s sent half w).units ≡ w.units
 unfolding machine_with
 units_with s sent half w = refl
 
-machine_is : (a b : Machine) → a.names ≡ b.names → a.units ≡ b.units → a.links ≡ b.links → a ≡ b
+machine_is : (a b : Machine) → a.directory ≡ b.directory → a.units ≡ b.units → a.links ≡ b.links → a ≡ b
 machine_is a b n u l =
-    ap (λ (names : List (List ℕ)). record a { names = names }) n
-    ∙ ap (λ (units : List UnitStates). record a { names = b.names; units = units }) u
-    ∙ ap (λ (links : List LinkState). record { names = b.names; units = b.units; links = links }) l
+    ap (λ (directory : KnownTargets). record a { directory = directory }) n
+    ∙ ap (λ (units : List UnitStates). record a { directory = b.directory; units = units }) u
+    ∙ ap (λ (links : List LinkState). record { directory = b.directory; units = b.units; links = links }) l
 
 -- of one connection something else is remembered, and of the others the same
 pub relinked : (s : Setting) (sent sent_then : ℕ → ℕ) (half half_then : ℕ → List ℕ) (w v : World) (c : ℕ) → c < connection_limit
-    → ((d : ℕ) → d < connection_limit → d ≢ c → link_of s.names (sent_then d) (half_then d) (present d v) ≡ link_of s.names (sent d) (half d) (present d w))
+    → ((d : ℕ) → d < connection_limit → d ≢ c → link_of s.directory (sent_then d) (half_then d) (present d v) ≡ link_of s.directory (sent d) (half d) (present d w))
     → machine_with s sent_then half_then v ≡ record (with_link (machine_with s sent half w) c
-    (link_of s.names (sent_then c) (half_then c) (present c v))) { units = v.units }
+    (link_of s.directory (sent_then c) (half_then c) (present c v))) { units = v.units }
 relinked s sent sent_then half half_then w v c lt same =
     let old = machine_with s sent half w in
     let new = machine_with s sent_then half_then v in
-    let link = link_of s.names (sent_then c) (half_then c) (present c v) in
+    let link = link_of s.directory (sent_then c) (half_then c) (present c v) in
     let each : (d : ℕ) → d < connection_limit → get_or new.links d free_link ≡ get_or (set old.links c link) d free_link = λ d below. elim (eqb_tells d c) [
-      | inl here ↦ link_there s sent_then half_then v d below ∙ ap (λ (k : ℕ). link_of s.names (sent_then k) (half_then k) (present k v)) here.1
+      | inl here ↦ link_there s sent_then half_then v d below ∙ ap (λ (k : ℕ). link_of s.directory (sent_then k) (half_then k) (present k v)) here.1
           ∙ sym (ap (λ (k : ℕ). get_or (set old.links c link) k free_link) here.1
           ∙ get_or-set_same old.links c link free_link (omega (arith, links_count s sent half w)))
       | inr differ ↦ link_there s sent_then half_then v d below ∙ same d below differ.1 ∙ sym (link_there s sent half w d below)
           ∙ sym (get_or-set_other old.links c d link free_link differ.1)
     ] in
-    machine_is new (record (with_link old c link) { units = v.units }) (names_with s sent_then half_then v ∙ sym (names_with s sent half w))
+    machine_is new (record (with_link old c link) { units = v.units }) (directory_with s sent_then half_then v ∙ sym (directory_with s sent half w))
     (units_with s sent_then half_then v)
     (links_same new.links (set old.links c link) (links_count s sent_then half_then v) (length-set old.links c link ∙ links_count s sent half w) each)
 
 -- ---- sessions
 
-pub session_same : (names : List (List ℕ)) (life : Life) (phase : Phase) → session_in_phase (phase_for names life phase) ≡ session_in phase
-session_same names life LoggingIn = refl
-session_same names life (FullFeature session) = refl
-session_same names life Closing = refl
-session_same names life Over = refl
+pub session_same : (directory : KnownTargets) (life : Life) (phase : Phase) → session_in_phase (phase_for directory life phase) ≡ session_in phase
+session_same directory life LoggingIn = refl
+session_same directory life (FullFeature session) = refl
+session_same directory life Closing = refl
+session_same directory life Over = refl
 
-session_there : (names : List (List ℕ)) (sent : ℕ) (half : List ℕ) (o : Option Life) → session_in_phase (link_of names sent half o).phase ≡ session_of o
-session_there names sent half None = refl
-session_there names sent half (Some life) = session_same names life life.phase
+session_there : (directory : KnownTargets) (sent : ℕ) (half : List ℕ) (o : Option Life) → session_in_phase (link_of directory sent half o).phase ≡ session_of o
+session_there directory sent half None = refl
+session_there directory sent half (Some life) = session_same directory life life.phase
 
 pub session_at : (s : Setting) (sent : ℕ → ℕ) (half : ℕ → List ℕ) (w : World) (machine : Machine) (c : ℕ) → c < connection_limit → Serves s sent half w machine
     → session_in_phase (link_at machine c).phase ≡ session_of (present c w)
 session_at s sent half w machine c lt h =
     ap (λ (m : Machine). session_in_phase (link_at m c).phase) h.is ∙ ap (λ (l : LinkState). session_in_phase l.phase) (link_there s sent half w c lt)
-    ∙ session_there s.names (sent c) (half c) (present c w)
+    ∙ session_there s.directory (sent c) (half c) (present c w)
 
 -- ---- which links read
 
-reading_same : (names : List (List ℕ)) (life : Life) (phase : Phase) → is_reading (phase_for names life phase) ≡ reads phase
-reading_same names life LoggingIn = refl
-reading_same names life (FullFeature session) = refl
-reading_same names life Closing = refl
-reading_same names life Over = refl
+reading_same : (directory : KnownTargets) (life : Life) (phase : Phase) → is_reading (phase_for directory life phase) ≡ reads phase
+reading_same directory life LoggingIn = refl
+reading_same directory life (FullFeature session) = refl
+reading_same directory life Closing = refl
+reading_same directory life Over = refl
 
-reading_of : (names : List (List ℕ)) (sent : ℕ) (half : List ℕ) (o : Option Life) → is_reading (link_of names sent half o).phase ≡ reads_life o
-reading_of names sent half None = refl
-reading_of names sent half (Some life) = reading_same names life life.phase
+reading_of : (directory : KnownTargets) (sent : ℕ) (half : List ℕ) (o : Option Life) → is_reading (link_of directory sent half o).phase ≡ reads_life o
+reading_of directory sent half None = refl
+reading_of directory sent half (Some life) = reading_same directory life life.phase
 
 pub link_is : (s : Setting) (sent : ℕ → ℕ) (half : ℕ → List ℕ) (w : World) (machine : Machine) (c : ℕ) → c < connection_limit → Serves s sent half w machine
-    → link_at machine c ≡ link_of s.names (sent c) (half c) (present c w)
+    → link_at machine c ≡ link_of s.directory (sent c) (half c) (present c w)
 link_is s sent half w machine c lt h = ap (λ (m : Machine). link_at m c) h.is ∙ link_there s sent half w c lt
 
 pub reads_there : (s : Setting) (sent : ℕ → ℕ) (half : ℕ → List ℕ) (w : World) (machine : Machine) (c : ℕ) → c < connection_limit → Serves s sent half w machine
     → is_reading (link_at machine c).phase ≡ reads_life (present c w)
 reads_there s sent half w machine c lt h = ap (λ (l : LinkState). is_reading l.phase) (link_is s sent half w machine c lt h)
-    ∙ reading_of s.names (sent c) (half c) (present c w)
+    ∙ reading_of s.directory (sent c) (half c) (present c w)
 
 pub count_there : (s : Setting) (sent : ℕ → ℕ) (half : ℕ → List ℕ) (w : World) (machine : Machine) → Serves s sent half w machine
     → length machine.links ≡ connection_limit
@@ -143,15 +144,15 @@ still_sent n x y more e le = rw e (let l = length-append (out_of x) more in omeg
 pub serves_one : (s : Setting) (sent : ℕ → ℕ) (half half_then : ℕ → List ℕ) (w v : World) (machine : Machine) (c : ℕ) (units : List UnitStates)
     (link : LinkState) → c < connection_limit
     → Serves s sent half w machine → ((d : ℕ) → d ≢ c → present d v ≡ present d w) → ((d : ℕ) → d ≢ c → half_then d ≡ half d)
-    → sent c ≤ length (out_now (present c v)) → IsQuiet (present c v) → v.units ≡ units → link_of s.names (sent c) (half_then c) (present c v) ≡ link
+    → sent c ≤ length (out_now (present c v)) → IsQuiet (present c v) → v.units ≡ units → link_of s.directory (sent c) (half_then c) (present c v) ≡ link
     → Serves s sent half_then v (record (with_link machine c link) { units = units })
 serves_one s sent half half_then w v machine c units link lt h other halves le quiet u l =
-    let same : (d : ℕ) → d < connection_limit → d ≢ c → link_of s.names (sent d) (half_then d) (present d v) ≡ link_of s.names (sent d) (half d) (present d w) =
+    let same : (d : ℕ) → d < connection_limit → d ≢ c → link_of s.directory (sent d) (half_then d) (present d v) ≡ link_of s.directory (sent d) (half d) (present d w) =
     λ d below differ. rw (other d differ, halves d differ) refl in
     record {
       is = ap (λ (m : Machine). record (with_link m c link) { units = units }) h.is
           ∙ ap (λ (x : LinkState). record (with_link (machine_with s sent half w) c x) { units = units }) (sym l)
-          ∙ ap (λ (us : List UnitStates). record (with_link (machine_with s sent half w) c (link_of s.names (sent c) (half_then c) (present c v)))
+          ∙ ap (λ (us : List UnitStates). record (with_link (machine_with s sent half w) c (link_of s.directory (sent c) (half_then c) (present c v)))
           { units = us }) (sym u)
           ∙ sym (relinked s sent sent half half_then w v c lt same);
       answered = λ d below. elim (eqb_tells d c) [
@@ -187,7 +188,7 @@ pub closes : (s : Setting) (sent : ℕ → ℕ) (half : ℕ → List ℕ) (w : W
 unfolding closed
 closes s sent half w machine c life lt h at =
     let now = present-close c w life at in
-    let link = link_is s sent half w machine c lt h ∙ ap (link_of s.names (sent c) (half c)) at in
+    let link = link_is s sent half w machine c lt h ∙ ap (link_of s.directory (sent c) (half c)) at in
     let out = out-ended life Closing refl in
     let units : (close c w).units ≡ left (session_in_phase (link_at machine c).phase) machine.units =
     units_close c w ∙ ap (λ (o : Option Params). left o w.units) (sym (session_at s sent half w machine c lt h))

@@ -17,6 +17,7 @@ use Rattle.iscsi_login.specs.declared.params.Params.{Params}
 use Rattle.iscsi_login.specs.declared.reply.Reply.{Reply}
 use Rattle.iscsi_login.specs.declared.reply.Reply.TheVariants.{GoOn, Full, Refused}
 use Rattle.iscsi_session.proofs.Accepted.{begun_lawful}
+use Rattle.iscsi_login.specs.Directory.{KnownTargets}
 use Rattle.iscsi_target.specs.History.{connection_limit, connections}
 use Rattle.iscsi_target.specs.Life.{Life, Phase, LoggingIn, Closing, is_over, reads, session_answers, out_of, ended_in}
 use Rattle.iscsi_target.specs.World.{Setting, World, is_present, present, changed, session_of, live, left, close, changed_units, answered, asked, begun, begins, end_older, requests_of, lookup_for, replied, log_in}
@@ -27,7 +28,7 @@ use Rattle.iscsi_target.specs.Serving.{Serves}
 use Rattle.iscsi_target.specs.declared.phase.Phase.TheVariants as phases
 use Rattle.iscsi_target.proofs.Choices.{cond_true, and_true}
 use Rattle.iscsi_target.proofs.Lives.{present-changed, present-changed_other, present-lives, present_is}
-use Rattle.iscsi_target.proofs.Linked.{link_is, session_at, live_there, names_with, units_with, count_there, out-ended, out-more, says, still_sent, serves_one, present-close, present-close_other}
+use Rattle.iscsi_target.proofs.Linked.{link_is, session_at, live_there, directory_with, units_with, count_there, out-ended, out-more, says, still_sent, serves_one, present-close, present-close_other}
 
 -- a connection that logs in
 pub record Entering (s : Setting) (sent : ℕ → ℕ) (half : ℕ → List ℕ) (w : World) (machine : Machine) (c : ℕ) (life : Life) : Type 0 where
@@ -76,9 +77,9 @@ begun_more life request answer session e =
 
 -- the link before, and what was sent of it
 link_before : (s : Setting) (sent : ℕ → ℕ) (half : ℕ → List ℕ) (w : World) (machine : Machine) (c : ℕ) (life : Life) → Entering s sent half w machine c life
-    → (link_at machine c ≡ link_of s.names (sent c) (half c) (Some life)) × (sent c ≤ length (out_of life))
+    → (link_at machine c ≡ link_of s.directory (sent c) (half c) (Some life)) × (sent c ≤ length (out_of life))
 link_before s sent half w machine c life h = (
-  link_is s sent half w machine c h.in_range h.serves ∙ ap (link_of s.names (sent c) (half c)) h.at,
+  link_is s sent half w machine c h.in_range h.serves ∙ ap (link_of s.directory (sent c) (half c)) h.at,
   (let le = h.serves.answered c h.in_range in rw h.at at le),
 )
 
@@ -119,15 +120,15 @@ link_made : (b : Bool) (half bytes : List ℕ) (p q : CodePhase) (l k : List ℕ
     → (let made : LinkState = record { half = cond b half []; phase = p; waiting = l } in made) ≡ record { half = bytes; phase = q; waiting = k }
 link_made b half bytes p q l k e f g i = rw (e, f, g, i) refl
 
-remembered-push : (names : List (List ℕ)) (handle : ℕ) (requests : List Frame) (request : Frame)
-    → remembered names handle (requests ++ request ∷ []) ≡ advanced names (remembered names handle requests) request
+remembered-push : (directory : KnownTargets) (handle : ℕ) (requests : List Frame) (request : Frame)
+    → remembered directory handle (requests ++ request ∷ []) ≡ advanced directory (remembered directory handle requests) request
 unfolding remembered
-remembered-push names handle requests request = fold-append (advanced names) (new_login handle) requests (request ∷ [])
+remembered-push directory handle requests request = fold-append (advanced directory) (new_login handle) requests (request ∷ [])
 
 goes_on : (s : Setting) (sent : ℕ → ℕ) (half : ℕ → List ℕ) (w : World) (machine : Machine) (c : ℕ) (life : Life) (request : Frame) (answer : Answer)
     → Entering s sent half w machine c life
     → Serves s sent half (changed (answered answer) c (changed (asked request) c w))
-    (with_link machine c (gone_on_link (advanced s.names (remembered s.names (life.connection + 1) life.requests) request) answer (link_at machine c)))
+    (with_link machine c (gone_on_link (advanced s.directory (remembered s.directory (life.connection + 1) life.requests) request) answer (link_at machine c)))
 goes_on s sent half w machine c life request answer h =
     let u = changed (asked request) c w in
     let m = answered answer (asked request life) in
@@ -137,18 +138,18 @@ goes_on s sent half w machine c life request answer h =
     let before = link_before s sent half w machine c life h in
     let x = spelling answer in
     let out : out_of m ≡ out_of life ++ x = answers_more life request answer h.phase in
-    let login_ = advanced s.names (remembered s.names (life.connection + 1) life.requests) request in
+    let login_ = advanced s.directory (remembered s.directory (life.connection + 1) life.requests) request in
     let waiting : drop (sent c) (out_of m) ≡ (link_at machine c).waiting ++ x =
     ap (drop (sent c)) out ∙ sym (says (sent c) (drop (sent c) (out_of life)) (out_of life) x before.1 refl)
     ∙ ap (λ (l : LinkState). l.waiting ++ x) (sym before.0) in
     let half_now : (link_at machine c).half ≡ half c = ap (λ (l : LinkState). l.half) before.0 ∙ cond_true (reads life.phase) (half c) [] (ap reads h.phase) in
-    let phase_now : phase_for s.names m m.phase ≡ phases.Login login_ = ap (phase_for s.names m) h.phase
-    ∙ ap phases.Login (remembered-push s.names (life.connection + 1) life.requests request) in
+    let phase_now : phase_for s.directory m m.phase ≡ phases.Login login_ = ap (phase_for s.directory m) h.phase
+    ∙ ap phases.Login (remembered-push s.directory (life.connection + 1) life.requests request) in
     serves_one s sent half half w v machine c machine.units (gone_on_link login_ answer (link_at machine c)) h.in_range h.serves
     (λ d differ. present-changed_other (answered answer) c d u (λ l. refl) differ ∙ asked_other w c d request differ) (λ d differ. refl)
     (rw now (still_sent (sent c) life m x out before.1)) (rw now (quiet_login m.phase h.phase))
     (units_changed (answered answer) c u ∙ units_changed (asked request) c w ∙ sym (units_there s sent half w machine h.serves))
-    (rw now (link_made (reads m.phase) (half c) (link_at machine c).half (phase_for s.names m m.phase) (phases.Login login_)
+    (rw now (link_made (reads m.phase) (half c) (link_at machine c).half (phase_for s.directory m m.phase) (phases.Login login_)
     (drop (sent c) (out_of m)) ((link_at machine c).waiting ++ x) (ap reads h.phase) half_now phase_now waiting))
 
 -- ---- a session begins
@@ -230,7 +231,7 @@ ends s sent half w machine d life lt h at =
     let v = changed (ended_in Closing) d w in
     let now : present d v ≡ Some (ended_in Closing life) = present-changed (ended_in Closing) d w life at
     (let on = and_true (eqb life.connection d) (not (is_over life.phase)) (present_is d w life at) in rw on.0 refl) in
-    let link = link_is s sent half w machine d lt h ∙ ap (link_of s.names (sent d) (half d)) at in
+    let link = link_is s sent half w machine d lt h ∙ ap (link_of s.directory (sent d) (half d)) at in
     let out = out-ended life Closing refl in
     let le : sent d ≤ length (out_of life) = (let was = h.answered d lt in rw at at was) in
     serves_one s sent half half w v machine d machine.units (shut_link (link_at machine d)) lt h
@@ -286,7 +287,7 @@ live_asked s sent half w machine c life request h = map_sessions w (changed (ask
 replies : (s : Setting) (sent : ℕ → ℕ) (half : ℕ → List ℕ) (w : World) (machine : Machine) (c : ℕ) (life : Life) (request : Frame) (reply : Reply)
     → Entering s sent half w machine c life
     → Serves s sent half (replied reply c (changed (asked request) c w))
-    (machine_replied reply (advanced s.names (remembered s.names (life.connection + 1) life.requests) request) c machine)
+    (machine_replied reply (advanced s.directory (remembered s.directory (life.connection + 1) life.requests) request) c machine)
 replies s sent half w machine c life request (GoOn response) h = goes_on s sent half w machine c life request (answers.LoginResponse response) h
 replies s sent half w machine c life request (Refused response) h = refuses s sent half w machine c life request (answers.LoginResponse response) h
 replies s sent half w machine c life request (Full response session) h =
@@ -296,17 +297,17 @@ replies s sent half w machine c life request (Full response session) h =
 -- a Login request
 pub logs_in : (s : Setting) (sent : ℕ → ℕ) (half : ℕ → List ℕ) (w : World) (machine : Machine) (c : ℕ) (life : Life) (request : Frame)
     → Entering s sent half w machine c life
-    → Serves s sent half (log_in s c request w) (logged_in machine c (remembered s.names (life.connection + 1) life.requests) request)
+    → Serves s sent half (log_in s c request w) (logged_in machine c (remembered s.directory (life.connection + 1) life.requests) request)
 unfolding log_in logged_in
 logs_in s sent half w machine c life request h =
     let on : life.connection ≡ c = eqb-true _ _ (and_true (eqb life.connection c) (not (is_over life.phase)) (present_is c w life h.at)).0 in
-    let login_ = remembered s.names (life.connection + 1) life.requests in
-    let names : machine.names ≡ s.names = ap (λ (m : Machine). m.names) h.serves.is ∙ names_with s sent half w in
-    let reply = reply_of login_ (lookup_for s.names (live w) request) request in
-    let same : login (c + 1) (requests_of (present c w)) (lookup_for s.names (live w) request) request ≡ reply =
-    ap (λ (o : Option Life). login (c + 1) (requests_of o) (lookup_for s.names (live w) request) request) h.at
-    ∙ ap (λ (k : ℕ). login (k + 1) life.requests (lookup_for s.names (live w) request) request) (sym on) in
-    let P : List (List ℕ) → Type 0 = λ all. Serves s sent half (replied
-    (login (c + 1) (requests_of (present c w)) (lookup_for s.names (live w) request) request) c (changed (asked request) c w))
+    let login_ = remembered s.directory (life.connection + 1) life.requests in
+    let directory : machine.directory ≡ s.directory = ap (λ (m : Machine). m.directory) h.serves.is ∙ directory_with s sent half w in
+    let reply = reply_of login_ (lookup_for s.directory (live w) request) request in
+    let same : login (c + 1) (requests_of (present c w)) (lookup_for s.directory (live w) request) request ≡ reply =
+    ap (λ (o : Option Life). login (c + 1) (requests_of o) (lookup_for s.directory (live w) request) request) h.at
+    ∙ ap (λ (k : ℕ). login (k + 1) life.requests (lookup_for s.directory (live w) request) request) (sym on) in
+    let P : KnownTargets → Type 0 = λ all. Serves s sent half (replied
+    (login (c + 1) (requests_of (present c w)) (lookup_for s.directory (live w) request) request) c (changed (asked request) c w))
     (machine_replied (reply_of login_ (lookup_for all (sessions machine.links) request) request) (advanced all login_ request) c machine) in
-    subst P (sym names) (rw (same, ← live_there s sent half w machine h.serves) (replies s sent half w machine c life request reply h))
+    subst P (sym directory) (rw (same, ← live_there s sent half w machine h.serves) (replies s sent half w machine c life request reply h))

@@ -1,6 +1,6 @@
 -- What a call leaves of every target, whatever its stores do.
 use Rattle.std.proofs.Common.{◌≡◌, ℕ, ◌<◌, List, [], ◌++◌, length, get_or, Bool, true, false, not, Option, Some, None, refl, sym, ap, ◌∙◌, subst, arith, inl, inr, append_assoc}
-use Rattle.std.specs.Prelude.{◌≢◌, slice_index_or, slice_set, Result, Ok, Err, IfErr}
+use Rattle.std.specs.Prelude.{◌≢◌, Result, Ok, Err, IfErr}
 use Rattle.std.proofs.lemmas.Bool.Decides.{eqb_tells}
 use Rattle.std.proofs.lemmas.List.{append-nil, length-set, get_or-set_same, get_or-set_other, get_or-map, length-map}
 use Rattle.scsi_unit.specs.Units.{UnitStates, AreSound, AreSure, join}
@@ -13,7 +13,8 @@ use Rattle.iscsi_login.specs.Login.{advanced, reply_of}
 use Rattle.iscsi_login.specs.declared.params.Params.{Params}
 use Rattle.iscsi_login.specs.declared.reply.Reply.{Reply}
 use Rattle.iscsi_login.specs.declared.reply.Reply.TheVariants.{GoOn, Full, Refused}
-use Rattle.iscsi_target.specs.World.{left, changed_units, lookup_for}
+use Rattle.iscsi_login.specs.LoginState.{IsTargetBelow}
+use Rattle.iscsi_target.specs.World.{left, units_at, with_units, changed_units, lookup_for}
 use Rattle.iscsi_target.specs.Machine.{LinkState, Machine, IsSound, IsSure, Feeds, link_at, with_link, is_free, is_reading, is_closing, free_link, shut_link, closed, session_in_phase, sessions, is_logging_in, gone_on_link, refused_link, begun_link, shut_older, replied, logged_in}
 use Rattle.iscsi_target.specs.Serving.{KeepsHalf, Moves, IsClosed, first_of, first_starved}
 use Rattle.iscsi_target.specs.declared.fault.Starved.{Starved}
@@ -230,16 +231,22 @@ session_changes old new r free waits = record { reads = r; free = free; waits = 
 pub session_half : (old new : LinkState) → is_reading new.phase ≡ true → new.half ≡ old.half → KeepsHalf old.half new
 session_half old new reads half = record { reading = λ e. half; idle = λ e. absurd (cc (reads, e)) }
 
--- the units of one target were worked on
-pub units_back : (machine : Machine) (links : List LinkState) (target : ℕ) (units : UnitStates) → target < length machine.units
-    → (AreSound units → AreSound (slice_index_or machine.units target []))
-    → let after : Machine = record machine { units = slice_set machine.units target units; links = links } in IsSound after → IsSound machine
-units_back machine links target units lt back sound = sound_set machine.units target units (λ below. back) sound
+-- the units of a session's target were worked on
+pub units_back : (machine : Machine) (links : List LinkState) (target : Option ℕ) (units : UnitStates) → IsTargetBelow (length machine.units) target
+    → (AreSound units → AreSound (units_at target machine.units))
+    → let after : Machine = record machine { units = with_units target units machine.units; links = links } in IsSound after → IsSound machine
+units_back machine links None units lt back sound = sound
+units_back machine links (Some target) units lt back sound = sound_set machine.units target units (λ below. back) sound
 
-pub units_sure : (machine : Machine) (links : List LinkState) (target : ℕ) (units : UnitStates)
-    → (AreSure (slice_index_or machine.units target []) → AreSure units)
-    → let after : Machine = record machine { units = slice_set machine.units target units; links = links } in IsSure machine → IsSure after
-units_sure machine links target units forth sure = sure_set machine.units target [] units forth sure
+pub units_sure : (machine : Machine) (links : List LinkState) (target : Option ℕ) (units : UnitStates)
+    → (AreSure (units_at target machine.units) → AreSure units)
+    → let after : Machine = record machine { units = with_units target units machine.units; links = links } in IsSure machine → IsSure after
+units_sure machine links None units forth sure = sure
+units_sure machine links (Some target) units forth sure = sure_set machine.units target [] units forth sure
+
+pub length_with : (target : Option ℕ) (units : UnitStates) (all : List UnitStates) → length (with_units target units all) ≡ length all
+length_with None units all = refl
+length_with (Some target) units all = length-set all target units
 
 -- ---- a Login request
 
@@ -346,7 +353,7 @@ logged_in_alters : (machine : Machine) (c : ℕ) (login : LoginState) (request :
     → is_reading (link_at machine c).phase ≡ true → Alters c machine (logged_in machine c login request)
 unfolding logged_in
 logged_in_alters machine c login request lt reads =
-    replied_alters (reply_of login (lookup_for machine.names (sessions machine.links) request) request) (advanced machine.names login request) c
+    replied_alters (reply_of login (lookup_for machine.directory (sessions machine.links) request) request) (advanced machine.directory login request) c
     machine lt reads
 
 pub logged_in_moves : (machine : Machine) (c : ℕ) (login : LoginState) (request : Frame) → c < length machine.links

@@ -6,6 +6,7 @@ use Rattle.std.proofs.lemmas.Bool.{ne_eqb, eqb-true}
 use Rattle.std.proofs.lemmas.Bool.Decides.{eqb_tells}
 use Rattle.std.proofs.lemmas.List.{map-append}
 use Rattle.std.proofs.lemmas.List.Folds.{list_any-append}
+use Rattle.iscsi_login.specs.Directory.{KnownTargets}
 use Rattle.iscsi_target.specs.History.{Open, Bytes, Gone, History, plain, is_among, open_after, connection_limit}
 use Rattle.iscsi_target.specs.Life.{Life, Over, is_over, born, out_of, ended_in}
 use Rattle.iscsi_target.specs.World.{Setting, World, is_present, present, over, end, world}
@@ -134,16 +135,16 @@ finished_outputs s machine rows before history r = ap (map (λ (row : RowState).
 
 -- ---- which events may come
 
-open_in : (names : List (List ℕ)) (sent : ℕ) (half : List ℕ) (c : ℕ) (w : World) (o : Option Life) → present c w ≡ o
-    → not (is_free (link_of names sent half o).phase) ≡ is_there o
-open_in names sent half c w None e = refl
-open_in names sent half c w (Some life) e = ap not (present_open names c w life e)
+open_in : (directory : KnownTargets) (sent : ℕ) (half : List ℕ) (c : ℕ) (w : World) (o : Option Life) → present c w ≡ o
+    → not (is_free (link_of directory sent half o).phase) ≡ is_there o
+open_in directory sent half c w None e = refl
+open_in directory sent half c w (Some life) e = ap not (present_open directory c w life e)
 
 is_open : (s : Setting) (machine : Machine) (rows : List RowState) (before : List ℕ) (history : History) (c : ℕ)
     → Runs s machine rows before history → c < connection_limit → is_open_at machine c ≡ is_among c before
 is_open s machine rows before history c r lt =
     ap (λ (l : LinkState). not (is_free l.phase)) (link_stands s (λ k. 0) (world s history) machine c lt r.stands)
-    ∙ open_in s.names 0 (half_of (present c (world s history))) c (world s history) (present c (world s history)) refl
+    ∙ open_in s.directory 0 (half_of (present c (world s history))) c (world s history) (present c (world s history)) refl
     ∙ sym (has_row s machine rows before history r c) ∙ r.tracks c
 
 -- ---- the beginning

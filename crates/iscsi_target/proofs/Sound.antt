@@ -45,10 +45,11 @@ media_map : (f : UnitState → UnitState) (units : UnitStates) → ((unit : Unit
 media_map f [] same = refl
 media_map f (unit ∷ units) same = cc (same unit, media_map f units same)
 
-media_changed : (f : UnitStates → UnitStates) (target : ℕ) (all : List UnitStates) → ((units : UnitStates) → media (f units) ≡ media units)
+media_changed : (f : UnitStates → UnitStates) (target : Option ℕ) (all : List UnitStates) → ((units : UnitStates) → media (f units) ≡ media units)
     → map media (changed_units f target all) ≡ map media all
 unfolding changed_units
-media_changed f target all same = map-set_same media all target (f (slice_index_or all target [])) [] (same (slice_index_or all target []))
+media_changed f None all same = refl
+media_changed f (Some target) all same = map-set_same media all target (f (slice_index_or all target [])) [] (same (slice_index_or all target []))
 
 media_left : (o : Option Params) (all : List UnitStates) → map media (left o all) ≡ map media all
 unfolding leave
@@ -76,7 +77,7 @@ media_logged_in : (machine : Machine) (c : ℕ) (login : LoginState) (request : 
     → map media (logged_in machine c login request).units ≡ map media machine.units
 unfolding logged_in
 media_logged_in machine c login request =
-    media_replied (reply_of login (lookup_for machine.names (sessions machine.links) request) request) (advanced machine.names login request) c machine
+    media_replied (reply_of login (lookup_for machine.directory (sessions machine.links) request) request) (advanced machine.directory login request) c machine
 
 media_closed : (machine : Machine) (c : ℕ) → map media (closed machine c).units ≡ map media machine.units
 unfolding closed

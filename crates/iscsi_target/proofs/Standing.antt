@@ -10,6 +10,7 @@ use Rattle.iscsi_pdu.proofs.Frames.{no_frame, rest_none}
 use Rattle.iscsi_login.specs.Login.{remembered}
 use Rattle.iscsi_login.specs.declared.params.Params.{Params}
 use Rattle.scsi_unit.specs.Units.{UnitStates}
+use Rattle.iscsi_login.specs.Directory.{KnownTargets}
 use Rattle.iscsi_target.specs.History.{Open, Gone, Happening, History, plain, connection_limit}
 use Rattle.iscsi_target.specs.Life.{Life, Phase, LoggingIn, FullFeature, Closing, Over, born, is_over, out_of}
 use Rattle.iscsi_target.specs.World.{Setting, World, present, session_of, left, end, happened, new_world, world}
@@ -44,7 +45,7 @@ stands_machine s sent history a b e h = let P : Machine → Type 0 = λ m. Stand
 
 -- where each link is the same, so is the machine
 pub machine_same : (s : Setting) (sent sent_then : ℕ → ℕ) (half half_then : ℕ → List ℕ) (w v : World) → v.units ≡ w.units
-    → ((d : ℕ) → d < connection_limit → link_of s.names (sent_then d) (half_then d) (present d v) ≡ link_of s.names (sent d) (half d) (present d w))
+    → ((d : ℕ) → d < connection_limit → link_of s.directory (sent_then d) (half_then d) (present d v) ≡ link_of s.directory (sent d) (half d) (present d w))
     → machine_with s sent_then half_then v ≡ machine_with s sent half w
 machine_same s sent sent_then half half_then w v u same =
     let old = machine_with s sent half w in
@@ -58,43 +59,43 @@ pub serving : (s : Setting) (sent : ℕ → ℕ) (w : World) (machine : Machine)
 serving s sent w machine h = record { is = h.is; answered = h.answered; quiet = h.quiet }
 
 pub link_stands : (s : Setting) (sent : ℕ → ℕ) (w : World) (machine : Machine) (c : ℕ) → c < connection_limit → StandsAt s sent w machine
-    → link_at machine c ≡ link_of s.names (sent c) (half_of (present c w)) (present c w)
+    → link_at machine c ≡ link_of s.directory (sent c) (half_of (present c w)) (present c w)
 link_stands s sent w machine c lt h = link_is s sent (λ k. half_of (present k w)) w machine c lt (serving s sent w machine h)
 
-waiting_of : (names : List (List ℕ)) (sent : ℕ) (half : List ℕ) (o : Option Life) → (link_of names sent half o).waiting ≡ drop sent (out_now o)
-waiting_of names sent half None = sym (drop-nil sent)
-waiting_of names sent half (Some life) = refl
+waiting_of : (directory : KnownTargets) (sent : ℕ) (half : List ℕ) (o : Option Life) → (link_of directory sent half o).waiting ≡ drop sent (out_now o)
+waiting_of directory sent half None = sym (drop-nil sent)
+waiting_of directory sent half (Some life) = refl
 
 -- what waits is what was answered without what was sent
 pub waits_there : (s : Setting) (sent : ℕ → ℕ) (w : World) (machine : Machine) (c : ℕ) → c < connection_limit → StandsAt s sent w machine
     → (link_at machine c).waiting ≡ drop (sent c) (out_now (present c w))
 waits_there s sent w machine c lt h = ap (λ (l : LinkState). l.waiting) (link_stands s sent w machine c lt h)
-    ∙ waiting_of s.names (sent c) (half_of (present c w)) (present c w)
+    ∙ waiting_of s.directory (sent c) (half_of (present c w)) (present c w)
 
 pub count_stands : (s : Setting) (sent : ℕ → ℕ) (w : World) (machine : Machine) → StandsAt s sent w machine → length machine.links ≡ connection_limit
 count_stands s sent w machine h = count_there s sent (λ c. half_of (present c w)) w machine (serving s sent w machine h)
 
 -- ---- which connections are open
 
-over_is_free : (names : List (List ℕ)) (life : Life) (phase : Phase) → is_over phase ≡ false → is_free (phase_for names life phase) ≡ false
-over_is_free names life LoggingIn e = refl
-over_is_free names life (FullFeature session) e = refl
-over_is_free names life Closing e = refl
-over_is_free names life Over e = absurd cc
+over_is_free : (directory : KnownTargets) (life : Life) (phase : Phase) → is_over phase ≡ false → is_free (phase_for directory life phase) ≡ false
+over_is_free directory life LoggingIn e = refl
+over_is_free directory life (FullFeature session) e = refl
+over_is_free directory life Closing e = refl
+over_is_free directory life Over e = absurd cc
 
-pub present_open : (names : List (List ℕ)) (c : ℕ) (w : World) (life : Life) → present c w ≡ Some life → is_free (phase_for names life life.phase) ≡ false
-present_open names c w life e = over_is_free names life life.phase (not_true (is_over life.phase)
+pub present_open : (directory : KnownTargets) (c : ℕ) (w : World) (life : Life) → present c w ≡ Some life → is_free (phase_for directory life life.phase) ≡ false
+present_open directory c w life e = over_is_free directory life life.phase (not_true (is_over life.phase)
     (and_true (eqb life.connection c) (not (is_over life.phase)) (present_is c w life e)).1)
 
-open_in : (names : List (List ℕ)) (sent : ℕ) (half : List ℕ) (o : Option Life) → is_free (link_of names sent half o).phase ≡ false → (life : Life)
+open_in : (directory : KnownTargets) (sent : ℕ) (half : List ℕ) (o : Option Life) → is_free (link_of directory sent half o).phase ≡ false → (life : Life)
     × (o ≡ Some life)
-open_in names sent half None e = absurd cc
-open_in names sent half (Some life) e = (life, refl)
+open_in directory sent half None e = absurd cc
+open_in directory sent half (Some life) e = (life, refl)
 
-free_in : (names : List (List ℕ)) (sent : ℕ) (half : List ℕ) (c : ℕ) (w : World) (o : Option Life) → present c w ≡ o
-    → is_free (link_of names sent half o).phase ≡ true → o ≡ None
-free_in names sent half c w None e f = refl
-free_in names sent half c w (Some life) e f = let open_ = present_open names c w life e in absurd (cc (open_, f))
+free_in : (directory : KnownTargets) (sent : ℕ) (half : List ℕ) (c : ℕ) (w : World) (o : Option Life) → present c w ≡ o
+    → is_free (link_of directory sent half o).phase ≡ true → o ≡ None
+free_in directory sent half c w None e f = refl
+free_in directory sent half c w (Some life) e f = let open_ = present_open directory c w life e in absurd (cc (open_, f))
 
 free_from : (b : Bool) → not b ≡ false → b ≡ true
 free_from true e = refl
@@ -103,13 +104,13 @@ free_from false e = absurd cc
 pub is_free_there : (s : Setting) (sent : ℕ → ℕ) (w : World) (machine : Machine) (c : ℕ) → c < connection_limit → StandsAt s sent w machine
     → is_open_at machine c ≡ false → present c w ≡ None
 is_free_there s sent w machine c lt h e =
-    free_in s.names (sent c) (half_of (present c w)) c w (present c w) refl
+    free_in s.directory (sent c) (half_of (present c w)) c w (present c w) refl
     (ap (λ (l : LinkState). is_free l.phase) (sym (link_stands s sent w machine c lt h)) ∙ free_from _ e)
 
 pub is_open_there : (s : Setting) (sent : ℕ → ℕ) (w : World) (machine : Machine) (c : ℕ) → c < connection_limit → StandsAt s sent w machine
     → is_open_at machine c ≡ true → (life : Life) × (present c w ≡ Some life)
 is_open_there s sent w machine c lt h e =
-    open_in s.names (sent c) (half_of (present c w)) (present c w) (ap (λ (l : LinkState). is_free l.phase)
+    open_in s.directory (sent c) (half_of (present c w)) (present c w) (ap (λ (l : LinkState). is_free l.phase)
     (sym (link_stands s sent w machine c lt h)) ∙ not_true _ e)
 
 -- ---- how many bytes were sent
@@ -123,20 +124,20 @@ sent_there sent c n d differ = cond_false (eqb d c) n (sent d) (ne_eqb d c diffe
 -- one connection changes, and how much of its answers was sent
 pub stands_one : (s : Setting) (sent : ℕ → ℕ) (w v : World) (machine : Machine) (c n : ℕ) (units : List UnitStates) (link : LinkState)
     → c < connection_limit → StandsAt s sent w machine → v.units ≡ units
-    → ((d : ℕ) → d ≢ c → present d v ≡ present d w) → link_of s.names n (half_of (present c v)) (present c v) ≡ link
+    → ((d : ℕ) → d ≢ c → present d v ≡ present d w) → link_of s.directory n (half_of (present c v)) (present c v) ≡ link
     → n ≤ length (out_now (present c v)) → IsQuiet (present c v) → IsShort (present c v)
     → StandsAt s (with_sent sent c n) v (record (with_link machine c link) { units = units })
 stands_one s sent w v machine c n units link lt h u other l le quiet short =
-    let same : (d : ℕ) → d < connection_limit → d ≢ c → link_of s.names (with_sent sent c n d) (half_of (present d v)) (present d v)
-    ≡ link_of s.names (sent d) (half_of (present d w)) (present d w) =
+    let same : (d : ℕ) → d < connection_limit → d ≢ c → link_of s.directory (with_sent sent c n d) (half_of (present d v)) (present d v)
+    ≡ link_of s.directory (sent d) (half_of (present d w)) (present d w) =
     λ d below differ. rw (other d differ, sent_there sent c n d differ) refl in
-    let here : link_of s.names (with_sent sent c n c) (half_of (present c v)) (present c v) ≡ link =
-    ap (λ (k : ℕ). link_of s.names k (half_of (present c v)) (present c v)) (sent_here sent c n) ∙ l in
+    let here : link_of s.directory (with_sent sent c n c) (half_of (present c v)) (present c v) ≡ link =
+    ap (λ (k : ℕ). link_of s.directory k (half_of (present c v)) (present c v)) (sent_here sent c n) ∙ l in
     record {
       is = ap (λ (m : Machine). let x : Machine = record (with_link m c link) { units = units } in x) h.is
           ∙ ap (λ (x : LinkState). let m : Machine = record (with_link (machine_of s sent w) c x) { units = units } in m) (sym here)
           ∙ ap (λ (us : List UnitStates). let m : Machine = record (with_link (machine_of s sent w) c
-          (link_of s.names (with_sent sent c n c) (half_of (present c v)) (present c v))) { units = us } in m) (sym u)
+          (link_of s.directory (with_sent sent c n c) (half_of (present c v)) (present c v))) { units = us } in m) (sym u)
           ∙ sym (relinked s sent (with_sent sent c n) (λ k. half_of (present k w)) (λ k. half_of (present k v)) w v c lt same);
       answered = λ d below. elim (eqb_tells d c) [
         | inl e ↦ rw (e.1, sent_here sent c n) le
@@ -174,12 +175,12 @@ new_links : (n : ℕ) (link : LinkState) (a : ℕ) → map (λ (c : ℕ). link) 
 new_links zero link a = refl
 new_links (suc n) link a = ap (λ (l : List LinkState). link ∷ l) (new_links n link (a + 1))
 
-new_is : (s : Setting) → new_machine s.names s.units ≡ machine_of s (λ c. 0) (new_world s)
+new_is : (s : Setting) → new_machine s.directory s.units ≡ machine_of s (λ c. 0) (new_world s)
 unfolding machine_with present
-new_is s = ap (λ (links : List LinkState). let m : Machine = record { names = s.names; units = s.units; links = links } in m)
+new_is s = ap (λ (links : List LinkState). let m : Machine = record { directory = s.directory; units = s.units; links = links } in m)
     (sym (new_links connection_limit free_link 0))
 
-pub new_stands : (s : Setting) → Stands s (λ c. 0) (new_machine s.names s.units) []
+pub new_stands : (s : Setting) → Stands s (λ c. 0) (new_machine s.directory s.units) []
 unfolding world
 new_stands s = record {
   is = new_is s;
@@ -198,9 +199,9 @@ no_answers : (c : ℕ) → out_of (born c) ≡ []
 unfolding out_of
 no_answers c = refl
 
-born_link : (names : List (List ℕ)) (c : ℕ) → link_of names 0 (half_of (Some (born c))) (Some (born c)) ≡ opened_link c
+born_link : (directory : KnownTargets) (c : ℕ) → link_of directory 0 (half_of (Some (born c))) (Some (born c)) ≡ opened_link c
 unfolding remembered out_of
-born_link names c = ap (λ (half : List ℕ). let l : LinkState = record { half = half; phase = (opened_link c).phase; waiting = [] } in l) (rest_none [] no_frame)
+born_link directory c = ap (λ (half : List ℕ). let l : LinkState = record { half = half; phase = (opened_link c).phase; waiting = [] } in l) (rest_none [] no_frame)
 
 pub open_stands : (s : Setting) (sent : ℕ → ℕ) (machine : Machine) (history : History) (c : ℕ) → c < connection_limit → is_open_at machine c ≡ false
     → Stands s sent machine history
@@ -213,7 +214,7 @@ open_stands s sent machine history c lt free h =
     let units : v.units ≡ machine.units = sym (ap (λ (m : Machine). m.units) h.is ∙ units_with s sent (λ k. half_of (present k w)) w) in
     stands_as s (with_sent sent c 0) (with_link machine c (opened_link c)) history (plain (Open c)) v refl
     (stands_one s sent w v machine c 0 machine.units (opened_link c) lt h units (λ d differ. present-born_other c d (fresh w) differ ∙ present-fresh d w)
-    (rw born_ (born_link s.names c)) (omega arith) (rw born_ tt) (rw born_ (λ e. ap is_long (rest_none [] no_frame) ∙ nothing_long)))
+    (rw born_ (born_link s.directory c)) (omega arith) (rw born_ tt) (rw born_ (λ e. ap is_long (rest_none [] no_frame) ∙ nothing_long)))
 
 -- ---- Gone
 
@@ -241,10 +242,10 @@ gone_stands s sent machine history c lt h =
 
 -- ---- bytes were sent
 
-sent_of : (names : List (List ℕ)) (sent n : ℕ) (half : List ℕ) (o : Option Life) → n ≤ length (link_of names sent half o).waiting
-    → link_of names (sent + n) half o ≡ sent_link (link_of names sent half o) n
-sent_of names sent n half None le = ap (λ (l : List ℕ). let x : LinkState = record free_link { waiting = l } in x) (sym (drop-nil n))
-sent_of names sent n half (Some life) le = ap (λ (l : List ℕ). let x : LinkState = record (link_of names sent half (Some life)) { waiting = l } in
+sent_of : (directory : KnownTargets) (sent n : ℕ) (half : List ℕ) (o : Option Life) → n ≤ length (link_of directory sent half o).waiting
+    → link_of directory (sent + n) half o ≡ sent_link (link_of directory sent half o) n
+sent_of directory sent n half None le = ap (λ (l : List ℕ). let x : LinkState = record free_link { waiting = l } in x) (sym (drop-nil n))
+sent_of directory sent n half (Some life) le = ap (λ (l : List ℕ). let x : LinkState = record (link_of directory sent half (Some life)) { waiting = l } in
     x) (sym (drop-drop n sent (out_of life)))
 
 pub sent_stands : (s : Setting) (sent : ℕ → ℕ) (machine : Machine) (history : History) (c n : ℕ) → c < connection_limit
@@ -258,7 +259,7 @@ sent_stands s sent machine history c n lt le h =
     let count : sent c + n ≤ length (out_now (present c w)) = (let was = h.answered c lt in
     let len = length-drop (sent c) (out_now (present c w)) in let same = ap length waits in omega arith) in
     stands_one s sent w w machine c (sent c + n) machine.units (sent_link (link_at machine c) n) lt h units (λ d differ. refl)
-    (sent_of s.names (sent c) n (half_of (present c w)) (present c w) (subst (λ (l : LinkState). n ≤ length l.waiting) link le)
+    (sent_of s.directory (sent c) n (half_of (present c w)) (present c w) (subst (λ (l : LinkState). n ≤ length l.waiting) link le)
     ∙ ap (λ (l : LinkState). sent_link l n) (sym link))
     count (h.quiet c lt) (h.short c lt)
 

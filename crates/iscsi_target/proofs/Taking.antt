@@ -10,6 +10,7 @@ use Rattle.iscsi_pdu.specs.Frames.{Frame, frames, rest, is_long, has_frame, firs
 use Rattle.iscsi_pdu.proofs.Frames.{no_frame, frames_none, rest_none, frames_step, rest_step, drop_shorter}
 use Rattle.iscsi_pdu.proofs.Cuts.{long_is_no_frame}
 use Rattle.iscsi_session.specs.Steps.{Step, Judging, Taking, Asking, Doing, is_of}
+use Rattle.iscsi_login.specs.Directory.{KnownTargets}
 use Rattle.iscsi_target.specs.History.{Point, Arriving, Before, AtEnd, Mark, Arrival, Whole, TooLong, arrivals, is_within, connection_limit}
 use Rattle.iscsi_target.specs.Life.{Life, reads}
 use Rattle.iscsi_target.specs.World.{Setting, World, present, reads_life, close, reaching, arrive}
@@ -41,21 +42,21 @@ pub rehalved : (s : Setting) (sent : ℕ → ℕ) (half : ℕ → List ℕ) (w :
     → Serves s sent (with_half c bytes half) w (with_link machine c (record (link_at machine c) { half = bytes }))
 rehalved s sent half w machine c bytes lt r h =
     let there = some_reads (present c w) (sym (reads_there s sent half w machine c lt h) ∙ r) in
-    let link = link_is s sent half w machine c lt h ∙ ap (link_of s.names (sent c) (half c)) there.1 in
-    let now : link_of s.names (sent c) (with_half c bytes half c) (Some there.0) ≡ record (link_of s.names (sent c) (half c) (Some there.0)) { half = bytes } =
-    ap (λ (b : List ℕ). link_of s.names (sent c) b (Some there.0)) (half_here c bytes half)
-    ∙ ap (λ (b : List ℕ). let l : LinkState = record (link_of s.names (sent c) (half c) (Some there.0)) { half = b } in l)
+    let link = link_is s sent half w machine c lt h ∙ ap (link_of s.directory (sent c) (half c)) there.1 in
+    let now : link_of s.directory (sent c) (with_half c bytes half c) (Some there.0) ≡ record (link_of s.directory (sent c) (half c) (Some there.0)) { half = bytes } =
+    ap (λ (b : List ℕ). link_of s.directory (sent c) b (Some there.0)) (half_here c bytes half)
+    ∙ ap (λ (b : List ℕ). let l : LinkState = record (link_of s.directory (sent c) (half c) (Some there.0)) { half = b } in l)
     (cond_true (reads there.0.phase) bytes [] there.2) in
     serves_one s sent half (with_half c bytes half) w w machine c machine.units (record (link_at machine c) { half = bytes }) lt h
     (λ d differ. refl) (λ d differ. half_other c d bytes half differ)
     (h.answered c lt) (h.quiet c lt) (sym (ap (λ (m : Machine). m.units) h.is ∙ units_with s sent half w))
-    (ap (link_of s.names (sent c) (with_half c bytes half c)) there.1 ∙ now
+    (ap (link_of s.directory (sent c) (with_half c bytes half c)) there.1 ∙ now
     ∙ ap (λ (l : LinkState). let x : LinkState = record l { half = bytes } in x) (sym link))
 
-idle_link : (names : List (List ℕ)) (sent : ℕ) (a b : List ℕ) (o : Option Life) → reads_life o ≡ false → link_of names sent a o ≡ link_of names sent b o
-idle_link names sent a b None e = refl
-idle_link names sent a b (Some life) e =
-    ap (λ (half : List ℕ). let l : LinkState = record (link_of names sent a (Some life)) { half = half } in l) (cond_false (reads life.phase) a [] e
+idle_link : (directory : KnownTargets) (sent : ℕ) (a b : List ℕ) (o : Option Life) → reads_life o ≡ false → link_of directory sent a o ≡ link_of directory sent b o
+idle_link directory sent a b None e = refl
+idle_link directory sent a b (Some life) e =
+    ap (λ (half : List ℕ). let l : LinkState = record (link_of directory sent a (Some life)) { half = half } in l) (cond_false (reads life.phase) a [] e
     ∙ sym (cond_false (reads life.phase) b [] e))
 
 -- of one that does not read, none
@@ -63,8 +64,8 @@ pub halves_idle : (s : Setting) (sent : ℕ → ℕ) (half : ℕ → List ℕ) (
     → reads_life (present c w) ≡ false → Serves s sent half w machine → Serves s sent (with_half c bytes half) w machine
 halves_idle s sent half w machine c bytes e h = record {
   is = h.is ∙ sym (machine_same s sent sent half (with_half c bytes half) w w refl (λ d below. elim (eqb_tells d c) [
-    | inl here ↦ rw here.1 (idle_link s.names (sent c) (with_half c bytes half c) (half c) (present c w) e)
-    | inr differ ↦ ap (λ (b : List ℕ). link_of s.names (sent d) b (present d w)) (half_other c d bytes half differ.1)
+    | inl here ↦ rw here.1 (idle_link s.directory (sent c) (with_half c bytes half c) (half c) (present c w) e)
+    | inr differ ↦ ap (λ (b : List ℕ). link_of s.directory (sent d) b (present d w)) (half_other c d bytes half differ.1)
   ]));
   answered = h.answered;
   quiet = h.quiet;
@@ -275,7 +276,7 @@ shifted n kind act halves starved given after d = record {
 pub serves_halves : (s : Setting) (sent : ℕ → ℕ) (a b : ℕ → List ℕ) (w : World) (machine : Machine) → ((d : ℕ) → a d ≡ b d)
     → Serves s sent a w machine → Serves s sent b w machine
 serves_halves s sent a b w machine same h = record {
-  is = h.is ∙ sym (machine_same s sent sent a b w w refl (λ d below. ap (λ (bytes : List ℕ). link_of s.names (sent d) bytes (present d w)) (sym (same d))));
+  is = h.is ∙ sym (machine_same s sent sent a b w w refl (λ d below. ap (λ (bytes : List ℕ). link_of s.directory (sent d) bytes (present d w)) (sym (same d))));
   answered = h.answered;
   quiet = h.quiet;
 }

@@ -6,6 +6,7 @@ use Rattle.std.proofs.lemmas.Bool.Decides.{eqb_tells}
 use Rattle.std.proofs.lemmas.List.{length-set, length-replicate, get_or-replicate, get_or-set_same, get_or-set_other}
 use Rattle.std.proofs.Math.ListN.{get_or-eq_default}
 use Rattle.scsi_unit.specs.Units.{UnitStates}
+use Rattle.iscsi_login.specs.Directory.{KnownTargets}
 use Rattle.iscsi_target.specs.History.{Event, Open, Bytes, Gone, is_among, may_come, open_after, connection_limit}
 use Rattle.iscsi_target.specs.Machine.{LinkState, Machine, link_at, with_link, closed, is_free, is_open_at, free_link, opened_link, shut_link, new_machine}
 use Rattle.iscsi_target.specs.Runs.{MayCome, AreOpen}
@@ -28,8 +29,8 @@ none_linked n c = elim (cases_lt c n) [
   | inr le ↦ get_or-eq_default (replicate n free_link) free_link (omega (arith, le, length-replicate n free_link))
 ]
 
-pub none_open : (machine : Machine) (names : List (List ℕ)) (units : List UnitStates) → machine ≡ new_machine names units → AreOpen machine []
-none_open machine names units e = record {
+pub none_open : (machine : Machine) (directory : KnownTargets) (units : List UnitStates) → machine ≡ new_machine directory units → AreOpen machine []
+none_open machine directory units e = record {
   tracks = λ c. ap (λ (m : Machine). is_open_at m c) e ∙ ap (λ (link : LinkState). not (is_free link.phase)) (none_linked connection_limit c);
   below = λ c among. absurd cc;
 }

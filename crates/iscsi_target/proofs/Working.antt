@@ -1,6 +1,6 @@
 -- What the steps of a session make of the code and of the World.
 use Rattle.std.proofs.Common.{◌≡◌, ◌≢◌, ℕ, ◌<◌, ◌≤◌, List, ◌++◌, length, drop, Bool, true, false, not, cond, eqb, Option, Some, None, refl, sym, ap, ◌∙◌, append_assoc}
-use Rattle.std.specs.Prelude.{flat_map, slice_set}
+use Rattle.std.specs.Prelude.{flat_map}
 use Rattle.iscsi_pdu.specs.Answer.{spelling}
 use Rattle.iscsi_pdu.specs.declared.answer.Answer.{Answer}
 use Rattle.scsi_unit.specs.Units.{UnitStates}
@@ -8,9 +8,10 @@ use Rattle.iscsi_session.specs.Requests.{Past}
 use Rattle.iscsi_session.specs.State.{SessionState, IsLawful, remembered}
 use Rattle.iscsi_session.specs.Steps.{Work}
 use Rattle.iscsi_session.specs.Runs.{Leaves}
+use Rattle.iscsi_login.specs.Directory.{KnownTargets}
 use Rattle.iscsi_target.specs.History.{connection_limit}
 use Rattle.iscsi_target.specs.Life.{Life, Phase, LoggingIn, FullFeature, Closing, Over, is_over, past_in, session_answers, answers_of, out_of}
-use Rattle.iscsi_target.specs.World.{Setting, World, present, changed, past_of, work_of, with_past, worked_on, worked}
+use Rattle.iscsi_target.specs.World.{Setting, World, present, changed, past_of, work_of, with_past, worked_on, worked, with_units}
 use Rattle.iscsi_target.specs.Machine.{LinkState, Machine, link_at, with_link, closed}
 use Rattle.iscsi_target.specs.Stands.{phase_for, link_of, IsQuietIn}
 use Rattle.iscsi_target.specs.Serving.{Serves}
@@ -28,18 +29,18 @@ pub record IsAtWork (w : World) (c : ℕ) (past : Past) : Type 0 where
   pub phase : life.phase ≡ FullFeature past
 
 at_work_in : (w : World) (c : ℕ) (life : Life) (phase : Phase) → present c w ≡ Some life → life.phase ≡ phase
-    → (state : SessionState) (names : List (List ℕ)) → phase_for names life phase ≡ phases.FullFeature state
+    → (state : SessionState) (directory : KnownTargets) → phase_for directory life phase ≡ phases.FullFeature state
     → (past : Past) × IsAtWork w c past × (state ≡ remembered past)
-at_work_in w c life LoggingIn at e state names same = absurd cc
-at_work_in w c life (FullFeature past) at e state names same = (past, record { life = life; at = at; phase = e }, cc)
-at_work_in w c life Closing at e state names same = absurd cc
-at_work_in w c life Over at e state names same = absurd cc
+at_work_in w c life LoggingIn at e state directory same = absurd cc
+at_work_in w c life (FullFeature past) at e state directory same = (past, record { life = life; at = at; phase = e }, cc)
+at_work_in w c life Closing at e state directory same = absurd cc
+at_work_in w c life Over at e state directory same = absurd cc
 
 at_work_of : (w : World) (c : ℕ) (o : Option Life) → present c w ≡ o → (s : Setting) (sent : ℕ) (half : List ℕ) (state : SessionState)
-    → (link_of s.names sent half o).phase ≡ phases.FullFeature state
+    → (link_of s.directory sent half o).phase ≡ phases.FullFeature state
     → (past : Past) × IsAtWork w c past × (state ≡ remembered past)
 at_work_of w c None at s sent half state e = absurd cc
-at_work_of w c (Some life) at s sent half state e = at_work_in w c life life.phase at refl state s.names e
+at_work_of w c (Some life) at s sent half state e = at_work_in w c life life.phase at refl state s.directory e
 
 -- where the code has a session, the World has one, which the code remembers
 pub at_work : (s : Setting) (sent : ℕ → ℕ) (half : ℕ → List ℕ) (w : World) (machine : Machine) (c : ℕ) (state : SessionState) → c < connection_limit
@@ -76,46 +77,47 @@ session_link state waiting link = record link { phase = phases.FullFeature state
 quiet_past : (life : Life) (past : Past) → IsLawful past → IsQuietIn (with_past past life).phase
 quiet_past life past lawful = lawful
 
-link_worked : (names : List (List ℕ)) (sent : ℕ) (half : List ℕ) (life : Life) (past then_ : Past) (more : List Answer) (state : SessionState)
+link_worked : (directory : KnownTargets) (sent : ℕ) (half : List ℕ) (life : Life) (past then_ : Past) (more : List Answer) (state : SessionState)
     (waiting : List ℕ)
     → life.phase ≡ FullFeature past → then_.answers ≡ past.answers ++ more → sent ≤ length (out_of life) → state ≡ remembered then_
     → waiting ≡ drop sent (out_of life) ++ flat_map spelling more
-    → link_of names sent half (Some (with_past then_ life)) ≡ session_link state waiting (link_of names sent half (Some life))
-link_worked names sent half life past then_ more state waiting e grow le is spelled =
+    → link_of directory sent half (Some (with_past then_ life)) ≡ session_link state waiting (link_of directory sent half (Some life))
+link_worked directory sent half life past then_ more state waiting e grow le is spelled =
     let out = out-more life (with_past then_ life) more (answers_grow life life.phase past then_ more e grow) in
     let now : waiting ≡ drop sent (out_of (with_past then_ life)) = spelled
     ∙ says sent (drop sent (out_of life)) (out_of life) (flat_map spelling more) le refl ∙ ap (drop sent) (sym out) in
     rw (is, now, e) refl
 
 -- the units of a session's target
-units_set : (w : World) (machine : Machine) (units : UnitStates) (target : ℕ) → machine.units ≡ w.units
-    → (slice_set w.units target units) ≡ slice_set machine.units target units
-units_set w machine units target e = ap (λ (all : List UnitStates). slice_set all target units) (sym e)
+units_set : (w : World) (machine : Machine) (units : UnitStates) (target : Option ℕ) → machine.units ≡ w.units
+    → with_units target units w.units ≡ with_units target units machine.units
+units_set w machine units target e = ap (with_units target units) (sym e)
 
 -- the session goes on
 works : (s : Setting) (sent : ℕ → ℕ) (half : ℕ → List ℕ) (w : World) (machine : Machine) (c : ℕ) (past : Past) (work : Work) (state : SessionState)
     (waiting : List ℕ) (after : UnitStates) → c < connection_limit
     → Serves s sent half w machine → IsAtWork w c past → Leaves (work_of past w) work state (link_at machine c).waiting waiting after
     → Serves s sent half (worked_on c work w) (record (with_link machine c (session_link state waiting (link_at machine c)))
-    { units = slice_set machine.units past.params.target after })
+    { units = with_units past.params.target after machine.units })
 works s sent half w machine c past work state waiting after lt h a l =
     let now = present_worked w c past work a in
-    let link = link_is s sent half w machine c lt h ∙ ap (link_of s.names (sent c) (half c)) a.at in
+    let link = link_is s sent half w machine c lt h ∙ ap (link_of s.directory (sent c) (half c)) a.at in
     let le : sent c ≤ length (out_of a.life) = (let was = h.answered c lt in rw a.at at was) in
     let spelled : waiting ≡ drop (sent c) (out_of a.life) ++ flat_map spelling l.more = l.spelled
     ∙ ap (λ (x : LinkState). x.waiting ++ flat_map spelling l.more) link in
     let out = out-more a.life (with_past work.past a.life) l.more (answers_grow a.life a.life.phase past work.past l.more a.phase l.answers) in
     let us = h.is in
     let same_units : machine.units ≡ w.units = ap (λ (m : Machine). m.units) h.is ∙ units_with s sent half w in
-    let units : slice_set w.units work.past.params.target work.units ≡ slice_set machine.units past.params.target after =
-    ap (λ (t : ℕ). slice_set w.units t work.units) (ap (λ p. p.target) l.params) ∙ ap (slice_set w.units past.params.target) l.units
+    let units : with_units work.past.params.target work.units w.units ≡ with_units past.params.target after machine.units =
+    ap (λ (t : Option ℕ). with_units t work.units w.units) (ap (λ p. p.target) l.params)
+    ∙ ap (λ (units : UnitStates). with_units past.params.target units w.units) l.units
     ∙ units_set w machine after past.params.target same_units in
-    serves_one s sent half half w (worked_on c work w) machine c (slice_set machine.units past.params.target after)
+    serves_one s sent half half w (worked_on c work w) machine c (with_units past.params.target after machine.units)
     (session_link state waiting (link_at machine c)) lt h
     (λ d differ. present_worked_other w c d work differ) (λ d differ. refl)
     (rw now (still_sent (sent c) a.life (with_past work.past a.life) (flat_map spelling l.more) out le))
     (rw now l.lawful) units
-    (rw now (link_worked s.names (sent c) (half c) a.life past work.past l.more state waiting a.phase l.answers le l.remembered spelled
+    (rw now (link_worked s.directory (sent c) (half c) a.life past work.past l.more state waiting a.phase l.answers le l.remembered spelled
     ∙ ap (session_link state waiting) (sym link)))
 
 -- what is left of a session that may go on, or not
@@ -135,6 +137,6 @@ pub serves_worked : (s : Setting) (sent : ℕ → ℕ) (half : ℕ → List ℕ)
     → c < connection_limit → Serves s sent half w machine → IsAtWork w c past
     → Leaves (work_of past w) work state (link_at machine c).waiting waiting after → work.goes_on ≡ goes_on
     → Serves s sent half (worked c work w) (left_by goes_on c (record (with_link machine c (session_link state waiting (link_at machine c)))
-    { units = slice_set machine.units past.params.target after }))
+    { units = with_units past.params.target after machine.units }))
 serves_worked s sent half w machine c past work state waiting after goes_on lt h a l e =
     left_with goes_on s sent half w _ c past work lt e a (works s sent half w machine c past work state waiting after lt h a l)

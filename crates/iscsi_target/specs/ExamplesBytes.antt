@@ -29,7 +29,7 @@ zero_disk = opened (record { blocks = replicate 4096 (replicate 512 0); synced =
 -- the target `t1` with LUN 0, a disk, and LUN 1, a tape
 abbrev pub one_target : Setting
 one_target = record {
-  names = (0x74 ∷ 0x31 ∷ []) ∷ [];
+  directory = record { names = (0x74 ∷ 0x31 ∷ []) ∷ []; portal = [] };
   units = (free_unit 0 [] zero_disk ∷ free_unit 1 [] Tape ∷ []) ∷ [];
 }
 

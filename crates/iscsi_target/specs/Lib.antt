@@ -25,6 +25,7 @@ pub use Rattle.scsi_unit.specs.Unit
 pub use Rattle.scsi_unit.specs.Units
 pub mod History
 pub mod Life
+pub mod Known
 pub mod World
 pub mod Output
 pub mod Events

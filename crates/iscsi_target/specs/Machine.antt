@@ -6,10 +6,11 @@ use Rattle.iscsi_pdu.specs.Answer.{spelling}
 use Rattle.iscsi_pdu.specs.declared.answer.Answer.{Answer}
 use Rattle.iscsi_pdu.specs.declared.answer.Answer.TheVariants as answers
 use Rattle.iscsi_pdu.specs.declared.login_response.LoginResponse.{LoginResponse}
+use Rattle.iscsi_login.specs.Directory.{KnownTargets}
 use Rattle.iscsi_target.specs.History.{connection_limit}
 use Rattle.scsi_unit.specs.Units.{UnitStates, AreSound, AreSure, join}
-use Rattle.iscsi_login.specs.Session.{Live, older}
-use Rattle.iscsi_login.specs.LoginState.{LoginState, AsksBelow, new_login}
+use Rattle.iscsi_login.specs.Session.{Live, is_same_target, older}
+use Rattle.iscsi_login.specs.LoginState.{LoginState, IsTargetBelow, AsksBelow, new_login}
 use Rattle.iscsi_login.specs.Login.{advanced, reply_of}
 use Rattle.iscsi_login.specs.Values.{AreInRange}
 use Rattle.iscsi_session.specs.Requests.{begun as begun_past}
@@ -29,7 +30,7 @@ pub record LinkState : Type 0 where
   pub waiting : List ℕ
 
 pub record Machine : Type 0 where
-  pub names : List (List ℕ)
+  pub directory : KnownTargets
   pub units : List UnitStates
   pub links : List LinkState
 
@@ -118,7 +119,7 @@ pub record Feeds (c : ℕ) (old new : Machine) : Type 0 where
 
 -- a session with this target
 abbrev pub is_with : ℕ → Phase → Bool
-is_with target (FullFeature session) = session.params.target == target
+is_with target (FullFeature session) = is_same_target session.params.target (Some target)
 is_with target Free = false
 is_with target (Login login) = false
 is_with target Closing = false
@@ -155,11 +156,14 @@ abbrev pub shut_older : Option ℕ → Machine → Machine
 shut_older None machine = machine
 shut_older (Some d) machine = with_link machine d (shut_link (link_at machine d))
 
--- full feature phase begins
+-- full feature phase begins, and the nexus joins the units of its target
+abbrev pub joined_session : Params → Answer → ℕ → Machine → Machine
+joined_session session answer c machine = record (with_link machine c (begun_link session answer (link_at machine c)))
+    { units = changed_units (join session.nexus) session.target machine.units }
+
+-- and an older session of the same nexus with the same target is ended
 abbrev pub begun : Params → Answer → ℕ → Machine → Machine
-begun session answer c machine =
-    shut_older (older session (sessions machine.links)) (record (with_link machine c (begun_link session answer (link_at machine c)))
-    { units = changed_units (join session.nexus) session.target machine.units })
+begun session answer c machine = shut_older (older session (sessions machine.links)) (joined_session session answer c machine)
 
 abbrev pub replied : Reply → LoginState → ℕ → Machine → Machine
 replied (GoOn response) login c machine = with_link machine c (gone_on_link login (answers.LoginResponse response) (link_at machine c))
@@ -169,7 +173,7 @@ replied (Full response session) login c machine = begun session (answers.LoginRe
 -- a Login request, where this is remembered of those before it
 unfoldable pub logged_in : Machine → ℕ → LoginState → Frame → Machine
 logged_in machine c login request =
-    replied (reply_of login (lookup_for machine.names (sessions machine.links) request) request) (advanced machine.names login request) c machine
+    replied (reply_of login (lookup_for machine.directory (sessions machine.links) request) request) (advanced machine.directory login request) c machine
 
 -- a Login request was taken: it was answered, or what begins full feature phase is still to be sent
 abbrev pub IsAnswered : Reply → LoginState → LinkState → Option (LoginResponse × Params) → LinkState → Type 0
@@ -186,13 +190,13 @@ pub record GivesFrame (frame : Frame) (before after : List ℕ) : Type 0 where
 
 -- the target that its session or its login is with is one of so many, and its values are in range
 abbrev pub IsWithin : ℕ → Phase → Type 0
-IsWithin count (FullFeature session) = (session.params.target < count) × AreInRange session.params.values
+IsWithin count (FullFeature session) = IsTargetBelow count session.params.target × AreInRange session.params.values
 IsWithin count (Login login) = AsksBelow count login.session × AreInRange login.values
 IsWithin count Free = ⊤
 IsWithin count Closing = ⊤
 
-abbrev pub new_machine : List (List ℕ) → List UnitStates → Machine
-new_machine names units = record { names = names; units = units; links = replicate connection_limit free_link }
+abbrev pub new_machine : KnownTargets → List UnitStates → Machine
+new_machine directory units = record { directory = directory; units = units; links = replicate connection_limit free_link }
 
 abbrev pub sent_link : LinkState → ℕ → LinkState
 sent_link link n = record link { waiting = drop n link.waiting }

@@ -4,7 +4,7 @@ use Rattle.std.specs.List.{list_all, fold, enumerate_from}
 use Rattle.iscsi_pdu.specs.Frames.{Frame, rest, is_long}
 use Rattle.iscsi_session.specs.Steps.{Step, Judging, Taking, Asking, Doing, is_doing, is_serving}
 use Rattle.iscsi_target.specs.History.{Point, Arriving, Before, AtEnd, Mark, is_within, Arrival, Whole, arrivals, connection_limit}
-use Rattle.iscsi_target.specs.World.{Setting, World, present, is_marked, arrive, settle_one, settle}
+use Rattle.iscsi_target.specs.World.{Setting, World, present, is_marked, arrive, settle_one, settle, settle_for}
 use Rattle.iscsi_target.specs.Machine.{LinkState, Machine, IsSound, IsSure, Feeds, KeepsPart, link_at, is_reading, is_closing, closed}
 use Rattle.iscsi_target.specs.Stands.{IsQuiet, IsSent, IsFirst, machine_with, are_reached}
 use Rattle.iscsi_target.specs.declared.fault.Starved.{Starved}
@@ -167,6 +167,10 @@ pub record TakesAll (c : ℕ) (starved : Option ℕ) (old new : Machine) : Type 
 -- the commands of the sessions of a target are done, or those of one connection
 abbrev pub Settles : ℕ → Option ℕ → Machine → Machine → Type 0
 Settles target starved given after = Does is_done_at (λ s marks place w. settle marks place target w) kept starved given after
+
+-- of the session's target, where it has one
+abbrev pub SettlesFor : Option ℕ → Option ℕ → Machine → Machine → Type 0
+SettlesFor target starved given after = Does is_done_at (λ s marks place w. settle_for marks place target w) kept starved given after
 
 abbrev pub SettlesOne : ℕ → ℕ → Option ℕ → Machine → Machine → Type 0
 SettlesOne target c starved given after = Does (is_done_by c) (λ s marks place w. settle_one marks place target w c) kept starved given after

@@ -4,6 +4,7 @@ use Rattle.std.specs.List.{list_any, list_all}
 use Rattle.iscsi_pdu.specs.Frames.{rest, is_long}
 use Rattle.iscsi_login.specs.Login.{remembered}
 use Rattle.iscsi_session.specs.State.{IsLawful, remembered as session_remembered}
+use Rattle.iscsi_login.specs.Directory.{KnownTargets}
 use Rattle.iscsi_target.specs.History.{Event, History, Mark, is_same, connections, connection_limit}
 use Rattle.iscsi_target.specs.Life.{Life, Phase, LoggingIn, FullFeature, Closing, Over, reads, out_of}
 use Rattle.iscsi_target.specs.World.{Setting, World, present, happen, world}
@@ -15,27 +16,27 @@ use Rattle.iscsi_target.specs.declared.phase.Phase.TheVariants as phases
 -- ---- what is remembered
 
 -- of a login, with these targets, what is remembered of its requests; of a session, what is remembered of its past
-abbrev pub phase_for : List (List ℕ) → Life → Phase → code.Phase
-phase_for names life LoggingIn = phases.Login (remembered names (life.connection + 1) life.requests)
-phase_for names life (FullFeature session) = phases.FullFeature (session_remembered session)
-phase_for names life Closing = phases.Closing
-phase_for names life Over = phases.Free
+abbrev pub phase_for : KnownTargets → Life → Phase → code.Phase
+phase_for directory life LoggingIn = phases.Login (remembered directory (life.connection + 1) life.requests)
+phase_for directory life (FullFeature session) = phases.FullFeature (session_remembered session)
+phase_for directory life Closing = phases.Closing
+phase_for directory life Over = phases.Free
 
 -- Of a connection's present life: these bytes, while frames are read; and what it was answered, without as many bytes
 -- at the front as were sent.
-abbrev pub link_of : List (List ℕ) → ℕ → List ℕ → Option Life → LinkState
-link_of names sent half None = free_link
-link_of names sent half (Some life) = record {
+abbrev pub link_of : KnownTargets → ℕ → List ℕ → Option Life → LinkState
+link_of directory sent half None = free_link
+link_of directory sent half (Some life) = record {
   half = if reads life.phase then half else [];
-  phase = phase_for names life life.phase;
+  phase = phase_for directory life life.phase;
   waiting = drop sent (out_of life);
 }
 
 unfoldable pub machine_with : Setting → (ℕ → ℕ) → (ℕ → List ℕ) → World → Machine
 machine_with s sent half w = record {
-  names = s.names;
+  directory = s.directory;
   units = w.units;
-  links = map (λ c. link_of s.names (sent c) (half c) (present c w)) connections;
+  links = map (λ c. link_of s.directory (sent c) (half c) (present c w)) connections;
 }
 
 -- the bytes that are no whole frame yet

@@ -7,7 +7,8 @@ use Rattle.iscsi_pdu.specs.declared.answer.Answer.{Answer}
 use Rattle.iscsi_pdu.specs.declared.answer.Answer.TheVariants as answers
 use Rattle.iscsi_pdu.specs.LoginRequest.{tsih}
 use Rattle.scsi_unit.specs.Units.{UnitStates, join, leave}
-use Rattle.iscsi_login.specs.Session.{Live, named_by, older}
+use Rattle.iscsi_login.specs.Directory.{KnownTargets}
+use Rattle.iscsi_login.specs.Session.{Live, is_same_target, named_by, older}
 use Rattle.iscsi_login.specs.Lookup.{Lookup}
 use Rattle.iscsi_login.specs.Login.{login}
 use Rattle.iscsi_login.specs.declared.params.Params.{Params}
@@ -18,9 +19,9 @@ use Rattle.iscsi_session.specs.Steps.{Step, Work, begun_work, served, settled}
 use Rattle.iscsi_target.specs.History.{Event, Open, Bytes, Gone, Point, Arriving, Before, AtEnd, Mark, is_same, Happening, History, Arrival, Whole, TooLong, new_arrivals, connections}
 use Rattle.iscsi_target.specs.Life.{Life, Phase, LoggingIn, FullFeature, Closing, Over, born, reads, is_over, past_in, session_in, ended_in}
 
--- what the target is made with: each target's name, and its units, in order
+-- what the target is made with: the targets' names and their portal, and the units of each, in order
 pub record Setting : Type 0 where
-  pub names : List (List ℕ)
+  pub directory : KnownTargets
   pub units : List UnitStates
 
 pub record World : Type 0 where
@@ -65,9 +66,18 @@ past_of (Some life) = past_in life.phase
 unfoldable pub live : World → Live
 live w = map (λ c. session_of (present c w)) connections
 
+-- the units of a session's target; a discovery session has no target, and none
+abbrev pub units_at : Option ℕ → List UnitStates → UnitStates
+units_at None all = []
+units_at (Some target) all = slice_index_or all target []
+
+abbrev pub with_units : Option ℕ → UnitStates → List UnitStates → List UnitStates
+with_units None units all = all
+with_units (Some target) units all = slice_set all target units
+
 -- a target's units after f
-unfoldable pub changed_units : (UnitStates → UnitStates) → ℕ → List UnitStates → List UnitStates
-changed_units f target all = slice_set all target (f (slice_index_or all target []))
+unfoldable pub changed_units : (UnitStates → UnitStates) → Option ℕ → List UnitStates → List UnitStates
+changed_units f target all = with_units target (f (units_at target all)) all
 
 -- a session that ends leaves its target's units
 abbrev pub left : Option Params → List UnitStates → List UnitStates
@@ -137,18 +147,18 @@ requests_of None = []
 requests_of (Some life) = life.requests
 
 -- what a Login request is judged by beside those before it: the targets, and the session whose TSIH it bears
-abbrev pub lookup_for : List (List ℕ) → Live → Frame → Lookup
-lookup_for names live request = record { names = names; named = named_by (tsih request.header) live }
+abbrev pub lookup_for : KnownTargets → Live → Frame → Lookup
+lookup_for directory live request = record { directory = directory; named = named_by (tsih request.header) live }
 
 -- The reply to a request is read from all Login requests of the life; the session of connection c has TSIH c + 1.
 unfoldable pub log_in : Setting → ℕ → Frame → World → World
-log_in s c request w = replied (login (c + 1) (requests_of (present c w)) (lookup_for s.names (live w) request) request) c (changed (asked request) c w)
+log_in s c request w = replied (login (c + 1) (requests_of (present c w)) (lookup_for s.directory (live w) request) request) c (changed (asked request) c w)
 
 -- ---- full feature phase
 
 -- a session at work, with the units of its target
 abbrev pub work_of : Past → World → Work
-work_of past w = begun_work past (slice_index_or w.units past.params.target [])
+work_of past w = begun_work past (units_at past.params.target w.units)
 
 abbrev pub fails : List Mark → ℕ → Step → Bool
 fails marks c step = is_marked marks c (Before step)
@@ -159,7 +169,7 @@ with_past past life = record life { phase = FullFeature past }
 -- what its steps made of it
 abbrev pub worked_on : ℕ → Work → World → World
 worked_on c work w = record (reaching c (map Before work.reached) (changed (with_past work.past) c w))
-    { units = slice_set w.units work.past.params.target work.units }
+    { units = with_units work.past.params.target work.units w.units }
 
 -- a session that does not go on ends
 unfoldable pub worked : ℕ → Work → World → World
@@ -176,7 +186,7 @@ take_in marks c place frame w = served_by (past_of (present c w)) marks c place 
 abbrev pub settled_by : Option Past → List Mark → ℕ → ℕ → ℕ → World → World
 settled_by None marks place target c w = w
 settled_by (Some past) marks place target c w =
-    if past.params.target == target then worked c (settled (fails marks c) place (work_of past w)) w else w
+    if is_same_target past.params.target (Some target) then worked c (settled (fails marks c) place (work_of past w)) w else w
 
 -- the commands that a session of this target has taken are done
 unfoldable pub settle_one : List Mark → ℕ → ℕ → World → ℕ → World
@@ -186,9 +196,14 @@ settle_one marks place target w c = settled_by (past_of (present c w)) marks pla
 unfoldable pub settle : List Mark → ℕ → ℕ → World → World
 settle marks place target w = fold (settle_one marks place target) w connections
 
--- a frame of a session of this target
-unfoldable pub serve : List Mark → ℕ → ℕ → ℕ → Frame → World → World
-serve marks c place target frame w = settle marks place target (take_in marks c place frame w)
+-- of the session's target, where it has one
+abbrev pub settle_for : List Mark → ℕ → Option ℕ → World → World
+settle_for marks place None w = w
+settle_for marks place (Some target) w = settle marks place target w
+
+-- a frame of a session with this target
+unfoldable pub serve : List Mark → ℕ → ℕ → Option ℕ → Frame → World → World
+serve marks c place target frame w = settle_for marks place target (take_in marks c place frame w)
 
 -- ---- one event
 

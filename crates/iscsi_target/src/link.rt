@@ -1,13 +1,13 @@
 //! One connection: its bytes, its phase and what waits to be sent.
 
-ghost use Rattle.std.specs.Prelude.{◌≡◌, ◌<◌, ◌≤◌, ◌++◌, ◌∷◌, None, true, false, length, map, string_bytes, IfOk, IfSome, IfNone, OnOk, OnErr};
+ghost use Rattle.std.specs.Prelude.{◌≡◌, ◌<◌, ◌≤◌, ◌++◌, ◌∷◌, None, true, false, length, IfOk, IfSome, IfNone, OnOk, OnErr};
 ghost use Rattle.std.specs.Result.{IsErrOf};
 ghost use Rattle.iscsi_pdu.specs.Frames.{frames, rest, has_frame, is_long, wanted};
 ghost use Rattle.iscsi_pdu.specs.Answer.{spelling};
 ghost use Rattle.scsi_unit.specs.Units.{join as join_units};
 ghost use Rattle.iscsi_login.specs.Values.{AreInRange};
 ghost use Rattle.iscsi_login.specs.Lookup.{lookup_in};
-ghost use Rattle.iscsi_login.specs.LoginState.{LoginState};
+ghost use Rattle.iscsi_login.specs.LoginState.{LoginState, IsTargetBelow};
 ghost use Rattle.iscsi_login.specs.Login.{advanced, reply_of};
 ghost use Rattle.iscsi_target.specs.Machine.{LinkState, is_reading, is_logging_in, session_in_phase, free_link, opened_link, shut_link, begun_link, IsAnswered, IsWithin, sent_link};
 ghost use Rattle.iscsi_target.specs.declared.phase.Phase.TheVariants.{Login as UnderWay};
@@ -15,7 +15,7 @@ ghost use Rattle.iscsi_target.specs.declared.phase.Phase.TheVariants.{Login as U
 use crate::fault::Memory;
 use crate::phase::Phase;
 use bytes::BytesMut;
-use iscsi_login::{Login, Params, Reply};
+use iscsi_login::{Directory, Login, Params, Reply};
 use iscsi_pdu::{Answer, Frame, Framer, LoginResponse, PduFault};
 use iscsi_session::Session;
 use media_store::Store;
@@ -117,23 +117,23 @@ impl Link {
     pub(crate) fn log_in(
         &mut self,
         request: &Frame,
-        targets: &[String],
+        directory: &Directory,
         named: &Option<Params>,
     ) -> Result<Option<(LoginResponse, Params)>, Memory>
         requires { is_logging_in self.old.phase ≡ true }
         ensures answered { IfOk result (λ begun. (login : LoginState) → self.old.phase ≡ UnderWay login
-            → IsAnswered (reply_of login (lookup_in targets.now named.now) request.now)
-            (advanced (map string_bytes targets.now) login request.now) self.old begun self.new) }
-        ensures target { IsWithin (length targets.now) self.old.phase → IsWithin (length targets.now) self.new.phase }
-        ensures begun { IfOk result (λ begun. IfSome begun (λ b. IsWithin (length targets.now) self.old.phase → b.1.target < length targets.now)) }
-        ensures values { IfOk result (λ begun. IfSome begun (λ b. IsWithin (length targets.now) self.old.phase → AreInRange b.1.values)) }
+            → IsAnswered (reply_of login (lookup_in directory.now named.now) request.now)
+            (advanced directory.now login request.now) self.old begun self.new) }
+        ensures target { IsWithin (length directory.now.names) self.old.phase → IsWithin (length directory.now.names) self.new.phase }
+        ensures begun { IfOk result (λ begun. IfSome begun (λ b. IsWithin (length directory.now.names) self.old.phase → IsTargetBelow (length directory.now.names) b.1.target)) }
+        ensures values { IfOk result (λ begun. IfSome begun (λ b. IsWithin (length directory.now.names) self.old.phase → AreInRange b.1.values)) }
         ensures waiting { OnErr result (self.new.waiting ≡ self.old.waiting) }
         ensures session { OnErr result (session_in_phase self.new.phase ≡ None) }
     {
         let Phase::Login(login) = &mut self.phase else {
             return Ok(None);
         };
-        match login.take(request, targets, named)? {
+        match login.take(request, directory, named)? {
             Reply::GoOn(response) => {
                 self.send(&Answer::LoginResponse(response))?;
                 Ok(None)
@@ -168,6 +168,23 @@ impl Link {
         if answer.write(&mut self.waiting).is_err() {
             return Err(Memory);
         }
+        self.phase = Phase::FullFeature(Session::new(alloc, session));
+        Ok(())
+    }
+
+    /// Full feature phase begins with this answer for a discovery session, which joins no units. Where an
+    /// allocation fails nothing changes.
+    pub(crate) fn begin_discovery(
+        &mut self,
+        alloc: Global,
+        session: Params,
+        answer: &Answer,
+    ) -> Result<(), Memory>
+        requires { is_reading self.old.phase ≡ true }
+        ensures ok { OnOk result (self.new ≡ begun_link session answer.now self.old) }
+        ensures err { OnErr result (self.new ≡ self.old) }
+    {
+        self.send(answer)?;
         self.phase = Phase::FullFeature(Session::new(alloc, session));
         Ok(())
     }

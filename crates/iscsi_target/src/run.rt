@@ -1,6 +1,7 @@
 //! A target put through a whole history.
 
-ghost use Rattle.std.specs.Prelude.{All, ◌≡◌, ℕ, List, [], ◌∷◌, ◌++◌, true, length, map, IfOk, OnOk, string_bytes};
+ghost use Rattle.std.specs.Prelude.{All, ◌≡◌, ℕ, List, [], ◌∷◌, ◌++◌, true, length, map, IfOk, OnOk};
+ghost use Rattle.iscsi_target.specs.Known.{known_in};
 ghost use Rattle.iscsi_target.specs.History.{History, well_formed as is_well_formed, open_after, plain};
 ghost use Rattle.iscsi_target.specs.Events.{event_view, events_view, plain_history};
 ghost use Rattle.iscsi_target.specs.World.{Setting};
@@ -143,11 +144,11 @@ impl<S: Store + Drop> Target<S> {
         requires well_formed { is_well_formed (events_view events.now) ≡ true }
         ensures sure { IfOk result (λ r. All AreSure (units.items) → IsSure r.1) }
         ensures stands { IfOk result (λ r. WhereSound r.1 (Stands
-            (record { names = map string_bytes config.targets.items; units = units.items }) (λ _. 0) r.1 (plain_history events.now))) }
+            (record { directory = known_in config; units = units.items }) (λ _. 0) r.1 (plain_history events.now))) }
         ensures outputs { IfOk result (λ r. WhereSound r.1 (map (λ output. output.items) r.0.items
-            ≡ outputs_of (record { names = map string_bytes config.targets.items; units = units.items }) (plain_history events.now))) }
+            ≡ outputs_of (record { directory = known_in config; units = units.items }) (plain_history events.now))) }
         ensures media { IfOk result (λ r. WhereSound r.1 ((number : ℕ)
-            → media_in r.1.units number ≡ media (record { names = map string_bytes config.targets.items; units = units.items })
+            → media_in r.1.units number ≡ media (record { directory = known_in config; units = units.items })
             (plain_history events.now) number)) }
     {
         let mut target = Target::new(alloc, config, units)?;

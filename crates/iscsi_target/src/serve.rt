@@ -1,13 +1,16 @@
 //! A frame of a session: it is judged, the requests that it lets be taken act, and the commands that the
 //! sessions of its target have taken are done.
 
-ghost use Rattle.std.specs.Prelude.{◌≡◌, ℕ, ◌<◌, length};
+ghost use Rattle.std.specs.Prelude.{◌≡◌, ℕ, ◌<◌, Some, true, length};
 ghost use Rattle.iscsi_target.specs.Machine.{Machine, KeepsApart, link_at, closed};
-ghost use Rattle.iscsi_target.specs.Serving.{Settles, SettlesOne, Moves, first_starved, first_of};
+ghost use Rattle.iscsi_login.specs.LoginState.{IsTargetBelow};
+ghost use Rattle.iscsi_login.specs.Session.{is_same_target as is_same};
+ghost use Rattle.iscsi_target.specs.Serving.{Settles, SettlesFor, SettlesOne, Moves, first_starved, first_of};
 
 use crate::fault::Starved;
 use crate::phase::Phase;
 use crate::target::{CONNECTIONS, Target};
+use iscsi_login::is_same_target;
 use iscsi_session::Memory;
 use media_store::Store;
 
@@ -39,6 +42,19 @@ impl<S: Store> Target<S> {
         outcome
     }
 
+    /// The sessions with a session's target are settled, where it has one.
+    pub(crate) fn settle_for(&mut self, target: Option<usize>) -> Result<(), Starved>
+        requires { IsTargetBelow (length self.old.units) target }
+        ensures settles { SettlesFor target (first_starved result) self.old self.new }
+        ensures apart { (t : ℕ) → is_same target (Some t) ≡ true → KeepsApart t self.old self.new }
+        ensures moves { (b : ℕ) → Moves b (first_starved result) self.old self.new }
+    {
+        match target {
+            Some(target) => self.settle(target),
+            None => Ok(()),
+        }
+    }
+
     /// The commands that a connection's session has taken are done and answered, where it is one of this
     /// target. Where an allocation fails it is closed.
     fn settle_one(&mut self, c: usize, target: usize) -> Result<(), Starved>
@@ -52,7 +68,7 @@ impl<S: Store> Target<S> {
         let Phase::FullFeature(session) = &mut link.phase else {
             return Ok(());
         };
-        if session.params().target == target {
+        if is_same_target(session.params().target, Some(target)) {
             let units = &mut self.units[target];
             return match session.settle(self.alloc, &mut link.waiting, units) {
                 Ok(()) => Ok(()),

@@ -7,7 +7,7 @@ ghost use Rattle.iscsi_target.specs.Machine.{session_in_phase, sessions};
 use crate::fault::Memory;
 use crate::link::Link;
 use crate::phase::Phase;
-use iscsi_login::Params;
+use iscsi_login::{Params, is_same_target};
 
 /// The connection has a session of the same nexus with the same target.
 fn is_of(link: &Link, session: &Params) -> bool
@@ -16,7 +16,7 @@ fn is_of(link: &Link, session: &Params) -> bool
     match &link.phase {
         Phase::FullFeature(other) => {
             let other = other.params();
-            other.nexus.is_same(&session.nexus) && other.target == session.target
+            other.nexus.is_same(&session.nexus) && is_same_target(other.target, session.target)
         }
         _ => false,
     }

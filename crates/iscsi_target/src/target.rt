@@ -1,13 +1,14 @@
 //! The target: all connections and all units, behind one state.
 
-ghost use Rattle.std.specs.Prelude.{◌≡◌, ◌<◌, ◌≤◌, ◌+◌, ◌++◌, ◌∷◌, ℕ, List, [], true, false, length, map, replicate, IsOk, IfOk, IfErr, IfSome, IfNone, OnOk, OnErr, string_bytes};
+ghost use Rattle.std.specs.Prelude.{◌≡◌, ◌<◌, ◌≤◌, ◌+◌, ◌++◌, ◌∷◌, ℕ, List, [], true, false, length, replicate, IsOk, IfOk, IfErr, IfSome, IfNone, OnOk, OnErr};
 ghost use Rattle.std.specs.Result.{IsErrOf};
 ghost use Rattle.iscsi_pdu.specs.Frames.{has_frame, is_long};
 ghost use Rattle.iscsi_target.specs.History.{Open, Bytes, Gone, Mark, History, arrivals, plain, marked};
 ghost use Rattle.iscsi_target.specs.World.{Setting, present, world};
-ghost use Rattle.iscsi_target.specs.Machine.{LinkState, IsSound, WhereSound, IsSure, Feeds, KeepsPart, free_link, opened_link, sent_link, new_machine, link_at, with_link, closed, begun, logged_in, is_logging_in, GivesFrame, is_reading, is_open_at, is_closing, want_of};
+ghost use Rattle.iscsi_target.specs.Machine.{LinkState, IsSound, WhereSound, IsSure, Feeds, KeepsPart, free_link, opened_link, sent_link, new_machine, link_at, with_link, closed, joined_session, shut_older, begun, logged_in, is_logging_in, GivesFrame, is_reading, is_open_at, is_closing, want_of};
 ghost use Rattle.iscsi_target.specs.declared.phase.Phase.TheVariants.{Login};
-ghost use Rattle.iscsi_login.specs.LoginState.{LoginState};
+ghost use Rattle.iscsi_login.specs.LoginState.{LoginState, IsTargetBelow};
+ghost use Rattle.iscsi_target.specs.Known.{known_in};
 ghost use Rattle.iscsi_login.specs.Values.{AreInRange};
 ghost use Rattle.iscsi_target.specs.Stands.{Stands, IsStarved, with_sent};
 ghost use Rattle.iscsi_target.specs.Serving.{Takes, TakesOne, TakesAll, Moves, first_starved, ended_unless, starved_by};
@@ -18,7 +19,7 @@ use crate::link::Link;
 use crate::phase::Phase;
 use crate::serve::earlier_of;
 use crate::sessions::{named, older};
-use iscsi_login::Params;
+use iscsi_login::{Directory, Params};
 use iscsi_pdu::{Answer, Frame, Opcode, PduFault};
 use media_store::Store;
 use scsi_unit::Units;
@@ -41,21 +42,21 @@ const MOST_WAITING: usize = 1_048_576;
 #[derive(Drop)]
 pub struct Target<S: Store> {
     pub(crate) alloc: Global,
-    config: Config,
+    directory: Directory,
     pub(crate) units: Vec<Units<S>>,
     pub(crate) links: Vec<Link>,
 }
 
 impl<S: Store> Model for Target<S> {
-    ghost use Rattle.std.specs.Prelude.{◌≡◌, map, length, string_bytes};
+    ghost use Rattle.std.specs.Prelude.{◌≡◌, length};
     ghost use Rattle.std.specs.List.{All};
     ghost use Rattle.iscsi_target.specs.Machine.{LinkState, Machine, IsWithin};
 
     ghost Value = { Machine };
 
-    ghost view = { λ t. record { names = map string_bytes t.config.targets.items; units = t.units.items; links = t.links.items } };
+    ghost view = { λ t. record { directory = t.directory; units = t.units.items; links = t.links.items } };
 
-    ghost invariant = { λ t. (length t.links.items ≡ 64) × (length t.units.items ≡ length t.config.targets.items)
+    ghost invariant = { λ t. (length t.links.items ≡ 64) × (length t.units.items ≡ length t.directory.names)
         × All (λ (link : LinkState). IsWithin (length t.units.items) link.phase) t.links.items };
 }
 
@@ -75,13 +76,16 @@ impl<S: Store + Drop> Target<S> {
     /// connection open.
     pub fn new(alloc: Global, config: Config, units: Vec<Units<S>>) -> Result<Target<S>, Memory>
         requires { length units.items ≡ length config.targets.items }
-        ensures made { IfOk result (λ target. target ≡ new_machine (map string_bytes config.targets.items) units.items) }
-        ensures stands { IfOk result (λ target. Stands (record { names = map string_bytes config.targets.items; units = units.items }) (λ _. 0) target []) }
+        ensures made { IfOk result (λ target. target ≡ new_machine (known_in config) units.items) }
+        ensures stands { IfOk result (λ target. Stands (record { directory = known_in config; units = units.items }) (λ _. 0) target []) }
     {
         let links = free_links(alloc)?;
         Ok(Target {
             alloc,
-            config,
+            directory: Directory {
+                targets: config.targets,
+                portal: config.listen,
+            },
             units,
             links,
         })
@@ -238,8 +242,10 @@ impl<S: Store> Target<S> {
         let link = &mut self.links[c];
         if let Phase::FullFeature(session) = &link.phase {
             let params = session.params();
-            let units = &mut self.units[params.target];
-            units.leave(&params.nexus);
+            if let Some(target) = params.target {
+                let units = &mut self.units[target];
+                units.leave(&params.nexus);
+            }
         }
         link.shut();
     }
@@ -337,7 +343,7 @@ impl<S: Store> Target<S> {
                 let target = session.params().target;
                 let goes_on = session.serve(frame, &mut link.waiting);
                 let served = self.end_unless(c, goes_on);
-                let settled = self.settle(target);
+                let settled = self.settle_for(target);
                 earlier_of(served, settled)
             }
         }
@@ -394,9 +400,8 @@ impl<S: Store> Target<S> {
         ensures count { length self.old.links ≡ 64 }
     {
         let named = named(self.links.as_slice(), request.header.tsih())?;
-        let targets = self.config.targets.as_slice();
         let link = &mut self.links[c];
-        match link.log_in(request, targets, &named)? {
+        match link.log_in(request, &self.directory, &named)? {
             Some((response, session)) => self.begin(c, session, &Answer::LoginResponse(response)),
             None => Ok(()),
         }
@@ -404,23 +409,52 @@ impl<S: Store> Target<S> {
 
     /// Full feature phase begins, and an older session of the same nexus with the same target is
     /// ended. Where an allocation fails nothing changes.
-    #[tactic(auto, unfolding(crate::specs::World::changed_units))]
     fn begin(&mut self, c: usize, session: Params, answer: &Answer) -> Result<(), Memory>
         requires in_range { c < 64 }
         requires reads { is_reading (link_at self.old c).phase ≡ true }
-        requires target { session.target < length self.old.units }
+        requires target { IsTargetBelow (length self.old.units) session.target }
         requires values { AreInRange session.values }
         ensures ok { OnOk result (self.new ≡ begun session answer.now c self.old) }
         ensures err { OnErr result (self.new ≡ self.old) }
     {
         let before = older(self.links.as_slice(), &session);
-        let units = &mut self.units[session.target];
-        let link = &mut self.links[c];
-        link.begin(self.alloc, session, answer, units)?;
+        self.begin_session(c, session, answer)?;
+        self.shut(before);
+        Ok(())
+    }
+
+    /// Full feature phase begins, and the nexus joins the units of its target, where it has one. Where an
+    /// allocation fails nothing changes.
+    #[tactic(auto, unfolding(crate::specs::World::changed_units))]
+    fn begin_session(&mut self, c: usize, session: Params, answer: &Answer) -> Result<(), Memory>
+        requires in_range { c < 64 }
+        requires reads { is_reading (link_at self.old c).phase ≡ true }
+        requires target { IsTargetBelow (length self.old.units) session.target }
+        requires values { AreInRange session.values }
+        ensures ok { OnOk result (self.new ≡ joined_session session answer.now c self.old) }
+        ensures err { OnErr result (self.new ≡ self.old) }
+    {
+        match session.target {
+            Some(target) => {
+                let units = &mut self.units[target];
+                let link = &mut self.links[c];
+                link.begin(self.alloc, session, answer, units)
+            }
+            None => {
+                let link = &mut self.links[c];
+                link.begin_discovery(self.alloc, session, answer)
+            }
+        }
+    }
+
+    /// Nothing more is read on this connection, where one is given.
+    fn shut(&mut self, before: Option<usize>)
+        requires { IfSome before (λ d. d < 64) }
+        ensures { self.new ≡ shut_older before self.old }
+    {
         if let Some(before) = before {
             let link = &mut self.links[before];
             link.shut();
         }
-        Ok(())
     }
 }

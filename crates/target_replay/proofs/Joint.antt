@@ -1,6 +1,7 @@
 -- What the target says of a connection, and what the World says of it.
 use Rattle.std.proofs.Common.{◌≡◌, ◌≢◌, ℕ, ◌+◌, ◌<◌, Bool, true, false, List, [], ◌∷◌, ◌++◌, length, refl, sym, ap, ◌∙◌, Option, None, Some, is_some, arith}
 use Rattle.std.proofs.lemmas.List.{length-drop}
+use Rattle.iscsi_login.specs.Directory.{KnownTargets}
 use Rattle.iscsi_target.specs.History.{History, Gone, plain, connection_limit}
 use Rattle.iscsi_target.specs.Life.{Life, Phase, LoggingIn, FullFeature, Closing, Over}
 use Rattle.iscsi_target.specs.World.{Setting, World, present, end, world}
@@ -23,20 +24,20 @@ pub open_same : (s : Setting) (sent : ℕ → ℕ) (w : World) (machine : Machin
     → is_open_at machine c ≡ is_some (present c w)
 open_same s sent w machine c lt h = open_by s sent w machine c (is_open_at machine c) lt h refl
 
-closing_in : (names : List (List ℕ)) (life : Life) (phase : Phase) → is_closing (phase_for names life phase) ≡ is_closing_phase phase
-closing_in names life LoggingIn = refl
-closing_in names life (FullFeature session) = refl
-closing_in names life Closing = refl
-closing_in names life Over = refl
+closing_in : (directory : KnownTargets) (life : Life) (phase : Phase) → is_closing (phase_for directory life phase) ≡ is_closing_phase phase
+closing_in directory life LoggingIn = refl
+closing_in directory life (FullFeature session) = refl
+closing_in directory life Closing = refl
+closing_in directory life Over = refl
 
-closing_of : (names : List (List ℕ)) (sent : ℕ) (half : List ℕ) (o : Option Life) → is_closing (link_of names sent half o).phase ≡ is_closed o
-closing_of names sent half None = refl
-closing_of names sent half (Some life) = closing_in names life life.phase
+closing_of : (directory : KnownTargets) (sent : ℕ) (half : List ℕ) (o : Option Life) → is_closing (link_of directory sent half o).phase ≡ is_closed o
+closing_of directory sent half None = refl
+closing_of directory sent half (Some life) = closing_in directory life life.phase
 
 pub closing_same : (s : Setting) (sent : ℕ → ℕ) (w : World) (machine : Machine) (c : ℕ) → c < connection_limit → StandsAt s sent w machine
     → is_closing (link_at machine c).phase ≡ is_closed (present c w)
 closing_same s sent w machine c lt h =
-    ap (λ (link : LinkState). is_closing link.phase) (link_stands s sent w machine c lt h) ∙ closing_of s.names (sent c) (half_of (present c w)) (present c w)
+    ap (λ (link : LinkState). is_closing link.phase) (link_stands s sent w machine c lt h) ∙ closing_of s.directory (sent c) (half_of (present c w)) (present c w)
 
 pub waiting_same : (s : Setting) (sent : ℕ → ℕ) (w : World) (machine : Machine) (c : ℕ) → c < connection_limit → StandsAt s sent w machine
     → (link_at machine c).waiting ≡ unsent sent w c

@@ -33,7 +33,7 @@ use Rattle.targetd.specs.Fault.{words_fault, config_fault, replay_fault}
 use Rattle.targetd.specs.ConfigFile.{Loads}
 use Rattle.targetd.specs.Opened.{Held, IsMediumOf, IsUnitOf, AreEach, AreUnitsOf}
 use Rattle.targetd.specs.Serve.{listening_line, HasServed, Serves}
-use Rattle.targetd.specs.Run.{FailsEarly, LeftState, ServedState, listening, setting_of, IsReplay, IsServing, Runs}
+use Rattle.targetd.specs.Run.{FailsEarly, LeftState, ServedState, listening, known_of, setting_of, IsReplay, IsServing, Runs}
 
 -- ---- before a target is made
 
@@ -160,11 +160,11 @@ sure_behind line count tells log log_then target target_then w0 w1 result (inr s
 pub serving : (held : Held) (left : LeftState) (w0 w1 : Option (List ℕ)) (document : Document) (count : ℕ) (units : List UnitStates)
     (address : SocketAddr) (log : List Entry) (first : Machine) (served : ServedState)
     (result : Result (Unit {0}) Fault) → AreUnitsOf held document.targets units → left.served ≡ Some served → log ≡ listening document.listen address
-    → first ≡ new_machine (names_of document.targets) units
+    → first ≡ new_machine (known_of document) units
     → Serves (listening_line address) count true log served.log first served.target w0 w1 result → IsServing held left w0 w1 document count result
 serving held left w0 w1 document count units address log first served result opened is asked made serves =
     let from_listening : Serves (listening_line address) count true (listening document.listen address) served.log
-    (new_machine (names_of document.targets) units) served.target w0 w1 result =
+    (new_machine (known_of document) units) served.target w0 w1 result =
     subst (λ (m : Machine). Serves (listening_line address) count true (listening document.listen address) served.log m served.target w0 w1 result) made
     (subst (λ (es : List Entry). Serves (listening_line address) count true es served.log first served.target w0 w1 result) asked serves) in
     record {

@@ -12,7 +12,10 @@ use Rattle.scsi_unit.specs.Unit.{free_unit}
 use Rattle.scsi_unit.specs.Units.{UnitStates}
 use Rattle.target_config.specs.declared.configuration.UnitConfiguration.{UnitConfiguration}
 use Rattle.target_config.specs.declared.configuration.TargetConfiguration.{TargetConfiguration}
-use Rattle.target_config.specs.Configuration.{UnitEntry, TargetEntry, natural, names_of, unit_view, units_view, target_view, targets_view}
+use Rattle.iscsi_target.specs.Known.{known_in}
+use Rattle.iscsi_target.specs.declared.config.Config.{Config}
+use Rattle.targetd.specs.Run.{known_of}
+use Rattle.target_config.specs.Configuration.{Document, UnitEntry, TargetEntry, natural, names_of, unit_view, units_view, target_view, targets_view}
 use Rattle.target_config.specs.Limits.{unit_keeps, target_keeps}
 use Rattle.targetd.specs.Opened.{Held, zero_disk, IsMediumOf, IsUnitOf, AreEach, AreUnitsOf}
 use Rattle.targetd.specs.Unopened.{has_file_unit, has_file_unit_at}
@@ -126,3 +129,9 @@ as_many held targets units names opened e =
     as_long [] (u ∷ us) h = absurd h
     as_long (t ∷ ts) [] h = absurd h
     as_long (t ∷ ts) (u ∷ us) h = ap suc (as_long ts us h.1)
+
+-- ---- the targets and their portal
+
+pub known_is : (config : Config) (document : Document) → map string_bytes config.targets.items ≡ names_of document.targets
+    → string_bytes config.listen ≡ document.listen → known_in config ≡ known_of document
+known_is config document names listen = rw (names, listen) refl

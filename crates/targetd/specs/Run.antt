@@ -6,6 +6,7 @@ use Rattle.std.specs.declared.net.socket_addr.SocketAddr.{SocketAddr}
 use Rattle.call_record.specs.Noted.{Noted}
 use Rattle.command_line.specs.Words.{Command, Replay, Serve}
 use Rattle.scsi_unit.specs.Units.{UnitStates}
+use Rattle.iscsi_login.specs.Directory.{KnownTargets}
 use Rattle.iscsi_target.specs.World.{Setting}
 use Rattle.iscsi_target.specs.Machine.{Machine, WhereSound, IsSound, new_machine}
 use Rattle.iscsi_serve.specs.Log.{Entry, Listened, Located}
@@ -24,9 +25,13 @@ use Rattle.targetd.specs.Opened.{Held, AreUnitsOf}
 use Rattle.targetd.specs.Unopened.{IsUnopened}
 use Rattle.targetd.specs.Serve.{listening_line, Serves}
 
+-- the targets of a configuration, and their portal
+abbrev pub known_of : Document → KnownTargets
+known_of document = record { names = names_of document.targets; portal = document.listen }
+
 -- what the target of a configuration is made with, where these are its units
 abbrev pub setting_of : Document → List UnitStates → Setting
-setting_of document units = record { names = names_of document.targets; units = units }
+setting_of document units = record { directory = known_of document; units = units }
 
 -- the configuration of a file by its contents; none where it cannot be read
 abbrev pub configured_by : Option (List ℕ) → Result Document ConfigFault
@@ -65,7 +70,7 @@ module _ (held : Held) (left : LeftState) (printed printed_then : Option (List �
     -- where they listen
     pub address : SocketAddr
     pub serves : Serves (listening_line address) count true (listening document.listen address) served.log
-        (new_machine (names_of document.targets) units) served.target printed printed_then result
+        (new_machine (known_of document) units) served.target printed printed_then result
 
   abbrev pub IsServingAt : ℕ → Result Document ConfigFault → Result (Unit {0}) Fault → Type 0
   IsServingAt count (Ok document) result = IsServing document count result

@@ -141,6 +141,7 @@ impl Login {
                 let params = Params {
                     nexus: session.nexus,
                     target: session.target,
+                    directory: session.directory,
                     connection_id: opening.connection_id,
                     first_cmd_sn: opening.cmd_sn,
                     next_stat_sn,

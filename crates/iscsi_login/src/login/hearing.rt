@@ -1,16 +1,18 @@
 //! How a login takes the text of its requests.
 
-ghost use Rattle.std.specs.Prelude.{◌≡◌, ◌≤◌, ℕ, List, length, map, take, string_bytes, None, is_none, IfOk, IfErr, OnOk, OnErr};
+ghost use Rattle.std.specs.Prelude.{◌≡◌, ◌≤◌, ℕ, length, take, None, IfOk, IfErr, OnOk, OnErr};
 ghost use Rattle.iscsi_text.specs.Pairs.{text_of};
+ghost use Rattle.iscsi_login.specs.Directory.{KnownTargets};
 ghost use Rattle.iscsi_login.specs.Lookup.{lookup_in};
 ghost use Rattle.iscsi_login.specs.LoginState.{AsksBelow};
 ghost use Rattle.iscsi_login.specs.Rules.{text_fault, session_refusal, text_refusal, pairs_with, asked_by, Tells};
-ghost use Rattle.iscsi_login.specs.Login.{longest_piece, answer_pairs, declares, kept_with, heard};
+ghost use Rattle.iscsi_login.specs.Login.{longest_piece, answer_pairs, tells_group, declares, kept_with, heard};
 
 use crate::answer::{answer_text, buffer, first_piece};
+use crate::directory::Directory;
 use crate::fault::{Fault, Memory};
 use crate::login::Login;
-use crate::names::asked;
+use crate::names::{asked, is_normal_session};
 use crate::params::Params;
 use crate::request::is_operational;
 use crate::session::Session;
@@ -39,30 +41,31 @@ impl Login {
     fn ask(
         &self,
         request: &Frame,
-        targets: &[String],
+        directory: &Directory,
         named: &Option<Params>,
         pairs: &Pairs,
     ) -> Result<Option<Session>, Fault>
-        ensures session { IfOk result (λ asked. asked ≡ asked_by self.now.session (map string_bytes targets.now) request.now.header pairs.now) }
-        ensures target { IfOk result (AsksBelow (length targets.now)) }
-        ensures accepted { OnOk result (session_refusal self.now.session (lookup_in targets.now named.now) request.now.header pairs.now ≡ None) }
-        ensures refused { IfErr result (Tells (session_refusal self.now.session (lookup_in targets.now named.now) request.now.header pairs.now)) }
+        ensures session { IfOk result (λ asked. asked ≡ asked_by self.now.session directory.now request.now.header pairs.now) }
+        ensures target { IfOk result (AsksBelow (length directory.now.names)) }
+        ensures accepted { OnOk result (session_refusal self.now.session (lookup_in directory.now named.now) request.now.header pairs.now ≡ None) }
+        ensures refused { IfErr result (Tells (session_refusal self.now.session (lookup_in directory.now named.now) request.now.header pairs.now)) }
     {
         if self.session.is_some() {
             return Ok(None);
         }
-        let session = asked(self.alloc, targets, named, &request.header, pairs)?;
+        let session = asked(self.alloc, directory, named, &request.header, pairs)?;
         Ok(Some(session))
     }
 
     /// The text of the answer to a whole text with these pairs, and its first piece.
     fn answer_to(&self, header: &Header, pairs: &Pairs) -> Result<(BytesMut, Vec<u8>), Memory>
-        ensures due { IfOk result (λ answer. answer.0.items ≡ text_of (answer_pairs (is_none self.now.session) (declares self.now header.now) pairs.now)) }
+        ensures due { IfOk result (λ answer. answer.0.items ≡ text_of (answer_pairs (tells_group self.now.session pairs.now) (declares self.now header.now) pairs.now)) }
         ensures piece { IfOk result (λ answer. answer.1.items ≡ take longest_piece answer.0.items) }
         ensures short { IfOk result (λ answer. length answer.1.items ≤ longest_piece) }
     {
         let is_told = is_operational(header) && !self.declared;
-        let text = answer_text(self.alloc, self.session.is_none(), is_told, pairs)?;
+        let tells_group = self.session.is_none() && is_normal_session(pairs);
+        let text = answer_text(self.alloc, tells_group, is_told, pairs)?;
         let piece = first_piece(self.alloc, text.as_slice())?;
         let due = buffer(self.alloc, text.as_slice())?;
         Ok((due, piece))
@@ -78,9 +81,9 @@ impl Login {
         asked: Option<Session>,
         due: BytesMut,
     ) -> Result<(), Memory>
-        requires { due.items ≡ text_of (answer_pairs (is_none self.old.session) (declares self.old header.now) pairs) }
-        ensures ok { OnOk result ((names : List (List ℕ)) → asked ≡ asked_by self.old.session names header.now pairs
-            → self.new ≡ heard names self.old header.now pairs) }
+        requires { due.items ≡ text_of (answer_pairs (tells_group self.old.session pairs) (declares self.old header.now) pairs) }
+        ensures ok { OnOk result ((directory : KnownTargets) → asked ≡ asked_by self.old.session directory header.now pairs
+            → self.new ≡ heard directory self.old header.now pairs) }
         ensures due { OnOk result (self.new.due ≡ due.items) }
         ensures target { OnOk result ((count : ℕ) → AsksBelow count self.old.session → AsksBelow count asked → AsksBelow count self.new.session) }
         ensures err { OnErr result (self.new ≡ self.old) }
@@ -102,19 +105,19 @@ impl Login {
     pub(super) fn hear(
         &mut self,
         request: &Frame,
-        targets: &[String],
+        directory: &Directory,
         named: &Option<Params>,
     ) -> Result<Vec<u8>, Fault>
-        ensures heard { OnOk result (self.new ≡ heard (map string_bytes targets.now) self.old request.now.header (pairs_with self.old request.now)) }
+        ensures heard { OnOk result (self.new ≡ heard directory.now self.old request.now.header (pairs_with self.old request.now)) }
         ensures piece { IfOk result (λ piece. piece.items ≡ take longest_piece self.new.due) }
         ensures short { IfOk result (λ piece. length piece.items ≤ longest_piece) }
-        ensures target { OnOk result (AsksBelow (length targets.now) self.old.session → AsksBelow (length targets.now) self.new.session) }
-        ensures accepted { OnOk result (text_refusal self.old (lookup_in targets.now named.now) request.now ≡ None) }
-        ensures refused { IfErr result (Tells (text_refusal self.old (lookup_in targets.now named.now) request.now)) }
+        ensures target { OnOk result (AsksBelow (length directory.now.names) self.old.session → AsksBelow (length directory.now.names) self.new.session) }
+        ensures accepted { OnOk result (text_refusal self.old (lookup_in directory.now named.now) request.now ≡ None) }
+        ensures refused { IfErr result (Tells (text_refusal self.old (lookup_in directory.now named.now) request.now)) }
         ensures err { OnErr result (self.new ≡ self.old) }
     {
         let pairs = self.read(request)?;
-        let asked = self.ask(request, targets, named, &pairs)?;
+        let asked = self.ask(request, directory, named, &pairs)?;
         if let Some(refusal) = refusal_of_keys(&self.earlier, &pairs) {
             return Err(Fault::Refused(refusal));
         }

@@ -17,7 +17,7 @@ returns-in_err-ended-clause-ends g c =
     c.new-engine.result.target
     c.replay-ended.new.engine.target c.into_target.result c.from_residual-in_err-ended.result c.in_err-ended.field-0.0 c.from_residual-in_err-ended.ensures.1
     c.in_ok-config.ensures.units refl c.into_target.ensures
-    (rw c.new-engine.ensures.target (made_stands _ c.in_ok-target.target (rw c.in_ok-config.ensures.names at c.in_ok-target.ensures.stands)))
+    (rw c.new-engine.ensures.target (made_stands _ c.in_ok-target.target (rw (c.in_ok-config.ensures.names, c.in_ok-config.ensures.listen) at c.in_ok-target.ensures.stands)))
     (rw c.new-engine.ensures.target (ap (λ (m : Machine). m.units) c.in_ok-target.ensures.made)) c.replay-ended.ensures.sure c.in_err-ended.ensures.fails))
 
 pub returns-clause-ends : goal.returns-clause-ends
@@ -26,5 +26,5 @@ returns-clause-ends g c =
     (inr (replay_ends g.S.Start.held _ _ _ _ _ (configuration_view c.in_ok-configuration.configuration) c.in_ok-config.field-0.units.items
     c.new-engine.result.target
     c.replay-ended.new.engine.target c.into_target.result c.in_ok-config.ensures.units refl c.into_target.ensures
-    (rw c.new-engine.ensures.target (made_stands _ c.in_ok-target.target (rw c.in_ok-config.ensures.names at c.in_ok-target.ensures.stands)))
+    (rw c.new-engine.ensures.target (made_stands _ c.in_ok-target.target (rw (c.in_ok-config.ensures.names, c.in_ok-config.ensures.listen) at c.in_ok-target.ensures.stands)))
     (rw c.new-engine.ensures.target (ap (λ (m : Machine). m.units) c.in_ok-target.ensures.made)) c.replay-ended.ensures.sure c.in_ok-ended.ensures.done))

@@ -1,10 +1,11 @@
 use Rattle.std.proofs.Common.{inr, refl, ap, ◌∙◌, ◌++◌, ◌∷◌, [], List, ℕ}
 use Rattle.std.specs.Net.Socket.{socket_ip, socket_port}
+use Rattle.iscsi_login.specs.Directory.{KnownTargets}
 use Rattle.iscsi_target.specs.Machine.{new_machine}
 use Rattle.iscsi_serve.specs.Log.{Entry, Listened, Located}
 use Rattle.iscsi_serve.specs.Calls.{ip_octets}
 use Rattle.target_config.specs.Configuration.{configuration_view, targets_view}
-use Rattle.targetd.proofs.OpenedUnits.{as_many}
+use Rattle.targetd.proofs.OpenedUnits.{as_many, known_is}
 use Rattle.targetd.proofs.Ending.{serving}
 use Rattle.targetd.proofs.run.serve_at.Goals as goal
 
@@ -19,8 +20,8 @@ returns-clause-ends g c =
     let asked = c.in-Ok.ensures.told
     ∙ ap (λ (es : List Entry). es ++ Located (ip_octets (socket_ip address)) (socket_port address) ∷ [])
     (c.in_ok-ports.ensures.log ∙ ap (λ (text : List ℕ). Listened text ∷ []) (c.as_str.ensures.value ∙ c.in_ok-config.ensures.listen)) in
-    let made = c.in_ok-target.ensures.made ∙ ap (λ (names : List (List ℕ)). new_machine names c.in_ok-config.field-0.units.items)
-    c.in_ok-config.ensures.names in
+    let made = c.in_ok-target.ensures.made ∙ ap (λ (directory : KnownTargets). new_machine directory c.in_ok-config.field-0.units.items)
+    (known_is c.in_ok-config.field-0.config (configuration_view c.in_ok-configuration.configuration) c.in_ok-config.ensures.names c.in_ok-config.ensures.listen) in
     rw c.in_ok-configuration.ensures.read
     (inr (serving g.S.Start.held _ _ _ (configuration_view c.in_ok-configuration.configuration) c.args.count c.in_ok-config.field-0.units.items
     address _ c.in_ok-target.target _

@@ -1,4 +1,4 @@
-use Rattle.std.proofs.Common.{ap, map, string_bytes, refl, sym, ◌∙◌}
+use Rattle.std.proofs.Common.{ap, refl, sym, ◌∙◌}
 use Rattle.iscsi_pdu.specs.Frames.{Frame}
 use Rattle.iscsi_pdu.specs.LoginRequest.{is_continued}
 use Rattle.iscsi_login.specs.Lookup.{lookup_in}
@@ -12,19 +12,19 @@ use Rattle.iscsi_login.proofs.login.Login.take.Goals as goal
 
 pub returns-then-is_due-clause-after : goal.returns-then-is_due-clause-after
 returns-then-is_due-clause-after c =
-    after_piece (map string_bytes c.args.targets.now) c.args.self.now c.answer.new.self c.args.request.now c.answer.result
+    after_piece c.args.directory.now c.args.self.now c.answer.new.self c.args.request.now c.answer.result
     (sym c.is_due.ensures ∙ c.if-is_due.true) c.answer.ensures.after
 
 pub returns-then-is_continued-clause-after : goal.returns-then-is_continued-clause-after
 returns-then-is_continued-clause-after c =
-    after_kept (map string_bytes c.args.targets.now) c.args.self.now c.keep.new.self c.answer-then-is_continued-2.new.self c.args.request.now
+    after_kept c.args.directory.now c.args.self.now c.keep.new.self c.answer-then-is_continued-2.new.self c.args.request.now
     c.answer-then-is_continued-2.result
     (sym c.is_due.ensures ∙ c.if-is_due.false) (ap (λ (frame : Frame). is_continued frame.header) (sym c.request.view_is)
     ∙ sym c.is_continued.ensures ∙ c.if-is_continued.true) c.in_ok-keep.ensures.ok c.answer-then-is_continued-2.ensures.after
 
 pub returns-in-Ok-clause-after : goal.returns-in-Ok-clause-after
 returns-in-Ok-clause-after c =
-    after_heard (map string_bytes c.args.targets.now) c.args.self.now c.hear.new.self c.answer-in-Ok.new.self c.args.request.now c.answer-in-Ok.result
+    after_heard c.args.directory.now c.args.self.now c.hear.new.self c.answer-in-Ok.new.self c.args.request.now c.answer-in-Ok.result
     (sym c.is_due.ensures ∙ c.if-is_due.false) (ap (λ (frame : Frame). is_continued frame.header) (sym c.request.view_is)
     ∙ sym c.is_continued.ensures ∙ c.if-is_continued.false) c.in-Ok.ensures.heard c.answer-in-Ok.ensures.after
 
@@ -42,33 +42,33 @@ pub returns-in-Ok-clause-values : goal.returns-in-Ok-clause-values
 returns-in-Ok-clause-values c = λ was.
     range_heard c.args.self.now.values c.hear.new.self.values c.answer-in-Ok.new.self.values (pairs_with c.args.self.now c.args.request.now)
     c.answer-in-Ok.result
-    (heard_values (map string_bytes c.args.targets.now) c.args.self.now c.hear.new.self c.args.request.now.header
+    (heard_values c.args.directory.now c.args.self.now c.hear.new.self c.args.request.now.header
     (pairs_with c.args.self.now c.args.request.now) c.in-Ok.ensures.heard)
     c.answer-in-Ok.ensures.values c.answer-in-Ok.ensures.begins was
 
 pub returns-in-Some-clause-reply : goal.returns-in-Some-clause-reply
 returns-in-Some-clause-reply c =
     c.refuse.ensures
-    ∙ replies_refused c.args.self.now (lookup_in c.args.targets.now c.args.named.now) c.args.request.now c.in-Some.refusal
+    ∙ replies_refused c.args.self.now (lookup_in c.args.directory.now c.args.named.now) c.args.request.now c.in-Some.refusal
     (sym c.refusal_of_request.ensures ∙ c.in-Some.is)
 
 pub returns-then-is_due-clause-reply : goal.returns-then-is_due-clause-reply
 returns-then-is_due-clause-reply c =
     c.answer.ensures.reply
-    ∙ replies_piece c.args.self.now (lookup_in c.args.targets.now c.args.named.now) c.args.request.now (sym c.refusal_of_request.ensures
+    ∙ replies_piece c.args.self.now (lookup_in c.args.directory.now c.args.named.now) c.args.request.now (sym c.refusal_of_request.ensures
     ∙ c.in_default.is) (sym c.is_due.ensures ∙ c.if-is_due.true)
 
 pub returns-then-is_continued-clause-reply : goal.returns-then-is_continued-clause-reply
 returns-then-is_continued-clause-reply c =
     c.answer-then-is_continued-2.ensures.reply
-    ∙ replies_kept c.args.self.now c.keep.new.self (lookup_in c.args.targets.now c.args.named.now) c.args.request.now
+    ∙ replies_kept c.args.self.now c.keep.new.self (lookup_in c.args.directory.now c.args.named.now) c.args.request.now
     (sym c.refusal_of_request.ensures ∙ c.in_default.is) (sym c.is_due.ensures ∙ c.if-is_due.false)
     (ap (λ (frame : Frame). is_continued frame.header) (sym c.request.view_is) ∙ sym c.is_continued.ensures ∙ c.if-is_continued.true) c.in_ok-keep.ensures.ok
 
 pub returns-in-Ok-clause-reply : goal.returns-in-Ok-clause-reply
 returns-in-Ok-clause-reply c =
     c.answer-in-Ok.ensures.reply
-    ∙ replies_heard c.args.self.now c.hear.new.self (lookup_in c.args.targets.now c.args.named.now) c.args.request.now
+    ∙ replies_heard c.args.self.now c.hear.new.self (lookup_in c.args.directory.now c.args.named.now) c.args.request.now
     (sym c.refusal_of_request.ensures ∙ c.in_default.is) (sym c.is_due.ensures ∙ c.if-is_due.false)
     (ap (λ (frame : Frame). is_continued frame.header) (sym c.request.view_is) ∙ sym c.is_continued.ensures ∙ c.if-is_continued.false)
     c.in-Ok.ensures.accepted c.in-Ok.ensures.heard
@@ -77,7 +77,7 @@ pub returns-in-Err-Refused-clause-reply : goal.returns-in-Err-Refused-clause-rep
 returns-in-Err-Refused-clause-reply c =
     c.refuse-in-Err-Refused.ensures
     ∙ ap (λ (login : LoginState). refused_reply login c.args.request.now c.in-Err-Refused.refusal) c.in-Err-Refused.ensures.err
-    ∙ replies_refused_text c.args.self.now (lookup_in c.args.targets.now c.args.named.now) c.args.request.now c.in-Err-Refused.refusal
+    ∙ replies_refused_text c.args.self.now (lookup_in c.args.directory.now c.args.named.now) c.args.request.now c.in-Err-Refused.refusal
     (sym c.refusal_of_request.ensures ∙ c.in_default.is) (sym c.is_due.ensures ∙ c.if-is_due.false)
     (ap (λ (frame : Frame). is_continued frame.header) (sym c.request.view_is) ∙ sym c.is_continued.ensures ∙ c.if-is_continued.false)
     (rw c.in-Err-Refused.field-0-is at c.in-Err-Refused.ensures.refused)

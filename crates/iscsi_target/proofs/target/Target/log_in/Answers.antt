@@ -1,4 +1,4 @@
-use Rattle.std.proofs.Common.{◌≡◌, ℕ, ◌<◌, List, length, map, true, Option, String, Global, string_bytes, arith, subst, sym, ap, ◌∙◌}
+use Rattle.std.proofs.Common.{◌≡◌, ℕ, ◌<◌, List, length, true, Option, arith, subst, sym, ap, ◌∙◌}
 use Rattle.std.proofs.lemmas.List.{length-set}
 use Rattle.std.proofs.lemmas.List.Elements.{All-set}
 use Rattle.std.proofs.lemmas.Result.{on_ok_weaker, on_err_weaker}
@@ -17,7 +17,7 @@ use Rattle.iscsi_target.proofs.target.Target.log_in.Goals as goal
 pub returns-in_err-response-clause-err : goal.returns-in_err-response-clause-err
 returns-in_err-response-clause-err g c =
     let machine : Machine = record {
-      names = map string_bytes c.self.inside.config.targets.items;
+      directory = c.self.inside.directory;
       units = c.self.inside.units.items;
       links = c.self.inside.links.items;
     } in
@@ -35,7 +35,7 @@ pub invariant_of-self-in-Some : goal.invariant_of-self-in-Some
 invariant_of-self-in-Some g c =
     let lt : c.args.c < length c.self.inside.links.items = (let below = c.requires.in_range in let count = c.self.invariant.0 in omega arith) in
     let old : c.index_mut-link.result.now ≡ _ = c.index_mut-link.ensures.value ∙ get_or_any c.self.inside.links.items c.args.c _ free_link lt in
-    let count : length c.as_slice-targets.result.now ≡ length c.self.inside.units.items = ap length c.as_slice-targets.ensures.value ∙ sym c.self.invariant.1 in
+    let count : length c.self.inside.directory.names ≡ length c.self.inside.units.items = sym c.self.invariant.1 in
     let was : IsWithin (length c.self.inside.units.items) c.index_mut-link.result.now.phase =
     subst (λ (l : LinkState). IsWithin (length c.self.inside.units.items) l.phase) (sym old) (c.self.invariant.2 c.args.c free_link lt) in
     let is : IsWithin (length c.self.inside.units.items) c.log_in.new.self.phase =
@@ -50,7 +50,7 @@ invariant_of-self-in-Some g c =
 pub begin-requires-clause-reads : goal.begin-requires-clause-reads
 begin-requires-clause-reads g c =
     let machine : Machine = record {
-      names = map string_bytes c.self.inside.config.targets.items;
+      directory = c.self.inside.directory;
       units = c.self.inside.units.items;
       links = c.self.inside.links.items;
     } in
@@ -66,7 +66,7 @@ begin-requires-clause-reads g c =
 pub returns-in-Some-clause-ok : goal.returns-in-Some-clause-ok
 returns-in-Some-clause-ok g c =
     let machine : Machine = record {
-      names = map string_bytes c.self.inside.config.targets.items;
+      directory = c.self.inside.directory;
       units = c.self.inside.units.items;
       links = c.self.inside.links.items;
     } in
@@ -78,14 +78,13 @@ returns-in-Some-clause-ok g c =
     let named : c.in_ok-named.named ≡ named_by (tsih c.args.request.now.header) (sessions c.self.inside.links.items) =
     c.in_ok-named.ensures ∙ ap (λ (ls : List LinkState). named_by c.tsih.result (sessions ls)) c.as_slice.ensures.value
     ∙ ap (λ (n : ℕ). named_by n (sessions c.self.inside.links.items)) (c.tsih.ensures ∙ ap (λ (f : Frame). tsih f.header) c.request.view_is) in
-    let looked_up : lookup_in c.as_slice-targets.result.now c.in_ok-named.named ≡ lookup_for machine.names (sessions machine.links) c.args.request.now =
-    ap (λ (ts : List (String Global)). lookup_in ts c.in_ok-named.named) c.as_slice-targets.ensures.value
-    ∙ ap (λ (o : Option Params). lookup_in c.self.inside.config.targets.items o) named in
+    let looked_up : lookup_in c.self.inside.directory c.in_ok-named.named ≡ lookup_for machine.directory (sessions machine.links) c.args.request.now =
+    ap (λ (o : Option Params). lookup_in c.self.inside.directory o) named in
     on_ok_weaker c.begin.result (λ e login h.
     (let is_so : c.index_mut-link.result.now.phase ≡ _ = ap (λ (l : LinkState). l.phase) old
     ∙ ap (λ (m : Machine). (link_at m c.args.c).phase) c.self.view_is ∙ h in
     let waiting = waits _ _ _ _ _ _ (rw c.in-Some.is at (c.in_ok-response.ensures.answered login is_so)) in
-    let reply : reply_of login (lookup_for machine.names (sessions machine.links) c.args.request.now) c.args.request.now ≡ _ =
+    let reply : reply_of login (lookup_for machine.directory (sessions machine.links) c.args.request.now) c.args.request.now ≡ _ =
     ap (λ (k : Lookup). reply_of login k c.args.request.now) (sym looked_up) ∙ waiting.reply_is in
     e ∙ begun_alike machine c.args.c c.log_in.new.self c.in-Some.session (answers.LoginResponse c.in-Some.response) lt (waiting.same
     ∙ ap (λ (l : LinkState). record l { phase = c.log_in.new.self.phase }) old) waiting.logging_in logs
@@ -95,7 +94,7 @@ returns-in-Some-clause-ok g c =
 pub returns-in-Some-clause-err : goal.returns-in-Some-clause-err
 returns-in-Some-clause-err g c =
     let machine : Machine = record {
-      names = map string_bytes c.self.inside.config.targets.items;
+      directory = c.self.inside.directory;
       units = c.self.inside.units.items;
       links = c.self.inside.links.items;
     } in

@@ -1,7 +1,8 @@
-use Rattle.std.proofs.Common.{length, map, sym, ap, List}
+use Rattle.std.proofs.Common.{length, sym, ap, ◌∙◌, List}
 use Rattle.std.specs.Prelude.{string_bytes}
-use Rattle.std.proofs.lemmas.List.{length-replicate}
+use Rattle.std.proofs.lemmas.List.{length-map, length-replicate}
 use Rattle.std.proofs.lemmas.List.Elements.{All-replicate}
+use Rattle.iscsi_target.specs.Known.{known_in}
 use Rattle.iscsi_target.specs.Machine.{LinkState, IsWithin, free_link}
 use Rattle.iscsi_target.proofs.Standing.{new_stands, stands_machine}
 use Rattle.iscsi_target.proofs.target.Target.new.Goals as goal
@@ -9,15 +10,15 @@ use Rattle.iscsi_target.proofs.target.Target.new.Goals as goal
 pub invariant_of-result : goal.invariant_of-result
 invariant_of-result g c = (
   rw c.in_ok-links.ensures (length-replicate 64 free_link),
-  c.requires,
+  c.requires ∙ sym (length-map c.args.config.targets.items string_bytes),
   rw c.in_ok-links.ensures (All-replicate (λ (link : LinkState). IsWithin (length c.args.units.items) link.phase) 64 free_link tt),
 )
 
 pub returns-clause-stands : goal.returns-clause-stands
 returns-clause-stands g c =
     stands_machine _ _ _ _ _ (ap (λ (links : List LinkState). record {
-      names = map string_bytes c.args.config.targets.items;
+      directory = known_in c.args.config;
       units = c.args.units.items;
       links = links;
     }) (sym c.in_ok-links.ensures))
-    (new_stands (record { names = map string_bytes c.args.config.targets.items; units = c.args.units.items }))
+    (new_stands (record { directory = known_in c.args.config; units = c.args.units.items }))

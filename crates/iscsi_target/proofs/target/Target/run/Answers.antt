@@ -1,6 +1,6 @@
 use Rattle.std.proofs.Common.{◌≡◌, ◌<◌, List, [], length, map, take, sym, ap, ◌∙◌, subst, arith}
-use Rattle.std.specs.Prelude.{string_bytes}
 use Rattle.std.proofs.lemmas.List.{take_all}
+use Rattle.iscsi_target.specs.Known.{known_in}
 use Rattle.iscsi_target.specs.History.{open_after}
 use Rattle.iscsi_target.specs.Events.{event_view, plain_history}
 use Rattle.scsi_unit.specs.Units.{UnitStates}
@@ -52,7 +52,7 @@ pub returns-clause-stands : goal.returns-clause-stands
 returns-clause-stands g c = λ sound.
     (let es = c.args.events.now in
     let all : take c.loop-event.event-index es ≡ es = take_all c.loop-event.event-index es (omega arith) in
-    let P : List Event → Type 0 = λ l. Stands (record { names = map string_bytes c.args.config.targets.items; units = c.args.units.items }) (λ k. 0)
+    let P : List Event → Type 0 = λ l. Stands (record { directory = known_in c.args.config; units = c.args.units.items }) (λ k. 0)
     c.loop-event.target (plain_history l) in
     subst P all (c.loop-event.invariant.1 sound).stands)
 
@@ -62,12 +62,12 @@ returns-clause-outputs g c = λ sound.
     let i = c.loop-event.invariant in
     let all : take c.loop-event.event-index es ≡ es = take_all c.loop-event.event-index es (omega arith) in
     c.in_ok-outputs.ensures ∙ finished_outputs _ c.loop-event.target _ i.0 _ (i.1 sound)
-    ∙ ap (λ (l : List Event). outputs (record { names = map string_bytes c.args.config.targets.items; units = c.args.units.items }) (plain_history l)) all)
+    ∙ ap (λ (l : List Event). outputs (record { directory = known_in c.args.config; units = c.args.units.items }) (plain_history l)) all)
 
 pub returns-clause-media : goal.returns-clause-media
 returns-clause-media g c = λ sound number.
     (let es = c.args.events.now in
     let all : take c.loop-event.event-index es ≡ es = take_all c.loop-event.event-index es (omega arith) in
     let P : List Event → Type 0 = λ l. media_in c.loop-event.target.units number
-    ≡ media (record { names = map string_bytes c.args.config.targets.items; units = c.args.units.items }) (plain_history l) number in
+    ≡ media (record { directory = known_in c.args.config; units = c.args.units.items }) (plain_history l) number in
     subst P all (ap (λ (units : List UnitStates). media_in units number) (units_stand _ (λ k. 0) _ _ (c.loop-event.invariant.1 sound).stands)))

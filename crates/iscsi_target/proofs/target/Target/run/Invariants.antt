@@ -1,6 +1,7 @@
 use Rattle.std.proofs.Common.{◌≡◌, ℕ, List, true, map, take, drop}
-use Rattle.std.specs.Prelude.{All, string_bytes}
+use Rattle.std.specs.Prelude.{All}
 use Rattle.scsi_unit.specs.Units.{AreSure}
+use Rattle.iscsi_target.specs.Known.{known_in}
 use Rattle.iscsi_target.specs.History.{may_follow}
 use Rattle.iscsi_target.specs.Events.{events_view, plain_history}
 use Rattle.iscsi_target.specs.Machine.{WhereSound, IsSure}
@@ -11,7 +12,7 @@ use Rattle.iscsi_target.proofs.target.Target.run.Given as goal
 abbrev pub invariant-loop-event : goal.invariant-loop-event
 invariant-loop-event g l =
     (before : List ℕ)
-    × WhereSound l.target (Runs (record { names = map string_bytes l.fn.config.targets.items; units = l.fn.units.items }) l.target
+    × WhereSound l.target (Runs (record { directory = known_in l.fn.config; units = l.fn.units.items }) l.target
     (map seen l.rows.items) before (plain_history (take l.event-index l.events)))
     × AreOpen l.target before
     × (may_follow before (events_view (drop l.event-index l.events)) ≡ true)

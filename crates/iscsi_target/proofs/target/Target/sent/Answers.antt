@@ -8,7 +8,7 @@ use Rattle.iscsi_target.proofs.target.Target.sent.Goals as goal
 pub returns-clause-stands : goal.returns-clause-stands
 returns-clause-stands g c = λ s sent h at sound.
     (let machine : Machine = record {
-      names = map string_bytes c.self.inside.config.targets.items;
+      directory = c.self.inside.directory;
       units = c.self.inside.units.items;
       links = c.self.inside.links.items;
     } in

@@ -1,77 +1,78 @@
-use Rattle.std.proofs.Common.{◌≡◌, ℕ, ◌<◌, List, length, map, string_bytes, true, Option, None, refl, sym, ap, ◌∙◌, subst, arith}
-use Rattle.std.proofs.lemmas.Bool.{eqb-true}
+use Rattle.std.proofs.Common.{◌≡◌, ℕ, ◌<◌, List, length, true, Option, Some, None, refl, sym, ap, ◌∙◌, subst, arith}
+use Rattle.iscsi_login.specs.Session.{is_same_target}
+use Rattle.iscsi_login.specs.LoginState.{IsTargetBelow}
 use Rattle.iscsi_login.specs.declared.params.Params.{Params}
-use Rattle.iscsi_target.specs.Machine.{LinkState, Machine, KeepsApart, link_at, is_with, is_reading}
+use Rattle.iscsi_target.specs.Machine.{LinkState, Machine, link_at, is_with, is_reading}
 use Rattle.iscsi_target.specs.Serving.{first_of, first_starved}
 use Rattle.iscsi_target.specs.declared.phase.Phase.{Phase}
 use Rattle.iscsi_target.specs.declared.phase.Phase.TheVariants as phases
 use Rattle.iscsi_target.proofs.Apart.{apart_from, part_as, part_none, served_apart, with_session}
 use Rattle.iscsi_target.proofs.Doing.{does_on, does_starved}
 use Rattle.iscsi_target.proofs.Frames.{takes_idle}
-use Rattle.iscsi_target.proofs.Held.{viewed, held_here, held_same, serve_takes, serve_moves, within_there}
+use Rattle.iscsi_target.proofs.Held.{viewed, held_here, held_same, same_target, serve_takes, serve_moves, within_there}
 use Rattle.iscsi_target.proofs.Moving.{moves_none, moves_as, moves_from, moves_then, moves_starved}
 use Rattle.iscsi_target.proofs.target.Target.take_frame.Goals as goal
 
-pub settle-settled-requires : goal.settle-settled-requires
-settle-settled-requires g c =
+pub settle_for-settled-requires : goal.settle_for-settled-requires
+settle_for-settled-requires g c =
     let machine : Machine = record {
-      names = map string_bytes c.self.inside.config.targets.items;
+      directory = c.self.inside.directory;
       units = c.self.inside.units.items;
       links = c.self.inside.links.items;
     } in
     let lt : c.args.c < length machine.links = (let count = c.self.invariant.0 in let below = c.requires in omega arith) in
     let link : viewed c.link.inside.framer c.link.inside.phase c.link.inside.waiting.items ≡ link_at machine c.args.c =
     held_here c.self.inside.links.items c.args.c _ c.index_mut-link.result.now _ c.self.invariant.0 c.requires c.index_mut-link.ensures.value c.link.view_is in
-    let below : c.in-FullFeature.session.params.target < length machine.units =
+    let below : IsTargetBelow (length machine.units) c.in-FullFeature.session.params.target =
     within_there machine c.args.c c.in-FullFeature.session lt (ap (λ (l : LinkState). l.phase) (sym link) ∙ c.in-FullFeature.is) c.self.invariant.2 in
     let m = serve_moves c.serve-goes_on.result c.args.c machine c.end_unless-served.new.self c.link.inside.framer c.link.inside.phase
     c.link.inside.waiting.items c.serve-goes_on.new.out.items c.in-FullFeature.session c.serve-goes_on.new.self
     lt link c.in-FullFeature.is below c.serve-goes_on.ensures.grows c.end_unless-served.ensures.same in
-    subst (λ (p : Params). p.target < length c.end_unless-served.new.self.units) (sym c.params.ensures) (let is = m.units in omega arith)
+    subst (λ (n : ℕ). IsTargetBelow n c.params.result.now.target) (sym m.units) (subst (λ (p : Params). IsTargetBelow (length machine.units) p.target) (sym c.params.ensures) below)
 
 pub returns-in-FullFeature-clause-takes : goal.returns-in-FullFeature-clause-takes
 returns-in-FullFeature-clause-takes g c =
     let machine : Machine = record {
-      names = map string_bytes c.self.inside.config.targets.items;
+      directory = c.self.inside.directory;
       units = c.self.inside.units.items;
       links = c.self.inside.links.items;
     } in
     let link : viewed c.link.inside.framer c.link.inside.phase c.link.inside.waiting.items ≡ link_at machine c.args.c =
     held_here c.self.inside.links.items c.args.c _ c.index_mut-link.result.now _ c.self.invariant.0 c.requires c.index_mut-link.ensures.value c.link.view_is in
     let target : c.in-FullFeature.session.params.target ≡ c.params.result.now.target = ap (λ (p : Params). p.target) (sym c.params.ensures) in
-    does_starved _ _ _ _ _ _ _ (ap (λ (o : Option ℕ). first_of o (first_starved c.settle-settled.result)) (sym c.end_unless-served.ensures.value)
+    does_starved _ _ _ _ _ _ _ (ap (λ (o : Option ℕ). first_of o (first_starved c.settle_for-settled.result)) (sym c.end_unless-served.ensures.value)
     ∙ sym c.earlier_of.ensures)
-    (does_on _ _ _ _ machine c.settle-settled.new.self c.args.self.now c.settle-settled.new.self c.self.view_is refl
+    (does_on _ _ _ _ machine c.settle_for-settled.new.self c.args.self.now c.settle_for-settled.new.self c.self.view_is refl
     (serve_takes c.serve-goes_on.result c.args.c c.params.result.now.target c.args.frame machine c.end_unless-served.new.self
-    c.settle-settled.new.self c.link.inside.framer c.link.inside.phase c.link.inside.waiting.items
-    c.serve-goes_on.new.out.items c.in-FullFeature.session c.serve-goes_on.new.self (first_starved c.settle-settled.result) c.requires link
+    c.settle_for-settled.new.self c.link.inside.framer c.link.inside.phase c.link.inside.waiting.items
+    c.serve-goes_on.new.out.items c.in-FullFeature.session c.serve-goes_on.new.self (first_starved c.settle_for-settled.result) c.requires link
     c.in-FullFeature.is target c.serve-goes_on.ensures.ok c.serve-goes_on.ensures.err
-    c.end_unless-served.ensures.same (c.settle-settled.ensures.moves 0).back c.settle-settled.ensures.settles))
+    c.end_unless-served.ensures.same (c.settle_for-settled.ensures.moves 0).back c.settle_for-settled.ensures.settles))
 
 pub returns-in-FullFeature-clause-moves : goal.returns-in-FullFeature-clause-moves
 returns-in-FullFeature-clause-moves g c =
     let machine : Machine = record {
-      names = map string_bytes c.self.inside.config.targets.items;
+      directory = c.self.inside.directory;
       units = c.self.inside.units.items;
       links = c.self.inside.links.items;
     } in
     let lt : c.args.c < length machine.links = (let count = c.self.invariant.0 in let below = c.requires in omega arith) in
     let link : viewed c.link.inside.framer c.link.inside.phase c.link.inside.waiting.items ≡ link_at machine c.args.c =
     held_here c.self.inside.links.items c.args.c _ c.index_mut-link.result.now _ c.self.invariant.0 c.requires c.index_mut-link.ensures.value c.link.view_is in
-    let below : c.in-FullFeature.session.params.target < length machine.units =
+    let below : IsTargetBelow (length machine.units) c.in-FullFeature.session.params.target =
     within_there machine c.args.c c.in-FullFeature.session lt (ap (λ (l : LinkState). l.phase) (sym link) ∙ c.in-FullFeature.is) c.self.invariant.2 in
     let m = serve_moves c.serve-goes_on.result c.args.c machine c.end_unless-served.new.self c.link.inside.framer c.link.inside.phase
     c.link.inside.waiting.items c.serve-goes_on.new.out.items c.in-FullFeature.session c.serve-goes_on.new.self
     lt link c.in-FullFeature.is below c.serve-goes_on.ensures.grows c.end_unless-served.ensures.same in
-    moves_starved c.args.c _ _ _ _ (ap (λ (o : Option ℕ). first_of o (first_starved c.settle-settled.result))
+    moves_starved c.args.c _ _ _ _ (ap (λ (o : Option ℕ). first_of o (first_starved c.settle_for-settled.result))
     (sym c.end_unless-served.ensures.value) ∙ sym c.earlier_of.ensures)
-    (moves_from c.args.c _ c.args.self.now machine c.settle-settled.new.self (sym c.self.view_is)
-    (moves_then c.args.c _ _ machine c.end_unless-served.new.self c.settle-settled.new.self m (c.settle-settled.ensures.moves c.args.c)))
+    (moves_from c.args.c _ c.args.self.now machine c.settle_for-settled.new.self (sym c.self.view_is)
+    (moves_then c.args.c _ _ machine c.end_unless-served.new.self c.settle_for-settled.new.self m (c.settle_for-settled.ensures.moves c.args.c)))
 
 pub returns-in-FullFeature-clause-part : goal.returns-in-FullFeature-clause-part
 returns-in-FullFeature-clause-part g c = λ target with_.
     (let machine : Machine = record {
-      names = map string_bytes c.self.inside.config.targets.items;
+      directory = c.self.inside.directory;
       units = c.self.inside.units.items;
       links = c.self.inside.links.items;
     } in
@@ -81,19 +82,19 @@ returns-in-FullFeature-clause-part g c = λ target with_.
     let own : is_with target (link_at machine c.args.c).phase ≡ true = ap (λ (m : Machine). is_with target (link_at m c.args.c).phase) c.self.view_is ∙ with_ in
     let here : is_with target (phases.FullFeature c.in-FullFeature.session) ≡ true = ap (is_with target) (sym c.in-FullFeature.is)
     ∙ ap (λ (l : LinkState). is_with target l.phase) link ∙ own in
-    let at : c.params.result.now.target ≡ target = ap (λ (p : Params). p.target) c.params.ensures ∙ eqb-true _ _ here in
+    let at : is_same_target c.params.result.now.target (Some target) ≡ true = ap (λ (p : Params). is_same_target p.target (Some target)) c.params.ensures ∙ here in
     let then_ = viewed c.link.inside.framer (phases.FullFeature c.serve-goes_on.new.self) c.serve-goes_on.new.out.items in
     let then_own : is_with target then_.phase ≡ true = with_session target then_ then_.phase c.serve-goes_on.new.self refl refl
-    (ap (λ (p : Params). p.target) c.serve-goes_on.ensures.params ∙ eqb-true _ _ here) in
+    (ap (λ (p : Params). p.target) c.serve-goes_on.ensures.params ∙ same_target _ target here) in
     apart_from target c.args.self.now machine _ (sym c.self.view_is)
-    (served_apart c.serve-goes_on.result target machine c.end_unless-served.new.self c.settle-settled.new.self c.args.c then_ lt own then_own
+    (served_apart c.serve-goes_on.result target machine c.end_unless-served.new.self c.settle_for-settled.new.self c.args.c then_ lt own then_own
     c.end_unless-served.ensures.same
-    (subst (λ (t : ℕ). KeepsApart t c.end_unless-served.new.self c.settle-settled.new.self) at c.settle-settled.ensures.apart)))
+    (c.settle_for-settled.ensures.apart target at)))
 
 pub returns-in-Free-clause-takes : goal.returns-in-Free-clause-takes
 returns-in-Free-clause-takes g c =
     let machine : Machine = record {
-      names = map string_bytes c.self.inside.config.targets.items;
+      directory = c.self.inside.directory;
       units = c.self.inside.units.items;
       links = c.self.inside.links.items;
     } in
@@ -109,7 +110,7 @@ returns-in-Free-clause-takes g c =
 pub returns-in-Free-clause-part : goal.returns-in-Free-clause-part
 returns-in-Free-clause-part g c =
     let machine : Machine = record {
-      names = map string_bytes c.self.inside.config.targets.items;
+      directory = c.self.inside.directory;
       units = c.self.inside.units.items;
       links = c.self.inside.links.items;
     } in
@@ -122,7 +123,7 @@ returns-in-Free-clause-part g c =
 pub returns-in-Free-clause-moves : goal.returns-in-Free-clause-moves
 returns-in-Free-clause-moves g c =
     let machine : Machine = record {
-      names = map string_bytes c.self.inside.config.targets.items;
+      directory = c.self.inside.directory;
       units = c.self.inside.units.items;
       links = c.self.inside.links.items;
     } in
@@ -135,7 +136,7 @@ returns-in-Free-clause-moves g c =
 pub returns-in-Closing-clause-takes : goal.returns-in-Closing-clause-takes
 returns-in-Closing-clause-takes g c =
     let machine : Machine = record {
-      names = map string_bytes c.self.inside.config.targets.items;
+      directory = c.self.inside.directory;
       units = c.self.inside.units.items;
       links = c.self.inside.links.items;
     } in
@@ -151,7 +152,7 @@ returns-in-Closing-clause-takes g c =
 pub returns-in-Closing-clause-part : goal.returns-in-Closing-clause-part
 returns-in-Closing-clause-part g c =
     let machine : Machine = record {
-      names = map string_bytes c.self.inside.config.targets.items;
+      directory = c.self.inside.directory;
       units = c.self.inside.units.items;
       links = c.self.inside.links.items;
     } in
@@ -164,7 +165,7 @@ returns-in-Closing-clause-part g c =
 pub returns-in-Closing-clause-moves : goal.returns-in-Closing-clause-moves
 returns-in-Closing-clause-moves g c =
     let machine : Machine = record {
-      names = map string_bytes c.self.inside.config.targets.items;
+      directory = c.self.inside.directory;
       units = c.self.inside.units.items;
       links = c.self.inside.links.items;
     } in

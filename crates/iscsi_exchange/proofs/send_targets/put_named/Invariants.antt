@@ -1,0 +1,6 @@
+use Rattle.std.proofs.Common.{◌≡◌, ◌++◌, take, None, Some}
+use Rattle.iscsi_exchange.specs.SendTargets.{asked_pairs}
+use Rattle.iscsi_exchange.proofs.send_targets.put_named.Given as goal
+
+abbrev pub invariant-loop-at : goal.invariant-loop-at
+invariant-loop-at l = l.answer ≡ l.initial.answer ++ asked_pairs l.directory.portal (Some l.asked) (take l.at l.directory.names)

@@ -1,0 +1,9 @@
+pub use Rattle.iscsi_pdu.specs.Frames
+pub use Rattle.iscsi_pdu.specs.TextResponse
+pub use Rattle.iscsi_text.specs.Pairs
+pub use Rattle.iscsi_login.specs.Keys
+pub use Rattle.iscsi_login.specs.Directory
+pub mod SendTargets
+pub mod ExchangeState
+pub mod Exchange
+pub mod Examples

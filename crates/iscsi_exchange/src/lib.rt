@@ -1,0 +1,21 @@
+//! The exchange of texts in full feature phase (RFC 7143 §11.10, §11.11), by which an initiator asks
+//! for the targets (SendTargets).
+//!
+//! ```text
+//!   Text Request ──> Exchange::hear ──> Told { exchange, piece: Some(piece) }   a Text Response
+//!                                       Told { exchange, piece: None }          a Reject, 09h
+//! ```
+//!
+//! Promised, and proved: [`Exchange::hear`] tells what `hears` (`specs/Exchange.antt`) says of what is
+//! remembered of the exchange so far. A text in parts is joined, a long answer is cut to what the
+//! initiator takes, and each pair is answered as `specs/SendTargets.antt` says.
+#![tactic(auto)]
+
+mod exchange;
+mod fault;
+mod send_targets;
+mod told;
+
+pub use exchange::Exchange;
+pub use fault::Memory;
+pub use told::{Piece, Told};

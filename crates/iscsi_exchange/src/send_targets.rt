@@ -1,0 +1,196 @@
+//! What the pairs of a text are answered.
+
+ghost use Rattle.std.specs.Prelude.{◌≡◌, ◌<◌, ◌++◌, ◌∷◌, [], None, Some, codes, length, slice_get, string_bytes, IfOk, OnOk};
+ghost use Rattle.iscsi_text.specs.Pairs.{text_of};
+ghost use Rattle.iscsi_exchange.specs.SendTargets.{target_pairs, asked_pairs, told_of, discovery_answer, normal_answer, send_targets as targets_sent, pair_answer, pairs_answer};
+
+use crate::fault::Memory;
+use iscsi_login::{Directory, Params, is_answer, is_known, position};
+use iscsi_text::{Pairs, text};
+use std::alloc::Global;
+
+/// Puts a pair behind an answer.
+fn put(answer: &mut Pairs, key: &str, value: &str) -> Result<(), Memory>
+    ensures { OnOk result (answer.new ≡ answer.old ++ (key.now, value.now) ∷ []) }
+{
+    if answer.push(key, value).is_err() {
+        return Err(Memory);
+    }
+    Ok(())
+}
+
+/// The address of the targets: the portal, with the tag of its group (RFC 7143 §13.8).
+fn address(alloc: Global, directory: &Directory) -> Result<String, Memory>
+    ensures { IfOk result (λ address. string_bytes address ≡ directory.now.portal ++ codes ",1") }
+{
+    let mut address = String::from_str(alloc, directory.portal.as_str())?;
+    address.push_str(",1")?;
+    Ok(address)
+}
+
+/// The name of the target at a place.
+fn name(directory: &Directory, at: usize) -> &str
+    requires { at < length directory.now.names }
+    ensures { slice_get directory.now.names at ≡ Some result.now }
+{
+    directory.targets[at].as_str()
+}
+
+/// How many targets there are.
+fn count(directory: &Directory) -> usize
+    ensures { result ≡ length directory.now.names }
+{
+    directory.targets.len()
+}
+
+/// Puts a target behind an answer.
+fn put_target(
+    alloc: Global,
+    answer: &mut Pairs,
+    directory: &Directory,
+    name: &str,
+) -> Result<(), Memory>
+    ensures { OnOk result (answer.new ≡ answer.old ++ target_pairs directory.now.portal name.now) }
+{
+    let address = address(alloc, directory)?;
+    put(answer, "TargetName", name)?;
+    put(answer, "TargetAddress", address.as_str())
+}
+
+/// Puts a target behind an answer, where its name is the one that is asked for.
+fn put_asked(
+    alloc: Global,
+    answer: &mut Pairs,
+    directory: &Directory,
+    name: &str,
+    asked: &str,
+) -> Result<(), Memory>
+    ensures { OnOk result (answer.new ≡ answer.old ++ asked_pairs directory.now.portal (Some asked.now) (name.now ∷ [])) }
+{
+    if asked == name {
+        return put_target(alloc, answer, directory, name);
+    }
+    Ok(())
+}
+
+/// Puts all targets behind an answer, in their order.
+#[tactic(auto, unfolding(crate::specs::SendTargets::told_of))]
+fn put_all(alloc: Global, answer: &mut Pairs, directory: &Directory) -> Result<(), Memory>
+    ensures { OnOk result (answer.new ≡ answer.old ++ told_of directory.now None) }
+{
+    for at in 0..count(directory) {
+        put_target(alloc, answer, directory, name(directory, at))?;
+    }
+    Ok(())
+}
+
+/// Puts the targets of this name behind an answer.
+#[tactic(auto, unfolding(crate::specs::SendTargets::told_of))]
+fn put_named(
+    alloc: Global,
+    answer: &mut Pairs,
+    directory: &Directory,
+    asked: &str,
+) -> Result<(), Memory>
+    ensures { OnOk result (answer.new ≡ answer.old ++ told_of directory.now (Some asked.now)) }
+{
+    for at in 0..count(directory) {
+        put_asked(alloc, answer, directory, name(directory, at), asked)?;
+    }
+    Ok(())
+}
+
+/// Puts the answer to SendTargets in a discovery session behind an answer.
+fn put_discovery(
+    alloc: Global,
+    answer: &mut Pairs,
+    directory: &Directory,
+    value: &str,
+) -> Result<(), Memory>
+    ensures { OnOk result (answer.new ≡ answer.old ++ discovery_answer directory.now value.now) }
+{
+    if value.is_empty() {
+        return put(answer, "SendTargets", "Reject");
+    }
+    if value == "All" {
+        return put_all(alloc, answer, directory);
+    }
+    put_named(alloc, answer, directory, value)
+}
+
+/// Puts the answer to SendTargets in a normal session behind an answer.
+fn put_own(
+    alloc: Global,
+    answer: &mut Pairs,
+    directory: &Directory,
+    value: &str,
+) -> Result<(), Memory>
+    ensures { OnOk result (answer.new ≡ answer.old ++ normal_answer directory.now value.now) }
+{
+    if value.is_empty() || position(directory.targets.as_slice(), value).is_some() {
+        return put_all(alloc, answer, directory);
+    }
+    put(answer, "SendTargets", "Reject")
+}
+
+/// Puts the answer to SendTargets behind an answer (RFC 7143 Appendix C).
+#[tactic(auto, unfolding(crate::specs::SendTargets::send_targets))]
+fn put_send_targets(
+    alloc: Global,
+    answer: &mut Pairs,
+    params: &Params,
+    value: &str,
+) -> Result<(), Memory>
+    ensures { OnOk result (answer.new ≡ answer.old ++ targets_sent params.now value.now) }
+{
+    if params.target.is_none() {
+        return put_discovery(alloc, answer, &params.directory, value);
+    }
+    put_own(alloc, answer, &params.directory, value)
+}
+
+/// Puts what a pair is answered behind an answer.
+#[tactic(auto, unfolding(crate::specs::SendTargets::pair_answer))]
+fn put_answer(
+    alloc: Global,
+    answer: &mut Pairs,
+    params: &Params,
+    key: &str,
+    value: &str,
+) -> Result<(), Memory>
+    ensures { OnOk result (answer.new ≡ answer.old ++ pair_answer params.now (key.now, value.now)) }
+{
+    if is_answer(value) {
+        return Ok(());
+    }
+    if key == "SendTargets" {
+        return put_send_targets(alloc, answer, params, value);
+    }
+    if is_known(key) {
+        return put(answer, key, "Reject");
+    }
+    put(answer, key, "NotUnderstood")
+}
+
+/// What the pairs of a text are answered, in their order.
+fn answers(alloc: Global, params: &Params, said: &Pairs) -> Result<Pairs, Memory>
+    ensures { IfOk result (λ answer. answer ≡ pairs_answer params.now said.now) }
+{
+    let mut answer = Pairs::new(alloc);
+    for at in 0..said.len() {
+        let (key, value) = said.pair(at);
+        put_answer(alloc, &mut answer, params, key, value)?;
+    }
+    Ok(answer)
+}
+
+/// The text of what the pairs of a text are answered.
+pub(crate) fn answer_text(alloc: Global, params: &Params, said: &Pairs) -> Result<Vec<u8>, Memory>
+    ensures { IfOk result (λ text. text.items ≡ text_of (pairs_answer params.now said.now)) }
+{
+    let answer = answers(alloc, params, said)?;
+    match text(alloc, &answer) {
+        Ok(text) => Ok(text),
+        Err(_) => Err(Memory),
+    }
+}

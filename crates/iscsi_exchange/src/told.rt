@@ -1,0 +1,36 @@
+//! What a Text Request is answered.
+
+use crate::exchange::Exchange;
+use iscsi_pdu::TextStep;
+use std::marker::Model;
+
+/// The answer's text, or a piece of it, and how the exchange goes on.
+#[derive(Debug, Drop)]
+pub struct Piece {
+    pub step: TextStep,
+    pub text: Vec<u8>,
+}
+
+impl Model for Piece {
+    ghost use Rattle.iscsi_exchange.specs.Exchange.{TextPiece};
+
+    ghost Value = { TextPiece };
+
+    ghost view = { λ p. record { step = p.step; text = p.text.items } };
+}
+
+/// The exchange behind a request, and its answer.
+#[derive(Debug, Drop)]
+pub struct Told {
+    pub exchange: Exchange,
+    /// None where the request is rejected.
+    pub piece: Option<Piece>,
+}
+
+impl Model for Told {
+    ghost use Rattle.iscsi_exchange.specs.Exchange.{ToldState};
+
+    ghost Value = { ToldState };
+
+    ghost view = { λ t. record { exchange = t.exchange; piece = t.piece } };
+}

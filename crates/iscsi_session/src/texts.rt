@@ -1,0 +1,113 @@
+//! The Text Requests that are taken act.
+
+ghost use Rattle.std.specs.Prelude.{◌≡◌, ◌≤◌, ◌<◌, ◌+◌, ◌++◌, ◌∷◌, ℕ, List, length, flat_map, true, IfOk, OnOk, OnErr};
+ghost use Rattle.iscsi_pdu.specs.Answer.{spelling};
+ghost use Rattle.iscsi_pdu.specs.Segment.{most_data};
+ghost use Rattle.iscsi_exchange.specs.Exchange.{IsShort, hears};
+ghost use Rattle.iscsi_session.specs.Requests.{Past, frame_of, due};
+ghost use Rattle.iscsi_session.specs.Acts.{acted, act_answers};
+ghost use Rattle.iscsi_session.specs.Texts.{is_text as is_text_in, text_answer};
+ghost use Rattle.iscsi_session.specs.Room.{room_to_tell};
+ghost use Rattle.iscsi_session.specs.State.{Stands};
+
+use crate::act::Act;
+use crate::answers::{put, rejected};
+use crate::fault::Memory;
+use crate::session::Session;
+use bytes::BytesMut;
+use iscsi_exchange::{Piece, Told};
+use iscsi_pdu::{Answer, Frame, Opcode, RejectReason, Stamp, TextResponse};
+
+/// What a Text Response or a Reject takes beside the text, in bytes at most.
+const ROOM_TO_TELL: usize = 99;
+
+/// It is a Text Request.
+pub(crate) fn is_text(frame: &Frame) -> bool
+    ensures { result ≡ is_text_in frame.now }
+{
+    matches!(frame.header.opcode(), Opcode::Text)
+}
+
+/// How many bytes the text of an answer takes.
+fn text_length(piece: &Option<Piece>) -> usize
+    requires { IsShort piece.now }
+    ensures value { result + 99 ≡ room_to_tell piece.now }
+    ensures bound { result ≤ most_data }
+{
+    match piece {
+        Some(piece) => piece.text.len(),
+        None => 0,
+    }
+}
+
+/// Puts the answer to a Text Request behind what waits. There must be room for it.
+fn put_told(out: &mut BytesMut, stamp: Stamp, piece: &Option<Piece>, frame: &Frame)
+    requires short { IsShort piece.now }
+    requires room { room_to_tell piece.now ≤ out.old.spare }
+    ensures { out.new.items ≡ out.old.items ++ spelling (text_answer stamp piece.now frame.now) }
+{
+    match piece {
+        Some(piece) => put(
+            out,
+            &Answer::TextResponse(TextResponse {
+                initiator_task_tag: frame.header.initiator_task_tag(),
+                stamp,
+                step: piece.step,
+                text: piece.text.as_slice(),
+            }),
+        ),
+        None => put(
+            out,
+            &rejected(RejectReason::InvalidField, stamp, frame.header),
+        ),
+    }
+}
+
+impl Session {
+    /// The first request that is due, a Text, is answered at the end of the buffer, and its exchange goes on
+    /// or is over. Where an allocation fails nothing changes.
+    pub(crate) fn answer_text(&mut self, out: &mut BytesMut) -> Result<Act, Memory>
+        ensures act { IfOk result (λ a. 0 < length self.old.tasks.due → a ≡ Act.Taken) }
+        ensures stands { OnOk result ((past : Past) (k : ℕ) (others : List ℕ) → Stands past self.old → due past ≡ k ∷ others
+            → is_text_in (frame_of past.came k) ≡ true → Stands (acted k past) self.new) }
+        ensures out { OnOk result ((past : Past) (k : ℕ) (others : List ℕ) → Stands past self.old → due past ≡ k ∷ others
+            → is_text_in (frame_of past.came k) ≡ true → out.new.items ≡ out.old.items ++ flat_map spelling (act_answers k past)) }
+        ensures grows { (more : List ℕ) × (out.new.items ≡ out.old.items ++ more) }
+        ensures fewer { IfOk result (λ a. a ≡ Act.Taken → length self.new.tasks.due < length self.old.tasks.due) }
+        ensures params { self.new.params ≡ self.old.params }
+        ensures err { OnErr result (self.new ≡ self.old) }
+        ensures out_err { OnErr result (out.new.items ≡ out.old.items) }
+    {
+        let Some(frame) = self.tasks.due() else {
+            return Ok(Act::Idle);
+        };
+        let told = self.exchange.hear(frame, &self.params)?;
+        out.reserve(text_length(&told.piece) + ROOM_TO_TELL)?;
+        Ok(self.tell(out, told))
+    }
+
+    /// The first request that is due, a Text, is finished and answered so. There must be room for its answer, so
+    /// it takes no memory.
+    fn tell(&mut self, out: &mut BytesMut, told: Told) -> Act
+        requires short { IsShort told.piece }
+        requires room { room_to_tell told.piece ≤ out.old.spare }
+        ensures act { 0 < length self.old.tasks.due → result ≡ Act.Taken }
+        ensures stands { (past : Past) (k : ℕ) (others : List ℕ) → Stands past self.old → due past ≡ k ∷ others
+            → is_text_in (frame_of past.came k) ≡ true → told ≡ hears self.old.exchange (frame_of past.came k) self.old.params
+            → Stands (acted k past) self.new }
+        ensures out { (past : Past) (k : ℕ) (others : List ℕ) → Stands past self.old → due past ≡ k ∷ others
+            → is_text_in (frame_of past.came k) ≡ true → told ≡ hears self.old.exchange (frame_of past.came k) self.old.params
+            → out.new.items ≡ out.old.items ++ flat_map spelling (act_answers k past) }
+        ensures grows { (more : List ℕ) × (out.new.items ≡ out.old.items ++ more) }
+        ensures fewer { result ≡ Act.Taken → length self.new.tasks.due < length self.old.tasks.due }
+        ensures params { self.new.params ≡ self.old.params }
+    {
+        let Some(frame) = self.tasks.finish_due() else {
+            return Act::Idle;
+        };
+        self.exchange = told.exchange;
+        let stamp = self.next_stamp();
+        put_told(out, stamp, &told.piece, &frame);
+        Act::Taken
+    }
+}
