@@ -2,6 +2,7 @@
 use Rattle.std.specs.Prelude.{ℕ, List}
 use Rattle.iscsi_pdu.specs.NopIn.{nop_in_bytes}
 use Rattle.iscsi_pdu.specs.ScsiResponse.{scsi_response_bytes}
+use Rattle.iscsi_pdu.specs.TaskManagementResponse.{task_management_response_bytes}
 use Rattle.iscsi_pdu.specs.LoginResponse.{login_response_bytes}
 use Rattle.iscsi_pdu.specs.TextResponse.{text_response_bytes}
 use Rattle.iscsi_pdu.specs.DataIn.{data_in_bytes}
@@ -15,6 +16,7 @@ use Rattle.iscsi_pdu.specs.declared.answer.Answer.TheVariants as answers
 abbrev pub spelling : Answer → List ℕ
 spelling (answers.NopIn answer) = nop_in_bytes answer
 spelling (answers.ScsiResponse response) = scsi_response_bytes response
+spelling (answers.TaskManagementResponse response) = task_management_response_bytes response
 spelling (answers.LoginResponse response) = login_response_bytes response
 spelling (answers.TextResponse response) = text_response_bytes response
 spelling (answers.DataIn piece) = data_in_bytes piece

@@ -9,6 +9,7 @@ use Rattle.iscsi_pdu.specs.declared.logout_response.LogoutResult.TheVariants as 
 use Rattle.iscsi_pdu.specs.declared.reject.RejectReason.TheVariants as reasons
 use Rattle.iscsi_pdu.specs.declared.scsi_response.Residual.TheVariants as residuals
 use Rattle.iscsi_pdu.specs.declared.stage.Stage.TheVariants as stages
+use Rattle.iscsi_pdu.specs.declared.task_management_response.TaskResult.TheVariants as task_results
 use Rattle.iscsi_pdu.specs.declared.text_response.TextStep.TheVariants as text_steps
 use Rattle.iscsi_pdu.specs.LoginResponse.{login_flags}
 use Rattle.iscsi_pdu.specs.TextResponse.{text_flags, exchange_tag}
@@ -170,6 +171,20 @@ nop_in_spelled : spelling (answers.NopIn (record {
   body = codes "pings";
 })) ≡ nop_in
 nop_in_spelled = refl
+
+-- no such unit; there is no data segment
+abbrev task_management_response : List ℕ
+task_management_response =
+    0x22 ∷ 0x80 ∷ 0x02 ∷ 0x00 ∷ 0x00 ∷ 0x00 ∷ 0x00 ∷ 0x00 ∷ 0x00 ∷ 0x00 ∷ 0x00 ∷ 0x00 ∷ 0x00 ∷ 0x00 ∷ 0x00 ∷ 0x00 ∷
+    0x00 ∷ 0x00 ∷ 0x00 ∷ 0x07 ∷ 0x00 ∷ 0x00 ∷ 0x00 ∷ 0x00 ∷ 0x00 ∷ 0x00 ∷ 0x00 ∷ 0x03 ∷ 0x00 ∷ 0x00 ∷ 0x00 ∷ 0x05 ∷
+    0x00 ∷ 0x00 ∷ 0x00 ∷ 0x24 ∷ 0x00 ∷ 0x00 ∷ 0x00 ∷ 0x00 ∷ 0x00 ∷ 0x00 ∷ 0x00 ∷ 0x00 ∷ 0x00 ∷ 0x00 ∷ 0x00 ∷ 0x00 ∷ []
+
+task_management_spelled : spelling (answers.TaskManagementResponse (record {
+  initiator_task_tag = 7;
+  stamp = record { stat_sn = 3; exp_cmd_sn = 5; max_cmd_sn = 36 };
+  response = task_results.NoUnit;
+})) ≡ task_management_response
+task_management_spelled = refl
 
 -- connection recovery is not supported; there is no data segment
 abbrev logout_response : List ℕ

@@ -1,6 +1,8 @@
 -- The fields of a Login Request, of a SCSI Command, of SCSI Data-Outs and of a Logout Request, computed.
 use Rattle.std.specs.Prelude.{◌≡◌, ℕ, List, [], ◌∷◌, ◌++◌, true, false, Some, None, replicate, refl}
 use Rattle.iscsi_pdu.specs.declared.header.Opcode.TheVariants as opcodes
+use Rattle.iscsi_pdu.specs.declared.task_management.TaskFunction.TheVariants as functions
+use Rattle.iscsi_pdu.specs.TaskManagement.{task_function, function_code, referenced_task_tag, ref_cmd_sn}
 use Rattle.iscsi_pdu.specs.declared.stage.Stage.TheVariants as stages
 use Rattle.iscsi_pdu.specs.Header.{opcode_of, opcode_number, is_immediate, additional_length, data_length, lun_field, initiator_task_tag, cmd_sn}
 use Rattle.iscsi_pdu.specs.ScsiCommand.{is_final, is_read, is_write, expected_transfer_length, cdb}
@@ -91,6 +93,23 @@ logout_opcode = (refl, refl)
 -- the reason is without the bit that is always set
 logout_fields : (logout_reason logout_header ≡ 2) × (connection_id logout_header ≡ 7)
 logout_fields = (refl, refl)
+
+-- an immediate ABORT TASK of the command with tag 9 and CmdSN 5
+abbrev abort_header : List ℕ
+abort_header =
+    0x42 ∷ 0x81 ∷ 0x00 ∷ 0x00 ∷ 0x00 ∷ 0x00 ∷ 0x00 ∷ 0x00 ∷ 0x00 ∷ 0x01 ∷ 0x00 ∷ 0x00 ∷ 0x00 ∷ 0x00 ∷ 0x00 ∷ 0x00 ∷
+    0x00 ∷ 0x00 ∷ 0x00 ∷ 0x07 ∷ 0x00 ∷ 0x00 ∷ 0x00 ∷ 0x09 ∷ 0x00 ∷ 0x00 ∷ 0x00 ∷ 0x06 ∷ 0x00 ∷ 0x00 ∷ 0x00 ∷ 0x03 ∷
+    0x00 ∷ 0x00 ∷ 0x00 ∷ 0x05 ∷ 0x00 ∷ 0x00 ∷ 0x00 ∷ 0x00 ∷ 0x00 ∷ 0x00 ∷ 0x00 ∷ 0x00 ∷ 0x00 ∷ 0x00 ∷ 0x00 ∷ 0x00 ∷ []
+
+abort_opcode : (opcode_of (opcode_number abort_header) ≡ opcodes.TaskManagement) × (task_function (function_code abort_header) ≡ functions.AbortTask)
+abort_opcode = (refl, refl)
+
+abort_fields : (referenced_task_tag abort_header ≡ 9) × (ref_cmd_sn abort_header ≡ 5)
+abort_fields = (refl, refl)
+
+-- 0 and 9 are no functions
+no_function : (task_function 0 ≡ functions.Other 0) × (task_function 9 ≡ functions.Other 9)
+no_function = (refl, refl)
 
 -- 3Fh is no opcode of an initiator
 no_opcode : opcode_of 0x3F ≡ opcodes.Other 0x3F

@@ -4,6 +4,7 @@ pub mod ScsiCommand
 pub mod DataOut
 pub mod Stage
 pub mod LoginRequest
+pub mod TaskManagement
 pub mod LogoutRequest
 pub mod Segment
 pub mod Frames
@@ -12,6 +13,7 @@ pub mod Stamp
 pub mod NopIn
 pub mod ScsiResponse
 pub mod AcceptedLogin
+pub mod TaskManagementResponse
 pub mod LoginResponse
 pub mod TextResponse
 pub mod DataIn

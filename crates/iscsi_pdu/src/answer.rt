@@ -11,6 +11,7 @@ use crate::r2t::R2t;
 use crate::reject::Reject;
 use crate::scsi_response::{ScsiResponse, sense_segment};
 use crate::segment::put;
+use crate::task_management_response::TaskManagementResponse;
 use crate::text_response::TextResponse;
 use bytes::BytesMut;
 
@@ -21,6 +22,8 @@ pub enum Answer<'a> {
     NopIn(NopIn<'a>),
     /// 21h SCSI Response
     ScsiResponse(ScsiResponse),
+    /// 22h Task Management Function Response
+    TaskManagementResponse(TaskManagementResponse),
     /// 23h Login Response
     LoginResponse(LoginResponse),
     /// 24h Text Response
@@ -48,6 +51,7 @@ impl<'a> Answer<'a> {
         match self {
             Answer::NopIn(answer) => answer.length(),
             Answer::ScsiResponse(response) => response.length(),
+            Answer::TaskManagementResponse(response) => response.length(),
             Answer::LoginResponse(response) => response.length(),
             Answer::TextResponse(response) => response.length(),
             Answer::DataIn(piece) => piece.length(),
@@ -74,6 +78,7 @@ impl<'a> Answer<'a> {
                 None => put(out, &response.header(), &[]),
                 Some(sense) => put(out, &response.header(), &sense_segment(sense)),
             },
+            Answer::TaskManagementResponse(response) => put(out, &response.header(), &[]),
             Answer::LoginResponse(response) => {
                 put(out, &response.header(), response.reply.text())
             }

@@ -38,6 +38,8 @@ mod scsi_response;
 mod segment;
 mod stage;
 mod stamp;
+mod task_management;
+mod task_management_response;
 mod text_response;
 
 pub use answer::Answer;
@@ -54,4 +56,6 @@ pub use reject::{Reject, RejectReason};
 pub use scsi_response::{Residual, ScsiResponse};
 pub use stage::Stage;
 pub use stamp::Stamp;
+pub use task_management::TaskFunction;
+pub use task_management_response::{TaskManagementResponse, TaskResult};
 pub use text_response::{EXCHANGE_TAG, NO_EXCHANGE_TAG, TextResponse, TextStep};

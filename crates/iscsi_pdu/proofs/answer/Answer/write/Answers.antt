@@ -1,4 +1,3 @@
-use Rattle.std.proofs.Common.{sym}
 use Rattle.iscsi_pdu.proofs.answer.Answer.write.Goals as goal
 
 pub returns-in-TextResponse-clause-ok : goal.returns-in-TextResponse-clause-ok

@@ -1,0 +1,81 @@
+//! The answer to a Task Management Function Request (RFC 7143 §11.6).
+
+ghost use Rattle.std.specs.Prelude.{◌≡◌, ◌+◌, ◌≤◌, length};
+ghost use Rattle.iscsi_pdu.specs.Header.{header_length};
+ghost use Rattle.iscsi_pdu.specs.Segment.{most_data};
+
+use crate::header::HEADER_LENGTH;
+use crate::stamp::Stamp;
+use byteorder::{BigEndian, ByteOrder};
+
+/// The opcode, byte 0.
+const OPCODE: u8 = 0x22;
+
+/// The bit of byte 1 that is always set.
+const FINAL: u8 = 0x80;
+
+/// How a task management function ended (RFC 7143 §11.6.1).
+#[derive(Clone, Copy, Debug, PartialEq, Eq)]
+pub enum TaskResult {
+    /// 0: the function is complete.
+    Complete,
+    /// 1: there is no such task.
+    NoTask,
+    /// 2: there is no such logical unit.
+    NoUnit,
+    /// 4: tasks are not reassigned to another connection.
+    NoReassignment,
+    /// 5: the function is not supported.
+    NotSupported,
+}
+
+/// The answer to a Task Management Function Request (RFC 7143 §11.6).
+#[derive(Clone, Copy, Debug, PartialEq, Eq)]
+pub struct TaskManagementResponse {
+    /// The Initiator Task Tag of the request.
+    pub initiator_task_tag: u32,
+    pub stamp: Stamp,
+    pub response: TaskResult,
+}
+
+impl TaskResult {
+    ghost use Rattle.iscsi_pdu.specs.TaskManagementResponse.{task_result_code};
+
+    /// Byte 2.
+    fn code(self) -> u8
+        ensures { result ≡ task_result_code self }
+    {
+        match self {
+            TaskResult::Complete => 0,
+            TaskResult::NoTask => 1,
+            TaskResult::NoUnit => 2,
+            TaskResult::NoReassignment => 4,
+            TaskResult::NotSupported => 5,
+        }
+    }
+}
+
+impl TaskManagementResponse {
+    ghost use Rattle.iscsi_pdu.specs.TaskManagementResponse.{task_management_response_bytes, task_management_response_header};
+
+    /// The length in bytes of the response.
+    pub(crate) fn length(&self) -> usize
+        ensures value { result ≡ length (task_management_response_bytes self.now) }
+        ensures bound { result ≤ header_length + most_data }
+    {
+        self.header().len()
+    }
+
+    /// The 48 header bytes.
+    pub(crate) fn header(&self) -> [u8; HEADER_LENGTH]
+        ensures { result ≡ task_management_response_header self.now }
+    {
+        let mut header = [0; HEADER_LENGTH];
+        header[0] = OPCODE;
+        header[1] = FINAL;
+        header[2] = self.response.code();
+        BigEndian::write_u32(&mut header[16..20], self.initiator_task_tag);
+        header[24..36].copy_from_slice(&self.stamp.bytes());
+        header
+    }
+}
