@@ -1,5 +1,5 @@
 -- One more request is accepted: what the session remembers, and that its past stays lawful.
-use Rattle.std.proofs.Common.{◌≡◌, ◌≢◌, ℕ, zero, suc, ◌+◌, ◌-◌, ◌^◌, ◌%◌, ◌<◌, ◌≤◌, List, [], ◌∷◌, ◌++◌, length, map, get_or, set, Bool, true, false, not, Option, Some, None, refl, sym, ap, subst, ◌∙◌, arith, length-append, append_assoc, add-one}
+use Rattle.std.proofs.Common.{◌≡◌, ◌≢◌, ℕ, zero, suc, ◌+◌, ◌-◌, ◌^◌, ◌%◌, ◌<◌, ◌≤◌, List, [], ◌∷◌, ◌++◌, length, map, get_or, set, Bool, true, false, not, cond, Option, Some, None, refl, sym, ap, subst, ◌∙◌, arith, length-append, append_assoc, add-one}
 use Rattle.std.specs.Prelude.{filter, filter_map, is_some, All}
 use Rattle.std.specs.List.{range_with_len, prefix_len}
 use Rattle.std.proofs.lemmas.Bool.{ne_eqb, eq-eqb, false_from_ne_true}
@@ -16,10 +16,11 @@ use Rattle.iscsi_order.specs.Serial.{distance}
 use Rattle.iscsi_order.proofs.Front.{front, front_come, front_missing}
 use Rattle.iscsi_order.proofs.Held.{prefix_range}
 use Rattle.iscsi_order.proofs.Standing.{front_more, front_within, lawful_with as window_with}
-use Rattle.iscsi_session.specs.Requests.{Request, DataOut, SentR2t, unfinished, Past, request_at, frame_of, is_in, left, is_command, commands, others, counted, numbered, place_of, taken, taken_at, numbers, due, queue, frames_of, begun}
-use Rattle.iscsi_session.specs.State.{TaskLists, frame_numbered, tasks_with, tasks_of, AreDistinct, IsDelivered, IsLawful, holding, takes_next, takes, takes_all}
+use Rattle.iscsi_session.specs.Requests.{Request, DataOut, SentR2t, unfinished, is_function, functions, Past, request_at, frame_of, is_in, left, is_command, commands, others, counted, numbered, place_of, taken, taken_at, numbers, due, queue, frames_of, begun}
+use Rattle.iscsi_session.specs.State.{TaskLists, functions_of, frame_numbered, tasks_with, tasks_of, AreDistinct, IsDelivered, IsLawful, holding, takes_next, takes, takes_all}
 use Rattle.iscsi_session.proofs.Left.{filter_cong, map_cong, left_append, left_all, left_none, in_at, in_front, in_left, in_filter, not_by, below_of, apart_behind, distinct_push}
-use Rattle.iscsi_session.proofs.Unfinished.{joined, Below, commands_same, tags_joined}
+use Rattle.iscsi_session.proofs.Kept.{joined, Below, kept_joined, tags_with, below_kept}
+use Rattle.iscsi_session.proofs.Unfinished.{commands_same, tags_joined}
 use Rattle.iscsi_session.specs.Transfers.{tag_of}
 use Rattle.iscsi_session.proofs.Taken.{request_before, request_new, taken_more, taken_below, distinct_taken}
 use Rattle.iscsi_session.proofs.Fronts.{first_of, taken_now, frame_missing, frame_marked, frame_other, frame_now, counted_places, frames_come}
@@ -27,7 +28,7 @@ use Rattle.iscsi_session.proofs.Fronts.{first_of, taken_now, frame_missing, fram
 -- ---- the past at its beginning
 
 pub begun_lawful : (params : Params) → IsLawful (begun params)
-unfolding due queue left taken taken_numbers unfinished
+unfolding due queue left taken taken_numbers unfinished functions
 begun_lawful params = record {
   window = record { finished = omega arith; handed = omega arith; within = λ k come. absurd cc };
   distinct = tt;
@@ -41,6 +42,7 @@ begun_lawful params = record {
   fed = All-nil (λ (d : DataOut). d.command < 0);
   asked = All-nil (λ (r : SentR2t). r.command < 0);
   tags = tt;
+  function_tags = tt;
   none_removed = refl;
 }
 
@@ -60,9 +62,10 @@ now frame = record { number = None; frame = frame }
 abbrev pub with : ℕ → Frame → Request
 with k frame = record { number = Some k; frame = frame }
 
--- a SCSI Command whose tag is not live
-abbrev pub HasFreeTag : Past → Frame → Type 0
-HasFreeTag past frame = is_command frame ≡ true → is_in (initiator_task_tag frame.header) (map (tag_of past.came) (unfinished past)) ≡ false
+-- the tag of a SCSI Command, or of a Task Management Function Request, is not live
+pub record HasFreeTag (past : Past) (frame : Frame) : Type 0 where
+  pub command : is_command frame ≡ true → is_in (initiator_task_tag frame.header) (map (tag_of past.came) (unfinished past)) ≡ false
+  pub function : is_function frame ≡ true → is_in (initiator_task_tag frame.header) (map (tag_of past.came) (functions past)) ≡ false
 
 pub frames_same : (past : Past) (x : Request) (names : List ℕ) → Below past names → frames_of (past.came ++ x ∷ []) names ≡ frames_of past.came names
 frames_same past x names below = map_cong _ _ names (λ i d lt. ap (λ (r : Request). r.frame) (request_before past.came x _ (below i d lt)))
@@ -149,6 +152,9 @@ module _ (past : Past) (lawful : IsLawful past) where
   pub finished_below : Below past past.finished
   finished_below = λ i d lt. below_of (length past.came) _ past.acted lawful.below (lawful.acted i d lt)
 
+  pub removed_below : Below past past.removed
+  removed_below = subst (Below past) (sym lawful.none_removed) (All-nil (λ k. k < length past.came))
+
   pub due_is : due past ≡ left past.acted (taken past.came)
   unfolding due
   due_is = left_none past.removed _ lawful.none_removed
@@ -188,6 +194,33 @@ module _ (past : Past) (lawful : IsLawful past) where
   due_below = λ i d lt. below_of (length past.came) _ (taken past.came) (taken_below past.came)
       (in_left _ past.acted (taken past.came) (ap (λ (l : List ℕ). is_in (get_or (due past) i d) l) (sym due_is) ∙ in_at (due past) i d lt))
 
+  pub functions_joined : (x : Request) → functions (joined x past) ≡ functions past ++ cond (is_function x.frame) (length past.came ∷ []) []
+  unfolding functions
+  functions_joined x = kept_joined _ is_function past x refl finished_below removed_below
+
+  functions_below : Below past (functions past)
+  unfolding functions
+  functions_below = below_kept is_function past
+
+  function_tags_joined : (x : Request) → HasFreeTag past x.frame → AreDistinct (map (tag_of (past.came ++ x ∷ [])) (functions (joined x past)))
+  function_tags_joined x free =
+      subst (λ (l : List ℕ). AreDistinct (map (tag_of (past.came ++ x ∷ [])) l)) (sym (functions_joined x))
+      (tags_with _ past x (functions past) functions_below lawful.function_tags free.function)
+
+  -- what is remembered of them
+  pub functions_of_joined : (x : Request) → functions_of (joined x past) ≡ functions_of past ++ cond (is_function x.frame) (x.frame.header ∷ []) []
+  unfolding functions_of
+  functions_of_joined x =
+      ap (map (λ k. (frame_of (past.came ++ x ∷ []) k).header)) (functions_joined x)
+      ∙ map-append (λ k. (frame_of (past.came ++ x ∷ []) k).header) (functions past) (cond (is_function x.frame) (length past.came ∷ []) [])
+      ∙ ap (λ (l : List (List ℕ)). l ++ map (λ k. (frame_of (past.came ++ x ∷ []) k).header) (cond (is_function x.frame) (length past.came ∷ []) []))
+      (map_cong _ _ (functions past) (λ i d lt. ap (λ (r : Request). r.frame.header) (request_before past.came x _ (functions_below i d lt))))
+      ∙ ap (λ (l : List (List ℕ)). functions_of past ++ l) (new_header (is_function x.frame))
+    where
+      new_header : (c : Bool) → map (λ k. (frame_of (past.came ++ x ∷ []) k).header) (cond c (length past.came ∷ []) []) ≡ cond c (x.frame.header ∷ []) []
+      new_header true = ap (λ (r : Request). r.frame.header ∷ []) (request_new past.came x)
+      new_header false = refl
+
   -- ---- it stays lawful
 
   lawful_joined : (x : Request) → windows.IsLawful (numbers (joined x past)) → AreDistinct (numbered (past.came ++ x ∷ [])) → IsDelivered x
@@ -212,7 +245,8 @@ module _ (past : Past) (lawful : IsLawful past) where
             in omega (arith, same, lawful.handed, handed_is past, handed_is (joined x past), more));
         fed = λ i d lt. (let le = lawful.fed i d lt in omega (arith, length-append past.came (x ∷ [])));
         asked = λ i d lt. (let le = lawful.asked i d lt in omega (arith, length-append past.came (x ∷ [])));
-        tags = tags_joined (is_command x.frame) past x refl lawful.none_removed finished_below lawful.tags free;
+        tags = tags_joined (is_command x.frame) past x refl finished_below removed_below lawful.tags free.command;
+        function_tags = function_tags_joined x free;
         none_removed = lawful.none_removed;
       }
 

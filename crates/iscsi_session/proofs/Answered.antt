@@ -1,5 +1,5 @@
 -- What a request is answered, by its opcode, and what its act leaves of the session.
-use Rattle.std.proofs.Common.{◌≡◌, ◌≢◌, inl, inr, ℕ, min, List, [], ◌∷◌, ◌++◌, length, take, drop, Bool, true, false, cond, ◌==◌, eqb, refl, sym, ap, ◌∙◌, subst, arith, append-nil}
+use Rattle.std.proofs.Common.{◌≡◌, ◌≢◌, inl, inr, ℕ, min, List, [], ◌∷◌, ◌++◌, length, map, take, drop, Bool, true, false, cond, ◌==◌, eqb, refl, sym, ap, ◌∙◌, subst, arith, append-nil}
 use Rattle.std.specs.Prelude.{◌⊎◌, flat_map, Option, Some, None}
 use Rattle.std.proofs.lemmas.Bool.{eqb-true, false_from_ne_true}
 use Rattle.std.proofs.lemmas.List.{take_min}
@@ -18,8 +18,10 @@ use Rattle.iscsi_pdu.specs.declared.stamp.Stamp.{Stamp}
 use Rattle.iscsi_login.specs.declared.params.Params.{Params}
 use Rattle.iscsi_login.specs.declared.values.Values.{Values}
 use Rattle.iscsi_session.specs.Judging.{reserved_tag, reject}
-use Rattle.iscsi_session.specs.Requests.{Past, frame_of, frames_of, is_command, due, queue, finished, moved, bears_status, bearing, stamp, answering}
-use Rattle.iscsi_session.specs.State.{SessionState, TaskLists, TransferList, Stands, one_fewer, removed_at, place_for}
+use Rattle.iscsi_session.specs.Requests.{Past, frame_of, frames_of, is_in, left, is_command, is_function, functions, due, queue, finished, moved, bears_status, bearing, stamp, answering}
+use Rattle.iscsi_session.specs.State.{SessionState, TaskLists, TransferList, IsLawful, Stands, functions_of, one_fewer, removed_at, place_for, function_place, function_removed}
+use Rattle.iscsi_session.specs.Transfers.{tag_of}
+use Rattle.iscsi_session.specs.Functions.{function_answer}
 use Rattle.iscsi_session.specs.declared.act.Act.{Act}
 use Rattle.iscsi_session.specs.declared.act.Act.TheVariants.{Idle, Taken, Ended}
 use Rattle.iscsi_session.specs.Acts.{acted, act_answers, act_by, acted_by, answers_by, act_answers_by, ends, ends_by, closes, logout_response, logout_answer, ping_answers}
@@ -28,8 +30,10 @@ use Rattle.iscsi_exchange.specs.Exchange.{TextPiece, ToldState, hears}
 use Rattle.iscsi_session.specs.Texts.{is_text, exchange_behind, exchange_of, text_answer}
 use Rattle.iscsi_session.proofs.Exchanging.{exchange_acted, exchange_other, exchange_text, exchange_finished, text_kind, not_text}
 use Rattle.iscsi_session.proofs.Parts.{parts, due_is, queue_is, stands_tasks, stands_parts}
-use Rattle.iscsi_session.proofs.Feeding.{removed_is}
-use Rattle.iscsi_session.proofs.Moved.{lawful_command, tasks_command, transfers_command, lawful_other, tasks_other, transfers_other, lawful_finished, tasks_finished}
+use Rattle.iscsi_session.proofs.Kept.{function_no_command}
+use Rattle.iscsi_session.proofs.Places.{Located, found_self, remove_map}
+use Rattle.iscsi_session.proofs.Feeding.{removed_is, headers_are, function_located}
+use Rattle.iscsi_session.proofs.Moved.{lawful_command, tasks_command, transfers_command, functions_command, lawful_other, tasks_other, transfers_other, functions_acted, functions_kept, functions_left, functions_distinct, functions_of_finished, due_function, lawful_finished, tasks_finished}
 
 -- ---- a request is counted as acted
 
@@ -92,6 +96,23 @@ no_text_by false false false false false true g n is = cc
 no_text_by false false false false false false true n is = cc
 no_text_by false false false false false false false n is = cc
 
+no_function_by : (a b c d e f g : Bool) (n : ℕ)
+    → cond a opcodes.NopOut (cond b opcodes.ScsiCommand (cond c opcodes.Login (cond d opcodes.Text (cond e opcodes.DataOut
+    (cond f opcodes.Logout (cond g opcodes.Snack (opcodes.Other n))))))) ≡ opcodes.TaskManagement → ⊥
+no_function_by true b c d e f g n is = cc
+no_function_by false true c d e f g n is = cc
+no_function_by false false true d e f g n is = cc
+no_function_by false false false true e f g n is = cc
+no_function_by false false false false true f g n is = cc
+no_function_by false false false false false true g n is = cc
+no_function_by false false false false false false true n is = cc
+no_function_by false false false false false false false n is = cc
+
+is_no_function : (frame : Frame) → is_function frame ≡ false → kind_of frame ≡ opcodes.TaskManagement → ⊥
+is_no_function frame no_function e =
+    let n = opcode_number frame.header in
+    no_function_by (n == 0x00) (n == 0x01) (n == 0x03) (n == 0x04) (n == 0x05) (n == 0x06) (n == 0x10) n (rw no_function at e)
+
 is_no_text : (frame : Frame) → is_text frame ≡ false → kind_of frame ≡ opcodes.Text → ⊥
 is_no_text frame no_text e =
     let n = opcode_number frame.header in
@@ -100,18 +121,18 @@ is_no_text frame no_text e =
 -- no request of any other kind is answered, and none ends the session
 abbrev pub IsOther : Opcode → Type 0
 IsOther o =
-    (o ≡ opcodes.ScsiCommand) ⊎ ((o ≡ opcodes.TaskManagement) ⊎ ((o ≡ opcodes.Login) ⊎ ((o ≡ opcodes.Text)
+    (o ≡ opcodes.ScsiCommand) ⊎ ((o ≡ opcodes.TaskManagement) ⊎ ((o ≡ opcodes.Text) ⊎ ((o ≡ opcodes.Login)
     ⊎ ((o ≡ opcodes.DataOut) ⊎ ((o ≡ opcodes.Snack) ⊎ ((n : ℕ) × (o ≡ opcodes.Other n)))))))
 
 other_answers : (o : Opcode) (exchange : ExchangeState) (numbers_now : Stamp) (params : Params) (frame : Frame) → IsOther o → o ≢ opcodes.Text
-    → act_answers_by o exchange numbers_now params frame ≡ []
-other_answers o exchange numbers_now params frame (inl e) no_text = rw e refl
-other_answers o exchange numbers_now params frame (inr (inl e)) no_text = rw e refl
-other_answers o exchange numbers_now params frame (inr (inr (inl e))) no_text = rw e refl
-other_answers o exchange numbers_now params frame (inr (inr (inr (inl e)))) no_text = absurd (no_text e)
-other_answers o exchange numbers_now params frame (inr (inr (inr (inr (inl e))))) no_text = rw e refl
-other_answers o exchange numbers_now params frame (inr (inr (inr (inr (inr (inl e)))))) no_text = rw e refl
-other_answers o exchange numbers_now params frame (inr (inr (inr (inr (inr (inr (n, e))))))) no_text = rw e refl
+    → o ≢ opcodes.TaskManagement → act_answers_by o exchange numbers_now params frame ≡ []
+other_answers o exchange numbers_now params frame (inl e) no_text no_function = rw e refl
+other_answers o exchange numbers_now params frame (inr (inl e)) no_text no_function = absurd (no_function e)
+other_answers o exchange numbers_now params frame (inr (inr (inl e))) no_text no_function = absurd (no_text e)
+other_answers o exchange numbers_now params frame (inr (inr (inr (inl e)))) no_text no_function = rw e refl
+other_answers o exchange numbers_now params frame (inr (inr (inr (inr (inl e))))) no_text no_function = rw e refl
+other_answers o exchange numbers_now params frame (inr (inr (inr (inr (inr (inl e)))))) no_text no_function = rw e refl
+other_answers o exchange numbers_now params frame (inr (inr (inr (inr (inr (inr (n, e))))))) no_text no_function = rw e refl
 
 other_ends : (o : Opcode) (params : Params) (frame : Frame) → IsOther o → ends_by o params frame ≡ false
 other_ends o params frame (inl e) = rw e refl
@@ -122,11 +143,26 @@ other_ends o params frame (inr (inr (inr (inr (inl e))))) = rw e refl
 other_ends o params frame (inr (inr (inr (inr (inr (inl e)))))) = rw e refl
 other_ends o params frame (inr (inr (inr (inr (inr (inr (n, e))))))) = rw e refl
 
-pub other_is : (k : ℕ) (past : Past) → IsOther (kind_of (frame_of past.came k)) → is_text (frame_of past.came k) ≡ false → act_answers k past ≡ []
+pub other_is : (k : ℕ) (past : Past) → IsOther (kind_of (frame_of past.came k)) → is_text (frame_of past.came k) ≡ false
+    → is_function (frame_of past.came k) ≡ false → act_answers k past ≡ []
 unfolding act_answers
-other_is k past is no_text =
+other_is k past is no_text no_function =
     other_answers (kind_of (frame_of past.came k)) (exchange_of past) (stamp (moved k past)) past.params (frame_of past.came k) is
-    (λ e. is_no_text (frame_of past.came k) no_text e)
+    (λ e. is_no_text (frame_of past.came k) no_text e) (λ e. is_no_function (frame_of past.came k) no_function e)
+
+function_kind : (frame : Frame) → is_function frame ≡ true → kind_of frame ≡ opcodes.TaskManagement
+function_kind frame e = ap opcode_of (eqb-true (opcode_number frame.header) 0x02 e)
+
+pub function_is : (k : ℕ) (past : Past) → is_function (frame_of past.came k) ≡ true
+    → act_answers k past ≡ function_answer (stamp (moved k past)) (frame_of past.came k) ∷ []
+unfolding act_answers
+function_is k past e =
+    ap (λ (o : Opcode). act_answers_by o (exchange_of past) (stamp (moved k past)) past.params (frame_of past.came k))
+    (function_kind (frame_of past.came k) e)
+
+pub function_act : (k : ℕ) (past : Past) → is_function (frame_of past.came k) ≡ true → Taken ≡ cond (ends past.params (frame_of past.came k)) Ended Taken
+unfolding ends
+function_act k past e = ap (λ (o : Opcode). cond (ends_by o past.params (frame_of past.came k)) Ended Taken) (sym (function_kind (frame_of past.came k) e))
 
 pub text_is : (k : ℕ) (past : Past) → is_text (frame_of past.came k) ≡ true
     → act_answers k past ≡ text_answer (stamp (moved k past)) (hears (exchange_of past) (frame_of past.came k) past.params).piece (frame_of past.came k) ∷ []
@@ -217,6 +253,12 @@ pub first_due : (past : Past) (state : SessionState) (k : ℕ) (rest : List ℕ)
     → state.tasks.due ≡ frame_of past.came k ∷ frames_of past.came rest
 first_due past state k rest s is = due_is past state s ∙ ap (frames_of past.came) is
 
+function_no_text : (frame : Frame) → is_function frame ≡ true → is_text frame ≡ false
+function_no_text frame e = not_text frame opcodes.TaskManagement (function_kind frame e) (λ x. absurd cc)
+
+text_no_function : (frame : Frame) → is_text frame ≡ true → is_function frame ≡ false
+text_no_function frame e = false_from_ne_true (is_function frame) (λ h. absurd (let no = sym (function_no_text frame h) ∙ e in cc))
+
 command_no_text : (frame : Frame) → is_command frame ≡ true → is_text frame ≡ false
 command_no_text frame e = not_text frame opcodes.ScsiCommand (ap opcode_of (eqb-true (opcode_number frame.header) 0x01 e)) (λ x. absurd cc)
 
@@ -231,7 +273,7 @@ stands_command past state k rest s is e =
     (record state { tasks = record state.tasks { due = frames_of past.came rest; queue = state.tasks.queue ++ frame_of past.came k ∷ [] } })) same
     (stands_tasks past after state _ s (lawful_command past s.lawful k rest is e) refl refl
     (ap (λ (t : TaskLists). record t { due = frames_of past.came rest; queue = t.queue ++ frame_of past.came k ∷ [] }) (parts past state s).tasks_is
-    ∙ tasks_command past s.lawful k rest is e) (transfers_command past s.lawful k rest is)
+    ∙ tasks_command past s.lawful k rest is e) (transfers_command past s.lawful k rest is) (functions_command past s.lawful k rest is)
     (exchange_acted past after k refl refl refl ∙ exchange_other past.params (exchange_of past) (frame_of past.came k) (command_no_text (frame_of past.came k) e)))
 
 pub stands_queued : (past : Past) (state : SessionState) (k : ℕ) (rest : List ℕ) (frame : Frame) (others : List Frame) (tasks : TaskLists)
@@ -240,26 +282,34 @@ pub stands_queued : (past : Past) (state : SessionState) (k : ℕ) (rest : List 
     → tasks ≡ record state.tasks { due = others; queue = state.tasks.queue ++ frame ∷ [] } → Stands (acted k past) (record state { tasks = tasks })
 stands_queued past state k rest frame others tasks s is e here left same = rw (same, here, left) (stands_command past state k rest s is e)
 
-pub stands_other : (past : Past) (state : SessionState) (k : ℕ) (rest : List ℕ) → Stands past state → due past ≡ k ∷ rest
-    → is_command (frame_of past.came k) ≡ false
+pub stands_other : (past : Past) (state : SessionState) (k : ℕ) (rest : List ℕ) (headers : List (List ℕ)) → Stands past state → due past ≡ k ∷ rest
+    → is_command (frame_of past.came k) ≡ false → headers ≡ functions_of (finished k past)
     → Stands (moved k past) (record state {
       tasks = one_fewer (frame_of past.came k) (record state.tasks { due = drop 1 state.tasks.due });
+      functions = headers;
       exchange = exchange_behind past.params (exchange_of past) (frame_of past.came k);
     })
-stands_other past state k rest s is e =
+stands_other past state k rest headers s is e left_over =
     let after : Past = record past { acted = past.acted ++ k ∷ []; finished = past.finished ++ k ∷ [] } in
     let dropped : drop 1 state.tasks.due ≡ frames_of past.came rest = ap (drop 1) (first_due past state k rest s is) in
     subst (λ (p : Past). Stands p (record state {
       tasks = one_fewer (frame_of past.came k) (record state.tasks { due = drop 1 state.tasks.due });
+      functions = headers;
       exchange = exchange_behind past.params (exchange_of past) (frame_of past.came k);
     }))
     (moved_other k past e)
-    (stands_parts past after state _ state.transfers _ s (lawful_other past s.lawful k rest is e) refl refl
+    (stands_parts past after state _ state.transfers headers _ s (lawful_other past s.lawful k rest is e) refl refl
     (ap (λ (l : List Frame). one_fewer (frame_of past.came k) (record state.tasks { due = l })) dropped
     ∙ ap (λ (t : TaskLists). one_fewer (frame_of past.came k) (record t { due = frames_of past.came rest })) (parts past state s).tasks_is
     ∙ tasks_other past s.lawful k rest is e)
     ((parts past state s).transfers_is ∙ sym (transfers_other past s.lawful k rest is e))
+    (left_over ∙ functions_acted past s.lawful k rest is)
     (sym (exchange_acted past after k refl refl refl)))
+
+-- of another kind
+same_functions : (past : Past) (state : SessionState) (k : ℕ) → Stands past state → is_function (frame_of past.came k) ≡ false
+    → state.functions ≡ functions_of (finished k past)
+same_functions past state k s e = (parts past state s).functions_is ∙ sym (functions_kept past k e)
 
 pub same_head : (a b : Frame) (x y l : List Frame) → l ≡ a ∷ x → l ≡ b ∷ y → a ≡ b
 same_head a b x y l p q = let both : a ∷ x ≡ b ∷ y = sym p ∙ q in cc
@@ -267,19 +317,56 @@ same_head a b x y l p q = let both : a ∷ x ≡ b ∷ y = sym p ∙ q in cc
 -- the first that is due is finished, in the code
 pub finished_here : (past : Past) (state : SessionState) (k : ℕ) (rest : List ℕ) (frame : Frame) (tasks : TaskLists) → Stands past state
     → due past ≡ k ∷ rest → is_command (frame_of past.came k) ≡ false → is_text (frame_of past.came k) ≡ false
+    → is_function (frame_of past.came k) ≡ false
     → state.tasks.due ≡ frame ∷ drop 1 state.tasks.due → tasks ≡ one_fewer frame (record state.tasks { due = drop 1 state.tasks.due })
     → (frame ≡ frame_of past.came k) × Stands (moved k past) (record state { tasks = tasks })
-finished_here past state k rest frame tasks s is e no_text some same =
+finished_here past state k rest frame tasks s is e no_text no_function some same =
     let here = same_head frame (frame_of past.came k) (drop 1 state.tasks.due) (frames_of past.came rest) state.tasks.due some
     (first_due past state k rest s is) in
     let kept : state.exchange ≡ exchange_behind past.params (exchange_of past) (frame_of past.came k) = (parts past state s).exchange_is
-    ∙ sym (exchange_other past.params (exchange_of past) (frame_of past.came k) no_text) in (
-      here,
-      rw (same, here) (subst (λ (x : ExchangeState). Stands (moved k past) (record state {
-        tasks = one_fewer (frame_of past.came k) (record state.tasks { due = drop 1 state.tasks.due });
-        exchange = x;
-      })) (sym kept) (stands_other past state k rest s is e)),
-    )
+    ∙ sym (exchange_other past.params (exchange_of past) (frame_of past.came k) no_text) in
+    (here, rw (same, here) (subst (λ (x : ExchangeState). Stands (moved k past) (record state {
+      tasks = one_fewer (frame_of past.came k) (record state.tasks { due = drop 1 state.tasks.due });
+      exchange = x;
+    })) (sym kept) (stands_other past state k rest state.functions s is e (same_functions past state k s no_function))))
+
+-- where it stands among the functions
+function_at : (past : Past) (k : ℕ) (at : Option ℕ) → IsLawful past → is_in k (functions past) ≡ true
+    → Located (λ header. initiator_task_tag header == tag_of past.came k) (λ a. (frame_of past.came a).header) (functions past) at
+    → function_removed (map (λ a. (frame_of past.came a).header) (functions past)) at
+    ≡ map (λ a. (frame_of past.came a).header) (left (k ∷ []) (functions past))
+function_at past k None lawful there found =
+    absurd (let no = sym (found_self (tag_of past.came) k (functions past) lawful.function_tags there) ∙ found in cc)
+function_at past k (Some i) lawful there found =
+    let both : Some found.0 ≡ Some k = sym found.1 ∙ found_self (tag_of past.came) k (functions past) lawful.function_tags there in
+    let same : found.0 ≡ k = cc in
+    remove_map (λ a. (frame_of past.came a).header) (functions past) i k (functions_distinct past) (found.2 ∙ ap (λ (n : ℕ). Some n) same)
+
+function_gone : (past : Past) (state : SessionState) (k : ℕ) → Stands past state → is_in k (functions past) ≡ true
+    → function_removed state.functions (function_place (tag_of past.came k) state.functions) ≡ functions_of (finished k past)
+function_gone past state k s there =
+    ap (λ (l : List (List ℕ)). function_removed l (function_place (tag_of past.came k) l)) (headers_are past state s)
+    ∙ function_at past k _ s.lawful there (function_located past (tag_of past.came k)) ∙ functions_left past k
+
+-- a Task Management Function Request is finished, in the code
+pub function_here : (past : Past) (state : SessionState) (k : ℕ) (rest : List ℕ) (frame : Frame) (tasks : TaskLists) (headers : List (List ℕ))
+    → Stands past state → due past ≡ k ∷ rest → is_function (frame_of past.came k) ≡ true
+    → state.tasks.due ≡ frame ∷ drop 1 state.tasks.due → tasks ≡ one_fewer frame (record state.tasks { due = drop 1 state.tasks.due })
+    → headers ≡ function_removed state.functions (function_place (initiator_task_tag frame.header) state.functions)
+    → (frame ≡ frame_of past.came k) × Stands (moved k past) (record state { tasks = tasks; functions = headers })
+function_here past state k rest frame tasks headers s is e some same gone =
+    let f = frame_of past.came k in
+    let here = same_head frame f (drop 1 state.tasks.due) (frames_of past.came rest) state.tasks.due some (first_due past state k rest s is) in
+    let kept : state.exchange ≡ exchange_behind past.params (exchange_of past) f = (parts past state s).exchange_is
+    ∙ sym (exchange_other past.params (exchange_of past) f (function_no_text f e)) in
+    let left_over : headers ≡ functions_of (finished k past) = gone
+    ∙ ap (λ (g : Frame). function_removed state.functions (function_place (initiator_task_tag g.header) state.functions)) here
+    ∙ function_gone past state k s (due_function past s.lawful k rest is e) in
+    (here, rw (same, here) (subst (λ (x : ExchangeState). Stands (moved k past) (record state {
+      tasks = one_fewer f (record state.tasks { due = drop 1 state.tasks.due });
+      functions = headers;
+      exchange = x;
+    })) (sym kept) (stands_other past state k rest headers s is (function_no_command f e) left_over)))
 
 -- a Text is finished, and its exchange goes on or is over
 pub text_here : (past : Past) (state : SessionState) (k : ℕ) (rest : List ℕ) (frame : Frame) (tasks : TaskLists) (told : ToldState) → Stands past state
@@ -297,7 +384,8 @@ text_here past state k rest frame tasks told s is e some same hears_so =
     let next : told.exchange ≡ exchange_behind past.params (exchange_of past) f = ap (λ (t : ToldState). t.exchange) heard
     ∙ sym (exchange_text past.params (exchange_of past) f e) in
     let no_command : is_command f ≡ false = false_from_ne_true (is_command f) (λ c. absurd (let no = sym (command_no_text f c) ∙ e in cc)) in
-    (here, heard, rw (same, here, next) (stands_other past state k rest s is no_command))
+    let no_function : is_function f ≡ false = text_no_function f e in
+    (here, heard, rw (same, here, next) (stands_other past state k rest state.functions s is no_command (same_functions past state k s no_function)))
 
 pub ping_act : (k : ℕ) (past : Past) → kind_of (frame_of past.came k) ≡ opcodes.NopOut → Taken ≡ cond (ends past.params (frame_of past.came k)) Ended Taken
 ping_act k past is = ap (λ (b : Bool). cond b Ended Taken) (sym (ping_goes_on past.params (frame_of past.came k) is))
@@ -319,6 +407,10 @@ ping_same k past frame same kind = ap (ping_answers (stamp (moved k past)) (move
 pub logout_same : (k : ℕ) (past : Past) (frame : Frame) → frame ≡ frame_of past.came k → kind_of (frame_of past.came k) ≡ opcodes.Logout
     → logout_answer (stamp (moved k past)) (moved k past).params frame ∷ [] ≡ act_answers k past
 logout_same k past frame same kind = ap (λ (f : Frame). logout_answer (stamp (moved k past)) (moved k past).params f ∷ []) same ∙ sym (logout_is k past kind)
+
+pub function_same : (k : ℕ) (past : Past) (frame : Frame) → frame ≡ frame_of past.came k → is_function (frame_of past.came k) ≡ true
+    → function_answer (stamp (moved k past)) frame ∷ [] ≡ act_answers k past
+function_same k past frame same e = ap (λ (f : Frame). function_answer (stamp (moved k past)) f ∷ []) same ∙ sym (function_is k past e)
 
 pub text_same : (k : ℕ) (past : Past) (frame : Frame) (told : ToldState) → frame ≡ frame_of past.came k
     → told ≡ hears (exchange_of past) (frame_of past.came k) past.params → is_text (frame_of past.came k) ≡ true
@@ -404,13 +496,14 @@ done_here past state k rest frame tasks transfers s is some same gone =
     let first : state.tasks.queue ≡ frame_of past.came k ∷ frames_of past.came rest = queue_is past state s ∙ ap (frames_of past.came) is in
     let here = same_head frame (frame_of past.came k) (drop 1 state.tasks.queue) (frames_of past.came rest) state.tasks.queue some first in (
       here,
-      stands_parts past (finished k past) state tasks transfers state.exchange s (lawful_finished past s.lawful k rest is) refl refl
+      stands_parts past (finished k past) state tasks transfers state.functions state.exchange s (lawful_finished past s.lawful k rest is) refl refl
           (same ∙ ap (λ (l : List Frame). one_fewer frame (record state.tasks { queue = l })) (ap (drop 1) first)
           ∙ ap (λ (f : Frame). one_fewer f (record state.tasks { queue = frames_of past.came rest })) here
           ∙ ap (λ (t : TaskLists). one_fewer (frame_of past.came k) (record t { queue = frames_of past.came rest })) (parts past state s).tasks_is
           ∙ tasks_finished past s.lawful k rest is)
           (gone ∙ ap (λ (f : Frame). record state.transfers { list = removed_at state.transfers.list (place_for f state.transfers.list) }) here
-          ∙ removed_is past state k rest s is) ((parts past state s).exchange_is ∙ sym (exchange_finished k past)),
+          ∙ removed_is past state k rest s is)
+          ((parts past state s).functions_is ∙ sym (functions_of_finished past s.lawful k rest is)) ((parts past state s).exchange_is ∙ sym (exchange_finished k past)),
     )
 
 logout_by : (a b c : Bool) (w x y z : Answer) → a ≡ false → b ≡ false → c ≡ false → cond a w (cond b x (cond c y z)) ≡ z

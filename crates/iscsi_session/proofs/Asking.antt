@@ -10,9 +10,9 @@ use Rattle.iscsi_pdu.specs.declared.stamp.Stamp.{Stamp}
 use Rattle.iscsi_transfer.specs.Task.{TaskState, remembered as task_of}
 use Rattle.iscsi_transfer.proofs.Standing.{remembered-asked}
 use Rattle.iscsi_session.specs.declared.transfers.Transfer.{Transfer}
-use Rattle.iscsi_session.specs.Requests.{Past, SentR2t, frame_of, is_in, due, queue, unfinished, stamp, statuses, bearing}
+use Rattle.iscsi_session.specs.Requests.{Past, SentR2t, frame_of, is_in, due, queue, unfinished, stamp, statuses, bearing, functions}
 use Rattle.iscsi_session.specs.Transfers.{outs_of, tags_of, last_tag, data_past, task_at, is_whole_of, ask_of, asking, next_transfer_tag, r2t_for, r2t_answers, r2t_of, asked, asked_by, r2ts_by}
-use Rattle.iscsi_session.specs.State.{SessionState, TransferList, IsLawful, Stands, tasks_of, transfers_of, transfer_of, transfer_at, no_transfer, due_of, asking_place, r2t_at, asked_at, sent_to}
+use Rattle.iscsi_session.specs.State.{SessionState, TransferList, IsLawful, Stands, tasks_of, transfers_of, transfer_of, transfer_at, no_transfer, due_of, asking_place, r2t_at, asked_at, sent_to, functions_of}
 use Rattle.iscsi_session.specs.Steps.{ready, ready_in}
 use Rattle.iscsi_order.specs.Stat.{stat_sn}
 use Rattle.iscsi_session.proofs.Left.{in_at, in_filter}
@@ -125,6 +125,10 @@ lawful_asked past k lt lawful =
     lawful_data past past.data_outs (past.r2ts ++ sent_now past k ∷ []) (past.answers ++ r2t_of past k) lawful lawful.fed
     (All-push (λ (r : SentR2t). r.command < length past.came) past.r2ts (sent_now past k) lawful.asked lt)
 
+functions_asked : (past : Past) (k : ℕ) → functions_of past ≡ functions_of (asked k past)
+unfolding functions_of functions
+functions_asked past k = refl
+
 stands_one : (past : Past) (state : SessionState) (k i : ℕ) (others : List ℕ) → Stands past state → asking past ≡ k ∷ others
     → slice_get (unfinished past) i ≡ Some k → Stands (asked k past) (record state { transfers = asked_at state.transfers (Some i) })
 stands_one past state k i others s is at =
@@ -134,7 +138,11 @@ stands_one past state k i others s is at =
     let transfers_is : asked_at state.transfers (Some i) ≡ transfers_of (asked k past) =
     ap (λ (t : TransferList). asked_at t (Some i)) p.transfers_is ∙ asked_transfers past k i at in
     let exchange_is = p.exchange_is ∙ sym (exchange_asked k past) in
-    record { lawful = lawful_asked past k (asking_came past k others is) s.lawful; remembered = rw (p.params_is, stat_is, tasks_is, transfers_is, exchange_is) refl }
+    let functions_is = p.functions_is ∙ functions_asked past k in
+    record {
+      lawful = lawful_asked past k (asking_came past k others is) s.lawful;
+      remembered = rw (p.params_is, stat_is, tasks_is, transfers_is, functions_is, exchange_is) refl;
+    }
 
 stands_place : (past : Past) (state : SessionState) (at : Option ℕ) → Stands past state
     → Located (λ transfer. is_some (due_of transfer)) (transfer_of past) (unfinished past) at

@@ -15,7 +15,7 @@ use Rattle.iscsi_exchange.specs.Exchange.{hears}
 use Rattle.iscsi_session.specs.Requests.{Request, Past, frame_of, frames_of, finished, answering}
 use Rattle.iscsi_session.specs.Transfers.{fed, asked}
 use Rattle.iscsi_session.specs.Texts.{is_text, exchange_behind, exchange_of}
-use Rattle.iscsi_session.proofs.Unfinished.{joined, Below}
+use Rattle.iscsi_session.proofs.Kept.{joined, Below}
 use Rattle.iscsi_session.proofs.Accepted.{frames_same}
 
 -- ---- what leaves it as it is

@@ -1,5 +1,5 @@
 -- The data of the commands: where each stands, what a Data-Out and an R2T make of it.
-use Rattle.std.proofs.Common.{◌≡◌, ◌≢◌, ◌==◌, ℕ, ◌<◌, List, [], ◌∷◌, ◌++◌, length, map, set, ltb, Bool, true, false, not, Option, Some, None, eqb, refl, sym, ap, ◌∙◌, arith, append-nil}
+use Rattle.std.proofs.Common.{◌≡◌, ◌≢◌, ◌==◌, ◌+◌, ◌||◌, ℕ, ◌<◌, List, [], ◌∷◌, ◌++◌, length, map, set, ltb, Bool, true, false, not, Option, Some, None, eqb, refl, sym, ap, ◌∙◌, arith, append-nil}
 use Rattle.std.specs.Prelude.{filter, find, is_some, slice_get, if◌then◌else◌}
 use Rattle.std.proofs.lemmas.Bool.{eq-eqb, ne_eqb}
 use Rattle.std.proofs.lemmas.List.Elements.{All-push}
@@ -9,15 +9,17 @@ use Rattle.iscsi_transfer.specs.Task.{TaskState, remembered as task_of, fault_of
 use Rattle.iscsi_transfer.proofs.Standing.{remembered-accepted}
 use Rattle.iscsi_session.specs.declared.transfers.Transfer.{Transfer}
 use Rattle.iscsi_session.specs.declared.verdict.Verdict.TheVariants.{Violating, Feeding}
-use Rattle.iscsi_session.specs.Requests.{Past, DataOut, frame_of, is_in, due, queue, unfinished, finished}
+use Rattle.iscsi_session.specs.Functions.{function_with, immediate_in}
+use Rattle.iscsi_session.specs.Requests.{Past, DataOut, is_command, is_function, functions, frame_of, is_in, due, queue, unfinished, finished}
 use Rattle.iscsi_session.specs.Judging.{is_live, is_full, data_verdict}
 use Rattle.iscsi_session.specs.Transfers.{tag_of, command_with, outs_of, tags_of, last_tag, data_past, task_at, payload_of, is_whole_of, fed}
-use Rattle.iscsi_session.specs.State.{SessionState, TransferList, IsLawful, Stands, tasks_of, transfers_of, transfer_of, no_transfer, bears, place_with, place_for, has_most, judged_at, fed_at, whole_at, payload_at, removed_at}
+use Rattle.iscsi_session.specs.State.{SessionState, TransferList, IsLawful, Stands, tasks_of, transfers_of, transfer_of, no_transfer, bears, place_with, place_for, immediate_transfers, functions_of, function_place, immediate_functions, judged_at, fed_at, whole_at, payload_at, removed_at}
 use Rattle.iscsi_session.proofs.Left.{in_at}
 use Rattle.iscsi_session.proofs.Places.{Located, located, index_map, set_map, remove_map, missing, found_or_not, found_self, count_map, or_known, one_more}
 use Rattle.iscsi_session.proofs.Unfinished.{unfinished_came, unfinished_distinct, queue_unfinished}
 use Rattle.iscsi_session.proofs.Moved.{transfers_finished}
 use Rattle.iscsi_session.proofs.Exchanging.{exchange_fed}
+use Rattle.iscsi_session.proofs.Accepted.{HasFreeTag}
 use Rattle.iscsi_session.proofs.Parts.{parts, stands_parts}
 use Rattle.iscsi_session.proofs.Runs.{lawful_data}
 
@@ -32,27 +34,79 @@ located_with past tag = located (bears tag) (transfer_of past) (unfinished past)
 
 -- ---- tags
 
-pub live_is : (past : Past) (state : SessionState) (tag : ℕ) → Stands past state → is_some (place_with tag state.transfers.list) ≡ is_live past tag
-live_is past state tag s =
+commands_live : (past : Past) (state : SessionState) (tag : ℕ) → Stands past state
+    → is_some (place_with tag state.transfers.list) ≡ is_some (command_with past tag)
+commands_live past state tag s =
     ap (λ (l : List Transfer). is_some (place_with tag l)) (list_is past state s)
     ∙ found_or_not (bears tag) (transfer_of past) (unfinished past) _ (located_with past tag)
 
-pub full_is : (past : Past) (state : SessionState) → Stands past state → has_most state.transfers.list ≡ is_full past
+header_of : Past → ℕ → List ℕ
+header_of past k = (frame_of past.came k).header
+
+pub headers_are : (past : Past) (state : SessionState) → Stands past state → state.functions ≡ map (λ k. (frame_of past.came k).header) (functions past)
+unfolding functions_of
+headers_are past state s = (parts past state s).functions_is
+
+-- where the function with a tag stands
+pub function_located : (past : Past) (tag : ℕ)
+    → Located (λ header. initiator_task_tag header == tag) (λ k. (frame_of past.came k).header) (functions past)
+    (function_place tag (map (λ k. (frame_of past.came k).header) (functions past)))
+function_located past tag = located (λ header. initiator_task_tag header == tag) (λ k. (frame_of past.came k).header) (functions past)
+
+functions_live : (past : Past) (state : SessionState) (tag : ℕ) → Stands past state
+    → is_some (function_place tag state.functions) ≡ is_some (function_with past tag)
+functions_live past state tag s =
+    ap (λ (l : List (List ℕ)). is_some (function_place tag l)) (headers_are past state s)
+    ∙ found_or_not (λ header. initiator_task_tag header == tag) (λ k. (frame_of past.came k).header) (functions past) _ (function_located past tag)
+
+pub live_is : (past : Past) (state : SessionState) (tag : ℕ) → Stands past state
+    → (is_some (place_with tag state.transfers.list) || is_some (function_place tag state.functions)) ≡ is_live past tag
+live_is past state tag s = rw (commands_live past state tag s, functions_live past state tag s) refl
+
+pub live_first : (a b c : Bool) → a ≡ true → (r : Bool) → r ≡ true → (a || b) ≡ c → r ≡ c
+live_first a b c e r h is = h ∙ sym (sym is ∙ ap (λ (x : Bool). x || b) e)
+
+pub live_second : {r : Bool} (a b : Bool) → {c : Bool} → a ≡ false → r ≡ b → (a || b) ≡ c → r ≡ c
+live_second a b e h is = h ∙ sym (ap (λ (x : Bool). x || b) e) ∙ is
+
+pub full_is : (past : Past) (state : SessionState) → Stands past state
+    → not (ltb (immediate_transfers state.transfers.list + immediate_functions state.functions) 8) ≡ is_full past
 full_is past state s =
-    ap has_most (list_is past state s)
-    ∙ ap (λ (n : ℕ). not (ltb n 8)) (count_map (λ transfer. is_immediate transfer.header) (transfer_of past) (unfinished past))
+    let a : immediate_transfers state.transfers.list ≡ immediate_in past (unfinished past) = ap immediate_transfers (list_is past state s)
+    ∙ count_map (λ transfer. is_immediate transfer.header) (transfer_of past) (unfinished past) in
+    let b : immediate_functions state.functions ≡ immediate_in past (functions past) = ap immediate_functions (headers_are past state s)
+    ∙ count_map is_immediate (λ k. (frame_of past.came k).header) (functions past) in
+    rw (a, b) refl
 
 pub none_by : {A : Type 0} (at : Option A) → is_some at ≡ false → at ≡ None
 none_by None e = refl
 none_by (Some k) e = absurd cc
 
-pub free_by_past : (past : Past) (tag : ℕ) → is_live past tag ≡ false → is_in tag (map (tag_of past.came) (unfinished past)) ≡ false
-free_by_past past tag e = missing (tag_of past.came) tag (unfinished past) (none_by (command_with past tag) e)
+pub or_front : (a b : Bool) → (a || b) ≡ false → a ≡ false
+or_front true b e = absurd cc
+or_front false b e = refl
 
+pub or_behind : (a b : Bool) → (a || b) ≡ false → b ≡ false
+or_behind true b e = absurd cc
+or_behind false b e = e
+
+pub free_by_past : (past : Past) (frame : Frame) → ((is_command frame || is_function frame) ≡ true → is_live past (initiator_task_tag frame.header) ≡ false)
+    → HasFreeTag past frame
+free_by_past past frame free =
+    let tag = initiator_task_tag frame.header in
+    record {
+      command = λ h. missing (tag_of past.came) tag (unfinished past)
+          (none_by (command_with past tag) (or_front _ (is_some (function_with past tag)) (free (ap (λ (b : Bool). b || is_function frame) h))));
+      function = λ h. missing (tag_of past.came) tag (functions past)
+          (none_by (function_with past tag) (or_behind (is_some (command_with past tag)) _ (free (or_known (is_command frame) (is_function frame) h))));
+    }
+
+-- nothing bears its tag
 pub free_tag : (past : Past) (state : SessionState) (frame : Frame) → Stands past state → place_for frame state.transfers.list ≡ None
-    → is_in (initiator_task_tag frame.header) (map (tag_of past.came) (unfinished past)) ≡ false
-free_tag past state frame s e =
-    free_by_past past (initiator_task_tag frame.header) (sym (live_is past state (initiator_task_tag frame.header) s) ∙ ap is_some e)
+    → function_place (initiator_task_tag frame.header) state.functions ≡ None → HasFreeTag past frame
+free_tag past state frame s e f =
+    let tag = initiator_task_tag frame.header in
+    free_by_past past frame (λ h. sym (live_is past state tag s) ∙ rw (e, f) refl)
 
 -- ---- a Data-Out is judged
 
@@ -160,14 +214,20 @@ unfolding tasks_of due queue
 fed_tasks past frame None = refl
 fed_tasks past frame (Some k) = refl
 
+fed_functions : (past : Past) (frame : Frame) (c : Option ℕ) → functions_of past ≡ functions_of (fed c frame past)
+unfolding functions_of functions
+fed_functions past frame None = refl
+fed_functions past frame (Some k) = refl
+
 pub stands_fed : (past : Past) (state : SessionState) (frame : Frame) → Stands past state
     → Stands (fed (command_with past (initiator_task_tag frame.header)) frame past)
     (record state { transfers = record state.transfers { list = fed_at state.transfers.list frame (place_for frame state.transfers.list) } })
 stands_fed past state frame s =
     let c = command_with past (initiator_task_tag frame.header) in
     let same = fed_same past frame c in
-    stands_parts past (fed c frame past) state state.tasks _ state.exchange s (lawful_fed past frame s.lawful) same.0 same.1
-    ((parts past state s).tasks_is ∙ fed_tasks past frame c) (fed_is past state frame s) ((parts past state s).exchange_is ∙ sym (exchange_fed c frame past))
+    stands_parts past (fed c frame past) state state.tasks _ state.functions state.exchange s (lawful_fed past frame s.lawful) same.0 same.1
+    ((parts past state s).tasks_is ∙ fed_tasks past frame c) (fed_is past state frame s) ((parts past state s).functions_is ∙ fed_functions past frame c)
+    ((parts past state s).exchange_is ∙ sym (exchange_fed c frame past))
 
 -- ---- a command of the queue
 
@@ -187,7 +247,7 @@ place_self past k lawful there = located_self past k _ lawful there (located_wit
 -- the first of the queue is not finished
 pub first_unfinished : (past : Past) (k : ℕ) (rest : List ℕ) → IsLawful past → queue past ≡ k ∷ rest → is_in k (unfinished past) ≡ true
 first_unfinished past k rest lawful is =
-    queue_unfinished past k lawful.none_removed lawful.below (ap (λ (l : List ℕ). is_in k l) is ∙ in_at (k ∷ rest) 0 0 (omega arith))
+    queue_unfinished past k lawful.below (ap (λ (l : List ℕ). is_in k l) is ∙ in_at (k ∷ rest) 0 0 (omega arith))
 
 pub whole_is : (past : Past) (state : SessionState) (k : ℕ) → Stands past state → is_in k (unfinished past) ≡ true
     → whole_at state.transfers.list (place_for (frame_of past.came k) state.transfers.list) ≡ is_whole_of past k

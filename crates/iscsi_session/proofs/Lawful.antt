@@ -73,7 +73,7 @@ new_ahead past lawful n fits new =
     record { number = refl; near = omega arith; missing = both.1 }
 
 free_of : (past : Past) (frame : Frame) → IsFree past frame → HasFreeTag past frame
-free_of past frame free h = free_by_past past (initiator_task_tag frame.header) (free.tag h)
+free_of past frame free = free_by_past past frame free.tag
 
 accepted_by : (b : Bool) (past : Past) (frame : Frame) → is_immediate frame.header ≡ b → cmd_sn frame.header < 2 ^ 32 → IsFree past frame
     → IsLawful past → IsLawful (accepted frame past)

@@ -45,6 +45,19 @@ left_more gone more names =
     ∙ filter_cong _ _ names (λ i d lt. not_or (is_in (get_or names i d) gone) (is_in (get_or names i d) more)
     ∙ ap not (sym (list_any-append (λ a. eqb a (get_or names i d)) gone more))))
 
+and_swap : (a b : Bool) → (a && b) ≡ (b && a)
+and_swap true true = refl
+and_swap true false = refl
+and_swap false true = refl
+and_swap false false = refl
+
+pub left_swap : (a b names : List ℕ) → left a (left b names) ≡ left b (left a names)
+unfolding left
+left_swap a b names =
+    filter_filter (λ k. not (is_in k a)) (λ k. not (is_in k b)) names
+    ∙ filter_cong _ _ names (λ i d lt. and_swap (not (is_in (get_or names i d) b)) (not (is_in (get_or names i d) a)))
+    ∙ sym (filter_filter (λ k. not (is_in k b)) (λ k. not (is_in k a)) names)
+
 pub left_append : (gone a b : List ℕ) → left gone (a ++ b) ≡ left gone a ++ left gone b
 unfolding left
 left_append gone a b = filter-append (λ k. not (is_in k gone)) a b

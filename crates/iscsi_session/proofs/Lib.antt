@@ -2,6 +2,7 @@ mod Room
 pub mod Left
 pub mod Taken
 mod Places
+pub mod Kept
 pub mod Unfinished
 pub mod Fronts
 pub mod Accepted

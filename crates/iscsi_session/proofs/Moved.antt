@@ -6,13 +6,37 @@ use Rattle.std.proofs.lemmas.List.Elements.{filter-append, filter_passes, All-fi
 use Rattle.iscsi_pdu.specs.Header.{is_immediate}
 use Rattle.iscsi_pdu.specs.Frames.{Frame}
 use Rattle.iscsi_order.specs.Window.{taken as taken_numbers}
-use Rattle.iscsi_session.specs.Requests.{Request, Past, request_at, frame_of, is_in, left, is_command, commands, others, counted, taken, numbers, due, queue, unfinished, frames_of, finished}
+use Rattle.iscsi_session.specs.Requests.{Request, Past, request_at, frame_of, is_in, left, is_command, commands, others, counted, taken, numbers, due, queue, unfinished, is_function, functions, frames_of, finished}
 use Rattle.iscsi_session.specs.Transfers.{tag_of, task_at, outs_of, tags_of}
-use Rattle.iscsi_session.specs.State.{TaskLists, tasks_of, transfer_of, transfers_of, AreDistinct, IsDelivered, IsLawful, one_fewer}
+use Rattle.iscsi_session.specs.State.{TaskLists, tasks_of, transfer_of, transfers_of, functions_of, AreDistinct, IsDelivered, IsLawful, one_fewer}
 use Rattle.iscsi_session.proofs.Left.{left_append, left_all, left_none, left_more, left_first, left_one, left_passes, in_at, in_front, in_back, in_left, not_by, not_in, below_of, distinct_left, distinct_filter, distinct_front}
 use Rattle.iscsi_session.proofs.Taken.{taken_below, distinct_taken}
-use Rattle.iscsi_session.proofs.Unfinished.{unfinished_without, unfinished_other, tags_left}
+use Rattle.iscsi_session.proofs.Kept.{kept_without, kept_other, kept_distinct, in_kept, tags_left, command_no_function}
+use Rattle.iscsi_session.proofs.Unfinished.{unfinished_without, unfinished_other}
 use Rattle.iscsi_session.proofs.Accepted.{handed_le, counted_append, due_is, queue_is, in_queue}
+
+-- ---- Task Management Function Requests
+
+pub functions_without : (past : Past) (k : ℕ) → functions (finished k past) ≡ left (k ∷ []) (functions past)
+unfolding functions
+functions_without past k = kept_without is_function past k
+
+pub functions_other : (past : Past) (k : ℕ) → is_function (frame_of past.came k) ≡ false → functions (finished k past) ≡ functions past
+unfolding functions
+functions_other past k e = kept_other is_function past k e
+
+pub functions_distinct : (past : Past) → AreDistinct (functions past)
+unfolding functions
+functions_distinct past = kept_distinct is_function past
+
+-- what is remembered of those that are left
+pub functions_left : (past : Past) (k : ℕ) → map (λ a. (frame_of past.came a).header) (left (k ∷ []) (functions past)) ≡ functions_of (finished k past)
+unfolding functions_of
+functions_left past k = ap (map (λ a. (frame_of past.came a).header)) (sym (functions_without past k))
+
+pub functions_kept : (past : Past) (k : ℕ) → is_function (frame_of past.came k) ≡ false → functions_of (finished k past) ≡ functions_of past
+unfolding functions_of
+functions_kept past k e = ap (map (λ a. (frame_of past.came a).header)) (functions_other past k e)
 
 -- ---- counts
 
@@ -145,6 +169,14 @@ module _ (past : Past) (lawful : IsLawful past) where
     unfolding unfinished
     unfinished_with_command = refl
 
+    functions_with_command : functions with_command ≡ functions past
+    unfolding functions
+    functions_with_command = refl
+
+    pub functions_command : functions_of with_command ≡ functions_of past
+    unfolding functions_of functions
+    functions_command = refl
+
     pub transfers_command : transfers_of with_command ≡ transfers_of past
     unfolding transfers_of unfinished task_at outs_of tags_of
     transfers_command = refl
@@ -165,6 +197,7 @@ module _ (past : Past) (lawful : IsLawful past) where
       fed = lawful.fed;
       asked = lawful.asked;
       tags = subst (λ (l : List ℕ). AreDistinct (map (tag_of past.came) l)) (sym unfinished_with_command) lawful.tags;
+      function_tags = subst (λ (l : List ℕ). AreDistinct (map (tag_of past.came) l)) (sym functions_with_command) lawful.function_tags;
       none_removed = lawful.none_removed;
     }
 
@@ -204,7 +237,26 @@ module _ (past : Past) (lawful : IsLawful past) where
     acted_too = refl
 
     unfinished_with_other : is_command (frame_of past.came k) ≡ false → unfinished with_other ≡ unfinished past
-    unfinished_with_other e = acted_too ∙ unfinished_other past k lawful.none_removed e
+    unfinished_with_other e = acted_too ∙ unfinished_other past k e
+
+    functions_too : functions with_other ≡ functions (finished k past)
+    unfolding functions
+    functions_too = refl
+
+    pub functions_with_other : functions with_other ≡ left (k ∷ []) (functions past)
+    functions_with_other = functions_too ∙ functions_without past k
+
+    pub functions_acted : functions_of (finished k past) ≡ functions_of with_other
+    unfolding functions_of functions
+    functions_acted = refl
+
+    -- a function that is due is not finished
+    pub due_function : is_function (frame_of past.came k) ≡ true → is_in k (functions past) ≡ true
+    unfolding functions
+    due_function e = in_kept is_function past k due_came e not_finished (none_gone past.removed lawful.none_removed)
+      where
+        none_gone : (gone : List ℕ) → gone ≡ [] → is_in k gone ≡ false
+        none_gone gone none = ap (is_in k) none
 
     pub transfers_other : is_command (frame_of past.came k) ≡ false → transfers_of with_other ≡ transfers_of past
     unfolding transfers_of task_at outs_of tags_of
@@ -238,6 +290,8 @@ module _ (past : Past) (lawful : IsLawful past) where
           fed = lawful.fed;
           asked = lawful.asked;
           tags = subst (λ (l : List ℕ). AreDistinct (map (tag_of past.came) l)) (sym (unfinished_with_other e)) lawful.tags;
+          function_tags = subst (λ (l : List ℕ). AreDistinct (map (tag_of past.came) l)) (sym functions_with_other)
+              (tags_left past k (functions past) lawful.function_tags);
           none_removed = lawful.none_removed;
         }
 
@@ -285,6 +339,13 @@ module _ (past : Past) (lawful : IsLawful past) where
     unfolding due
     due_finished = refl
 
+    functions_finished : functions (finished k past) ≡ functions past
+    functions_finished = functions_other past k (command_no_function (frame_of past.came k) is_done)
+
+    pub functions_of_finished : functions_of (finished k past) ≡ functions_of past
+    unfolding functions_of
+    functions_of_finished = ap (map (λ a. (frame_of past.came a).header)) functions_finished
+
     pub lawful_finished : IsLawful (finished k past)
     lawful_finished =
         let in_order : taken past.came ≡ past.acted ++ due (finished k past) = lawful.in_order ∙ ap (λ (l : List ℕ). past.acted ++ l) (sym due_finished) in
@@ -314,14 +375,15 @@ module _ (past : Past) (lawful : IsLawful past) where
           handed = handed;
           fed = lawful.fed;
           asked = lawful.asked;
-          tags = subst (λ (l : List ℕ). AreDistinct (map (tag_of past.came) l)) (sym (unfinished_without past k lawful.none_removed))
+          tags = subst (λ (l : List ℕ). AreDistinct (map (tag_of past.came) l)) (sym (unfinished_without past k))
               (tags_left past k (unfinished past) lawful.tags);
+          function_tags = subst (λ (l : List ℕ). AreDistinct (map (tag_of past.came) l)) (sym functions_finished) lawful.function_tags;
           none_removed = lawful.none_removed;
         }
 
     pub transfers_finished : transfers_of (finished k past) ≡ record (transfers_of past) { list = map (transfer_of past) (left (k ∷ []) (unfinished past)) }
     unfolding transfers_of task_at outs_of tags_of
-    transfers_finished = rw (unfinished_without past k lawful.none_removed) refl
+    transfers_finished = rw (unfinished_without past k) refl
 
     pub tasks_finished : one_fewer (frame_of past.came k) (record (tasks_of past) { queue = frames_of past.came rest }) ≡ tasks_of (finished k past)
     unfolding tasks_of taken_numbers

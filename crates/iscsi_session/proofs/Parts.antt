@@ -1,5 +1,5 @@
 -- What a session remembers of its past, part by part.
-use Rattle.std.proofs.Common.{◌≡◌, ℕ, suc, ◌+◌, ◌-◌, ◌^◌, ◌%◌, ◌<◌, List, [], ◌∷◌, ◌++◌, map, get_or, ltb, Bool, true, false, not, ◌&&◌, None, refl, sym, ap, ◌∙◌, subst, arith, append-nil}
+use Rattle.std.proofs.Common.{◌≡◌, ℕ, suc, ◌+◌, ◌-◌, ◌^◌, ◌%◌, ◌<◌, List, [], ◌∷◌, ◌++◌, map, get_or, ltb, Bool, true, false, not, cond, ◌&&◌, None, refl, sym, ap, ◌∙◌, subst, arith, append-nil}
 use Rattle.std.specs.Prelude.{is_some, Result, Ok, Err, OnOk, OnErr}
 use Rattle.std.specs.Result.{is_err}
 use Rattle.std.specs.List.{range_with_len}
@@ -15,20 +15,22 @@ use Rattle.iscsi_order.specs.WindowState as windows
 use Rattle.iscsi_order.specs.WindowState.{remembered as remembered_window}
 use Rattle.iscsi_order.specs.Serial.{distance}
 use Rattle.iscsi_order.specs.Stat.{stat_sn}
-use Rattle.iscsi_session.specs.Requests.{Past, is_command, left, numbered, numbers, due, queue, frames_of, is_in, unfinished, statuses, bearing, answering, accepted, begun, taken}
+use Rattle.iscsi_session.specs.Requests.{Past, is_command, is_function, functions, left, numbered, numbers, due, queue, frames_of, is_in, unfinished, statuses, bearing, answering, accepted, begun, taken}
 use Rattle.iscsi_session.specs.Judging.{is_fresh}
 use Rattle.iscsi_session.specs.Transfers.{tag_of}
 use Rattle.iscsi_session.specs.declared.transfers.Transfer.{Transfer}
 use Rattle.iscsi_transfer.specs.Task.{TaskState, remembered as task_of}
 use Rattle.iscsi_transfer.specs.Payload.{begun as begun_data}
-use Rattle.iscsi_session.specs.State.{SessionState, TaskLists, TransferList, no_tasks, no_transfers, transfers_of, begun_transfer, kept, frame_numbered, tasks_of, window_of, IsLawful, Stands, is_vacant, is_vacant_for, holding, takes_all}
+use Rattle.iscsi_session.specs.State.{SessionState, TaskLists, TransferList, no_tasks, no_transfers, transfers_of, functions_of, begun_transfer, kept, frame_numbered, tasks_of, window_of, IsLawful, Stands, is_vacant, is_vacant_for, holding, takes_all}
 use Rattle.iscsi_exchange.specs.ExchangeState.{ExchangeState, no_exchange}
 use Rattle.iscsi_session.specs.Texts.{exchange_of}
 use Rattle.iscsi_session.proofs.Exchanging.{exchange_joined, exchange_answering}
+use Rattle.iscsi_session.proofs.Kept.{command_no_function, function_no_command}
 use Rattle.iscsi_session.proofs.Fronts.{frame_marked}
-use Rattle.iscsi_session.proofs.Unfinished.{joined, transfers_joined}
-use Rattle.iscsi_session.proofs.Accepted.{HasFreeTag, marks_are, finished_below, now, with, IsAhead, lawful_now, admitted, lawful_with, held_now}
-use Rattle.iscsi_session.proofs.Runs.{lawful_answering, statuses_answering, tasks_answering, transfers_answering}
+use Rattle.iscsi_session.proofs.Kept.{joined}
+use Rattle.iscsi_session.proofs.Unfinished.{transfers_joined}
+use Rattle.iscsi_session.proofs.Accepted.{HasFreeTag, marks_are, finished_below, removed_below, functions_of_joined, now, with, IsAhead, lawful_now, admitted, lawful_with, held_now}
+use Rattle.iscsi_session.proofs.Runs.{lawful_answering, statuses_answering, tasks_answering, transfers_answering, functions_answering}
 
 pub on_err_known : {T E P : Type 0} (r : Result T E) → P → OnErr r P
 on_err_known (Ok x) known = tt
@@ -43,6 +45,7 @@ pub record Parts (past : Past) (state : SessionState) : Type 0 where
   pub stat_is : state.stat ≡ stat_sn (statuses past)
   pub tasks_is : state.tasks ≡ tasks_of past
   pub transfers_is : state.transfers ≡ transfers_of past
+  pub functions_is : state.functions ≡ functions_of past
   pub exchange_is : state.exchange ≡ exchange_of past
 
 pub parts : (past : Past) (state : SessionState) → Stands past state → Parts past state
@@ -51,6 +54,7 @@ parts past state s = record {
   stat_is = ap (λ (x : SessionState). x.stat) s.remembered;
   tasks_is = ap (λ (x : SessionState). x.tasks) s.remembered;
   transfers_is = ap (λ (x : SessionState). x.transfers) s.remembered;
+  functions_is = ap (λ (x : SessionState). x.functions) s.remembered;
   exchange_is = ap (λ (x : SessionState). x.exchange) s.remembered;
 }
 
@@ -73,24 +77,26 @@ window_stands past state s = record { lawful = s.lawful.window; remembered = ap 
 
 -- ---- a session, one step further on
 
-pub stands_parts : (past after : Past) (state : SessionState) (tasks : TaskLists) (transfers : TransferList) (exchange : ExchangeState)
-    → Stands past state → IsLawful after
-    → after.params ≡ past.params → after.answers ≡ past.answers → tasks ≡ tasks_of after → transfers ≡ transfers_of after → exchange ≡ exchange_of after
-    → Stands after (record state { tasks = tasks; transfers = transfers; exchange = exchange })
-stands_parts past after state tasks transfers exchange s lawful params answers is same_data same_exchange =
+pub stands_parts : (past after : Past) (state : SessionState) (tasks : TaskLists) (transfers : TransferList) (headers : List (List ℕ))
+    (exchange : ExchangeState) → Stands past state → IsLawful after
+    → after.params ≡ past.params → after.answers ≡ past.answers → tasks ≡ tasks_of after → transfers ≡ transfers_of after
+    → headers ≡ functions_of after → exchange ≡ exchange_of after
+    → Stands after (record state { tasks = tasks; transfers = transfers; functions = headers; exchange = exchange })
+stands_parts past after state tasks transfers headers exchange s lawful params answers is same_data same_headers same_exchange =
     let p = parts past state s in
     let same : statuses past ≡ statuses after = rw (params, answers) refl in
     let params_is : state.params ≡ after.params = p.params_is ∙ sym params in
     let stat_is : state.stat ≡ stat_sn (statuses after) = p.stat_is ∙ ap stat_sn same in
-    record { lawful = lawful; remembered = rw (params_is, stat_is, is, same_data, same_exchange) refl }
+    record { lawful = lawful; remembered = rw (params_is, stat_is, is, same_data, same_headers, same_exchange) refl }
 
 -- its commands have the data that they had
 pub stands_tasks : (past after : Past) (state : SessionState) (tasks : TaskLists) → Stands past state → IsLawful after → after.params ≡ past.params
-    → after.answers ≡ past.answers → tasks ≡ tasks_of after → transfers_of after ≡ transfers_of past → exchange_of after ≡ exchange_of past
-    → Stands after (record state { tasks = tasks })
-stands_tasks past after state tasks s lawful params answers is same_data same_exchange =
-    stands_parts past after state tasks state.transfers state.exchange s lawful params answers is ((parts past state s).transfers_is ∙ sym same_data)
-    ((parts past state s).exchange_is ∙ sym same_exchange)
+    → after.answers ≡ past.answers → tasks ≡ tasks_of after → transfers_of after ≡ transfers_of past → functions_of after ≡ functions_of past
+    → exchange_of after ≡ exchange_of past → Stands after (record state { tasks = tasks })
+stands_tasks past after state tasks s lawful params answers is same_data same_headers same_exchange =
+    let p = parts past state s in
+    stands_parts past after state tasks state.transfers state.functions state.exchange s lawful params answers is (p.transfers_is ∙ sym same_data)
+    (p.functions_is ∙ sym same_headers) (p.exchange_is ∙ sym same_exchange)
 
 pub stands_stat : (past : Past) (more : List Answer) (state : SessionState) (stat : ℕ) → Stands past state → bearing more ≡ 1
     → stat ≡ stat_sn (suc (statuses past)) → Stands (answering more past) (record state { stat = stat })
@@ -99,17 +105,8 @@ stands_stat past more state stat s one is =
     let count : suc (statuses past) ≡ statuses (answering more past) = omega (arith, statuses_answering more past, one) in
     record {
       lawful = lawful_answering more past s.lawful;
-      remembered = rw (
-        p.params_is,
-        is,
-        count,
-        p.tasks_is,
-        sym (tasks_answering more past),
-        p.transfers_is,
-        sym (transfers_answering more past),
-        p.exchange_is,
-        sym (exchange_answering more past),
-      ) refl;
+      remembered = rw (p.params_is, is, count, p.tasks_is, sym (tasks_answering more past), p.transfers_is, sym (transfers_answering more past),
+      p.functions_is, sym (functions_answering more past), p.exchange_is, sym (exchange_answering more past)) refl;
     }
 
 -- ---- a request is accepted
@@ -167,31 +164,60 @@ kept_by false past state frame h s free tag =
           ∙ ap tasks_of (accepted_with past frame h),
     )
 
--- a request that is no SCSI Command
+same_headers : (past : Past) (lawful : IsLawful past) (frame : Frame) → is_function frame ≡ false → functions_of (accepted frame past) ≡ functions_of past
+same_headers past lawful frame e =
+    functions_of_joined past lawful _ ∙ ap (λ (b : Bool). functions_of past ++ cond b (frame.header ∷ []) []) e ∙ append-nil (functions_of past)
+
+one_more_header : (past : Past) (lawful : IsLawful past) (frame : Frame) → is_function frame ≡ true
+    → functions_of past ++ frame.header ∷ [] ≡ functions_of (accepted frame past)
+one_more_header past lawful frame e =
+    sym (functions_of_joined past lawful _ ∙ ap (λ (b : Bool). functions_of past ++ cond b (frame.header ∷ []) []) e)
+
+same_transfers : (past : Past) (frame : Frame) → IsLawful past → is_command frame ≡ false → transfers_of (accepted frame past) ≡ transfers_of past
+same_transfers past frame lawful e =
+    transfers_joined false past _ e (finished_below past lawful) (removed_below past lawful) lawful.fed lawful.asked
+    ∙ ap (λ (l : List Transfer). record (transfers_of past) { list = l }) (append-nil (transfers_of past).list)
+
+-- a request that is neither a SCSI Command nor a Task Management Function Request
 pub stands_request : (past : Past) (state : SessionState) (frame : Frame) → Stands past state → is_vacant_for state.tasks frame ≡ true
-    → is_command frame ≡ false → Stands (accepted frame past) (record state { tasks = kept frame state.tasks })
-stands_request past state frame s free e =
-    let k = kept_by _ past state frame refl s free (λ h. absurd (let no = sym h ∙ e in cc)) in
-    stands_tasks past (accepted frame past) state (kept frame state.tasks) s k.0 refl refl k.1
-    (transfers_joined false past _ e s.lawful.none_removed (finished_below past s.lawful) s.lawful.fed s.lawful.asked
-    ∙ ap (λ (l : List Transfer). record (transfers_of past) { list = l }) (append-nil (transfers_of past).list)) (exchange_joined past _ s.lawful.below)
+    → is_command frame ≡ false → is_function frame ≡ false → Stands (accepted frame past) (record state { tasks = kept frame state.tasks })
+stands_request past state frame s free e f =
+    let k = kept_by _ past state frame refl s free (record {
+      command = λ h. absurd (let no = sym h ∙ e in cc);
+      function = λ h. absurd (let no = sym h ∙ f in cc);
+    }) in
+    stands_tasks past (accepted frame past) state (kept frame state.tasks) s k.0 refl refl k.1 (same_transfers past frame s.lawful e)
+    (same_headers past s.lawful frame f) (exchange_joined past _ s.lawful.below)
+
+-- a Task Management Function Request
+pub stands_function : (past : Past) (state : SessionState) (frame : Frame) → Stands past state → is_vacant_for state.tasks frame ≡ true
+    → is_function frame ≡ true → HasFreeTag past frame
+    → Stands (accepted frame past) (record state { tasks = kept frame state.tasks; functions = state.functions ++ frame.header ∷ [] })
+stands_function past state frame s free f tag =
+    let k = kept_by _ past state frame refl s free tag in
+    let p = parts past state s in
+    let no_command : is_command frame ≡ false = function_no_command frame f in
+    stands_parts past (accepted frame past) state (kept frame state.tasks) state.transfers _ state.exchange s k.0 refl refl k.1
+    (p.transfers_is ∙ sym (same_transfers past frame s.lawful no_command))
+    (ap (λ (l : List (List ℕ)). l ++ frame.header ∷ []) p.functions_is ∙ one_more_header past s.lawful frame f)
+    (p.exchange_is ∙ sym (exchange_joined past _ s.lawful.below))
 
 -- a SCSI Command, with the data that it brings
 pub stands_begun : (past : Past) (state : SessionState) (frame : Frame) (task : TaskState) → Stands past state → is_vacant_for state.tasks frame ≡ true
-    → is_command frame ≡ true → is_in (initiator_task_tag frame.header) (map (tag_of past.came) (unfinished past)) ≡ false
-    → task ≡ task_of (begun_data state.params.values frame)
+    → is_command frame ≡ true → HasFreeTag past frame → task ≡ task_of (begun_data state.params.values frame)
     → Stands (accepted frame past) (record state {
       tasks = kept frame state.tasks;
       transfers = record state.transfers { list = state.transfers.list ++ begun_transfer frame.header task ∷ [] };
     })
 stands_begun past state frame task s free e tag is =
-    let k = kept_by _ past state frame refl s free (λ h. tag) in
+    let k = kept_by _ past state frame refl s free tag in
     let p = parts past state s in
     let same : task ≡ task_of (begun_data past.params.values frame) = is ∙ ap (λ (x : Params). task_of (begun_data x.values frame)) p.params_is in
-    stands_parts past (accepted frame past) state (kept frame state.tasks) _ state.exchange s k.0 refl refl k.1
+    stands_parts past (accepted frame past) state (kept frame state.tasks) _ state.functions state.exchange s k.0 refl refl k.1
     (ap (λ (t : TransferList). record t { list = t.list ++ begun_transfer frame.header task ∷ [] }) p.transfers_is
     ∙ ap (λ (t : TaskState). record (transfers_of past) { list = (transfers_of past).list ++ begun_transfer frame.header t ∷ [] }) same
-    ∙ sym (transfers_joined true past _ e s.lawful.none_removed (finished_below past s.lawful) s.lawful.fed s.lawful.asked))
+    ∙ sym (transfers_joined true past _ e (finished_below past s.lawful) (removed_below past s.lawful) s.lawful.fed s.lawful.asked))
+    (p.functions_is ∙ sym (same_headers past s.lawful frame (command_no_function frame e)))
     (p.exchange_is ∙ sym (exchange_joined past _ s.lawful.below))
 
 -- ---- a session at its beginning
@@ -209,3 +235,7 @@ begun_transfers params = refl
 pub begun_exchange : (params : Params) → no_exchange ≡ exchange_of (begun params)
 unfolding exchange_of
 begun_exchange params = refl
+
+pub begun_functions : (params : Params) → [] ≡ functions_of (begun params)
+unfolding functions_of functions left
+begun_functions params = refl

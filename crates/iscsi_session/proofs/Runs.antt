@@ -9,8 +9,8 @@ use Rattle.scsi_unit.specs.Units.{UnitStates}
 use Rattle.iscsi_pdu.specs.Answer.{spelling}
 use Rattle.iscsi_pdu.specs.declared.answer.Answer.{Answer}
 use Rattle.iscsi_session.specs.Transfers.{task_at, outs_of, tags_of}
-use Rattle.iscsi_session.specs.Requests.{Past, DataOut, SentR2t, due, queue, unfinished, bears_status, bearing, statuses, answering}
-use Rattle.iscsi_session.specs.State.{SessionState, IsLawful, Stands, tasks_of, transfers_of, remembered}
+use Rattle.iscsi_session.specs.Requests.{Past, DataOut, SentR2t, due, queue, unfinished, functions, bears_status, bearing, statuses, answering}
+use Rattle.iscsi_session.specs.State.{SessionState, IsLawful, Stands, tasks_of, transfers_of, functions_of, remembered}
 use Rattle.iscsi_session.specs.Steps.{Step, Taking, Doing, is_step, is_of, Work, reaches, take_step, first_steps, one_by_one}
 use Rattle.iscsi_session.specs.Runs.{Starts, Leaves, FailsAs, IsReached, Runs}
 
@@ -19,7 +19,7 @@ use Rattle.iscsi_session.specs.Runs.{Starts, Leaves, FailsAs, IsReached, Runs}
 pub lawful_data : (past : Past) (data_outs : List DataOut) (r2ts : List SentR2t) (answers : List Answer) → IsLawful past
     → All (λ d. d.command < length past.came) data_outs → All (λ r. r.command < length past.came) r2ts
     → IsLawful (record past { data_outs = data_outs; r2ts = r2ts; answers = answers })
-unfolding due queue unfinished
+unfolding due queue unfinished functions
 lawful_data past data_outs r2ts answers lawful fed asked = record {
   window = lawful.window;
   distinct = lawful.distinct;
@@ -33,6 +33,7 @@ lawful_data past data_outs r2ts answers lawful fed asked = record {
   fed = fed;
   asked = asked;
   tags = lawful.tags;
+  function_tags = lawful.function_tags;
   none_removed = lawful.none_removed;
 }
 
@@ -52,6 +53,10 @@ tasks_answering more past = refl
 pub transfers_answering : (more : List Answer) (past : Past) → transfers_of (answering more past) ≡ transfers_of past
 unfolding transfers_of unfinished task_at outs_of tags_of
 transfers_answering more past = refl
+
+pub functions_answering : (more : List Answer) (past : Past) → functions_of (answering more past) ≡ functions_of past
+unfolding functions_of functions
+functions_answering more past = refl
 
 -- ---- where the code stands
 

@@ -7,12 +7,13 @@ use Rattle.iscsi_pdu.specs.Frames.{Frame}
 use Rattle.iscsi_pdu.specs.declared.header.Opcode.{Opcode}
 use Rattle.iscsi_pdu.specs.declared.header.Opcode.TheVariants as opcodes
 use Rattle.iscsi_pdu.specs.declared.reject.RejectReason.TheVariants as reasons
+use Rattle.iscsi_login.specs.declared.values.Values.{Values}
 use Rattle.iscsi_transfer.specs.Task.{command_fault}
 use Rattle.iscsi_session.specs.declared.verdict.Verdict.{Verdict}
 use Rattle.iscsi_session.specs.declared.verdict.Verdict.TheVariants.{Ignored, Rejected, Violating, Accepted, Feeding}
-use Rattle.iscsi_session.specs.Requests.{Past, is_command}
+use Rattle.iscsi_session.specs.Requests.{Past, is_command, is_function}
 use Rattle.iscsi_session.specs.Transfers.{command_with, data_fault_of}
-use Rattle.iscsi_session.specs.Judging.{reserved_tag, is_fresh, is_live, is_full, command_verdict, data_verdict, is_refused, verdict_by, request_verdict, verdict}
+use Rattle.iscsi_session.specs.Judging.{reserved_tag, is_fresh, is_live, is_full, is_faulty, task_verdict, data_verdict, is_refused, verdict_by, request_verdict, verdict}
 
 -- ---- a command, test by test
 
@@ -50,16 +51,20 @@ abbrev pub by_tests : Bool → Bool → Bool → Bool → Verdict
 by_tests fresh over taken faulty =
     if not fresh then Ignored else if over then Rejected reasons.TooManyImmediate else if taken then Violating else if faulty then Violating else Accepted
 
-pub command_told : (past : Past) (frame : Frame) (fresh over taken faulty : Bool) → is_fresh past frame ≡ fresh
+pub task_told : (past : Past) (frame : Frame) (fresh over taken faulty : Bool) → is_fresh past frame ≡ fresh
     → (is_immediate frame.header && is_full past) ≡ over → is_taken past (initiator_task_tag frame.header) ≡ taken
-    → is_some (command_fault past.params.values frame) ≡ faulty → command_verdict past frame ≡ by_tests fresh over taken faulty
-unfolding command_verdict
-command_told past frame fresh over taken faulty fresh_is over_is taken_is faulty_is =
+    → is_faulty past.params.values frame ≡ faulty → task_verdict past frame ≡ by_tests fresh over taken faulty
+unfolding task_verdict
+task_told past frame fresh over taken faulty fresh_is over_is taken_is faulty_is =
     ap (λ (b : Bool). by_tests b (is_immediate frame.header && is_full past) (is_taken past (initiator_task_tag frame.header))
-    (is_some (command_fault past.params.values frame))) fresh_is
-    ∙ ap (λ (b : Bool). by_tests fresh b (is_taken past (initiator_task_tag frame.header)) (is_some (command_fault past.params.values frame))) over_is
-    ∙ ap (λ (b : Bool). by_tests fresh over b (is_some (command_fault past.params.values frame))) taken_is
+    (is_faulty past.params.values frame)) fresh_is
+    ∙ ap (λ (b : Bool). by_tests fresh b (is_taken past (initiator_task_tag frame.header)) (is_faulty past.params.values frame)) over_is
+    ∙ ap (λ (b : Bool). by_tests fresh over b (is_faulty past.params.values frame)) taken_is
     ∙ ap (by_tests fresh over taken) faulty_is
+
+-- the data of a SCSI Command is as agreed
+pub faultless_agreed : (values : Values) (frame : Frame) → is_command frame ≡ true → is_faulty values frame ≡ false → is_some (command_fault values frame) ≡ false
+faultless_agreed values frame e none = let h = rw e at none in h
 
 -- ---- by the opcode
 
@@ -80,12 +85,16 @@ pub fed_verdict : (past : Past) (frame : Frame) → opcode_of (opcode_number fra
 unfolding verdict_by
 fed_verdict past frame is = verdict_at past frame opcodes.DataOut is
 
-pub refused_verdict : (past : Past) (frame : Frame) (opcode : Opcode) → opcode_of (opcode_number frame.header) ≡ opcode
-    → (opcode ≡ opcodes.TaskManagement) ⊎ ((n : ℕ) × (opcode ≡ opcodes.Other n))
-    → request_verdict past frame ≡ Rejected reasons.CommandNotSupported
+pub tested_verdict : (past : Past) (frame : Frame) (opcode : Opcode) → opcode_of (opcode_number frame.header) ≡ opcode
+    → (opcode ≡ opcodes.ScsiCommand) ⊎ (opcode ≡ opcodes.TaskManagement) → request_verdict past frame ≡ task_verdict past frame
 unfolding verdict_by
-refused_verdict past frame opcode is (inl e) = verdict_at past frame opcodes.TaskManagement (is ∙ e)
-refused_verdict past frame opcode is (inr (n, e)) = verdict_at past frame (opcodes.Other n) (is ∙ e)
+tested_verdict past frame opcode is (inl e) = verdict_at past frame opcodes.ScsiCommand (is ∙ e)
+tested_verdict past frame opcode is (inr e) = verdict_at past frame opcodes.TaskManagement (is ∙ e)
+
+pub refused_verdict : (past : Past) (frame : Frame) (opcode : Opcode) → opcode_of (opcode_number frame.header) ≡ opcode
+    → (n : ℕ) × (opcode ≡ opcodes.Other n) → request_verdict past frame ≡ Rejected reasons.CommandNotSupported
+unfolding verdict_by
+refused_verdict past frame opcode is (n, e) = verdict_at past frame (opcodes.Other n) (is ∙ e)
 
 -- in a discovery session most are refused
 pub verdict_refused : (past : Past) (frame : Frame) → is_refused past.params frame ≡ true → verdict past frame ≡ Rejected reasons.CommandNotSupported
@@ -99,7 +108,7 @@ verdict_served past frame e = rw e refl
 -- what is known of a frame that is accepted
 pub record IsFree (past : Past) (frame : Frame) : Type 0 where
   pub fresh : is_fresh past frame ≡ true
-  pub tag : is_command frame ≡ true → is_live past (initiator_task_tag frame.header) ≡ false
+  pub tag : (is_command frame || is_function frame) ≡ true → is_live past (initiator_task_tag frame.header) ≡ false
 
 data_not_accepted : (past : Past) (frame : Frame) (at : Option ℕ) → data_verdict past frame at ≡ Accepted → ⊥
 data_not_accepted past frame None e = cc
@@ -123,25 +132,37 @@ fresh_passed : (fresh : Bool) → (if fresh then Accepted else Ignored) ≡ Acce
 fresh_passed true e = refl
 fresh_passed false e = absurd cc
 
-no_command : (frame : Frame) (opcode : Opcode) → opcode_of (opcode_number frame.header) ≡ opcode → opcode ≢ opcodes.ScsiCommand → is_command frame ≡ true → ⊥
-no_command frame opcode is other e = other (sym is ∙ ap opcode_of (eqb-true (opcode_number frame.header) 0x01 e))
+no_task : (frame : Frame) (opcode : Opcode) → opcode_of (opcode_number frame.header) ≡ opcode → opcode ≢ opcodes.ScsiCommand → opcode ≢ opcodes.TaskManagement
+    → (is_command frame || is_function frame) ≡ true → ⊥
+no_task frame opcode is other another e = elim (either (is_command frame) (is_function frame) e) [
+  | inl h ↦ other (sym is ∙ ap opcode_of (eqb-true (opcode_number frame.header) 0x01 h))
+  | inr h ↦ another (sym is ∙ ap opcode_of (eqb-true (opcode_number frame.header) 0x02 h))
+]
+  where
+    either : (a b : Bool) → (a || b) ≡ true → (a ≡ true) ⊎ (b ≡ true)
+    either true b e = inl refl
+    either false b e = inr e
+
+tests_free : (past : Past) (frame : Frame) → task_verdict past frame ≡ Accepted → IsFree past frame
+unfolding task_verdict
+tests_free past frame e =
+    let t = tests_passed (is_fresh past frame) _ (is_taken past (initiator_task_tag frame.header)) _ e in
+    record { fresh = t.0; tag = λ h. or_back _ _ t.1 }
 
 accepted_by : (opcode : Opcode) (past : Past) (frame : Frame) → opcode_of (opcode_number frame.header) ≡ opcode → verdict_by opcode past frame ≡ Accepted
     → IsFree past frame
-unfolding verdict_by command_verdict
-accepted_by opcodes.ScsiCommand past frame is e =
-    let t = tests_passed (is_fresh past frame) _ (is_taken past (initiator_task_tag frame.header)) _ e in
-    record { fresh = t.0; tag = λ h. or_back _ _ t.1 }
+unfolding verdict_by
+accepted_by opcodes.ScsiCommand past frame is e = tests_free past frame e
+accepted_by opcodes.TaskManagement past frame is e = tests_free past frame e
 accepted_by opcodes.NopOut past frame is e =
-    record { fresh = fresh_passed (is_fresh past frame) e; tag = λ h. absurd (no_command frame opcodes.NopOut is (λ x. absurd cc) h) }
+    record { fresh = fresh_passed (is_fresh past frame) e; tag = λ h. absurd (no_task frame opcodes.NopOut is (λ x. absurd cc) (λ x. absurd cc) h) }
 accepted_by opcodes.Logout past frame is e =
-    record { fresh = fresh_passed (is_fresh past frame) e; tag = λ h. absurd (no_command frame opcodes.Logout is (λ x. absurd cc) h) }
+    record { fresh = fresh_passed (is_fresh past frame) e; tag = λ h. absurd (no_task frame opcodes.Logout is (λ x. absurd cc) (λ x. absurd cc) h) }
 accepted_by opcodes.Login past frame is e = absurd cc
 accepted_by opcodes.DataOut past frame is e = absurd (data_not_accepted past frame (command_with past (initiator_task_tag frame.header)) e)
 accepted_by opcodes.Snack past frame is e = absurd cc
-accepted_by opcodes.TaskManagement past frame is e = absurd cc
 accepted_by opcodes.Text past frame is e =
-    record { fresh = fresh_passed (is_fresh past frame) e; tag = λ h. absurd (no_command frame opcodes.Text is (λ x. absurd cc) h) }
+    record { fresh = fresh_passed (is_fresh past frame) e; tag = λ h. absurd (no_task frame opcodes.Text is (λ x. absurd cc) (λ x. absurd cc) h) }
 accepted_by (opcodes.Other n) past frame is e = absurd cc
 
 pub accepted_free : (past : Past) (frame : Frame) → verdict past frame ≡ Accepted → IsFree past frame

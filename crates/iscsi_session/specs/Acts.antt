@@ -18,6 +18,7 @@ use Rattle.iscsi_login.specs.declared.values.Values.{Values}
 use Rattle.iscsi_session.specs.Requests.{Past, frame_of, moved, answering, stamp}
 use Rattle.iscsi_session.specs.Judging.{reserved_tag, reject}
 use Rattle.iscsi_session.specs.Texts.{exchange_of, text_answer_in}
+use Rattle.iscsi_session.specs.Functions.{function_answer}
 use Rattle.iscsi_exchange.specs.ExchangeState.{ExchangeState}
 use Rattle.iscsi_session.specs.declared.act.Act.{Act}
 use Rattle.iscsi_session.specs.declared.act.Act.TheVariants.{Idle, Taken, Ended}
@@ -54,7 +55,7 @@ abbrev pub act_answers_by : Opcode → ExchangeState → Stamp → Params → Fr
 act_answers_by opcodes.ScsiCommand exchange numbers_now params frame = []
 act_answers_by opcodes.NopOut exchange numbers_now params frame = ping_answers numbers_now params.values frame
 act_answers_by opcodes.Logout exchange numbers_now params frame = logout_answer numbers_now params frame ∷ []
-act_answers_by opcodes.TaskManagement exchange numbers_now params frame = []
+act_answers_by opcodes.TaskManagement exchange numbers_now params frame = function_answer numbers_now frame ∷ []
 act_answers_by opcodes.Login exchange numbers_now params frame = []
 act_answers_by opcodes.Text exchange numbers_now params frame = text_answer_in exchange numbers_now params frame ∷ []
 act_answers_by opcodes.DataOut exchange numbers_now params frame = []

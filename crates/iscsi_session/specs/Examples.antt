@@ -11,9 +11,9 @@ use Rattle.iscsi_login.specs.Values.{default_values}
 use Rattle.iscsi_order.specs.Window as order
 use Rattle.iscsi_session.specs.declared.verdict.Verdict.TheVariants.{Ignored, Dropped, Rejected, Violating, Accepted}
 use Rattle.iscsi_transfer.specs.Task.{remembered as task_of, fault_of}
-use Rattle.iscsi_session.specs.Requests.{Past, begun, left, taken, taken_at, held, due, queue, unfinished, stamp, numbers}
+use Rattle.iscsi_session.specs.Requests.{functions, Past, begun, left, taken, taken_at, held, due, queue, unfinished, stamp, numbers}
 use Rattle.iscsi_session.specs.Transfers.{outs_of, tags_of, task_at, asking, asked_by, r2t_of}
-use Rattle.iscsi_session.specs.Judging.{is_refused, verdict, verdict_by, command_verdict, judged, reject}
+use Rattle.iscsi_session.specs.Judging.{is_refused, verdict, verdict_by, task_verdict, judged, reject}
 use Rattle.scsi_sense.specs.Done.{good}
 use Rattle.iscsi_session.specs.Answers.{data_answers, scsi_answer}
 use Rattle.iscsi_session.specs.Steps.{answered_command, ready}
@@ -21,7 +21,7 @@ use Rattle.iscsi_session.specs.Acts.{acted, act_answers, ends, logout_response}
 
 -- what an example unfolds
 unfoldable pub computed : Bool
-unfolding order.taken left taken taken_at held due queue unfinished stamp command_verdict is_refused verdict_by act_answers ends data_answers scsi_answer
+unfolding order.taken left taken taken_at held due queue unfinished stamp task_verdict functions is_refused verdict_by act_answers ends data_answers scsi_answer
     outs_of tags_of task_at task_of fault_of asking r2t_of ready
 computed = true
 
@@ -78,6 +78,7 @@ abbrev command_stamp : Answer → Option Stamp
 command_stamp (answers.ScsiResponse response) = Some response.stamp
 command_stamp (answers.LoginResponse response) = None
 command_stamp (answers.TextResponse response) = None
+command_stamp (answers.TaskManagementResponse response) = None
 command_stamp (answers.DataIn piece) = None
 command_stamp (answers.NopIn ping) = None
 command_stamp (answers.R2t r2t) = None

@@ -1,5 +1,5 @@
 -- What a frame in full feature phase is judged to be.
-use Rattle.std.specs.Prelude.{ℕ, List, [], ◌∷◌, length, filter, Bool, true, false, ◌&&◌, ◌||◌, not, ◌==◌, nat_lt, Option, Some, None, is_some, is_none, if◌then◌else◌}
+use Rattle.std.specs.Prelude.{ℕ, ◌+◌, List, [], ◌∷◌, Bool, true, false, ◌&&◌, ◌||◌, not, ◌==◌, nat_lt, Option, Some, None, is_some, is_none, if◌then◌else◌}
 use Rattle.iscsi_pdu.specs.Header.{opcode_of, opcode_number, is_immediate, cmd_sn, initiator_task_tag}
 use Rattle.iscsi_pdu.specs.Frames.{Frame}
 use Rattle.iscsi_pdu.specs.declared.header.Opcode.{Opcode}
@@ -13,8 +13,10 @@ use Rattle.iscsi_pdu.specs.LogoutRequest.{logout_reason}
 use Rattle.iscsi_login.specs.declared.params.Params.{Params}
 use Rattle.iscsi_order.specs.Window as order
 use Rattle.iscsi_transfer.specs.Task.{command_fault}
-use Rattle.iscsi_session.specs.Requests.{Past, frame_of, numbers, unfinished, accepted, answering, stamp}
+use Rattle.iscsi_login.specs.declared.values.Values.{Values}
+use Rattle.iscsi_session.specs.Requests.{Past, is_command, numbers, unfinished, functions, accepted, answering, stamp}
 use Rattle.iscsi_session.specs.Transfers.{command_with, data_fault_of, fed}
+use Rattle.iscsi_session.specs.Functions.{function_with, immediate_in}
 use Rattle.iscsi_session.specs.declared.verdict.Verdict.{Verdict}
 use Rattle.iscsi_session.specs.declared.verdict.Verdict.TheVariants.{Ignored, Dropped, Rejected, Violating, Accepted, Feeding}
 
@@ -27,24 +29,28 @@ reserved_tag = 0xFFFFFFFF
 abbrev pub is_fresh : Past → Frame → Bool
 is_fresh past frame = is_immediate frame.header || order.is_new (numbers past) (cmd_sn frame.header)
 
--- RFC 7143 §11.2.1.8: a tag is live while its SCSI Command is held or unfinished
+-- RFC 7143 §11.2.1.8: a tag is live while its SCSI Command or its Task Management Function Request is held or unfinished
 abbrev pub is_live : Past → ℕ → Bool
-is_live past tag = is_some (command_with past tag)
+is_live past tag = is_some (command_with past tag) || is_some (function_with past tag)
 
--- own: so many SCSI Commands for immediate delivery may be unfinished
+-- own: so many of these for immediate delivery may be unfinished
 abbrev pub most_immediate : ℕ
 most_immediate = 8
 
 abbrev pub is_full : Past → Bool
-is_full past = not (nat_lt (length (filter (λ k. is_immediate (frame_of past.came k).header) (unfinished past))) most_immediate)
+is_full past = not (nat_lt (immediate_in past (unfinished past) + immediate_in past (functions past)) most_immediate)
 
--- its number, the limit of those for immediate delivery, its tag, its data, in this order
-unfoldable pub command_verdict : Past → Frame → Verdict
-command_verdict past frame =
+-- the data that a SCSI Command brings is not as agreed
+abbrev pub is_faulty : Values → Frame → Bool
+is_faulty values frame = is_command frame && is_some (command_fault values frame)
+
+-- a SCSI Command or a Task Management Function Request: its number, the limit of those for immediate delivery, its tag, its data, in this order
+unfoldable pub task_verdict : Past → Frame → Verdict
+task_verdict past frame =
     if not (is_fresh past frame) then Ignored
     else if is_immediate frame.header && is_full past then Rejected reasons.TooManyImmediate
     else if initiator_task_tag frame.header == reserved_tag || is_live past (initiator_task_tag frame.header) then Violating
-    else if is_some (command_fault past.params.values frame) then Violating
+    else if is_faulty past.params.values frame then Violating
     else Accepted
 
 -- a Data-Out for this command
@@ -67,15 +73,15 @@ is_none_of_discovery (opcodes.Other n) frame = false
 unfoldable pub is_refused : Params → Frame → Bool
 is_refused params frame = is_none params.target && is_none_of_discovery (opcode_of (opcode_number frame.header)) frame
 
--- By its opcode first. Own: Task Management is refused.
+-- by its opcode first
 unfoldable pub verdict_by : Opcode → Past → Frame → Verdict
-verdict_by opcodes.ScsiCommand past frame = command_verdict past frame
+verdict_by opcodes.ScsiCommand past frame = task_verdict past frame
 verdict_by opcodes.NopOut past frame = if is_fresh past frame then Accepted else Ignored
 verdict_by opcodes.Logout past frame = if is_fresh past frame then Accepted else Ignored
 verdict_by opcodes.Login past frame = Violating
 verdict_by opcodes.DataOut past frame = data_verdict past frame (command_with past (initiator_task_tag frame.header))
 verdict_by opcodes.Snack past frame = Rejected reasons.Snack
-verdict_by opcodes.TaskManagement past frame = Rejected reasons.CommandNotSupported
+verdict_by opcodes.TaskManagement past frame = task_verdict past frame
 verdict_by opcodes.Text past frame = if is_fresh past frame then Accepted else Ignored
 verdict_by (opcodes.Other n) past frame = Rejected reasons.CommandNotSupported
 

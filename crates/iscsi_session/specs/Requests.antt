@@ -68,6 +68,10 @@ left gone names = filter (λ k. not (is_in k gone)) names
 abbrev pub is_command : Frame → Bool
 is_command frame = opcode_number frame.header == 0x01
 
+-- RFC 7143 §11.2.1.2: a Task Management Function Request
+abbrev pub is_function : Frame → Bool
+is_function frame = opcode_number frame.header == 0x02
+
 abbrev pub commands : List Request → List ℕ → List ℕ
 commands came names = filter (λ k. is_command (frame_of came k)) names
 
@@ -131,6 +135,10 @@ queue past = left past.removed (left past.finished (commands past.came past.acte
 unfoldable pub unfinished : Past → List ℕ
 unfinished past = left past.removed (left past.finished (commands past.came (range_with_len 0 (length past.came))))
 
+-- the Task Management Function Requests that came and are not finished, held or taken, in the order in which they came
+unfoldable pub functions : Past → List ℕ
+functions past = left past.removed (left past.finished (filter (λ k. is_function (frame_of past.came k)) (range_with_len 0 (length past.came))))
+
 abbrev pub frames_of : List Request → List ℕ → List Frame
 frames_of came names = map (frame_of came) names
 
@@ -140,6 +148,7 @@ frames_of came names = map (frame_of came) names
 abbrev pub bears_status : Answer → Bool
 bears_status (answers.LoginResponse response) = true
 bears_status (answers.ScsiResponse response) = true
+bears_status (answers.TaskManagementResponse response) = true
 bears_status (answers.DataIn piece) = false
 bears_status (answers.NopIn ping) = true
 bears_status (answers.R2t ask) = false

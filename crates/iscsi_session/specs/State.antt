@@ -8,7 +8,7 @@ use Rattle.iscsi_order.specs.Window as order
 use Rattle.iscsi_order.specs.WindowState as windows
 use Rattle.iscsi_order.specs.Serial.{distance}
 use Rattle.iscsi_order.specs.Stat.{stat_sn}
-use Rattle.iscsi_session.specs.Requests.{Request, Past, has_number, numbers, numbered, counted, is_command, commands, others, is_in, frame_of, taken, due, queue, frames_of, unfinished, statuses}
+use Rattle.iscsi_session.specs.Requests.{Request, Past, has_number, numbers, numbered, counted, is_command, commands, others, is_in, frame_of, taken, due, queue, frames_of, unfinished, is_function, functions, statuses}
 use Rattle.iscsi_pdu.specs.declared.r2t.R2t.{R2t}
 use Rattle.iscsi_pdu.specs.declared.stamp.Stamp.{Stamp}
 use Rattle.iscsi_transfer.specs.Task.{TaskState, fault_of, due_ask, is_whole, with_data, command_fault}
@@ -16,7 +16,6 @@ use Rattle.iscsi_transfer.specs.declared.task.Ask.{Ask}
 use Rattle.iscsi_session.specs.declared.transfers.Transfer.{Transfer}
 use Rattle.iscsi_session.specs.declared.verdict.Verdict.{Verdict}
 use Rattle.iscsi_session.specs.declared.verdict.Verdict.TheVariants.{Dropped, Violating, Feeding}
-use Rattle.iscsi_session.specs.Judging.{most_immediate}
 use Rattle.iscsi_session.specs.Texts.{exchange_of}
 use Rattle.iscsi_exchange.specs.ExchangeState.{ExchangeState}
 use Rattle.iscsi_session.specs.Transfers.{tag_of, tags_of, task_at, next_transfer_tag, unsent, r2t_for}
@@ -49,6 +48,8 @@ pub record SessionState : Type 0 where
   pub stat : ℕ
   pub tasks : TaskLists
   pub transfers : TransferList
+  -- the headers of the Task Management Function Requests that are not finished, in the order in which they came
+  pub functions : List (List ℕ)
   pub exchange : ExchangeState
 
 -- the request with this number
@@ -74,8 +75,18 @@ transfer_of past k = record { header = (frame_of past.came k).header; task = tas
 unfoldable pub transfers_of : Past → TransferList
 transfers_of past = record { next_tag = next_transfer_tag past; list = map (transfer_of past) (unfinished past) }
 
+unfoldable pub functions_of : Past → List (List ℕ)
+functions_of past = map (λ k. (frame_of past.came k).header) (functions past)
+
 abbrev pub remembered : Past → SessionState
-remembered past = record { params = past.params; stat = stat_sn (statuses past); tasks = tasks_of past; transfers = transfers_of past; exchange = exchange_of past }
+remembered past = record {
+  params = past.params;
+  stat = stat_sn (statuses past);
+  tasks = tasks_of past;
+  transfers = transfers_of past;
+  functions = functions_of past;
+  exchange = exchange_of past;
+}
 
 -- the numbers alone
 abbrev pub window_of : TaskLists → windows.WindowState
@@ -110,6 +121,8 @@ pub record IsLawful (past : Past) : Type 0 where
   pub asked : All (λ r. r.command < length past.came) past.r2ts
   -- RFC 7143 §11.2.1.8: no two SCSI Commands that are not finished have one tag
   pub tags : AreDistinct (map (tag_of past.came) (unfinished past))
+  -- and no two Task Management Function Requests
+  pub function_tags : AreDistinct (map (tag_of past.came) (functions past))
   -- none is removed yet
   pub none_removed : past.removed ≡ []
 
@@ -182,8 +195,8 @@ place_for frame transfers = place_with (initiator_task_tag frame.header) transfe
 abbrev pub begun_transfer : List ℕ → TaskState → Transfer
 begun_transfer header task = record { header = header; task = task; sent = 0 }
 
-abbrev pub has_most : List Transfer → Bool
-has_most transfers = not (nat_lt (length (filter (λ transfer. is_immediate transfer.header) transfers)) most_immediate)
+abbrev pub immediate_transfers : List Transfer → ℕ
+immediate_transfers transfers = length (filter (λ transfer. is_immediate transfer.header) transfers)
 
 -- a Data-Out for the command at this place
 abbrev pub judged_at : List Transfer → Frame → Option ℕ → Verdict
@@ -236,10 +249,23 @@ is_waiting_by (frame ∷ others) transfers = not (whole_at transfers (place_for 
 abbrev pub is_waiting : SessionState → Bool
 is_waiting state = is_waiting_by state.tasks.queue state.transfers.list
 
--- a SCSI Command whose tag is not live, and whose data is as agreed
-pub record IsLawfulCommand (state : SessionState) (frame : Frame) : Type 0 where
+-- ---- what the code does to its Task Management Function Requests
+
+abbrev pub function_place : ℕ → List (List ℕ) → Option ℕ
+function_place tag headers = position (λ header. initiator_task_tag header == tag) headers
+
+abbrev pub immediate_functions : List (List ℕ) → ℕ
+immediate_functions headers = length (filter is_immediate headers)
+
+abbrev pub function_removed : List (List ℕ) → Option ℕ → List (List ℕ)
+function_removed headers None = headers
+function_removed headers (Some i) = remove headers i
+
+-- its tag is not live, and the data of a SCSI Command is as agreed
+pub record IsLawfulTask (state : SessionState) (frame : Frame) : Type 0 where
   pub tag : place_for frame state.transfers.list ≡ None
-  pub agreed : command_fault state.params.values frame ≡ None
+  pub function_tag : function_place (initiator_task_tag frame.header) state.functions ≡ None
+  pub agreed : is_command frame ≡ true → command_fault state.params.values frame ≡ None
 
 abbrev pub IsAcceptable : SessionState → Frame → Type 0
-IsAcceptable state frame = is_command frame ≡ true → IsLawfulCommand state frame
+IsAcceptable state frame = (is_command frame || is_function frame) ≡ true → IsLawfulTask state frame

@@ -4,7 +4,7 @@ ghost use Rattle.std.specs.Prelude.{◌≡◌, ◌≤◌, ◌<◌, ◌++◌, ◌
 ghost use Rattle.scsi_unit.specs.Units.{UnitStates};
 ghost use Rattle.iscsi_pdu.specs.Answer.{spelling};
 ghost use Rattle.iscsi_pdu.specs.Frames as pdu;
-ghost use Rattle.iscsi_session.specs.Requests.{Past, is_command, frame_of, due, stamp, answering};
+ghost use Rattle.iscsi_session.specs.Requests.{Past, is_command, is_function as is_function_in, frame_of, due, stamp, answering};
 ghost use Rattle.iscsi_session.specs.Acts.{acted, act_answers, act_by, acted_by, answers_by, closes, ends, logout_answer, ping_answers};
 ghost use Rattle.iscsi_session.specs.Room.{room_to_act};
 ghost use Rattle.iscsi_session.specs.State.{Stands};
@@ -15,6 +15,7 @@ ghost use Rattle.iscsi_session.specs.Texts.{is_text as is_text_in};
 use crate::act::Act;
 use crate::answers::{put, rejected};
 use crate::fault::Memory;
+use crate::functions::is_function;
 use crate::session::{RESERVED_TAG, Session};
 use crate::texts::is_text;
 use bytes::BytesMut;
@@ -54,8 +55,8 @@ impl Session {
         }
     }
 
-    /// The next request that was taken acts: a SCSI Command joins the queue, a NOP-Out, a Text and a Logout
-    /// are answered at the end of the buffer. Where an allocation fails nothing changes.
+    /// The next request that was taken acts: a SCSI Command joins the queue, every other request is
+    /// answered at the end of the buffer. Where an allocation fails nothing changes.
     fn act(&mut self, out: &mut BytesMut) -> Result<Act, Memory>
         ensures act { IfOk result (λ a. (past : Past) → Stands past self.old → a ≡ act_by (due past) past) }
         ensures stands { OnOk result ((past : Past) → Stands past self.old → Stands (acted_by (due past) past) self.new) }
@@ -74,6 +75,7 @@ impl Session {
                 Ok(Act::Taken)
             }
             Some(frame) if is_text(frame) => self.answer_text(out),
+            Some(frame) if is_function(frame) => self.answer_function(out),
             Some(frame) => {
                 out.reserve(frame.body.len() + ROOM_TO_ACT)?;
                 Ok(self.answer(out))
@@ -86,11 +88,11 @@ impl Session {
     fn answer(&mut self, out: &mut BytesMut) -> Act
         requires { (frame : pdu.Frame) (others : List pdu.Frame) → self.old.tasks.due ≡ frame ∷ others → room_to_act frame ≤ out.old.spare }
         ensures act { (past : Past) (k : ℕ) (others : List ℕ) → Stands past self.old → due past ≡ k ∷ others → is_command (frame_of past.came k) ≡ false
-            → is_text_in (frame_of past.came k) ≡ false → result ≡ (if ends past.params (frame_of past.came k) then Act.Ended else Act.Taken) }
+            → is_text_in (frame_of past.came k) ≡ false → is_function_in (frame_of past.came k) ≡ false → result ≡ (if ends past.params (frame_of past.came k) then Act.Ended else Act.Taken) }
         ensures stands { (past : Past) (k : ℕ) (others : List ℕ) → Stands past self.old → due past ≡ k ∷ others → is_command (frame_of past.came k) ≡ false
-            → is_text_in (frame_of past.came k) ≡ false → Stands (acted k past) self.new }
+            → is_text_in (frame_of past.came k) ≡ false → is_function_in (frame_of past.came k) ≡ false → Stands (acted k past) self.new }
         ensures out { (past : Past) (k : ℕ) (others : List ℕ) → Stands past self.old → due past ≡ k ∷ others → is_command (frame_of past.came k) ≡ false
-            → is_text_in (frame_of past.came k) ≡ false → out.new.items ≡ out.old.items ++ flat_map spelling (act_answers k past) }
+            → is_text_in (frame_of past.came k) ≡ false → is_function_in (frame_of past.came k) ≡ false → out.new.items ≡ out.old.items ++ flat_map spelling (act_answers k past) }
         ensures grows { (more : List ℕ) × (out.new.items ≡ out.old.items ++ more) }
         ensures fewer { result ≡ Act.Taken → length self.new.tasks.due < length self.old.tasks.due }
         ensures params { self.new.params ≡ self.old.params }
@@ -104,11 +106,11 @@ impl Session {
                 Act::Taken
             }
             Opcode::Logout => self.log_out(&frame, out),
-            // None of these is accepted but a SCSI Command and a Text, and they are no requests of this kind.
+            // None of these is accepted but the first three, and they are no requests of this kind.
             Opcode::ScsiCommand
             | Opcode::TaskManagement
-            | Opcode::Login
             | Opcode::Text
+            | Opcode::Login
             | Opcode::DataOut
             | Opcode::Snack
             | Opcode::Other(_) => Act::Taken,

@@ -1,22 +1,26 @@
 //! The judging of a frame.
 
-ghost use Rattle.std.specs.Prelude.{◌≡◌, ◌≢◌, ◌≤◌, ◌++◌, ◌∷◌, ℕ, List, [], true, flat_map, IfOk, OnOk, OnErr};
+ghost use Rattle.std.specs.Prelude.{◌≡◌, ◌≢◌, ◌≤◌, ◌||◌, is_some, ◌++◌, ◌∷◌, ℕ, List, [], true, flat_map, IfOk, OnOk, OnErr};
 ghost use Rattle.iscsi_pdu.specs.Answer.{spelling};
 ghost use Rattle.iscsi_pdu.specs.Frames as pdu;
 ghost use Rattle.iscsi_pdu.specs.Header.{initiator_task_tag};
-ghost use Rattle.iscsi_session.specs.Requests.{Past, is_command as is_command_in, accepted, answering, stamp};
+ghost use Rattle.iscsi_session.specs.Requests.{Past, is_command as is_command_in, is_function as is_function_in, accepted, answering, stamp};
 ghost use Rattle.iscsi_session.specs.Transfers.{command_with, fed};
-ghost use Rattle.iscsi_session.specs.Judging.{verdict, request_verdict, is_refused, is_fresh, command_verdict, judged, judged_answers, reject};
-ghost use Rattle.iscsi_session.specs.State.{Stands, is_vacant_for, judged_at, place_for, IsAcceptable, IsLawfulCommand};
+ghost use Rattle.iscsi_session.specs.Judging.{verdict, request_verdict, is_refused, is_fresh, is_full, is_live, is_faulty, task_verdict, judged, judged_answers, reject};
+ghost use Rattle.iscsi_session.specs.State.{Stands, is_vacant_for, judged_at, place_for, place_with, function_place, IsAcceptable, IsLawfulTask};
 
 use crate::acting::is_command;
 use crate::answers::{put, rejected};
 use crate::fault::Memory;
+use crate::functions::is_function;
 use crate::session::{RESERVED_TAG, Session};
 use crate::verdict::Verdict;
 use bytes::BytesMut;
 use iscsi_pdu::{Frame, Header, Opcode, RejectReason};
 use iscsi_transfer::command_fault;
+
+/// So many SCSI Commands and Task Management Function Requests for immediate delivery may be unfinished.
+const MOST_IMMEDIATE: usize = 8;
 
 /// The length of a Reject, in bytes.
 const LONGEST_REJECT: usize = 96;
@@ -86,7 +90,7 @@ impl Session {
     {
         let header = &frame.header;
         match header.opcode() {
-            Opcode::ScsiCommand => self.judge_command(frame),
+            Opcode::ScsiCommand | Opcode::TaskManagement => self.judge_task(frame),
             Opcode::NopOut | Opcode::Text | Opcode::Logout => {
                 if self.is_fresh(frame) {
                     return Verdict::Accepted;
@@ -96,9 +100,7 @@ impl Session {
             Opcode::Login => Verdict::Violating,
             Opcode::DataOut => self.transfers.judge(frame),
             Opcode::Snack => Verdict::Rejected(RejectReason::Snack),
-            Opcode::TaskManagement | Opcode::Other(_) => {
-                Verdict::Rejected(RejectReason::CommandNotSupported)
-            }
+            Opcode::Other(_) => Verdict::Rejected(RejectReason::CommandNotSupported),
         }
     }
 
@@ -110,28 +112,54 @@ impl Session {
         frame.header.is_immediate() || self.tasks.is_new(frame.header.cmd_sn())
     }
 
-    /// What a SCSI Command is judged to be.
-    fn judge_command(&self, frame: &Frame) -> Verdict
-        ensures verdict { (past : Past) → Stands past self.now → result ≡ command_verdict past frame.now }
+    /// What a SCSI Command or a Task Management Function Request is judged to be.
+    fn judge_task(&self, frame: &Frame) -> Verdict
+        ensures verdict { (past : Past) → Stands past self.now → result ≡ task_verdict past frame.now }
         ensures vacant { result ≡ Verdict.Accepted → is_vacant_for self.now.tasks frame.now ≡ true }
-        ensures acceptable { result ≡ Verdict.Accepted → IsLawfulCommand self.now frame.now }
+        ensures acceptable { result ≡ Verdict.Accepted → IsLawfulTask self.now frame.now }
         ensures no_data { result ≢ Verdict.Feeding }
     {
         let header = &frame.header;
         if !self.is_fresh(frame) {
             return Verdict::Ignored;
         }
-        if header.is_immediate() && self.transfers.is_full() {
+        if header.is_immediate() && self.is_full() {
             return Verdict::Rejected(RejectReason::TooManyImmediate);
         }
         let tag = header.initiator_task_tag();
-        if tag == RESERVED_TAG || self.transfers.is_live(tag) {
+        if tag == RESERVED_TAG || self.is_live(tag) {
             return Verdict::Violating;
         }
-        if command_fault(frame, &self.params.values).is_some() {
+        if self.is_faulty(frame) {
             return Verdict::Violating;
         }
         Verdict::Accepted
+    }
+
+    /// The data that a SCSI Command brings is not as agreed.
+    fn is_faulty(&self, frame: &Frame) -> bool
+        ensures { result ≡ is_faulty self.now.params.values frame.now }
+    {
+        is_command(frame) && command_fault(frame, &self.params.values).is_some()
+    }
+
+    /// As many SCSI Commands and Task Management Function Requests for immediate delivery as may be are not
+    /// finished.
+    fn is_full(&self) -> bool
+        ensures { (past : Past) → Stands past self.now → result ≡ is_full past }
+    {
+        self.transfers
+            .immediate()
+            .saturating_add(self.functions.immediate())
+            >= MOST_IMMEDIATE
+    }
+
+    /// A SCSI Command or a Task Management Function Request with this tag is not finished.
+    fn is_live(&self, tag: u32) -> bool
+        ensures live { (past : Past) → Stands past self.now → result ≡ is_live past tag }
+        ensures places { result ≡ (is_some (place_with tag self.now.transfers.list) || is_some (function_place tag self.now.functions)) }
+    {
+        self.transfers.is_live(tag) || self.functions.is_live(tag)
     }
 
     /// A request that is accepted is kept until it acts. Where an allocation fails nothing changes.
@@ -146,6 +174,9 @@ impl Session {
         if is_command(&frame) {
             return self.accept_command(frame);
         }
+        if is_function(&frame) {
+            return self.accept_function(frame);
+        }
         self.tasks.keep(frame)
     }
 
@@ -154,7 +185,7 @@ impl Session {
         requires burst { 1 ≤ self.old.params.values.max_burst_length }
         requires command { is_command_in frame ≡ true }
         requires vacant { is_vacant_for self.old.tasks frame ≡ true }
-        requires lawful { IsLawfulCommand self.old frame }
+        requires lawful { IsLawfulTask self.old frame }
         ensures stands { OnOk result ((past : Past) → Stands past self.old → Stands (accepted frame past) self.new) }
         ensures params { self.new.params ≡ self.old.params }
         ensures err { OnErr result (self.new ≡ self.old) }
@@ -162,6 +193,23 @@ impl Session {
         self.transfers.begin(&frame, &self.params.values)?;
         if self.tasks.keep(frame).is_err() {
             self.transfers.forget_last();
+            return Err(Memory);
+        }
+        Ok(())
+    }
+
+    /// A Task Management Function Request is kept. Where an allocation fails nothing changes.
+    fn accept_function(&mut self, frame: Frame) -> Result<(), Memory>
+        requires function { is_function_in frame ≡ true }
+        requires vacant { is_vacant_for self.old.tasks frame ≡ true }
+        requires lawful { IsLawfulTask self.old frame }
+        ensures stands { OnOk result ((past : Past) → Stands past self.old → Stands (accepted frame past) self.new) }
+        ensures params { self.new.params ≡ self.old.params }
+        ensures err { OnErr result (self.new ≡ self.old) }
+    {
+        self.functions.begin(frame.header)?;
+        if self.tasks.keep(frame).is_err() {
+            self.functions.forget_last();
             return Err(Memory);
         }
         Ok(())

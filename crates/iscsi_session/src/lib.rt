@@ -22,6 +22,7 @@ mod answering;
 mod answers;
 mod data_ins;
 mod fault;
+mod functions;
 mod judging;
 pub mod laws;
 mod serving;

@@ -5,6 +5,7 @@ ghost use Rattle.iscsi_pdu.specs.declared.answer.Answer.{Answer};
 ghost use Rattle.iscsi_session.specs.Requests.{Past, begun, bearing, stamp, answering};
 ghost use Rattle.iscsi_session.specs.State.{remembered, Stands, whole_at, place_for, is_waiting};
 
+use crate::functions::Functions;
 use crate::tasks::Tasks;
 use crate::transfers::Transfers;
 use iscsi_exchange::Exchange;
@@ -25,6 +26,7 @@ pub struct Session {
     pub(crate) stat: Stat,
     pub(crate) tasks: Tasks,
     pub(crate) transfers: Transfers,
+    pub(crate) functions: Functions,
     pub(crate) exchange: Exchange,
 }
 
@@ -33,7 +35,7 @@ impl Model for Session {
 
     ghost Value = { SessionState };
 
-    ghost view = { λ s. record { params = s.params; stat = s.stat; tasks = s.tasks; transfers = s.transfers; exchange = s.exchange } };
+    ghost view = { λ s. record { params = s.params; stat = s.stat; tasks = s.tasks; transfers = s.transfers; functions = s.functions; exchange = s.exchange } };
 }
 
 impl Session {
@@ -45,6 +47,7 @@ impl Session {
             stat: Stat::new(params.next_stat_sn),
             tasks: Tasks::new(alloc, params.first_cmd_sn),
             transfers: Transfers::new(alloc),
+            functions: Functions::new(alloc),
             exchange: Exchange::none(alloc),
             params,
         }

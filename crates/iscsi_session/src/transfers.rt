@@ -6,7 +6,7 @@ ghost use Rattle.iscsi_transfer.specs.Task.{command_fault, remembered as task_of
 ghost use Rattle.iscsi_session.specs.Transfers.{r2t_for};
 ghost use Rattle.iscsi_session.specs.declared.transfers.Transfer.{Transfer};
 ghost use Rattle.iscsi_session.specs.declared.verdict.Verdict.TheVariants.{Feeding};
-ghost use Rattle.iscsi_session.specs.State.{no_transfers, place_with, has_most, judged_at, fed_at, whole_at, payload_at, removed_at, place_for, begun_transfer, due_of, asking_place, r2t_at, asked_at};
+ghost use Rattle.iscsi_session.specs.State.{no_transfers, place_with, immediate_transfers, judged_at, fed_at, whole_at, payload_at, removed_at, place_for, begun_transfer, due_of, asking_place, r2t_at, asked_at};
 
 use crate::fault::Memory;
 use crate::verdict::Verdict;
@@ -15,9 +15,6 @@ use iscsi_pdu::{Frame, Header, R2t, Stamp};
 use iscsi_transfer::{Ask, DataFault, NO_TRANSFER_TAG, Task};
 use std::alloc::Global;
 use std::marker::Model;
-
-/// So many SCSI Commands for immediate delivery may be unfinished.
-const MOST_IMMEDIATE: usize = 8;
 
 /// The data of one SCSI Command.
 #[derive(Drop)]
@@ -91,9 +88,9 @@ impl Transfers {
         self.place_of(tag).is_some()
     }
 
-    /// As many SCSI Commands for immediate delivery as may be are not finished.
-    pub(crate) fn is_full(&self) -> bool
-        ensures { result ≡ has_most self.now.list }
+    /// How many for immediate delivery are not finished.
+    pub(crate) fn immediate(&self) -> usize
+        ensures { result ≡ immediate_transfers self.now.list }
     {
         let mut immediate = 0;
         for transfer in &self.list {
@@ -101,7 +98,7 @@ impl Transfers {
                 immediate += 1;
             }
         }
-        immediate >= MOST_IMMEDIATE
+        immediate
     }
 
     /// What a Data-Out is judged to be.

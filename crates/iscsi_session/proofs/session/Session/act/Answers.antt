@@ -3,11 +3,11 @@ use Rattle.std.specs.Prelude.{flat_map}
 use Rattle.std.proofs.lemmas.Result.{IfOk-weaker, on_ok_weaker}
 use Rattle.iscsi_pdu.specs.Frames.{Frame}
 use Rattle.iscsi_pdu.specs.Answer.{spelling}
-use Rattle.iscsi_session.specs.Requests.{is_command, frame_of}
+use Rattle.iscsi_session.specs.Requests.{is_command, is_function, frame_of}
 use Rattle.iscsi_session.specs.Acts.{act_answers}
 use Rattle.iscsi_session.specs.Texts.{is_text}
 use Rattle.iscsi_session.specs.State.{SessionState, TaskLists, Stands}
-use Rattle.iscsi_session.proofs.Answered.{none_due, due_first, idle_act, idle_stands, idle_out, one_act, one_stands, one_out, command_act, command_answers_none, text_act, none_spelled, stands_queued}
+use Rattle.iscsi_session.proofs.Answered.{none_due, due_first, idle_act, idle_stands, idle_out, one_act, one_stands, one_out, command_act, command_answers_none, text_act, function_act, none_spelled, stands_queued}
 use Rattle.iscsi_session.proofs.session.Session.act.Goals as goal
 
 -- ---- no request acts
@@ -87,29 +87,60 @@ returns-in-Some-2-clause-out c =
     let text : is_text (frame_of past.came d.0) ≡ true = ap is_text (sym d.3) ∙ sym c.is_text.ensures ∙ c.if-is_text.true in
     one_out past d.0 d.1 _ _ d.2 (h past d.0 d.1 s d.2 text))) c.answer_text.ensures.out
 
+-- ---- a Task Management Function Request
+
+pub returns-in-Some-3-clause-act : goal.returns-in-Some-3-clause-act
+returns-in-Some-3-clause-act c =
+    IfOk-weaker c.answer_function.result _ _ (λ a e past s.
+    (let known = subst (λ (x : SessionState). Stands past x) (sym c.self.view_is) s in
+    let d = due_first past _ c.in-Some.frame.now _ known c.in-Some.ensures.some in
+    let function : is_function (frame_of past.came d.0) ≡ true = ap is_function (sym d.3) ∙ sym c.is_function.ensures ∙ c.if-is_function.true in
+    let some = ap (λ (l : List Frame). length l) c.in-Some.ensures.some in
+    let before = ap (λ (x : SessionState). length x.tasks.due) c.self.view_is in
+    one_act past d.0 d.1 a d.2 (e (omega (arith, some, before)) ∙ function_act d.0 past function))) c.answer_function.ensures.act
+
+pub returns-in-Some-3-clause-stands : goal.returns-in-Some-3-clause-stands
+returns-in-Some-3-clause-stands c =
+    on_ok_weaker c.answer_function.result (λ h past s.
+    (let known = subst (λ (x : SessionState). Stands past x) (sym c.self.view_is) s in
+    let d = due_first past _ c.in-Some.frame.now _ known c.in-Some.ensures.some in
+    let function : is_function (frame_of past.came d.0) ≡ true = ap is_function (sym d.3) ∙ sym c.is_function.ensures ∙ c.if-is_function.true in
+    one_stands past d.0 d.1 _ d.2 (h past d.0 d.1 s d.2 function))) c.answer_function.ensures.stands
+
+pub returns-in-Some-3-clause-out : goal.returns-in-Some-3-clause-out
+returns-in-Some-3-clause-out c =
+    on_ok_weaker c.answer_function.result (λ h past s.
+    (let known = subst (λ (x : SessionState). Stands past x) (sym c.self.view_is) s in
+    let d = due_first past _ c.in-Some.frame.now _ known c.in-Some.ensures.some in
+    let function : is_function (frame_of past.came d.0) ≡ true = ap is_function (sym d.3) ∙ sym c.is_function.ensures ∙ c.if-is_function.true in
+    one_out past d.0 d.1 _ _ d.2 (h past d.0 d.1 s d.2 function))) c.answer_function.ensures.out
+
 -- ---- a NOP-Out or a Logout
 
-pub returns-in_ok-reserve-in-Some-3-clause-act : goal.returns-in_ok-reserve-in-Some-3-clause-act
-returns-in_ok-reserve-in-Some-3-clause-act c past s =
+pub returns-in_ok-reserve-in-Some-4-clause-act : goal.returns-in_ok-reserve-in-Some-4-clause-act
+returns-in_ok-reserve-in-Some-4-clause-act c past s =
     let known = subst (λ (x : SessionState). Stands past x) (sym c.self.view_is) s in
     let d = due_first past _ c.in-Some.frame.now _ known c.in-Some.ensures.some in
     let kind : is_command (frame_of past.came d.0) ≡ false = ap is_command (sym d.3) ∙ sym c.is_command.ensures ∙ c.if-is_command.false in
     let no_text : is_text (frame_of past.came d.0) ≡ false = ap is_text (sym d.3) ∙ sym c.is_text.ensures ∙ c.if-is_text.false in
-    one_act past d.0 d.1 _ d.2 (c.answer.ensures.act past d.0 d.1 s d.2 kind no_text)
+    let no_function : is_function (frame_of past.came d.0) ≡ false = ap is_function (sym d.3) ∙ sym c.is_function.ensures ∙ c.if-is_function.false in
+    one_act past d.0 d.1 _ d.2 (c.answer.ensures.act past d.0 d.1 s d.2 kind no_text no_function)
 
-pub returns-in_ok-reserve-in-Some-3-clause-stands : goal.returns-in_ok-reserve-in-Some-3-clause-stands
-returns-in_ok-reserve-in-Some-3-clause-stands c past s =
+pub returns-in_ok-reserve-in-Some-4-clause-stands : goal.returns-in_ok-reserve-in-Some-4-clause-stands
+returns-in_ok-reserve-in-Some-4-clause-stands c past s =
     let known = subst (λ (x : SessionState). Stands past x) (sym c.self.view_is) s in
     let d = due_first past _ c.in-Some.frame.now _ known c.in-Some.ensures.some in
     let kind : is_command (frame_of past.came d.0) ≡ false = ap is_command (sym d.3) ∙ sym c.is_command.ensures ∙ c.if-is_command.false in
     let no_text : is_text (frame_of past.came d.0) ≡ false = ap is_text (sym d.3) ∙ sym c.is_text.ensures ∙ c.if-is_text.false in
-    one_stands past d.0 d.1 _ d.2 (c.answer.ensures.stands past d.0 d.1 s d.2 kind no_text)
+    let no_function : is_function (frame_of past.came d.0) ≡ false = ap is_function (sym d.3) ∙ sym c.is_function.ensures ∙ c.if-is_function.false in
+    one_stands past d.0 d.1 _ d.2 (c.answer.ensures.stands past d.0 d.1 s d.2 kind no_text no_function)
 
-pub returns-in_ok-reserve-in-Some-3-clause-out : goal.returns-in_ok-reserve-in-Some-3-clause-out
-returns-in_ok-reserve-in-Some-3-clause-out c past s =
+pub returns-in_ok-reserve-in-Some-4-clause-out : goal.returns-in_ok-reserve-in-Some-4-clause-out
+returns-in_ok-reserve-in-Some-4-clause-out c past s =
     let known = subst (λ (x : SessionState). Stands past x) (sym c.self.view_is) s in
     let d = due_first past _ c.in-Some.frame.now _ known c.in-Some.ensures.some in
     let kind : is_command (frame_of past.came d.0) ≡ false = ap is_command (sym d.3) ∙ sym c.is_command.ensures ∙ c.if-is_command.false in
     let no_text : is_text (frame_of past.came d.0) ≡ false = ap is_text (sym d.3) ∙ sym c.is_text.ensures ∙ c.if-is_text.false in
-    one_out past d.0 d.1 _ _ d.2 (c.answer.ensures.out past d.0 d.1 s d.2 kind no_text
-    ∙ ap (λ (bytes : List ℕ). bytes ++ flat_map spelling (act_answers d.0 past)) c.in_ok-reserve-in-Some-3.ensures.items)
+    let no_function : is_function (frame_of past.came d.0) ≡ false = ap is_function (sym d.3) ∙ sym c.is_function.ensures ∙ c.if-is_function.false in
+    one_out past d.0 d.1 _ _ d.2 (c.answer.ensures.out past d.0 d.1 s d.2 kind no_text no_function
+    ∙ ap (λ (bytes : List ℕ). bytes ++ flat_map spelling (act_answers d.0 past)) c.in_ok-reserve-in-Some-4.ensures.items)

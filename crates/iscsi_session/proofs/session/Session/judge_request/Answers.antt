@@ -5,15 +5,14 @@ use Rattle.iscsi_pdu.specs.declared.header.Opcode.TheVariants as opcodes
 use Rattle.iscsi_session.specs.Judging.{verdict_by}
 use Rattle.iscsi_session.specs.State.{SessionState, Stands}
 use Rattle.iscsi_session.proofs.Feeding.{judged_is}
-use Rattle.iscsi_session.proofs.Verdicts.{verdict_at, numbered_verdict, fed_verdict, refused_verdict}
+use Rattle.iscsi_session.proofs.Verdicts.{verdict_at, numbered_verdict, fed_verdict, tested_verdict, refused_verdict}
 use Rattle.iscsi_session.proofs.session.Session.judge_request.Goals as goal
 
 pub returns-in-ScsiCommand-clause-verdict : goal.returns-in-ScsiCommand-clause-verdict
-unfolding verdict_by
 returns-in-ScsiCommand-clause-verdict c past s =
     let opcode : opcode_of (opcode_number c.args.frame.now.header) ≡ c.opcode.result = ap (λ (f : Frame). opcode_of (opcode_number f.header))
     (sym c.frame.view_is) ∙ sym c.opcode.ensures in
-    c.judge_command.ensures.verdict past s ∙ sym (verdict_at past c.args.frame.now opcodes.ScsiCommand (opcode ∙ c.in-ScsiCommand.is))
+    c.judge_task.ensures.verdict past s ∙ sym (tested_verdict past c.args.frame.now c.opcode.result opcode c.in-ScsiCommand.is)
 
 pub returns-then-is_fresh-clause-verdict : goal.returns-then-is_fresh-clause-verdict
 returns-then-is_fresh-clause-verdict c past s =
@@ -48,8 +47,8 @@ returns-in-Snack-clause-verdict c past s =
     (sym c.frame.view_is) ∙ sym c.opcode.ensures in
     sym (verdict_at past c.args.frame.now opcodes.Snack (opcode ∙ c.in-Snack.is))
 
-pub returns-in-TaskManagement-clause-verdict : goal.returns-in-TaskManagement-clause-verdict
-returns-in-TaskManagement-clause-verdict c past s =
+pub returns-in-Other-clause-verdict : goal.returns-in-Other-clause-verdict
+returns-in-Other-clause-verdict c past s =
     let opcode : opcode_of (opcode_number c.args.frame.now.header) ≡ c.opcode.result = ap (λ (f : Frame). opcode_of (opcode_number f.header))
     (sym c.frame.view_is) ∙ sym c.opcode.ensures in
-    sym (refused_verdict past c.args.frame.now c.opcode.result opcode c.in-TaskManagement.is)
+    sym (refused_verdict past c.args.frame.now c.opcode.result opcode (c.in-Other.field-0, c.in-Other.is))

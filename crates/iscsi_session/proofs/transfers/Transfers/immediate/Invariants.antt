@@ -1,7 +1,7 @@
 use Rattle.std.proofs.Common.{◌≡◌, ◌+◌, ◌≤◌, length, drop}
 use Rattle.std.specs.Prelude.{filter}
 use Rattle.iscsi_pdu.specs.Header.{is_immediate}
-use Rattle.iscsi_session.proofs.transfers.Transfers.is_full.Given as goal
+use Rattle.iscsi_session.proofs.transfers.Transfers.immediate.Given as goal
 
 -- those so far and those to come are all
 abbrev pub invariant-loop-transfer : goal.invariant-loop-transfer

@@ -1,0 +1,16 @@
+use Rattle.std.proofs.Common.{◌≡◌, ◌+◌, ◌-◌, ◌^◌, ◌≤◌, min, leb, ltb, not, ℕ, Bool, true, false, refl, sym, ap, subst, ◌∙◌, arith}
+use Rattle.std.proofs.lemmas.Bool.{ltb-true, ltb-false, le-leb, lt-leb}
+use Rattle.iscsi_session.specs.State.{SessionState, Stands, immediate_transfers, immediate_functions}
+use Rattle.iscsi_session.proofs.Feeding.{full_is}
+use Rattle.iscsi_session.proofs.session.Session.is_full.Goals as goal
+
+most_by : (b : Bool) (n r : ℕ) → ltb n 8 ≡ b → r ≡ min n (2 ^ 64 - 1) → leb 8 r ≡ not b
+most_by true n r e is = let lt = ltb-true n 8 e in lt-leb 8 r (omega arith)
+most_by false n r e is = let le = ltb-false n 8 e in le-leb 8 r (omega arith)
+
+pub returns : goal.returns
+returns c past s =
+    let known = subst (λ (x : SessionState). Stands past x) (sym c.self.view_is) s in
+    most_by _ (immediate_transfers c.self.inside.transfers.list + immediate_functions c.self.inside.functions) c.saturating_add.result refl
+    (omega (arith, c.saturating_add.ensures, c.immediate.ensures, c.immediate-2.ensures))
+    ∙ full_is past _ known
