@@ -4,6 +4,8 @@ use Rattle.byteorder.specs.Endian.{big_from}
 use Rattle.scsi_sense.specs.declared.sense.Sense.{Sense}
 use Rattle.scsi_cdb.specs.Range.{Range, range_of, compared_range_of, same_range_of}
 use Rattle.scsi_cdb.specs.Fault.{invalid_operation_code, field_sense}
+use Rattle.scsi_cdb.specs.Taken.{command_if}
+use Rattle.scsi_cdb.specs.Tape.{tape_fields}
 use Rattle.scsi_cdb.specs.Operation.{row_for}
 use Rattle.scsi_cdb.specs.PersistentReserve.{reserve_in_of, reserve_out_of}
 use Rattle.scsi_cdb.specs.declared.operation.Kind.{Kind}
@@ -16,6 +18,7 @@ use Rattle.scsi_cdb.specs.declared.command.UnitCommand.TheVariants.{ReserveIn, R
 use Rattle.scsi_cdb.specs.declared.command.DiskCommand.{DiskCommand}
 use Rattle.scsi_cdb.specs.declared.command.DiskCommand.TheVariants.{Read, ReadCapacity10, ReadCapacity16, Write, Verify, VerifyData}
 use Rattle.scsi_cdb.specs.declared.command.DiskCommand.TheVariants.{SynchronizeCache, WriteSame, CompareAndWrite}
+use Rattle.scsi_cdb.specs.declared.tape.TapeCommand.{TapeCommand}
 use Rattle.scsi_cdb.specs.declared.fault.FieldFault.{FieldFault}
 use Rattle.scsi_cdb.specs.declared.fault.FieldFault.TheVariants.{InvalidField, SavingNotSupported}
 use Rattle.scsi_cdb.specs.declared.mode.ParameterHeader.{ParameterHeader}
@@ -28,15 +31,11 @@ use Rattle.scsi_cdb.specs.declared.report_luns.ReportLunsFields.{ReportLunsField
 use Rattle.scsi_cdb.specs.declared.report_luns.SelectReport.{SelectReport}
 use Rattle.scsi_cdb.specs.declared.report_luns.SelectReport.TheVariants.{LogicalUnits, WellKnown, All}
 use Rattle.scsi_cdb.specs.declared.operation.Operation.{Operation}
-use Rattle.scsi_cdb.specs.declared.operation.Operation.TheVariants.{Unit, Disk}
+use Rattle.scsi_cdb.specs.declared.operation.Operation.TheVariants.{Unit, Disk, Tape}
 use Rattle.scsi_cdb.specs.declared.operation.UnitOperation.{UnitOperation}
 use Rattle.scsi_cdb.specs.declared.operation.UnitOperation.TheVariants as unit
 use Rattle.scsi_cdb.specs.declared.operation.DiskOperation.{DiskOperation}
 use Rattle.scsi_cdb.specs.declared.operation.DiskOperation.TheVariants as disk
-
--- a command where its fields are taken
-abbrev pub command_if : {C : Type 0} → Bool → C → Result C FieldFault
-command_if is_taken command = if is_taken then Ok command else Err InvalidField
 
 -- SPC-4 "INQUIRY command": the page where EVPD, bit 0 of byte 1, is set; without it the page code is to be 0
 abbrev pub inquiry_of : List ℕ → Result UnitCommand FieldFault
@@ -188,10 +187,15 @@ abbrev pub to_disk : Result DiskCommand FieldFault → Result Command FieldFault
 to_disk (Ok command) = Ok (to.Disk command)
 to_disk (Err fault) = Err fault
 
+abbrev pub to_tape : Result TapeCommand FieldFault → Result Command FieldFault
+to_tape (Ok command) = Ok (to.Tape command)
+to_tape (Err fault) = Err fault
+
 -- the command that the bytes spell for an operation
 abbrev pub fields_of : Operation → List ℕ → Result Command FieldFault
 fields_of (Unit operation) cdb = to_unit (unit_fields operation cdb)
 fields_of (Disk operation) cdb = to_disk (disk_fields operation cdb)
+fields_of (Tape operation) cdb = to_tape (tape_fields operation cdb)
 
 abbrev pub with_sense : Result Command FieldFault → Result Command Sense
 with_sense (Ok command) = Ok command

@@ -16,7 +16,7 @@ test_unit_ready : (command_of (0x00 ∷ replicate 15 0xff) Disk ≡ Ok (to.Unit 
 test_unit_ready = (refl, refl)
 
 -- no code of that kind
-unknown_code : (command_of (0x01 ∷ replicate 15 0) Tape ≡ Err invalid_operation_code)
+unknown_code : (command_of (0x02 ∷ replicate 15 0) Tape ≡ Err invalid_operation_code)
     × (command_of (0xff ∷ replicate 15 0) Disk ≡ Err invalid_operation_code) × (command_of (0x28 ∷ replicate 15 0) Tape ≡ Err invalid_operation_code)
 unknown_code = (refl, refl, refl)
 

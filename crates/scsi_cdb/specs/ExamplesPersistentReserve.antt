@@ -1,5 +1,5 @@
 -- The fields of PERSISTENT RESERVE IN and PERSISTENT RESERVE OUT, computed.
-use Rattle.std.specs.Prelude.{◌≡◌, [], ◌∷◌, ◌++◌, Ok, Err, replicate, refl}
+use Rattle.std.specs.Prelude.{◌≡◌, ◌∷◌, ◌++◌, Ok, Err, replicate, refl}
 use Rattle.scsi_cdb.specs.Command.{command_of}
 use Rattle.scsi_cdb.specs.Fault.{invalid_field}
 use Rattle.scsi_cdb.specs.PersistentReserve.{reserve_in_of, reserve_out_of}

@@ -1,10 +1,14 @@
 pub use Rattle.scsi_sense.specs.Codes
 pub use Rattle.scsi_sense.specs.Sense
 pub mod Range
+pub mod Record
 pub mod Fault
+pub mod Taken
 pub mod Operation
 pub mod PersistentReserve
+pub mod Tape
 pub mod Command
 pub mod ExamplesOperation
 pub mod ExamplesPersistentReserve
 pub mod ExamplesCommand
+pub mod ExamplesTape

@@ -4,6 +4,7 @@ use crate::block_range::{AnyRange, BlockRange, ComparedRange, SameRange};
 use crate::mode::{ModeSelectFields, ModeSenseFields};
 use crate::persistent_reserve::{ReserveInFields, ReserveOutFields};
 use crate::report_luns::ReportLunsFields;
+use crate::tape::TapeCommand;
 
 /// A command with its fields.
 #[derive(Clone, Copy, Debug, PartialEq, Eq)]
@@ -12,6 +13,8 @@ pub enum Command {
     Unit(UnitCommand),
     /// To a disk.
     Disk(DiskCommand),
+    /// To a tape.
+    Tape(TapeCommand),
 }
 
 /// A command to a unit of any kind.

@@ -1,7 +1,8 @@
 //! The fields of command descriptor blocks.
 
 ghost use Rattle.std.specs.Prelude.{◌≡◌, slice_index};
-ghost use Rattle.scsi_cdb.specs.Command.{fields_of, unit_fields, disk_fields, command_if, inquiry_of, mode_select_of, control_of, mode_sense_of};
+ghost use Rattle.scsi_cdb.specs.Command.{fields_of, unit_fields, disk_fields, inquiry_of, mode_select_of, control_of, mode_sense_of};
+ghost use Rattle.scsi_cdb.specs.Taken.{command_if};
 ghost use Rattle.scsi_cdb.specs.Command.{range_10 as range_of_10, range_16 as range_of_16, range_compared, is_without_protection};
 ghost use Rattle.scsi_cdb.specs.Command.{forces_access as forces_unit_access, read_of, write_of, verify_of, write_same_of, compare_and_write_of};
 
@@ -55,6 +56,7 @@ impl Operation {
         match self {
             Operation::Unit(operation) => Ok(Command::Unit(operation.command(&bytes)?)),
             Operation::Disk(operation) => Ok(Command::Disk(operation.command(&bytes)?)),
+            Operation::Tape(operation) => Ok(Command::Tape(operation.command(&bytes)?)),
         }
     }
 }
@@ -129,7 +131,7 @@ impl DiskOperation {
 }
 
 /// The command where its fields are taken.
-fn command_where<C: Drop>(is_taken: bool, command: C) -> Result<C, FieldFault>
+pub(crate) fn command_where<C: Drop>(is_taken: bool, command: C) -> Result<C, FieldFault>
     ensures { result ≡ command_if is_taken command }
 {
     if is_taken {

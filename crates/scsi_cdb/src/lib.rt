@@ -10,35 +10,46 @@
 //! [`Cdb::read`] is both. These are read so far; a row also has a class for reservations ([`class`]):
 //!
 //! ```text
-//! code  disk  tape  passes an attention, a missing unit; needs the medium ready
-//! 00h   yes   yes                                        ready  TEST UNIT READY
-//! 03h   yes   yes   attention            missing unit           REQUEST SENSE
-//! 12h   yes   yes   attention            missing unit           INQUIRY
-//! 15h   yes   yes                                               MODE SELECT (6)
-//! 1Ah   yes   yes                                               MODE SENSE (6)
-//! 25h   yes                                                     READ CAPACITY (10)
-//! 28h   yes                                              ready  READ (10)
-//! 2Ah   yes                                              ready  WRITE (10)
-//! 2Fh   yes                                              ready  VERIFY (10)
-//! 35h   yes                                              ready  SYNCHRONIZE CACHE (10)
-//! 41h   yes                                              ready  WRITE SAME (10)
-//! 55h   yes   yes                                               MODE SELECT (10)
-//! 5Ah   yes   yes                                               MODE SENSE (10)
-//! 5Eh   yes   yes                                               PERSISTENT RESERVE IN
-//! 5Fh   yes   yes                                               PERSISTENT RESERVE OUT
-//! 88h   yes                                              ready  READ (16)
-//! 89h   yes                                              ready  COMPARE AND WRITE
-//! 8Ah   yes                                              ready  WRITE (16)
-//! 8Fh   yes                                              ready  VERIFY (16)
-//! 91h   yes                                              ready  SYNCHRONIZE CACHE (16)
-//! 93h   yes                                              ready  WRITE SAME (16)
-//! 9Eh   yes                                                     SERVICE ACTION IN (16): READ CAPACITY (16)
-//! A0h   yes   yes   attention                                   REPORT LUNS
+//! code  disk  tape  passes an attention, a missing unit; what it needs
+//! 00h   yes   yes                                        ready    TEST UNIT READY
+//! 01h         yes                                        ready    REWIND
+//! 03h   yes   yes   attention            missing unit             REQUEST SENSE
+//! 05h         yes                                                 READ BLOCK LIMITS
+//! 08h         yes                                        ready    READ (6)
+//! 0Ah         yes                                        ready    WRITE (6)
+//! 10h         yes                                        ready    WRITE FILEMARKS (6)
+//! 11h         yes                                        ready    SPACE (6)
+//! 12h   yes   yes   attention            missing unit             INQUIRY
+//! 15h   yes   yes                                                 MODE SELECT (6)
+//! 19h         yes                                        ready    ERASE (6)
+//! 1Ah   yes   yes                                                 MODE SENSE (6)
+//! 1Bh         yes                                        working  LOAD UNLOAD
+//! 25h   yes                                                       READ CAPACITY (10)
+//! 28h   yes                                              ready    READ (10)
+//! 2Ah   yes                                              ready    WRITE (10)
+//! 2Bh         yes                                        ready    LOCATE (10)
+//! 2Fh   yes                                              ready    VERIFY (10)
+//! 34h         yes                                        ready    READ POSITION
+//! 35h   yes                                              ready    SYNCHRONIZE CACHE (10)
+//! 41h   yes                                              ready    WRITE SAME (10)
+//! 55h   yes   yes                                                 MODE SELECT (10)
+//! 5Ah   yes   yes                                                 MODE SENSE (10)
+//! 5Eh   yes   yes                                                 PERSISTENT RESERVE IN
+//! 5Fh   yes   yes                                                 PERSISTENT RESERVE OUT
+//! 88h   yes                                              ready    READ (16)
+//! 89h   yes                                              ready    COMPARE AND WRITE
+//! 8Ah   yes                                              ready    WRITE (16)
+//! 8Fh   yes                                              ready    VERIFY (16)
+//! 91h   yes                                              ready    SYNCHRONIZE CACHE (16)
+//! 93h   yes                                              ready    WRITE SAME (16)
+//! 9Eh   yes                                                       SERVICE ACTION IN (16): READ CAPACITY (16)
+//! A0h   yes   yes   attention                                     REPORT LUNS
 //! ```
 //!
 //! A command carries its limits in its types. Blocks that it names are a [`BlockRange`], of 2048 at most
 //! (READ, WRITE, VERIFY with data), a [`ComparedRange`], of 128 at most (COMPARE AND WRITE), a [`SameRange`],
-//! of 1 to 32768 (WRITE SAME), or an [`AnyRange`] (VERIFY without data, SYNCHRONIZE CACHE).
+//! of 1 to 32768 (WRITE SAME), or an [`AnyRange`] (VERIFY without data, SYNCHRONIZE CACHE). A record
+//! that is written has a [`RecordLength`], of 1048576 bytes at most.
 #![tactic(auto)]
 
 mod block_range;
@@ -49,7 +60,9 @@ mod fields;
 mod mode;
 mod operation;
 mod persistent_reserve;
+mod record_length;
 mod report_luns;
+mod tape;
 
 pub use block_range::{
     AnyRange, BlockRange, ComparedRange, MOST_BLOCKS, MOST_COMPARED, MOST_SAME, SameRange,
@@ -58,6 +71,11 @@ pub use cdb::Cdb;
 pub use command::{Command, DiskCommand, UnitCommand};
 pub use fault::FieldFault;
 pub use mode::{ModeSelectFields, ModeSenseFields, PageControl, ParameterHeader};
-pub use operation::{DiskOperation, Kind, Operation, ReservationClass, Row, UnitOperation, class};
+pub use operation::{
+    DiskOperation, Kind, Need, Operation, ReservationClass, Row, TapeOperation, UnitOperation,
+    class,
+};
 pub use persistent_reserve::{ReadAction, ReserveInFields, ReserveOutFields, ServiceAction};
+pub use record_length::{MOST_RECORD, RecordLength};
 pub use report_luns::{ReportLunsFields, SelectReport};
+pub use tape::{Distance, SpaceCode, TapeCommand};

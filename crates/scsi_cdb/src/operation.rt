@@ -19,6 +19,8 @@ pub enum Operation {
     Unit(UnitOperation),
     /// Of disks alone.
     Disk(DiskOperation),
+    /// Of tapes alone.
+    Tape(TapeOperation),
 }
 
 /// An operation of units of every kind (SPC-4 "Commands for all device types").
@@ -55,6 +57,31 @@ pub enum DiskOperation {
     CompareAndWrite,
 }
 
+/// An operation of tapes (SSC-4 "Commands for sequential-access devices").
+#[derive(Clone, Copy, Debug, PartialEq, Eq)]
+pub enum TapeOperation {
+    Rewind,
+    ReadBlockLimits,
+    Read6,
+    Write6,
+    WriteFilemarks6,
+    Space6,
+    Erase6,
+    LoadUnload,
+    Locate10,
+    ReadPosition,
+}
+
+/// What an operation needs of a unit.
+#[derive(Clone, Copy, Debug, PartialEq, Eq)]
+pub enum Need {
+    Nothing,
+    /// That no write to its medium has failed.
+    Working,
+    /// The same, and that its medium is loaded (SPC-4 "TEST UNIT READY command").
+    Ready,
+}
+
 /// What a reservation of another nexus does to an operation (SPC-4 "Persistent reservations"; its tables
 /// of commands that are allowed).
 #[derive(Clone, Copy, Debug, PartialEq, Eq)]
@@ -75,8 +102,8 @@ pub struct Row {
     pub passes_attention: bool,
     /// It is done where the LUN names no unit (SPC-4 "INQUIRY command", "REQUEST SENSE command").
     pub passes_missing_unit: bool,
-    /// It is refused where the medium is not ready.
-    pub needs_ready: bool,
+    /// It is refused where the unit is not so.
+    pub needs: Need,
     pub reservation: ReservationClass,
 }
 
@@ -89,37 +116,52 @@ impl Row {
             CompareAndWrite, Read10, Read16, ReadCapacity10, ServiceActionIn16, SynchronizeCache10,
             SynchronizeCache16, Verify10, Verify16, Write10, Write16, WriteSame10, WriteSame16,
         };
-        use Operation::{Disk, Unit};
+        use Need::{Nothing, Ready, Working};
+        use Operation::{Disk, Tape, Unit};
         use ReservationClass::{Always, Reading, Writing};
+        use TapeOperation::{
+            Erase6, LoadUnload, Locate10, Read6, ReadBlockLimits, ReadPosition, Rewind, Space6,
+            Write6, WriteFilemarks6,
+        };
         use UnitOperation::{
             Inquiry, ModeSelect6, ModeSelect10, ModeSense6, ModeSense10, PersistentReserveIn,
             PersistentReserveOut, ReportLuns, RequestSense, TestUnitReady,
         };
-        // What it passes: an attention, a missing unit. What it needs: the medium ready.
+        // What it passes: an attention, a missing unit. What it needs.
         match code {
-            0x00 => make_row(Unit(TestUnitReady), false, false, true, Always),
-            0x03 => make_row(Unit(RequestSense), true, true, false, Always),
-            0x12 => make_row(Unit(Inquiry), true, true, false, Always),
-            0x15 => make_row(Unit(ModeSelect6), false, false, false, Writing),
-            0x1A => make_row(Unit(ModeSense6), false, false, false, Reading),
-            0x25 => make_row(Disk(ReadCapacity10), false, false, false, Always),
-            0x28 => make_row(Disk(Read10), false, false, true, Reading),
-            0x2A => make_row(Disk(Write10), false, false, true, Writing),
-            0x2F => make_row(Disk(Verify10), false, false, true, Reading),
-            0x35 => make_row(Disk(SynchronizeCache10), false, false, true, Writing),
-            0x41 => make_row(Disk(WriteSame10), false, false, true, Writing),
-            0x55 => make_row(Unit(ModeSelect10), false, false, false, Writing),
-            0x5A => make_row(Unit(ModeSense10), false, false, false, Reading),
-            0x5E => make_row(Unit(PersistentReserveIn), false, false, false, Always),
-            0x5F => make_row(Unit(PersistentReserveOut), false, false, false, Always),
-            0x88 => make_row(Disk(Read16), false, false, true, Reading),
-            0x89 => make_row(Disk(CompareAndWrite), false, false, true, Writing),
-            0x8A => make_row(Disk(Write16), false, false, true, Writing),
-            0x8F => make_row(Disk(Verify16), false, false, true, Reading),
-            0x91 => make_row(Disk(SynchronizeCache16), false, false, true, Writing),
-            0x93 => make_row(Disk(WriteSame16), false, false, true, Writing),
-            0x9E => make_row(Disk(ServiceActionIn16), false, false, false, Always),
-            0xA0 => make_row(Unit(ReportLuns), true, false, false, Always),
+            0x00 => make_row(Unit(TestUnitReady), false, false, Ready, Always),
+            0x01 => make_row(Tape(Rewind), false, false, Ready, Writing),
+            0x03 => make_row(Unit(RequestSense), true, true, Nothing, Always),
+            0x05 => make_row(Tape(ReadBlockLimits), false, false, Nothing, Always),
+            0x08 => make_row(Tape(Read6), false, false, Ready, Writing),
+            0x0A => make_row(Tape(Write6), false, false, Ready, Writing),
+            0x10 => make_row(Tape(WriteFilemarks6), false, false, Ready, Writing),
+            0x11 => make_row(Tape(Space6), false, false, Ready, Writing),
+            0x12 => make_row(Unit(Inquiry), true, true, Nothing, Always),
+            0x15 => make_row(Unit(ModeSelect6), false, false, Nothing, Writing),
+            0x19 => make_row(Tape(Erase6), false, false, Ready, Writing),
+            0x1A => make_row(Unit(ModeSense6), false, false, Nothing, Reading),
+            0x1B => make_row(Tape(LoadUnload), false, false, Working, Writing),
+            0x25 => make_row(Disk(ReadCapacity10), false, false, Nothing, Always),
+            0x28 => make_row(Disk(Read10), false, false, Ready, Reading),
+            0x2A => make_row(Disk(Write10), false, false, Ready, Writing),
+            0x2B => make_row(Tape(Locate10), false, false, Ready, Writing),
+            0x2F => make_row(Disk(Verify10), false, false, Ready, Reading),
+            0x34 => make_row(Tape(ReadPosition), false, false, Ready, Reading),
+            0x35 => make_row(Disk(SynchronizeCache10), false, false, Ready, Writing),
+            0x41 => make_row(Disk(WriteSame10), false, false, Ready, Writing),
+            0x55 => make_row(Unit(ModeSelect10), false, false, Nothing, Writing),
+            0x5A => make_row(Unit(ModeSense10), false, false, Nothing, Reading),
+            0x5E => make_row(Unit(PersistentReserveIn), false, false, Nothing, Always),
+            0x5F => make_row(Unit(PersistentReserveOut), false, false, Nothing, Always),
+            0x88 => make_row(Disk(Read16), false, false, Ready, Reading),
+            0x89 => make_row(Disk(CompareAndWrite), false, false, Ready, Writing),
+            0x8A => make_row(Disk(Write16), false, false, Ready, Writing),
+            0x8F => make_row(Disk(Verify16), false, false, Ready, Reading),
+            0x91 => make_row(Disk(SynchronizeCache16), false, false, Ready, Writing),
+            0x93 => make_row(Disk(WriteSame16), false, false, Ready, Writing),
+            0x9E => make_row(Disk(ServiceActionIn16), false, false, Nothing, Always),
+            0xA0 => make_row(Unit(ReportLuns), true, false, Nothing, Always),
             _ => None,
         }
     }
@@ -157,8 +199,10 @@ impl Operation {
         ensures { result ≡ is_for kind self }
     {
         match (self, kind) {
-            (Operation::Unit(_), _) | (Operation::Disk(_), Kind::Disk) => true,
-            (Operation::Disk(_), Kind::Tape) => false,
+            (Operation::Unit(_), _)
+            | (Operation::Disk(_), Kind::Disk)
+            | (Operation::Tape(_), Kind::Tape) => true,
+            (Operation::Disk(_), Kind::Tape) | (Operation::Tape(_), Kind::Disk) => false,
         }
     }
 }
@@ -168,16 +212,16 @@ fn make_row(
     operation: Operation,
     passes_attention: bool,
     passes_missing_unit: bool,
-    needs_ready: bool,
+    needs: Need,
     reservation: ReservationClass,
 ) -> Option<Row>
-    ensures { result ≡ Some (row operation passes_attention passes_missing_unit needs_ready reservation) }
+    ensures { result ≡ Some (row operation passes_attention passes_missing_unit needs reservation) }
 {
     Some(Row {
         operation,
         passes_attention,
         passes_missing_unit,
-        needs_ready,
+        needs,
         reservation,
     })
 }

@@ -12,6 +12,8 @@ use Rattle.scsi_cdb.specs.Fault.{invalid_operation_code, invalid_field}
 use Rattle.scsi_cdb.specs.Operation.{row_for}
 use Rattle.scsi_cdb.specs.Command.{command_of}
 use Rattle.scsi_cdb.specs.declared.operation.Row.{Row}
+use Rattle.scsi_cdb.specs.declared.operation.Need.{Need}
+use Rattle.scsi_cdb.specs.declared.operation.Need.TheVariants.{Nothing, Working, Ready}
 use Rattle.scsi_cdb.specs.declared.command.Command.{Command}
 use Rattle.scsi_cdb.specs.declared.command.Command.TheVariants as to
 use Rattle.scsi_cdb.specs.declared.command.UnitCommand.TheVariants.{TestUnitReady, RequestSense, Inquiry, ModeSelect, ModeSense, ReportLuns}
@@ -58,10 +60,16 @@ abbrev pub reservation_check : Option Row → NexusName → TableState → Optio
 reservation_check None nexus table = None
 reservation_check (Some row) nexus table = if is_allowed nexus row.reservation table then None else Some Conflict
 
+-- own: what an operation needs that a unit whose medium is not ready lacks
+abbrev pub needs_medium : Need → Bool
+needs_medium Nothing = false
+needs_medium Working = true
+needs_medium Ready = true
+
 -- own: no write to the medium has failed, where the operation needs it
 abbrev pub ready_check : Option Row → Bool → Option Refusal
 ready_check None is_ready = None
-ready_check (Some row) is_ready = refused_if (row.needs_ready && not is_ready) not_ready
+ready_check (Some row) is_ready = refused_if (needs_medium row.needs && not is_ready) not_ready
 
 -- the fields are taken
 abbrev pub fields_check : Result Command Sense → Option Refusal
@@ -77,6 +85,7 @@ has_range Tape (Some range) = true
 abbrev pub range_of : Command → Option Range
 range_of (to.Unit command) = None
 range_of (to.Disk command) = range_named command
+range_of (to.Tape command) = None
 
 -- SBC-3 "READ (10) command": the blocks that it names are there
 abbrev pub range_check : Result Command Sense → DeviceState → Option Refusal
@@ -94,12 +103,14 @@ needed (to.Unit (ReserveIn fields)) = 0
 needed (to.Unit (ReserveOut fields)) = fields.list_length
 needed (to.Unit (ReportLuns fields)) = 0
 needed (to.Disk command) = bytes_needed command
+needed (to.Tape command) = 0
 
 -- what a command is told whose data is too short: PARAMETER LIST LENGTH ERROR (SPC-4 "MODE SELECT (6) command",
 -- "PERSISTENT RESERVE OUT command"), and of blocks that it names too many for its data (profile)
 abbrev pub data_sense : Command → Sense
 data_sense (to.Unit command) = fault_sense EndsEarly
 data_sense (to.Disk command) = invalid_field
+data_sense (to.Tape command) = invalid_field
 
 -- so much data has come
 abbrev pub data_check : Result Command Sense → List ℕ → Option Refusal
@@ -109,6 +120,7 @@ data_check (Ok command) bytes = refused_if (nat_lt (length bytes) (needed comman
 abbrev pub writes : Command → Bool
 writes (to.Unit command) = false
 writes (to.Disk command) = is_write command
+writes (to.Tape command) = false
 
 -- SPC-4 "Control mode page", SWP: writes are refused
 abbrev pub is_protected : DeviceState → Bool

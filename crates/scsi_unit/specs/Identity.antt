@@ -62,6 +62,7 @@ outcome_without_unit (Ok (to.Unit (ReserveIn fields))) = check_condition unsuppo
 outcome_without_unit (Ok (to.Unit (ReserveOut fields))) = check_condition unsupported
 outcome_without_unit (Ok (to.Unit (ReportLuns fields))) = check_condition unsupported
 outcome_without_unit (Ok (to.Disk command)) = check_condition unsupported
+outcome_without_unit (Ok (to.Tape command)) = check_condition unsupported
 
 abbrev pub row_without_unit : Option Row → List ℕ → Outcome
 row_without_unit None cdb = check_condition unsupported

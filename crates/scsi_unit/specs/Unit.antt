@@ -106,6 +106,8 @@ disk_done came bytes unit Tape command = (unit, check_condition invalid_operatio
 abbrev pub carried_out : CameOut → NexusName → List ℕ → UnitState → Command → UnitState × Outcome
 carried_out came nexus bytes unit (to.Unit command) = unit_done nexus bytes unit command
 carried_out came nexus bytes unit (to.Disk command) = disk_done came bytes unit unit.device command
+-- profile, for now: no command to a tape is done
+carried_out came nexus bytes unit (to.Tape command) = (unit, check_condition invalid_operation_code)
 
 -- SAM-5 "Unit attention condition": one that is told in place of a command is then taken away
 abbrev pub refused_with : NexusName → UnitState → Refusal → UnitState × Outcome
@@ -131,6 +133,7 @@ abbrev pub touch_by : DeviceState → Command → Touch
 touch_by device (to.Unit command) = no_touch
 touch_by (Disk disk) (to.Disk command) = touch_of command
 touch_by Tape (to.Disk command) = no_touch
+touch_by device (to.Tape command) = no_touch
 
 abbrev pub touch_where : DeviceState → Result Command Refusal → Touch
 touch_where device (Err refusal) = no_touch
@@ -154,6 +157,7 @@ keeps_more (ReportLuns fields) = false
 abbrev pub keeps_more_by : Command → Bool
 keeps_more_by (to.Unit command) = keeps_more command
 keeps_more_by (to.Disk command) = false
+keeps_more_by (to.Tape command) = false
 
 abbrev pub keeps_more_where : Result Command Refusal → Bool
 keeps_more_where (Err refusal) = false

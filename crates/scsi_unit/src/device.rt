@@ -108,7 +108,7 @@ impl<S: Store> Device<S> {
                 Some(range) => self.has_blocks(range),
                 None => true,
             },
-            Command::Unit(_) => true,
+            Command::Unit(_) | Command::Tape(_) => true,
         }
     }
 

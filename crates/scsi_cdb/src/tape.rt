@@ -1,0 +1,177 @@
+//! Commands to tapes, with their fields (SSC-4 "Command descriptions").
+
+ghost use Rattle.std.specs.Prelude.{◌≡◌};
+ghost use Rattle.scsi_cdb.specs.Tape.{distance_of, space_of, write_of, tape_fields};
+
+use crate::fault::FieldFault;
+use crate::fields::command_where;
+use crate::operation::TapeOperation;
+use crate::record_length::RecordLength;
+use byteorder::{BigEndian, ByteOrder};
+
+/// MLOI of READ BLOCK LIMITS and FIXED of READ and WRITE, in byte 1.
+const LOWEST_BIT: u8 = 0x01;
+
+/// SILI of READ, in byte 1.
+const SUPPRESS_INCORRECT_LENGTH: u8 = 0x02;
+
+/// WSMK of WRITE FILEMARKS, in byte 1.
+const WRITE_SETMARKS: u8 = 0x02;
+
+/// CODE of SPACE, in byte 1.
+const SPACE_CODE: u8 = 0x0F;
+
+/// LOAD of LOAD UNLOAD, in byte 4, and its EOT and HOLD.
+const LOAD: u8 = 0x01;
+
+const END_OF_TAPE_OR_HOLD: u8 = 0x0C;
+
+/// BT and CP of LOCATE, in byte 1.
+const BLOCK_TYPE_OR_CHANGE_PARTITION: u8 = 0x06;
+
+/// SERVICE ACTION of READ POSITION, in byte 1.
+const SERVICE_ACTION: u8 = 0x1F;
+
+/// The lowest number of three bytes that is below zero in two's complement.
+const LOWEST_NEGATIVE: u32 = 0x0080_0000;
+
+/// One more than the greatest number of three bytes.
+const THREE_BYTES: u32 = 0x0100_0000;
+
+/// What is counted while spacing (SSC-4 "SPACE (6) command", CODE).
+#[derive(Clone, Copy, Debug, PartialEq, Eq)]
+pub enum SpaceCode {
+    /// 0h
+    LogicalBlocks,
+    /// 1h
+    Filemarks,
+}
+
+/// How many are spaced over, and which way (SSC-4 "SPACE (6) command", COUNT).
+#[derive(Clone, Copy, Debug, PartialEq, Eq)]
+pub struct Distance {
+    /// Toward the beginning of the tape.
+    pub is_backward: bool,
+    pub count: u32,
+}
+
+/// A command to a tape.
+#[derive(Clone, Copy, Debug, PartialEq, Eq)]
+pub enum TapeCommand {
+    /// Sets the position before all that is written (SSC-4 "REWIND command").
+    Rewind,
+    /// Asks for the lengths that a record can have (SSC-4 "READ BLOCK LIMITS command").
+    ReadBlockLimits,
+    /// Asks for the record behind the position, with the length that it should have in bytes. SILI: another
+    /// length is not told (SSC-4 "READ (6) command").
+    Read {
+        length: u32,
+        suppress_incorrect_length: bool,
+    },
+    /// Writes a record (SSC-4 "WRITE (6) command").
+    Write(RecordLength),
+    /// Writes so many filemarks, and waits until all is on the medium (SSC-4 "WRITE FILEMARKS (6) command").
+    WriteFilemarks(u32),
+    /// Moves the position over so many logical blocks or filemarks (SSC-4 "SPACE (6) command").
+    Space {
+        code: SpaceCode,
+        distance: Distance,
+    },
+    /// Sets the position behind all that is written (the same, CODE 3h).
+    SpaceToEndOfData,
+    /// Removes all behind the position (SSC-4 "ERASE (6) command").
+    Erase,
+    /// Loads the tape, or unloads it (SSC-4 "LOAD UNLOAD command").
+    LoadUnload {
+        load: bool,
+    },
+    /// Sets the position behind so many logical objects (SSC-4 "LOCATE (10) command").
+    Locate(u32),
+    /// Asks for the position (SSC-4 "READ POSITION command", short form).
+    ReadPosition,
+}
+
+impl TapeOperation {
+    /// The command that the bytes spell for this operation.
+    pub fn command(self, bytes: &[u8; 16]) -> Result<TapeCommand, FieldFault>
+        ensures { result ≡ tape_fields self bytes.now }
+    {
+        let count = BigEndian::read_u24(&bytes[2..]);
+        match self {
+            TapeOperation::Rewind => Ok(TapeCommand::Rewind),
+            TapeOperation::ReadBlockLimits => {
+                command_where(bytes[1] & LOWEST_BIT == 0, TapeCommand::ReadBlockLimits)
+            }
+            TapeOperation::Read6 => {
+                let command = TapeCommand::Read {
+                    length: count,
+                    suppress_incorrect_length: bytes[1] & SUPPRESS_INCORRECT_LENGTH != 0,
+                };
+                command_where(bytes[1] & LOWEST_BIT == 0, command)
+            }
+            TapeOperation::Write6 => write(bytes[1], count),
+            TapeOperation::WriteFilemarks6 => {
+                let command = TapeCommand::WriteFilemarks(count);
+                command_where(bytes[1] & WRITE_SETMARKS == 0, command)
+            }
+            TapeOperation::Space6 => space(bytes[1] & SPACE_CODE, signed(count)),
+            TapeOperation::Erase6 => Ok(TapeCommand::Erase),
+            TapeOperation::LoadUnload => {
+                let command = TapeCommand::LoadUnload {
+                    load: bytes[4] & LOAD != 0,
+                };
+                command_where(bytes[4] & END_OF_TAPE_OR_HOLD == 0, command)
+            }
+            TapeOperation::Locate10 => {
+                let command = TapeCommand::Locate(BigEndian::read_u32(&bytes[3..]));
+                command_where(bytes[1] & BLOCK_TYPE_OR_CHANGE_PARTITION == 0, command)
+            }
+            TapeOperation::ReadPosition => {
+                command_where(bytes[1] & SERVICE_ACTION == 0, TapeCommand::ReadPosition)
+            }
+        }
+    }
+}
+
+/// A number of three bytes in two's complement.
+fn signed(number: u32) -> Distance
+    ensures { result ≡ distance_of number }
+{
+    let is_backward = number >= LOWEST_NEGATIVE;
+    Distance {
+        is_backward,
+        count: if is_backward {
+            THREE_BYTES.saturating_sub(number)
+        } else {
+            number
+        },
+    }
+}
+
+/// WRITE of a record of so many bytes, with this byte 1.
+fn write(byte_1: u8, length: u32) -> Result<TapeCommand, FieldFault>
+    ensures { result ≡ write_of byte_1 length }
+{
+    match RecordLength::new(length) {
+        Some(length) => command_where(byte_1 & LOWEST_BIT == 0, TapeCommand::Write(length)),
+        None => Err(FieldFault::InvalidField),
+    }
+}
+
+/// SPACE with this code.
+fn space(code: u8, distance: Distance) -> Result<TapeCommand, FieldFault>
+    ensures { result ≡ space_of code distance }
+{
+    match code {
+        0x0 => Ok(TapeCommand::Space {
+            code: SpaceCode::LogicalBlocks,
+            distance,
+        }),
+        0x1 => Ok(TapeCommand::Space {
+            code: SpaceCode::Filemarks,
+            distance,
+        }),
+        0x3 => Ok(TapeCommand::SpaceToEndOfData),
+        _ => Err(FieldFault::InvalidField),
+    }
+}
