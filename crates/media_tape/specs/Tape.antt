@@ -50,6 +50,13 @@ first_told (Filemark ∷ items) = passed.Filemark
 abbrev pub length_told : ℕ → Passed
 length_told length = if length == 0 then passed.Filemark else passed.Record length
 
+-- the length of a record that was passed
+abbrev pub passed_length : Passed → ℕ
+passed_length passed.Nothing = 0
+passed_length (passed.Record length) = length
+passed_length passed.Filemark = 0
+passed_length passed.EndOfData = 0
+
 -- profile: a read of no byte passes nothing
 abbrev pub read_told : ℕ → TapeState → Passed
 read_told room tape = if room == 0 then passed.Nothing else first_told tape.after

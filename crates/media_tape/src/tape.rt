@@ -5,7 +5,7 @@ ghost use Rattle.std.specs.Prelude.{take, true, false, is_ok, if◌then◌else�
 ghost use Rattle.media_store.specs.Failures.{counted, risen};
 ghost use Rattle.media_tape.specs.Items.{most_bytes, items_of, is_tape, size_of};
 ghost use Rattle.media_tape.specs.Fault.{failures_after, Explains};
-ghost use Rattle.media_tape.specs.Tape.{TapeState, located_at, located_told, read_told, first_data, filled, tape_read};
+ghost use Rattle.media_tape.specs.Tape.{TapeState, located_at, located_told, read_told, passed_length, first_data, filled, tape_read};
 ghost use Rattle.media_tape.specs.Tape.{write_told, tape_written, marks_told, tape_marked, lost, erased, is_early};
 ghost use Rattle.media_tape.specs.Space.{spaced_told, tape_spaced, tape_ended};
 
@@ -128,6 +128,7 @@ impl<S: Store> Tape<S> {
     /// is room for (SSC-4 "READ (6)"). Where it fails, the tape is as before.
     pub fn read(&mut self, bytes: &mut [u8]) -> Result<Passed, StoreFault>
         ensures passed { IfOk result (λ passed. IsTrue self.new.honest → passed ≡ read_told (length bytes.old) self.old) }
+        ensures fits { IfOk result (λ passed. passed_length passed ≤ most_bytes) }
         ensures given { OnOk result (IsTrue self.new.honest → bytes.new ≡ filled (first_data self.old.after) bytes.old) }
         ensures tape { OnOk result (IsTrue self.new.honest → self.new ≡ tape_read (length bytes.old) self.old) }
         ensures failed { OnErr result (self.new ≡ record self.old { failures = risen self.old.failures; honest = self.new.honest }) }

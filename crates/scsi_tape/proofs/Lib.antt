@@ -1,0 +1,4 @@
+pub mod Came
+pub mod Records
+pub mod Room
+pub mod Trusted

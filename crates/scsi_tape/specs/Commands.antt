@@ -1,0 +1,170 @@
+-- What commands do to a tape, and what is told of them (SSC-4 "Command descriptions").
+use Rattle.std.specs.Prelude.{ℕ, ◌+◌, ◌-◌, ◌%◌, ◌^◌, ◌==◌, ◌||◌, min, List, [], ◌∷◌, ◌++◌, length, take, replicate, Bool}
+use Rattle.std.specs.Prelude.{Some, if◌then◌else◌}
+use Rattle.std.specs.Int.{w32, to_be_bytes}
+use Rattle.media_tape.specs.Tape.{TapeState, located_at, located_told, read_told, first_data, tape_read, write_told, tape_written}
+use Rattle.media_tape.specs.Tape.{marks_told, tape_marked, erased, is_early}
+use Rattle.media_tape.specs.Space.{spaced_told, tape_spaced, tape_ended}
+use Rattle.media_tape.specs.declared.outcome.Located.{Located}
+use Rattle.media_tape.specs.declared.outcome.Located.TheVariants as located
+use Rattle.media_tape.specs.declared.outcome.Passed.{Passed}
+use Rattle.media_tape.specs.declared.outcome.Passed.TheVariants as passed
+use Rattle.media_tape.specs.declared.outcome.Written.{Written}
+use Rattle.media_tape.specs.declared.outcome.Written.TheVariants as written
+use Rattle.media_tape.specs.declared.outcome.Spaced.{Spaced}
+use Rattle.media_tape.specs.declared.outcome.Spaced.TheVariants as spaced
+use Rattle.media_tape.specs.declared.outcome.Over.{Over}
+use Rattle.media_tape.specs.declared.outcome.Over.TheVariants as over
+use Rattle.media_tape.specs.declared.outcome.Direction.{Direction}
+use Rattle.media_tape.specs.declared.outcome.Direction.TheVariants as direction
+use Rattle.scsi_sense.specs.Given.{headroom}
+use Rattle.scsi_sense.specs.Done.{Outcome, good, good_with, good_taking, check_condition}
+use Rattle.scsi_sense.specs.declared.sense.Sense.{Sense}
+use Rattle.scsi_sense.specs.declared.done.Status.TheVariants.{CheckCondition}
+use Rattle.scsi_cdb.specs.Record.{most_record}
+use Rattle.scsi_cdb.specs.declared.tape.Distance.{Distance}
+use Rattle.scsi_cdb.specs.declared.tape.SpaceCode.{SpaceCode}
+use Rattle.scsi_cdb.specs.declared.tape.SpaceCode.TheVariants.{LogicalBlocks, Filemarks}
+use Rattle.scsi_cdb.specs.declared.tape.TapeCommand.{TapeCommand}
+use Rattle.scsi_cdb.specs.declared.tape.TapeCommand.TheVariants.{Rewind, ReadBlockLimits, Read, Write, WriteFilemarks, Space, SpaceToEndOfData}
+use Rattle.scsi_cdb.specs.declared.tape.TapeCommand.TheVariants.{Erase, LoadUnload, Locate, ReadPosition}
+use Rattle.scsi_tape.specs.TapeSense.{filemark, end_of_data, beginning, early_warning, overflow, incorrect_length, no_such_object}
+
+-- ---- READ (6), READ POSITION, READ BLOCK LIMITS
+
+-- SSC-4 "READ (6) command": the length asked for less that of the record, in two's complement
+abbrev pub length_difference : ℕ → ℕ → ℕ
+length_difference asked actual = (asked + (2 ^ 32 - actual)) % 2 ^ 32
+
+-- CHECK CONDITION with data (SSC-4 "READ (6) command", ILI)
+abbrev pub given_with : Sense → List ℕ → Outcome
+given_with sense bytes = record { status = CheckCondition; sense = Some sense; given = bytes; moved = length bytes }
+
+-- a record of this length, of which these bytes are given: another length than was asked for is told, unless SILI is set
+abbrev pub record_outcome : ℕ → Bool → ℕ → List ℕ → Outcome
+record_outcome asked suppressed actual bytes =
+    if suppressed || (actual == asked) then good_with bytes
+    else given_with (incorrect_length (length_difference asked actual)) bytes
+
+-- SSC-4 "READ (6) command": by what was passed, with its data
+abbrev pub read_outcome : ℕ → Bool → Passed → List ℕ → Outcome
+read_outcome asked suppressed passed.Nothing bytes = good
+read_outcome asked suppressed (passed.Record actual) bytes = record_outcome asked suppressed actual (take asked bytes)
+read_outcome asked suppressed passed.Filemark bytes = check_condition (filemark asked)
+read_outcome asked suppressed passed.EndOfData bytes = check_condition (end_of_data asked)
+
+-- SSC-4 "READ BLOCK LIMITS command": a record has 1 to 1048576 bytes, whatever the granularity
+abbrev pub block_limits : List ℕ
+block_limits = 0x00 ∷ 0x10 ∷ 0x00 ∷ 0x00 ∷ 0x00 ∷ 0x01 ∷ []
+
+-- SSC-4 "READ POSITION command", short form: BOP, or EOP past the early warning mark (profile)
+abbrev pub position_flags : ℕ → Bool → ℕ
+position_flags position early = if position == 0 then 0x80 else if early then 0x40 else 0x00
+
+-- FIRST and LAST LOGICAL OBJECT LOCATION, FFFFFFFFh where it is above that
+abbrev pub location : ℕ → List ℕ
+location position = to_be_bytes w32 (min position (2 ^ 32 - 1))
+
+-- SSC-4 "READ POSITION command", short form: partition 0, no object is in a buffer
+abbrev pub position_data : ℕ → Bool → List ℕ
+position_data position early =
+    (position_flags position early ∷ replicate 3 0) ++ location position ++ location position ++ replicate 8 0
+
+-- ---- WRITE (6), WRITE FILEMARKS (6)
+
+-- SSC-4 "WRITE (6) command": of so many bytes; those past the early warning mark were taken too
+abbrev pub write_outcome : ℕ → Written → Outcome
+write_outcome count written.Whole = good_taking count
+write_outcome count written.Early = record (check_condition early_warning) { moved = count }
+write_outcome count written.Refused = check_condition (overflow count)
+
+-- SSC-4 "WRITE FILEMARKS (6) command"
+abbrev pub marks_outcome : ℕ → Written → Outcome
+marks_outcome count written.Whole = good
+marks_outcome count written.Early = check_condition early_warning
+marks_outcome count written.Refused = check_condition (overflow count)
+
+-- ---- SPACE (6), LOCATE (10)
+
+abbrev pub over_of : SpaceCode → Over
+over_of LogicalBlocks = over.Records
+over_of Filemarks = over.Filemarks
+
+abbrev pub toward : Distance → Direction
+toward distance = if distance.is_backward then direction.Backward else direction.Forward
+
+-- SSC-4 "SPACE (6) command": the information is what was left of the count
+abbrev pub space_outcome : Spaced → Outcome
+space_outcome spaced.Whole = good
+space_outcome (spaced.Filemark left) = check_condition (filemark left)
+space_outcome (spaced.EndOfData left) = check_condition (end_of_data left)
+space_outcome (spaced.Beginning left) = check_condition (beginning left)
+
+-- SSC-4 "LOCATE (10) command"
+abbrev pub locate_outcome : Located → Outcome
+locate_outcome located.There = good
+locate_outcome located.EndOfData = check_condition no_such_object
+
+-- ---- all
+
+-- SSC-4, each command in "Command descriptions": what is told of a command with this data
+abbrev pub tape_outcome : TapeCommand → List ℕ → TapeState → Outcome
+tape_outcome Rewind bytes tape = good
+tape_outcome ReadBlockLimits bytes tape = good_with block_limits
+tape_outcome (Read asked suppressed) bytes tape = read_outcome asked suppressed (read_told asked tape) (first_data tape.after)
+tape_outcome (Write count) bytes tape = write_outcome count (write_told (take count bytes) tape)
+tape_outcome (WriteFilemarks count) bytes tape = marks_outcome count (marks_told count tape)
+tape_outcome (Space code distance) bytes tape = space_outcome (spaced_told (toward distance) (over_of code) distance.count tape)
+tape_outcome SpaceToEndOfData bytes tape = good
+tape_outcome Erase bytes tape = good
+tape_outcome (LoadUnload load) bytes tape = good
+tape_outcome (Locate number) bytes tape = locate_outcome (located_told number tape)
+tape_outcome ReadPosition bytes tape = good_with (position_data (length tape.before) (is_early tape))
+
+-- SSC-4, each command in "Command descriptions": the tape as a command with this data leaves it
+abbrev pub tape_left : TapeCommand → List ℕ → TapeState → TapeState
+tape_left Rewind bytes tape = located_at 0 tape
+tape_left ReadBlockLimits bytes tape = tape
+tape_left (Read asked suppressed) bytes tape = tape_read asked tape
+tape_left (Write count) bytes tape = tape_written (take count bytes) tape
+tape_left (WriteFilemarks count) bytes tape = tape_marked count tape
+tape_left (Space code distance) bytes tape = tape_spaced (toward distance) (over_of code) distance.count tape
+tape_left SpaceToEndOfData bytes tape = tape_ended tape
+tape_left Erase bytes tape = erased tape
+tape_left (LoadUnload load) bytes tape = record (located_at 0 tape) { is_loaded = load }
+tape_left (Locate number) bytes tape = located_at number tape
+tape_left ReadPosition bytes tape = tape
+
+-- ---- what a command needs
+
+-- how many bytes of data; a longer payload is used in front (profile)
+abbrev pub bytes_needed : TapeCommand → ℕ
+bytes_needed Rewind = 0
+bytes_needed ReadBlockLimits = 0
+bytes_needed (Read asked suppressed) = 0
+bytes_needed (Write count) = count
+bytes_needed (WriteFilemarks count) = 0
+bytes_needed (Space code distance) = 0
+bytes_needed SpaceToEndOfData = 0
+bytes_needed Erase = 0
+bytes_needed (LoadUnload load) = 0
+bytes_needed (Locate number) = 0
+bytes_needed ReadPosition = 0
+
+-- the most bytes of data that a command can give
+abbrev pub most_of : TapeCommand → ℕ
+most_of Rewind = 0
+most_of ReadBlockLimits = 6
+most_of (Read asked suppressed) = min asked most_record
+most_of (Write count) = 0
+most_of (WriteFilemarks count) = 0
+most_of (Space code distance) = 0
+most_of SpaceToEndOfData = 0
+most_of Erase = 0
+most_of (LoadUnload load) = 0
+most_of (Locate number) = 0
+most_of ReadPosition = 20
+
+-- own: how much room a buffer needs for a header and for them: none where no data can be given
+abbrev pub room_needed : TapeCommand → ℕ
+room_needed command = if most_of command == 0 then 0 else headroom + most_of command

@@ -1,0 +1,28 @@
+//! A tape as a unit has it: what its commands do to the medium, and what is told of them (SSC-4 "Command
+//! descriptions").
+//!
+//! ```text
+//! TapeCommand, data --> TapeUnit::carry_out --> Done: status, sense, data
+//!                           |
+//!                           +--> Tape: records and filemarks, a position
+//! ```
+//!
+//! Promised of a command, where the store is honest and no call of it failed: the tape after it and what is
+//! told are those of the definitions `tape_left` and `tape_outcome`, a line for each command. What may come of
+//! any other is one of three ways (`TapeCame`): the store is not honest, and what is told is open; a read
+//! failed, which is told as UNRECOVERED READ ERROR and changes nothing; a write, a cut or a sync failed, which
+//! is told as WRITE ERROR and leaves the items before the position, and the unit does not work until it is
+//! opened again ([`TapeUnit::not_ready`]). Behind WRITE FILEMARKS that is answered GOOD, or with the early
+//! warning, the store is synced.
+//!
+//! No command takes memory: what gives data has a buffer handed in, with the room that
+//! [`room_needed`] tells. A record lies there as it is sent.
+#![tactic(auto)]
+
+mod positioning;
+mod reading;
+mod sense;
+mod tape_unit;
+mod writing;
+
+pub use tape_unit::{TapeUnit, bytes_needed, room_needed};

@@ -1,0 +1,93 @@
+//! The commands that write to the tape, or cut it.
+
+ghost use Rattle.std.specs.Prelude.{◌≡◌, ◌≤◌, ℕ, List, [], false, length};
+ghost use Rattle.scsi_sense.specs.Done.{check_condition};
+ghost use Rattle.scsi_cdb.specs.declared.tape.TapeCommand.TheVariants.{Write, WriteFilemarks, Erase};
+ghost use Rattle.scsi_tape.specs.TapeSense.{write_error};
+ghost use Rattle.scsi_tape.specs.Commands.{write_outcome, marks_outcome};
+ghost use Rattle.scsi_tape.specs.CameOut.{IsTapeDone};
+
+use crate::sense::{early_warning, overflow};
+use crate::tape_unit::TapeUnit;
+use media_store::Store;
+use media_tape::Written;
+use scsi_cdb::RecordLength;
+use scsi_sense::{Condition, Done, Sense};
+use std::alloc::Global;
+
+/// What is told of WRITE of so many bytes that ended so.
+fn written(alloc: Global, count: u32, written: Written) -> Done
+    ensures told { result ≡ write_outcome count written }
+    ensures given { result.given ≡ [] }
+{
+    match written {
+        Written::Whole => Done::good_taking(alloc, count),
+        Written::Early => {
+            let mut done = Done::check_condition(alloc, early_warning());
+            done.moved = count;
+            done
+        }
+        Written::Refused => Done::check_condition(alloc, overflow(count)),
+    }
+}
+
+/// What is told of WRITE FILEMARKS of so many that ended so.
+fn marked(alloc: Global, count: u32, written: Written) -> Done
+    ensures told { result ≡ marks_outcome count written }
+    ensures given { result.given ≡ [] }
+{
+    match written {
+        Written::Whole => Done::good(alloc),
+        Written::Early => Done::check_condition(alloc, early_warning()),
+        Written::Refused => Done::check_condition(alloc, overflow(count)),
+    }
+}
+
+impl<S: Store> TapeUnit<S> {
+    /// A write, a cut or a sync failed: the unit does not work from now on.
+    fn write_failed(&mut self, alloc: Global) -> Done
+        ensures unit { self.new ≡ record self.old { is_working = false } }
+        ensures told { result ≡ check_condition write_error }
+    {
+        self.is_working = false;
+        Done::check_condition(alloc, Sense::new(Condition::WriteError))
+    }
+
+    /// WRITE (6) of a record, with its data in front.
+    pub(crate) fn write(&mut self, alloc: Global, size: RecordLength, data: &[u8]) -> Done
+        requires { size ≤ length «data».now }
+        ensures done { IsTapeDone (Write size) «data».now self.old self.new result }
+        ensures given { result.given ≡ [] }
+    {
+        let count = size.bytes();
+        if count == 0 {
+            return Done::good(alloc);
+        }
+        match self.tape.write(&data[..count as usize]) {
+            Ok(ended) => written(alloc, count, ended),
+            Err(_) => self.write_failed(alloc),
+        }
+    }
+
+    /// WRITE FILEMARKS (6). All that was written is waited for, also where there is no filemark to write.
+    pub(crate) fn write_filemarks(&mut self, alloc: Global, count: u32) -> Done
+        ensures done { (bytes : List ℕ) → IsTapeDone (WriteFilemarks count) bytes self.old self.new result }
+        ensures given { result.given ≡ [] }
+    {
+        match self.tape.marks(count) {
+            Ok(ended) => marked(alloc, count, ended),
+            Err(_) => self.write_failed(alloc),
+        }
+    }
+
+    /// ERASE (6).
+    pub(crate) fn erase(&mut self, alloc: Global) -> Done
+        ensures done { (bytes : List ℕ) → IsTapeDone Erase bytes self.old self.new result }
+        ensures given { result.given ≡ [] }
+    {
+        match self.tape.erase() {
+            Ok(()) => Done::good(alloc),
+            Err(_) => self.write_failed(alloc),
+        }
+    }
+}
