@@ -40,11 +40,15 @@ impl Model for SystemFile {
 }
 
 impl SystemFile {
-    /// Opens the file at a path for reading and writing. None is made.
+    /// Opens the file at a path for reading and writing, and locks it (flock(2)) for as long as it is open.
+    /// None is made.
+    ///
+    /// It fails also where the file is locked by another open, of this program or another, by whatever path.
     pub fn open(rt: &impl Files<File = File>, path: &str) -> io::Result<SystemFile>
         ensures { IfOk result (λ opened. opened ≡ []) }
     {
         let file = OpenOptions::new().read(true).write(true).open(rt, path)?;
+        file.try_lock()?;
         Ok(SystemFile {
             file,
             noted: Record::new(),
