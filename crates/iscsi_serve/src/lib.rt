@@ -13,8 +13,10 @@
 mod bind_fault;
 mod entry;
 mod fault;
+mod leaving;
 mod mem_ports;
 mod mio_sockets;
+mod peer_watch;
 mod places;
 mod ports;
 mod serving;

@@ -11,6 +11,8 @@ ghost use Rattle.std.specs.declared.net.socket_addr.SocketAddr.{SocketAddr};
 ghost use Rattle.iscsi_serve.specs.Calls.{Listening, Located, ip_octets, calls_of};
 
 use crate::bind_fault::{BindFault, bind_fault};
+use crate::leaving::Leavers;
+use crate::peer_watch::watch_peer;
 use crate::places::free_places;
 use crate::socket_calls::SocketCalls;
 use crate::socket_failure::{SocketFailure, socket_failure};
@@ -56,6 +58,8 @@ pub struct MioSockets {
     listener: TcpListener,
     /// By their numbers. The last place is for one for which no number is free.
     streams: Vec<Option<TcpStream>>,
+    /// Those that were closed, and whose peers may still send.
+    leavers: Leavers,
     noted: Record,
     ghost places: { length streams.items ≡ 65 },
 }
@@ -79,6 +83,7 @@ impl MioSockets {
             events: Events::with_capacity(alloc, EVENTS)?,
             listener,
             streams: free_places(alloc)?,
+            leavers: Leavers::new(alloc)?,
             noted: record,
         })
     }
@@ -129,6 +134,7 @@ fn keep(
 {
     // A connection that its peer has reset cannot be set; its next read tells so.
     let _ = stream.set_nodelay(true);
+    watch_peer(&stream);
     if c < CONNECTIONS {
         let both = Interest::READABLE | Interest::WRITABLE;
         if registry.register(&mut stream, Token(c), both).is_err() {
@@ -184,6 +190,7 @@ impl SocketCalls for MioSockets {
     ghost calls = { λ sockets. calls_of sockets.noted.calls };
 
     fn poll(&mut self, ready: &mut Named, wait: Option<Duration>) -> Result<(), SocketFailure> {
+        let wait = self.leavers.drain(wait);
         let record = &mut self.noted;
         if let Err(error) = self.poll.poll(&mut self.events, wait) {
             let failure = socket_failure(&error);
@@ -193,6 +200,7 @@ impl SocketCalls for MioSockets {
         for event in &self.events {
             add(ready, event);
         }
+        self.leavers.count_turn(wait, !self.events.is_empty());
         let listener = bit(ready.listener);
         record.note(&[POLLING, DONE, listener], &[], &ready.connections);
         Ok(())
@@ -246,7 +254,9 @@ impl SocketCalls for MioSockets {
     }
 
     fn close(&mut self, c: usize) {
-        self.streams[c] = None;
+        if let Some(stream) = self.streams[c].take() {
+            self.leavers.begin(self.poll.registry(), stream);
+        }
         self.noted.note(&[CLOSING, DONE, c as u64], &[], &[]);
     }
 }
