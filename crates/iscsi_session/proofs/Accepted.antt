@@ -4,7 +4,7 @@ use Rattle.std.specs.Prelude.{filter, filter_map, is_some, All}
 use Rattle.std.specs.List.{range_with_len, prefix_len}
 use Rattle.std.proofs.lemmas.Bool.{ne_eqb, eq-eqb, false_from_ne_true}
 use Rattle.std.proofs.lemmas.List.{append-nil, map-append}
-use Rattle.std.proofs.lemmas.List.Elements.{filter-append, filter_map-append, All-push, All-nil}
+use Rattle.std.proofs.lemmas.List.Elements.{filter-append, filter_map-append, All-push, All-nil, All-append, All-filter}
 use Rattle.std.proofs.lemmas.List.FromFn.{map-range_with_len_more}
 use Rattle.iscsi_pdu.specs.Header.{is_immediate, initiator_task_tag}
 use Rattle.iscsi_pdu.specs.Frames.{Frame}
@@ -16,19 +16,20 @@ use Rattle.iscsi_order.specs.Serial.{distance}
 use Rattle.iscsi_order.proofs.Front.{front, front_come, front_missing}
 use Rattle.iscsi_order.proofs.Held.{prefix_range}
 use Rattle.iscsi_order.proofs.Standing.{front_more, front_within, lawful_with as window_with}
-use Rattle.iscsi_session.specs.Requests.{Request, DataOut, SentR2t, unfinished, is_function, functions, Past, request_at, frame_of, is_in, left, is_command, commands, others, counted, numbered, place_of, taken, taken_at, numbers, due, queue, frames_of, begun}
-use Rattle.iscsi_session.specs.State.{TaskLists, functions_of, frame_numbered, tasks_with, tasks_of, AreDistinct, IsDelivered, IsLawful, holding, takes_next, takes, takes_all}
-use Rattle.iscsi_session.proofs.Left.{filter_cong, map_cong, left_append, left_all, left_none, in_at, in_front, in_left, in_filter, not_by, below_of, apart_behind, distinct_push}
+use Rattle.iscsi_session.specs.Requests.{Request, DataOut, SentR2t, unfinished, is_function, functions, Past, request_at, frame_of, is_in, left, is_command, commands, others, counted, over, numbered, place_of, taken, taken_at, numbers, due, queue, frames_of, begun}
+use Rattle.iscsi_session.specs.State.{TaskLists, functions_of, standing, frame_numbered, tasks_with, tasks_of, AreDistinct, IsDelivered, IsLawful, holding, takes_next, takes, takes_all}
+use Rattle.iscsi_session.proofs.Left.{filter_cong, map_cong, left_append, left_all, in_at, in_front, in_left, in_filter, not_by, below_of, apart_behind, distinct_push}
 use Rattle.iscsi_session.proofs.Kept.{joined, Below, kept_joined, tags_with, below_kept}
 use Rattle.iscsi_session.proofs.Unfinished.{commands_same, tags_joined}
 use Rattle.iscsi_session.specs.Transfers.{tag_of}
 use Rattle.iscsi_session.proofs.Taken.{request_before, request_new, taken_more, taken_below, distinct_taken}
+use Rattle.iscsi_session.proofs.Standing.{numbered_standing, place_standing, length_standing, standing_joined}
 use Rattle.iscsi_session.proofs.Fronts.{first_of, taken_now, frame_missing, frame_marked, frame_other, frame_now, counted_places, frames_come}
 
 -- ---- the past at its beginning
 
 pub begun_lawful : (params : Params) → IsLawful (begun params)
-unfolding due queue left taken taken_numbers unfinished functions
+unfolding due queue left taken taken_numbers unfinished functions standing
 begun_lawful params = record {
   window = record { finished = omega arith; handed = omega arith; within = λ k come. absurd cc };
   distinct = tt;
@@ -43,7 +44,9 @@ begun_lawful params = record {
   asked = All-nil (λ (r : SentR2t). r.command < 0);
   tags = tt;
   function_tags = tt;
-  none_removed = refl;
+  removed_below = All-nil (λ k. k < 0);
+  removed_commands = All-nil (λ k. is_command (frame_of [] k) ≡ true);
+  apart = All-nil (λ k. is_in k [] ≡ false);
 }
 
 pub handed_is : (past : Past) → (numbers past).handed ≡ first_of past.came
@@ -67,8 +70,9 @@ pub record HasFreeTag (past : Past) (frame : Frame) : Type 0 where
   pub command : is_command frame ≡ true → is_in (initiator_task_tag frame.header) (map (tag_of past.came) (unfinished past)) ≡ false
   pub function : is_function frame ≡ true → is_in (initiator_task_tag frame.header) (map (tag_of past.came) (functions past)) ≡ false
 
-pub frames_same : (past : Past) (x : Request) (names : List ℕ) → Below past names → frames_of (past.came ++ x ∷ []) names ≡ frames_of past.came names
-frames_same past x names below = map_cong _ _ names (λ i d lt. ap (λ (r : Request). r.frame) (request_before past.came x _ (below i d lt)))
+pub frames_same : (came : List Request) (x : Request) (names : List ℕ) → All (λ k. k < length came) names
+    → frames_of (came ++ x ∷ []) names ≡ frames_of came names
+frames_same came x names below = map_cong _ _ names (λ i d lt. ap (λ (r : Request). r.frame) (request_before came x _ (below i d lt)))
 
 others_same : (past : Past) (x : Request) (names : List ℕ) → Below past names → others (past.came ++ x ∷ []) names ≡ others past.came names
 others_same past x names below = filter_cong _ _ names (λ i d lt. ap (λ (r : Request). not (is_command r.frame)) (request_before past.came x _ (below i d lt)))
@@ -116,52 +120,56 @@ marks_are came a n =
 
 -- ---- numbers are taken
 
-takes_one : (past : Past) (h : ℕ) (line : List Frame) → counted past.came past.finished ≤ h → order.has_come (numbered past.came) (h + window) ≡ false
-    → takes_next (tasks_with past h line) ≡ tasks_with past (suc h) (line ++ filter_map (λ o. o) (frame_numbered past.came h ∷ []))
+takes_one : (past : Past) (h : ℕ) (line : List Frame) → counted past.came (over past) ≤ h → order.has_come (numbered past.came) (h + window) ≡ false
+    → takes_next (tasks_with past h line) ≡ tasks_with past (suc h) (line ++ filter_map (λ o. o) (frame_numbered (standing past) h ∷ []))
 takes_one past h line few beyond =
     let next : ((past.params.first_cmd_sn + h) % 2 ^ 32 + 1) % 2 ^ 32 ≡ (past.params.first_cmd_sn + suc h) % 2 ^ 32 = omega arith in
-    let more : h - counted past.came past.finished + 1 ≡ suc h - counted past.came past.finished = omega arith in
-    let turned : map (frame_numbered past.came) (range_with_len (h + 1) 31) ++ None ∷ [] ≡ map (frame_numbered past.came) (range_with_len (suc h) window) =
-    ap (λ (o : Option Frame). map (frame_numbered past.came) (range_with_len (h + 1) 31) ++ o ∷ []) (sym (frame_missing past.came (h + window) beyond))
-    ∙ sym (map-range_with_len_more (frame_numbered past.came) (h + 1) 31 (h + window) (omega arith))
-    ∙ ap (λ (k : ℕ). map (frame_numbered past.came) (range_with_len k window)) (add-one h) in
+    let more : h - counted past.came (over past) + 1 ≡ suc h - counted past.came (over past) = omega arith in
+    let turned : map (frame_numbered (standing past)) (range_with_len (h + 1) 31) ++ None ∷ [] ≡ map (frame_numbered (standing past)) (range_with_len (suc h) window) =
+    ap (λ (o : Option Frame). map (frame_numbered (standing past)) (range_with_len (h + 1) 31) ++ o ∷ []) (sym (frame_missing (standing past) (h + window) (ap (λ (l : List ℕ). order.has_come l (h + window)) (numbered_standing past) ∙ beyond)))
+    ∙ sym (map-range_with_len_more (frame_numbered (standing past)) (h + 1) 31 (h + window) (omega arith))
+    ∙ ap (λ (k : ℕ). map (frame_numbered (standing past)) (range_with_len k window)) (add-one h) in
     rw (next, more, turned) refl
 
-pub takes_many : (past : Past) (d h : ℕ) (line : List Frame) → counted past.came past.finished ≤ h
+pub takes_many : (past : Past) (d h : ℕ) (line : List Frame) → counted past.came (over past) ≤ h
     → ((k : ℕ) → h ≤ k → order.has_come (numbered past.came) (k + window) ≡ false)
-    → takes d (tasks_with past h line) ≡ tasks_with past (h + d) (line ++ filter_map (λ o. o) (map (frame_numbered past.came) (range_with_len h d)))
+    → takes d (tasks_with past h line) ≡ tasks_with past (h + d) (line ++ filter_map (λ o. o) (map (frame_numbered (standing past)) (range_with_len h d)))
 takes_many past zero h line few beyond =
     let same : h ≡ h + 0 = omega arith in
     ap (λ (l : List Frame). tasks_with past h l) (sym (append-nil line)) ∙ ap (λ (n : ℕ). tasks_with past n (line ++ [])) same
 takes_many past (suc d) h line few beyond =
-    let more = line ++ filter_map (λ o. o) (frame_numbered past.came h ∷ []) in
+    let more = line ++ filter_map (λ o. o) (frame_numbered (standing past) h ∷ []) in
     let at : suc h + d ≡ h + suc d = omega arith in
-    let frames : more ++ filter_map (λ o. o) (map (frame_numbered past.came) (range_with_len (suc h) d)) ≡ line ++ filter_map (λ o. o)
-    (map (frame_numbered past.came) (range_with_len h (suc d))) =
-    append_assoc line (filter_map (λ o. o) (frame_numbered past.came h ∷ [])) (filter_map (λ o. o) (map (frame_numbered past.came) (range_with_len (suc h) d)))
+    let frames : more ++ filter_map (λ o. o) (map (frame_numbered (standing past)) (range_with_len (suc h) d)) ≡ line ++ filter_map (λ o. o)
+    (map (frame_numbered (standing past)) (range_with_len h (suc d))) =
+    append_assoc line (filter_map (λ o. o) (frame_numbered (standing past) h ∷ [])) (filter_map (λ o. o) (map (frame_numbered (standing past)) (range_with_len (suc h) d)))
     ∙ ap (λ (l : List Frame). line ++ l)
-    (sym (filter_map-append (λ (o : Option Frame). o) (frame_numbered past.came h ∷ []) (map (frame_numbered past.came) (range_with_len (suc h) d)))
-    ∙ ap (λ (k : ℕ). filter_map (λ (o : Option Frame). o) (frame_numbered past.came h ∷ map (frame_numbered past.came) (range_with_len k d)))
+    (sym (filter_map-append (λ (o : Option Frame). o) (frame_numbered (standing past) h ∷ []) (map (frame_numbered (standing past)) (range_with_len (suc h) d)))
+    ∙ ap (λ (k : ℕ). filter_map (λ (o : Option Frame). o) (frame_numbered (standing past) h ∷ map (frame_numbered (standing past)) (range_with_len k d)))
     (sym (add-one h))) in
     ap (takes d) (takes_one past h line few (beyond h (omega arith)))
     ∙ takes_many past d (suc h) more (omega arith) (λ k le. beyond k (omega arith))
     ∙ ap (λ (l : List Frame). tasks_with past (suc h + d) l) frames
-    ∙ ap (λ (n : ℕ). tasks_with past n (line ++ filter_map (λ o. o) (map (frame_numbered past.came) (range_with_len h (suc d))))) at
+    ∙ ap (λ (n : ℕ). tasks_with past n (line ++ filter_map (λ o. o) (map (frame_numbered (standing past)) (range_with_len h (suc d))))) at
 
 module _ (past : Past) (lawful : IsLawful past) where
   pub finished_below : Below past past.finished
   finished_below = λ i d lt. below_of (length past.came) _ past.acted lawful.below (lawful.acted i d lt)
 
   pub removed_below : Below past past.removed
-  removed_below = subst (Below past) (sym lawful.none_removed) (All-nil (λ k. k < length past.came))
+  removed_below = lawful.removed_below
+
+  over_below : Below past (over past)
+  over_below = All-append (λ k. k < length past.came) past.finished _ finished_below
+      (All-filter (λ k. is_in k past.removed) (λ k. k < length past.came) past.acted lawful.below)
 
   pub due_is : due past ≡ left past.acted (taken past.came)
   unfolding due
-  due_is = left_none past.removed _ lawful.none_removed
+  due_is = refl
 
-  pub queue_is : queue past ≡ left past.finished (commands past.came past.acted)
+  pub queue_is : queue past ≡ left past.removed (left past.finished (commands past.came past.acted))
   unfolding queue
-  queue_is = left_none past.removed _ lawful.none_removed
+  queue_is = refl
 
   pub acted_taken : (k : ℕ) → is_in k past.acted ≡ true → is_in k (taken past.came) ≡ true
   acted_taken k e = ap (λ (l : List ℕ). is_in k l) lawful.in_order ∙ in_front k past.acted (due past) e
@@ -174,7 +182,7 @@ module _ (past : Past) (lawful : IsLawful past) where
       let distinct : AreDistinct (taken past.came ++ new) = subst AreDistinct (taken_more past.came x) (distinct_taken (past.came ++ x ∷ [])) in
       let fresh : All (λ k. is_in k past.acted ≡ false) new =
       λ i d lt. not_by _ past.acted (taken past.came) (acted_taken _) (apart_behind _ (taken past.came) new distinct (in_at new i d lt)) in
-      left_none past.removed _ lawful.none_removed ∙ ap (left past.acted) (taken_more past.came x) ∙ left_append past.acted (taken past.came) new
+      ap (left past.acted) (taken_more past.came x) ∙ left_append past.acted (taken past.came) new
       ∙ ap (λ (l : List ℕ). l ++ left past.acted new) (sym due_is) ∙ ap (λ (l : List ℕ). due past ++ l) (left_all past.acted new fresh)
 
   pub queue_same : (x : Request) → queue (joined x past) ≡ queue past
@@ -182,7 +190,8 @@ module _ (past : Past) (lawful : IsLawful past) where
   queue_same x = ap (λ (l : List ℕ). left past.removed (left past.finished l)) (commands_same past x past.acted lawful.below)
 
   pub in_queue : (k : ℕ) → is_in k (queue past) ≡ true → is_in k past.acted ≡ true
-  in_queue k e = in_commands k past.acted (in_left k past.finished _ (ap (λ (l : List ℕ). is_in k l) (sym queue_is) ∙ e))
+  in_queue k e =
+      in_commands k past.acted (in_left k past.finished _ (in_left k past.removed _ (ap (λ (l : List ℕ). is_in k l) (sym queue_is) ∙ e)))
     where
       in_commands : (k : ℕ) (names : List ℕ) → is_in k (commands past.came names) ≡ true → is_in k names ≡ true
       in_commands k names h = in_filter k (λ a. is_command (frame_of past.came a)) names h
@@ -247,19 +256,33 @@ module _ (past : Past) (lawful : IsLawful past) where
         asked = λ i d lt. (let le = lawful.asked i d lt in omega (arith, length-append past.came (x ∷ [])));
         tags = tags_joined (is_command x.frame) past x refl finished_below removed_below lawful.tags free.command;
         function_tags = function_tags_joined x free;
-        none_removed = lawful.none_removed;
+        removed_below = λ i d lt. (let le = lawful.removed_below i d lt in omega (arith, length-append past.came (x ∷ [])));
+        removed_commands = λ i d lt. ap (λ (r : Request). is_command r.frame) (request_before past.came x _ (lawful.removed_below i d lt))
+            ∙ lawful.removed_commands i d lt;
+        apart = lawful.apart;
       }
 
   -- ---- what is remembered, where so many numbers are taken
 
   -- the numbers and the queue are the same
   same_tasks : (x : Request) (handed : ℕ) (line : List Frame)
-      → tasks_with past handed line ≡ record (tasks_with (joined x past) handed line) { held = map (frame_numbered past.came) (range_with_len handed window) }
+      → tasks_with past handed line ≡ record (tasks_with (joined x past) handed line) { held = map (frame_numbered (standing past)) (range_with_len handed window) }
   same_tasks x handed line =
-      let finished = counted_same past x past.finished finished_below in
+      let finished = counted_same past x (over past) over_below in
       let queued : frames_of (past.came ++ x ∷ []) (queue (joined x past)) ≡ frames_of past.came (queue past) = ap (frames_of (past.came ++ x ∷ []))
-      (queue_same x) ∙ frames_same past x (queue past) queue_below in
+      (queue_same x) ∙ frames_same past.came x (queue past) queue_below in
       rw (finished, queued) refl
+
+  -- ---- as they stand
+
+  standing_with : (x : Request) → standing (joined x past) ≡ standing past ++ x ∷ []
+  standing_with x = standing_joined past x lawful.removed_below
+
+  standing_new : (x : Request) → request_at (standing past ++ x ∷ []) (length past.came) ≡ x
+  standing_new x = ap (request_at (standing past ++ x ∷ [])) (sym (length_standing past)) ∙ request_new (standing past) x
+
+  due_stands : All (λ k. k < length (standing past)) (due past)
+  due_stands = subst (λ (n : ℕ). All (λ k. k < n) (due past)) (sym (length_standing past)) due_below
 
   -- ---- one for immediate delivery
 
@@ -281,7 +304,7 @@ module _ (past : Past) (lawful : IsLawful past) where
 
   numbers_now : (frame : Frame) → numbers (joined (now frame) past) ≡ numbers past
   unfolding taken_numbers
-  numbers_now frame = rw (numbered_now frame, counted_same past (now frame) past.finished finished_below) refl
+  numbers_now frame = rw (numbered_now frame, counted_same past (now frame) (over past) over_below) refl
 
   pub lawful_now : (frame : Frame) → is_immediate frame.header ≡ true → HasFreeTag past frame → IsLawful (joined (now frame) past)
   lawful_now frame h free =
@@ -292,22 +315,26 @@ module _ (past : Past) (lawful : IsLawful past) where
   pub admitted : (frame : Frame) → record (tasks_of past) { due = (tasks_of past).due ++ frame ∷ [] } ≡ tasks_of (joined (now frame) past)
   unfolding tasks_of
   admitted frame =
-      let came = past.came ++ now frame ∷ [] in
-      let line = frames_of past.came (due past) in
-      let handed : (numbers past).handed ≡ (numbers (joined (now frame) past)).handed = ap (λ (p : order.Past). p.handed) (sym (numbers_now frame)) in
-      let dues : line ++ frame ∷ [] ≡ frames_of came (due (joined (now frame) past)) =
-      ap (λ (l : List Frame). l ++ frame ∷ []) (sym (frames_same past (now frame) (due past) due_below))
-      ∙ ap (λ (r : Request). frames_of came (due past) ++ r.frame ∷ []) (sym (request_new past.came (now frame)))
-      ∙ sym (map-append (frame_of came) (due past) (length past.came ∷ []))
-      ∙ ap (frames_of came) (sym (due_more (now frame) ∙ ap (λ (l : List ℕ). due past ++ l) (taken_just frame))) in
-      let held : map (frame_numbered past.came) (range_with_len (numbers past).handed window) ≡ map (frame_numbered came)
+      let x = now frame in
+      let st = standing past in
+      let stands = standing (joined x past) in
+      let line = frames_of st (due past) in
+      let handed : (numbers past).handed ≡ (numbers (joined x past)).handed = ap (λ (p : order.Past). p.handed) (sym (numbers_now frame)) in
+      let dues : line ++ frame ∷ [] ≡ frames_of stands (due (joined x past)) =
+      ap (λ (l : List Frame). l ++ frame ∷ []) (sym (frames_same st x (due past) due_stands))
+      ∙ ap (λ (r : Request). frames_of (st ++ x ∷ []) (due past) ++ r.frame ∷ []) (sym (standing_new x))
+      ∙ sym (map-append (frame_of (st ++ x ∷ [])) (due past) (length past.came ∷ []))
+      ∙ ap (frames_of (st ++ x ∷ [])) (sym (due_more x ∙ ap (λ (l : List ℕ). due past ++ l) (taken_just frame)))
+      ∙ ap (λ (l : List Request). frames_of l (due (joined x past))) (sym (standing_with x)) in
+      let held : map (frame_numbered st) (range_with_len (numbers past).handed window) ≡ map (frame_numbered stands)
       (range_with_len (numbers past).handed window) =
-      map_cong (frame_numbered past.came) (frame_numbered came) (range_with_len (numbers past).handed window)
-      (λ i d lt. sym (frame_other past.came (now frame) (get_or (range_with_len (numbers past).handed window) i d) refl)) in
-      ap (λ (t : TaskLists). record t { due = line ++ frame ∷ [] }) (same_tasks (now frame) (numbers past).handed line)
-      ∙ ap (λ (l : List (Option Frame)). record (tasks_with (joined (now frame) past) (numbers past).handed (line ++ frame ∷ [])) { held = l }) held
-      ∙ ap (λ (l : List Frame). tasks_with (joined (now frame) past) (numbers past).handed l) dues
-      ∙ ap (λ (n : ℕ). tasks_with (joined (now frame) past) n (frames_of came (due (joined (now frame) past)))) handed
+      map_cong (frame_numbered st) (frame_numbered (st ++ x ∷ [])) (range_with_len (numbers past).handed window)
+      (λ i d lt. sym (frame_other st x (get_or (range_with_len (numbers past).handed window) i d) refl))
+      ∙ ap (λ (l : List Request). map (frame_numbered l) (range_with_len (numbers past).handed window)) (sym (standing_with x)) in
+      ap (λ (t : TaskLists). record t { due = line ++ frame ∷ [] }) (same_tasks x (numbers past).handed line)
+      ∙ ap (λ (l : List (Option Frame)). record (tasks_with (joined x past) (numbers past).handed (line ++ frame ∷ [])) { held = l }) held
+      ∙ ap (λ (l : List Frame). tasks_with (joined x past) (numbers past).handed l) dues
+      ∙ ap (λ (n : ℕ). tasks_with (joined x past) n (frames_of stands (due (joined x past)))) handed
 
   -- ---- one with a number
 
@@ -329,7 +356,7 @@ module _ (past : Past) (lawful : IsLawful past) where
       let more = first_with k frame in
       let e = handed_is past in
       let e' = handed_is (joined (with k frame) past) in
-      let same = counted_same past (with k frame) past.finished finished_below in
+      let same = counted_same past (with k frame) (over past) over_below in
       let few = lawful.window.finished in
       record {
         finished = omega arith;
@@ -355,39 +382,55 @@ module _ (past : Past) (lawful : IsLawful past) where
   held_now k ahead n frame at place =
       let x = with k frame in
       let came = past.came ++ x ∷ [] in
+      let st = standing past in
+      let stands = st ++ x ∷ [] in
       let f = (numbers past).handed in
       let g = (numbers (joined x past)).handed in
-      let line = frames_of past.came (due past) in
+      let line = frames_of st (due past) in
       let more = first_with k frame in
       let e = handed_is past in
       let e' = handed_is (joined x past) in
       let after = window_lawful k ahead frame at in
       let few = lawful.window.finished in
-      let same = counted_same past x past.finished finished_below in
+      let same = counted_same past x (over past) over_below in
+      let numbers_same : numbered stands ≡ numbered came = ap numbered (sym (standing_with x)) ∙ numbered_standing (joined x past) in
       let all : (j : ℕ) → f ≤ j → j < g → order.has_come (numbered came) j ≡ true = λ j le lt. front_come (numbered came) j (omega arith) in
       let beyond : (j : ℕ) → f ≤ j → order.has_come (numbered came) (j + window) ≡ false = λ j le.
       false_from_ne_true (order.has_come (numbered came) (j + window)) (λ h. let lt = after.within (j + window) h in absurd (omega arith)) in
-      let none : frame_numbered past.came k ≡ None = frame_missing past.came k at.missing in
-      let held : set (map (frame_numbered past.came) (range_with_len f window)) ahead (Some frame) ≡ map (frame_numbered came) (range_with_len f window) =
-      set_range (frame_numbered past.came) (frame_numbered came) (Some frame) f window ahead k (let near = at.near in omega arith) at.number
-      (frame_now past.came x k (eq-eqb k k refl) none) (λ j ne. frame_other past.came x j (ne_eqb k j (λ e. absurd (ne (sym e))))) in
+      let none : frame_numbered st k ≡ None = frame_missing st k (ap (λ (l : List ℕ). order.has_come l k) (numbered_standing past) ∙ at.missing) in
+      let held : set (map (frame_numbered st) (range_with_len f window)) ahead (Some frame) ≡ map (frame_numbered stands) (range_with_len f window) =
+      set_range (frame_numbered st) (frame_numbered stands) (Some frame) f window ahead k (let near = at.near in omega arith) at.number
+      (frame_now st x k (eq-eqb k k refl) none) (λ j ne. frame_other st x j (ne_eqb k j (λ e. absurd (ne (sym e))))) in
+      let held_there : set (map (frame_numbered st) (range_with_len f window)) ahead (Some frame)
+      ≡ map (frame_numbered (standing (joined x past))) (range_with_len f window) =
+      held ∙ ap (λ (l : List Request). map (frame_numbered l) (range_with_len f window)) (sym (standing_with x)) in
       let start : holding n frame (tasks_with past f line) ≡ tasks_with (joined x past) f line =
-      ap (λ (i : ℕ). record (tasks_with past f line) { held = set (map (frame_numbered past.came) (range_with_len f window)) i (Some frame) }) (sym place)
-      ∙ ap (λ (t : TaskLists). record t { held = set (map (frame_numbered past.came) (range_with_len f window)) ahead (Some frame) }) (same_tasks x f line)
-      ∙ ap (λ (l : List (Option Frame)). record (tasks_with (joined x past) f line) { held = l }) held in
-      let count : prefix_len (λ o. is_some o) (map (frame_numbered came) (range_with_len f window)) ≡ g - f =
-      prefix_some (map (frame_numbered came) (range_with_len f window)) ∙ ap (prefix_len (λ b. b)) (marks_are came f window)
+      ap (λ (i : ℕ). record (tasks_with past f line) { held = set (map (frame_numbered st) (range_with_len f window)) i (Some frame) }) (sym place)
+      ∙ ap (λ (t : TaskLists). record t { held = set (map (frame_numbered st) (range_with_len f window)) ahead (Some frame) }) (same_tasks x f line)
+      ∙ ap (λ (l : List (Option Frame)). record (tasks_with (joined x past) f line) { held = l }) held_there in
+      let count : prefix_len (λ o. is_some o) (map (frame_numbered (standing (joined x past))) (range_with_len f window)) ≡ g - f =
+      prefix_some (map (frame_numbered (standing (joined x past))) (range_with_len f window))
+      ∙ ap (prefix_len (λ b. b)) (marks_are (standing (joined x past)) f window
+      ∙ ap (λ (l : List ℕ). map (order.has_come l) (range_with_len f window)) (numbered_standing (joined x past)))
       ∙ prefix_range (order.has_come (numbered came)) f window (g - f) (let short = front_within (numbers (joined x past)) after
       in omega arith) (λ j lt. front_come (numbered came) j (omega arith))
       (λ lt. ap (order.has_come (numbered came)) (let sum : f + (g - f) ≡ first_of came = omega arith in sum) ∙ front_missing (numbered came)) in
-      let frames : line ++ filter_map (λ o. o) (map (frame_numbered came) (range_with_len f (g - f))) ≡ frames_of came (due (joined x past)) =
-      ap (λ (l : List Frame). line ++ l) (frames_come came f (g - f) (λ j le lt. all j (omega arith) (omega arith)))
-      ∙ ap (λ (l : List Frame). l ++ map (frame_of came) (map (place_of came) (range_with_len f (g - f)))) (sym (frames_same past x (due past) due_below))
-      ∙ sym (map-append (frame_of came) (due past) (map (place_of came) (range_with_len f (g - f))))
-      ∙ ap (frames_of came) (ap (λ (l : List ℕ). due past ++ l) (sym (taken_now past.came x more)) ∙ sym (due_more x)) in
+      let places : map (place_of stands) (range_with_len f (g - f)) ≡ map (place_of came) (range_with_len f (g - f)) =
+      map_cong (place_of stands) (place_of came) (range_with_len f (g - f))
+      (λ i d lt. ap (λ (l : List Request). place_of l (get_or (range_with_len f (g - f)) i d)) (sym (standing_with x)) ∙ place_standing (joined x past) _) in
+      let frames : line ++ filter_map (λ o. o) (map (frame_numbered (standing (joined x past))) (range_with_len f (g - f)))
+      ≡ frames_of (standing (joined x past)) (due (joined x past)) =
+      ap (λ (l : List Request). line ++ filter_map (λ o. o) (map (frame_numbered l) (range_with_len f (g - f)))) (standing_with x)
+      ∙ ap (λ (l : List Frame). line ++ l) (frames_come stands f (g - f)
+      (λ j le lt. ap (λ (l : List ℕ). order.has_come l j) numbers_same ∙ all j (omega arith) (omega arith)))
+      ∙ ap (λ (l : List Frame). l ++ map (frame_of stands) (map (place_of stands) (range_with_len f (g - f)))) (sym (frames_same st x (due past) due_stands))
+      ∙ sym (map-append (frame_of stands) (due past) (map (place_of stands) (range_with_len f (g - f))))
+      ∙ ap (λ (l : List ℕ). frames_of stands (due past ++ l)) (places ∙ sym (taken_now past.came x more))
+      ∙ ap (frames_of stands) (sym (due_more x))
+      ∙ ap (λ (l : List Request). frames_of l (due (joined x past))) (sym (standing_with x)) in
       ap takes_all start
       ∙ ap (λ (m : ℕ). takes m (tasks_with (joined x past) f line)) count
       ∙ takes_many (joined x past) (g - f) f line (omega arith) beyond
-      ∙ ap (λ (m : ℕ). tasks_with (joined x past) m (line ++ filter_map (λ o. o) (map (frame_numbered came) (range_with_len f (g - f)))))
+      ∙ ap (λ (m : ℕ). tasks_with (joined x past) m (line ++ filter_map (λ o. o) (map (frame_numbered (standing (joined x past))) (range_with_len f (g - f)))))
       (let sum : f + (g - f) ≡ g = omega arith in sum)
       ∙ ap (λ (l : List Frame). tasks_with (joined x past) g l) frames

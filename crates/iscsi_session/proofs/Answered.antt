@@ -1,5 +1,5 @@
 -- What a request is answered, by its opcode, and what its act leaves of the session.
-use Rattle.std.proofs.Common.{◌≡◌, ◌≢◌, inl, inr, ℕ, min, List, [], ◌∷◌, ◌++◌, length, map, take, drop, Bool, true, false, cond, ◌==◌, eqb, refl, sym, ap, ◌∙◌, subst, arith, append-nil}
+use Rattle.std.proofs.Common.{◌≡◌, ◌≢◌, inl, inr, ℕ, min, List, [], ◌∷◌, ◌++◌, length, map, take, drop, Bool, true, false, cond, ◌==◌, eqb, refl, sym, ap, ◌∙◌, subst, arith, append-nil, ◌<◌}
 use Rattle.std.specs.Prelude.{◌⊎◌, flat_map, Option, Some, None}
 use Rattle.std.proofs.lemmas.Bool.{eqb-true, false_from_ne_true}
 use Rattle.std.proofs.lemmas.List.{take_min}
@@ -18,8 +18,8 @@ use Rattle.iscsi_pdu.specs.declared.stamp.Stamp.{Stamp}
 use Rattle.iscsi_login.specs.declared.params.Params.{Params}
 use Rattle.iscsi_login.specs.declared.values.Values.{Values}
 use Rattle.iscsi_session.specs.Judging.{reserved_tag, reject}
-use Rattle.iscsi_session.specs.Requests.{Past, frame_of, frames_of, is_in, left, is_command, is_function, functions, due, queue, finished, moved, bears_status, bearing, stamp, answering}
-use Rattle.iscsi_session.specs.State.{SessionState, TaskLists, TransferList, IsLawful, Stands, functions_of, one_fewer, removed_at, place_for, function_place, function_removed}
+use Rattle.iscsi_session.specs.Requests.{Request, Past, frame_of, frames_of, is_in, left, is_command, is_function, functions, due, queue, finished, moved, bears_status, bearing, stamp, answering}
+use Rattle.iscsi_session.specs.State.{SessionState, standing, TaskLists, TransferList, IsLawful, Stands, functions_of, one_fewer, removed_at, place_for, function_place, function_removed}
 use Rattle.iscsi_session.specs.Transfers.{tag_of}
 use Rattle.iscsi_session.specs.Functions.{function_answer}
 use Rattle.iscsi_session.specs.declared.act.Act.{Act}
@@ -30,10 +30,12 @@ use Rattle.iscsi_exchange.specs.Exchange.{TextPiece, ToldState, hears}
 use Rattle.iscsi_session.specs.Texts.{is_text, exchange_behind, exchange_of, text_answer}
 use Rattle.iscsi_session.proofs.Exchanging.{exchange_acted, exchange_other, exchange_text, exchange_finished, text_kind, not_text}
 use Rattle.iscsi_session.proofs.Parts.{parts, due_is, queue_is, stands_tasks, stands_parts}
-use Rattle.iscsi_session.proofs.Kept.{function_no_command}
+use Rattle.iscsi_session.proofs.Kept.{function_no_command, command_no_function}
+use Rattle.iscsi_session.proofs.Standing.{standing_kept, stands_as, stands_void}
+use Rattle.iscsi_session.proofs.Over.{removed_command}
 use Rattle.iscsi_session.proofs.Places.{Located, found_self, remove_map}
 use Rattle.iscsi_session.proofs.Feeding.{removed_is, headers_are, function_located}
-use Rattle.iscsi_session.proofs.Moved.{lawful_command, tasks_command, transfers_command, functions_command, lawful_other, tasks_other, transfers_other, functions_acted, functions_kept, functions_left, functions_distinct, functions_of_finished, due_function, lawful_finished, tasks_finished}
+use Rattle.iscsi_session.proofs.Moved.{due_came, stays_other, lawful_command, lawful_gone, tasks_command, tasks_gone, transfers_command, functions_command, lawful_other, tasks_other, transfers_other, functions_acted, functions_kept, functions_left, functions_distinct, functions_of_finished, due_function, lawful_finished, tasks_finished}
 
 -- ---- a request is counted as acted
 
@@ -250,37 +252,119 @@ moved_other k past e = rw e refl
 
 -- the first that is due, in the code
 pub first_due : (past : Past) (state : SessionState) (k : ℕ) (rest : List ℕ) → Stands past state → due past ≡ k ∷ rest
-    → state.tasks.due ≡ frame_of past.came k ∷ frames_of past.came rest
-first_due past state k rest s is = due_is past state s ∙ ap (frames_of past.came) is
+    → state.tasks.due ≡ frame_of (standing past) k ∷ frames_of (standing past) rest
+first_due past state k rest s is = due_is past state s ∙ ap (frames_of (standing past)) is
+
+-- a request that is no SCSI Command stands as it came
+pub stands_other_kind : (past : Past) (state : SessionState) (k : ℕ) (rest : List ℕ) → Stands past state → due past ≡ k ∷ rest
+    → is_command (frame_of past.came k) ≡ false → frame_of (standing past) k ≡ frame_of past.came k
+stands_other_kind past state k rest s is e =
+    standing_kept past k (due_came past s.lawful k rest is) (stays_other past s.lawful k rest is e)
 
 function_no_text : (frame : Frame) → is_function frame ≡ true → is_text frame ≡ false
 function_no_text frame e = not_text frame opcodes.TaskManagement (function_kind frame e) (λ x. absurd cc)
 
-text_no_function : (frame : Frame) → is_text frame ≡ true → is_function frame ≡ false
-text_no_function frame e = false_from_ne_true (is_function frame) (λ h. absurd (let no = sym (function_no_text frame h) ∙ e in cc))
-
 command_no_text : (frame : Frame) → is_command frame ≡ true → is_text frame ≡ false
 command_no_text frame e = not_text frame opcodes.ScsiCommand (ap opcode_of (eqb-true (opcode_number frame.header) 0x01 e)) (λ x. absurd cc)
 
+pub text_no_command : (frame : Frame) → is_text frame ≡ true → is_command frame ≡ false
+text_no_command frame e = false_from_ne_true (is_command frame) (λ h. absurd (let no = sym (command_no_text frame h) ∙ e in cc))
+
+text_no_function : (frame : Frame) → is_text frame ≡ true → is_function frame ≡ false
+text_no_function frame e = false_from_ne_true (is_function frame) (λ h. absurd (let no = sym (function_no_text frame h) ∙ e in cc))
+
 pub stands_command : (past : Past) (state : SessionState) (k : ℕ) (rest : List ℕ) → Stands past state → due past ≡ k ∷ rest
-    → is_command (frame_of past.came k) ≡ true
+    → is_command (frame_of past.came k) ≡ true → is_in k past.removed ≡ false
     → Stands (acted k past)
-    (record state { tasks = record state.tasks { due = frames_of past.came rest; queue = state.tasks.queue ++ frame_of past.came k ∷ [] } })
-stands_command past state k rest s is e =
+    (record state { tasks = record state.tasks { due = frames_of (standing past) rest; queue = state.tasks.queue ++ frame_of past.came k ∷ [] } })
+stands_command past state k rest s is e stays =
     let after : Past = record past { acted = past.acted ++ k ∷ [] } in
     let same : after ≡ acted k past = moved_command k past e ∙ answering_none (moved k past) (act_answers k past) (command_answers_none k past e) in
     subst (λ (p : Past). Stands p
-    (record state { tasks = record state.tasks { due = frames_of past.came rest; queue = state.tasks.queue ++ frame_of past.came k ∷ [] } })) same
-    (stands_tasks past after state _ s (lawful_command past s.lawful k rest is e) refl refl
-    (ap (λ (t : TaskLists). record t { due = frames_of past.came rest; queue = t.queue ++ frame_of past.came k ∷ [] }) (parts past state s).tasks_is
-    ∙ tasks_command past s.lawful k rest is e) (transfers_command past s.lawful k rest is) (functions_command past s.lawful k rest is)
+    (record state { tasks = record state.tasks { due = frames_of (standing past) rest; queue = state.tasks.queue ++ frame_of past.came k ∷ [] } })) same
+    (stands_tasks past after state _ s (lawful_command past s.lawful k rest is stays e) refl refl
+    (ap (λ (t : TaskLists). record t { due = frames_of (standing past) rest; queue = t.queue ++ frame_of past.came k ∷ [] }) (parts past state s).tasks_is
+    ∙ tasks_command past s.lawful k rest is stays e) (transfers_command past s.lawful k rest is) (functions_command past s.lawful k rest is)
+    (exchange_acted past after k refl refl refl ∙ exchange_other past.params (exchange_of past) (frame_of past.came k) (command_no_text (frame_of past.came k) e)))
+
+-- one that was removed comes to nothing
+pub stands_gone : (past : Past) (state : SessionState) (k : ℕ) (rest : List ℕ) → Stands past state → due past ≡ k ∷ rest
+    → is_command (frame_of past.came k) ≡ true → is_in k past.removed ≡ true
+    → Stands (moved k past)
+    (record state { tasks = one_fewer (frame_of (standing past) k) (record state.tasks { due = drop 1 state.tasks.due }) })
+stands_gone past state k rest s is e gone =
+    let after : Past = record past { acted = past.acted ++ k ∷ [] } in
+    let dropped : drop 1 state.tasks.due ≡ frames_of (standing past) rest = ap (drop 1) (first_due past state k rest s is) in
+    subst (λ (p : Past). Stands p (record state {
+      tasks = one_fewer (frame_of (standing past) k) (record state.tasks { due = drop 1 state.tasks.due });
+    })) (moved_command k past e)
+    (stands_tasks past after state _ s (lawful_gone past s.lawful k rest is gone e) refl refl
+    (ap (λ (l : List Frame). one_fewer (frame_of (standing past) k) (record state.tasks { due = l })) dropped
+    ∙ ap (λ (t : TaskLists). one_fewer (frame_of (standing past) k) (record t { due = frames_of (standing past) rest })) (parts past state s).tasks_is
+    ∙ tasks_gone past s.lawful k rest is gone e) (transfers_command past s.lawful k rest is) (functions_command past s.lawful k rest is)
     (exchange_acted past after k refl refl refl ∙ exchange_other past.params (exchange_of past) (frame_of past.came k) (command_no_text (frame_of past.came k) e)))
 
 pub stands_queued : (past : Past) (state : SessionState) (k : ℕ) (rest : List ℕ) (frame : Frame) (others : List Frame) (tasks : TaskLists)
-    → Stands past state → due past ≡ k ∷ rest → is_command (frame_of past.came k) ≡ true
-    → frame ≡ frame_of past.came k → others ≡ frames_of past.came rest
+    → Stands past state → due past ≡ k ∷ rest → is_command (frame_of past.came k) ≡ true → is_in k past.removed ≡ false
+    → frame ≡ frame_of past.came k → others ≡ frames_of (standing past) rest
     → tasks ≡ record state.tasks { due = others; queue = state.tasks.queue ++ frame ∷ [] } → Stands (acted k past) (record state { tasks = tasks })
-stands_queued past state k rest frame others tasks s is e here left same = rw (same, here, left) (stands_command past state k rest s is e)
+stands_queued past state k rest frame others tasks s is e stays here left same =
+    rw (same, here, left) (stands_command past state k rest s is e stays)
+
+-- the first that is due, by the kind of what stands there: it was removed, or stands as it came
+pub command_there : (past : Past) (state : SessionState) (k : ℕ) (rest : List ℕ) → Stands past state → due past ≡ k ∷ rest
+    → is_command (frame_of (standing past) k) ≡ true → (frame_of (standing past) k ≡ frame_of past.came k) × (is_in k past.removed ≡ false)
+command_there past state k rest s is e =
+    let lt = due_came past s.lawful k rest is in
+    let one : opcode_number (frame_of (standing past) k).header ≡ 0x01 = eqb-true _ 0x01 e in (
+      stands_as past k lt (λ h. let no = sym one ∙ h in absurd cc),
+      false_from_ne_true (is_in k past.removed) (λ h. let no = sym one ∙ stands_void past k lt h in absurd cc),
+    )
+
+pub kind_there : (past : Past) (state : SessionState) (k : ℕ) (rest : List ℕ) (n : ℕ) → Stands past state → due past ≡ k ∷ rest
+    → opcode_number (frame_of (standing past) k).header ≡ n → (n ≡ 0x3F → ⊥) → frame_of (standing past) k ≡ frame_of past.came k
+kind_there past state k rest n s is e other = stands_as past k (due_came past s.lawful k rest is) (λ h. other (sym e ∙ h))
+
+-- of what is no SCSI Command as it stands
+either_way : (past : Past) (state : SessionState) (k : ℕ) (rest : List ℕ) (q : Frame → Bool) → Stands past state → due past ≡ k ∷ rest
+    → ((frame : Frame) → is_command frame ≡ true → q frame ≡ false) → q (frame_of (standing past) k) ≡ false → q (frame_of past.came k) ≡ false
+either_way past state k rest q s is never e = by_case (is_in k past.removed) refl
+  where
+    by_case : (b : Bool) → is_in k past.removed ≡ b → q (frame_of past.came k) ≡ false
+    by_case true gone = never (frame_of past.came k) (removed_command past s.lawful k gone)
+    by_case false stays = ap q (sym (standing_kept past k (due_came past s.lawful k rest is) stays)) ∙ e
+
+pub no_text_there : (past : Past) (state : SessionState) (k : ℕ) (rest : List ℕ) → Stands past state → due past ≡ k ∷ rest
+    → is_text (frame_of (standing past) k) ≡ false → is_text (frame_of past.came k) ≡ false
+no_text_there past state k rest s is e = either_way past state k rest is_text s is command_no_text e
+
+pub no_function_there : (past : Past) (state : SessionState) (k : ℕ) (rest : List ℕ) → Stands past state → due past ≡ k ∷ rest
+    → is_function (frame_of (standing past) k) ≡ false → is_function (frame_of past.came k) ≡ false
+no_function_there past state k rest s is e = either_way past state k rest is_function s is command_no_function e
+
+pub text_there : (past : Past) (state : SessionState) (k : ℕ) (rest : List ℕ) → Stands past state → due past ≡ k ∷ rest
+    → is_text (frame_of (standing past) k) ≡ true → is_text (frame_of past.came k) ≡ true
+text_there past state k rest s is e =
+    ap is_text (sym (kind_there past state k rest 0x04 s is (eqb-true _ 0x04 e) (λ h. absurd cc))) ∙ e
+
+pub function_there : (past : Past) (state : SessionState) (k : ℕ) (rest : List ℕ) → Stands past state → due past ≡ k ∷ rest
+    → is_function (frame_of (standing past) k) ≡ true → is_function (frame_of past.came k) ≡ true
+function_there past state k rest s is e =
+    ap is_function (sym (kind_there past state k rest 0x02 s is (eqb-true _ 0x02 e) (λ h. absurd cc))) ∙ e
+
+-- a request of a kind that acts stands as it came
+pub came_as : (past : Past) (state : SessionState) (k : ℕ) (rest : List ℕ) {o : Opcode} → Stands past state → due past ≡ k ∷ rest
+    → kind_of (frame_of (standing past) k) ≡ o → (opcodes.Other 0x3F ≡ o → ⊥) → frame_of (standing past) k ≡ frame_of past.came k
+came_as past state k rest s is e other = stands_as past k (due_came past s.lawful k rest is) (λ h. other (sym (ap opcode_of h) ∙ e))
+
+-- and one of another kind is one, or was removed
+pub other_came : (past : Past) (state : SessionState) (k : ℕ) (rest : List ℕ) → Stands past state → due past ≡ k ∷ rest
+    → IsOther (kind_of (frame_of (standing past) k)) → IsOther (kind_of (frame_of past.came k))
+other_came past state k rest s is e = by_case (is_in k past.removed) refl
+  where
+    by_case : (b : Bool) → is_in k past.removed ≡ b → IsOther (kind_of (frame_of past.came k))
+    by_case true gone = inl (ap opcode_of (eqb-true (opcode_number (frame_of past.came k).header) 0x01 (removed_command past s.lawful k gone)))
+    by_case false stays = subst IsOther (ap kind_of (standing_kept past k (due_came past s.lawful k rest is) stays)) e
 
 pub stands_other : (past : Past) (state : SessionState) (k : ℕ) (rest : List ℕ) (headers : List (List ℕ)) → Stands past state → due past ≡ k ∷ rest
     → is_command (frame_of past.came k) ≡ false → headers ≡ functions_of (finished k past)
@@ -291,7 +375,7 @@ pub stands_other : (past : Past) (state : SessionState) (k : ℕ) (rest : List �
     })
 stands_other past state k rest headers s is e left_over =
     let after : Past = record past { acted = past.acted ++ k ∷ []; finished = past.finished ++ k ∷ [] } in
-    let dropped : drop 1 state.tasks.due ≡ frames_of past.came rest = ap (drop 1) (first_due past state k rest s is) in
+    let dropped : drop 1 state.tasks.due ≡ frames_of (standing past) rest = ap (drop 1) (first_due past state k rest s is) in
     subst (λ (p : Past). Stands p (record state {
       tasks = one_fewer (frame_of past.came k) (record state.tasks { due = drop 1 state.tasks.due });
       functions = headers;
@@ -300,7 +384,7 @@ stands_other past state k rest headers s is e left_over =
     (moved_other k past e)
     (stands_parts past after state _ state.transfers headers _ s (lawful_other past s.lawful k rest is e) refl refl
     (ap (λ (l : List Frame). one_fewer (frame_of past.came k) (record state.tasks { due = l })) dropped
-    ∙ ap (λ (t : TaskLists). one_fewer (frame_of past.came k) (record t { due = frames_of past.came rest })) (parts past state s).tasks_is
+    ∙ ap (λ (t : TaskLists). one_fewer (frame_of past.came k) (record t { due = frames_of (standing past) rest })) (parts past state s).tasks_is
     ∙ tasks_other past s.lawful k rest is e)
     ((parts past state s).transfers_is ∙ sym (transfers_other past s.lawful k rest is e))
     (left_over ∙ functions_acted past s.lawful k rest is)
@@ -316,19 +400,29 @@ same_head a b x y l p q = let both : a ∷ x ≡ b ∷ y = sym p ∙ q in cc
 
 -- the first that is due is finished, in the code
 pub finished_here : (past : Past) (state : SessionState) (k : ℕ) (rest : List ℕ) (frame : Frame) (tasks : TaskLists) → Stands past state
-    → due past ≡ k ∷ rest → is_command (frame_of past.came k) ≡ false → is_text (frame_of past.came k) ≡ false
+    → due past ≡ k ∷ rest → is_command (frame_of (standing past) k) ≡ false → is_text (frame_of past.came k) ≡ false
     → is_function (frame_of past.came k) ≡ false
     → state.tasks.due ≡ frame ∷ drop 1 state.tasks.due → tasks ≡ one_fewer frame (record state.tasks { due = drop 1 state.tasks.due })
-    → (frame ≡ frame_of past.came k) × Stands (moved k past) (record state { tasks = tasks })
+    → (frame ≡ frame_of (standing past) k) × Stands (moved k past) (record state { tasks = tasks })
 finished_here past state k rest frame tasks s is e no_text no_function some same =
-    let here = same_head frame (frame_of past.came k) (drop 1 state.tasks.due) (frames_of past.came rest) state.tasks.due some
+    let here = same_head frame (frame_of (standing past) k) (drop 1 state.tasks.due) (frames_of (standing past) rest) state.tasks.due some
     (first_due past state k rest s is) in
-    let kept : state.exchange ≡ exchange_behind past.params (exchange_of past) (frame_of past.came k) = (parts past state s).exchange_is
-    ∙ sym (exchange_other past.params (exchange_of past) (frame_of past.came k) no_text) in
-    (here, rw (same, here) (subst (λ (x : ExchangeState). Stands (moved k past) (record state {
-      tasks = one_fewer (frame_of past.came k) (record state.tasks { due = drop 1 state.tasks.due });
-      exchange = x;
-    })) (sym kept) (stands_other past state k rest state.functions s is e (same_functions past state k s no_function))))
+    (here, rw (same, here) (by_case (is_in k past.removed) refl))
+  where
+    lt : k < length past.came
+    lt = due_came past s.lawful k rest is
+    kept : state.exchange ≡ exchange_behind past.params (exchange_of past) (frame_of past.came k)
+    kept = (parts past state s).exchange_is ∙ sym (exchange_other past.params (exchange_of past) (frame_of past.came k) no_text)
+    by_case : (b : Bool) → is_in k past.removed ≡ b
+        → Stands (moved k past) (record state { tasks = one_fewer (frame_of (standing past) k) (record state.tasks { due = drop 1 state.tasks.due }) })
+    by_case true gone = stands_gone past state k rest s is (removed_command past s.lawful k gone) gone
+    by_case false stays =
+        let same_frame = standing_kept past k lt stays in
+        let no_command : is_command (frame_of past.came k) ≡ false = ap is_command (sym same_frame) ∙ e in
+        rw same_frame (subst (λ (x : ExchangeState). Stands (moved k past) (record state {
+          tasks = one_fewer (frame_of past.came k) (record state.tasks { due = drop 1 state.tasks.due });
+          exchange = x;
+        })) (sym kept) (stands_other past state k rest state.functions s is no_command (same_functions past state k s no_function)))
 
 -- where it stands among the functions
 function_at : (past : Past) (k : ℕ) (at : Option ℕ) → IsLawful past → is_in k (functions past) ≡ true
@@ -356,7 +450,8 @@ pub function_here : (past : Past) (state : SessionState) (k : ℕ) (rest : List 
     → (frame ≡ frame_of past.came k) × Stands (moved k past) (record state { tasks = tasks; functions = headers })
 function_here past state k rest frame tasks headers s is e some same gone =
     let f = frame_of past.came k in
-    let here = same_head frame f (drop 1 state.tasks.due) (frames_of past.came rest) state.tasks.due some (first_due past state k rest s is) in
+    let here = same_head frame (frame_of (standing past) k) (drop 1 state.tasks.due) (frames_of (standing past) rest) state.tasks.due some
+    (first_due past state k rest s is) ∙ stands_other_kind past state k rest s is (function_no_command f e) in
     let kept : state.exchange ≡ exchange_behind past.params (exchange_of past) f = (parts past state s).exchange_is
     ∙ sym (exchange_other past.params (exchange_of past) f (function_no_text f e)) in
     let left_over : headers ≡ functions_of (finished k past) = gone
@@ -378,12 +473,13 @@ pub text_here : (past : Past) (state : SessionState) (k : ℕ) (rest : List ℕ)
 text_here past state k rest frame tasks told s is e some same hears_so =
     let p = parts past state s in
     let f = frame_of past.came k in
-    let here = same_head frame f (drop 1 state.tasks.due) (frames_of past.came rest) state.tasks.due some (first_due past state k rest s is) in
+    let no_command : is_command f ≡ false = text_no_command f e in
+    let here = same_head frame (frame_of (standing past) k) (drop 1 state.tasks.due) (frames_of (standing past) rest) state.tasks.due some
+    (first_due past state k rest s is) ∙ stands_other_kind past state k rest s is no_command in
     let heard : told ≡ hears (exchange_of past) f past.params = hears_so ∙ ap (λ (x : ExchangeState). hears x f state.params) p.exchange_is
     ∙ ap (hears (exchange_of past) f) p.params_is in
     let next : told.exchange ≡ exchange_behind past.params (exchange_of past) f = ap (λ (t : ToldState). t.exchange) heard
     ∙ sym (exchange_text past.params (exchange_of past) f e) in
-    let no_command : is_command f ≡ false = false_from_ne_true (is_command f) (λ c. absurd (let no = sym (command_no_text f c) ∙ e in cc)) in
     let no_function : is_function f ≡ false = text_no_function f e in
     (here, heard, rw (same, here, next) (stands_other past state k rest state.functions s is no_command (same_functions past state k s no_function)))
 
@@ -430,25 +526,25 @@ pub stands_silent : (k : ℕ) (past : Past) (state : SessionState) → act_answe
 stands_silent k past state e s = subst (λ (p : Past). Stands p state) (answering_none (moved k past) (act_answers k past) e) s
 
 pub some_due : (past : Past) (state : SessionState) (k : ℕ) (rest : List ℕ) → Stands past state → due past ≡ k ∷ rest → state.tasks.due ≡ [] → ⊥
-some_due past state k rest s is none = let both : frame_of past.came k ∷ frames_of past.came rest ≡ [] = sym (first_due past state k rest s is) ∙ none in cc
+some_due past state k rest s is none = let both : frame_of (standing past) k ∷ frames_of (standing past) rest ≡ [] = sym (first_due past state k rest s is) ∙ none in cc
 
 -- ---- the next act
 
-no_names : (past : Past) (l : List ℕ) → frames_of past.came l ≡ [] → l ≡ []
-no_names past [] e = refl
-no_names past (k ∷ l) e = absurd cc
+no_names : (came : List Request) (l : List ℕ) → frames_of came l ≡ [] → l ≡ []
+no_names came [] e = refl
+no_names came (k ∷ l) e = absurd cc
 
 pub none_due : (past : Past) (state : SessionState) → Stands past state → state.tasks.due ≡ [] → due past ≡ []
-none_due past state s e = no_names past (due past) (sym (due_is past state s) ∙ e)
+none_due past state s e = no_names (standing past) (due past) (sym (due_is past state s) ∙ e)
 
-some_names : (past : Past) (l : List ℕ) (frame : Frame) (others : List Frame) → frames_of past.came l ≡ frame ∷ others
-    → (k : ℕ) × (rest : List ℕ) × (l ≡ k ∷ rest) × (frame ≡ frame_of past.came k) × (others ≡ frames_of past.came rest)
-some_names past [] frame others e = absurd cc
-some_names past (k ∷ l) frame others e = (k, l, refl, cc, cc)
+some_names : (came : List Request) (l : List ℕ) (frame : Frame) (others : List Frame) → frames_of came l ≡ frame ∷ others
+    → (k : ℕ) × (rest : List ℕ) × (l ≡ k ∷ rest) × (frame ≡ frame_of came k) × (others ≡ frames_of came rest)
+some_names came [] frame others e = absurd cc
+some_names came (k ∷ l) frame others e = (k, l, refl, cc, cc)
 
 pub due_first : (past : Past) (state : SessionState) (frame : Frame) (others : List Frame) → Stands past state → state.tasks.due ≡ frame ∷ others
-    → (k : ℕ) × (rest : List ℕ) × (due past ≡ k ∷ rest) × (frame ≡ frame_of past.came k) × (others ≡ frames_of past.came rest)
-due_first past state frame others s e = some_names past (due past) frame others (sym (due_is past state s) ∙ e)
+    → (k : ℕ) × (rest : List ℕ) × (due past ≡ k ∷ rest) × (frame ≡ frame_of (standing past) k) × (others ≡ frames_of (standing past) rest)
+due_first past state frame others s e = some_names (standing past) (due past) frame others (sym (due_is past state s) ∙ e)
 
 pub idle_act : (past : Past) → due past ≡ [] → Idle ≡ act_by (due past) past
 idle_act past e = ap (λ (l : List ℕ). act_by l past) (sym e)
@@ -478,10 +574,10 @@ command_act k past e = ap (λ (b : Bool). cond b Ended Taken) (sym (command_goes
 
 pub queue_first : (past : Past) (state : SessionState) (frame : Frame) (others : List Frame) → Stands past state → state.tasks.queue ≡ frame ∷ others
     → (k : ℕ) × (rest : List ℕ) × (queue past ≡ k ∷ rest) × (frame ≡ frame_of past.came k) × (others ≡ frames_of past.came rest)
-queue_first past state frame others s e = some_names past (queue past) frame others (sym (queue_is past state s) ∙ e)
+queue_first past state frame others s e = some_names past.came (queue past) frame others (sym (queue_is past state s) ∙ e)
 
 pub none_queued : (past : Past) (state : SessionState) → Stands past state → state.tasks.queue ≡ [] → queue past ≡ []
-none_queued past state s e = no_names past (queue past) (sym (queue_is past state s) ∙ e)
+none_queued past state s e = no_names past.came (queue past) (sym (queue_is past state s) ∙ e)
 
 pub some_queued : (past : Past) (state : SessionState) (k : ℕ) (rest : List ℕ) → Stands past state → queue past ≡ k ∷ rest → state.tasks.queue ≡ [] → ⊥
 some_queued past state k rest s is none = let both : frame_of past.came k ∷ frames_of past.came rest ≡ [] = sym (queue_is past state s

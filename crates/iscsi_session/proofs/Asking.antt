@@ -12,7 +12,7 @@ use Rattle.iscsi_transfer.proofs.Standing.{remembered-asked}
 use Rattle.iscsi_session.specs.declared.transfers.Transfer.{Transfer}
 use Rattle.iscsi_session.specs.Requests.{Past, SentR2t, frame_of, is_in, due, queue, unfinished, stamp, statuses, bearing, functions}
 use Rattle.iscsi_session.specs.Transfers.{outs_of, tags_of, last_tag, data_past, task_at, is_whole_of, ask_of, asking, next_transfer_tag, r2t_for, r2t_answers, r2t_of, asked, asked_by, r2ts_by}
-use Rattle.iscsi_session.specs.State.{SessionState, TransferList, IsLawful, Stands, tasks_of, transfers_of, transfer_of, transfer_at, no_transfer, due_of, asking_place, r2t_at, asked_at, sent_to, functions_of}
+use Rattle.iscsi_session.specs.State.{SessionState, TransferList, IsLawful, Stands, tasks_of, transfers_of, transfer_of, transfer_at, no_transfer, due_of, asking_place, r2t_at, asked_at, sent_to, functions_of, standing}
 use Rattle.iscsi_session.specs.Steps.{ready, ready_in}
 use Rattle.iscsi_order.specs.Stat.{stat_sn}
 use Rattle.iscsi_session.proofs.Left.{in_at, in_filter}
@@ -61,7 +61,7 @@ unfolding unfinished
 unfinished_asked past k = refl
 
 tasks_asked : (past : Past) (k : ℕ) → tasks_of (asked k past) ≡ tasks_of past
-unfolding tasks_of due queue
+unfolding tasks_of due queue standing
 tasks_asked past k = refl
 
 -- ---- which command is asked

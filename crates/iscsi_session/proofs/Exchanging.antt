@@ -22,7 +22,7 @@ use Rattle.iscsi_session.proofs.Accepted.{frames_same}
 
 pub exchange_joined : (past : Past) (x : Request) → Below past past.acted → exchange_of (joined x past) ≡ exchange_of past
 unfolding exchange_of
-exchange_joined past x below = ap (fold (exchange_behind past.params) no_exchange) (frames_same past x past.acted below)
+exchange_joined past x below = ap (fold (exchange_behind past.params) no_exchange) (frames_same past.came x past.acted below)
 
 pub exchange_answering : (more : List Answer) (past : Past) → exchange_of (answering more past) ≡ exchange_of past
 unfolding exchange_of

@@ -13,7 +13,7 @@ use Rattle.iscsi_session.specs.Functions.{function_with, immediate_in}
 use Rattle.iscsi_session.specs.Requests.{Past, DataOut, is_command, is_function, functions, frame_of, is_in, due, queue, unfinished, finished}
 use Rattle.iscsi_session.specs.Judging.{is_live, is_full, data_verdict}
 use Rattle.iscsi_session.specs.Transfers.{tag_of, command_with, outs_of, tags_of, last_tag, data_past, task_at, payload_of, is_whole_of, fed}
-use Rattle.iscsi_session.specs.State.{SessionState, TransferList, IsLawful, Stands, tasks_of, transfers_of, transfer_of, no_transfer, bears, place_with, place_for, immediate_transfers, functions_of, function_place, immediate_functions, judged_at, fed_at, whole_at, payload_at, removed_at}
+use Rattle.iscsi_session.specs.State.{SessionState, TransferList, IsLawful, Stands, tasks_of, transfers_of, transfer_of, no_transfer, bears, place_with, place_for, immediate_transfers, functions_of, function_place, immediate_functions, judged_at, fed_at, whole_at, payload_at, removed_at, standing}
 use Rattle.iscsi_session.proofs.Left.{in_at}
 use Rattle.iscsi_session.proofs.Places.{Located, located, index_map, set_map, remove_map, missing, found_or_not, found_self, count_map, or_known, one_more}
 use Rattle.iscsi_session.proofs.Unfinished.{unfinished_came, unfinished_distinct, queue_unfinished}
@@ -210,7 +210,7 @@ fed_same past frame None = (refl, refl)
 fed_same past frame (Some k) = (refl, refl)
 
 fed_tasks : (past : Past) (frame : Frame) (c : Option ℕ) → tasks_of past ≡ tasks_of (fed c frame past)
-unfolding tasks_of due queue
+unfolding tasks_of due queue standing
 fed_tasks past frame None = refl
 fed_tasks past frame (Some k) = refl
 

@@ -11,7 +11,7 @@ use Rattle.iscsi_order.specs.Serial.{distance}
 use Rattle.iscsi_order.proofs.Standing.{window_is}
 use Rattle.iscsi_session.specs.declared.verdict.Verdict.{Verdict}
 use Rattle.iscsi_session.specs.declared.verdict.Verdict.TheVariants.{Ignored, Dropped, Rejected, Violating, Accepted, Feeding}
-use Rattle.iscsi_session.specs.Requests.{Past, frame_of, is_command, commands, others, taken, numbers, due, queue, moved, finished, accepted}
+use Rattle.iscsi_session.specs.Requests.{Past, frame_of, is_in, left, is_command, commands, others, taken, numbers, due, queue, moved, finished, accepted}
 use Rattle.iscsi_session.specs.Judging.{verdict, judged}
 use Rattle.iscsi_session.specs.Acts.{act_answers}
 use Rattle.iscsi_session.specs.State.{IsLawful}
@@ -19,9 +19,10 @@ use Rattle.iscsi_session.specs.Steps.{Step, Judging, Taking, Asking, Doing, Work
 use Rattle.iscsi_session.specs.Transfers.{asking}
 use Rattle.iscsi_session.proofs.Asking.{lawful_asked, asking_came, ready_queue}
 use Rattle.iscsi_session.specs.Laws.{TakenOnce, FinishedAsTaken, DueInOrder, DoneInOrder, StepsAreLawful}
+use Rattle.iscsi_session.proofs.Left.{left_append}
 use Rattle.iscsi_session.proofs.Taken.{distinct_taken}
 use Rattle.iscsi_session.proofs.Accepted.{begun_lawful, HasFreeTag, IsAhead, lawful_now, lawful_with}
-use Rattle.iscsi_session.proofs.Moved.{due_after, due_other, lawful_command, lawful_other, lawful_finished, queue_after}
+use Rattle.iscsi_session.proofs.Moved.{due_after, due_other, lawful_command, lawful_gone, lawful_other, lawful_finished, queue_after}
 use Rattle.iscsi_session.proofs.Parts.{both_true, fresh_is, accepted_now, accepted_with}
 use Rattle.iscsi_session.proofs.Verdicts.{IsFree, accepted_free}
 use Rattle.iscsi_session.proofs.Feeding.{free_by_past, lawful_fed}
@@ -37,9 +38,11 @@ in_order past q lawful = ap (filter q) lawful.in_order ∙ filter-append q past.
 
 pub finished_as_taken : FinishedAsTaken
 finished_as_taken past lawful = record {
-  later_commands = queue past ++ commands past.came (due past);
-  commands = in_order past (λ k. is_command (frame_of past.came k)) lawful ∙ ap (λ (l : List ℕ). l ++ commands past.came (due past)) (sym lawful.queued)
-      ∙ append_assoc (commands past.came past.finished) (queue past) (commands past.came (due past));
+  later_commands = queue past ++ left past.removed (commands past.came (due past));
+  commands = ap (left past.removed) (in_order past (λ k. is_command (frame_of past.came k)) lawful)
+      ∙ left_append past.removed (commands past.came past.acted) (commands past.came (due past))
+      ∙ ap (λ (l : List ℕ). l ++ left past.removed (commands past.came (due past))) (sym lawful.queued)
+      ∙ append_assoc (commands past.came past.finished) (queue past) (left past.removed (commands past.came (due past)));
   later_others = others past.came (due past);
   others = in_order past (λ k. not (is_command (frame_of past.came k))) lawful ∙ ap (λ (l : List ℕ). l ++ others past.came (due past)) (sym lawful.at_once);
 }
@@ -59,7 +62,11 @@ done_in_order past k rest lawful is = queue_after past lawful k rest is
 
 moved_by : (b : Bool) (past : Past) (k : ℕ) (rest : List ℕ) → is_command (frame_of past.came k) ≡ b → IsLawful past → due past ≡ k ∷ rest
     → IsLawful (moved k past)
-moved_by true past k rest e lawful is = rw e (lawful_command past lawful k rest is e)
+moved_by true past k rest e lawful is = rw e (commands_by (is_in k past.removed) refl)
+  where
+    commands_by : (b : Bool) → is_in k past.removed ≡ b → IsLawful (record past { acted = past.acted ++ k ∷ [] })
+    commands_by true gone = lawful_gone past lawful k rest is gone e
+    commands_by false stays = lawful_command past lawful k rest is stays e
 moved_by false past k rest e lawful is = rw e (lawful_other past lawful k rest is e)
 
 -- a new number is ahead of those taken

@@ -20,7 +20,7 @@ filter_filter_with : {A : Type 0} (b : Bool) (p q : A → Bool) (x : A) (xs : Li
 filter_filter_with true p q x xs e rest = rw (e, rest) refl
 filter_filter_with false p q x xs e rest = rw (e, rest) refl
 
-filter_filter : {A : Type 0} (p q : A → Bool) (xs : List A) → filter p (filter q xs) ≡ filter (λ x. q x && p x) xs
+pub filter_filter : {A : Type 0} (p q : A → Bool) (xs : List A) → filter p (filter q xs) ≡ filter (λ x. q x && p x) xs
 filter_filter p q [] = refl
 filter_filter p q (x ∷ xs) = filter_filter_with (q x) p q x xs refl (filter_filter p q xs)
 
@@ -45,7 +45,7 @@ left_more gone more names =
     ∙ filter_cong _ _ names (λ i d lt. not_or (is_in (get_or names i d) gone) (is_in (get_or names i d) more)
     ∙ ap not (sym (list_any-append (λ a. eqb a (get_or names i d)) gone more))))
 
-and_swap : (a b : Bool) → (a && b) ≡ (b && a)
+pub and_swap : (a b : Bool) → (a && b) ≡ (b && a)
 and_swap true true = refl
 and_swap true false = refl
 and_swap false true = refl

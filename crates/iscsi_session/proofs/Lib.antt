@@ -4,8 +4,10 @@ pub mod Taken
 mod Places
 pub mod Kept
 pub mod Unfinished
+pub mod Standing
 pub mod Fronts
 pub mod Accepted
+pub mod Over
 pub mod Moved
 mod Lines
 pub mod Exchanging

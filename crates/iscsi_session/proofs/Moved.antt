@@ -1,19 +1,20 @@
 -- A request acts, and a command is finished: what the session remembers, and that its past stays lawful.
-use Rattle.std.proofs.Common.{◌≡◌, ℕ, zero, ◌+◌, ◌-◌, ◌<◌, ◌≤◌, List, [], ◌∷◌, ◌++◌, length, map, get_or, Bool, true, false, not, cond, refl, sym, ap, subst, ◌∙◌, arith, append_assoc}
-use Rattle.std.specs.Prelude.{is_some, All}
+use Rattle.std.proofs.Common.{◌≡◌, ℕ, ◌+◌, ◌<◌, ◌≤◌, List, [], ◌∷◌, ◌++◌, length, map, get_or, Bool, true, false, not, refl, sym, ap, subst, ◌∙◌, arith, append_assoc}
+use Rattle.std.specs.Prelude.{All}
 use Rattle.std.proofs.lemmas.List.{append-nil, map-append}
-use Rattle.std.proofs.lemmas.List.Elements.{filter-append, filter_passes, All-filter, All-head, All-push, All-nil, All-cons}
-use Rattle.iscsi_pdu.specs.Header.{is_immediate}
-use Rattle.iscsi_pdu.specs.Frames.{Frame}
+use Rattle.std.proofs.lemmas.List.Elements.{filter-append, All-push, All-nil, All-cons}
+use Rattle.iscsi_order.specs.WindowState as windows
 use Rattle.iscsi_order.specs.Window.{taken as taken_numbers}
-use Rattle.iscsi_session.specs.Requests.{Request, Past, request_at, frame_of, is_in, left, is_command, commands, others, counted, taken, numbers, due, queue, unfinished, is_function, functions, frames_of, finished}
+use Rattle.iscsi_session.specs.Requests.{Past, frame_of, is_in, left, is_command, commands, others, counted, over, taken, numbers, due, queue, unfinished, is_function, functions, frames_of, finished}
 use Rattle.iscsi_session.specs.Transfers.{tag_of, task_at, outs_of, tags_of}
-use Rattle.iscsi_session.specs.State.{TaskLists, tasks_of, transfer_of, transfers_of, functions_of, AreDistinct, IsDelivered, IsLawful, one_fewer}
-use Rattle.iscsi_session.proofs.Left.{left_append, left_all, left_none, left_more, left_first, left_one, left_passes, in_at, in_front, in_back, in_left, not_by, not_in, below_of, distinct_left, distinct_filter, distinct_front}
+use Rattle.iscsi_session.specs.State.{standing, tasks_of, transfer_of, transfers_of, functions_of, AreDistinct, IsLawful, one_fewer}
+use Rattle.iscsi_session.proofs.Left.{left_append, left_all, left_more, left_swap, left_first, left_one, left_passes, in_at, in_front, in_back, in_left, passes_in, not_gone, not_by, not_in, below_of, distinct_left, distinct_filter, distinct_front}
 use Rattle.iscsi_session.proofs.Taken.{taken_below, distinct_taken}
-use Rattle.iscsi_session.proofs.Kept.{kept_without, kept_other, kept_distinct, in_kept, tags_left, command_no_function}
+use Rattle.iscsi_session.proofs.Kept.{kept_without, kept_other, kept_distinct, in_kept, tags_left, command_no_function, function_no_command}
 use Rattle.iscsi_session.proofs.Unfinished.{unfinished_without, unfinished_other}
+use Rattle.iscsi_session.proofs.Standing.{standing_immediate}
 use Rattle.iscsi_session.proofs.Accepted.{handed_le, counted_append, due_is, queue_is, in_queue}
+use Rattle.iscsi_session.proofs.Over.{not_removed, few_over, one_fewer_by, unfinished_less, over_same, over_gone, over_other, over_finished}
 
 -- ---- Task Management Function Requests
 
@@ -38,72 +39,25 @@ pub functions_kept : (past : Past) (k : ℕ) → is_function (frame_of past.came
 unfolding functions_of
 functions_kept past k e = ap (map (λ a. (frame_of past.came a).header)) (functions_other past k e)
 
--- ---- counts
-
-split_with : (n c : Bool) (came : List Request) (k : ℕ) (names : List ℕ) → is_some (request_at came k).number ≡ n → is_command (frame_of came k) ≡ c
-    → counted came names ≡ counted came (commands came names) + counted came (others came names)
-    → counted came (k ∷ names) ≡ counted came (commands came (k ∷ names)) + counted came (others came (k ∷ names))
-split_with true true came k names e f rest = rw (e, f, e) (omega arith)
-split_with true false came k names e f rest = rw (e, f, e) (omega arith)
-split_with false true came k names e f rest = rw (e, f, e) rest
-split_with false false came k names e f rest = rw (e, f, e) rest
-
-counted_split : (came : List Request) (names : List ℕ) → counted came names ≡ counted came (commands came names) + counted came (others came names)
-counted_split came [] = refl
-counted_split came (k ∷ names) = split_with _ _ came k names refl refl (counted_split came names)
-
--- no more numbers are finished than are taken
-few_finished : (past : Past) → taken past.came ≡ past.acted ++ due past → commands past.came past.finished ++ queue past ≡ commands past.came past.acted
-    → others past.came past.finished ≡ others past.came past.acted
-    → counted past.came (taken past.came) ≡ (numbers past).handed → counted past.came past.finished ≤ (numbers past).handed
-few_finished past in_order queued at_once handed =
-    let came = past.came in
-    let a = counted_split came past.finished in
-    let b = counted_split came past.acted in
-    let c : counted came (commands came past.finished) + counted came (queue past) ≡ counted came (commands came past.acted) = sym
-    (counted_append came (commands came past.finished) (queue past)) ∙ ap (counted came) queued in
-    let d : counted came (others came past.finished) ≡ counted came (others came past.acted) = ap (counted came) at_once in
-    let e : counted came (taken came) ≡ counted came past.acted + counted came (due past) = ap (counted came) in_order
-    ∙ counted_append came past.acted (due past) in
-    omega arith
-
--- one that has no number is for immediate delivery
-fewer_by : (n i : Bool) (handed done : ℕ) → n ≡ not i → cond i (handed - done) (handed - done - 1) ≡ handed - (done + length (cond n (zero ∷ []) []))
-fewer_by true true handed done e = absurd cc
-fewer_by true false handed done e = omega arith
-fewer_by false true handed done e = omega arith
-fewer_by false false handed done e = absurd cc
-
-one_counted : (b : Bool) (came : List Request) (k : ℕ) → is_some (request_at came k).number ≡ b → counted came (k ∷ []) ≡ length (cond b (zero ∷ []) [])
-one_counted true came k e = rw e refl
-one_counted false came k e = rw e refl
-
-one_fewer_by : (b : Bool) (frame : Frame) (tasks : TaskLists) → is_immediate frame.header ≡ b
-    → one_fewer frame tasks ≡ record tasks { unfinished = cond b tasks.unfinished (tasks.unfinished - 1) }
-one_fewer_by true frame tasks e = rw e refl
-one_fewer_by false frame tasks e = rw e refl
-
 module _ (past : Past) (lawful : IsLawful past) where
   distinct_acted : AreDistinct past.acted
   distinct_acted = distinct_front past.acted (due past) (subst AreDistinct lawful.in_order (distinct_taken past.came))
 
-  -- one more is finished
-  unfinished_less : (k : ℕ) → k < length past.came
-      → cond (is_immediate (frame_of past.came k).header) ((numbers past).handed - counted past.came past.finished)
-      ((numbers past).handed - counted past.came past.finished - 1)
-      ≡ (numbers past).handed - counted past.came (past.finished ++ k ∷ [])
-  unfinished_less k lt =
-      let told : IsDelivered (request_at past.came k) = lawful.delivered k _ lt in
-      fewer_by (is_some (request_at past.came k).number) (is_immediate (frame_of past.came k).header) (numbers past).handed
-      (counted past.came past.finished) told
-      ∙ ap (λ (n : ℕ). (numbers past).handed - n) (ap (λ (n : ℕ). counted past.came past.finished + n) (sym (one_counted _ past.came k refl))
-      ∙ sym (counted_append past.came past.finished (k ∷ [])))
-
   -- ---- the numbers that are taken are the same
 
-  pub handed_finished : (k : ℕ) → (numbers (finished k past)).handed ≡ (numbers past).handed
+  pub handed_with : (acted finished : List ℕ) → (numbers (record past { acted = acted; finished = finished })).handed ≡ (numbers past).handed
   unfolding taken_numbers
-  handed_finished k = refl
+  handed_with acted finished = refl
+
+  -- the window, where more is over
+  window_with : (acted finished : List ℕ) → counted past.came (over past) ≤ counted past.came (over (record past { acted = acted; finished = finished }))
+      → counted past.came (over (record past { acted = acted; finished = finished })) ≤ (numbers past).handed
+      → windows.IsLawful (numbers (record past { acted = acted; finished = finished }))
+  window_with acted finished more few = record {
+    finished = (let same = handed_with acted finished in omega arith);
+    handed = handed_le (record past { acted = acted; finished = finished });
+    within = λ j come. (let lt = lawful.window.within j come in omega arith);
+  }
 
   -- ---- the first that is due acts
 
@@ -133,7 +87,7 @@ module _ (past : Past) (lawful : IsLawful past) where
     pub due_after : due (record past { acted = past.acted ++ k ∷ [] }) ≡ rest
     unfolding due
     due_after =
-        left_none past.removed _ lawful.none_removed ∙ left_more past.acted (k ∷ []) (taken past.came)
+        left_more past.acted (k ∷ []) (taken past.came)
         ∙ ap (left (k ∷ [])) (sym (due_is past lawful) ∙ is) ∙ left_first k rest distinct_here
 
     in_order_after : taken past.came ≡ (past.acted ++ k ∷ []) ++ rest
@@ -145,7 +99,7 @@ module _ (past : Past) (lawful : IsLawful past) where
     acted_after : All (λ a. is_in a (past.acted ++ k ∷ []) ≡ true) past.finished
     acted_after = λ i d lt. in_front (get_or past.finished i d) past.acted (k ∷ []) (lawful.acted i d lt)
 
-    -- ---- a SCSI Command joins the queue
+    -- ---- a SCSI Command acts
 
     abbrev with_command : Past
     with_command = record past { acted = past.acted ++ k ∷ [] }
@@ -156,14 +110,23 @@ module _ (past : Past) (lawful : IsLawful past) where
     others_none : is_command (frame_of past.came k) ≡ true → others past.came (past.acted ++ k ∷ []) ≡ others past.came past.acted
     others_none e = filter-append (λ a. not (is_command (frame_of past.came a))) past.acted (k ∷ []) ∙ rw e (append-nil (others past.came past.acted))
 
-    pub queue_joined : is_command (frame_of past.came k) ≡ true → queue with_command ≡ queue past ++ k ∷ []
+    left_commands : is_command (frame_of past.came k) ≡ true
+        → left past.removed (commands past.came (past.acted ++ k ∷ [])) ≡ left past.removed (commands past.came past.acted) ++ left past.removed (k ∷ [])
+    left_commands e = ap (left past.removed) (commands_one e) ∙ left_append past.removed (commands past.came past.acted) (k ∷ [])
+
+    -- it joins the queue, where it was not removed
+    queue_by : is_command (frame_of past.came k) ≡ true → queue with_command ≡ queue past ++ left past.removed (k ∷ [])
     unfolding queue
-    queue_joined e =
-        left_none past.removed _ lawful.none_removed ∙ ap (left past.finished) (commands_one e)
-        ∙ left_append past.finished (commands past.came past.acted) (k ∷ [])
-        ∙ ap (λ (l : List ℕ). left past.finished (commands past.came past.acted) ++ l)
+    queue_by e =
+        ap (λ (l : List ℕ). left past.removed (left past.finished l)) (commands_one e)
+        ∙ ap (left past.removed) (left_append past.finished (commands past.came past.acted) (k ∷ []))
+        ∙ left_append past.removed (left past.finished (commands past.came past.acted)) (left past.finished (k ∷ []))
+        ∙ ap (λ (l : List ℕ). queue past ++ left past.removed l)
         (left_all past.finished (k ∷ []) (All-cons (λ a. is_in a past.finished ≡ false) k [] not_finished (All-nil (λ a. is_in a past.finished ≡ false))))
-        ∙ ap (λ (l : List ℕ). l ++ k ∷ []) (sym (queue_is past lawful))
+
+    pub transfers_command : transfers_of with_command ≡ transfers_of past
+    unfolding transfers_of unfinished task_at outs_of tags_of
+    transfers_command = refl
 
     unfinished_with_command : unfinished with_command ≡ unfinished past
     unfolding unfinished
@@ -177,37 +140,83 @@ module _ (past : Past) (lawful : IsLawful past) where
     unfolding functions_of functions
     functions_command = refl
 
-    pub transfers_command : transfers_of with_command ≡ transfers_of past
-    unfolding transfers_of unfinished task_at outs_of tags_of
-    transfers_command = refl
-
-    pub lawful_command : is_command (frame_of past.came k) ≡ true → IsLawful with_command
-    lawful_command e = record {
-      window = lawful.window;
+    lawful_by : is_command (frame_of past.came k) ≡ true → windows.IsLawful (numbers with_command) → IsLawful with_command
+    lawful_by e window = record {
+      window = window;
       distinct = lawful.distinct;
       delivered = lawful.delivered;
       in_order = in_order_after ∙ ap (λ (l : List ℕ). (past.acted ++ k ∷ []) ++ l) (sym due_after);
       below = below_after;
       acted = acted_after;
-      queued = ap (λ (l : List ℕ). commands past.came past.finished ++ l) (queue_joined e)
-          ∙ sym (append_assoc (commands past.came past.finished) (queue past) (k ∷ [])) ∙ ap (λ (l : List ℕ). l ++ k ∷ []) lawful.queued
-          ∙ sym (commands_one e);
+      queued = ap (λ (l : List ℕ). commands past.came past.finished ++ l) (queue_by e)
+          ∙ sym (append_assoc (commands past.came past.finished) (queue past) (left past.removed (k ∷ [])))
+          ∙ ap (λ (l : List ℕ). l ++ left past.removed (k ∷ [])) lawful.queued ∙ sym (left_commands e);
       at_once = lawful.at_once ∙ sym (others_none e);
-      handed = lawful.handed;
+      handed = lawful.handed ∙ sym (handed_with (past.acted ++ k ∷ []) past.finished);
       fed = lawful.fed;
       asked = lawful.asked;
       tags = subst (λ (l : List ℕ). AreDistinct (map (tag_of past.came) l)) (sym unfinished_with_command) lawful.tags;
       function_tags = subst (λ (l : List ℕ). AreDistinct (map (tag_of past.came) l)) (sym functions_with_command) lawful.function_tags;
-      none_removed = lawful.none_removed;
+      removed_below = lawful.removed_below;
+      removed_commands = lawful.removed_commands;
+      apart = lawful.apart;
     }
 
-    pub tasks_command : is_command (frame_of past.came k) ≡ true
-        → record (tasks_of past) { due = frames_of past.came rest; queue = (tasks_of past).queue ++ frame_of past.came k ∷ [] } ≡ tasks_of with_command
-    unfolding tasks_of
-    tasks_command e =
-        let queued : frames_of past.came (queue past) ++ frame_of past.came k ∷ [] ≡ frames_of past.came (queue with_command) = sym
-        (map-append (frame_of past.came) (queue past) (k ∷ [])) ∙ ap (frames_of past.came) (sym (queue_joined e)) in
-        rw (queued, due_after) refl
+    -- one that is not removed
+    module _ (stays : is_in k past.removed ≡ false) where
+      kept_one : left past.removed (k ∷ []) ≡ k ∷ []
+      kept_one = left_all past.removed (k ∷ []) (All-cons (λ a. is_in a past.removed ≡ false) k [] stays (All-nil (λ a. is_in a past.removed ≡ false)))
+
+      pub queue_joined : is_command (frame_of past.came k) ≡ true → queue with_command ≡ queue past ++ k ∷ []
+      queue_joined e = queue_by e ∙ ap (λ (l : List ℕ). queue past ++ l) kept_one
+
+      pub lawful_command : is_command (frame_of past.came k) ≡ true → IsLawful with_command
+      lawful_command e =
+          let same = ap (counted past.came) (over_same past k stays) in
+          lawful_by e (window_with (past.acted ++ k ∷ []) past.finished (omega arith) (let few = lawful.window.finished in omega arith))
+
+      pub tasks_command : is_command (frame_of past.came k) ≡ true
+          → record (tasks_of past) { due = frames_of (standing past) rest; queue = (tasks_of past).queue ++ frame_of past.came k ∷ [] } ≡ tasks_of with_command
+      unfolding tasks_of standing
+      tasks_command e =
+          let queued : frames_of past.came (queue past) ++ frame_of past.came k ∷ [] ≡ frames_of past.came (queue with_command) = sym
+          (map-append (frame_of past.came) (queue past) (k ∷ [])) ∙ ap (frames_of past.came) (sym (queue_joined e)) in
+          rw (queued, due_after, over_same past k stays) refl
+
+    -- one that was removed
+    module _ (gone : is_in k past.removed ≡ true) where
+      dropped_one : left past.removed (k ∷ []) ≡ []
+      unfolding left
+      dropped_one = rw gone refl
+
+      pub queue_gone : is_command (frame_of past.came k) ≡ true → queue with_command ≡ queue past
+      queue_gone e = queue_by e ∙ ap (λ (l : List ℕ). queue past ++ l) dropped_one ∙ append-nil (queue past)
+
+      over_more : counted past.came (over with_command) ≡ counted past.came (over past) + counted past.came (k ∷ [])
+      over_more = ap (counted past.came) (over_gone past k gone) ∙ counted_append past.came (over past) (k ∷ [])
+
+      queued_gone : is_command (frame_of past.came k) ≡ true
+          → commands past.came past.finished ++ queue with_command ≡ left past.removed (commands past.came (past.acted ++ k ∷ []))
+      queued_gone e =
+          ap (λ (l : List ℕ). commands past.came past.finished ++ l) (queue_gone e) ∙ lawful.queued
+          ∙ sym (append-nil (left past.removed (commands past.came past.acted)))
+          ∙ ap (λ (l : List ℕ). left past.removed (commands past.came past.acted) ++ l) (sym dropped_one) ∙ sym (left_commands e)
+
+      pub lawful_gone : is_command (frame_of past.came k) ≡ true → IsLawful with_command
+      lawful_gone e =
+          let few = few_over with_command (in_order_after ∙ ap (λ (l : List ℕ). (past.acted ++ k ∷ []) ++ l) (sym due_after)) (queued_gone e)
+          (lawful.at_once ∙ sym (others_none e)) lawful.removed_commands
+          (lawful.handed ∙ sym (handed_with (past.acted ++ k ∷ []) past.finished)) in
+          lawful_by e (window_with (past.acted ++ k ∷ []) past.finished (omega (arith, over_more))
+          (let same = handed_with (past.acted ++ k ∷ []) past.finished in omega arith))
+
+      pub tasks_gone : is_command (frame_of past.came k) ≡ true
+          → one_fewer (frame_of (standing past) k) (record (tasks_of past) { due = frames_of (standing past) rest }) ≡ tasks_of with_command
+      unfolding tasks_of standing taken_numbers
+      tasks_gone e =
+          one_fewer_by _ (frame_of (standing past) k) (record (tasks_of past) { due = frames_of (standing past) rest })
+          (standing_immediate past k due_came)
+          ∙ rw (unfinished_less past (numbers past).handed _ _ k lawful due_came over_more, due_after, queue_gone e) refl
 
     -- ---- every other request is finished at once
 
@@ -228,8 +237,9 @@ module _ (past : Past) (lawful : IsLawful past) where
     unfolding queue
     queue_other e =
         let apart : is_in k (queue past) ≡ false = not_by k (queue past) past.acted (in_queue past lawful k) not_acted in
-        left_none past.removed _ lawful.none_removed ∙ ap (left (past.finished ++ k ∷ [])) (commands_none past.acted e)
-        ∙ left_more past.finished (k ∷ []) (commands past.came past.acted)
+        ap (λ (l : List ℕ). left past.removed (left (past.finished ++ k ∷ []) l)) (commands_none past.acted e)
+        ∙ ap (left past.removed) (left_more past.finished (k ∷ []) (commands past.came past.acted))
+        ∙ left_swap past.removed (k ∷ []) (left past.finished (commands past.came past.acted))
         ∙ ap (left (k ∷ [])) (sym (queue_is past lawful)) ∙ left_one k (queue past) apart
 
     acted_too : unfinished with_other ≡ unfinished (finished k past)
@@ -253,31 +263,30 @@ module _ (past : Past) (lawful : IsLawful past) where
     -- a function that is due is not finished
     pub due_function : is_function (frame_of past.came k) ≡ true → is_in k (functions past) ≡ true
     unfolding functions
-    due_function e = in_kept is_function past k due_came e not_finished (none_gone past.removed lawful.none_removed)
-      where
-        none_gone : (gone : List ℕ) → gone ≡ [] → is_in k gone ≡ false
-        none_gone gone none = ap (is_in k) none
+    due_function e = in_kept is_function past k due_came e not_finished
+        (not_removed past k lawful.removed_commands (function_no_command (frame_of past.came k) e))
 
     pub transfers_other : is_command (frame_of past.came k) ≡ false → transfers_of with_other ≡ transfers_of past
     unfolding transfers_of task_at outs_of tags_of
     transfers_other e = rw (unfinished_with_other e) refl
 
+    pub stays_other : is_command (frame_of past.came k) ≡ false → is_in k past.removed ≡ false
+    stays_other e = not_removed past k lawful.removed_commands e
+
     pub lawful_other : is_command (frame_of past.came k) ≡ false → IsLawful with_other
     lawful_other e =
         let in_order : taken past.came ≡ (past.acted ++ k ∷ []) ++ due with_other = in_order_after
         ∙ ap (λ (l : List ℕ). (past.acted ++ k ∷ []) ++ l) (sym due_other) in
-        let queued : commands past.came (past.finished ++ k ∷ []) ++ queue with_other ≡ commands past.came (past.acted ++ k ∷ []) =
+        let queued : commands past.came (past.finished ++ k ∷ []) ++ queue with_other ≡ left past.removed (commands past.came (past.acted ++ k ∷ [])) =
         rw (commands_none past.finished e, queue_other e, commands_none past.acted e) lawful.queued in
         let at_once : others past.came (past.finished ++ k ∷ []) ≡ others past.came (past.acted ++ k ∷ []) = rw
         (others_one past.finished e, others_one past.acted e) (ap (λ (l : List ℕ). l ++ k ∷ []) lawful.at_once) in
-        let handed : counted past.came (taken past.came) ≡ (numbers with_other).handed = lawful.handed ∙ sym (handed_finished k) in
-        let more = counted_append past.came past.finished (k ∷ []) in
+        let handed : counted past.came (taken past.came) ≡ (numbers with_other).handed = lawful.handed
+        ∙ sym (handed_with (past.acted ++ k ∷ []) (past.finished ++ k ∷ [])) in
+        let few = few_over with_other in_order queued at_once lawful.removed_commands handed in
         record {
-          window = record {
-            finished = few_finished with_other in_order queued at_once handed;
-            handed = handed_le with_other;
-            within = λ j come. (let lt = lawful.window.within j come in omega arith);
-          };
+          window = window_with (past.acted ++ k ∷ []) (past.finished ++ k ∷ []) (omega (arith, over_other past k (stays_other e)))
+              (let same = handed_with (past.acted ++ k ∷ []) (past.finished ++ k ∷ []) in omega arith);
           distinct = lawful.distinct;
           delivered = lawful.delivered;
           in_order = in_order;
@@ -292,15 +301,17 @@ module _ (past : Past) (lawful : IsLawful past) where
           tags = subst (λ (l : List ℕ). AreDistinct (map (tag_of past.came) l)) (sym (unfinished_with_other e)) lawful.tags;
           function_tags = subst (λ (l : List ℕ). AreDistinct (map (tag_of past.came) l)) (sym functions_with_other)
               (tags_left past k (functions past) lawful.function_tags);
-          none_removed = lawful.none_removed;
+          removed_below = lawful.removed_below;
+          removed_commands = lawful.removed_commands;
+          apart = All-push (λ a. is_in a past.removed ≡ false) past.finished k lawful.apart (stays_other e);
         }
 
     pub tasks_other : is_command (frame_of past.came k) ≡ false
-        → one_fewer (frame_of past.came k) (record (tasks_of past) { due = frames_of past.came rest }) ≡ tasks_of with_other
-    unfolding tasks_of taken_numbers
+        → one_fewer (frame_of past.came k) (record (tasks_of past) { due = frames_of (standing past) rest }) ≡ tasks_of with_other
+    unfolding tasks_of standing taken_numbers
     tasks_other e =
-        one_fewer_by _ (frame_of past.came k) (record (tasks_of past) { due = frames_of past.came rest }) refl
-        ∙ rw (unfinished_less k due_came, due_other, queue_other e) refl
+        one_fewer_by _ (frame_of past.came k) (record (tasks_of past) { due = frames_of (standing past) rest }) refl
+        ∙ rw (unfinished_less past (numbers past).handed _ _ k lawful due_came (over_other past k (stays_other e)), due_other, queue_other e) refl
 
   -- ---- the first of the queue is finished
 
@@ -314,25 +325,25 @@ module _ (past : Past) (lawful : IsLawful past) where
     pub queue_came : k < length past.came
     queue_came = below_of (length past.came) k past.acted lawful.below has_acted
 
-    all_commands : All (λ a. is_command (frame_of past.came a) ≡ true) (left past.finished (commands past.came past.acted))
-    unfolding left
-    all_commands = All-filter (λ a. not (is_in a past.finished)) (λ a. is_command (frame_of past.came a) ≡ true) (commands past.came past.acted)
-        (filter_passes (λ a. is_command (frame_of past.came a)) past.acted)
+    pub queue_stays : is_in k past.removed ≡ false
+    unfolding queue
+    queue_stays = not_gone k past.removed (left past.finished (commands past.came past.acted)) queued_here
 
     pub is_done : is_command (frame_of past.came k) ≡ true
-    is_done = All-head (λ a. is_command (frame_of past.came a) ≡ true) k rest
-        (subst (All (λ a. is_command (frame_of past.came a) ≡ true)) (sym (queue_is past lawful) ∙ is) all_commands)
+    is_done = passes_in k (λ a. is_command (frame_of past.came a)) past.acted
+        (in_left k past.finished _ (in_left k past.removed _ (ap (λ (l : List ℕ). is_in k l) (sym (queue_is past lawful)) ∙ queued_here)))
 
     distinct_queue : AreDistinct (k ∷ rest)
     distinct_queue = subst AreDistinct (sym (queue_is past lawful)
-        ∙ is) (distinct_left past.finished (commands past.came past.acted)
-        (distinct_filter (λ a. is_command (frame_of past.came a)) past.acted distinct_acted))
+        ∙ is) (distinct_left past.removed _ (distinct_left past.finished (commands past.came past.acted)
+        (distinct_filter (λ a. is_command (frame_of past.came a)) past.acted distinct_acted)))
 
     -- the others are to be done, in the same order
     pub queue_after : queue (finished k past) ≡ rest
     unfolding queue
     queue_after =
-        left_none past.removed _ lawful.none_removed ∙ left_more past.finished (k ∷ []) (commands past.came past.acted)
+        ap (left past.removed) (left_more past.finished (k ∷ []) (commands past.came past.acted))
+        ∙ left_swap past.removed (k ∷ []) (left past.finished (commands past.came past.acted))
         ∙ ap (left (k ∷ [])) (sym (queue_is past lawful) ∙ is) ∙ left_first k rest distinct_queue
 
     due_finished : due (finished k past) ≡ due past
@@ -353,18 +364,16 @@ module _ (past : Past) (lawful : IsLawful past) where
         (λ a. is_command (frame_of past.came a)) past.finished (k ∷ []) ∙ rw is_done refl in
         let none : others past.came (past.finished ++ k ∷ []) ≡ others past.came past.finished = filter-append
         (λ a. not (is_command (frame_of past.came a))) past.finished (k ∷ []) ∙ rw is_done (append-nil (others past.came past.finished)) in
-        let queued : commands past.came (past.finished ++ k ∷ []) ++ queue (finished k past) ≡ commands past.came past.acted =
+        let queued : commands past.came (past.finished ++ k ∷ []) ++ queue (finished k past) ≡ left past.removed (commands past.came past.acted) =
         rw (one, queue_after) (append_assoc (commands past.came past.finished) (k ∷ []) rest
         ∙ ap (λ (l : List ℕ). commands past.came past.finished ++ l) (sym is) ∙ lawful.queued) in
         let at_once : others past.came (past.finished ++ k ∷ []) ≡ others past.came past.acted = none ∙ lawful.at_once in
-        let handed : counted past.came (taken past.came) ≡ (numbers (finished k past)).handed = lawful.handed ∙ sym (handed_finished k) in
-        let more = counted_append past.came past.finished (k ∷ []) in
+        let handed : counted past.came (taken past.came) ≡ (numbers (finished k past)).handed = lawful.handed
+        ∙ sym (handed_with past.acted (past.finished ++ k ∷ [])) in
+        let few = few_over (finished k past) in_order queued at_once lawful.removed_commands handed in
         record {
-          window = record {
-            finished = few_finished (finished k past) in_order queued at_once handed;
-            handed = handed_le (finished k past);
-            within = λ j come. (let lt = lawful.window.within j come in omega arith);
-          };
+          window = window_with past.acted (past.finished ++ k ∷ []) (omega (arith, over_finished past k))
+              (let same = handed_with past.acted (past.finished ++ k ∷ []) in omega arith);
           distinct = lawful.distinct;
           delivered = lawful.delivered;
           in_order = in_order;
@@ -378,7 +387,9 @@ module _ (past : Past) (lawful : IsLawful past) where
           tags = subst (λ (l : List ℕ). AreDistinct (map (tag_of past.came) l)) (sym (unfinished_without past k))
               (tags_left past k (unfinished past) lawful.tags);
           function_tags = subst (λ (l : List ℕ). AreDistinct (map (tag_of past.came) l)) (sym functions_finished) lawful.function_tags;
-          none_removed = lawful.none_removed;
+          removed_below = lawful.removed_below;
+          removed_commands = lawful.removed_commands;
+          apart = All-push (λ a. is_in a past.removed ≡ false) past.finished k lawful.apart queue_stays;
         }
 
     pub transfers_finished : transfers_of (finished k past) ≡ record (transfers_of past) { list = map (transfer_of past) (left (k ∷ []) (unfinished past)) }
@@ -386,7 +397,7 @@ module _ (past : Past) (lawful : IsLawful past) where
     transfers_finished = rw (unfinished_without past k) refl
 
     pub tasks_finished : one_fewer (frame_of past.came k) (record (tasks_of past) { queue = frames_of past.came rest }) ≡ tasks_of (finished k past)
-    unfolding tasks_of taken_numbers
+    unfolding tasks_of standing taken_numbers
     tasks_finished =
         one_fewer_by _ (frame_of past.came k) (record (tasks_of past) { queue = frames_of past.came rest }) refl
-        ∙ rw (unfinished_less k queue_came, due_finished, queue_after) refl
+        ∙ rw (unfinished_less past (numbers past).handed _ _ k lawful queue_came (over_finished past k), due_finished, queue_after) refl

@@ -21,11 +21,12 @@ use Rattle.iscsi_session.specs.Transfers.{tag_of}
 use Rattle.iscsi_session.specs.declared.transfers.Transfer.{Transfer}
 use Rattle.iscsi_transfer.specs.Task.{TaskState, remembered as task_of}
 use Rattle.iscsi_transfer.specs.Payload.{begun as begun_data}
-use Rattle.iscsi_session.specs.State.{SessionState, TaskLists, TransferList, no_tasks, no_transfers, transfers_of, functions_of, begun_transfer, kept, frame_numbered, tasks_of, window_of, IsLawful, Stands, is_vacant, is_vacant_for, holding, takes_all}
+use Rattle.iscsi_session.specs.State.{SessionState, TaskLists, TransferList, no_tasks, no_transfers, transfers_of, functions_of, begun_transfer, kept, frame_numbered, standing, tasks_of, window_of, IsLawful, Stands, is_vacant, is_vacant_for, holding, takes_all}
 use Rattle.iscsi_exchange.specs.ExchangeState.{ExchangeState, no_exchange}
 use Rattle.iscsi_session.specs.Texts.{exchange_of}
 use Rattle.iscsi_session.proofs.Exchanging.{exchange_joined, exchange_answering}
 use Rattle.iscsi_session.proofs.Kept.{command_no_function, function_no_command}
+use Rattle.iscsi_session.proofs.Standing.{numbered_standing}
 use Rattle.iscsi_session.proofs.Fronts.{frame_marked}
 use Rattle.iscsi_session.proofs.Kept.{joined}
 use Rattle.iscsi_session.proofs.Unfinished.{transfers_joined}
@@ -58,7 +59,7 @@ parts past state s = record {
   exchange_is = ap (λ (x : SessionState). x.exchange) s.remembered;
 }
 
-pub due_is : (past : Past) (state : SessionState) → Stands past state → state.tasks.due ≡ frames_of past.came (due past)
+pub due_is : (past : Past) (state : SessionState) → Stands past state → state.tasks.due ≡ frames_of (standing past) (due past)
 unfolding tasks_of
 due_is past state s = ap (λ (t : TaskLists). t.due) (parts past state s).tasks_is
 
@@ -70,7 +71,7 @@ queue_is past state s = ap (λ (t : TaskLists). t.queue) (parts past state s).ta
 
 window_is : (past : Past) → window_of (tasks_of past) ≡ remembered_window (numbers past)
 unfolding tasks_of remembered_window
-window_is past = rw (marks_are past.came (numbers past).handed window) refl
+window_is past = rw (marks_are (standing past) (numbers past).handed window, numbered_standing past) refl
 
 pub window_stands : (past : Past) (state : SessionState) → Stands past state → windows.Stands (numbers past) (window_of state.tasks)
 window_stands past state s = record { lawful = s.lawful.window; remembered = ap window_of (parts past state s).tasks_is ∙ window_is past }
@@ -135,10 +136,11 @@ ahead_of past lawful n free =
     let both = both_true (ltb i (window - (tasks_of past).unfinished)) (is_some (get_or (tasks_of past).held i None)) free in
     let near = ltb-true i (window - (tasks_of past).unfinished) both.0 in
     let within : i < window = omega arith in
-    let marked : is_some (get_or (map (frame_numbered past.came) (range_with_len (numbers past).handed window)) i None) ≡ order.has_come
+    let marked : is_some (get_or (map (frame_numbered (standing past)) (range_with_len (numbers past).handed window)) i None) ≡ order.has_come
     (numbered past.came) ((numbers past).handed + i) =
-    ap is_some (get_or-map-range_with_len (frame_numbered past.came) (numbers past).handed window i ((numbers past).handed + i) None within refl)
-    ∙ frame_marked past.came ((numbers past).handed + i) in
+    ap is_some (get_or-map-range_with_len (frame_numbered (standing past)) (numbers past).handed window i ((numbers past).handed + i) None within refl)
+    ∙ frame_marked (standing past) ((numbers past).handed + i)
+    ∙ ap (λ (l : List ℕ). order.has_come l ((numbers past).handed + i)) (numbered_standing past) in
     record { number = refl; near = omega arith; missing = sym marked ∙ both.1 }
 
 pub vacant_of : (tasks : TaskLists) (frame : Frame) → is_immediate frame.header ≡ false → is_vacant_for tasks frame ≡ true
@@ -223,7 +225,7 @@ stands_begun past state frame task s free e tag is =
 -- ---- a session at its beginning
 
 pub begun_tasks : (params : Params) → params.first_cmd_sn < 2 ^ 32 → no_tasks params.first_cmd_sn ≡ tasks_of (begun params)
-unfolding tasks_of due queue left taken taken_numbers
+unfolding tasks_of due queue left taken taken_numbers standing
 begun_tasks params fits =
     let first : params.first_cmd_sn ≡ (params.first_cmd_sn + 0) % 2 ^ 32 = omega arith in
     ap (λ (n : ℕ). record (no_tasks params.first_cmd_sn) { next = n }) first

@@ -10,7 +10,7 @@ use Rattle.iscsi_pdu.specs.Answer.{spelling}
 use Rattle.iscsi_pdu.specs.declared.answer.Answer.{Answer}
 use Rattle.iscsi_session.specs.Transfers.{task_at, outs_of, tags_of}
 use Rattle.iscsi_session.specs.Requests.{Past, DataOut, SentR2t, due, queue, unfinished, functions, bears_status, bearing, statuses, answering}
-use Rattle.iscsi_session.specs.State.{SessionState, IsLawful, Stands, tasks_of, transfers_of, functions_of, remembered}
+use Rattle.iscsi_session.specs.State.{SessionState, IsLawful, Stands, standing, tasks_of, transfers_of, functions_of, remembered}
 use Rattle.iscsi_session.specs.Steps.{Step, Taking, Doing, is_step, is_of, Work, reaches, take_step, first_steps, one_by_one}
 use Rattle.iscsi_session.specs.Runs.{Starts, Leaves, FailsAs, IsReached, Runs}
 
@@ -34,7 +34,9 @@ lawful_data past data_outs r2ts answers lawful fed asked = record {
   asked = asked;
   tags = lawful.tags;
   function_tags = lawful.function_tags;
-  none_removed = lawful.none_removed;
+  removed_below = lawful.removed_below;
+  removed_commands = lawful.removed_commands;
+  apart = lawful.apart;
 }
 
 pub lawful_answering : (more : List Answer) (past : Past) → IsLawful past → IsLawful (answering more past)
@@ -47,7 +49,7 @@ pub statuses_answering : (more : List Answer) (past : Past) → statuses (answer
 statuses_answering more past = omega (arith, bearing_append past.answers more)
 
 pub tasks_answering : (more : List Answer) (past : Past) → tasks_of (answering more past) ≡ tasks_of past
-unfolding tasks_of due queue
+unfolding tasks_of due queue standing
 tasks_answering more past = refl
 
 pub transfers_answering : (more : List Answer) (past : Past) → transfers_of (answering more past) ≡ transfers_of past

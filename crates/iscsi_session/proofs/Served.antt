@@ -8,7 +8,7 @@ use Rattle.iscsi_pdu.specs.Frames.{Frame}
 use Rattle.iscsi_pdu.specs.Answer.{spelling}
 use Rattle.iscsi_pdu.specs.declared.answer.Answer.{Answer}
 use Rattle.iscsi_session.specs.Requests.{Past, frame_of, due}
-use Rattle.iscsi_session.specs.State.{SessionState, IsLawful, Stands, remembered, tasks_of}
+use Rattle.iscsi_session.specs.State.{SessionState, IsLawful, Stands, remembered, tasks_of, standing}
 use Rattle.iscsi_session.specs.declared.act.Act.{Act}
 use Rattle.iscsi_session.specs.declared.act.Act.TheVariants.{Idle, Taken, Ended}
 use Rattle.iscsi_session.specs.declared.verdict.Verdict.{Verdict}
@@ -111,7 +111,7 @@ found_idle (k ∷ others) work new before waiting units acts = absurd (no_idle (
 
 pub due_fits : (past : Past) → IsLawful past → tasks_count (remembered past) ≤ waiting_in past
 unfolding tasks_of
-due_fits past lawful = omega (arith, length-map (due past) (frame_of past.came))
+due_fits past lawful = omega (arith, length-map (due past) (frame_of (standing past)))
 
 pub acted_more : (turns : ℕ) (a : Act) (old now next : SessionState) (before waiting items : List ℕ) (units : UnitStates)
     → Ran Taking due act tasks_count waiting_in due_fits turns old now before waiting units units → Acts a now next waiting items → a ≡ Taken
@@ -155,11 +155,11 @@ acting_ends turns a old now next before waiting items units ran acts is =
           omega (
             arith,
             ap (λ (l : List Frame). length l) (due_is work.past now (stands_of work now units s)
-                ∙ ap (λ (l : List ℕ). map (frame_of work.past.came) l) f.2),
+                ∙ ap (λ (l : List ℕ). map (frame_of (standing work.past)) l) f.2),
           ));
     }))
 
-due_there : (past : Past) (l : List ℕ) → 0 < length (map (frame_of past.came) l) → (k : ℕ) × (others : List ℕ) × (l ≡ k ∷ others)
+due_there : (past : Past) (l : List ℕ) → 0 < length (map (frame_of (standing past)) l) → (k : ℕ) × (others : List ℕ) × (l ≡ k ∷ others)
 due_there past [] some = absurd (omega arith)
 due_there past (k ∷ others) some = (k, others, refl)
 

@@ -3,7 +3,7 @@ use Rattle.std.specs.Prelude.{◌≡◌, ℕ, ◌<◌, ◌^◌, List, ◌∷◌,
 use Rattle.iscsi_pdu.specs.Header.{cmd_sn}
 use Rattle.iscsi_pdu.specs.Frames.{Frame}
 use Rattle.iscsi_login.specs.declared.params.Params.{Params}
-use Rattle.iscsi_session.specs.Requests.{Request, Past, begun, commands, others, taken, due, queue, moved, finished}
+use Rattle.iscsi_session.specs.Requests.{Request, Past, begun, left, commands, others, taken, due, queue, moved, finished}
 use Rattle.iscsi_session.specs.State.{AreDistinct, IsLawful}
 use Rattle.iscsi_session.specs.Steps.{Step, Work, served, settled}
 
@@ -11,10 +11,10 @@ use Rattle.iscsi_session.specs.Steps.{Step, Work, served, settled}
 abbrev pub TakenOnce : Type 0
 TakenOnce = (came : List Request) → AreDistinct (taken came)
 
--- the SCSI Commands that are finished are the first of those taken, in order, and so are the other requests
+-- of the SCSI Commands that are not removed those that are finished are the first of those taken, in order; of the other requests too
 pub record FinishedInOrder (past : Past) : Type 0 where
   pub later_commands : List ℕ
-  pub commands : commands past.came (taken past.came) ≡ commands past.came past.finished ++ later_commands
+  pub commands : left past.removed (commands past.came (taken past.came)) ≡ commands past.came past.finished ++ later_commands
   pub later_others : List ℕ
   pub others : others past.came (taken past.came) ≡ others past.came past.finished ++ later_others
 

@@ -36,7 +36,7 @@ pub record Past : Type 0 where
   -- the data that was accepted for them, and the R2Ts that were sent, each in order
   pub data_outs : List DataOut
   pub r2ts : List SentR2t
-  -- the names of those that acted, are finished, and were removed, each in the order in which they were
+  -- the names of those that acted, are finished, and were removed before they were, each in the order in which they were
   pub acted : List ℕ
   pub finished : List ℕ
   pub removed : List ℕ
@@ -78,6 +78,10 @@ commands came names = filter (λ k. is_command (frame_of came k)) names
 abbrev pub others : List Request → List ℕ → List ℕ
 others came names = filter (λ k. not (is_command (frame_of came k))) names
 
+-- the requests that are over: those that are finished, and those that were removed and whose turn has come
+abbrev pub over : Past → List ℕ
+over past = past.finished ++ filter (λ k. is_in k past.removed) past.acted
+
 -- how many of these have a number
 abbrev pub counted : List Request → List ℕ → ℕ
 counted came names = length (filter (λ k. is_some (request_at came k).number) names)
@@ -114,18 +118,18 @@ numbered came = filter_map (λ r. r.number) came
 -- the numbers of a session: each is handed over when it is taken
 abbrev pub numbers : Past → order.Past
 numbers past =
-    let so_far : order.Past = record { first = past.params.first_cmd_sn; came = numbered past.came; handed = 0; finished = counted past.came past.finished } in
+    let so_far : order.Past = record { first = past.params.first_cmd_sn; came = numbered past.came; handed = 0; finished = counted past.came (over past) } in
     record so_far { handed = length (order.taken so_far) }
 
 -- ---- what is under way
 
 -- those that came ahead of a missing number
 unfoldable pub held : Past → List ℕ
-held past = left past.removed (map (place_of past.came) (filter (order.has_come (numbered past.came)) (range_with_len (numbers past).handed order.window)))
+held past = map (place_of past.came) (filter (order.has_come (numbered past.came)) (range_with_len (numbers past).handed order.window))
 
--- those that are taken and have not acted, in the order in which they act
+-- those that are taken and have not acted, in the order in which they act; one that was removed comes to nothing then
 unfoldable pub due : Past → List ℕ
-due past = left past.removed (left past.acted (taken past.came))
+due past = left past.acted (taken past.came)
 
 -- the SCSI Commands that acted and are not finished; they are done in this order
 unfoldable pub queue : Past → List ℕ

@@ -8,7 +8,7 @@ use Rattle.iscsi_order.specs.Window as order
 use Rattle.iscsi_order.specs.WindowState as windows
 use Rattle.iscsi_order.specs.Serial.{distance}
 use Rattle.iscsi_order.specs.Stat.{stat_sn}
-use Rattle.iscsi_session.specs.Requests.{Request, Past, has_number, numbers, numbered, counted, is_command, commands, others, is_in, frame_of, taken, due, queue, frames_of, unfinished, is_function, functions, statuses}
+use Rattle.iscsi_session.specs.Requests.{Request, Past, has_number, numbers, numbered, counted, over, left, is_command, commands, others, is_in, frame_of, taken, due, queue, frames_of, unfinished, is_function, functions, statuses}
 use Rattle.iscsi_pdu.specs.declared.r2t.R2t.{R2t}
 use Rattle.iscsi_pdu.specs.declared.stamp.Stamp.{Stamp}
 use Rattle.iscsi_transfer.specs.Task.{TaskState, fault_of, due_ask, is_whole, with_data, command_fault}
@@ -52,6 +52,21 @@ pub record SessionState : Type 0 where
   pub functions : List (List ℕ)
   pub exchange : ExchangeState
 
+-- own: what stands in place of a request that was removed. Its opcode is none of an initiator's, and it does nothing.
+abbrev pub void : Bool → Frame
+void immediate = record { header = (if immediate then 0x7F else 0x3F) ∷ replicate 47 0; body = [] }
+
+abbrev pub voided : Request → Request
+voided request = record request { frame = void (is_immediate request.frame.header) }
+
+-- the requests from the name k on, with those that were removed voided
+abbrev pub standing_from : List ℕ → ℕ → List Request → List Request
+standing_from removed k [] = []
+standing_from removed k (request ∷ came) = (if is_in k removed then voided request else request) ∷ standing_from removed (suc k) came
+
+unfoldable pub standing : Past → List Request
+standing past = standing_from past.removed 0 past.came
+
 -- the request with this number
 abbrev pub frame_numbered : List Request → ℕ → Option Frame
 frame_numbered came k = option_map (λ r. r.frame) (find (λ r. has_number k r.number) came)
@@ -60,14 +75,14 @@ frame_numbered came k = option_map (λ r. r.frame) (find (λ r. has_number k r.n
 abbrev pub tasks_with : Past → ℕ → List Frame → TaskLists
 tasks_with past handed line = record {
   next = (past.params.first_cmd_sn + handed) % 2 ^ 32;
-  unfinished = handed - counted past.came past.finished;
-  held = map (frame_numbered past.came) (range_with_len handed order.window);
+  unfinished = handed - counted past.came (over past);
+  held = map (frame_numbered (standing past)) (range_with_len handed order.window);
   due = line;
   queue = frames_of past.came (queue past);
 }
 
 unfoldable pub tasks_of : Past → TaskLists
-tasks_of past = tasks_with past (numbers past).handed (frames_of past.came (due past))
+tasks_of past = tasks_with past (numbers past).handed (frames_of (standing past) (due past))
 
 abbrev pub transfer_of : Past → ℕ → Transfer
 transfer_of past k = record { header = (frame_of past.came k).header; task = task_at past k; sent = length (tags_of past k) }
@@ -112,7 +127,7 @@ pub record IsLawful (past : Past) : Type 0 where
   pub below : All (λ k. k < length past.came) past.acted
   -- what is finished acted: the SCSI Commands in the order of the queue, every other request at once
   pub acted : All (λ k. is_in k past.acted ≡ true) past.finished
-  pub queued : commands past.came past.finished ++ queue past ≡ commands past.came past.acted
+  pub queued : commands past.came past.finished ++ queue past ≡ left past.removed (commands past.came past.acted)
   pub at_once : others past.came past.finished ≡ others past.came past.acted
   -- the numbers that are taken are those of the requests that are
   pub handed : counted past.came (taken past.came) ≡ (numbers past).handed
@@ -123,8 +138,10 @@ pub record IsLawful (past : Past) : Type 0 where
   pub tags : AreDistinct (map (tag_of past.came) (unfinished past))
   -- and no two Task Management Function Requests
   pub function_tags : AreDistinct (map (tag_of past.came) (functions past))
-  -- none is removed yet
-  pub none_removed : past.removed ≡ []
+  -- those that were removed are SCSI Commands, and none of them is finished
+  pub removed_below : All (λ k. k < length past.came) past.removed
+  pub removed_commands : All (λ k. is_command (frame_of past.came k) ≡ true) past.removed
+  pub apart : All (λ k. is_in k past.removed ≡ false) past.finished
 
 -- the session remembers this past
 pub record Stands (past : Past) (state : SessionState) : Type 0 where

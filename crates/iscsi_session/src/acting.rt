@@ -7,7 +7,7 @@ ghost use Rattle.iscsi_pdu.specs.Frames as pdu;
 ghost use Rattle.iscsi_session.specs.Requests.{Past, is_command, is_function as is_function_in, frame_of, due, stamp, answering};
 ghost use Rattle.iscsi_session.specs.Acts.{acted, act_answers, act_by, acted_by, answers_by, closes, ends, logout_answer, ping_answers};
 ghost use Rattle.iscsi_session.specs.Room.{room_to_act};
-ghost use Rattle.iscsi_session.specs.State.{Stands};
+ghost use Rattle.iscsi_session.specs.State.{Stands, standing};
 ghost use Rattle.iscsi_session.specs.Steps.{Taking, act_all};
 ghost use Rattle.iscsi_session.specs.Runs.{Runs};
 ghost use Rattle.iscsi_session.specs.Texts.{is_text as is_text_in};
@@ -83,15 +83,15 @@ impl Session {
         }
     }
 
-    /// The first request that is due, a NOP-Out or a Logout, is finished and answered. There must be room for
-    /// its answer, so it takes no memory.
+    /// The first request that is due, a NOP-Out, a Logout or one that was removed, is finished; the first two are
+    /// answered. There must be room for the answer, so it takes no memory.
     fn answer(&mut self, out: &mut BytesMut) -> Act
         requires { (frame : pdu.Frame) (others : List pdu.Frame) → self.old.tasks.due ≡ frame ∷ others → room_to_act frame ≤ out.old.spare }
-        ensures act { (past : Past) (k : ℕ) (others : List ℕ) → Stands past self.old → due past ≡ k ∷ others → is_command (frame_of past.came k) ≡ false
-            → is_text_in (frame_of past.came k) ≡ false → is_function_in (frame_of past.came k) ≡ false → result ≡ (if ends past.params (frame_of past.came k) then Act.Ended else Act.Taken) }
-        ensures stands { (past : Past) (k : ℕ) (others : List ℕ) → Stands past self.old → due past ≡ k ∷ others → is_command (frame_of past.came k) ≡ false
+        ensures act { (past : Past) (k : ℕ) (others : List ℕ) → Stands past self.old → due past ≡ k ∷ others
+            → is_command (frame_of (standing past) k) ≡ false → is_text_in (frame_of past.came k) ≡ false → is_function_in (frame_of past.came k) ≡ false → result ≡ (if ends past.params (frame_of past.came k) then Act.Ended else Act.Taken) }
+        ensures stands { (past : Past) (k : ℕ) (others : List ℕ) → Stands past self.old → due past ≡ k ∷ others → is_command (frame_of (standing past) k) ≡ false
             → is_text_in (frame_of past.came k) ≡ false → is_function_in (frame_of past.came k) ≡ false → Stands (acted k past) self.new }
-        ensures out { (past : Past) (k : ℕ) (others : List ℕ) → Stands past self.old → due past ≡ k ∷ others → is_command (frame_of past.came k) ≡ false
+        ensures out { (past : Past) (k : ℕ) (others : List ℕ) → Stands past self.old → due past ≡ k ∷ others → is_command (frame_of (standing past) k) ≡ false
             → is_text_in (frame_of past.came k) ≡ false → is_function_in (frame_of past.came k) ≡ false → out.new.items ≡ out.old.items ++ flat_map spelling (act_answers k past) }
         ensures grows { (more : List ℕ) × (out.new.items ≡ out.old.items ++ more) }
         ensures fewer { result ≡ Act.Taken → length self.new.tasks.due < length self.old.tasks.due }

@@ -5,8 +5,8 @@ use Rattle.iscsi_pdu.specs.Frames.{Frame}
 use Rattle.iscsi_exchange.specs.Exchange.{hears}
 use Rattle.iscsi_session.specs.Requests.{frame_of, frames_of}
 use Rattle.iscsi_session.specs.Acts.{act_answers}
-use Rattle.iscsi_session.specs.State.{SessionState, Stands}
-use Rattle.iscsi_session.proofs.Answered.{first_due, same_head, some_due}
+use Rattle.iscsi_session.specs.State.{SessionState, Stands, standing}
+use Rattle.iscsi_session.proofs.Answered.{first_due, same_head, some_due, stands_other_kind, text_no_command}
 use Rattle.iscsi_session.proofs.session.Session.answer_text.Goals as goal
 
 pub returns-in_default-clause-stands : goal.returns-in_default-clause-stands
@@ -22,7 +22,8 @@ returns-in_default-clause-out c past k rest s is e =
 pub returns-clause-stands : goal.returns-clause-stands
 returns-clause-stands c past k rest s is e =
     let known = subst (λ (x : SessionState). Stands past x) (sym c.self.view_is) s in
-    let here = same_head c.in-Some.frame.now (frame_of past.came k) _ (frames_of past.came rest) _ c.in-Some.ensures.some (first_due past _ k rest known is) in
+    let here = same_head c.in-Some.frame.now (frame_of (standing past) k) _ (frames_of (standing past) rest) _ c.in-Some.ensures.some (first_due past _ k rest known is)
+    ∙ stands_other_kind past _ k rest known is (text_no_command (frame_of past.came k) e) in
     let told = c.in_ok-told.ensures.told ∙ ap (λ (f : Frame). hears c.self.inside.exchange f c.self.inside.params) here
     ∙ ap (λ (x : SessionState). hears x.exchange (frame_of past.came k) x.params) c.self.view_is in
     c.tell.ensures.stands past k rest s is e told
@@ -30,7 +31,8 @@ returns-clause-stands c past k rest s is e =
 pub returns-clause-out : goal.returns-clause-out
 returns-clause-out c past k rest s is e =
     let known = subst (λ (x : SessionState). Stands past x) (sym c.self.view_is) s in
-    let here = same_head c.in-Some.frame.now (frame_of past.came k) _ (frames_of past.came rest) _ c.in-Some.ensures.some (first_due past _ k rest known is) in
+    let here = same_head c.in-Some.frame.now (frame_of (standing past) k) _ (frames_of (standing past) rest) _ c.in-Some.ensures.some (first_due past _ k rest known is)
+    ∙ stands_other_kind past _ k rest known is (text_no_command (frame_of past.came k) e) in
     let told = c.in_ok-told.ensures.told ∙ ap (λ (f : Frame). hears c.self.inside.exchange f c.self.inside.params) here
     ∙ ap (λ (x : SessionState). hears x.exchange (frame_of past.came k) x.params) c.self.view_is in
     c.tell.ensures.out past k rest s is e told

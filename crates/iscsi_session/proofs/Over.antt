@@ -1,0 +1,161 @@
+-- How many numbers are over: of the requests that are finished, and of those that were removed and whose turn has come.
+use Rattle.std.proofs.Common.{◌≡◌, ℕ, zero, ◌+◌, ◌-◌, ◌<◌, ◌≤◌, List, [], ◌∷◌, ◌++◌, length, get_or, Bool, true, false, not, ◌&&◌, cond, refl, sym, ap, ◌∙◌, inl, inr, arith, append_assoc}
+use Rattle.std.specs.Prelude.{is_some, All, filter}
+use Rattle.std.proofs.lemmas.Bool.{cases_eq, ne_eqb, false_from_ne_true}
+use Rattle.std.proofs.lemmas.List.{append-nil}
+use Rattle.std.proofs.lemmas.List.Elements.{filter-append, filter_passes, All-head, All-tail}
+use Rattle.iscsi_pdu.specs.Header.{is_immediate}
+use Rattle.iscsi_pdu.specs.Frames.{Frame}
+use Rattle.iscsi_session.specs.Requests.{Request, Past, request_at, frame_of, is_in, left, is_command, commands, others, counted, over, taken, numbers, due, queue}
+use Rattle.iscsi_session.specs.State.{TaskLists, IsDelivered, IsLawful, one_fewer}
+use Rattle.iscsi_session.proofs.Left.{filter_filter, filter_cong, and_swap, left_all}
+use Rattle.iscsi_session.proofs.Accepted.{counted_append}
+
+filter_swap : (p q : ℕ → Bool) (names : List ℕ) → filter p (filter q names) ≡ filter q (filter p names)
+filter_swap p q names =
+    filter_filter p q names ∙ filter_cong _ _ names (λ i d lt. and_swap (q (get_or names i d)) (p (get_or names i d)))
+    ∙ sym (filter_filter q p names)
+
+split_with : (n c : Bool) (q : ℕ → Bool) (came : List Request) (k : ℕ) (names : List ℕ) → is_some (request_at came k).number ≡ n → q k ≡ c
+    → counted came names ≡ counted came (filter q names) + counted came (filter (λ a. not (q a)) names)
+    → counted came (k ∷ names) ≡ counted came (filter q (k ∷ names)) + counted came (filter (λ a. not (q a)) (k ∷ names))
+split_with true true q came k names e f rest = rw (e, f, e) (omega arith)
+split_with true false q came k names e f rest = rw (e, f, e) (omega arith)
+split_with false true q came k names e f rest = rw (e, f, e) rest
+split_with false false q came k names e f rest = rw (e, f, e) rest
+
+-- those for which it holds, and the others
+split : (q : ℕ → Bool) (came : List Request) (names : List ℕ) → counted came names ≡ counted came (filter q names) + counted came (filter (λ a. not (q a)) names)
+split q came [] = refl
+split q came (k ∷ names) = split_with _ _ q came k names refl refl (split q came names)
+
+holds_of : (q : ℕ → Bool) (k : ℕ) (names : List ℕ) → All (λ a. q a ≡ true) names → is_in k names ≡ true → q k ≡ true
+holds_of q k [] every h = absurd cc
+holds_of q k (a ∷ rest) every h = elim (cases_eq a k) [
+  | inl same ↦ ap q (sym same) ∙ All-head (λ a. q a ≡ true) a rest every
+  | inr differs ↦ let there = rw (ne_eqb a k differs) at h in holds_of q k rest (All-tail (λ a. q a ≡ true) a rest every) there
+]
+
+-- what was removed is a SCSI Command
+pub removed_command : (past : Past) → IsLawful past → (k : ℕ) → is_in k past.removed ≡ true → is_command (frame_of past.came k) ≡ true
+removed_command past lawful k e = holds_of (λ a. is_command (frame_of past.came a)) k past.removed lawful.removed_commands e
+
+pub not_removed : (past : Past) (k : ℕ) → All (λ a. is_command (frame_of past.came a) ≡ true) past.removed → is_command (frame_of past.came k) ≡ false
+    → is_in k past.removed ≡ false
+not_removed past k all e = false_from_ne_true (is_in k past.removed) (λ h. let yes = holds_of (λ a. is_command (frame_of past.came a)) k past.removed all h
+    in absurd (let no = sym yes ∙ e in cc))
+
+others_stay : (past : Past) (names : List ℕ) → All (λ a. is_command (frame_of past.came a) ≡ true) past.removed
+    → left past.removed (others past.came names) ≡ others past.came names
+others_stay past names all = left_all past.removed (others past.came names) (λ i d lt. not_removed past _ all
+    (was_not (is_command (frame_of past.came (get_or (others past.came names) i d)))
+    (filter_passes (λ k. not (is_command (frame_of past.came k))) names i d lt)))
+  where
+    was_not : (b : Bool) → not b ≡ true → b ≡ false
+    was_not true e = absurd cc
+    was_not false e = refl
+
+-- of those that acted: the removed ones, the SCSI Commands that were not removed, and the other requests
+acted_counted : (past : Past) → All (λ a. is_command (frame_of past.came a) ≡ true) past.removed
+    → counted past.came past.acted ≡ counted past.came (filter (λ k. is_in k past.removed) past.acted)
+    + (counted past.came (left past.removed (commands past.came past.acted)) + counted past.came (others past.came past.acted))
+unfolding left
+acted_counted past all =
+    let came = past.came in
+    let gone : ℕ → Bool = λ k. is_in k past.removed in
+    let command : ℕ → Bool = λ k. is_command (frame_of came k) in
+    let rest = filter (λ k. not (gone k)) past.acted in
+    let first = split gone came past.acted in
+    let second = split command came rest in
+    let a : filter command rest ≡ filter (λ k. not (gone k)) (commands came past.acted) = filter_swap command (λ k. not (gone k)) past.acted in
+    let b : filter (λ k. not (command k)) rest ≡ filter (λ k. not (gone k)) (others came past.acted) = filter_swap (λ k. not (command k))
+    (λ k. not (gone k)) past.acted in
+    let c : filter (λ k. not (gone k)) (others came past.acted) ≡ others came past.acted = others_stay past past.acted all in
+    omega (arith, first, second, ap (counted came) a, ap (counted came) (b ∙ c))
+
+-- no more numbers are over than are taken
+pub few_over : (past : Past) → taken past.came ≡ past.acted ++ due past
+    → commands past.came past.finished ++ queue past ≡ left past.removed (commands past.came past.acted)
+    → others past.came past.finished ≡ others past.came past.acted → All (λ a. is_command (frame_of past.came a) ≡ true) past.removed
+    → counted past.came (taken past.came) ≡ (numbers past).handed → counted past.came (over past) ≤ (numbers past).handed
+few_over past in_order queued at_once all handed =
+    let came = past.came in
+    let a = split (λ k. is_command (frame_of came k)) came past.finished in
+    let b = acted_counted past all in
+    let c : counted came (commands came past.finished) + counted came (queue past) ≡ counted came (left past.removed (commands came past.acted)) = sym
+    (counted_append came (commands came past.finished) (queue past)) ∙ ap (counted came) queued in
+    let d : counted came (others came past.finished) ≡ counted came (others came past.acted) = ap (counted came) at_once in
+    let e : counted came (taken came) ≡ counted came past.acted + counted came (due past) = ap (counted came) in_order
+    ∙ counted_append came past.acted (due past) in
+    let f = counted_append came past.finished (filter (λ k. is_in k past.removed) past.acted) in
+    omega arith
+
+-- ---- one more is over
+
+-- one that has no number is for immediate delivery
+fewer_by : (n i : Bool) (handed done : ℕ) → n ≡ not i → cond i (handed - done) (handed - done - 1) ≡ handed - (done + length (cond n (zero ∷ []) []))
+fewer_by true true handed done e = absurd cc
+fewer_by true false handed done e = omega arith
+fewer_by false true handed done e = omega arith
+fewer_by false false handed done e = absurd cc
+
+one_counted : (b : Bool) (came : List Request) (k : ℕ) → is_some (request_at came k).number ≡ b → counted came (k ∷ []) ≡ length (cond b (zero ∷ []) [])
+one_counted true came k e = rw e refl
+one_counted false came k e = rw e refl
+
+pub one_fewer_by : (b : Bool) (frame : Frame) (tasks : TaskLists) → is_immediate frame.header ≡ b
+    → one_fewer frame tasks ≡ record tasks { unfinished = cond b tasks.unfinished (tasks.unfinished - 1) }
+one_fewer_by true frame tasks e = rw e refl
+one_fewer_by false frame tasks e = rw e refl
+
+-- of so many that are handed over, one more is over
+pub unfinished_less : (past : Past) (handed n m k : ℕ) → IsLawful past → k < length past.came → m ≡ n + counted past.came (k ∷ [])
+    → cond (is_immediate (frame_of past.came k).header) (handed - n) (handed - n - 1) ≡ handed - m
+unfinished_less past handed n m k lawful lt is =
+    let told : IsDelivered (request_at past.came k) = lawful.delivered k _ lt in
+    fewer_by (is_some (request_at past.came k).number) (is_immediate (frame_of past.came k).header) handed n told
+    ∙ ap (λ (c : ℕ). handed - (n + c)) (sym (one_counted _ past.came k refl)) ∙ ap (λ (c : ℕ). handed - c) (sym is)
+
+-- ---- which are over, where one acts
+
+over_by : (b : Bool) (past : Past) (k : ℕ) (finished : List ℕ) → is_in k past.removed ≡ b
+    → finished ++ filter (λ a. is_in a past.removed) (past.acted ++ k ∷ [])
+    ≡ (finished ++ filter (λ a. is_in a past.removed) past.acted) ++ cond b (k ∷ []) []
+over_by true past k finished e =
+    ap (λ (l : List ℕ). finished ++ l) (filter-append (λ a. is_in a past.removed) past.acted (k ∷ []) ∙ rw e refl)
+    ∙ sym (append_assoc finished (filter (λ a. is_in a past.removed) past.acted) (k ∷ []))
+over_by false past k finished e =
+    ap (λ (l : List ℕ). finished ++ l) (filter-append (λ a. is_in a past.removed) past.acted (k ∷ []) ∙ rw e refl)
+    ∙ sym (append_assoc finished (filter (λ a. is_in a past.removed) past.acted) [])
+
+-- one that is not removed
+pub over_same : (past : Past) (k : ℕ) → is_in k past.removed ≡ false → over (record past { acted = past.acted ++ k ∷ [] }) ≡ over past
+over_same past k e = over_by false past k past.finished e ∙ append-nil (over past)
+
+-- one that was removed
+pub over_gone : (past : Past) (k : ℕ) → is_in k past.removed ≡ true → over (record past { acted = past.acted ++ k ∷ [] }) ≡ over past ++ k ∷ []
+over_gone past k e = over_by true past k past.finished e
+
+-- one that is finished at once
+pub over_other : (past : Past) (k : ℕ) → is_in k past.removed ≡ false
+    → counted past.came (over (record past { acted = past.acted ++ k ∷ []; finished = past.finished ++ k ∷ [] }))
+    ≡ counted past.came (over past) + counted past.came (k ∷ [])
+over_other past k e =
+    let came = past.came in
+    let gone = filter (λ a. is_in a past.removed) past.acted in
+    let a = ap (counted came) (over_by false past k (past.finished ++ k ∷ []) e ∙ append-nil ((past.finished ++ k ∷ []) ++ gone)) in
+    let b = counted_append came (past.finished ++ k ∷ []) gone in
+    let c = counted_append came past.finished (k ∷ []) in
+    let d = counted_append came past.finished gone in
+    omega arith
+
+-- one of the queue is finished
+pub over_finished : (past : Past) (k : ℕ) → counted past.came (over (record past { finished = past.finished ++ k ∷ [] }))
+    ≡ counted past.came (over past) + counted past.came (k ∷ [])
+over_finished past k =
+    let came = past.came in
+    let gone = filter (λ a. is_in a past.removed) past.acted in
+    let b = counted_append came (past.finished ++ k ∷ []) gone in
+    let c = counted_append came past.finished (k ∷ []) in
+    let d = counted_append came past.finished gone in
+    omega arith

@@ -1,0 +1,131 @@
+-- The requests as they stand: those that were removed are voided, and keep their numbers.
+use Rattle.std.proofs.Common.{◌≡◌, ℕ, zero, suc, ◌+◌, ◌<◌, List, [], ◌∷◌, ◌++◌, length, map, get_or, Bool, true, false, cond, not, refl, sym, ap, ◌∙◌, arith}
+use Rattle.std.specs.Prelude.{All, filter_map, Option, Some, None, if◌then◌else◌}
+use Rattle.std.proofs.lemmas.Bool.{false_from_ne_true}
+use Rattle.std.proofs.lemmas.List.Elements.{filter_map-append}
+use Rattle.iscsi_session.specs.Requests.{Request, Past, request_at, frame_of, frames_of, is_in, numbered, has_number, place_of}
+use Rattle.iscsi_pdu.specs.Header.{opcode_number, is_immediate}
+use Rattle.iscsi_session.specs.State.{void, voided, standing_from, standing}
+use Rattle.iscsi_session.proofs.Left.{below_of, map_cong}
+
+if_number : (b : Bool) (r : Request) → (cond b (voided r) r).number ≡ r.number
+if_number true r = refl
+if_number false r = refl
+
+numbered_with : (s r : Request) (more came : List Request) → s.number ≡ r.number → numbered more ≡ numbered came → numbered (s ∷ more) ≡ numbered (r ∷ came)
+numbered_with s r more came e rest =
+    filter_map-append (λ (x : Request). x.number) (s ∷ []) more
+    ∙ ap (λ (n : Option ℕ). filter_map (λ o. o) (n ∷ []) ++ numbered more) e ∙ ap (λ (l : List ℕ). filter_map (λ o. o) (r.number ∷ []) ++ l) rest
+    ∙ sym (filter_map-append (λ (x : Request). x.number) (r ∷ []) came)
+
+-- the numbers are the same
+numbered_from : (removed : List ℕ) (k : ℕ) (came : List Request) → numbered (standing_from removed k came) ≡ numbered came
+numbered_from removed k [] = refl
+numbered_from removed k (r ∷ came) =
+    numbered_with (cond (is_in k removed) (voided r) r) r (standing_from removed (suc k) came) came (if_number (is_in k removed) r)
+    (numbered_from removed (suc k) came)
+
+pub numbered_standing : (past : Past) → numbered (standing past) ≡ numbered past.came
+unfolding standing
+numbered_standing past = numbered_from past.removed 0 past.came
+
+place_with : (b : Bool) (r s : Request) (came more : List Request) (n : ℕ) → has_number n r.number ≡ b → s.number ≡ r.number
+    → place_of more n ≡ place_of came n → place_of (s ∷ more) n ≡ place_of (r ∷ came) n
+place_with true r s came more n e same rest = rw (same, e) refl
+place_with false r s came more n e same rest =
+    let here : has_number n s.number ≡ false = ap (has_number n) same ∙ e in
+    let a : place_of (s ∷ more) n ≡ suc (place_of more n) = rw here (omega arith) in
+    let b : place_of (r ∷ came) n ≡ suc (place_of came n) = rw e (omega arith) in
+    a ∙ ap suc rest ∙ sym b
+
+place_from : (removed : List ℕ) (k : ℕ) (came : List Request) (n : ℕ) → place_of (standing_from removed k came) n ≡ place_of came n
+place_from removed k [] n = refl
+place_from removed k (r ∷ came) n =
+    place_with (has_number n r.number) r (cond (is_in k removed) (voided r) r) came (standing_from removed (suc k) came) n refl
+    (if_number (is_in k removed) r) (place_from removed (suc k) came n)
+
+pub place_standing : (past : Past) (n : ℕ) → place_of (standing past) n ≡ place_of past.came n
+unfolding standing
+place_standing past n = place_from past.removed 0 past.came n
+
+length_from : (removed : List ℕ) (k : ℕ) (came : List Request) → length (standing_from removed k came) ≡ length came
+length_from removed k [] = refl
+length_from removed k (r ∷ came) = ap suc (length_from removed (suc k) came)
+
+pub length_standing : (past : Past) → length (standing past) ≡ length past.came
+unfolding standing
+length_standing past = length_from past.removed 0 past.came
+
+-- one request more
+push_from : (removed : List ℕ) (k n : ℕ) (came : List Request) (x : Request) → n ≡ k + length came → is_in n removed ≡ false
+    → standing_from removed k (came ++ x ∷ []) ≡ standing_from removed k came ++ x ∷ []
+push_from removed k n [] x at fresh =
+    let same : n ≡ k = omega arith in
+    ap (λ (b : Bool). cond b (voided x) x ∷ []) (ap (λ (m : ℕ). is_in m removed) (sym same) ∙ fresh)
+push_from removed k n (r ∷ came) x at fresh =
+    ap (λ (l : List Request). cond (is_in k removed) (voided r) r ∷ l) (push_from removed (suc k) n came x (omega arith) fresh)
+
+pub standing_joined : (past : Past) (x : Request) → All (λ a. a < length past.came) past.removed
+    → standing (record past { came = past.came ++ x ∷ [] }) ≡ standing past ++ x ∷ []
+unfolding standing
+standing_joined past x below =
+    let n = length past.came in
+    push_from past.removed 0 n past.came x (omega arith)
+    (false_from_ne_true (is_in n past.removed) (λ h. let lt = below_of n n past.removed below h in absurd (omega arith)))
+
+-- what stands at a name
+at_from : (removed : List ℕ) (k i n : ℕ) (came : List Request) → i < length came → n ≡ k + i
+    → request_at (standing_from removed k came) i ≡ cond (is_in n removed) (voided (request_at came i)) (request_at came i)
+at_from removed k i n [] lt at = absurd (omega arith)
+at_from removed k zero n (r ∷ came) lt at =
+    let same : n ≡ k = omega arith in
+    ap (λ (m : ℕ). cond (is_in m removed) (voided r) r) (sym same)
+at_from removed k (suc i) n (r ∷ came) lt at = at_from removed (suc k) i n came (omega arith) (omega arith)
+
+pub standing_at : (past : Past) (k : ℕ) → k < length past.came
+    → request_at (standing past) k ≡ cond (is_in k past.removed) (voided (request_at past.came k)) (request_at past.came k)
+unfolding standing
+standing_at past k lt = at_from past.removed 0 k k past.came lt (omega arith)
+
+-- of one that is not removed
+pub standing_kept : (past : Past) (k : ℕ) → k < length past.came → is_in k past.removed ≡ false → frame_of (standing past) k ≡ frame_of past.came k
+standing_kept past k lt none = ap (λ (r : Request). r.frame) (standing_at past k lt ∙ ap (λ (b : Bool). cond b (voided (request_at past.came k)) (request_at past.came k)) none)
+
+pub frames_kept : (past : Past) (names : List ℕ) → All (λ k. k < length past.came) names → All (λ k. is_in k past.removed ≡ false) names
+    → frames_of (standing past) names ≡ frames_of past.came names
+frames_kept past names below none = map_cong _ _ names (λ i d lt. standing_kept past (get_or names i d) (below i d lt) (none i d lt))
+
+void_immediate : (b : Bool) → is_immediate (void b).header ≡ b
+void_immediate true = refl
+void_immediate false = refl
+
+immediate_by : (b : Bool) (r : Request) → is_immediate (cond b (voided r) r).frame.header ≡ is_immediate r.frame.header
+immediate_by true r = void_immediate (is_immediate r.frame.header)
+immediate_by false r = refl
+
+-- it is for immediate delivery, or not, as it was
+pub standing_immediate : (past : Past) (k : ℕ) → k < length past.came → is_immediate (frame_of (standing past) k).header ≡ is_immediate (frame_of past.came k).header
+standing_immediate past k lt =
+    ap (λ (r : Request). is_immediate r.frame.header) (standing_at past k lt) ∙ immediate_by (is_in k past.removed) (request_at past.came k)
+
+-- ---- of which kind it is
+
+void_opcode : (b : Bool) → opcode_number (void b).header ≡ 0x3F
+void_opcode true = refl
+void_opcode false = refl
+
+-- a request of any other opcode was not removed
+pub stands_as : (past : Past) (k : ℕ) → k < length past.came → (opcode_number (frame_of (standing past) k).header ≡ 0x3F → ⊥)
+    → frame_of (standing past) k ≡ frame_of past.came k
+stands_as past k lt other = by_case (is_in k past.removed) refl
+  where
+    by_case : (b : Bool) → is_in k past.removed ≡ b → frame_of (standing past) k ≡ frame_of past.came k
+    by_case true e = absurd (other (ap (λ (r : Request). opcode_number r.frame.header) (standing_at past k lt
+        ∙ ap (λ (b : Bool). cond b (voided (request_at past.came k)) (request_at past.came k)) e) ∙ void_opcode (is_immediate (frame_of past.came k).header)))
+    by_case false e = standing_kept past k lt e
+
+-- one that was removed
+pub stands_void : (past : Past) (k : ℕ) → k < length past.came → is_in k past.removed ≡ true → opcode_number (frame_of (standing past) k).header ≡ 0x3F
+stands_void past k lt e =
+    ap (λ (r : Request). opcode_number r.frame.header) (standing_at past k lt
+    ∙ ap (λ (b : Bool). cond b (voided (request_at past.came k)) (request_at past.came k)) e) ∙ void_opcode (is_immediate (frame_of past.came k).header)
