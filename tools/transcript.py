@@ -24,12 +24,13 @@ class Step:
 
 @dataclass
 class Run:
-    """One run of the program."""
+    """One run of the program: `text` is what its words alone have it print."""
     row: str = ""
     name: bytes = None
     words: list = None
     files: dict = field(default_factory=dict)
     streams: dict = field(default_factory=dict)
+    text: bytes = b""
     steps: list = field(default_factory=list)
     status: int = None
     stderr: bytes = b""
@@ -135,7 +136,7 @@ class Statements:
         word, _, rest = line.partition(" ")
         takers = {"words": self.words, "called": self.called, "config": self.config,
                   "file": self.file, "let": self.let, "stdin": self.stream, "stdout": self.stream,
-                  ">": self.sent, "<": self.printed, "status": self.status, "stderr": self.stderr}
+                  "prints": self.prints, ">": self.sent, "<": self.printed, "status": self.status, "stderr": self.stderr}
         if word not in takers:
             raise Malformed(f"{word!r} is no statement")
         if self.run.status is not None and word != "stderr":
@@ -191,6 +192,10 @@ class Statements:
         if rest not in STREAMS[stream] or stream in self.run.streams:
             raise Malformed(f"{stream} may be {' or '.join(STREAMS[stream])}, once")
         self.run.streams[stream] = rest
+
+    def prints(self, rest, _):
+        """A line that the words alone have the program print."""
+        self.run.text += (data(rest, self.names) if rest else b"") + b"\n"
 
     def sent(self, rest, at):
         """A line of input, or one for each piece of the bytes in it."""

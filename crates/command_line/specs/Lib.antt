@@ -1,4 +1,5 @@
 pub mod App
 pub mod Turns
 pub mod Words
+pub mod Help
 pub mod ExamplesWords

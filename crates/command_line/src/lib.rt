@@ -9,15 +9,18 @@
 //! not empty. N is a number in decimal digits, below 2^64.
 //!
 //! Promised, and proved: [`mode_of`] gives the command exactly where the words are one, and tells
-//! other words as [`WordsFault::Usage`]. Only where an allocation fails does it give neither.
+//! other words as [`WordsFault::Usage`]. Only where an allocation fails does it give neither. [`is_help`]
+//! tells words that call for help, and [`usage`] is what they are shown.
 #![tactic(auto)]
 
 mod app;
 mod fault;
+mod help;
 mod mode;
 mod turns;
 mod words;
 
 pub use fault::WordsFault;
+pub use help::{is_help, usage};
 pub use mode::Mode;
 pub use words::mode_of;

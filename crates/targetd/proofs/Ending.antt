@@ -32,6 +32,7 @@ use Rattle.targetd.specs.declared.fault.Fault.TheVariants as faults
 use Rattle.targetd.specs.Fault.{words_fault, config_fault, replay_fault}
 use Rattle.targetd.specs.ConfigFile.{Loads}
 use Rattle.targetd.specs.Opened.{Held, IsMediumOf, IsUnitOf, AreEach, AreUnitsOf}
+use Rattle.targetd.specs.Help.{RefusesWords}
 use Rattle.targetd.specs.Serve.{listening_line, HasServed, Serves}
 use Rattle.targetd.specs.Run.{FailsEarly, LeftState, ServedState, listening, known_of, setting_of, IsReplay, IsServing, Runs}
 
@@ -180,32 +181,33 @@ serving held left w0 w1 document count units address log first served result ope
 
 -- ---- a run
 
-pub run_starves : (held : Held) (left : LeftState) (r w : Option (List ℕ)) (told : List Noted) (command : Option Command) (result : Result (Unit {0}) Fault)
-    → IsErrAnd result (λ seen. seen ≡ faults.OutOfMemory) → Runs held left r r w w told command result
-run_starves held left r w told command (Ok end) is = absurd is
-run_starves held left r w told None (Err seen) is = ((Keeps-refl r, Keeps-refl w), inr is)
-run_starves held left r w told (Some (Replay path)) (Err seen) is = inl (ap (λ (f : Fault). Err f) is, (Keeps-refl r, Keeps-refl w))
-run_starves held left r w told (Some (Serve path turns)) (Err seen) is = inl (ap (λ (f : Fault). Err f) is, (Keeps-refl r, Keeps-refl w))
+pub run_starves : (held : Held) (left : LeftState) (r w : Option (List ℕ)) (told : List Noted) (help : Bool) (command : Option Command)
+    (result : Result (Unit {0}) Fault)
+    → IsErrAnd result (λ seen. seen ≡ faults.OutOfMemory) → Runs held left r r w w told help command result
+run_starves held left r w told help command (Ok end) is = absurd is
+run_starves held left r w told help None (Err seen) is = (Keeps-refl r, inr (is, Keeps-refl w))
+run_starves held left r w told help (Some (Replay path)) (Err seen) is = inl (ap (λ (f : Fault). Err f) is, (Keeps-refl r, Keeps-refl w))
+run_starves held left r w told help (Some (Serve path turns)) (Err seen) is = inl (ap (λ (f : Fault). Err f) is, (Keeps-refl r, Keeps-refl w))
 
-pub run_unnamed : (held : Held) (left : LeftState) (r w : Option (List ℕ)) (told : List Noted) (command : Option Command)
-    (result : Result (Unit {0}) Fault) (fault : WordsFault)
-    → IsErrAnd result (λ seen. seen ≡ words_fault fault) → ((fault ≡ words.Usage) × (command ≡ None)) ⊎ (fault ≡ words.Memory)
-    → Runs held left r r w w told command result
-run_unnamed held left r w told command (Ok end) fault is named = absurd is
-run_unnamed held left r w told command (Err seen) fault is (inl usage) =
-    rw usage.1 ((Keeps-refl r, Keeps-refl w), inl (is ∙ ap words_fault usage.0))
-run_unnamed held left r w told command (Err seen) fault is (inr memory) =
-    run_starves held left r w told command (Err seen) (is ∙ ap words_fault memory)
+-- the words are no command, or an allocation failed
+pub none_named : (fault : WordsFault) (command : Option Command)
+    → ((fault ≡ words.Usage) × (command ≡ None)) ⊎ (fault ≡ words.Memory) → fault ≡ words.Usage → command ≡ None
+none_named fault command (inl usage) is = usage.1
+none_named fault command (inr memory) is = absurd (cc (sym memory ∙ is))
+
+pub run_refused : (held : Held) (left : LeftState) (r w w_then : Option (List ℕ)) (told : List Noted) (help : Bool) (command : Option Command) (fault : Fault)
+    → command ≡ None → RefusesWords w w_then help fault → Runs held left r r w w_then told help command (Err fault)
+run_refused held left r w w_then told help command fault none refused = rw none (Keeps-refl r, inl refused)
 
 -- the configuration's file could not be read
-pub serve_unread : (held : Held) (left : LeftState) (r w : Option (List ℕ)) (told : List Noted) (path : List ℕ) (turns : ℕ)
+pub serve_unread : (held : Held) (left : LeftState) (r w : Option (List ℕ)) (told : List Noted) (help : Bool) (path : List ℕ) (turns : ℕ)
     (result : Result (Unit {0}) Fault) (fault : ConfigFault)
-    → IsErrAnd result (λ seen. seen ≡ config_fault fault) → Loads path told left.told (Err fault) → Runs held left r r w w told (Some (Serve path turns)) result
-serve_unread held left r w told path turns (Ok end) fault is loads = absurd is
-serve_unread held left r w told path turns (Err seen) why.OutOfMemory is loads = inl (ap (λ (f : Fault). Err f) is, (Keeps-refl r, Keeps-refl w))
-serve_unread held left r w told path turns (Err seen) why.Unreadable is loads = inr (Keeps-refl r, (None, loads, inl (Keeps-refl w, inr (inr is))))
-serve_unread held left r w told path turns (Err seen) why.NotToml is loads = absurd loads
-serve_unread held left r w told path turns (Err seen) why.Field is loads = absurd loads
-serve_unread held left r w told path turns (Err seen) why.Limit is loads = absurd loads
-serve_unread held left r w told path turns (Err seen) why.Twice is loads = absurd loads
-serve_unread held left r w told path turns (Err seen) why.NoLunZero is loads = absurd loads
+    → IsErrAnd result (λ seen. seen ≡ config_fault fault) → Loads path told left.told (Err fault) → Runs held left r r w w told help (Some (Serve path turns)) result
+serve_unread held left r w told help path turns (Ok end) fault is loads = absurd is
+serve_unread held left r w told help path turns (Err seen) why.OutOfMemory is loads = inl (ap (λ (f : Fault). Err f) is, (Keeps-refl r, Keeps-refl w))
+serve_unread held left r w told help path turns (Err seen) why.Unreadable is loads = inr (Keeps-refl r, (None, loads, inl (Keeps-refl w, inr (inr is))))
+serve_unread held left r w told help path turns (Err seen) why.NotToml is loads = absurd loads
+serve_unread held left r w told help path turns (Err seen) why.Field is loads = absurd loads
+serve_unread held left r w told help path turns (Err seen) why.Limit is loads = absurd loads
+serve_unread held left r w told help path turns (Err seen) why.Twice is loads = absurd loads
+serve_unread held left r w told help path turns (Err seen) why.NoLunZero is loads = absurd loads

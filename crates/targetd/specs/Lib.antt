@@ -4,5 +4,6 @@ pub mod Opened
 pub mod Unopened
 pub mod ConfigFile
 pub mod Serve
+pub mod Help
 pub mod Run
 pub mod Left

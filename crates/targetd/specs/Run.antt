@@ -1,5 +1,5 @@
 -- How a run of the program ends.
-use Rattle.std.specs.Prelude.{◌≡◌, ◌⊎◌, ℕ, true, List, [], ◌∷◌, IsErrAnd, Option, None, Some, Result, Ok, Err}
+use Rattle.std.specs.Prelude.{◌≡◌, ◌⊎◌, ℕ, Bool, true, List, [], ◌∷◌, IsErrAnd, Option, None, Some, Result, Ok, Err}
 use Rattle.std.specs.Io.KnownBytes.{Keeps}
 use Rattle.std.specs.Net.Socket.{socket_ip, socket_port}
 use Rattle.std.specs.declared.net.socket_addr.SocketAddr.{SocketAddr}
@@ -18,11 +18,12 @@ use Rattle.target_config.specs.declared.fault.ConfigFault.TheVariants.{Unreadabl
 use Rattle.target_replay.specs.Replay.{Ends, EndsBy}
 use Rattle.target_replay.specs.declared.fault.ReplayFault.{ReplayFault}
 use Rattle.targetd.specs.declared.fault.Fault.{Fault}
-use Rattle.targetd.specs.declared.fault.Fault.TheVariants.{Usage, Socket, OutOfMemory}
+use Rattle.targetd.specs.declared.fault.Fault.TheVariants.{Socket, OutOfMemory}
 use Rattle.targetd.specs.Fault.{config_fault, replay_fault}
 use Rattle.targetd.specs.ConfigFile.{told_of}
 use Rattle.targetd.specs.Opened.{Held, AreUnitsOf}
 use Rattle.targetd.specs.Unopened.{IsUnopened}
+use Rattle.targetd.specs.Help.{RefusesWords}
 use Rattle.targetd.specs.Serve.{listening_line, Serves}
 
 -- the targets of a configuration, and their portal
@@ -113,12 +114,17 @@ module _ (held : Held) (left : LeftState) (unread unread_then printed printed_th
   abbrev pub IsStarved : Result (Unit {0}) Fault → Type 0
   IsStarved result = (result ≡ Err OutOfMemory) × IsUntouched
 
+  -- how a run ends whose words are no command, and call for help or not
+  abbrev pub Refuses : Bool → Result (Unit {0}) Fault → Type 0
+  Refuses help result = Keeps unread unread_then
+      × IsErrAnd result (λ fault. RefusesWords printed printed_then help fault ⊎ ((fault ≡ OutOfMemory) × Keeps printed printed_then))
+
   -- How a run by these words ends. What the file of the configuration holds is what was told of it, by its path.
-  abbrev pub Runs : List Noted → Option Command → Result (Unit {0}) Fault → Type 0
-  Runs told None result = IsUntouched × IsErrAnd result (λ fault. (fault ≡ Usage) ⊎ (fault ≡ OutOfMemory))
-  Runs told (Some (Replay path)) result = IsStarved result ⊎ ((file : Option (List ℕ)) × (left.told ≡ told_of path file told)
+  abbrev pub Runs : List Noted → Bool → Option Command → Result (Unit {0}) Fault → Type 0
+  Runs told help None result = Refuses help result
+  Runs told help (Some (Replay path)) result = IsStarved result ⊎ ((file : Option (List ℕ)) × (left.told ≡ told_of path file told)
       × Replays (configured_by file) result)
-  Runs told (Some (Serve path turns)) result =
+  Runs told help (Some (Serve path turns)) result =
       IsStarved result
       ⊎ (Keeps unread unread_then × ((file : Option (List ℕ)) × (left.told ≡ told_of path file told)
       × ServesAt held left printed printed_then turns (configured_by file) result))

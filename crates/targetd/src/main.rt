@@ -30,6 +30,7 @@
 mod arguments;
 mod config_file;
 mod fault;
+mod help;
 mod left;
 mod opening;
 mod run;

@@ -1,6 +1,7 @@
 //! A whole run: its words, its configuration, its target, its lines or its turns.
 
 ghost use Rattle.std.specs.Prelude.{◌≡◌, map, string_bytes};
+ghost use Rattle.command_line.specs.Help.{calls_for_help};
 ghost use Rattle.command_line.specs.Words.{mode_in};
 ghost use Rattle.target_config.specs.Config.{file_config_of};
 ghost use Rattle.targetd.specs.Left.{left_view};
@@ -8,11 +9,12 @@ ghost use Rattle.targetd.specs.Run.{Replays, ServesAt, Runs};
 
 use crate::config_file::load;
 use crate::fault::Fault;
+use crate::help::refuse_words;
 use crate::left::{Left, Served};
 use crate::opening::{Setup, open};
 use crate::serve::serve;
 use crate::words::texts;
-use command_line::{Mode, mode_of};
+use command_line::{Mode, WordsFault, mode_of};
 use iscsi_serve::{MioPorts, Ports};
 use iscsi_target::Target;
 use media_store::Start;
@@ -81,11 +83,18 @@ pub fn run<S: Start, R: Read, W: Write>(
     writer: &mut W,
 ) -> Result<(), Fault>
     ensures { Runs S.held (left_view ⟦<MioPorts as Ports>⟧.log left.new) (R.remaining reader.old) (R.remaining reader.new)
-        (W.contents writer.old) (W.contents writer.new) left.old.told.calls (mode_in (map string_bytes words.now)) result }
+        (W.contents writer.old) (W.contents writer.new) left.old.told.calls (calls_for_help (map string_bytes words.now))
+        (mode_in (map string_bytes words.now)) result }
 {
     let alloc = rt.alloc();
     let texts = texts(alloc, words)?;
-    match mode_of(alloc, texts.as_slice())? {
+    let texts = texts.as_slice();
+    let mode = match mode_of(alloc, texts) {
+        Ok(mode) => mode,
+        Err(WordsFault::Usage) => return Err(refuse_words(texts, writer)),
+        Err(WordsFault::Memory) => return Err(Fault::OutOfMemory),
+    };
+    match mode {
         Mode::Replay { config } => {
             let contents = load(rt, config, &mut left.told)?;
             replay_at(rt, contents.as_slice(), left, reader, writer)

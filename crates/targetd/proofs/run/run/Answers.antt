@@ -1,33 +1,37 @@
-use Rattle.std.proofs.Common.{inr, Some, ap, sym, ◌∙◌, List, ℕ}
+use Rattle.std.proofs.Common.{inr, refl, true, Some, ap, sym, ◌∙◌, List, ℕ}
 use Rattle.std.proofs.KnownBytes.{Keeps-refl}
 use Rattle.targetd.specs.ConfigFile.{told_of}
-use Rattle.targetd.proofs.Ending.{run_starves, run_unnamed, serve_unread}
+use Rattle.targetd.proofs.Ending.{run_starves, run_refused, none_named, serve_unread}
 use Rattle.targetd.proofs.run.run.Goals as goal
 
 pub returns-in_err-texts : goal.returns-in_err-texts
-returns-in_err-texts g c = run_starves _ _ _ _ _ _ c.from_residual.result c.from_residual.ensures.1
+returns-in_err-texts g c = run_starves _ _ _ _ _ _ _ c.from_residual.result c.from_residual.ensures.1
 
-pub returns-in_err-config : goal.returns-in_err-config
-returns-in_err-config g c =
-    rw (← c.in_ok-texts.ensures, ← c.as_slice.ensures.value)
-    (run_unnamed _ _ _ _ _ _ c.from_residual-in_err-config.result c.in_err-config.field-0.0 c.from_residual-in_err-config.ensures.1 c.in_err-config.ensures)
+pub returns-in-Err-Usage : goal.returns-in-Err-Usage
+returns-in-Err-Usage g c =
+    rw (← c.in_ok-texts.ensures, ← c.as_slice-texts.ensures.value)
+    (run_refused _ _ _ _ _ _ _ _ c.refuse_words.result (none_named c.in-Err-Usage.field-0 _ c.in-Err-Usage.ensures c.in-Err-Usage.field-0-is)
+    c.refuse_words.ensures)
+
+pub returns-in-Err-Memory : goal.returns-in-Err-Memory
+returns-in-Err-Memory g c = run_starves _ _ _ _ _ _ _ _ refl
 
 pub returns-in-Replay : goal.returns-in-Replay
 returns-in-Replay g c =
     let told = c.replay_at.ensures.told ∙ c.in_ok-contents-in-Replay.ensures
-    ∙ ap (λ (bytes : List ℕ). told_of c.in-Replay.config.now (Some bytes) c.args.left.now.told.calls) (sym c.as_slice-in-Replay.ensures.value) in
-    rw (← c.in_ok-texts.ensures, ← c.as_slice.ensures.value, c.in_ok-config.ensures, c.in-Replay.is)
-    (inr (Some c.as_slice-in-Replay.result.now, told, c.replay_at.ensures.ends))
+    ∙ ap (λ (bytes : List ℕ). told_of c.in-Replay.config.now (Some bytes) c.args.left.now.told.calls) (sym c.as_slice.ensures.value) in
+    rw (← c.in_ok-texts.ensures, ← c.as_slice-texts.ensures.value, c.in-Ok.ensures, c.in-Replay.is)
+    (inr (Some c.as_slice.result.now, told, c.replay_at.ensures.ends))
 
 pub returns-in_err-contents-in-Serve : goal.returns-in_err-contents-in-Serve
 returns-in_err-contents-in-Serve g c =
-    rw (← c.in_ok-texts.ensures, ← c.as_slice.ensures.value, c.in_ok-config.ensures, c.in-Serve.is)
-    (serve_unread _ _ _ _ _ c.in-Serve.config.now c.in-Serve.turns c.from_residual-in_err-contents-in-Serve.result c.in_err-contents-in-Serve.field-0.0
+    rw (← c.in_ok-texts.ensures, ← c.as_slice-texts.ensures.value, c.in-Ok.ensures, c.in-Serve.is)
+    (serve_unread _ _ _ _ _ true c.in-Serve.config.now c.in-Serve.turns c.from_residual-in_err-contents-in-Serve.result c.in_err-contents-in-Serve.field-0.0
     c.from_residual-in_err-contents-in-Serve.ensures.1 c.in_err-contents-in-Serve.ensures)
 
 pub returns : goal.returns
 returns g c =
     let told = c.serve_at.ensures.told ∙ c.in_ok-contents-in-Serve.ensures
     ∙ ap (λ (bytes : List ℕ). told_of c.in-Serve.config.now (Some bytes) c.args.left.now.told.calls) (sym c.as_slice-in-Serve.ensures.value) in
-    rw (← c.in_ok-texts.ensures, ← c.as_slice.ensures.value, c.in_ok-config.ensures, c.in-Serve.is)
+    rw (← c.in_ok-texts.ensures, ← c.as_slice-texts.ensures.value, c.in-Ok.ensures, c.in-Serve.is)
     (inr (Keeps-refl _, (Some c.as_slice-in-Serve.result.now, told, c.serve_at.ensures.ends)))

@@ -1,0 +1,20 @@
+//! Words that are no command, and the usage that calls for help are shown.
+
+ghost use Rattle.std.specs.Prelude.{map};
+ghost use Rattle.command_line.specs.Help.{calls_for_help};
+ghost use Rattle.targetd.specs.Help.{RefusesWords};
+
+use crate::fault::Fault;
+use command_line::{is_help, usage};
+use std::io::Write;
+use target_replay::print_all;
+
+/// Why a run ends whose words are no command. A call for help is shown the usage first.
+pub fn refuse_words<W: Write>(words: &[&str], writer: &mut W) -> Fault
+    ensures { RefusesWords (W.contents writer.old) (W.contents writer.new) (calls_for_help (map (λ word. word.now) words.now)) result }
+{
+    if is_help(words) && print_all(usage().as_bytes(), writer).is_err() {
+        return Fault::Output;
+    }
+    Fault::Usage
+}
