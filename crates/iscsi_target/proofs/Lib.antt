@@ -23,3 +23,4 @@ mod Tables
 mod Rows
 mod Tracking
 mod Running
+pub mod Begun

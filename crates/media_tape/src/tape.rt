@@ -72,6 +72,7 @@ impl<S: Store> Tape<S> {
         ensures failures { IfOk result (λ tape. tape.failures ≡ S.Store.failures store) }
         ensures steady { IfOk result (λ tape. tape.steady ≡ S.Store.steady store) }
         ensures back { IfOk result (λ tape. IsTrue tape.honest → IsTrue (S.Store.honest store)) }
+        ensures stays { IfOk result (λ tape. IsTrue (S.Store.steady store) → IsTrue (S.Store.honest store) → IsTrue tape.honest) }
         ensures succeeds { IsTrue (S.Store.steady store) → IsTrue (S.Store.honest store) → is_tape (S.Store.content store) ≡ true
             → length (S.Store.content store) ≤ capacity → IsOk result }
         ensures explained { IfErr result (λ refused. IsTrue (S.Store.honest refused.store)

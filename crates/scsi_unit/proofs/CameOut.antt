@@ -5,7 +5,7 @@ use Rattle.std.proofs.lemmas.Bool.{false≢true}
 use Rattle.scsi_sense.specs.Done.{Outcome}
 use Rattle.scsi_cdb.specs.Range.{Range}
 use Rattle.scsi_unit.specs.Device.{DeviceState, StoreState, store_of, IsSteady}
-use Rattle.scsi_unit.specs.CameOut.{CameOut, AsDefined, Dishonest, ReadFailed, WriteFailed, store_after, Touch, touches, IsPossible}
+use Rattle.scsi_unit.specs.CameOut.{CameOut, AsDefined, Dishonest, ReadFailed, WriteFailed, TapeDishonest, TapeWriteFailed, store_after, Touch, touches, IsPossible}
 use Rattle.scsi_unit.specs.State.{UnitState}
 use Rattle.scsi_unit.specs.Unit.{IsPerformed}
 use Rattle.scsi_unit.specs.Units.{IsSoundStore, IsSureStore, IsTrustedStore}
@@ -25,6 +25,8 @@ failed_touch AsDefined touch device possible = inl refl
 failed_touch (Dishonest shown left) touch device possible = inr possible.0
 failed_touch (ReadFailed honest) touch device possible = inr (reads_touch touch.reads touch.writes possible.0)
 failed_touch (WriteFailed left synced honest) touch device possible = inr (writes_touch touch.reads touch.writes possible.0)
+failed_touch (TapeDishonest told left) touch device possible = inr possible.0
+failed_touch (TapeWriteFailed left) touch device possible = inr (writes_touch touch.reads touch.writes possible.0)
 
 -- a store that cannot fail does not
 pub steady_as_defined : (came : CameOut) (touch : Touch) (device : DeviceState) → IsPossible came touch device → IsSteady (store_of device)
@@ -33,6 +35,8 @@ steady_as_defined AsDefined touch device possible steady = refl
 steady_as_defined (Dishonest shown left) touch device possible steady = absurd (possible.3 steady)
 steady_as_defined (ReadFailed honest) touch device possible steady = absurd (possible.2 steady)
 steady_as_defined (WriteFailed left synced honest) touch device possible steady = absurd (possible.3 steady)
+steady_as_defined (TapeDishonest told left) touch device possible steady = absurd (possible.3 steady)
+steady_as_defined (TapeWriteFailed left) touch device possible steady = absurd (possible.2 steady)
 
 -- a store that is still honest, and did not fail
 pub trusted_as_defined : (came : CameOut) (old : StoreState) → IsTrustedStore old (store_after came old) → came ≡ AsDefined
@@ -40,6 +44,8 @@ trusted_as_defined AsDefined old trusted = refl
 trusted_as_defined (Dishonest shown left) old trusted = absurd (false≢true trusted.honest)
 trusted_as_defined (ReadFailed honest) old trusted = absurd (omega (arith, trusted.none.same, trusted.none.known))
 trusted_as_defined (WriteFailed left synced honest) old trusted = absurd (omega (arith, trusted.none.same, trusted.none.known))
+trusted_as_defined (TapeDishonest told left) old trusted = absurd (false≢true trusted.honest)
+trusted_as_defined (TapeWriteFailed left) old trusted = absurd (omega (arith, trusted.none.same, trusted.none.known))
 
 -- a store that is sound was so before
 pub sound_back : (came : CameOut) (old : StoreState) → IsSoundStore (store_after came old) → IsSoundStore old
@@ -47,6 +53,8 @@ sound_back AsDefined old sound = sound
 sound_back (Dishonest shown left) old sound = absurd (false≢true sound.honest)
 sound_back (ReadFailed honest) old sound = absurd (omega (arith, sound.unfailed))
 sound_back (WriteFailed left synced honest) old sound = absurd (omega (arith, sound.unfailed))
+sound_back (TapeDishonest told left) old sound = absurd (false≢true sound.honest)
+sound_back (TapeWriteFailed left) old sound = absurd (omega (arith, sound.unfailed))
 
 -- ---- one unit
 

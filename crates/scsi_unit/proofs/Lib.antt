@@ -6,3 +6,4 @@ pub mod DiskWrites
 pub mod Found
 pub mod ReserveData
 pub mod Sound
+pub mod TapeDone

@@ -6,7 +6,7 @@ use Rattle.scsi_sense.specs.Sense.{plain_sense}
 use Rattle.scsi_sense.specs.Nexus.{NexusName}
 use Rattle.scsi_sense.specs.declared.sense.Sense.{Sense}
 use Rattle.scsi_sense.specs.declared.condition.Attention.{Attention}
-use Rattle.scsi_sense.specs.declared.condition.Condition.TheVariants.{InternalTargetFailure, LogicalBlockAddressOutOfRange, WriteProtected}
+use Rattle.scsi_sense.specs.declared.condition.Condition.TheVariants.{LogicalBlockAddressOutOfRange, WriteProtected}
 use Rattle.scsi_cdb.specs.Range.{Range}
 use Rattle.scsi_cdb.specs.Fault.{invalid_operation_code, invalid_field}
 use Rattle.scsi_cdb.specs.Operation.{row_for}
@@ -21,7 +21,10 @@ use Rattle.scsi_cdb.specs.declared.command.UnitCommand.TheVariants.{ReserveIn, R
 use Rattle.scsi_reserve.specs.Table.{TableState, is_allowed}
 use Rattle.scsi_mode.specs.ParameterList.{fault_sense}
 use Rattle.scsi_mode.specs.declared.list_fault.ListFault.TheVariants.{EndsEarly}
-use Rattle.scsi_unit.specs.Device.{DeviceState, Disk, Tape, kind_of, is_ready}
+use Rattle.scsi_tape.specs.TapeSense.{target_failure}
+use Rattle.scsi_tape.specs.State.{not_ready}
+use Rattle.scsi_tape.specs.Commands.{bytes_needed as tape_needed}
+use Rattle.scsi_unit.specs.Device.{DeviceState, Disk, Tape, kind_of}
 use Rattle.scsi_unit.specs.DiskCommands.{range_named, bytes_needed, is_write}
 use Rattle.scsi_unit.specs.Joined.{told}
 use Rattle.scsi_unit.specs.State.{UnitState}
@@ -31,10 +34,6 @@ use Rattle.scsi_unit.specs.declared.refusal.Refusal.TheVariants.{Refused, Told, 
 -- 05/2100
 abbrev pub out_of_range : Sense
 out_of_range = plain_sense LogicalBlockAddressOutOfRange
-
--- 04/4400
-abbrev pub not_ready : Sense
-not_ready = plain_sense InternalTargetFailure
 
 -- 07/2700
 abbrev pub write_protected : Sense
@@ -60,16 +59,22 @@ abbrev pub reservation_check : Option Row → NexusName → TableState → Optio
 reservation_check None nexus table = None
 reservation_check (Some row) nexus table = if is_allowed nexus row.reservation table then None else Some Conflict
 
--- own: what an operation needs that a unit whose medium is not ready lacks
+-- own: whether an operation with this need needs the medium
 abbrev pub needs_medium : Need → Bool
 needs_medium Nothing = false
 needs_medium Working = true
 needs_medium Ready = true
 
--- own: no write to the medium has failed, where the operation needs it
-abbrev pub ready_check : Option Row → Bool → Option Refusal
-ready_check None is_ready = None
-ready_check (Some row) is_ready = refused_if (needs_medium row.needs && not is_ready) not_ready
+-- why a device does not do an operation with this need: a write of it has failed (own), or it is a tape that is not loaded
+-- (SPC-4 "TEST UNIT READY command")
+abbrev pub unready : Need → DeviceState → Option Sense
+unready need (Disk disk) = if needs_medium need && not disk.is_ready then Some target_failure else None
+unready need (Tape tape) = not_ready need tape
+
+-- the device is ready for the operation
+abbrev pub ready_check : Option Row → DeviceState → Option Refusal
+ready_check None device = None
+ready_check (Some row) device = option_map Refused (unready row.needs device)
 
 -- the fields are taken
 abbrev pub fields_check : Result Command Sense → Option Refusal
@@ -80,7 +85,7 @@ fields_check (Ok command) = None
 abbrev pub has_range : DeviceState → Option Range → Bool
 has_range device None = true
 has_range (Disk disk) (Some range) = not (nat_lt (length disk.disk.blocks) (range.first + range.count))
-has_range Tape (Some range) = true
+has_range (Tape tape) (Some range) = true
 
 abbrev pub range_of : Command → Option Range
 range_of (to.Unit command) = None
@@ -103,10 +108,10 @@ needed (to.Unit (ReserveIn fields)) = 0
 needed (to.Unit (ReserveOut fields)) = fields.list_length
 needed (to.Unit (ReportLuns fields)) = 0
 needed (to.Disk command) = bytes_needed command
-needed (to.Tape command) = 0
+needed (to.Tape command) = tape_needed command
 
 -- what a command is told whose data is too short: PARAMETER LIST LENGTH ERROR (SPC-4 "MODE SELECT (6) command",
--- "PERSISTENT RESERVE OUT command"), and of blocks that it names too many for its data (profile)
+-- "PERSISTENT RESERVE OUT command"), and of blocks that it names, or of a record, too long for its data (profile)
 abbrev pub data_sense : Command → Sense
 data_sense (to.Unit command) = fault_sense EndsEarly
 data_sense (to.Disk command) = invalid_field
@@ -125,7 +130,7 @@ writes (to.Tape command) = false
 -- SPC-4 "Control mode page", SWP: writes are refused
 abbrev pub is_protected : DeviceState → Bool
 is_protected (Disk disk) = disk.write_protect
-is_protected Tape = false
+is_protected (Tape tape) = false
 
 abbrev pub protection_check : Result Command Sense → DeviceState → Option Refusal
 protection_check (Err sense) device = None
@@ -137,7 +142,7 @@ checks row command nexus bytes unit =
     operation_check row
     ∷ attention_check row (told nexus unit.joined).1
     ∷ reservation_check row nexus unit.reservations
-    ∷ ready_check row (is_ready unit.device)
+    ∷ ready_check row unit.device
     ∷ fields_check command
     ∷ range_check command unit.device
     ∷ data_check command bytes

@@ -1,11 +1,13 @@
 -- What a logical unit is: a disk or a tape, with what it keeps data on.
 use Rattle.std.specs.Prelude.{ℕ, Bool, true, false, IsTrue, length}
 use Rattle.media_block.specs.Blocks.{DiskState}
+use Rattle.media_tape.specs.Tape.{TapeState}
 use Rattle.scsi_cdb.specs.declared.operation.Kind.{Kind}
 use Rattle.scsi_cdb.specs.declared.operation.Kind.TheVariants as kind
 use Rattle.scsi_mode.specs.ModePages.{write_protect}
 use Rattle.scsi_mode.specs.declared.parameters.Parameters.{Parameters}
 use Rattle.scsi_mode.specs.declared.parameters.Parameters.TheVariants as parameters
+use Rattle.scsi_tape.specs.State.{TapeUnitState}
 use Rattle.scsi_unit.specs.declared.device.Device.{Device}
 use Rattle.scsi_unit.specs.declared.device.Device.TheVariants as device
 use Rattle.scsi_unit.specs.declared.device.DiskDevice.{DiskDevice}
@@ -17,10 +19,10 @@ pub record DiskUnit : Type 0 where
   pub is_ready : Bool
   pub write_protect : Bool
 
--- own: a unit keeps data on a disk, or is the empty tape, loaded
+-- own: a unit keeps data on a disk, or on a tape
 pub data DeviceState : Type 0 where
   Disk : (disk : DiskUnit) → DeviceState
-  Tape : DeviceState
+  Tape : (tape : TapeUnitState) → DeviceState
 
 -- without where it lies in memory
 abbrev pub disk_view : {S : Type 0} → DiskDevice S → DiskUnit
@@ -28,36 +30,35 @@ disk_view disk = record { disk = disk.disk; is_ready = disk.is_ready; write_prot
 
 abbrev pub device_view : {S : Type 0} → Device S → DeviceState
 device_view (device.Disk disk) = Disk (disk_view disk)
-device_view device.Tape = Tape
+device_view (device.Tape tape) = Tape tape
 
 -- a disk that was just opened: it is ready, and SWP is clear
 abbrev pub opened : DiskState → DeviceState
 opened disk = Disk (record { disk = disk; is_ready = true; write_protect = false })
 
+-- a tape that was just opened: no write of it has failed
+abbrev pub opened_tape : TapeState → DeviceState
+opened_tape tape = Tape (record { tape = tape; is_working = true })
+
 -- SPC-4 "Standard INQUIRY data", peripheral device type
 abbrev pub kind_of : DeviceState → Kind
 kind_of (Disk disk) = kind.Disk
-kind_of Tape = kind.Tape
-
--- own: it takes commands to its medium
-abbrev pub is_ready : DeviceState → Bool
-is_ready (Disk disk) = disk.is_ready
-is_ready Tape = true
+kind_of (Tape tape) = kind.Tape
 
 -- what its mode parameters tell
 abbrev pub parameters_of : DeviceState → Parameters
 parameters_of (Disk disk) = parameters.Disk (length disk.disk.blocks) disk.write_protect
-parameters_of Tape = parameters.Tape
+parameters_of (Tape tape) = parameters.Tape
 
 -- with these mode parameters, of which a disk's SWP can change
 abbrev pub with_parameters : Parameters → DeviceState → DeviceState
 with_parameters given (Disk disk) = Disk (record disk { write_protect = write_protect given })
-with_parameters given Tape = Tape
+with_parameters given (Tape tape) = Tape tape
 
 -- ---- its store
 
 -- own: how many calls of it have failed, whether every answer of it agreed with what was written, and whether calls of it
--- always succeed and agree
+-- always succeed and agree: not those of a tape, whose store may refuse to grow
 pub record StoreState : Type 0 where
   pub failures : ℕ
   pub honest : Bool
@@ -65,7 +66,7 @@ pub record StoreState : Type 0 where
 
 abbrev pub store_of : DeviceState → StoreState
 store_of (Disk disk) = record { failures = disk.disk.failures; honest = disk.disk.honest; steady = disk.disk.steady }
-store_of Tape = record { failures = 0; honest = true; steady = true }
+store_of (Tape tape) = record { failures = tape.tape.failures; honest = tape.tape.honest; steady = false }
 
 -- own: it cannot fail
 pub record IsSteady (store : StoreState) : Type 0 where

@@ -12,7 +12,7 @@ use Rattle.scsi_cdb.specs.declared.command.DiskCommand.{DiskCommand}
 use Rattle.scsi_cdb.specs.declared.command.DiskCommand.TheVariants.{Read, ReadCapacity10, ReadCapacity16, Write, Verify, VerifyData}
 use Rattle.scsi_cdb.specs.declared.command.DiskCommand.TheVariants.{SynchronizeCache, WriteSame, CompareAndWrite}
 use Rattle.scsi_unit.specs.Device.{DiskUnit, Disk}
-use Rattle.scsi_unit.specs.CameOut.{CameOut, AsDefined, Dishonest, ReadFailed, WriteFailed, Shown, shown_by, disk_after, Touch, no_touch, IsPossible}
+use Rattle.scsi_unit.specs.CameOut.{CameOut, AsDefined, Dishonest, ReadFailed, WriteFailed, TapeDishonest, TapeWriteFailed, Shown, shown_by, disk_after, Touch, no_touch, IsPossible}
 
 -- 03/1100
 abbrev pub unrecovered_read : Sense
@@ -111,6 +111,8 @@ disk_told AsDefined truth blocks command = told_of truth blocks command
 disk_told (Dishonest shown left) truth blocks command = told_of shown blocks command
 disk_told (ReadFailed honest) truth blocks command = check_condition unrecovered_read
 disk_told (WriteFailed left synced honest) truth blocks command = check_condition write_error
+disk_told (TapeDishonest told left) truth blocks command = told_of truth blocks command
+disk_told (TapeWriteFailed left) truth blocks command = told_of truth blocks command
 
 -- ---- what is changed
 

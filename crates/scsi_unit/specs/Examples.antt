@@ -12,9 +12,10 @@ use Rattle.scsi_inquiry.specs.Standard.{standard_data}
 use Rattle.scsi_inquiry.specs.Luns.{rising}
 use Rattle.scsi_inquiry.specs.declared.peripheral.Peripheral.TheVariants as peripheral
 use Rattle.scsi_mode.specs.ParameterList.{is_page, after_page, has_page, after_pages, after_header, selected}
-use Rattle.scsi_unit.specs.Device.{DiskUnit, DeviceState, Disk, Tape}
+use Rattle.scsi_unit.specs.Device.{DiskUnit, DeviceState, Disk, opened_tape}
 use Rattle.scsi_unit.specs.CameOut.{ReadFailed, touches}
-use Rattle.scsi_unit.specs.Checks.{judged, out_of_range, not_ready}
+use Rattle.scsi_tape.specs.TapeSense.{target_failure}
+use Rattle.scsi_unit.specs.Checks.{judged, out_of_range}
 use Rattle.scsi_unit.specs.DiskCommands.{capacity_10, capacity_16, unrecovered_read}
 use Rattle.scsi_unit.specs.Joined.{told, raised_for_others, newly_joined}
 use Rattle.scsi_unit.specs.Identity.{inquiry_outcome, luns_outcome, sense_outcome, without_unit, reported_luns}
@@ -105,18 +106,33 @@ read_fails = refl
 abbrev failed : DeviceState
 failed = Disk (record the_disk { is_ready = false })
 
-is_not_ready : ((perform_at a test_unit_ready [] (unit_with failed (a_was_told ∷ []))).1 ≡ check_condition not_ready)
-    × ((perform_at a (read_10 0x0f 0xff 0x08 0x01) [] (unit_with failed (a_was_told ∷ []))).1 ≡ check_condition not_ready)
+is_not_ready : ((perform_at a test_unit_ready [] (unit_with failed (a_was_told ∷ []))).1 ≡ check_condition target_failure)
+    × ((perform_at a (read_10 0x0f 0xff 0x08 0x01) [] (unit_with failed (a_was_told ∷ []))).1 ≡ check_condition target_failure)
     × ((perform_at a test_unit_ready [] (unit_with failed (newly_joined a ∷ []))).1 ≡ check_condition (plain_sense (UnitAttention PowerOnOrReset)))
     × ((perform_at a inquiry [] (unit_with failed (a_was_told ∷ []))).1 ≡ good_with (standard_data (peripheral.Unit kind.Disk)))
     × ((perform_at a (0x25 ∷ replicate 15 0) [] (unit_with failed (a_was_told ∷ []))).1 ≡ good_with (capacity_10 4096))
 unfolding performed_as judged told unit_done inquiry_outcome
 is_not_ready = (refl, refl, refl, refl, refl)
 
+-- an empty tape, loaded
+abbrev empty_tape : DeviceState
+empty_tape = opened_tape (record {
+  before = [];
+  after = [];
+  tail = [];
+  is_loaded = true;
+  capacity = 100000;
+  early_mark = 90000;
+  synced = false;
+  failures = 0;
+  honest = true;
+  steady = true;
+})
+
 -- a tape is ready; it has no READ (10) of disks, which is told before the attention is
-tapes : ((perform_at a test_unit_ready [] (unit_with Tape (a_was_told ∷ []))).1 ≡ good)
-    × (perform_at a (read_10 0 0 0 1) [] (unit_with Tape (newly_joined a ∷ [])) ≡ (
-      unit_with Tape (newly_joined a ∷
+tapes : ((perform_at a test_unit_ready [] (unit_with empty_tape (a_was_told ∷ []))).1 ≡ good)
+    × (perform_at a (read_10 0 0 0 1) [] (unit_with empty_tape (newly_joined a ∷ [])) ≡ (
+      unit_with empty_tape (newly_joined a ∷
           []),
       check_condition invalid_operation_code,
     ))
@@ -144,7 +160,7 @@ inquired = (refl, refl)
 
 -- cut to an allocation length of 5; page B0h of a tape, and a page where there is no unit, are no pages
 inquired_in_part : ((perform_at a (0x12 ∷ 0 ∷ 0 ∷ 0 ∷ 5 ∷ replicate 11 0) [] (unit_with disk [])).1 ≡ good_with (0 ∷ 0 ∷ 6 ∷ 2 ∷ 0x1f ∷ []))
-    × ((perform_at a (0x12 ∷ 1 ∷ 0xb0 ∷ 0 ∷ 64 ∷ replicate 11 0) [] (unit_with Tape [])).1 ≡ check_condition invalid_field)
+    × ((perform_at a (0x12 ∷ 1 ∷ 0xb0 ∷ 0 ∷ 64 ∷ replicate 11 0) [] (unit_with empty_tape [])).1 ≡ check_condition invalid_field)
     × ((perform (unit_with disk [] ∷ []) a (0 ∷ 1 ∷ replicate 6 0) (0x12 ∷ 1 ∷ 0 ∷ 0 ∷ 64 ∷ replicate 11 0) []).1 ≡ check_condition invalid_field)
 unfolding perform performed_as judged told unit_done inquiry_outcome lun_number without_unit
 inquired_in_part = (refl, refl, refl)
@@ -178,7 +194,7 @@ requested_none = refl
 
 -- REPORT LUNS of LUN 1 and LUN 0, in rising order, sent to either, and where there is no unit
 abbrev two_units : List UnitState
-two_units = record (unit_with Tape (newly_joined a ∷ [])) { lun = 1 } ∷ unit_with disk [] ∷ []
+two_units = record (unit_with empty_tape (newly_joined a ∷ [])) { lun = 1 } ∷ unit_with disk [] ∷ []
 
 abbrev report_luns : List ℕ
 report_luns = 0xa0 ∷ replicate 8 0 ++ 255 ∷ replicate 6 0
@@ -219,6 +235,6 @@ mode_select_refused = refl
 -- MODE SENSE (6) of page 0Ah without descriptor, of which 5 bytes are wanted; and of a page that a tape does not have
 mode_senses : ((perform_at a (0x1a ∷ 0x08 ∷ 0x0a ∷ 0 ∷ 5 ∷ replicate 11 0) [] (unit_with disk (a_was_told ∷
     []))).1 ≡ good_with (0x0f ∷ 0 ∷ 0x10 ∷ 0 ∷ 0x0a ∷ []))
-    × ((perform_at a (0x1a ∷ 0x08 ∷ 0x08 ∷ 0 ∷ 5 ∷ replicate 11 0) [] (unit_with Tape (a_was_told ∷ []))).1 ≡ check_condition invalid_field)
+    × ((perform_at a (0x1a ∷ 0x08 ∷ 0x08 ∷ 0 ∷ 5 ∷ replicate 11 0) [] (unit_with empty_tape (a_was_told ∷ []))).1 ≡ check_condition invalid_field)
 unfolding performed_as judged told unit_done mode_sense_outcome
 mode_senses = (refl, refl)

@@ -12,7 +12,8 @@ use Rattle.scsi_reserve.specs.ReadIn.{reservation_data}
 use Rattle.scsi_reserve.specs.declared.reservation_type.ReservationType.{ReservationType}
 use Rattle.scsi_reserve.specs.declared.reservation_type.ReservationType.TheVariants.{ExclusiveAccess, WriteExclusiveRegistrantsOnly}
 use Rattle.scsi_unit.specs.Device.{DiskUnit, Disk}
-use Rattle.scsi_unit.specs.Checks.{judged, not_ready}
+use Rattle.scsi_tape.specs.TapeSense.{target_failure}
+use Rattle.scsi_unit.specs.Checks.{judged}
 use Rattle.scsi_unit.specs.Joined.{told, newly_joined, raised_for}
 use Rattle.scsi_unit.specs.PersistentReserve.{reserve_in_outcome, reserved_out}
 use Rattle.scsi_unit.specs.State.{UnitState}
@@ -76,7 +77,7 @@ new_to_b = record (unit_with (held_by_a ExclusiveAccess)) { joined = newly_joine
 -- an attention is told before a conflict, and a conflict before the unit is not ready and before a field is refused
 in_order : ((perform_at b read_10 [] new_to_b).1 ≡ check_condition (plain_sense (UnitAttention PowerOnOrReset)))
     × ((perform_at b read_10 [] failed).1 ≡ reservation_conflict)
-    × ((perform_at a read_10 [] failed).1 ≡ check_condition not_ready)
+    × ((perform_at a read_10 [] failed).1 ≡ check_condition target_failure)
     × ((perform_at b (0x28 ∷ 0x20 ∷ replicate 14 0) [] (unit_with (held_by_a ExclusiveAccess))).1 ≡ reservation_conflict)
 unfolding performed_as judged told unit_done
 in_order = (refl, refl, refl, refl)

@@ -8,7 +8,8 @@ use Rattle.scsi_cdb.specs.Fault.{invalid_field}
 use Rattle.scsi_reserve.specs.Table.{empty_table}
 use Rattle.scsi_unit.specs.Device.{DiskUnit, Disk}
 use Rattle.scsi_unit.specs.CameOut.{Dishonest, ReadFailed, WriteFailed, touches}
-use Rattle.scsi_unit.specs.Checks.{judged, out_of_range, not_ready, write_protected}
+use Rattle.scsi_tape.specs.TapeSense.{target_failure}
+use Rattle.scsi_unit.specs.Checks.{judged, out_of_range, write_protected}
 use Rattle.scsi_unit.specs.DiskCommands.{miscompare, unrecovered_read, write_error}
 use Rattle.scsi_unit.specs.Joined.{told}
 use Rattle.scsi_unit.specs.State.{UnitState}
@@ -125,11 +126,11 @@ abbrev failed : UnitState
 failed = unit_of (record the_disk { disk = record the_disk.disk { blocks = torn; failures = 1 }; is_ready = false })
 
 write_fails : (performed_as (WriteFailed torn false true) a (command_10 0x2a 0 3 1) fives the_unit ≡ (failed, check_condition write_error))
-    × ((perform_at a (command_10 0x28 0 0 1) [] failed).1 ≡ check_condition not_ready)
-    × ((perform_at a (command_10 0x2a 0 3 1) fives failed).1 ≡ check_condition not_ready)
-    × ((perform_at a (command_10 0x2f 0 0 0) [] failed).1 ≡ check_condition not_ready)
-    × ((perform_at a (command_10 0x35 0 0 0) [] failed).1 ≡ check_condition not_ready)
-    × ((perform_at a (replicate 16 0) [] failed).1 ≡ check_condition not_ready)
+    × ((perform_at a (command_10 0x28 0 0 1) [] failed).1 ≡ check_condition target_failure)
+    × ((perform_at a (command_10 0x2a 0 3 1) fives failed).1 ≡ check_condition target_failure)
+    × ((perform_at a (command_10 0x2f 0 0 0) [] failed).1 ≡ check_condition target_failure)
+    × ((perform_at a (command_10 0x35 0 0 0) [] failed).1 ≡ check_condition target_failure)
+    × ((perform_at a (replicate 16 0) [] failed).1 ≡ check_condition target_failure)
 unfolding performed_as judged told unit_done
 write_fails = (refl, refl, refl, refl, refl, refl)
 

@@ -15,6 +15,9 @@ pub use Rattle.scsi_reserve.specs.ReadIn
 pub use Rattle.scsi_inquiry.specs.Standard
 pub use Rattle.scsi_inquiry.specs.VpdPages
 pub use Rattle.scsi_inquiry.specs.Luns
+pub use Rattle.media_tape.specs.Items
+pub use Rattle.media_tape.specs.Tape
+pub use Rattle.scsi_tape.specs.Commands
 pub use Rattle.scsi_mode.specs.ModePages
 pub use Rattle.scsi_mode.specs.Descriptor
 pub use Rattle.scsi_mode.specs.ModeData
@@ -27,6 +30,7 @@ pub mod DiskWrites
 pub mod Identity
 pub mod Joined
 pub mod State
+pub mod TapeCommands
 pub mod Medium
 pub mod PersistentReserve
 pub mod Checks

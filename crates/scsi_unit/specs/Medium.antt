@@ -1,17 +1,19 @@
 -- What a unit keeps, and nothing of its store.
 use Rattle.std.specs.Prelude.{ℕ, List, Bool}
+use Rattle.media_tape.specs.Items.{Item}
 use Rattle.scsi_reserve.specs.Table.{TableState}
 use Rattle.scsi_unit.specs.Device.{DeviceState, Disk, Tape}
 use Rattle.scsi_unit.specs.State.{UnitState}
 
--- own: a disk's blocks, and whether writes to it are refused (SWP, SPC-4 "Control mode page"); or the empty tape
+-- own: a disk's blocks, and whether writes to it are refused (SWP, SPC-4 "Control mode page"); or a tape's items before its
+-- position and behind it, and whether it is loaded
 pub data MediumState : Type 0 where
   DiskMedium : (blocks : List (List ℕ)) (write_protect : Bool) → MediumState
-  TapeMedium : MediumState
+  TapeMedium : (before after : List Item) (is_loaded : Bool) → MediumState
 
 abbrev pub medium_of_device : DeviceState → MediumState
 medium_of_device (Disk disk) = DiskMedium disk.disk.blocks disk.write_protect
-medium_of_device Tape = TapeMedium
+medium_of_device (Tape tape) = TapeMedium tape.tape.before tape.tape.after tape.tape.is_loaded
 
 -- own: its medium, and who is registered with it and what is reserved (SPC-4 "Persistent reservations")
 pub record KeptState : Type 0 where

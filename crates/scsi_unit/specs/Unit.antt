@@ -19,9 +19,11 @@ use Rattle.scsi_mode.specs.ModeData.{mode_data}
 use Rattle.scsi_mode.specs.ParameterList.{fault_sense, selected}
 use Rattle.scsi_mode.specs.declared.list_fault.ListFault.{ListFault}
 use Rattle.scsi_mode.specs.declared.parameters.Parameters.{Parameters}
+use Rattle.scsi_tape.specs.CameOut.{tape_touch}
 use Rattle.scsi_unit.specs.Device.{DeviceState, Disk, Tape, kind_of, parameters_of, with_parameters, store_of}
 use Rattle.scsi_unit.specs.CameOut.{CameOut, AsDefined, shown_by, store_after, disk_after, Touch, no_touch, IsPossible}
 use Rattle.scsi_unit.specs.DiskCommands.{shown, disk_defined, disk_told, touch_of}
+use Rattle.scsi_unit.specs.TapeCommands.{touch_of_tape, tape_performed, takes_room}
 use Rattle.scsi_unit.specs.Joined.{with_nexus, without_nexus, told, raised_for, raised_for_others}
 use Rattle.scsi_unit.specs.Identity.{inquiry_outcome, luns_outcome, sense_outcome, pending_sense, without_unit}
 use Rattle.scsi_unit.specs.PersistentReserve.{reserve_in_outcome, reserved_out}
@@ -98,7 +100,7 @@ disk_done came bytes unit (Disk disk) command =
       record unit { device = Disk (disk_after came (disk_defined (shown_by came truth) bytes command disk.disk) disk) },
       disk_told came truth disk.disk.blocks command,
     )
-disk_done came bytes unit Tape command = (unit, check_condition invalid_operation_code)
+disk_done came bytes unit (Tape tape) command = (unit, check_condition invalid_operation_code)
 
 -- ---- any command
 
@@ -106,8 +108,7 @@ disk_done came bytes unit Tape command = (unit, check_condition invalid_operatio
 abbrev pub carried_out : CameOut → NexusName → List ℕ → UnitState → Command → UnitState × Outcome
 carried_out came nexus bytes unit (to.Unit command) = unit_done nexus bytes unit command
 carried_out came nexus bytes unit (to.Disk command) = disk_done came bytes unit unit.device command
--- profile, for now: no command to a tape is done
-carried_out came nexus bytes unit (to.Tape command) = (unit, check_condition invalid_operation_code)
+carried_out came nexus bytes unit (to.Tape command) = tape_performed came nexus bytes unit unit.device command
 
 -- SAM-5 "Unit attention condition": one that is told in place of a command is then taken away
 abbrev pub refused_with : NexusName → UnitState → Refusal → UnitState × Outcome
@@ -132,8 +133,9 @@ perform_at nexus cdb bytes unit = performed_as AsDefined nexus cdb bytes unit
 abbrev pub touch_by : DeviceState → Command → Touch
 touch_by device (to.Unit command) = no_touch
 touch_by (Disk disk) (to.Disk command) = touch_of command
-touch_by Tape (to.Disk command) = no_touch
-touch_by device (to.Tape command) = no_touch
+touch_by (Tape tape) (to.Disk command) = no_touch
+touch_by (Disk disk) (to.Tape command) = no_touch
+touch_by (Tape tape) (to.Tape command) = touch_of_tape (tape_touch command)
 
 abbrev pub touch_where : DeviceState → Result Command Refusal → Touch
 touch_where device (Err refusal) = no_touch
@@ -143,7 +145,7 @@ touch_where device (Ok command) = touch_by device command
 unfoldable pub touch_at : NexusName → List ℕ → List ℕ → UnitState → Touch
 touch_at nexus cdb bytes unit = touch_where unit.device (judged nexus cdb bytes unit)
 
--- own: PERSISTENT RESERVE OUT alone takes memory and gives no data: for who is registered
+-- own: PERSISTENT RESERVE OUT takes memory and gives no data: for who is registered
 abbrev pub keeps_more : UnitCommand → Bool
 keeps_more TestUnitReady = false
 keeps_more (RequestSense allocation_length) = false
@@ -157,13 +159,13 @@ keeps_more (ReportLuns fields) = false
 abbrev pub keeps_more_by : Command → Bool
 keeps_more_by (to.Unit command) = keeps_more command
 keeps_more_by (to.Disk command) = false
-keeps_more_by (to.Tape command) = false
+keeps_more_by (to.Tape command) = takes_room command
 
 abbrev pub keeps_more_where : Result Command Refusal → Bool
 keeps_more_where (Err refusal) = false
 keeps_more_where (Ok command) = keeps_more_by command
 
--- own: whether a command that no check refuses is so
+-- own: whether a command that no check refuses may take memory and give no data
 unfoldable pub keeps_more_at : NexusName → List ℕ → List ℕ → UnitState → Bool
 keeps_more_at nexus cdb bytes unit = keeps_more_where (judged nexus cdb bytes unit)
 
@@ -193,6 +195,6 @@ perform_as came nexus lun cdb bytes unit =
 unfoldable pub touch_with : NexusName → List ℕ → List ℕ → List ℕ → UnitState → Touch
 touch_with nexus lun cdb bytes unit = if names_unit lun unit then touch_at nexus cdb bytes unit else no_touch
 
--- and whether it is PERSISTENT RESERVE OUT that no check refuses
+-- and whether it may take memory and give no data
 unfoldable pub keeps_more_with : NexusName → List ℕ → List ℕ → List ℕ → UnitState → Bool
 keeps_more_with nexus lun cdb bytes unit = if names_unit lun unit then keeps_more_at nexus cdb bytes unit else false

@@ -108,7 +108,7 @@ touches_there nexus cdb bytes (Some unit) = touches (touch_at nexus cdb bytes un
 abbrev pub touches_at : NexusName → List ℕ → List ℕ → UnitStates → Option ℕ → Bool
 touches_at nexus cdb bytes units place = touches_there nexus cdb bytes (option_and_then (slice_get units) place)
 
--- own: whether a command is PERSISTENT RESERVE OUT that no check of the unit that stands at a place refuses
+-- own: whether a command to the unit that stands at a place may take memory and give no data
 abbrev pub keeps_more_there : NexusName → List ℕ → List ℕ → Option UnitState → Bool
 keeps_more_there nexus cdb bytes None = false
 keeps_more_there nexus cdb bytes (Some unit) = keeps_more_at nexus cdb bytes unit

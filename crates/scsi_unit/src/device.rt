@@ -1,14 +1,16 @@
 //! The device of a logical unit: a disk or a tape.
 
 ghost use Rattle.std.specs.Prelude.{◌≡◌};
-ghost use Rattle.scsi_unit.specs.Device.{kind_of, is_ready, device_view, parameters_of, with_parameters};
-ghost use Rattle.scsi_unit.specs.Checks.{has_range, is_protected, range_of};
+ghost use Rattle.scsi_unit.specs.Device.{kind_of, device_view, parameters_of, with_parameters};
+ghost use Rattle.scsi_unit.specs.Checks.{has_range, is_protected, range_of, needs_medium, unready};
 ghost use Rattle.scsi_unit.specs.DiskCommands.{range_named};
 
 use media_block::Disk;
 use media_store::Store;
-use scsi_cdb::{AnyRange, Command, DiskCommand, Kind};
+use scsi_cdb::{AnyRange, Command, DiskCommand, Kind, Need};
 use scsi_mode::Parameters;
+use scsi_sense::{Condition, Sense};
+use scsi_tape::TapeUnit;
 
 /// A disk with its mode parameters.
 #[derive(Drop)]
@@ -38,12 +40,21 @@ fn range_named(command: &DiskCommand) -> Option<AnyRange>
     Some(AnyRange::new(first, count))
 }
 
+/// Whether an operation with this need needs the medium.
+fn needs_medium(need: Need) -> bool
+    ensures { result ≡ needs_medium need }
+{
+    match need {
+        Need::Nothing => false,
+        Need::Working | Need::Ready => true,
+    }
+}
+
 /// What a logical unit is.
 #[derive(Drop)]
 pub(crate) enum Device<S: Store> {
     Disk(DiskDevice<S>),
-    /// The empty tape, loaded.
-    Tape,
+    Tape(TapeUnit<S>),
 }
 
 impl<S: Store> Device<S> {
@@ -53,17 +64,20 @@ impl<S: Store> Device<S> {
     {
         match self {
             Device::Disk(_) => Kind::Disk,
-            Device::Tape => Kind::Tape,
+            Device::Tape(_) => Kind::Tape,
         }
     }
 
-    /// Whether it takes commands to its medium.
-    pub fn is_ready(&self) -> bool
-        ensures { result ≡ is_ready (device_view self.now) }
+    /// Why it does not do an operation with this need now, where it is so.
+    pub fn unready(&self, need: Need) -> Option<Sense>
+        ensures { result ≡ unready need (device_view self.now) }
     {
         match self {
-            Device::Disk(disk) => disk.is_ready,
-            Device::Tape => true,
+            Device::Disk(disk) if needs_medium(need) && !disk.is_ready => {
+                Some(Sense::new(Condition::InternalTargetFailure))
+            }
+            Device::Disk(_) => None,
+            Device::Tape(tape) => tape.not_ready(need),
         }
     }
 
@@ -76,7 +90,7 @@ impl<S: Store> Device<S> {
                 block_count: device.disk.block_count(),
                 write_protect: device.write_protect,
             },
-            Device::Tape => Parameters::Tape,
+            Device::Tape(_) => Parameters::Tape,
         }
     }
 
@@ -95,7 +109,7 @@ impl<S: Store> Device<S> {
     {
         match self {
             Device::Disk(disk) => disk.write_protect,
-            Device::Tape => false,
+            Device::Tape(_) => false,
         }
     }
 
@@ -121,7 +135,7 @@ impl<S: Store> Device<S> {
                 let blocks = device.disk.block_count();
                 range.first() <= blocks && u64::from(range.count()) <= blocks - range.first()
             }
-            Device::Tape => true,
+            Device::Tape(_) => true,
         }
     }
 }

@@ -41,6 +41,7 @@ mod performing;
 mod persistent_reserve;
 mod refusal;
 mod serial;
+mod tape_commands;
 mod unit;
 mod units;
 

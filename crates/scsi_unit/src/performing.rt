@@ -4,7 +4,7 @@ ghost use Rattle.std.specs.Prelude.{◌≡◌, ◌≤◌, [], length, take, fals
 ghost use Rattle.scsi_mode.specs.ParameterList.{selected};
 ghost use Rattle.scsi_unit.specs.Device.{parameters_of, store_of};
 ghost use Rattle.scsi_unit.specs.CameOut.{touches, AsDefined};
-ghost use Rattle.scsi_unit.specs.Checks.{judged, has_range, range_of, needed, data_sense, writes, needs_medium};
+ghost use Rattle.scsi_unit.specs.Checks.{judged, has_range, range_of, needed, data_sense, writes};
 ghost use Rattle.scsi_unit.specs.DiskCommands.{bytes_needed, most_given};
 ghost use Rattle.scsi_unit.specs.Unit.{mode_selected, unit_done, carried_out, refused_with, performed_as, perform_at, touch_by, touch_at, IsPerformed};
 ghost use Rattle.scsi_unit.specs.Unit.{keeps_more, keeps_more_by, keeps_more_at};
@@ -22,7 +22,7 @@ use crate::unit::Unit;
 use bytes::BytesMut;
 use media_block::BLOCK_LENGTH;
 use media_store::Store;
-use scsi_cdb::{Cdb, Command, DiskCommand, FieldFault, ModeSelectFields, Need, Row, UnitCommand};
+use scsi_cdb::{Cdb, Command, DiskCommand, FieldFault, ModeSelectFields, Row, UnitCommand};
 use scsi_mode::{ListFault, select};
 use scsi_sense::{Attention, Condition, Done, Nexus, Sense};
 
@@ -51,18 +51,9 @@ fn needed(command: &Command) -> usize
     match command {
         Command::Unit(UnitCommand::ModeSelect(fields)) => fields.list_length as usize,
         Command::Unit(UnitCommand::ReserveOut(fields)) => fields.list_length as usize,
-        Command::Unit(_) | Command::Tape(_) => 0,
+        Command::Unit(_) => 0,
         Command::Disk(command) => bytes_needed(command),
-    }
-}
-
-/// Whether an operation with this need is refused where the medium is not ready.
-fn needs_medium(need: Need) -> bool
-    ensures { result ≡ needs_medium need }
-{
-    match need {
-        Need::Nothing => false,
-        Need::Working | Need::Ready => true,
+        Command::Tape(command) => scsi_tape::bytes_needed(command),
     }
 }
 
@@ -203,9 +194,9 @@ impl<S: Store> Unit<S> {
             Command::Unit(command) => self.carry_out_of_any(nexus, command, data),
             Command::Disk(command) => match &mut self.device {
                 Device::Disk(disk) => disk.carry_out(self.alloc, used, command, data),
-                Device::Tape => Ok(Done::check_condition(self.alloc, Cdb::no_operation())),
+                Device::Tape(_) => Ok(Done::check_condition(self.alloc, Cdb::no_operation())),
             },
-            Command::Tape(_) => Ok(Done::check_condition(self.alloc, Cdb::no_operation())),
+            Command::Tape(command) => self.carry_out_on_tape(used, nexus, command, data),
         }
     }
 
@@ -227,8 +218,8 @@ impl<S: Store> Unit<S> {
         if !self.reservations.allows(nexus, row.reservation) {
             return Err(Refusal::Conflict);
         }
-        if needs_medium(row.needs) && !self.device.is_ready() {
-            return Err(Refusal::Refused(Sense::new(Condition::InternalTargetFailure)));
+        if let Some(sense) = self.device.unready(row.needs) {
+            return Err(Refusal::Refused(sense));
         }
         let command = match row.operation.command(cdb) {
             Ok(command) => command,

@@ -1,7 +1,7 @@
 //! One logical unit.
 
 ghost use Rattle.std.specs.Prelude.{◌≡◌, ◌≤◌, [], length, false, IsTrue, IsOk, IfOk, OnOk, OnErr};
-ghost use Rattle.scsi_unit.specs.Device.{opened, store_of, Tape as TapeDevice};
+ghost use Rattle.scsi_unit.specs.Device.{opened, opened_tape, store_of};
 ghost use Rattle.scsi_unit.specs.CameOut.{touches, AsDefined};
 ghost use Rattle.scsi_unit.specs.DiskCommands.{most_given};
 ghost use Rattle.scsi_unit.specs.Unit.{free_unit, joined_unit, left_unit, raised_unit, names_unit, perform_as, touch_with, keeps_more_with, IsPerformed};
@@ -14,8 +14,10 @@ use crate::lun::Lun;
 use crate::serial::Serial;
 use media_block::Disk;
 use media_store::Store;
+use media_tape::Tape;
 use scsi_reserve::Table;
 use scsi_sense::{Attention, Done, Nexus};
+use scsi_tape::TapeUnit;
 use std::alloc::Global;
 use std::marker::Model;
 
@@ -59,14 +61,14 @@ impl<S: Store> Unit<S> {
         }
     }
 
-    /// An empty tape, loaded. It takes no memory.
-    pub fn tape(alloc: Global, lun: u8, serial: Serial) -> Unit<S>
-        ensures { result ≡ free_unit lun serial TapeDevice }
+    /// A tape. It takes no memory.
+    pub fn tape(alloc: Global, lun: u8, serial: Serial, tape: Tape<S>) -> Unit<S>
+        ensures { result ≡ free_unit lun serial (opened_tape tape) }
     {
         Unit {
             lun: Lun::new(lun),
             serial,
-            device: Device::Tape,
+            device: Device::Tape(TapeUnit::new(tape)),
             reservations: Table::new(alloc),
             joined: Vec::new(alloc),
             alloc,

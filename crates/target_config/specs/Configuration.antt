@@ -35,14 +35,14 @@ natural (negsuc n) = 0
 abbrev pub names_of : List TargetEntry → List (List ℕ)
 names_of targets = map (λ target. target.name) targets
 
-abbrev pub is_in_memory : MediumEntry → Bool
-is_in_memory (MemoryDisk blocks) = true
-is_in_memory (FileDisk path) = false
-is_in_memory (MemoryTape capacity early) = true
+abbrev pub is_memory_disk : MediumEntry → Bool
+is_memory_disk (MemoryDisk blocks) = true
+is_memory_disk (FileDisk path) = false
+is_memory_disk (MemoryTape capacity early) = false
 
--- no unit of any target is in a file
-abbrev pub keeps_in_memory : Document → Bool
-keeps_in_memory document = list_all (λ target. list_all (λ unit. is_in_memory unit.medium) target.units) document.targets
+-- each unit of each target is a disk in memory
+abbrev pub has_memory_disks_alone : Document → Bool
+has_memory_disks_alone document = list_all (λ target. list_all (λ unit. is_memory_disk unit.medium) target.units) document.targets
 
 -- the path of a medium in a file, and none of another
 abbrev pub file_of : MediumEntry → List (List ℕ)

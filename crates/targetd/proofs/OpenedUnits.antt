@@ -5,6 +5,8 @@ use Rattle.std.specs.declared.alloc.Global.{Global}
 use Rattle.std.specs.List.{list_all}
 use Rattle.std.proofs.lemmas.Bool.{lt-ltb, eq-eqb}
 use Rattle.std.proofs.lemmas.List.{take-replicate, drop-replicate, length-replicate, length-map, map-append}
+use Rattle.media_tape.specs.Items.{Item, items_in, items_of, is_tape}
+use Rattle.media_tape.specs.Tape.{TapeState}
 use Rattle.media_block.specs.Blocks.{DiskState, block_length, blocks_of, is_disk, disk_of}
 use Rattle.scsi_unit.specs.Device.{DeviceState}
 use Rattle.scsi_unit.specs.State.{UnitState}
@@ -17,7 +19,7 @@ use Rattle.iscsi_target.specs.declared.config.Config.{Config}
 use Rattle.targetd.specs.Run.{known_of}
 use Rattle.target_config.specs.Configuration.{Document, UnitEntry, TargetEntry, natural, names_of, unit_view, units_view, target_view, targets_view}
 use Rattle.target_config.specs.Limits.{unit_keeps, target_keeps}
-use Rattle.targetd.specs.Opened.{Held, zero_disk, IsMediumOf, IsUnitOf, AreEach, AreUnitsOf}
+use Rattle.targetd.specs.Opened.{Held, zero_disk, empty_tape, IsMediumOf, IsUnitOf, AreEach, AreUnitsOf}
 use Rattle.targetd.specs.Unopened.{has_file_unit, has_file_unit_at}
 
 -- the blocks of zeros are blocks of zeros
@@ -55,6 +57,30 @@ zero_opened count disk said synced failures honest steady =
     ∙ ap (λ (n : ℕ). record disk { blocks = replicate count (replicate block_length 0); synced = false; failures = n }) failures
     ∙ ap (λ (b : Bool). record disk { blocks = replicate count (replicate block_length 0); synced = false; failures = 0; honest = b }) honest
     ∙ ap (λ (b : Bool). record disk { blocks = replicate count (replicate block_length 0); synced = false; failures = 0; honest = true; steady = b }) steady
+
+pub nothing_stands : items_of [] ≡ []
+unfolding items_in
+nothing_stands = refl
+
+pub nothing_is_a_tape : is_tape [] ≡ true
+unfolding items_in
+nothing_is_a_tape = refl
+
+-- a tape that was opened over nothing
+pub empty_opened : (capacity early : ℕ) (tape : TapeState) → tape.before ≡ [] → tape.after ≡ [] → tape.tail ≡ [] → tape.is_loaded ≡ true
+    → tape.capacity ≡ capacity → tape.early_mark ≡ early → tape.synced ≡ false → tape.failures ≡ 0 → tape.honest ≡ true → tape.steady ≡ true
+    → tape ≡ empty_tape capacity early
+empty_opened capacity early tape before after tail loaded most mark synced failures honest steady =
+    ap (λ (x : List Item). record tape { before = x }) before
+    ∙ ap (λ (x : List Item). record tape { before = []; after = x }) after
+    ∙ ap (λ (x : List ℕ). record tape { before = []; after = []; tail = x }) tail
+    ∙ ap (λ (x : Bool). record tape { before = []; after = []; tail = []; is_loaded = x }) loaded
+    ∙ ap (λ (x : ℕ). record tape { before = []; after = []; tail = []; is_loaded = true; capacity = x }) most
+    ∙ ap (λ (x : ℕ). record tape { before = []; after = []; tail = []; is_loaded = true; capacity = capacity; early_mark = x }) mark
+    ∙ ap (λ (x : Bool). record tape { before = []; after = []; tail = []; is_loaded = true; capacity = capacity; early_mark = early; synced = x }) synced
+    ∙ ap (λ (x : ℕ). record tape { before = []; after = []; tail = []; is_loaded = true; capacity = capacity; early_mark = early; synced = false; failures = x }) failures
+    ∙ ap (λ (x : Bool). record tape { before = []; after = []; tail = []; is_loaded = true; capacity = capacity; early_mark = early; synced = false; failures = 0; honest = x }) honest
+    ∙ ap (λ (x : Bool). record tape { before = []; after = []; tail = []; is_loaded = true; capacity = capacity; early_mark = early; synced = false; failures = 0; honest = true; steady = x }) steady
 
 -- a unit over its medium
 pub unit_over : (held : Held) (entry : UnitEntry) (lun : ℕ) (medium : DeviceState) (unit : UnitState) → unit ≡ free_unit lun entry.serial medium

@@ -1,7 +1,8 @@
 -- The units that a configuration makes.
 use Rattle.std.specs.Prelude.{◌≡◌, ℕ, List, [], ◌∷◌, true, false, IsTrue, replicate}
 use Rattle.media_block.specs.Blocks.{DiskState, block_length, is_disk, disk_of}
-use Rattle.scsi_unit.specs.Device.{DeviceState, opened, Tape}
+use Rattle.media_tape.specs.Tape.{TapeState}
+use Rattle.scsi_unit.specs.Device.{DeviceState, opened, opened_tape}
 use Rattle.scsi_unit.specs.State.{UnitState}
 use Rattle.scsi_unit.specs.Unit.{free_unit}
 use Rattle.scsi_unit.specs.Units.{UnitStates}
@@ -15,6 +16,21 @@ Held = List ℕ → List ℕ
 abbrev pub zero_disk : ℕ → DiskState
 zero_disk blocks = record { blocks = replicate blocks (replicate block_length 0); synced = false; failures = 0; honest = true; steady = true }
 
+-- profile: an empty tape in memory, loaded
+abbrev pub empty_tape : (capacity early : ℕ) → TapeState
+empty_tape capacity early = record {
+  before = [];
+  after = [];
+  tail = [];
+  is_loaded = true;
+  capacity = capacity;
+  early_mark = early;
+  synced = false;
+  failures = 0;
+  honest = true;
+  steady = true;
+}
+
 -- own: a disk in a file, as it is opened: where the file told its length as it was, its blocks are those that it held
 pub record IsFileDisk (held : List ℕ) (disk : DiskState) : Type 0 where
   pub unfailed : disk.failures ≡ 0
@@ -25,7 +41,7 @@ pub record IsFileDisk (held : List ℕ) (disk : DiskState) : Type 0 where
 abbrev pub IsMediumOf : Held → MediumEntry → DeviceState → Type 0
 IsMediumOf held (MemoryDisk blocks) medium = medium ≡ opened (zero_disk blocks)
 IsMediumOf held (FileDisk path) medium = (disk : DiskState) × (medium ≡ opened disk) × IsFileDisk (held path) disk
-IsMediumOf held (MemoryTape capacity early) medium = medium ≡ Tape
+IsMediumOf held (MemoryTape capacity early) medium = medium ≡ opened_tape (empty_tape capacity early)
 
 -- own: a unit as it is opened: no nexus is joined to it
 pub record IsUnitOf (held : Held) (entry : UnitEntry) (unit : UnitState) : Type 0 where

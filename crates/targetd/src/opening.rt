@@ -5,7 +5,7 @@ ghost use Rattle.std.specs.IoError.{error_kind};
 ghost use Rattle.std.specs.List.{list_all};
 ghost use Rattle.target_config.specs.Configuration.{natural, names_of, unit_view, units_view, targets_view, configuration_view};
 ghost use Rattle.target_config.specs.Limits.{is_lun, unit_keeps, keeps_limits};
-ghost use Rattle.targetd.specs.Opened.{zero_disk, IsFileDisk, IsUnitOf, AreEach, AreUnitsOf};
+ghost use Rattle.targetd.specs.Opened.{zero_disk, empty_tape, IsFileDisk, IsUnitOf, AreEach, AreUnitsOf};
 ghost use Rattle.targetd.specs.Unopened.{IsFaultAt, IsFaultIn, IsUnopened};
 ghost use Rattle.targetd.specs.declared.opening.Unopened.TheVariants.{Device, Memory as OutOfMemory};
 
@@ -14,6 +14,7 @@ use crate::store::{MediumStore, SystemStore};
 use iscsi_target::Config;
 use media_block::{BLOCK_LENGTH, Disk};
 use media_store::{FileStore, MemStore, Start, Store, SystemFile};
+use media_tape::Tape;
 use scsi_unit::{Memory, Serial, Unit, Units};
 use std::alloc::{AllocError, AllocFailed, Global};
 use std::fs::File;
@@ -75,6 +76,18 @@ fn memory_disk<F: Store + Drop>(
     Ok(Disk::open(MediumStore::Memory(store)).unwrap())
 }
 
+/// An empty tape in memory. Such a store is a tape and does not fail as it is opened, so only an allocation can.
+fn memory_tape<F: Store + Drop>(
+    alloc: Global,
+    capacity: u64,
+    early: u64,
+) -> Result<Tape<MediumStore<F>>, AllocError>
+    ensures { IfOk result (λ tape. tape ≡ empty_tape capacity early) }
+{
+    let store = MemStore::new(alloc, 0, capacity as usize)?;
+    Ok(Tape::open(MediumStore::Memory(store), capacity, early).unwrap())
+}
+
 /// What an error of the system at the file of a unit is told as.
 fn fault_of(error: &io::Error, lun: u8) -> Unopened
     ensures memory { error_kind error.now ≡ ErrorKind.OutOfMemory → result ≡ OutOfMemory }
@@ -128,7 +141,10 @@ fn open_unit<S: Start>(
         MediumConfiguration::FileDisk(path) => {
             Ok(Unit::disk(alloc, lun, serial, file_disk(rt, path, lun)?))
         }
-        MediumConfiguration::MemoryTape { .. } => Ok(Unit::tape(alloc, lun, serial)),
+        MediumConfiguration::MemoryTape { capacity, early } => {
+            let tape = memory_tape(alloc, capacity, early)?;
+            Ok(Unit::tape(alloc, lun, serial, tape))
+        }
     }
 }
 

@@ -1,6 +1,7 @@
-use Rattle.std.proofs.Common.{◌∙◌, set, ap, arith}
+use Rattle.std.proofs.Common.{◌≡◌, ◌∙◌, length, map, set, sym, ap, arith}
 use Rattle.scsi_unit.specs.Unit.{left_unit}
-use Rattle.scsi_unit.proofs.Lists.{map_over_next}
+use Rattle.scsi_unit.specs.Units.{leave}
+use Rattle.scsi_unit.proofs.Lists.{map_over_next, map_over_all, over_all}
 use Rattle.scsi_unit.proofs.units.Units.leave.Goals as goal
 
 pub loop-unit-preserved : goal.loop-unit-preserved
@@ -8,3 +9,12 @@ loop-unit-preserved g c =
     ap (set c.loop-unit.unit-items c.loop-unit.unit-index) c.leave.ensures
     ∙ map_over_next (left_unit c.args.nexus.now) c.deref_mut-unit-items.result.now c.loop-unit.unit-items
     c.loop-unit.unit-index c.unit-item.result (omega arith) (omega arith) c.loop-unit.invariant
+
+pub returns : goal.returns
+unfolding leave
+returns g c =
+    let left = left_unit c.args.nexus.now in
+    let done : c.loop-unit.unit-items ≡ map left c.deref_mut-unit-items.result.now =
+    map_over_all left c.deref_mut-unit-items.result.now c.loop-unit.unit-items c.loop-unit.unit-index c.loop-unit-test.false c.loop-unit.invariant in
+    over_all c.loop-unit.unit-items _ c.self.inside.units.len (omega (arith, c.deref_mut-unit-items.ensures.len, c.loop-unit.auto.unit-items))
+    ∙ done ∙ ap (map left) (c.deref_mut-unit-items.ensures.value ∙ c.self.view_is)

@@ -1,0 +1,23 @@
+use Rattle.std.proofs.Common.{◌≡◌, List, true, false, refl, sym, ap, ◌∙◌}
+use Rattle.scsi_unit.specs.Device.{DeviceState, Tape}
+use Rattle.scsi_sense.specs.declared.condition.Attention.TheVariants.{NotReadyToReadyChange}
+use Rattle.scsi_unit.specs.Joined.{raised_for_others}
+use Rattle.scsi_unit.specs.declared.joined.Joined.{Joined}
+use Rattle.scsi_unit.specs.State.{UnitState}
+use Rattle.scsi_unit.specs.TapeCommands.{loads}
+use Rattle.scsi_unit.proofs.TapeDone.{tape_did_to}
+use Rattle.scsi_unit.proofs.unit.Unit.carry_out_on_tape.Goals.{then-loads, else-loads}
+use Rattle.scsi_unit.proofs.unit.Unit.carry_out_on_tape.Goals as goal
+
+pub returns-clause-done : goal.returns-clause-done
+returns-clause-done g c =
+    let unit : UnitState = c.args.self.now in
+    let on = c.in-Tape.tape in
+    let is : unit.device ≡ Tape on = ap (λ (u : UnitState). u.device) (sym c.self.view_is) ∙ rw c.in-Tape.is refl in
+    let loaded : c.loads-loads.result ≡ loads c.args.command on.tape.is_loaded =
+    c.loads-loads.ensures ∙ ap (loads c.args.command) c.is_loaded.ensures in
+    tape_did_to c.args.command c.args.«data».now c.args.nexus.now unit on c.carry_out.new.tape c.if-loads.self c.in_ok-done.done is
+    c.in_ok-done.ensures.done (elim c.if-loads.branch [
+      | then-loads w ↦ (let yes : loads c.args.command on.tape.is_loaded ≡ true = sym loaded ∙ w.if-loads.true in w.self-is ∙ rw (← c.self.view_is, yes) w.medium_changed.ensures)
+      | else-loads w ↦ (let no : loads c.args.command on.tape.is_loaded ≡ false = sym loaded ∙ w.if-loads.false in w.self-is ∙ rw (← c.self.view_is, no) refl)
+    ])

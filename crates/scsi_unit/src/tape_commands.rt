@@ -1,0 +1,91 @@
+//! The commands to tapes.
+
+ghost use Rattle.std.specs.Prelude.{◌≡◌, ◌≤◌, length, false, IsOk, IfOk, OnErr};
+ghost use Rattle.scsi_cdb.specs.declared.command.Command.TheVariants as to;
+ghost use Rattle.scsi_tape.specs.Commands.{bytes_needed};
+ghost use Rattle.scsi_tape.specs.CameOut.{IsTapeDone};
+ghost use Rattle.scsi_sense.specs.declared.condition.Attention.TheVariants.{NotReadyToReadyChange};
+ghost use Rattle.scsi_unit.specs.DiskCommands.{most_given};
+ghost use Rattle.scsi_unit.specs.Joined.{raised_for_others};
+ghost use Rattle.scsi_unit.specs.TapeCommands.{loads as loads_tape, tape_performed, takes_room};
+ghost use Rattle.scsi_unit.specs.Unit.{touch_by, IsPerformed};
+
+use crate::buffers::{give_back, take};
+use crate::device::Device;
+use crate::fault::Memory;
+use crate::joined::raise_for_others;
+use crate::unit::Unit;
+use bytes::BytesMut;
+use media_store::Store;
+use scsi_cdb::{Cdb, TapeCommand};
+use scsi_sense::{Attention, Done, Nexus, TAILROOM};
+use scsi_tape::{TapeUnit, room_needed};
+use std::alloc::Global;
+
+/// A command to a tape with the data that it needs. The room for the data that it can give is made first, with
+/// room for what is sent behind it, so that where an allocation fails nothing changes.
+fn carry_out<S: Store>(
+    alloc: Global,
+    used: &mut Vec<BytesMut>,
+    tape: &mut TapeUnit<S>,
+    command: TapeCommand,
+    data: &[u8],
+) -> Result<Done, Memory>
+    requires { bytes_needed command ≤ length «data».now }
+    ensures done { IfOk result (IsTapeDone command «data».now tape.old tape.new) }
+    ensures given { IfOk result (λ done. length done.given ≤ most_given) }
+    ensures nothing { takes_room command ≡ false → IsOk result }
+    ensures err { OnErr result (tape.new ≡ tape.old) }
+{
+    let room = room_needed(&command);
+    if room == 0 {
+        return Ok(tape.carry_out(alloc, &mut BytesMut::new(alloc), command, data));
+    }
+    let mut buffer = take(alloc, used, room + TAILROOM)?;
+    let done = tape.carry_out(alloc, &mut buffer, command, data);
+    give_back(used, buffer);
+    Ok(done)
+}
+
+/// Whether a command loads a tape that is not.
+fn loads(command: &TapeCommand, is_loaded: bool) -> bool
+    ensures { result ≡ loads_tape command.now is_loaded }
+{
+    matches!(command, TapeCommand::LoadUnload { load: true }) && !is_loaded
+}
+
+impl<S: Store> Unit<S> {
+    /// All but this nexus are to be told that the medium may have changed. It takes no memory.
+    fn medium_changed(&mut self, nexus: &Nexus)
+        ensures { self.new ≡ record self.old { joined = raised_for_others nexus.now NotReadyToReadyChange self.old.joined } }
+    {
+        let attention = Attention::NotReadyToReadyChange;
+        raise_for_others(self.joined.as_mut_slice(), nexus, attention);
+    }
+
+    /// A command to the unit as a tape. Where it loads the tape all but this nexus are to be told.
+    pub(crate) fn carry_out_on_tape(
+        &mut self,
+        used: &mut Vec<BytesMut>,
+        nexus: &Nexus,
+        command: TapeCommand,
+        data: &[u8],
+    ) -> Result<Done, Memory>
+        requires { bytes_needed command ≤ length «data».now }
+        ensures done { IfOk result (IsPerformed (touch_by self.old.device (to.Tape command))
+            (λ came. tape_performed came nexus.now «data».now self.old self.old.device command) self.old self.new) }
+        ensures given { IfOk result (λ done. length done.given ≤ most_given) }
+        ensures nothing { takes_room command ≡ false → IsOk result }
+        ensures err { OnErr result (self.new ≡ self.old) }
+    {
+        let Device::Tape(tape) = &mut self.device else {
+            return Ok(Done::check_condition(self.alloc, Cdb::no_operation()));
+        };
+        let loads = loads(&command, tape.is_loaded());
+        let done = carry_out(self.alloc, used, tape, command, data)?;
+        if loads {
+            self.medium_changed(nexus);
+        }
+        Ok(done)
+    }
+}
