@@ -1,14 +1,14 @@
 # Pitsagul: each target works from a fresh clone on a machine with the Rattle kit (the command rt).
 .PHONY: demo demo-unproved demo-proved build install uninstall test clients bench clean
 
-# Which demo `make demo` is: unproved takes about a minute, proved proves every crate first.
+# Which demo `make demo` is: unproved takes one to three minutes, proved proves every crate first.
 DEMO = unproved
 
 demo: demo-$(DEMO)
 
 demo-unproved:
-	@echo "== targetd is built here without its proofs, in about a minute; 'make build' proves it"
-	@./tools/demo rt try --
+	@echo "== targetd is built here without its proofs, in one to three minutes; 'make build' proves it"
+	@./tools/demo --unproved
 
 demo-proved: build
 	@echo "== a login and two TEST UNIT READYs on the proved targetd"
@@ -16,7 +16,8 @@ demo-proved: build
 
 # Proves every crate, builds targetd and leaves it at crates/targetd/out/targetd.
 build:
-	@echo "== proving the crates and building targetd (the first time a quarter of an hour and more)"
+	@echo "== proving the crates side by side and building targetd. The first time took 46 minutes on four"
+	@echo "== processors with other work to do, when the crates were proved one after the other"
 	@./tools/build
 
 # Puts the program, its pages, an example and a systemd unit below DESTDIR and PREFIX. Nothing outside them is touched.
