@@ -411,8 +411,10 @@ finished_here past state k rest frame tasks s is e no_text no_function some same
   where
     lt : k < length past.came
     lt = due_came past s.lawful k rest is
+
     kept : state.exchange ≡ exchange_behind past.params (exchange_of past) (frame_of past.came k)
     kept = (parts past state s).exchange_is ∙ sym (exchange_other past.params (exchange_of past) (frame_of past.came k) no_text)
+
     by_case : (b : Bool) → is_in k past.removed ≡ b
         → Stands (moved k past) (record state { tasks = one_fewer (frame_of (standing past) k) (record state.tasks { due = drop 1 state.tasks.due }) })
     by_case true gone = stands_gone past state k rest s is (removed_command past s.lawful k gone) gone
@@ -456,12 +458,14 @@ function_here past state k rest frame tasks headers s is e some same gone =
     ∙ sym (exchange_other past.params (exchange_of past) f (function_no_text f e)) in
     let left_over : headers ≡ functions_of (finished k past) = gone
     ∙ ap (λ (g : Frame). function_removed state.functions (function_place (initiator_task_tag g.header) state.functions)) here
-    ∙ function_gone past state k s (due_function past s.lawful k rest is e) in
-    (here, rw (same, here) (subst (λ (x : ExchangeState). Stands (moved k past) (record state {
-      tasks = one_fewer f (record state.tasks { due = drop 1 state.tasks.due });
-      functions = headers;
-      exchange = x;
-    })) (sym kept) (stands_other past state k rest headers s is (function_no_command f e) left_over)))
+    ∙ function_gone past state k s (due_function past s.lawful k rest is e) in (
+      here,
+      rw (same, here) (subst (λ (x : ExchangeState). Stands (moved k past) (record state {
+        tasks = one_fewer f (record state.tasks { due = drop 1 state.tasks.due });
+        functions = headers;
+        exchange = x;
+      })) (sym kept) (stands_other past state k rest headers s is (function_no_command f e) left_over)),
+    )
 
 -- a Text is finished, and its exchange goes on or is over
 pub text_here : (past : Past) (state : SessionState) (k : ℕ) (rest : List ℕ) (frame : Frame) (tasks : TaskLists) (told : ToldState) → Stands past state

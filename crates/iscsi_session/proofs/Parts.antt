@@ -106,8 +106,19 @@ stands_stat past more state stat s one is =
     let count : suc (statuses past) ≡ statuses (answering more past) = omega (arith, statuses_answering more past, one) in
     record {
       lawful = lawful_answering more past s.lawful;
-      remembered = rw (p.params_is, is, count, p.tasks_is, sym (tasks_answering more past), p.transfers_is, sym (transfers_answering more past),
-      p.functions_is, sym (functions_answering more past), p.exchange_is, sym (exchange_answering more past)) refl;
+      remembered = rw (
+        p.params_is,
+        is,
+        count,
+        p.tasks_is,
+        sym (tasks_answering more past),
+        p.transfers_is,
+        sym (transfers_answering more past),
+        p.functions_is,
+        sym (functions_answering more past),
+        p.exchange_is,
+        sym (exchange_answering more past),
+      ) refl;
     }
 
 -- ---- a request is accepted

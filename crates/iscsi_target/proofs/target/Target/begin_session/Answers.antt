@@ -23,7 +23,7 @@ invariant_of-self g c =
       length-set c.self.inside.links.items c.args.c link ∙ c.self.invariant.0,
       as_many ∙ c.self.invariant.1,
       subst (λ (k : ℕ). All (λ (l : LinkState). IsWithin k l.phase) (set c.self.inside.links.items c.args.c link)) (sym as_many)
-      (All-set (λ (l : LinkState). IsWithin n l.phase) c.self.inside.links.items c.args.c link is c.self.invariant.2),
+          (All-set (λ (l : LinkState). IsWithin n l.phase) c.self.inside.links.items c.args.c link is c.self.invariant.2),
     )
 
 pub invariant_of-self-in-None : goal.invariant_of-self-in-None
