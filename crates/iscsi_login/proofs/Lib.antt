@@ -1,5 +1,6 @@
 pub mod Numbers
 pub mod Lists
+pub mod Placed
 pub mod After
 pub mod Ranges
 pub mod Replying

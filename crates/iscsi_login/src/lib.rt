@@ -19,6 +19,7 @@
 
 mod answer;
 mod directory;
+mod earlier;
 mod fault;
 mod keys;
 pub mod laws;

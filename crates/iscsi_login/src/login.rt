@@ -12,6 +12,7 @@ mod hearing;
 
 use crate::answer::first_piece;
 use crate::directory::Directory;
+use crate::earlier::Earlier;
 use crate::fault::{Fault, Memory};
 use crate::opening::Opening;
 use crate::params::Params;
@@ -21,7 +22,6 @@ use crate::session::Session;
 use crate::values::Values;
 use bytes::BytesMut;
 use iscsi_pdu::{Frame, Header, LoginRefusal, Stage};
-use iscsi_text::Pairs;
 use std::alloc::Global;
 use std::marker::Model;
 
@@ -37,7 +37,7 @@ pub struct Login {
     stage: Option<Stage>,
     answers: u32,
     kept: Vec<u8>,
-    earlier: Pairs,
+    earlier: Earlier,
     session: Option<Session>,
     values: Values,
     declared: bool,
@@ -76,7 +76,7 @@ impl Login {
             stage: None,
             answers: 0,
             kept: Vec::new(alloc),
-            earlier: Pairs::new(alloc),
+            earlier: Earlier::new(alloc),
             session: None,
             values: Values::new(),
             declared: false,

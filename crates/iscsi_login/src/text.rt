@@ -4,6 +4,7 @@ ghost use Rattle.std.specs.Prelude.{◌≡◌, ◌++◌, IfOk};
 ghost use Rattle.std.specs.List.{list_any};
 ghost use Rattle.iscsi_login.specs.Rules.{refusal_by, rules_of_keys, is_name_key, is_again as is_again_key, is_segment_refused as is_refused_segment};
 
+use crate::earlier::Earlier;
 use crate::fault::Memory;
 use crate::keys::is_answer;
 use crate::number::number_in;
@@ -30,7 +31,7 @@ fn is_name(key: &str) -> bool
 }
 
 /// The key was said before, and may not be said again so.
-fn is_again(earlier: &Pairs, key: &str, value: &str) -> bool
+fn is_again(earlier: &Earlier, key: &str, value: &str) -> bool
     ensures { result ≡ is_again_key earlier.now (key.now, value.now) }
 {
     match earlier.get(key) {
@@ -50,7 +51,7 @@ fn is_segment_refused(key: &str, value: &str) -> bool
 }
 
 /// One of the pairs says a key again.
-fn says_again(earlier: &Pairs, pairs: &Pairs) -> bool
+fn says_again(earlier: &Earlier, pairs: &Pairs) -> bool
     ensures { result ≡ list_any (is_again_key earlier.now) pairs.now }
 {
     for at in 0..pairs.len() {
@@ -76,7 +77,7 @@ fn says_no_segment(pairs: &Pairs) -> bool
 }
 
 /// Why the keys of a whole text are refused.
-pub(crate) fn refusal_of_keys(earlier: &Pairs, pairs: &Pairs) -> Option<LoginRefusal>
+pub(crate) fn refusal_of_keys(earlier: &Earlier, pairs: &Pairs) -> Option<LoginRefusal>
     ensures { result ≡ refusal_by (rules_of_keys earlier.now pairs.now) }
 {
     if says_again(earlier, pairs) || says_no_segment(pairs) {

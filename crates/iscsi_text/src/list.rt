@@ -1,6 +1,6 @@
 //! The list of pairs.
 
-ghost use Rattle.std.specs.Prelude.{◌≡◌, ◌==◌, ◌<◌, ◌++◌, ◌∷◌, [], length, slice_get, Some, OnOk, OnErr, IsOkUnless, option_map};
+ghost use Rattle.std.specs.Prelude.{◌≡◌, ◌==◌, ◌<◌, ◌^◌, ◌++◌, ◌∷◌, [], length, slice_get, Some, OnOk, OnErr, IsOkUnless, option_map};
 ghost use Rattle.iscsi_text.specs.Pairs.{value_of};
 
 use crate::fault::TextFault;
@@ -51,7 +51,8 @@ impl Pairs {
 
     /// How many pairs there are.
     pub fn len(&self) -> usize
-        ensures { result ≡ length self.now }
+        ensures value { result ≡ length self.now }
+        ensures bound { result < 2 ^ 63 }
     {
         self.list.len()
     }

@@ -89,9 +89,7 @@ impl Login {
         ensures err { OnErr result (self.new ≡ self.old) }
     {
         let values = self.values.with_pairs(&pairs);
-        if self.earlier.append(pairs).is_err() {
-            return Err(Memory);
-        }
+        self.earlier.append(pairs)?;
         self.kept = Vec::new(self.alloc);
         self.session = self.session.take().or(asked);
         self.values = values;
