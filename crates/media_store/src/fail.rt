@@ -85,6 +85,8 @@ impl<S: Store> Store for FailStore<S> {
 
     ghost steady = { λ _. false };
 
+    ghost reach = { λ store. S.Store.reach store.store };
+
     fn len(&mut self) -> Result<u64, StoreFault>
         ensures len { IfOk result (λ n. IsTrue (S.Store.honest (store_of self.new))
             → n ≡ length (S.Store.content (store_of self.old))) }
@@ -95,6 +97,7 @@ impl<S: Store> Store for FailStore<S> {
         ensures content { S.Store.content (store_of self.new) ≡ S.Store.content (store_of self.old) }
         ensures synced { (S.Store.synced (store_of self.new) && not (is_torn self.new))
             ≡ (S.Store.synced (store_of self.old) && not (is_torn self.old)) }
+        ensures reach { S.Store.reach (store_of self.new) ≡ S.Store.reach (store_of self.old) }
         ensures failures { failures_of self.new ≡ counted_calls result (failures_of self.old) }
         ensures counted { HasCounted Call.Len self.old self.new }
         ensures refused { is_refused Call.Len self.old ≡ true → IsErr result × (store_of self.new ≡ store_of self.old) }
@@ -119,6 +122,7 @@ impl<S: Store> Store for FailStore<S> {
         ensures content { S.Store.content (store_of self.new) ≡ S.Store.content (store_of self.old) }
         ensures synced { (S.Store.synced (store_of self.new) && not (is_torn self.new))
             ≡ (S.Store.synced (store_of self.old) && not (is_torn self.old)) }
+        ensures reach { S.Store.reach (store_of self.new) ≡ S.Store.reach (store_of self.old) }
         ensures failures { failures_of self.new ≡ counted_calls result (failures_of self.old) }
         ensures counted { HasCounted Call.ReadAt self.old self.new }
         ensures refused { is_refused Call.ReadAt self.old ≡ true → IsErr result × (store_of self.new ≡ store_of self.old) }
@@ -140,6 +144,7 @@ impl<S: Store> Store for FailStore<S> {
         ensures torn { OnErr result (KeepsOutside at (length bytes.now) (S.Store.content (store_of self.old)) (S.Store.content (store_of self.new))) }
         ensures honest { S.Store.honest (store_of self.new) ≡ S.Store.honest (store_of self.old) }
         ensures synced { (S.Store.synced (store_of self.new) && not (is_torn self.new)) ≡ false }
+        ensures reach { S.Store.reach (store_of self.new) ≡ S.Store.reach (store_of self.old) }
         ensures failures { failures_of self.new ≡ counted_calls result (failures_of self.old) }
         ensures counted { HasCounted Call.WriteAt self.old self.new }
         ensures refused { is_refused Call.WriteAt self.old ≡ true → IsErr result × (store_of self.new ≡ store_of self.old) }
@@ -147,6 +152,8 @@ impl<S: Store> Store for FailStore<S> {
             → S.Store.failures (store_of self.new) ≡ counted_calls result (S.Store.failures (store_of self.old)) }
         ensures passed_succeeds { is_refused Call.WriteAt self.old ≡ false → IsTrue (S.Store.steady (store_of self.old))
             → at + length bytes.now ≤ length (S.Store.content (store_of self.old)) → IsOk result }
+        ensures passed_grows { is_refused Call.WriteAt self.old ≡ false → IsTrue (S.Store.steady (store_of self.old))
+            → at + length bytes.now ≤ S.Store.reach (store_of self.old) → IsOk result }
     {
         if refuses(self.only, Call::WriteAt, &mut self.left) {
             self.torn = true;
@@ -161,6 +168,7 @@ impl<S: Store> Store for FailStore<S> {
         ensures torn { OnErr result (KeepsFront len (S.Store.content (store_of self.old)) (S.Store.content (store_of self.new))) }
         ensures honest { S.Store.honest (store_of self.new) ≡ S.Store.honest (store_of self.old) }
         ensures synced { (S.Store.synced (store_of self.new) && not (is_torn self.new)) ≡ false }
+        ensures reach { S.Store.reach (store_of self.new) ≡ S.Store.reach (store_of self.old) }
         ensures failures { failures_of self.new ≡ counted_calls result (failures_of self.old) }
         ensures counted { HasCounted Call.SetLen self.old self.new }
         ensures refused { is_refused Call.SetLen self.old ≡ true → IsErr result × (store_of self.new ≡ store_of self.old) }
@@ -168,6 +176,8 @@ impl<S: Store> Store for FailStore<S> {
             → S.Store.failures (store_of self.new) ≡ counted_calls result (S.Store.failures (store_of self.old)) }
         ensures passed_succeeds { is_refused Call.SetLen self.old ≡ false → IsTrue (S.Store.steady (store_of self.old))
             → len ≤ length (S.Store.content (store_of self.old)) → IsOk result }
+        ensures passed_grows { is_refused Call.SetLen self.old ≡ false → IsTrue (S.Store.steady (store_of self.old))
+            → len ≤ S.Store.reach (store_of self.old) → IsOk result }
     {
         if refuses(self.only, Call::SetLen, &mut self.left) {
             self.torn = true;
@@ -182,6 +192,7 @@ impl<S: Store> Store for FailStore<S> {
         ensures honest { S.Store.honest (store_of self.new) ≡ S.Store.honest (store_of self.old) }
         ensures synced { (S.Store.synced (store_of self.new) && not (is_torn self.new)) ≡ (if is_ok result then true
             else (S.Store.synced (store_of self.old) && not (is_torn self.old))) }
+        ensures reach { S.Store.reach (store_of self.new) ≡ S.Store.reach (store_of self.old) }
         ensures failures { failures_of self.new ≡ counted_calls result (failures_of self.old) }
         ensures counted { HasCounted Call.Sync self.old self.new }
         ensures refused { is_refused Call.Sync self.old ≡ true → IsErr result × (store_of self.new ≡ store_of self.old) }

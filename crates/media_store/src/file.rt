@@ -65,6 +65,8 @@ impl<C: FileCalls, S: Start> Store for FileStore<C, S> {
 
     ghost steady = { λ _. false };
 
+    ghost reach = { λ _. 0 };
+
     fn len(&mut self) -> Result<u64, StoreFault> {
         let end = self.calls.end();
         counted(end, &mut self.failures)

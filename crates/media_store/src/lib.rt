@@ -4,7 +4,8 @@
 //! trait [`Store`] says what each call does to these bytes. What it says of bytes that were read is said
 //! where the store is honest after the call: every answer so far agreed with the content.
 //!
-//! - [`MemStore`] keeps the bytes in memory. It is always honest, and calls within its content succeed.
+//! - [`MemStore`] keeps the bytes in memory. It is always honest, and calls succeed within its content and up to the
+//!   length that it was made for.
 //! - [`FileStore`] keeps them in a file. It notes each call of the system with its answer ([`FileCalls`]),
 //!   so its content is what the file held when it was opened ([`Start`]), after these calls, and it is
 //!   honest exactly as long as the answers agree with that.

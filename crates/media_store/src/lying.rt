@@ -51,6 +51,8 @@ impl<S: Store> Store for LyingStore<S> {
 
     ghost steady = { λ _. false };
 
+    ghost reach = { λ store. S.Store.reach store.store };
+
     fn len(&mut self) -> Result<u64, StoreFault>
         ensures len { IfOk result (λ n. IsTrue (S.Store.honest (store_of self.new) && not (has_lied self.new))
             → n ≡ length (S.Store.content (store_of self.old))) }
@@ -63,6 +65,7 @@ impl<S: Store> Store for LyingStore<S> {
             → IsTrue (S.Store.honest (store_of self.old) && not (has_lied self.old)) }
         ensures content { S.Store.content (store_of self.new) ≡ S.Store.content (store_of self.old) }
         ensures synced { S.Store.synced (store_of self.new) ≡ S.Store.synced (store_of self.old) }
+        ensures reach { S.Store.reach (store_of self.new) ≡ S.Store.reach (store_of self.old) }
         ensures failures { S.Store.failures (store_of self.new) ≡ counted_calls result (S.Store.failures (store_of self.old)) }
         ensures kept { HasKept self.old self.new }
     {
@@ -79,6 +82,7 @@ impl<S: Store> Store for LyingStore<S> {
             → IsTrue (S.Store.honest (store_of self.old) && not (has_lied self.old)) }
         ensures content { S.Store.content (store_of self.new) ≡ S.Store.content (store_of self.old) }
         ensures synced { S.Store.synced (store_of self.new) ≡ S.Store.synced (store_of self.old) }
+        ensures reach { S.Store.reach (store_of self.new) ≡ S.Store.reach (store_of self.old) }
         ensures failures { S.Store.failures (store_of self.new) ≡ counted_calls result (S.Store.failures (store_of self.old)) }
         ensures told { HasTold (length buf.old) (is_ok result) self.old self.new }
         ensures lie { OnOk result (IsTrue (S.Store.honest (store_of self.new))

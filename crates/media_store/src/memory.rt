@@ -101,6 +101,8 @@ impl Store for MemStore {
 
     ghost steady = { λ _. true };
 
+    ghost reach = { λ store. store.most };
+
     fn len(&mut self) -> Result<u64, StoreFault>
         ensures value { result ≡ Ok (length self.old.content) }
         ensures after { self.new ≡ self.old }

@@ -27,8 +27,12 @@ pub trait Store {
     /// has fallen it stays so.
     ghost honest: { Self → Bool };
 
-    /// Whether calls within the content always succeed, and agree with it.
+    /// Whether calls within the content always succeed, and agree with it, and so do those that let it grow up to
+    /// `reach`.
     ghost steady: { Self → Bool };
+
+    /// How many bytes a steady store has room for.
+    ghost reach: { Self → ℕ };
 
     /// How many bytes there are.
     fn len(&mut self) -> Result<u64, StoreFault>
@@ -40,6 +44,7 @@ pub trait Store {
         ensures synced { synced self.new ≡ synced self.old }
         ensures failures { failures self.new ≡ counted result (failures self.old) }
         ensures steady { steady self.new ≡ steady self.old }
+        ensures reach { reach self.new ≡ reach self.old }
         ensures succeeds { IsTrue (steady self.old) → IsOk result × (honest self.new ≡ honest self.old) };
 
     /// Fills a buffer with the bytes from an offset on. It fails where there are fewer.
@@ -52,6 +57,7 @@ pub trait Store {
         ensures synced { synced self.new ≡ synced self.old }
         ensures failures { failures self.new ≡ counted result (failures self.old) }
         ensures steady { steady self.new ≡ steady self.old }
+        ensures reach { reach self.new ≡ reach self.old }
         ensures succeeds { IsTrue (steady self.old) → at + length buf.old ≤ length (content self.old)
             → IsOk result × (honest self.new ≡ honest self.old) };
 
@@ -64,7 +70,9 @@ pub trait Store {
         ensures synced { synced self.new ≡ false }
         ensures failures { failures self.new ≡ counted result (failures self.old) }
         ensures steady { steady self.new ≡ steady self.old }
-        ensures succeeds { IsTrue (steady self.old) → at + length bytes.now ≤ length (content self.old) → IsOk result };
+        ensures reach { reach self.new ≡ reach self.old }
+        ensures succeeds { IsTrue (steady self.old) → at + length bytes.now ≤ length (content self.old) → IsOk result }
+        ensures grows { IsTrue (steady self.old) → at + length bytes.now ≤ reach self.old → IsOk result };
 
     /// Cuts the content to a length, or fills it up with zeros. Where it fails, the end may lie
     /// anywhere between.
@@ -75,7 +83,9 @@ pub trait Store {
         ensures synced { synced self.new ≡ false }
         ensures failures { failures self.new ≡ counted result (failures self.old) }
         ensures steady { steady self.new ≡ steady self.old }
-        ensures succeeds { IsTrue (steady self.old) → len ≤ length (content self.old) → IsOk result };
+        ensures reach { reach self.new ≡ reach self.old }
+        ensures succeeds { IsTrue (steady self.old) → len ≤ length (content self.old) → IsOk result }
+        ensures grows { IsTrue (steady self.old) → len ≤ reach self.old → IsOk result };
 
     /// Waits until what was written is on the medium.
     fn sync(&mut self) -> Result<(), StoreFault>
@@ -84,5 +94,6 @@ pub trait Store {
         ensures synced { synced self.new ≡ (if is_ok result then true else synced self.old) }
         ensures failures { failures self.new ≡ counted result (failures self.old) }
         ensures steady { steady self.new ≡ steady self.old }
+        ensures reach { reach self.new ≡ reach self.old }
         ensures succeeds { IsTrue (steady self.old) → IsOk result };
 }

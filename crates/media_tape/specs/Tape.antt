@@ -26,6 +26,7 @@ pub record TapeState : Type 0 where
   pub failures : ℕ
   pub honest : Bool
   pub steady : Bool
+  pub reach : ℕ
 
 abbrev pub items : TapeState → List Item
 items tape = tape.before ++ tape.after

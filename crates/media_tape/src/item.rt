@@ -25,6 +25,7 @@ fn number_at<S: Store>(store: &mut S, at: u64) -> Result<u32, StoreFault>
     ensures synced { S.Store.synced store.new ≡ S.Store.synced store.old }
     ensures failures { S.Store.failures store.new ≡ counted result (S.Store.failures store.old) }
     ensures steady { S.Store.steady store.new ≡ S.Store.steady store.old }
+    ensures reach { S.Store.reach store.new ≡ S.Store.reach store.old }
     ensures succeeds { IsTrue (S.Store.steady store.old) → at + 4 ≤ length (S.Store.content store.old)
         → IsOk result × (S.Store.honest store.new ≡ S.Store.honest store.old) }
 {
@@ -48,6 +49,7 @@ pub(crate) fn item_at<S: Store>(
     ensures synced { S.Store.synced store.new ≡ S.Store.synced store.old }
     ensures failures { S.Store.failures store.new ≡ counted result (S.Store.failures store.old) }
     ensures steady { S.Store.steady store.new ≡ S.Store.steady store.old }
+    ensures reach { S.Store.reach store.new ≡ S.Store.reach store.old }
     ensures succeeds { IsTrue (S.Store.steady store.old) → end ≤ length (S.Store.content store.old)
         → IsOk result × (S.Store.honest store.new ≡ S.Store.honest store.old) }
 {
@@ -78,6 +80,7 @@ pub(crate) fn item_before<S: Store>(
     ensures synced { S.Store.synced store.new ≡ S.Store.synced store.old }
     ensures failures { S.Store.failures store.new ≡ counted result (S.Store.failures store.old) }
     ensures steady { S.Store.steady store.new ≡ S.Store.steady store.old }
+    ensures reach { S.Store.reach store.new ≡ S.Store.reach store.old }
     ensures succeeds { IsTrue (S.Store.steady store.old) → place ≤ length (S.Store.content store.old)
         → IsOk result × (S.Store.honest store.new ≡ S.Store.honest store.old) }
 {
@@ -104,6 +107,7 @@ pub(crate) fn data_at<S: Store>(
     ensures synced { S.Store.synced store.new ≡ S.Store.synced store.old }
     ensures failures { S.Store.failures store.new ≡ counted result (S.Store.failures store.old) }
     ensures steady { S.Store.steady store.new ≡ S.Store.steady store.old }
+    ensures reach { S.Store.reach store.new ≡ S.Store.reach store.old }
     ensures succeeds { IsTrue (S.Store.steady store.old) → place + length + 8 ≤ length_of (S.Store.content store.old)
         → IsOk result × (S.Store.honest store.new ≡ S.Store.honest store.old) }
 {

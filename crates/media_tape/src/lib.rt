@@ -14,7 +14,8 @@
 //! behind the position, a record that is written stands in the place of all that was behind it and in the
 //! store nothing follows it, and a position is set behind as many items as there are. A read or a
 //! positioning that fails leaves the tape as it was; a write or a cut that fails leaves the items before
-//! the position. A fault is told only where the store's count of failures rose in that call.
+//! the position. A fault is told only where the store's count of failures rose in that call. Over a steady
+//! store that is honest and has room for the capacity, as one in memory, no call fails.
 //! [`Tape::open`] says where no whole item begins.
 #![tactic(auto)]
 

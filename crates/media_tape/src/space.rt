@@ -53,6 +53,7 @@ pub(crate) fn space_toward<S: Store>(
     ensures synced { S.Store.synced store.new ≡ S.Store.synced store.old }
     ensures failures { S.Store.failures store.new ≡ counted result (S.Store.failures store.old) }
     ensures steady { S.Store.steady store.new ≡ S.Store.steady store.old }
+    ensures reach { S.Store.reach store.new ≡ S.Store.reach store.old }
     ensures succeeds { IsTrue (S.Store.steady store.old) → all.place ≤ length (S.Store.content store.old)
         → IsOk result × (S.Store.honest store.new ≡ S.Store.honest store.old) }
 {
@@ -83,6 +84,7 @@ pub(crate) fn space_on<S: Store>(
     ensures synced { S.Store.synced store.new ≡ S.Store.synced store.old }
     ensures failures { S.Store.failures store.new ≡ counted result (S.Store.failures store.old) }
     ensures steady { S.Store.steady store.new ≡ S.Store.steady store.old }
+    ensures reach { S.Store.reach store.new ≡ S.Store.reach store.old }
     ensures succeeds { IsTrue (S.Store.steady store.old) → all.place ≤ length (S.Store.content store.old)
         → IsOk result × (S.Store.honest store.new ≡ S.Store.honest store.old) }
 {
@@ -131,6 +133,7 @@ pub(crate) fn space_back<S: Store>(
     ensures synced { S.Store.synced store.new ≡ S.Store.synced store.old }
     ensures failures { S.Store.failures store.new ≡ counted result (S.Store.failures store.old) }
     ensures steady { S.Store.steady store.new ≡ S.Store.steady store.old }
+    ensures reach { S.Store.reach store.new ≡ S.Store.reach store.old }
     ensures succeeds { IsTrue (S.Store.steady store.old) → all.place ≤ length (S.Store.content store.old)
         → IsOk result × (S.Store.honest store.new ≡ S.Store.honest store.old) }
 {

@@ -52,6 +52,7 @@ impl<S: Store> Model for Tape<S> {
       failures = S.Store.failures tape.store;
       honest = S.Store.honest tape.store;
       steady = S.Store.steady tape.store;
+      reach = S.Store.reach tape.store;
     } };
 
     ghost invariant = { λ tape. AreNumbers tape.position tape.place tape.count tape.end tape.capacity
@@ -71,6 +72,7 @@ impl<S: Store> Tape<S> {
         ensures synced { IfOk result (λ tape. tape.synced ≡ S.Store.synced store) }
         ensures failures { IfOk result (λ tape. tape.failures ≡ S.Store.failures store) }
         ensures steady { IfOk result (λ tape. tape.steady ≡ S.Store.steady store) }
+        ensures reach { IfOk result (λ tape. tape.reach ≡ S.Store.reach store) }
         ensures back { IfOk result (λ tape. IsTrue tape.honest → IsTrue (S.Store.honest store)) }
         ensures stays { IfOk result (λ tape. IsTrue (S.Store.steady store) → IsTrue (S.Store.honest store) → IsTrue tape.honest) }
         ensures succeeds { IsTrue (S.Store.steady store) → IsTrue (S.Store.honest store) → is_tape (S.Store.content store) ≡ true
@@ -173,6 +175,7 @@ impl<S: Store> Tape<S> {
           synced = self.new.synced;
           failures = counted result self.old.failures;
         } }
+        ensures succeeds { IsTrue self.old.steady → self.old.capacity ≤ self.old.reach → IsOk result }
     {
         let size = bytes.len() as u64 + LENGTHS;
         if bytes.is_empty() {
@@ -211,6 +214,7 @@ impl<S: Store> Tape<S> {
           synced = self.new.synced;
           failures = counted result self.old.failures;
         } }
+        ensures succeeds { IsTrue self.old.steady → self.old.capacity ≤ self.old.reach → IsOk result }
     {
         if count == 0 {
             self.store.sync()?;
@@ -249,6 +253,7 @@ impl<S: Store> Tape<S> {
           synced = false;
           failures = counted result self.old.failures;
         } }
+        ensures succeeds { IsTrue self.old.steady → IsTrue self.old.honest → IsOk result }
     {
         self.count = self.position;
         self.end = self.place;

@@ -26,6 +26,7 @@ pub(crate) fn walk<S: Store>(store: &mut S, end: u64) -> Result<Walked, StoreFau
     ensures synced { S.Store.synced store.new ≡ S.Store.synced store.old }
     ensures failures { S.Store.failures store.new ≡ counted result (S.Store.failures store.old) }
     ensures steady { S.Store.steady store.new ≡ S.Store.steady store.old }
+    ensures reach { S.Store.reach store.new ≡ S.Store.reach store.old }
     ensures succeeds { IsTrue (S.Store.steady store.old) → end ≤ length (S.Store.content store.old)
         → IsOk result × (S.Store.honest store.new ≡ S.Store.honest store.old) }
 {
@@ -49,6 +50,7 @@ pub(crate) fn walk_to<S: Store>(store: &mut S, number: u64, end: u64) -> Result<
     ensures synced { S.Store.synced store.new ≡ S.Store.synced store.old }
     ensures failures { S.Store.failures store.new ≡ counted result (S.Store.failures store.old) }
     ensures steady { S.Store.steady store.new ≡ S.Store.steady store.old }
+    ensures reach { S.Store.reach store.new ≡ S.Store.reach store.old }
     ensures succeeds { IsTrue (S.Store.steady store.old) → end ≤ length (S.Store.content store.old)
         → IsOk result × (S.Store.honest store.new ≡ S.Store.honest store.old) }
 {

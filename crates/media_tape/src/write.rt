@@ -24,6 +24,8 @@ pub(crate) fn write_record<S: Store>(
     ensures synced { S.Store.synced store.new ≡ false }
     ensures failures { S.Store.failures store.new ≡ counted result (S.Store.failures store.old) }
     ensures steady { S.Store.steady store.new ≡ S.Store.steady store.old }
+    ensures reach { S.Store.reach store.new ≡ S.Store.reach store.old }
+    ensures succeeds { IsTrue (S.Store.steady store.old) → place + length bytes.now + 8 ≤ S.Store.reach store.old → IsOk result }
 {
     let mut length = [0; 4];
     BigEndian::write_u32(&mut length, bytes.len() as u32);

@@ -1,6 +1,6 @@
 //! Filemarks written to a store from a place on: two lengths of zero each.
 
-ghost use Rattle.std.specs.Prelude.{◌≡◌, ◌+◌, ◌*◌, ◌≤◌, ◌<◌, ◌^◌, ◌++◌, false, length, take, replicate, OnOk, OnErr};
+ghost use Rattle.std.specs.Prelude.{◌≡◌, ◌+◌, ◌*◌, ◌≤◌, ◌<◌, ◌^◌, ◌++◌, false, length, take, replicate, IsTrue, IsOk, OnOk, OnErr};
 ghost use Rattle.media_store.specs.Failures.{counted};
 ghost use Rattle.media_tape.specs.Writing.{KeepsBefore};
 
@@ -19,6 +19,8 @@ pub(crate) fn write_zeros<S: Store>(store: &mut S, place: u64, size: u64) -> Res
     ensures synced { S.Store.synced store.new ≡ false }
     ensures failures { S.Store.failures store.new ≡ counted result (S.Store.failures store.old) }
     ensures steady { S.Store.steady store.new ≡ S.Store.steady store.old }
+    ensures reach { S.Store.reach store.new ≡ S.Store.reach store.old }
+    ensures succeeds { IsTrue (S.Store.steady store.old) → place + size ≤ S.Store.reach store.old → IsOk result }
 {
     let zeros = [0; PART as usize];
     let mut done = 0;

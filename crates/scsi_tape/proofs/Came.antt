@@ -1,6 +1,6 @@
 -- How a command to a tape came out, by what the call to its medium did.
-use Rattle.std.proofs.Common.{◌≡◌, ◌≢◌, ℕ, zero, suc, ◌≤◌, List, [], length, Bool, true, false, ◌||◌, IsTrue, refl, sym, ap, ◌∙◌, inl, inr, arith}
-use Rattle.std.proofs.lemmas.Bool.{false≢true}
+use Rattle.std.proofs.Common.{◌≡◌, ◌≢◌, ℕ, zero, suc, ◌≤◌, List, [], length, Bool, true, false, ◌||◌, nat_le, IsTrue, refl, sym, ap, ◌∙◌, inl, inr, arith}
+use Rattle.std.proofs.lemmas.Bool.{false≢true, and_parts, leb-true}
 use Rattle.std.proofs.Math.Nat.{suc-ne-zero}
 use Rattle.media_store.specs.Failures.{risen}
 use Rattle.media_tape.specs.Tape.{TapeState, lost}
@@ -11,7 +11,7 @@ use Rattle.scsi_tape.specs.TapeSense.{unrecovered_read, write_error}
 use Rattle.scsi_tape.specs.State.{TapeUnitState}
 use Rattle.scsi_tape.specs.Commands.{tape_outcome, tape_left}
 use Rattle.scsi_tape.specs.CameOut.{AsDefined, Dishonest, ReadFailed, WriteFailed, Standing, standing_of, with_standing}
-use Rattle.scsi_tape.specs.CameOut.{tape_touch, IsTapeDone, KeepsFront}
+use Rattle.scsi_tape.specs.CameOut.{tape_touch, IsTapeDone, KeepsFront, is_steady}
 
 abbrev pub with_tape : TapeUnitState → TapeState → TapeUnitState
 with_tape unit tape = record unit { tape = tape }
@@ -23,6 +23,13 @@ some_touch false writes is = absurd (false≢true is)
 other_touch : (reads writes : Bool) → IsTrue writes → (reads || writes) ≡ true
 other_touch true writes is = refl
 other_touch false writes is = is
+
+-- the store of a tape on which no call fails
+steady_store : (tape : TapeState) → IsTrue (is_steady tape) → IsTrue tape.steady
+steady_store tape steady = (and_parts tape.steady (nat_le tape.capacity tape.reach) steady).0
+
+room_store : (tape : TapeState) → IsTrue (is_steady tape) → tape.capacity ≤ tape.reach
+room_store tape steady = leb-true tape.capacity tape.reach (and_parts tape.steady (nat_le tape.capacity tape.reach) steady).1
 
 module _ (command : TapeCommand) (bytes : List ℕ) (unit : TapeUnitState) where
   -- it did as its definition says
@@ -39,14 +46,16 @@ module _ (command : TapeCommand) (bytes : List ℕ) (unit : TapeUnitState) where
         → (IsTrue new.honest → new ≡ tape_left command bytes unit.tape)
         → (IsTrue new.honest → done ≡ tape_outcome command bytes unit.tape)
         → length done.given ≤ most_record
+        → (IsTrue unit.tape.steady → IsTrue unit.tape.honest → new.honest ≡ unit.tape.honest)
         → IsTapeDone command bytes unit (with_tape unit new) done
-    reads_at true is reads same stands told few = as_defined new done (stands is) (told is)
-    reads_at false is reads same stands told few = record {
+    reads_at true is reads same stands told few sure = as_defined new done (stands is) (told is)
+    reads_at false is reads same stands told few sure = record {
       came = Dishonest done left;
       possible = (
         some_touch (tape_touch command).reads (tape_touch command).writes reads,
         record { back = λ honest. absurd (false≢true honest); kept = λ none. absurd (false≢true (sym none ∙ reads)) },
         few,
+        λ honest steady. false≢true (sym is ∙ sure (steady_store unit.tape steady) honest ∙ honest),
       );
       unit = ap (with_tape unit) (same ∙ ap (λ (h : Bool). record (with_standing left unit.tape) { honest = h }) is);
       told = refl;
@@ -57,6 +66,7 @@ module _ (command : TapeCommand) (bytes : List ℕ) (unit : TapeUnitState) where
         → (IsTrue new.honest → new ≡ tape_left command bytes unit.tape)
         → (IsTrue new.honest → done ≡ tape_outcome command bytes unit.tape)
         → length done.given ≤ most_record
+        → (IsTrue unit.tape.steady → IsTrue unit.tape.honest → new.honest ≡ unit.tape.honest)
         → IsTapeDone command bytes unit (with_tape unit new) done
     reads = reads_at new.honest refl
 
@@ -74,6 +84,7 @@ module _ (command : TapeCommand) (bytes : List ℕ) (unit : TapeUnitState) where
         other_touch (tape_touch command).reads (tape_touch command).writes writes,
         record { back = λ honest. absurd (false≢true honest); kept = λ none. sym is },
         few,
+        λ honest steady. false≢true (sym is ∙ honest),
       );
       unit = ap (with_tape unit) (same ∙ ap (λ (h : Bool). record (with_standing left unit.tape) { honest = h }) is);
       told = refl;
@@ -91,10 +102,15 @@ module _ (command : TapeCommand) (bytes : List ℕ) (unit : TapeUnitState) where
   pub read_fails : (new : TapeState) → (tape_touch command).reads ≡ true
       → new ≡ record unit.tape { failures = risen unit.tape.failures; honest = new.honest }
       → (IsTrue new.honest → IsTrue unit.tape.honest)
+      → (IsTrue unit.tape.steady → IsTrue unit.tape.honest → ⊥)
       → IsTapeDone command bytes unit (with_tape unit new) (check_condition unrecovered_read)
-  read_fails new reads same back = record {
+  read_fails new reads same back sure = record {
     came = ReadFailed new.honest;
-    possible = (reads, record { back = back; kept = λ none. absurd (false≢true (sym none ∙ reads)) });
+    possible = (
+      reads,
+      record { back = back; kept = λ none. absurd (false≢true (sym none ∙ reads)) },
+      λ honest steady. sure (steady_store unit.tape steady) honest,
+    );
     unit = ap (with_tape unit) same;
     told = refl;
   }
@@ -103,10 +119,11 @@ module _ (command : TapeCommand) (bytes : List ℕ) (unit : TapeUnitState) where
   pub write_fails : (left : Standing) (new : TapeState) → (tape_touch command).writes ≡ true
       → new ≡ record (with_standing left unit.tape) { failures = risen unit.tape.failures }
       → (IsTrue unit.tape.honest → KeepsFront unit.tape left)
+      → (IsTrue unit.tape.steady → IsTrue unit.tape.honest → unit.tape.capacity ≤ unit.tape.reach → ⊥)
       → IsTapeDone command bytes unit (record (with_tape unit new) { is_working = false }) (check_condition write_error)
-  write_fails left new writes same keeps = record {
+  write_fails left new writes same keeps sure = record {
     came = WriteFailed left;
-    possible = (writes, keeps);
+    possible = (writes, keeps, λ honest steady. sure (steady_store unit.tape steady) honest (room_store unit.tape steady));
     unit = ap (λ (tape : TapeState). record unit { tape = tape; is_working = false }) same;
     told = refl;
   }

@@ -13,8 +13,8 @@ use Rattle.scsi_tape.proofs.Records.{not_zero}
 use Rattle.scsi_tape.specs.TapeSense.{overflow, write_error}
 use Rattle.scsi_tape.specs.State.{TapeUnitState}
 use Rattle.scsi_tape.specs.Commands.{tape_outcome, tape_left, marks_outcome}
-use Rattle.scsi_tape.specs.CameOut.{TapeCame, AsDefined, Dishonest, ReadFailed, WriteFailed, tape_touch, tape_after, tape_told, IsTapePossible}
-use Rattle.scsi_tape.specs.CameOut.{IsTapeDone, tape_done, IsTrustedTape, WereMarked, AreSynced}
+use Rattle.scsi_tape.specs.CameOut.{TapeCame, AsDefined, Dishonest, ReadFailed, WriteFailed, tape_touch, tape_after, tape_told, TapeTouch, IsTapePossible}
+use Rattle.scsi_tape.specs.CameOut.{IsTapeDone, tape_done, is_steady, IsTrustedTape, WereMarked, AreSynced}
 
 -- a store that is still honest, and did not fail
 trusted_came : (came : TapeCame) (defined : TapeState) (old : TapeUnitState) → IsTrustedTape old.tape (tape_after came defined old).tape
@@ -23,6 +23,20 @@ trusted_came AsDefined defined old trusted = refl
 trusted_came (Dishonest told left) defined old trusted = absurd (false≢true trusted.honest)
 trusted_came (ReadFailed honest) defined old trusted = absurd (omega (arith, trusted.none.same, trusted.none.known))
 trusted_came (WriteFailed left) defined old trusted = absurd (omega (arith, trusted.none.same, trusted.none.known))
+
+-- a tape on which no call fails
+sure_came : (came : TapeCame) (touch : TapeTouch) (tape : TapeState) → IsTapePossible came touch tape → IsTrue tape.honest
+    → IsTrue (is_steady tape) → came ≡ AsDefined
+sure_came AsDefined touch tape possible honest steady = refl
+sure_came (Dishonest told left) touch tape possible honest steady = absurd (possible.3 honest steady)
+sure_came (ReadFailed is) touch tape possible honest steady = absurd (possible.2 honest steady)
+sure_came (WriteFailed left) touch tape possible honest steady = absurd (possible.2 honest steady)
+
+pub sure : (command : TapeCommand) (bytes : List ℕ) (old new : TapeUnitState) (done : Outcome) → IsTapeDone command bytes old new done
+    → IsTrue old.tape.honest → IsTrue (is_steady old.tape) → (new, done) ≡ tape_done command bytes old
+sure command bytes old new done came honest steady =
+    let is = sure_came came.came (tape_touch command) old.tape came.possible honest steady in
+    rw (came.unit, came.told, is) refl
 
 pub exact : (command : TapeCommand) (bytes : List ℕ) (old new : TapeUnitState) (done : Outcome) → IsTapeDone command bytes old new done
     → IsTrustedTape old.tape new.tape

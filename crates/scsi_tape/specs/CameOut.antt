@@ -1,5 +1,5 @@
 -- How a command to a tape came out, as its store has it.
-use Rattle.std.specs.Prelude.{◌≡◌, ℕ, ◌≤◌, ◌⊎◌, nat_lt, List, [], length, Bool, true, false, ◌||◌, IsTrue}
+use Rattle.std.specs.Prelude.{◌≡◌, ℕ, ◌≤◌, ◌⊎◌, nat_lt, nat_le, List, [], length, Bool, true, false, ◌||◌, ◌&&◌, IsTrue}
 use Rattle.media_store.specs.Failures.{risen, NoneFailed}
 use Rattle.media_tape.specs.Items.{Item}
 use Rattle.media_tape.specs.Tape.{TapeState}
@@ -75,13 +75,21 @@ pub record KeepsFront (old : TapeState) (left : Standing) : Type 0 where
   pub before : left.before ≡ old.before
   pub after : (left.after ≡ []) ⊎ (left.after ≡ old.after)
 
--- own: how a command can come out: it fails, or tells what is not there, only by what it does with its medium
+-- own: whether no call on it fails, as long as it is honest: its store is steady, and has room for the capacity
+abbrev pub is_steady : TapeState → Bool
+is_steady tape = tape.steady && nat_le tape.capacity tape.reach
+
+abbrev CanFail : TapeState → Type 0
+CanFail tape = IsTrue tape.honest → IsTrue (is_steady tape) → ⊥
+
+-- own: how a command can come out: it fails, or tells what is not there, only by what it does with its medium, and never
+-- where no call on the tape can fail
 abbrev pub IsTapePossible : TapeCame → TapeTouch → TapeState → Type 0
 IsTapePossible AsDefined touch old = Unit {0}
 IsTapePossible (Dishonest told left) touch old =
-    IsTrue (touch.reads || touch.writes) × IsTapeHonesty touch old.honest false × (length told.given ≤ most_record)
-IsTapePossible (ReadFailed honest) touch old = IsTrue touch.reads × IsTapeHonesty touch old.honest honest
-IsTapePossible (WriteFailed left) touch old = IsTrue touch.writes × (IsTrue old.honest → KeepsFront old left)
+    IsTrue (touch.reads || touch.writes) × IsTapeHonesty touch old.honest false × (length told.given ≤ most_record) × CanFail old
+IsTapePossible (ReadFailed honest) touch old = IsTrue touch.reads × IsTapeHonesty touch old.honest honest × CanFail old
+IsTapePossible (WriteFailed left) touch old = IsTrue touch.writes × (IsTrue old.honest → KeepsFront old left) × CanFail old
 
 -- own: the unit after it, where its definition leaves this tape
 abbrev pub tape_after : TapeCame → TapeState → TapeUnitState → TapeUnitState

@@ -21,6 +21,7 @@ tape_of before after = record {
   failures = 0;
   honest = true;
   steady = true;
+  reach = 100;
 }
 
 abbrev five : List ℕ

@@ -1,6 +1,6 @@
 //! The commands that give data.
 
-ghost use Rattle.std.specs.Prelude.{◌≡◌, ◌+◌, ◌≤◌, ◌<◌, ℕ, List, [], length, take, drop, IsTrue, IfOk, OnOk, OnErr};
+ghost use Rattle.std.specs.Prelude.{◌≡◌, ◌+◌, ◌≤◌, ◌<◌, ℕ, List, [], length, take, drop, IsTrue, IsOk, IfOk, OnOk, OnErr};
 ghost use Rattle.media_store.specs.Failures.{counted, risen};
 ghost use Rattle.media_tape.specs.Items.{most_bytes};
 ghost use Rattle.media_tape.specs.Tape.{read_told, passed_length, first_data, tape_read};
@@ -80,6 +80,7 @@ fn read_into<S: Store>(
       failures = counted result tape.old.failures;
     } }
     ensures back { IsTrue tape.new.honest → IsTrue tape.old.honest }
+    ensures succeeds { IsTrue tape.old.steady → IsTrue tape.old.honest → IsOk result × (tape.new.honest ≡ tape.old.honest) }
 {
     buffer.advance_mut(HEADROOM + room);
     tape.read(&mut buffer.as_mut_slice()[HEADROOM..])

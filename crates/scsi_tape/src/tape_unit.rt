@@ -1,10 +1,10 @@
 //! The tape of a unit, and any command to it.
 
-ghost use Rattle.std.specs.Prelude.{◌≡◌, ◌≤◌, [], true, length};
+ghost use Rattle.std.specs.Prelude.{◌≡◌, ◌≤◌, [], true, length, IsTrue};
 ghost use Rattle.scsi_cdb.specs.Record.{most_record};
 ghost use Rattle.scsi_tape.specs.State.{not_ready};
 ghost use Rattle.scsi_tape.specs.Commands.{bytes_needed, most_of, room_needed};
-ghost use Rattle.scsi_tape.specs.CameOut.{IsTapeDone, tape_done, IsTrustedTape, AreSynced};
+ghost use Rattle.scsi_tape.specs.CameOut.{IsTapeDone, tape_done, is_steady, IsTrustedTape, AreSynced};
 
 use bytes::BytesMut;
 use media_store::Store;
@@ -125,6 +125,7 @@ impl<S: Store> TapeUnit<S> {
         requires enough { bytes_needed command ≤ length «data».now }
         ensures done { IsTapeDone command «data».now self.old self.new result }
         ensures exact { IsTrustedTape self.old.tape self.new.tape → (self.new, result) ≡ tape_done command «data».now self.old }
+        ensures sure { IsTrue self.old.tape.honest → IsTrue (is_steady self.old.tape) → (self.new, result) ≡ tape_done command «data».now self.old }
         ensures synced { AreSynced command self.old.tape self.new.tape result }
         ensures given { length result.given ≤ most_record }
     {

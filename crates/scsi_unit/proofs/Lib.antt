@@ -1,4 +1,6 @@
 pub mod Lists
+pub mod Numbers
+pub mod Places
 pub mod CameOut
 pub mod Room
 pub mod DiskDone

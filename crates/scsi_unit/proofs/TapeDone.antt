@@ -1,5 +1,5 @@
 -- How a command to a unit came out, by how it came out on its tape.
-use Rattle.std.proofs.Common.{◌≡◌, ℕ, ◌==◌, List, [], ◌∷◌, take, Bool, true, false, IsTrue, ◌||◌, Option, Some, None, refl, sym, ap, subst, ◌∙◌}
+use Rattle.std.proofs.Common.{◌≡◌, ℕ, ◌==◌, List, [], ◌∷◌, take, Bool, true, false, IsTrue, ◌||◌, Some, None, refl, sym, ap, subst, ◌∙◌}
 use Rattle.std.specs.Prelude.{is_some, if◌then◌else◌}
 use Rattle.std.proofs.lemmas.Bool.{false≢true}
 use Rattle.media_tape.specs.Items.{Item}
@@ -15,11 +15,11 @@ use Rattle.scsi_cdb.specs.declared.tape.TapeCommand.{TapeCommand}
 use Rattle.scsi_cdb.specs.declared.tape.TapeCommand.TheVariants.{Rewind, ReadBlockLimits, Read, Write, WriteFilemarks, Space, SpaceToEndOfData}
 use Rattle.scsi_cdb.specs.declared.tape.TapeCommand.TheVariants.{Erase, LoadUnload, Locate, ReadPosition}
 use Rattle.scsi_tape.specs.State.{TapeUnitState}
-use Rattle.scsi_tape.specs.Commands.{tape_outcome, tape_left}
-use Rattle.scsi_tape.specs.CameOut.{TapeCame, TapeTouch, tape_touch, tape_after, tape_told, IsTapePossible, IsTapeDone}
+use Rattle.scsi_tape.specs.Commands.{tape_left}
+use Rattle.scsi_tape.specs.CameOut.{TapeCame, TapeTouch, tape_touch, tape_after, tape_told, IsTapePossible, IsTapeDone, is_steady}
 use Rattle.scsi_tape.specs.CameOut as tape
 use Rattle.scsi_unit.specs.Device.{DeviceState, Tape, StoreState, store_of}
-use Rattle.scsi_unit.specs.CameOut.{CameOut, store_after, touches, IsPossible}
+use Rattle.scsi_unit.specs.CameOut.{CameOut, store_after, IsPossible}
 use Rattle.scsi_unit.specs.TapeCommands.{came_of, tape_came, touch_of_tape, loads, tape_performed}
 use Rattle.scsi_unit.specs.Joined.{raised_for_others}
 use Rattle.scsi_unit.specs.State.{UnitState}
@@ -29,7 +29,7 @@ use Rattle.scsi_unit.specs.declared.joined.Joined.{Joined}
 -- ---- the store is no other where a command does as defined
 
 abbrev facts : TapeState → StoreState
-facts tape = record { failures = tape.failures; honest = tape.honest; steady = false }
+facts tape = record { failures = tape.failures; honest = tape.honest; steady = is_steady tape }
 
 either : (is : Bool) (a b : TapeState) (same : StoreState) → facts a ≡ same → facts b ≡ same → facts (if is then a else b) ≡ same
 either true a b same one other = one
@@ -89,17 +89,17 @@ possible_on (tape.Dishonest told left) touch on possible = (
   either_touch touch.reads touch.writes _ possible.0,
   record { back = possible.1.back; kept = possible.1.kept },
   possible.2,
-  λ steady. false≢true steady.steady,
+  λ steady. possible.3 steady.honest steady.steady,
 )
 possible_on (tape.ReadFailed honest) touch on possible = (
   possible.0,
   record { back = possible.1.back; kept = possible.1.kept },
-  λ steady. false≢true steady.steady,
+  λ steady. possible.2 steady.honest steady.steady,
 )
 possible_on (tape.WriteFailed left) touch on possible = (
   writes_touch touch.writes _ possible.0,
   possible.1,
-  λ steady. false≢true steady.steady,
+  λ steady. possible.2 steady.honest steady.steady,
 )
 
 came_back : (came : TapeCame) → tape_came (came_of came) ≡ came

@@ -8,6 +8,7 @@ use Rattle.scsi_mode.specs.ModePages.{write_protect}
 use Rattle.scsi_mode.specs.declared.parameters.Parameters.{Parameters}
 use Rattle.scsi_mode.specs.declared.parameters.Parameters.TheVariants as parameters
 use Rattle.scsi_tape.specs.State.{TapeUnitState}
+use Rattle.scsi_tape.specs.CameOut.{is_steady}
 use Rattle.scsi_unit.specs.declared.device.Device.{Device}
 use Rattle.scsi_unit.specs.declared.device.Device.TheVariants as device
 use Rattle.scsi_unit.specs.declared.device.DiskDevice.{DiskDevice}
@@ -58,7 +59,7 @@ with_parameters given (Tape tape) = Tape tape
 -- ---- its store
 
 -- own: how many calls of it have failed, whether every answer of it agreed with what was written, and whether calls of it
--- always succeed and agree: not those of a tape, whose store may refuse to grow
+-- always succeed and agree, on a tape also those by which it grows
 pub record StoreState : Type 0 where
   pub failures : ℕ
   pub honest : Bool
@@ -66,7 +67,7 @@ pub record StoreState : Type 0 where
 
 abbrev pub store_of : DeviceState → StoreState
 store_of (Disk disk) = record { failures = disk.disk.failures; honest = disk.disk.honest; steady = disk.disk.steady }
-store_of (Tape tape) = record { failures = tape.tape.failures; honest = tape.tape.honest; steady = false }
+store_of (Tape tape) = record { failures = tape.tape.failures; honest = tape.tape.honest; steady = is_steady tape.tape }
 
 -- own: it cannot fail
 pub record IsSteady (store : StoreState) : Type 0 where

@@ -127,6 +127,7 @@ empty_tape = opened_tape (record {
   failures = 0;
   honest = true;
   steady = true;
+  reach = 100000;
 })
 
 -- a tape is ready; it has no READ (10) of disks, which is told before the attention is

@@ -60,6 +60,13 @@ raised_for nexus attention joined = map (raised_where nexus true attention) join
 unfoldable pub raised_for_others : NexusName → Attention → List Joined → List Joined
 raised_for_others nexus attention joined = map (raised_where nexus false attention) joined
 
+abbrev pub raised_in : Attention → Joined → Joined
+raised_in attention j = record j { attentions = raised attention j.attentions }
+
+-- SAM-5 "Unit attention condition": every nexus that is joined is to be told
+unfoldable pub raised_for_all : Attention → List Joined → List Joined
+raised_for_all attention joined = map (raised_in attention) joined
+
 -- SAM-5 "Unit attention condition": each of these nexuses is to be told its own; one that is not joined is not told
 abbrev pub raised_due : List Due → List Joined → List Joined
 raised_due [] joined = joined

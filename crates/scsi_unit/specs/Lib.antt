@@ -29,6 +29,7 @@ pub mod DiskCommands
 pub mod DiskWrites
 pub mod Identity
 pub mod Joined
+pub mod JoinedList
 pub mod State
 pub mod TapeCommands
 pub mod Medium

@@ -1,5 +1,5 @@
 -- What commands do to the tape of a unit, by how they came out (SSC-4 "Command descriptions").
-use Rattle.std.specs.Prelude.{ℕ, List, Bool, true, false, not, nat_lt, Some, None, if◌then◌else◌}
+use Rattle.std.specs.Prelude.{ℕ, List, Bool, false, not, nat_lt, Some, None, if◌then◌else◌}
 use Rattle.scsi_sense.specs.Done.{Outcome, check_condition}
 use Rattle.scsi_sense.specs.Nexus.{NexusName}
 use Rattle.scsi_sense.specs.declared.condition.Attention.TheVariants.{NotReadyToReadyChange}
@@ -7,7 +7,6 @@ use Rattle.scsi_cdb.specs.Fault.{invalid_operation_code}
 use Rattle.scsi_cdb.specs.declared.tape.TapeCommand.{TapeCommand}
 use Rattle.scsi_cdb.specs.declared.tape.TapeCommand.TheVariants.{Rewind, ReadBlockLimits, Read, Write, WriteFilemarks, Space, SpaceToEndOfData}
 use Rattle.scsi_cdb.specs.declared.tape.TapeCommand.TheVariants.{Erase, LoadUnload, Locate, ReadPosition}
-use Rattle.scsi_tape.specs.State.{TapeUnitState}
 use Rattle.scsi_tape.specs.Commands.{tape_outcome, tape_left, room_needed}
 use Rattle.scsi_tape.specs.CameOut.{TapeCame, TapeTouch, tape_touch, tape_after, tape_told}
 use Rattle.scsi_tape.specs.CameOut as tape

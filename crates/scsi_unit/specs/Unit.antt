@@ -24,7 +24,7 @@ use Rattle.scsi_unit.specs.Device.{DeviceState, Disk, Tape, kind_of, parameters_
 use Rattle.scsi_unit.specs.CameOut.{CameOut, AsDefined, shown_by, store_after, disk_after, Touch, no_touch, IsPossible}
 use Rattle.scsi_unit.specs.DiskCommands.{shown, disk_defined, disk_told, touch_of}
 use Rattle.scsi_unit.specs.TapeCommands.{touch_of_tape, tape_performed, takes_room}
-use Rattle.scsi_unit.specs.Joined.{with_nexus, without_nexus, told, raised_for, raised_for_others}
+use Rattle.scsi_unit.specs.Joined.{with_nexus, without_nexus, told, raised_for, raised_for_others, raised_for_all}
 use Rattle.scsi_unit.specs.Identity.{inquiry_outcome, luns_outcome, sense_outcome, pending_sense, without_unit}
 use Rattle.scsi_unit.specs.PersistentReserve.{reserve_in_outcome, reserved_out}
 use Rattle.scsi_unit.specs.Lun.{lun_number}
@@ -47,6 +47,9 @@ left_unit nexus unit = record unit { joined = without_nexus nexus unit.joined }
 
 abbrev pub raised_unit : NexusName → Attention → UnitState → UnitState
 raised_unit nexus attention unit = record unit { joined = raised_for nexus attention unit.joined }
+
+abbrev pub raised_unit_for_all : Attention → UnitState → UnitState
+raised_unit_for_all attention unit = record unit { joined = raised_for_all attention unit.joined }
 
 -- ---- commands to units of every kind
 
@@ -185,6 +188,10 @@ is_number lun (Some number) = number == lun
 -- whether a LUN field names this unit
 abbrev pub names_unit : List ℕ → UnitState → Bool
 names_unit lun unit = is_number unit.lun (lun_number lun)
+
+-- f of this unit, where a LUN field names it
+abbrev pub where_named : List ℕ → (UnitState → UnitState) → UnitState → UnitState
+where_named lun f unit = if names_unit lun unit then f unit else unit
 
 -- a command with this data that a LUN field sends to this unit, by how it came out
 unfoldable pub perform_as : CameOut → NexusName → List ℕ → List ℕ → List ℕ → UnitState → UnitState × Outcome

@@ -2,13 +2,14 @@
 use Rattle.std.specs.Prelude.{◌≡◌, ℕ, All, IsTrue, List, map, Bool, true, false, position, ◌==◌, Option, Some, None, option_and_then, slice_get, slice_set, slice_index_or, MatchBool, if◌then◌else◌}
 use Rattle.scsi_sense.specs.Done.{Outcome}
 use Rattle.scsi_sense.specs.Nexus.{NexusName}
+use Rattle.scsi_sense.specs.declared.condition.Attention.{Attention}
 use Rattle.media_store.specs.Failures.{NoneFailed}
 use Rattle.scsi_unit.specs.Device.{DeviceState, StoreState, store_of}
 use Rattle.scsi_unit.specs.CameOut.{touches}
 use Rattle.scsi_unit.specs.State.{UnitState}
 use Rattle.scsi_unit.specs.Identity.{without_unit, is_for_target, reported_luns}
 use Rattle.scsi_unit.specs.Lun.{lun_number}
-use Rattle.scsi_unit.specs.Unit.{joined_unit, left_unit, performed_as, perform_at, touch_at, keeps_more_at, IsPerformed}
+use Rattle.scsi_unit.specs.Unit.{joined_unit, left_unit, raised_unit, raised_unit_for_all, where_named, performed_as, perform_at, touch_at, keeps_more_at, IsPerformed}
 
 abbrev pub UnitStates : Type 0
 UnitStates = List UnitState
@@ -19,6 +20,22 @@ join nexus units = map (joined_unit nexus) units
 
 unfoldable pub leave : NexusName → UnitStates → UnitStates
 leave nexus units = map (left_unit nexus) units
+
+-- ---- unit attentions (SAM-5 "Unit attention condition")
+
+-- one nexus is to be told by the unit that a LUN field names
+unfoldable pub raised_at : NexusName → List ℕ → Attention → UnitStates → UnitStates
+raised_at nexus lun attention units = map (where_named lun (raised_unit nexus attention)) units
+
+-- every nexus that is joined to that unit is to be told
+unfoldable pub raised_for_all_at : List ℕ → Attention → UnitStates → UnitStates
+raised_for_all_at lun attention units = map (where_named lun (raised_unit_for_all attention)) units
+
+-- every nexus is to be told by every unit
+unfoldable pub raised_everywhere : Attention → UnitStates → UnitStates
+raised_everywhere attention units = map (raised_unit_for_all attention) units
+
+-- ---- commands
 
 -- where the unit stands that a LUN names
 abbrev pub unit_of : UnitStates → Option ℕ → Option ℕ

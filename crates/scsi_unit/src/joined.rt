@@ -1,10 +1,12 @@
 //! Who is joined to a unit.
 
-ghost use Rattle.std.specs.Prelude.{◌≡◌, ◌<◌, length, map, IfSome, vec_len, vec_capacity};
-ghost use Rattle.scsi_unit.specs.Joined.{place_of, newly_joined, with_nexus, without_nexus, told, raised_where, raised_for, raised_for_others, raised_due};
+ghost use Rattle.std.specs.Prelude.{◌≡◌, ◌<◌, [], length, map, IfSome, OnOk};
+ghost use Rattle.scsi_unit.specs.Joined.{place_of, newly_joined, with_nexus, without_nexus, told, raised_where, raised_for, raised_for_others, raised_in, raised_for_all, raised_due};
 
 use scsi_reserve::Due;
 use scsi_sense::{Attention, Attentions, Nexus};
+use std::alloc::{AllocError, Global};
+use std::marker::Model;
 
 /// A nexus that is joined to a unit, and the unit attentions that it has still to be told, in order
 /// (SAM-5 "Unit attention condition").
@@ -12,6 +14,97 @@ use scsi_sense::{Attention, Attentions, Nexus};
 pub(crate) struct Joined {
     pub nexus: Nexus,
     pub attentions: Attentions,
+}
+
+/// The nexuses that are joined to a unit. Clauses see them as a list, with the room that there is for them.
+#[derive(Drop)]
+pub(crate) struct JoinedList {
+    list: Vec<Joined>,
+    /// Where the nexus stands that was looked for last, so that it is compared with no other.
+    found: Option<usize>,
+}
+
+impl Model for JoinedList {
+    ghost use Rattle.std.specs.Prelude.{vec_capacity};
+    ghost use Rattle.scsi_unit.specs.JoinedList.{JoinedState, StandsFirst};
+
+    ghost Value = { JoinedState };
+
+    ghost view = { λ joined. record { items = joined.list.items; room = vec_capacity joined.list } };
+
+    ghost invariant = { λ joined. StandsFirst joined.found joined.list.items };
+}
+
+impl JoinedList {
+    /// None are joined.
+    pub fn new(alloc: Global) -> JoinedList
+        ensures { result.items ≡ [] }
+    {
+        JoinedList {
+            list: Vec::new(alloc),
+            found: None,
+        }
+    }
+
+    /// Makes room for one more.
+    pub fn reserve_one(&mut self) -> Result<(), AllocError>
+        ensures items { self.new.items ≡ self.old.items }
+        ensures room { OnOk result (length self.new.items < self.new.room) }
+    {
+        self.list.reserve(1)
+    }
+
+    /// Where a nexus stands: at the place where one was found last, or at that of a search.
+    fn place(&self, nexus: &Nexus) -> Option<usize>
+        ensures value { result ≡ place_of nexus.now self.now.items }
+        ensures bound { IfSome result (λ at. at < length self.now.items) }
+    {
+        if let Some(at) = self.found {
+            if at < self.list.len() && self.list[at].nexus.is_same(nexus) {
+                return Some(at);
+            }
+        }
+        position(self.list.as_slice(), nexus)
+    }
+
+    /// Keeps the place of a nexus, so that it is found there.
+    pub fn look_for(&mut self, nexus: &Nexus)
+        ensures { self.new ≡ self.old }
+    {
+        self.found = self.place(nexus);
+    }
+
+    /// The nexus has an attention to be told. It takes no memory.
+    pub fn raise(&mut self, nexus: &Nexus, attention: Attention)
+        ensures { self.new.items ≡ raised_for nexus.now attention self.old.items }
+    {
+        self.found = None;
+        raise(self.list.as_mut_slice(), nexus, attention);
+    }
+
+    /// All but this nexus have the attention to be told. It takes no memory.
+    pub fn raise_for_others(&mut self, nexus: &Nexus, attention: Attention)
+        ensures { self.new.items ≡ raised_for_others nexus.now attention self.old.items }
+    {
+        self.found = None;
+        raise_for_others(self.list.as_mut_slice(), nexus, attention);
+    }
+
+    /// Every nexus has the attention to be told. It takes no memory.
+    pub fn raise_for_all(&mut self, attention: Attention)
+        ensures { self.new.items ≡ raised_for_all attention self.old.items }
+    {
+        self.found = None;
+        raise_for_all(self.list.as_mut_slice(), attention);
+    }
+
+    /// Each of these has its attention to be told, where it is joined. It takes no memory.
+    pub fn raise_due(&mut self, due: &[Due])
+        ensures { self.new.items ≡ raised_due due.now self.old.items }
+    {
+        self.found = None;
+        raise_due(self.list.as_mut_slice(), due);
+    }
 }
 
 /// Where a nexus stands among those that are joined.
@@ -32,45 +125,48 @@ fn entry(nexus: Nexus) -> Joined
 }
 
 /// The nexus joins, with the power-on attention and no other. There is room for one more.
-pub(crate) fn join(joined: &mut Vec<Joined>, nexus: Nexus)
-    requires { vec_len joined.old < vec_capacity joined.old }
+pub(crate) fn join(joined: &mut JoinedList, nexus: Nexus)
+    requires { length joined.old.items < joined.old.room }
     ensures { joined.new.items ≡ with_nexus nexus joined.old.items }
 {
-    match position(joined.as_slice(), &nexus) {
-        None => joined.push_reserved(entry(nexus)),
-        Some(at) => joined[at] = entry(nexus),
+    joined.found = None;
+    match position(joined.list.as_slice(), &nexus) {
+        None => joined.list.push_reserved(entry(nexus)),
+        Some(at) => joined.list[at] = entry(nexus),
     }
 }
 
 /// The nexus leaves, with its attentions.
-pub(crate) fn leave(joined: &mut Vec<Joined>, nexus: &Nexus)
+pub(crate) fn leave(joined: &mut JoinedList, nexus: &Nexus)
     ensures { joined.new.items ≡ without_nexus nexus.now joined.old.items }
 {
-    if let Some(at) = position(joined.as_slice(), nexus) {
-        let _ = joined.remove(at);
+    joined.found = None;
+    if let Some(at) = position(joined.list.as_slice(), nexus) {
+        let _ = joined.list.remove(at);
     }
 }
 
 /// The first attention that the nexus has still to be told, which is then taken away.
 #[tactic(auto, unfolding(crate::specs::Joined::told))]
-pub(crate) fn tell(joined: &mut [Joined], nexus: &Nexus) -> Option<Attention>
-    ensures joined { joined.new ≡ (told nexus.now joined.old).0 }
-    ensures attention { result ≡ (told nexus.now joined.old).1 }
+pub(crate) fn tell(joined: &mut JoinedList, nexus: &Nexus) -> Option<Attention>
+    ensures joined { joined.new.items ≡ (told nexus.now joined.old.items).0 }
+    ensures attention { result ≡ (told nexus.now joined.old.items).1 }
 {
-    let at = position(joined, nexus)?;
-    let code = joined[at].attentions.first()?;
-    let entry = &mut joined[at];
+    let at = joined.place(nexus)?;
+    let code = joined.list[at].attentions.first()?;
+    joined.found = None;
+    let entry = &mut joined.list[at];
     entry.attentions.clear_first();
     Some(code)
 }
 
 /// The first attention that the nexus has still to be told, which stays.
 #[tactic(auto, unfolding(crate::specs::Joined::told))]
-pub(crate) fn pending(joined: &[Joined], nexus: &Nexus) -> Option<Attention>
-    ensures { result ≡ (told nexus.now joined.now).1 }
+pub(crate) fn pending(joined: &JoinedList, nexus: &Nexus) -> Option<Attention>
+    ensures { result ≡ (told nexus.now joined.now.items).1 }
 {
-    let at = position(joined, nexus)?;
-    joined[at].attentions.first()
+    let at = joined.place(nexus)?;
+    joined.list[at].attentions.first()
 }
 
 impl Joined {
@@ -82,6 +178,13 @@ impl Joined {
         if if is_same { is_this } else { !is_this } {
             self.attentions.raise(attention);
         }
+    }
+
+    /// The attention is to be told.
+    fn raise(&mut self, attention: Attention)
+        ensures { self.new ≡ raised_in attention self.old }
+    {
+        self.attentions.raise(attention);
     }
 }
 
@@ -95,24 +198,35 @@ fn raise_each(joined: &mut [Joined], nexus: &Nexus, is_same: bool, attention: At
     }
 }
 
-/// The nexus has an attention to be told. It takes no memory.
+/// The nexus has an attention to be told.
 #[tactic(auto, unfolding(crate::specs::Joined::raised_for))]
-pub(crate) fn raise(joined: &mut [Joined], nexus: &Nexus, attention: Attention)
+fn raise(joined: &mut [Joined], nexus: &Nexus, attention: Attention)
     ensures { joined.new ≡ raised_for nexus.now attention joined.old }
 {
     raise_each(joined, nexus, true, attention);
 }
 
-/// All but this nexus have the attention to be told. It takes no memory.
+/// All but this nexus have the attention to be told.
 #[tactic(auto, unfolding(crate::specs::Joined::raised_for_others))]
-pub(crate) fn raise_for_others(joined: &mut [Joined], nexus: &Nexus, attention: Attention)
+fn raise_for_others(joined: &mut [Joined], nexus: &Nexus, attention: Attention)
     ensures { joined.new ≡ raised_for_others nexus.now attention joined.old }
 {
     raise_each(joined, nexus, false, attention);
 }
 
-/// Each of these has its attention to be told, where it is joined. It takes no memory.
-pub(crate) fn raise_due(joined: &mut [Joined], due: &[Due])
+/// Every nexus has the attention to be told.
+#[tactic(auto, unfolding(crate::specs::Joined::raised_for_all))]
+fn raise_for_all(joined: &mut [Joined], attention: Attention)
+    ensures { joined.new ≡ raised_for_all attention joined.old }
+{
+    for at in 0..joined.len() {
+        let other = &mut joined[at];
+        other.raise(attention);
+    }
+}
+
+/// Each of these has its attention to be told, where it is joined.
+fn raise_due(joined: &mut [Joined], due: &[Due])
     ensures { joined.new ≡ raised_due due.now joined.old }
 {
     let Some((first, others)) = due.split_first() else {

@@ -14,7 +14,7 @@ ghost use Rattle.scsi_unit.specs.Identity.{sense_outcome, pending_sense};
 use crate::device::Device;
 use crate::fault::Memory;
 use crate::identity::{inquiry, report_luns, sense_data};
-use crate::joined::{pending, raise_for_others, tell};
+use crate::joined::{pending, tell};
 use crate::modes::mode_sense;
 use crate::persistent_reserve::reserve_in;
 use crate::refusal::Refusal;
@@ -91,12 +91,12 @@ impl<S: Store> Unit<S> {
         ensures nothing { (sense_outcome (pending_sense (told nexus.now self.old.joined).1) allocation_length).given ≡ [] → IsOk result }
         ensures err { OnErr result (self.new ≡ self.old) }
     {
-        let condition = match pending(self.joined.as_slice(), nexus) {
+        let condition = match pending(&self.joined, nexus) {
             Some(attention) => Condition::UnitAttention(attention),
             None => Condition::NoAdditionalSenseInformation,
         };
         let done = sense_data(self.alloc, Sense::new(condition), allocation_length)?;
-        let _ = tell(self.joined.as_mut_slice(), nexus);
+        let _ = tell(&mut self.joined, nexus);
         Ok(done)
     }
 
@@ -115,7 +115,7 @@ impl<S: Store> Unit<S> {
             Ok(parameters) => {
                 if parameters.write_protect() != before.write_protect() {
                     let attention = Attention::ModeParametersChanged;
-                    raise_for_others(self.joined.as_mut_slice(), nexus, attention);
+                    self.joined.raise_for_others(nexus, attention);
                 }
                 self.device.set_parameters(parameters);
                 Done::good_taking(self.alloc, fields.list_length)
@@ -211,7 +211,7 @@ impl<S: Store> Unit<S> {
             return Err(Refusal::Refused(Cdb::no_operation()));
         };
         if !row.passes_attention {
-            if let Some(attention) = pending(self.joined.as_slice(), nexus) {
+            if let Some(attention) = pending(&self.joined, nexus) {
                 return Err(Refusal::Told(attention));
             }
         }
@@ -248,7 +248,7 @@ impl<S: Store> Unit<S> {
             Refusal::Refused(sense) => Done::check_condition(self.alloc, sense),
             Refusal::Conflict => Done::reservation_conflict(self.alloc),
             Refusal::Told(attention) => {
-                let _ = tell(self.joined.as_mut_slice(), nexus);
+                let _ = tell(&mut self.joined, nexus);
                 let sense = Sense::new(Condition::UnitAttention(attention));
                 Done::check_condition(self.alloc, sense)
             }
@@ -272,6 +272,7 @@ impl<S: Store> Unit<S> {
             → keeps_more_at nexus.now cdb «data».now self.old ≡ false → (perform_at nexus.now cdb «data».now self.old).1.given ≡ [] → IsOk result }
         ensures err { OnErr result (self.new ≡ self.old) }
     {
+        self.joined.look_for(nexus);
         match self.judge(nexus, cdb, data) {
             Ok(command) => self.carry_out(used, nexus, command, data),
             Err(refusal) => Ok(self.refuse(nexus, refusal)),

@@ -7,7 +7,6 @@ ghost use Rattle.scsi_unit.specs.PersistentReserve.{reserve_in_outcome, ended_ou
 
 use crate::fault::Memory;
 use crate::given::done_with_front;
-use crate::joined::raise_due;
 use crate::unit::Unit;
 use media_store::Store;
 use scsi_cdb::{ReserveInFields, ReserveOutFields};
@@ -64,7 +63,7 @@ impl<S: Store> Unit<S> {
         let outcome = self
             .reservations
             .out(nexus, fields.action, fields.scope, fields.code, list)?;
-        raise_due(self.joined.as_mut_slice(), outcome.due.as_slice());
+        self.joined.raise_due(outcome.due.as_slice());
         Ok(ended(self.alloc, fields.list_length, outcome.ended))
     }
 }

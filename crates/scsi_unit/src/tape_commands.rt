@@ -13,7 +13,6 @@ ghost use Rattle.scsi_unit.specs.Unit.{touch_by, IsPerformed};
 use crate::buffers::{give_back, take};
 use crate::device::Device;
 use crate::fault::Memory;
-use crate::joined::raise_for_others;
 use crate::unit::Unit;
 use bytes::BytesMut;
 use media_store::Store;
@@ -60,7 +59,7 @@ impl<S: Store> Unit<S> {
         ensures { self.new ≡ record self.old { joined = raised_for_others nexus.now NotReadyToReadyChange self.old.joined } }
     {
         let attention = Attention::NotReadyToReadyChange;
-        raise_for_others(self.joined.as_mut_slice(), nexus, attention);
+        self.joined.raise_for_others(nexus, attention);
     }
 
     /// A command to the unit as a tape. Where it loads the tape all but this nexus are to be told.

@@ -4,12 +4,12 @@ ghost use Rattle.std.specs.Prelude.{◌≡◌, ◌≤◌, [], length, false, IsT
 ghost use Rattle.scsi_unit.specs.Device.{opened, opened_tape, store_of};
 ghost use Rattle.scsi_unit.specs.CameOut.{touches, AsDefined};
 ghost use Rattle.scsi_unit.specs.DiskCommands.{most_given};
-ghost use Rattle.scsi_unit.specs.Unit.{free_unit, joined_unit, left_unit, raised_unit, names_unit, perform_as, touch_with, keeps_more_with, IsPerformed};
+ghost use Rattle.scsi_unit.specs.Unit.{free_unit, joined_unit, left_unit, raised_unit, raised_unit_for_all, where_named, names_unit, perform_as, touch_with, keeps_more_with, IsPerformed};
 
 use crate::device::{Device, DiskDevice};
 use crate::fault::Memory;
 use crate::identity::without_unit;
-use crate::joined::{Joined, join, leave, raise};
+use crate::joined::{JoinedList, join, leave};
 use crate::lun::Lun;
 use crate::serial::Serial;
 use media_block::Disk;
@@ -29,7 +29,7 @@ pub struct Unit<S: Store> {
     pub(crate) serial: Serial,
     pub(crate) device: Device<S>,
     pub(crate) reservations: Table,
-    pub(crate) joined: Vec<Joined>,
+    pub(crate) joined: JoinedList,
     pub(crate) alloc: Global,
 }
 
@@ -56,7 +56,7 @@ impl<S: Store> Unit<S> {
                 write_protect: false,
             }),
             reservations: Table::new(alloc),
-            joined: Vec::new(alloc),
+            joined: JoinedList::new(alloc),
             alloc,
         }
     }
@@ -70,13 +70,13 @@ impl<S: Store> Unit<S> {
             serial,
             device: Device::Tape(TapeUnit::new(tape)),
             reservations: Table::new(alloc),
-            joined: Vec::new(alloc),
+            joined: JoinedList::new(alloc),
             alloc,
         }
     }
 
     /// Whether a LUN field names this unit.
-    fn is_named(&self, field: [u8; 8]) -> bool
+    pub(crate) fn is_named(&self, field: [u8; 8]) -> bool
         ensures { result ≡ names_unit field self.now }
     {
         match Lun::read(field) {
@@ -91,7 +91,7 @@ impl<S: Store> Unit<S> {
         ensures ok { OnOk result (self.new ≡ joined_unit nexus self.old) }
         ensures err { OnErr result (self.new ≡ self.old) }
     {
-        self.joined.reserve(1)?;
+        self.joined.reserve_one()?;
         join(&mut self.joined, nexus);
         Ok(())
     }
@@ -107,7 +107,32 @@ impl<S: Store> Unit<S> {
     pub fn raise(&mut self, nexus: &Nexus, attention: Attention)
         ensures { self.new ≡ raised_unit nexus.now attention self.old }
     {
-        raise(self.joined.as_mut_slice(), nexus, attention);
+        self.joined.raise(nexus, attention);
+    }
+
+    /// Every nexus that is joined has an attention to be told, unless it has it already. It takes no memory.
+    pub fn raise_for_all(&mut self, attention: Attention)
+        ensures { self.new ≡ raised_unit_for_all attention self.old }
+    {
+        self.joined.raise_for_all(attention);
+    }
+
+    /// The same of one nexus, where the LUN field names this unit.
+    pub(crate) fn raise_at(&mut self, nexus: &Nexus, lun: [u8; 8], attention: Attention)
+        ensures { self.new ≡ where_named lun (raised_unit nexus.now attention) self.old }
+    {
+        if self.is_named(lun) {
+            self.raise(nexus, attention);
+        }
+    }
+
+    /// The same of every nexus.
+    pub(crate) fn raise_for_all_at(&mut self, lun: [u8; 8], attention: Attention)
+        ensures { self.new ≡ where_named lun (raised_unit_for_all attention) self.old }
+    {
+        if self.is_named(lun) {
+            self.raise_for_all(attention);
+        }
     }
 
     /// A command with this data that a LUN sends to the unit. The first check that fails answers, in this

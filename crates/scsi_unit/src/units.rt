@@ -4,7 +4,7 @@ ghost use Rattle.std.specs.Prelude.{◌≡◌, ◌<◌, ◌≤◌, [], length, m
 ghost use Rattle.scsi_unit.specs.DiskCommands.{most_given};
 ghost use Rattle.scsi_unit.specs.Unit.{joined_unit};
 ghost use Rattle.scsi_unit.specs.Lun.{lun_number as number_of_lun};
-ghost use Rattle.scsi_unit.specs.Units.{join, leave, perform as performed, unit_of, AreSound, AreSure, AreAnswered, IsTrusted, touches_at, keeps_more_in};
+ghost use Rattle.scsi_unit.specs.Units.{join, leave, raised_at, raised_for_all_at, raised_everywhere, numbers_of, perform as performed, unit_of, AreSound, AreSure, AreAnswered, IsTrusted, touches_at, keeps_more_in};
 ghost use Rattle.scsi_unit.specs.Identity.{reported_luns, is_row_of_target};
 ghost use Rattle.scsi_cdb.specs.Operation.{row_of};
 
@@ -17,7 +17,7 @@ use crate::unit::Unit;
 use bytes::BytesMut;
 use media_store::Store;
 use scsi_cdb::{ReportLunsFields, Row};
-use scsi_sense::{Done, Nexus};
+use scsi_sense::{Attention, Done, Nexus};
 use std::alloc::Global;
 use std::marker::Model;
 
@@ -25,18 +25,23 @@ use std::marker::Model;
 #[derive(Drop)]
 pub struct Units<S: Store> {
     units: Vec<Unit<S>>,
+    /// The numbers of the units, in their order.
+    luns: Vec<u8>,
     /// Buffers that were given back. Their bytes never leave the target.
     used: Vec<BytesMut>,
     alloc: Global,
 }
 
 impl<S: Store> Model for Units<S> {
-    ghost use Rattle.std.specs.Prelude.{List};
+    ghost use Rattle.std.specs.Prelude.{◌≡◌, List};
     ghost use Rattle.scsi_unit.specs.State.{UnitState};
+    ghost use Rattle.scsi_unit.specs.Units.{numbers_of};
 
     ghost Value = { List UnitState };
 
     ghost view = { λ u. u.units.items };
+
+    ghost invariant = { λ u. u.luns.items ≡ numbers_of u.units.items };
 }
 
 /// A nexus joins each of these units. What that takes is there for all of them before the first is joined.
@@ -48,7 +53,7 @@ fn join_each<S: Store>(units: &mut [Unit<S>], nexus: &Nexus) -> Result<(), Memor
         return Ok(());
     };
     let name = nexus.clone()?;
-    unit.joined.reserve(1)?;
+    unit.joined.reserve_one()?;
     join_each(others, nexus)?;
     join_list(&mut unit.joined, name);
     Ok(())
@@ -56,7 +61,7 @@ fn join_each<S: Store>(units: &mut [Unit<S>], nexus: &Nexus) -> Result<(), Memor
 
 /// The numbers of units.
 fn numbers<S: Store>(alloc: Global, units: &[Unit<S>]) -> Result<Vec<u8>, Memory>
-    ensures { IfOk result (λ numbers. numbers.items ≡ map (λ unit. unit.lun) units.now) }
+    ensures { IfOk result (λ numbers. numbers.items ≡ numbers_of units.now) }
 {
     let mut numbers = Vec::new(alloc);
     for unit in units {
@@ -65,20 +70,19 @@ fn numbers<S: Store>(alloc: Global, units: &[Unit<S>]) -> Result<Vec<u8>, Memory
     Ok(numbers)
 }
 
-/// REPORT LUNS with these bytes, to these units. It takes no memory where no data is given.
+/// REPORT LUNS with these bytes, to units with these numbers. It takes no memory where no data is given.
 #[tactic(auto, unfolding(crate::specs::Identity::reported_luns, crate::specs::Identity::luns_outcome))]
-fn reported_luns<S: Store>(alloc: Global, units: &[Unit<S>], cdb: [u8; 16]) -> Result<Done, Memory>
-    ensures done { IfOk result (λ done. done ≡ reported_luns (map (λ unit. unit.lun) units.now) cdb) }
+fn reported_luns(alloc: Global, luns: &[u8], cdb: [u8; 16]) -> Result<Done, Memory>
+    ensures done { IfOk result (λ done. done ≡ reported_luns luns.now cdb) }
     ensures given { IfOk result (λ done. length done.given ≤ most_given) }
-    ensures nothing { (reported_luns (map (λ unit. unit.lun) units.now) cdb).given ≡ [] → IsOk result }
+    ensures nothing { (reported_luns luns.now cdb).given ≡ [] → IsOk result }
 {
     match ReportLunsFields::read(&cdb) {
         Ok(fields) => {
             if fields.allocation_length == 0 {
                 return Ok(Done::good(alloc));
             }
-            let numbers = numbers(alloc, units)?;
-            report_luns(alloc, numbers.as_slice(), fields)
+            report_luns(alloc, luns, fields)
         }
         Err(fault) => Ok(Done::check_condition(alloc, fault.sense())),
     }
@@ -100,7 +104,13 @@ impl<S: Store + Drop> Units<S> {
         ensures { IfOk result (λ made. made ≡ units.items) }
     {
         let used = Vec::with_capacity(alloc, MOST_KEPT)?;
-        Ok(Units { units, used, alloc })
+        let luns = numbers(alloc, units.as_slice())?;
+        Ok(Units {
+            units,
+            luns,
+            used,
+            alloc,
+        })
     }
 }
 
@@ -122,6 +132,44 @@ impl<S: Store> Units<S> {
     {
         for unit in self.units.iter_mut() {
             unit.leave(nexus);
+        }
+    }
+
+    /// The numbers of the units, in their order.
+    pub fn luns(&self) -> &[u8]
+        ensures { result.now ≡ numbers_of self.now }
+    {
+        self.luns.as_slice()
+    }
+
+    /// A nexus has an attention to be told by the unit that the LUN field names, where it is joined. It takes no
+    /// memory.
+    #[tactic(auto, unfolding(crate::specs::Units::raised_at))]
+    pub fn raise(&mut self, nexus: &Nexus, lun: [u8; 8], attention: Attention)
+        ensures { self.new ≡ raised_at nexus.now lun attention self.old }
+    {
+        for unit in self.units.iter_mut() {
+            unit.raise_at(nexus, lun, attention);
+        }
+    }
+
+    /// Every nexus that is joined to the unit that the LUN field names has an attention to be told. It takes no memory.
+    #[tactic(auto, unfolding(crate::specs::Units::raised_for_all_at))]
+    pub fn raise_for_all(&mut self, lun: [u8; 8], attention: Attention)
+        ensures { self.new ≡ raised_for_all_at lun attention self.old }
+    {
+        for unit in self.units.iter_mut() {
+            unit.raise_for_all_at(lun, attention);
+        }
+    }
+
+    /// Every nexus has an attention to be told by every unit. It takes no memory.
+    #[tactic(auto, unfolding(crate::specs::Units::raised_everywhere))]
+    pub fn raise_everywhere(&mut self, attention: Attention)
+        ensures { self.new ≡ raised_everywhere attention self.old }
+    {
+        for unit in self.units.iter_mut() {
+            unit.raise_for_all(attention);
         }
     }
 
@@ -173,7 +221,7 @@ impl<S: Store> Units<S> {
             return without_unit(self.alloc, cdb);
         };
         if is_for_target(cdb[0]) {
-            return reported_luns(self.alloc, self.units.as_slice(), cdb);
+            return reported_luns(self.alloc, self.luns.as_slice(), cdb);
         }
         let unit = &mut self.units[at];
         unit.perform_with(&mut self.used, nexus, cdb, data)

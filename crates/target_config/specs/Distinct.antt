@@ -1,8 +1,8 @@
 -- Names, LUNs and files that come once, and LUN 0.
-use Rattle.std.specs.Prelude.{ℤ, pos, List, [], ◌∷◌, map, flat_map, Bool, true, false, not, ◌&&◌, ◌||◌, bytes_eq}
+use Rattle.std.specs.Prelude.{ℤ, pos, List, [], ◌∷◌, map, flat_map, Bool, true, false, not, ◌&&◌, ◌||◌, ℕ, Option, Some, bytes_eq}
 use Rattle.std.specs.List.{list_all, list_any}
 use Rattle.std.specs.Ordering.{int_eq}
-use Rattle.target_config.specs.Configuration.{MediumEntry, FileDisk, UnitEntry, TargetEntry, names_of}
+use Rattle.target_config.specs.Configuration.{UnitEntry, TargetEntry, names_of, file_of}
 
 -- nothing comes twice
 abbrev pub is_distinct : {X : Type 0} → (X → X → Bool) → List X → Bool
@@ -27,13 +27,14 @@ has_lun_zero target = list_any (λ lun. int_eq lun (pos 0)) (luns_of target.unit
 abbrev pub units_in : List TargetEntry → List UnitEntry
 units_in targets = flat_map (λ target. target.units) targets
 
--- both are in the file at one path
-abbrev pub is_in_one_file : MediumEntry → MediumEntry → Bool
-is_in_one_file (FileDisk path) (FileDisk other) = bytes_eq path other
-is_in_one_file medium other = false
+-- there are two paths, and they are one
+abbrev pub is_one_path : Option (List ℕ) → Option (List ℕ) → Bool
+is_one_path (Some path) (Some other) = bytes_eq path other
+is_one_path path other = false
 
+-- both are in the file at one path
 abbrev pub shares_file : UnitEntry → UnitEntry → Bool
-shares_file unit other = is_in_one_file unit.medium other.medium
+shares_file unit other = is_one_path (file_of unit.medium) (file_of other.medium)
 
 abbrev pub has_distinct_files : List TargetEntry → Bool
 has_distinct_files targets = is_distinct shares_file (units_in targets)

@@ -5,7 +5,7 @@ use Rattle.std.specs.List.{list_any}
 use Rattle.toml.specs.Data.{Data, Items, no_items, item, Members, as_str, as_integer, as_array, as_table, get_member}
 use Rattle.target_config.specs.declared.fault.ConfigFault.{ConfigFault}
 use Rattle.target_config.specs.declared.fault.ConfigFault.TheVariants as faults
-use Rattle.target_config.specs.Configuration.{MediumEntry, MemoryDisk, FileDisk, MemoryTape, UnitEntry, TargetEntry, Document}
+use Rattle.target_config.specs.Configuration.{MediumEntry, MemoryDisk, FileDisk, MemoryTape, FileTape, UnitEntry, TargetEntry, Document}
 
 -- the second step, where the first gave a value
 infixl 10 ◌>>=◌
@@ -77,9 +77,15 @@ memory_tape_of table = do
   early ← number_at table (codes "early") 0 capacity
   Some (MemoryTape capacity early)
 
--- a tape is in memory: a `file` is not accepted for it
+unfoldable pub file_tape_of : Members → Option MediumEntry
+file_tape_of table = do
+  path ← text_at table (codes "file")
+  capacity ← number_at table (codes "capacity") 1 34359738360
+  early ← number_at table (codes "early") 0 capacity
+  Some (FileTape path capacity early)
+
 abbrev pub tape_of : Members → Option MediumEntry
-tape_of table = if has_member (codes "file") table then None else memory_tape_of table
+tape_of table = if has_member (codes "file") table then file_tape_of table else memory_tape_of table
 
 abbrev pub medium_named : Members → List ℕ → Option MediumEntry
 medium_named table kind = if bytes_eq kind (codes "disk") then disk_of table else if bytes_eq kind (codes "tape") then tape_of table else None

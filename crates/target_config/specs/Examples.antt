@@ -1,7 +1,7 @@
 -- A configuration of two targets, computed.
 use Rattle.std.specs.Prelude.{◌≡◌, ℕ, pos, [], ◌∷◌, true, false, codes, Some, None, refl}
 use Rattle.target_config.specs.declared.fault.ConfigFault.TheVariants.{NoLunZero, Twice}
-use Rattle.target_config.specs.Configuration.{MediumEntry, MemoryDisk, FileDisk, MemoryTape, UnitEntry, TargetEntry, Document, has_memory_disks_alone, files_of}
+use Rattle.target_config.specs.Configuration.{MediumEntry, MemoryDisk, FileDisk, MemoryTape, FileTape, UnitEntry, TargetEntry, Document, keeps_in_memory, files_of}
 use Rattle.target_config.specs.Config.{fault_in}
 
 abbrev unit_at : ℕ → MediumEntry → UnitEntry
@@ -20,16 +20,20 @@ in_files = two_targets (unit_at 0 (FileDisk (codes "b"))) (unit_at 1 (MemoryTape
 files_in_order : files_of in_files ≡ codes "b" ∷ codes "a" ∷ []
 files_in_order = refl
 
+-- a disk and a tape in one file
+one_file_of_two_kinds : fault_in (two_targets (unit_at 0 (FileDisk (codes "a"))) (unit_at 1 (FileTape (codes "a") 9 0)) (unit_at 0 (MemoryDisk 8))) ≡ Some Twice
+unfolding fault_in
+one_file_of_two_kinds = refl
+
 -- one unit in a file is enough
-kept_in_a_file : has_memory_disks_alone (two_targets (unit_at 0 (MemoryDisk 8)) (unit_at 1 (MemoryDisk 8)) (unit_at 0 (FileDisk (codes "a")))) ≡ false
+kept_in_a_file : keeps_in_memory (two_targets (unit_at 0 (MemoryDisk 8)) (unit_at 1 (MemoryDisk 8)) (unit_at 0 (FileDisk (codes "a")))) ≡ false
 kept_in_a_file = refl
 
-kept_in_memory : has_memory_disks_alone (two_targets (unit_at 0 (MemoryDisk 8)) (unit_at 1 (MemoryDisk 9)) (unit_at 0 (MemoryDisk 8))) ≡ true
-kept_in_memory = refl
+kept_on_a_tape_in_a_file : keeps_in_memory (two_targets (unit_at 0 (MemoryDisk 8)) (unit_at 1 (FileTape (codes "a") 9 0)) (unit_at 0 (MemoryDisk 8))) ≡ false
+kept_on_a_tape_in_a_file = refl
 
--- and one tape
-kept_on_a_tape : has_memory_disks_alone (two_targets (unit_at 0 (MemoryDisk 8)) (unit_at 1 (MemoryTape 9 0)) (unit_at 0 (MemoryDisk 8))) ≡ false
-kept_on_a_tape = refl
+kept_in_memory : keeps_in_memory (two_targets (unit_at 0 (MemoryDisk 8)) (unit_at 1 (MemoryTape 9 0)) (unit_at 0 (MemoryDisk 8))) ≡ true
+kept_in_memory = refl
 
 no_fault : fault_in in_files ≡ None
 unfolding fault_in

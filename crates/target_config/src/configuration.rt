@@ -38,5 +38,14 @@ pub enum MediumConfiguration {
     /// A disk in the file at this path.
     FileDisk(String),
     /// A tape in memory that holds at most `capacity` bytes, and that warns behind `early` of them.
-    MemoryTape { capacity: u64, early: u64 },
+    MemoryTape {
+        capacity: u64,
+        early: u64,
+    },
+    /// A tape in the file at this path, with this capacity and early warning mark.
+    FileTape {
+        path: String,
+        capacity: u64,
+        early: u64,
+    },
 }

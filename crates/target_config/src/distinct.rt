@@ -1,11 +1,11 @@
 //! What comes once: the names of the targets, the LUNs of each target, and the files. And LUN 0,
 //! which each target has.
 
-ghost use Rattle.std.specs.Prelude.{◌≡◌, pos, bytes_eq, string_bytes};
+ghost use Rattle.std.specs.Prelude.{◌≡◌, pos, bytes_eq, option_map, string_bytes};
 ghost use Rattle.std.specs.List.{list_all, list_any};
 ghost use Rattle.std.specs.Ordering.{int_eq};
-ghost use Rattle.target_config.specs.Configuration.{names_of, medium_view, unit_view, units_view, target_view, targets_view};
-ghost use Rattle.target_config.specs.Distinct.{is_distinct, is_distinct_before, is_in_one_file as are_in_one_file, shares_file as is_file_shared, units_in, has_distinct_luns as are_luns_distinct, has_distinct_files as are_files_distinct, has_lun_zero as is_lun_zero_there, comes_each_once};
+ghost use Rattle.target_config.specs.Configuration.{names_of, file_of, medium_view, unit_view, units_view, target_view, targets_view};
+ghost use Rattle.target_config.specs.Distinct.{is_distinct, is_distinct_before, shares_file as is_file_shared, units_in, has_distinct_luns as are_luns_distinct, has_distinct_files as are_files_distinct, has_lun_zero as is_lun_zero_there, comes_each_once};
 
 use crate::configuration::{MediumConfiguration, TargetConfiguration, UnitConfiguration};
 
@@ -69,14 +69,23 @@ fn have_distinct_luns(targets: &[TargetConfiguration]) -> bool
     targets.iter().all(|target| has_distinct_luns(target))
 }
 
+/// The path of the file that a unit is in.
+fn path_of(medium: &MediumConfiguration) -> Option<&String>
+    ensures { option_map (λ path. string_bytes path.now) result ≡ file_of (medium_view medium.now) }
+{
+    match medium {
+        MediumConfiguration::FileDisk(path) => Some(path),
+        MediumConfiguration::FileTape { path, .. } => Some(path),
+        MediumConfiguration::MemoryDisk(_) | MediumConfiguration::MemoryTape { .. } => None,
+    }
+}
+
 /// Both units are in one file.
 fn share_file(unit: &UnitConfiguration, other: &UnitConfiguration) -> bool
     ensures { result ≡ is_file_shared (unit_view unit.now) (unit_view other.now) }
 {
-    match (&unit.medium, &other.medium) {
-        (MediumConfiguration::FileDisk(path), MediumConfiguration::FileDisk(other)) => {
-            path == other
-        }
+    match (path_of(&unit.medium), path_of(&other.medium)) {
+        (Some(path), Some(other)) => path == other,
         _ => false,
     }
 }

@@ -4,7 +4,7 @@
 ghost use Rattle.std.specs.Prelude.{◌≡◌, ◌≤◌, IfOk, map, codes, string_bytes};
 ghost use Rattle.toml.specs.Data.{get_member};
 ghost use Rattle.toml.specs.View.{view, items_view, table_view};
-ghost use Rattle.target_config.specs.Document.{Gives, text_at, integer_at, items_at, number_at, name_at, disk_of, memory_disk_of, file_disk_of, tape_of, memory_tape_of, medium_of, has_member, is_name as is_name_text, unit_of, target_of, each, document_of};
+ghost use Rattle.target_config.specs.Document.{Gives, text_at, integer_at, items_at, number_at, name_at, disk_of, memory_disk_of, file_disk_of, tape_of, memory_tape_of, file_tape_of, medium_of, has_member, is_name as is_name_text, unit_of, target_of, each, document_of};
 ghost use Rattle.target_config.specs.Configuration.{medium_view, unit_view, target_view, configuration_view};
 
 use crate::block_count::BlockCount;
@@ -124,14 +124,28 @@ fn memory_tape(table: &Table) -> Result<MediumConfiguration, ConfigFault>
     Ok(MediumConfiguration::MemoryTape { capacity, early })
 }
 
-/// A tape in memory. One in a file is not read yet.
-fn tape(table: &Table) -> Result<MediumConfiguration, ConfigFault>
+#[tactic(auto, unfolding(crate::specs::Document::file_tape_of))]
+fn file_tape(alloc: Global, table: &Table) -> Result<MediumConfiguration, ConfigFault>
+    ensures { Gives medium_view result (file_tape_of (table_view table.now)) }
+{
+    let path = String::from_str(alloc, text(table, "file")?)?;
+    let capacity = number(table, "capacity", 1, MOST_CAPACITY)?;
+    let early = number(table, "early", 0, capacity)?;
+    Ok(MediumConfiguration::FileTape {
+        path,
+        capacity,
+        early,
+    })
+}
+
+fn tape(alloc: Global, table: &Table) -> Result<MediumConfiguration, ConfigFault>
     ensures { Gives medium_view result (tape_of (table_view table.now)) }
 {
     if has(table, "file") {
-        return Err(ConfigFault::Field);
+        file_tape(alloc, table)
+    } else {
+        memory_tape(table)
     }
-    memory_tape(table)
 }
 
 #[tactic(auto, unfolding(crate::specs::Document::medium_of))]
@@ -140,7 +154,7 @@ fn medium(alloc: Global, table: &Table) -> Result<MediumConfiguration, ConfigFau
 {
     match text(table, "kind")? {
         "disk" => disk(alloc, table),
-        "tape" => tape(table),
+        "tape" => tape(alloc, table),
         _ => Err(ConfigFault::Field),
     }
 }

@@ -13,8 +13,8 @@
 //! blocks = 8
 //! ```
 //!
-//! A unit is a disk in memory (`blocks`), a disk in a file (`file`), or a tape in memory
-//! (`kind = "tape"`, with `capacity` and `early`).
+//! A unit is a disk in memory (`blocks`) or in a file (`file`), or a tape (`kind = "tape"`, with `capacity` and
+//! `early`) in memory or in a file.
 //!
 //! Promised, and proved: [`file_config`] gives exactly the configuration that the contents of a file
 //! describe, or the first fault that they have, in the order of [`ConfigFault`]. What it gives keeps

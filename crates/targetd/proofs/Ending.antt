@@ -6,7 +6,7 @@ use Rattle.std.specs.Io.KnownBytes.{Appends}
 use Rattle.std.specs.declared.net.socket_addr.SocketAddr.{SocketAddr}
 use Rattle.std.proofs.KnownBytes.{Keeps-refl}
 use Rattle.std.proofs.lemmas.List.Elements.{All-cons}
-use Rattle.std.proofs.lemmas.Bool.{and_parts}
+use Rattle.std.proofs.lemmas.Bool.{and_parts, le-leb}
 use Rattle.call_record.specs.Noted.{Noted}
 use Rattle.command_line.specs.Words.{Command, Replay, Serve}
 use Rattle.command_line.specs.declared.fault.WordsFault.{WordsFault}
@@ -20,7 +20,7 @@ use Rattle.iscsi_target.proofs.Standing.{stands_sent}
 use Rattle.iscsi_target.specs.Machine.{Machine, IsSound, IsSure, new_machine}
 use Rattle.iscsi_serve.specs.Log.{Entry}
 use Rattle.iscsi_serve.specs.declared.fault.ServeFault.{ServeFault}
-use Rattle.target_config.specs.Configuration.{Document, MediumEntry, MemoryDisk, FileDisk, MemoryTape, UnitEntry, TargetEntry, names_of, is_memory_disk}
+use Rattle.target_config.specs.Configuration.{Document, MediumEntry, MemoryDisk, FileDisk, MemoryTape, FileTape, UnitEntry, TargetEntry, names_of, is_in_memory}
 use Rattle.target_config.specs.declared.fault.ConfigFault.{ConfigFault}
 use Rattle.target_config.specs.declared.fault.ConfigFault.TheVariants as why
 use Rattle.target_replay.specs.Printed.{all_sent, HasSentAll}
@@ -57,33 +57,35 @@ early_fault configured why.NoLunZero e = early_by configured why.NoLunZero (e (�
 
 -- ---- units in memory cannot fail
 
-medium_sure : (held : Held) (entry : MediumEntry) (medium : DeviceState) → IsMediumOf held entry medium → is_memory_disk entry ≡ true → IsSureDevice medium
+medium_sure : (held : Held) (entry : MediumEntry) (medium : DeviceState) → IsMediumOf held entry medium → is_in_memory entry ≡ true → IsSureDevice medium
 medium_sure held (MemoryDisk blocks) medium is in_memory =
     subst IsSureDevice (sym is) (record { sound = record { honest = refl; unfailed = refl }; steady = refl })
 medium_sure held (FileDisk path) medium is in_memory = absurd cc
-medium_sure held (MemoryTape capacity early) medium is in_memory = absurd cc
+medium_sure held (MemoryTape capacity early) medium is in_memory =
+    subst IsSureDevice (sym is) (record { sound = record { honest = refl; unfailed = refl }; steady = le-leb capacity capacity (omega arith) })
+medium_sure held (FileTape path capacity early) medium is in_memory = absurd cc
 
 all_none : {X : Type 0} (P : X → Type 0) → All P []
 all_none P i d below = absurd (omega arith)
 
 units_sure : (held : Held) (entries : List UnitEntry) (units : UnitStates) → AreEach (IsUnitOf held) entries units
-    → list_all (λ unit. is_memory_disk unit.medium) entries ≡ true → AreSure units
+    → list_all (λ unit. is_in_memory unit.medium) entries ≡ true → AreSure units
 units_sure held [] [] each all = all_none (λ (unit : UnitState). IsSureDevice unit.device)
 units_sure held [] (unit ∷ units) each all = absurd each
 units_sure held (entry ∷ entries) [] each all = absurd each
 units_sure held (entry ∷ entries) (unit ∷ units) each all =
-    let both = and_parts (is_memory_disk entry.medium) (list_all (λ (unit : UnitEntry). is_memory_disk unit.medium) entries) all in
+    let both = and_parts (is_in_memory entry.medium) (list_all (λ (unit : UnitEntry). is_in_memory unit.medium) entries) all in
     All-cons (λ (unit : UnitState). IsSureDevice unit.device) unit units (medium_sure held entry.medium unit.device each.0.medium both.0)
     (units_sure held entries units each.1 both.1)
 
 targets_sure : (held : Held) (targets : List TargetEntry) (units : List UnitStates) → AreUnitsOf held targets units
-    → list_all (λ target. list_all (λ unit. is_memory_disk unit.medium) target.units) targets ≡ true → All AreSure units
+    → list_all (λ target. list_all (λ unit. is_in_memory unit.medium) target.units) targets ≡ true → All AreSure units
 targets_sure held [] [] each all = all_none AreSure
 targets_sure held [] (unit ∷ units) each all = absurd each
 targets_sure held (target ∷ targets) [] each all = absurd each
 targets_sure held (target ∷ targets) (unit ∷ units) each all =
-    let both = and_parts (list_all (λ (unit : UnitEntry). is_memory_disk unit.medium) target.units)
-    (list_all (λ (target : TargetEntry). list_all (λ (unit : UnitEntry). is_memory_disk unit.medium) target.units) targets) all in
+    let both = and_parts (list_all (λ (unit : UnitEntry). is_in_memory unit.medium) target.units)
+    (list_all (λ (target : TargetEntry). list_all (λ (unit : UnitEntry). is_in_memory unit.medium) target.units) targets) all in
     All-cons AreSure unit units (units_sure held target.units unit each.0 both.0) (targets_sure held targets units each.1 both.1)
 
 sound_if_sure : (machine : Machine) → IsSure machine → IsSound machine

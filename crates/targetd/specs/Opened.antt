@@ -1,12 +1,13 @@
 -- The units that a configuration makes.
-use Rattle.std.specs.Prelude.{◌≡◌, ℕ, List, [], ◌∷◌, true, false, IsTrue, replicate}
+use Rattle.std.specs.Prelude.{◌≡◌, ◌≤◌, ℕ, List, [], ◌∷◌, length, true, false, IsTrue, replicate}
 use Rattle.media_block.specs.Blocks.{DiskState, block_length, is_disk, disk_of}
+use Rattle.media_tape.specs.Items.{items_of, is_tape}
 use Rattle.media_tape.specs.Tape.{TapeState}
 use Rattle.scsi_unit.specs.Device.{DeviceState, opened, opened_tape}
 use Rattle.scsi_unit.specs.State.{UnitState}
 use Rattle.scsi_unit.specs.Unit.{free_unit}
 use Rattle.scsi_unit.specs.Units.{UnitStates}
-use Rattle.target_config.specs.Configuration.{MediumEntry, MemoryDisk, FileDisk, MemoryTape, UnitEntry, TargetEntry, natural}
+use Rattle.target_config.specs.Configuration.{MediumEntry, MemoryDisk, FileDisk, MemoryTape, FileTape, UnitEntry, TargetEntry, natural}
 
 -- what the file at each path held as it was opened
 abbrev pub Held : Type 0
@@ -16,7 +17,7 @@ Held = List ℕ → List ℕ
 abbrev pub zero_disk : ℕ → DiskState
 zero_disk blocks = record { blocks = replicate blocks (replicate block_length 0); synced = false; failures = 0; honest = true; steady = true }
 
--- profile: an empty tape in memory, loaded
+-- profile: an empty tape in memory, loaded, whose store cannot fail
 abbrev pub empty_tape : (capacity early : ℕ) → TapeState
 empty_tape capacity early = record {
   before = [];
@@ -29,6 +30,7 @@ empty_tape capacity early = record {
   failures = 0;
   honest = true;
   steady = true;
+  reach = capacity;
 }
 
 -- own: a disk in a file, as it is opened: where the file told its length as it was, its blocks are those that it held
@@ -37,11 +39,24 @@ pub record IsFileDisk (held : List ℕ) (disk : DiskState) : Type 0 where
   pub whole : IsTrue disk.honest → is_disk held ≡ true
   pub blocks : IsTrue disk.honest → disk.blocks ≡ disk_of held
 
+-- own: a tape in a file, as it is opened, loaded and at its beginning: where the file told its length and the lengths of its items
+-- as they were, its items are those that it held, and no more
+pub record IsFileTape (capacity early : ℕ) (held : List ℕ) (tape : TapeState) : Type 0 where
+  pub unfailed : tape.failures ≡ 0
+  pub set : (tape.is_loaded ≡ true) × (tape.capacity ≡ capacity) × (tape.early_mark ≡ early)
+  pub whole : IsTrue tape.honest → is_tape held ≡ true
+  pub fits : IsTrue tape.honest → length held ≤ capacity
+  pub before : IsTrue tape.honest → tape.before ≡ []
+  pub after : IsTrue tape.honest → tape.after ≡ items_of held
+  pub tail : IsTrue tape.honest → tape.tail ≡ []
+
 -- own: what a unit keeps its data on when it is opened
 abbrev pub IsMediumOf : Held → MediumEntry → DeviceState → Type 0
 IsMediumOf held (MemoryDisk blocks) medium = medium ≡ opened (zero_disk blocks)
 IsMediumOf held (FileDisk path) medium = (disk : DiskState) × (medium ≡ opened disk) × IsFileDisk (held path) disk
 IsMediumOf held (MemoryTape capacity early) medium = medium ≡ opened_tape (empty_tape capacity early)
+IsMediumOf held (FileTape path capacity early) medium =
+    (tape : TapeState) × (medium ≡ opened_tape tape) × IsFileTape capacity early (held path) tape
 
 -- own: a unit as it is opened: no nexus is joined to it
 pub record IsUnitOf (held : Held) (entry : UnitEntry) (unit : UnitState) : Type 0 where

@@ -11,7 +11,7 @@ use Rattle.iscsi_target.specs.World.{Setting}
 use Rattle.iscsi_target.specs.Machine.{Machine, WhereSound, IsSound, new_machine}
 use Rattle.iscsi_serve.specs.Log.{Entry, Listened, Located}
 use Rattle.iscsi_serve.specs.Calls.{ip_octets}
-use Rattle.target_config.specs.Configuration.{Document, names_of, has_memory_disks_alone}
+use Rattle.target_config.specs.Configuration.{Document, names_of, keeps_in_memory}
 use Rattle.target_config.specs.Config.{file_config_of}
 use Rattle.target_config.specs.declared.fault.ConfigFault.{ConfigFault}
 use Rattle.target_config.specs.declared.fault.ConfigFault.TheVariants.{Unreadable}
@@ -61,13 +61,13 @@ FailsEarly (Err why) fault = (fault ≡ OutOfMemory) ⊎ (fault ≡ config_fault
 
 module _ (held : Held) (left : LeftState) (printed printed_then : Option (List ℕ)) where
   -- Serving at these units, from a new target, by ports that were asked for the configured address and told where they
-  -- listen. It leaves both; a target whose units are all disks in memory is sound.
+  -- listen. It leaves both; a target of which no unit is in a file is sound.
   pub record IsServing (document : Document) (count : ℕ) (result : Result (Unit {0}) Fault) : Type 0 where
     pub units : List UnitStates
     pub opened : AreUnitsOf held document.targets units
     pub served : ServedState
     pub is_left : left.served ≡ Some served
-    pub sure : has_memory_disks_alone document ≡ true → IsSound served.target
+    pub sure : keeps_in_memory document ≡ true → IsSound served.target
     -- where they listen
     pub address : SocketAddr
     pub serves : Serves (listening_line address) count true (listening document.listen address) served.log
@@ -92,14 +92,14 @@ module _ (held : Held) (left : LeftState) (unread unread_then printed printed_th
   CarriesOut s (Ok end) = Ends unread unread_then printed printed_then s
   CarriesOut s (Err fault) = (why : ReplayFault) × (fault ≡ replay_fault why) × EndsBy unread unread_then printed printed_then s why
 
-  -- a replay at these units, which leaves a target: where that is sound, as it is if all units are disks in memory, the
-  -- lines were carried out
+  -- a replay at these units, which leaves a target: where that is sound, as it is if no unit is in a file, the lines
+  -- were carried out
   pub record IsReplay (document : Document) (result : Result (Unit {0}) Fault) : Type 0 where
     pub units : List UnitStates
     pub opened : AreUnitsOf held document.targets units
     pub target : Machine
     pub is_left : left.replayed ≡ Some target
-    pub sure : has_memory_disks_alone document ≡ true → IsSound target
+    pub sure : keeps_in_memory document ≡ true → IsSound target
     pub carried : WhereSound target (CarriesOut (setting_of document units) result)
 
   abbrev pub IsReplayAt : Result Document ConfigFault → Result (Unit {0}) Fault → Type 0

@@ -1,7 +1,7 @@
 -- Why units are not opened: only one in a file can fail.
 use Rattle.std.specs.Prelude.{◌≡◌, ℕ, List, Bool, true, false, ◌&&◌, ◌==◌, bytes_eq, string_bytes}
 use Rattle.std.specs.List.{list_any}
-use Rattle.target_config.specs.Configuration.{MediumEntry, MemoryDisk, FileDisk, MemoryTape, UnitEntry, TargetEntry, natural}
+use Rattle.target_config.specs.Configuration.{MediumEntry, MemoryDisk, FileDisk, MemoryTape, FileTape, UnitEntry, TargetEntry, natural}
 use Rattle.targetd.specs.declared.opening.Unopened.{Unopened}
 use Rattle.targetd.specs.declared.opening.Unopened.TheVariants as whys
 use Rattle.targetd.specs.declared.fault.Fault.{Fault}
@@ -11,6 +11,7 @@ abbrev pub is_in_file : MediumEntry → Bool
 is_in_file (MemoryDisk blocks) = false
 is_in_file (FileDisk path) = true
 is_in_file (MemoryTape capacity early) = false
+is_in_file (FileTape path capacity early) = true
 
 -- a unit of this number that is in a file
 abbrev pub is_file_unit : ℕ → UnitEntry → Bool

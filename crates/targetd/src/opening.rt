@@ -5,7 +5,7 @@ ghost use Rattle.std.specs.IoError.{error_kind};
 ghost use Rattle.std.specs.List.{list_all};
 ghost use Rattle.target_config.specs.Configuration.{natural, names_of, unit_view, units_view, targets_view, configuration_view};
 ghost use Rattle.target_config.specs.Limits.{is_lun, unit_keeps, keeps_limits};
-ghost use Rattle.targetd.specs.Opened.{zero_disk, empty_tape, IsFileDisk, IsUnitOf, AreEach, AreUnitsOf};
+ghost use Rattle.targetd.specs.Opened.{zero_disk, empty_tape, IsFileDisk, IsFileTape, IsUnitOf, AreEach, AreUnitsOf};
 ghost use Rattle.targetd.specs.Unopened.{IsFaultAt, IsFaultIn, IsUnopened};
 ghost use Rattle.targetd.specs.declared.opening.Unopened.TheVariants.{Device, Memory as OutOfMemory};
 
@@ -34,7 +34,7 @@ pub struct Setup<S: Start> {
 /// Why a unit is not opened.
 #[derive(Clone, Copy, Debug, PartialEq, Eq)]
 enum Unopened {
-    /// Its file cannot be read and written, or is no disk.
+    /// Its file cannot be read and written, or is no disk, or no tape of its capacity.
     Device { lun: u8 },
     /// An allocation failed.
     Memory,
@@ -117,6 +117,29 @@ fn file_disk<S: Start>(
     }
 }
 
+/// A tape in the file at a path, which is opened for reading and writing. None is made.
+fn file_tape<S: Start>(
+    rt: &impl Files<File = File>,
+    path: String,
+    capacity: u64,
+    early: u64,
+    lun: u8,
+) -> Result<Tape<SystemStore<S>>, Unopened>
+    ensures tape { IfOk result (IsFileTape capacity early (S.held (string_bytes path))) }
+    ensures fault { IfErr result (λ why. why ≢ OutOfMemory → why ≡ Device lun) }
+{
+    match SystemFile::open(rt, path.as_str()) {
+        Ok(file) => {
+            let store = MediumStore::File(FileStore::new(file, path));
+            match Tape::open(store, capacity, early) {
+                Ok(tape) => Ok(tape),
+                Err(_) => Err(Unopened::Device { lun }),
+            }
+        }
+        Err(error) => Err(fault_of(&error, lun)),
+    }
+}
+
 /// A unit over its medium.
 fn open_unit<S: Start>(
     rt: &(impl Files<File = File> + AllocGlobal),
@@ -143,6 +166,14 @@ fn open_unit<S: Start>(
         }
         MediumConfiguration::MemoryTape { capacity, early } => {
             let tape = memory_tape(alloc, capacity, early)?;
+            Ok(Unit::tape(alloc, lun, serial, tape))
+        }
+        MediumConfiguration::FileTape {
+            path,
+            capacity,
+            early,
+        } => {
+            let tape = file_tape(rt, path, capacity, early, lun)?;
             Ok(Unit::tape(alloc, lun, serial, tape))
         }
     }

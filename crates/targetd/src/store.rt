@@ -1,4 +1,4 @@
-//! Where the bytes of a disk are kept.
+//! Where the bytes of a disk or a tape are kept.
 
 use media_store::{FileStore, MemStore, Store, StoreFault, SystemFile};
 
@@ -25,6 +25,8 @@ impl<F: Store> Store for MediumStore<F> {
     ghost honest = { by_kind (λ _. true) F.Store.honest };
 
     ghost steady = { by_kind (λ _. true) F.Store.steady };
+
+    ghost reach = { by_kind (λ store. store.most) F.Store.reach };
 
     fn len(&mut self) -> Result<u64, StoreFault> {
         match self {

@@ -12,6 +12,7 @@ invariant-loop-left g l = record {
   synced : g.S.Store.synced l.store ≡ g.S.Store.synced l.initial.store;
   failures : g.S.Store.failures l.store ≡ g.S.Store.failures l.initial.store;
   steady : g.S.Store.steady l.store ≡ g.S.Store.steady l.initial.store;
+  reach : g.S.Store.reach l.store ≡ g.S.Store.reach l.initial.store;
   back : IsTrue (g.S.Store.honest l.store) → IsTrue (g.S.Store.honest l.initial.store);
   stays : IsTrue (g.S.Store.steady l.initial.store) → l.fn.all.place ≤ length (g.S.Store.content l.initial.store)
       → g.S.Store.honest l.store ≡ g.S.Store.honest l.initial.store;

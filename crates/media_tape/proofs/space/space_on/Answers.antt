@@ -13,6 +13,7 @@ loop-left-init g c =
       synced = search rules;
       failures = search rules;
       steady = search rules;
+      reach = search rules;
       back = λ honest. honest;
       stays = λ steady long. search rules;
       is = λ honest lies.
@@ -39,6 +40,7 @@ loop-left-preserved g c =
       synced = told.synced ∙ kept.synced;
       failures = told.failures ∙ kept.failures;
       steady = told.steady ∙ kept.steady;
+      reach = told.reach ∙ kept.reach;
       back = λ honest. kept.back (told.back honest);
       stays = λ steady long.
           (told.succeeds (kept.steady ∙ steady) (rw kept.content long)).1 ∙ kept.stays steady long;

@@ -18,6 +18,7 @@ loop-count-preserved g c =
       synced = told.synced ∙ kept.synced;
       failures = told.failures ∙ kept.failures;
       steady = told.steady ∙ kept.steady;
+      reach = told.reach ∙ kept.reach;
       back = λ honest. kept.back (told.back honest);
       stays = λ steady long.
           (told.succeeds (kept.steady ∙ steady) (rw kept.content long)).1 ∙ kept.stays steady long;

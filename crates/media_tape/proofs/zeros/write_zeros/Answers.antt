@@ -29,6 +29,7 @@ loop-done-preserved g c =
       honest = told.honest ∙ kept.honest;
       failures = told.failures ∙ kept.failures;
       steady = told.steady ∙ kept.steady;
+      reach = told.reach ∙ kept.reach;
       keeps = KeepsBefore-trans c.args.place c0 c1 c2 kept.keeps
           (KeepsBefore-put c.args.place (c.args.place + c.loop-done.done) (replicate part 0) c1 c2 (omega arith) is);
       long = λ within. (zeros-more c.args.place c.loop-done.done part c0 c1 c2 (kept.long within) (kept.front within) is).0;

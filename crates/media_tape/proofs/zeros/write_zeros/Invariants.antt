@@ -8,6 +8,7 @@ invariant-loop-done g l = record {
   honest : g.S.Store.honest l.store ≡ g.S.Store.honest l.initial.store;
   failures : g.S.Store.failures l.store ≡ g.S.Store.failures l.initial.store;
   steady : g.S.Store.steady l.store ≡ g.S.Store.steady l.initial.store;
+  reach : g.S.Store.reach l.store ≡ g.S.Store.reach l.initial.store;
   keeps : KeepsBefore l.place (g.S.Store.content l.initial.store) (g.S.Store.content l.store);
   long : l.place ≤ length (g.S.Store.content l.initial.store) → l.place + l.done ≤ length (g.S.Store.content l.store);
   front : l.place ≤ length (g.S.Store.content l.initial.store)

@@ -20,8 +20,10 @@ returns g c =
     let failures = rw c.unwrap.ensures at c.open.ensures.failures in
     let stays = rw c.unwrap.ensures at c.open.ensures.stays in
     let steady = rw c.unwrap.ensures at c.open.ensures.steady in
+    let reach = rw c.unwrap.ensures at c.open.ensures.reach in
     let made = c.in_ok-store.ensures in
     let honest = stays refl refl in
     empty_opened c.args.capacity c.args.early c.unwrap.result (before honest)
     (after honest ∙ ap (λ (s : MemoryState). items_of s.content) made ∙ nothing_stands) (tail honest) set.0 set.1 set.2
     (synced ∙ ap (λ (s : MemoryState). s.synced) made) (failures ∙ ap (λ (s : MemoryState). s.failures) made) honest steady
+    (reach ∙ ap (λ (s : MemoryState). s.most) made)

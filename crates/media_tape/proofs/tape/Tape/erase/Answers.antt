@@ -49,6 +49,7 @@ returns-clause-tape g c =
       counts,
       c.set_len.ensures.honest,
       c.set_len.ensures.steady,
+      c.set_len.ensures.reach,
     ) refl) c.set_len.ensures.resized)
 
 pub returns-clause-failed : goal.returns-clause-failed
@@ -68,4 +69,5 @@ returns-clause-failed g c =
       counts,
       c.set_len.ensures.honest,
       c.set_len.ensures.steady,
+      c.set_len.ensures.reach,
     ) refl) c.set_len.ensures.torn)

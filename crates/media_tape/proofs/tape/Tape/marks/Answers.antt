@@ -42,6 +42,7 @@ returns-in_err-write_zeros-clause-failed g c =
       c.in_err-write_zeros.ensures.failures,
       c.write_zeros.ensures.honest,
       c.write_zeros.ensures.steady,
+      c.write_zeros.ensures.reach,
     ) refl))
 
 pub invariant_of-self-in_err-sync-2 : goal.invariant_of-self-in_err-sync-2
@@ -85,7 +86,9 @@ returns-in_err-sync-2-clause-failed g c =
       c.sync-2.ensures.honest,
       c.write_zeros.ensures.honest,
       c.sync-2.ensures.steady,
+      c.sync-2.ensures.reach,
       c.write_zeros.ensures.steady,
+      c.write_zeros.ensures.reach,
     ) refl))
 
 pub invariant_of-self-2 : goal.invariant_of-self-2
@@ -141,5 +144,7 @@ returns-clause-tape g c =
       c.sync-2.ensures.honest,
       c.write_zeros.ensures.honest,
       c.sync-2.ensures.steady,
+      c.sync-2.ensures.reach,
       c.write_zeros.ensures.steady,
+      c.write_zeros.ensures.reach,
     ) refl)

@@ -96,5 +96,7 @@ returns-clause-tape g c honest =
       honest,
       first,
       c.in_ok-data_at.ensures.steady,
+      c.in_ok-data_at.ensures.reach,
       c.in_ok-length.ensures.steady,
+      c.in_ok-length.ensures.reach,
     ) refl

@@ -41,6 +41,7 @@ returns-in_err-write_record-clause-failed g c =
       c.in_err-write_record.ensures.failures,
       c.write_record.ensures.honest,
       c.write_record.ensures.steady,
+      c.write_record.ensures.reach,
     ) refl))
 
 pub invariant_of-self-2 : goal.invariant_of-self-2
@@ -90,4 +91,5 @@ returns-clause-tape g c =
       c.in_ok-write_record.ensures.failures,
       c.write_record.ensures.honest,
       c.write_record.ensures.steady,
+      c.write_record.ensures.reach,
     ) refl)

@@ -1,4 +1,5 @@
 use Rattle.std.proofs.Common.{refl, false}
+use Rattle.std.proofs.lemmas.Bool.{false≢true}
 use Rattle.scsi_cdb.specs.declared.tape.TapeCommand.TheVariants.{Erase}
 use Rattle.scsi_sense.specs.Done.{good}
 use Rattle.scsi_tape.specs.State.{TapeUnitState}
@@ -18,4 +19,5 @@ returns-in-Err-clause-done g c bytes =
     let new = c.erase.new.self in
     rw (← c.self.view_is, c.write_failed.ensures.told, c.write_failed.ensures.unit)
     (write_fails Erase bytes unit (cut new) new refl c.in-Err.ensures.rest
-    (λ honest. lost_front unit.tape new (cut new) new.tail false refl refl (c.in-Err.ensures.failed honest)))
+    (λ honest. lost_front unit.tape new (cut new) new.tail false refl refl (c.in-Err.ensures.failed honest))
+    (λ steady honest room. false≢true (c.in-Err.ensures.succeeds steady honest)))

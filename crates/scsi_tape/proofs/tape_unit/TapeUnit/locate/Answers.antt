@@ -1,4 +1,5 @@
 use Rattle.std.proofs.Common.{refl, ap, ◌∙◌}
+use Rattle.std.proofs.lemmas.Bool.{false≢true}
 use Rattle.scsi_cdb.specs.declared.tape.TapeCommand.TheVariants.{Locate}
 use Rattle.scsi_tape.specs.Commands.{locate_outcome}
 use Rattle.scsi_tape.specs.State.{TapeUnitState}
@@ -15,7 +16,8 @@ returns-clause-done g c bytes =
           (reads (Locate c.args.number) bytes unit (moved unit.tape new) new w.located.result refl w.in-Ok.ensures.rest
           (λ honest. rw c.from.ensures at (w.in-Ok.ensures.tape honest))
           (λ honest. w.located.ensures.told ∙ ap locate_outcome (rw c.from.ensures at (w.in-Ok.ensures.told honest)))
-          (none_given w.located.result w.located.ensures.given))
+          (none_given w.located.result w.located.ensures.given) (λ steady honest. (w.in-Ok.ensures.succeeds steady honest).1))
       | in-Err w ↦ rw (w.result-is, w.read_failed.ensures)
-          (read_fails (Locate c.args.number) bytes unit new refl w.in-Err.ensures.failed w.in-Err.ensures.back)
+          (read_fails (Locate c.args.number) bytes unit new refl w.in-Err.ensures.failed w.in-Err.ensures.back
+          (λ steady honest. false≢true (w.in-Err.ensures.succeeds steady honest).0))
     ])

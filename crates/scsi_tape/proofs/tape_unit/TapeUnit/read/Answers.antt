@@ -1,4 +1,5 @@
 use Rattle.std.proofs.Common.{◌≡◌, ◌≢◌, ℕ, ◌≤◌, List, min, length, take, drop, refl, ap, ◌∙◌, arith}
+use Rattle.std.proofs.lemmas.Bool.{false≢true}
 use Rattle.media_tape.specs.Tape.{read_told, first_data, passed_length}
 use Rattle.media_tape.specs.declared.outcome.Passed.{Passed}
 use Rattle.media_tape.specs.declared.outcome.Passed.TheVariants as passed
@@ -33,7 +34,8 @@ returns-clause-done g c bytes =
       | in-Ok-Nothing w ↦ rw (w.result-is, w.good-in-Ok-Nothing.ensures)
           (reads command bytes unit left new good touch w.in-Ok-Nothing.ensures.rest
           (λ honest. w.in-Ok-Nothing.ensures.tape honest ∙ read_same room asked unit.tape some any)
-          (λ honest. told passed.Nothing (rw w.in-Ok-Nothing.field-0-is at (w.in-Ok-Nothing.ensures.passed honest))) (none_given good refl))
+          (λ honest. told passed.Nothing (rw w.in-Ok-Nothing.field-0-is at (w.in-Ok-Nothing.ensures.passed honest))) (none_given good refl)
+          (λ steady honest. (w.in-Ok-Nothing.ensures.succeeds steady honest).1))
       | in-Ok-Record w ↦ rw w.result-is
           (reads command bytes unit left new w.record_read.result touch w.in-Ok-Record.ensures.rest
           (λ honest. w.in-Ok-Record.ensures.tape honest ∙ read_same room asked unit.tape some any)
@@ -48,17 +50,18 @@ returns-clause-done g c bytes =
           ∙ ap (λ (k : ℕ). take k items) least ∙ take_most asked 1048576 items few in
           w.record_read.ensures.told ∙ ap (λ (xs : List ℕ). record_outcome asked suppressed actual xs) given
           ∙ told (passed.Record actual) is)
-          w.record_read.ensures.given)
+          w.record_read.ensures.given (λ steady honest. (w.in-Ok-Record.ensures.succeeds steady honest).1))
       | in-Ok-Filemark w ↦ rw (w.result-is, w.check_condition.ensures, w.filemark.ensures)
           (reads command bytes unit left new (check_condition (filemark asked)) touch w.in-Ok-Filemark.ensures.rest
           (λ honest. w.in-Ok-Filemark.ensures.tape honest ∙ read_same room asked unit.tape some any)
           (λ honest. told passed.Filemark (rw w.in-Ok-Filemark.field-0-is at (w.in-Ok-Filemark.ensures.passed honest)))
-          (none_given (check_condition (filemark asked)) refl))
+          (none_given (check_condition (filemark asked)) refl) (λ steady honest. (w.in-Ok-Filemark.ensures.succeeds steady honest).1))
       | in-Ok-EndOfData w ↦ rw (w.result-is, w.check_condition-in-Ok-EndOfData.ensures, w.end_of_data.ensures)
           (reads command bytes unit left new (check_condition (end_of_data asked)) touch w.in-Ok-EndOfData.ensures.rest
           (λ honest. w.in-Ok-EndOfData.ensures.tape honest ∙ read_same room asked unit.tape some any)
           (λ honest. told passed.EndOfData (rw w.in-Ok-EndOfData.field-0-is at (w.in-Ok-EndOfData.ensures.passed honest)))
-          (none_given (check_condition (end_of_data asked)) refl))
+          (none_given (check_condition (end_of_data asked)) refl) (λ steady honest. (w.in-Ok-EndOfData.ensures.succeeds steady honest).1))
       | in-Err w ↦ rw (w.result-is, w.read_failed.ensures)
-          (read_fails command bytes unit new touch w.in-Err.ensures.failed w.in-Err.ensures.back)
+          (read_fails command bytes unit new touch w.in-Err.ensures.failed w.in-Err.ensures.back
+          (λ steady honest. false≢true (w.in-Err.ensures.succeeds steady honest).0))
     ])

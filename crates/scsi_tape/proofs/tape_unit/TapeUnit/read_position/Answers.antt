@@ -15,4 +15,4 @@ returns-clause-done g c bytes =
     (reads ReadPosition bytes unit (moved unit.tape unit.tape) unit.tape c.good_with_front.result refl refl (λ honest. refl)
     (λ honest. told ∙ ap (λ (at : ℕ). good_with (position_data at c.is_early.result)) (c.position.ensures honest)
     ∙ ap (λ (early : Bool). good_with (position_data (length unit.tape.before) early)) (c.is_early.ensures honest))
-    c.good_with_front.ensures.given)
+    c.good_with_front.ensures.given (λ steady honest. refl))

@@ -1,4 +1,5 @@
 use Rattle.std.proofs.Common.{refl, ap, ◌∙◌}
+use Rattle.std.proofs.lemmas.Bool.{false≢true}
 use Rattle.media_tape.specs.Space.{spaced_told, tape_spaced}
 use Rattle.media_tape.specs.declared.outcome.Over.{Over}
 use Rattle.media_tape.specs.declared.outcome.Direction.{Direction}
@@ -23,7 +24,8 @@ returns-clause-done g c bytes =
           (λ honest. w.spaced.ensures.told ∙ ap space_outcome (w.in-Ok.ensures.told honest
           ∙ ap (λ (way : Direction). spaced_told way c.over.result count unit.tape) c.toward.ensures
           ∙ ap (λ (over : Over). spaced_told (toward c.args.distance) over count unit.tape) c.over.ensures))
-          (none_given w.spaced.result w.spaced.ensures.given))
+          (none_given w.spaced.result w.spaced.ensures.given) (λ steady honest. (w.in-Ok.ensures.succeeds steady honest).1))
       | in-Err w ↦ rw (w.result-is, w.read_failed.ensures)
-          (read_fails (Space c.args.code c.args.distance) bytes unit new refl w.in-Err.ensures.failed w.in-Err.ensures.back)
+          (read_fails (Space c.args.code c.args.distance) bytes unit new refl w.in-Err.ensures.failed w.in-Err.ensures.back
+          (λ steady honest. false≢true (w.in-Err.ensures.succeeds steady honest).0))
     ])

@@ -14,4 +14,5 @@ returns-clause-done g c bytes =
     rw (← c.self.view_is, c.good.ensures)
     (reads SpaceToEndOfData bytes unit (moved unit.tape new) new good refl
     (rest ∙ ap (λ (h : Bool). record unit.tape { before = new.before; after = new.after; honest = h }) (ap (λ (t : TapeState). t.honest) (sym rest)))
-    (λ honest. c.space_to_end.ensures.tape (rw rest at honest)) (λ honest. refl) (none_given good refl))
+    (λ honest. c.space_to_end.ensures.tape (rw rest at honest)) (λ honest. refl) (none_given good refl)
+    (λ steady honest. ap (λ (t : TapeState). t.honest) rest))

@@ -1,4 +1,5 @@
 use Rattle.std.proofs.Common.{◌≡◌, ℕ, true, false, nat_lt, take, refl, ap, ◌∙◌}
+use Rattle.std.proofs.lemmas.Bool.{false≢true}
 use Rattle.media_tape.specs.Tape.{write_told, tape_written}
 use Rattle.scsi_cdb.specs.declared.tape.TapeCommand.TheVariants.{Write}
 use Rattle.scsi_tape.specs.Commands.{write_outcome}
@@ -29,4 +30,5 @@ returns-in-Err-clause-done g c =
     let some : nat_lt 0 c.args.size ≡ true = rw c.bytes-count.ensures.value at (some_byte c.bytes-count.result c.if-count-eq0.false) in
     rw (← c.self.view_is, c.write_failed.ensures.told, c.write_failed.ensures.unit)
     (write_fails (Write c.args.size) c.args.«data».now unit (standing_of new) new some c.in-Err.ensures.rest
-    (λ honest. lost_front unit.tape new (standing_of new) new.tail false refl refl (c.in-Err.ensures.failed honest)))
+    (λ honest. lost_front unit.tape new (standing_of new) new.tail false refl refl (c.in-Err.ensures.failed honest))
+    (λ steady honest room. false≢true (c.in-Err.ensures.succeeds steady room)))

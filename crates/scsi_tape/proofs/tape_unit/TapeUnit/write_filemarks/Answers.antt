@@ -1,4 +1,5 @@
 use Rattle.std.proofs.Common.{refl, ap, ◌∙◌}
+use Rattle.std.proofs.lemmas.Bool.{false≢true}
 use Rattle.scsi_cdb.specs.declared.tape.TapeCommand.TheVariants.{WriteFilemarks}
 use Rattle.scsi_tape.specs.Commands.{marks_outcome}
 use Rattle.scsi_tape.specs.CameOut.{standing_of}
@@ -21,4 +22,5 @@ returns-in-Err-clause-done g c bytes =
     let new = c.marks.new.self in
     rw (← c.self.view_is, c.write_failed.ensures.told, c.write_failed.ensures.unit)
     (write_fails (WriteFilemarks c.args.count) bytes unit (standing_of new) new refl c.in-Err.ensures.rest
-    (λ honest. marks_front c.args.count unit.tape new (c.in-Err.ensures.failed honest) c.in-Err.ensures.none_failed))
+    (λ honest. marks_front c.args.count unit.tape new (c.in-Err.ensures.failed honest) c.in-Err.ensures.none_failed)
+    (λ steady honest room. false≢true (c.in-Err.ensures.succeeds steady room)))

@@ -1,8 +1,5 @@
-use Rattle.std.proofs.Common.{◌≡◌, List, true, false, refl, sym, ap, ◌∙◌}
-use Rattle.scsi_unit.specs.Device.{DeviceState, Tape}
-use Rattle.scsi_sense.specs.declared.condition.Attention.TheVariants.{NotReadyToReadyChange}
-use Rattle.scsi_unit.specs.Joined.{raised_for_others}
-use Rattle.scsi_unit.specs.declared.joined.Joined.{Joined}
+use Rattle.std.proofs.Common.{◌≡◌, true, false, refl, sym, ap, ◌∙◌}
+use Rattle.scsi_unit.specs.Device.{Tape}
 use Rattle.scsi_unit.specs.State.{UnitState}
 use Rattle.scsi_unit.specs.TapeCommands.{loads}
 use Rattle.scsi_unit.proofs.TapeDone.{tape_did_to}

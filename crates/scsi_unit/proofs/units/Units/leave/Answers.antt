@@ -1,6 +1,7 @@
-use Rattle.std.proofs.Common.{◌≡◌, ◌∙◌, length, map, set, sym, ap, arith}
+use Rattle.std.proofs.Common.{◌≡◌, ◌∙◌, map, set, refl, sym, ap, arith}
 use Rattle.scsi_unit.specs.Unit.{left_unit}
-use Rattle.scsi_unit.specs.Units.{leave}
+use Rattle.scsi_unit.specs.Units.{leave, numbers_of}
+use Rattle.scsi_unit.proofs.Numbers.{numbers_map}
 use Rattle.scsi_unit.proofs.Lists.{map_over_next, map_over_all, over_all}
 use Rattle.scsi_unit.proofs.units.Units.leave.Goals as goal
 
@@ -18,3 +19,12 @@ returns g c =
     map_over_all left c.deref_mut-unit-items.result.now c.loop-unit.unit-items c.loop-unit.unit-index c.loop-unit-test.false c.loop-unit.invariant in
     over_all c.loop-unit.unit-items _ c.self.inside.units.len (omega (arith, c.deref_mut-unit-items.ensures.len, c.loop-unit.auto.unit-items))
     ∙ done ∙ ap (map left) (c.deref_mut-unit-items.ensures.value ∙ c.self.view_is)
+
+pub invariant_of-self : goal.invariant_of-self
+invariant_of-self g c =
+    let f = (left_unit c.args.nexus.now) in
+    let done : c.loop-unit.unit-items ≡ map f c.deref_mut-unit-items.result.now =
+    map_over_all f c.deref_mut-unit-items.result.now c.loop-unit.unit-items c.loop-unit.unit-index c.loop-unit-test.false c.loop-unit.invariant in
+    let whole = over_all c.loop-unit.unit-items _ c.self.inside.units.len (omega (arith, c.deref_mut-unit-items.ensures.len, c.loop-unit.auto.unit-items))
+    ∙ done ∙ ap (map f) c.deref_mut-unit-items.ensures.value in
+    c.self.invariant ∙ sym (numbers_map (left_unit c.args.nexus.now) c.self.inside.units.items (λ unit. refl)) ∙ ap numbers_of (sym whole)

@@ -2,8 +2,10 @@ use Rattle.std.proofs.Common.{◌≡◌, ◌∙◌, set, true, false, length, re
 use Rattle.std.proofs.lemmas.Result.{IfOk-weaker, on_err_weaker}
 use Rattle.std.proofs.lemmas.List.{length-set, set-get_or}
 use Rattle.scsi_unit.specs.Identity.{is_for_target}
-use Rattle.scsi_unit.specs.Units.{unit_of}
+use Rattle.scsi_unit.specs.Units.{unit_of, numbers_of}
 use Rattle.scsi_unit.specs.Lun.{lun_number}
+use Rattle.scsi_unit.specs.State.{UnitState}
+use Rattle.scsi_unit.proofs.Numbers.{numbers_set, result_same}
 use Rattle.scsi_unit.proofs.Found.{place_found, luns_answered, luns_given, unit_answered, unit_given}
 use Rattle.scsi_unit.proofs.Sound.{answered_exact, answered_sound, answered_back, answered_sure}
 use Rattle.scsi_unit.proofs.units.Units.perform.Goals as goal
@@ -13,10 +15,11 @@ use Rattle.scsi_unit.proofs.units.Units.perform.Goals as goal
 pub returns-then-is_for_target-clause-answered : goal.returns-then-is_for_target-clause-answered
 returns-then-is_for_target-clause-answered g c =
     let report : is_for_target c.args.cdb ≡ true = sym c.is_for_target.ensures ∙ c.if-is_for_target.true in
+    let known : c.as_slice.result.now ≡ numbers_of c.args.self.now = c.as_slice.ensures.value ∙ c.self.invariant ∙ ap numbers_of c.self.view_is in
     rw (← c.in-Some.ensures.value)
     (IfOk-weaker c.reported_luns.result _ _
     (λ done answer. luns_answered c.args.self.now c.args.nexus.now c.args.cdb c.args.«data».now c.in-Some.at done report answer)
-    (rw (c.as_slice.ensures.value, c.self.view_is) at c.reported_luns.ensures.done))
+    (rw known at c.reported_luns.ensures.done))
 
 pub returns-then-is_for_target-clause-exact : goal.returns-then-is_for_target-clause-exact
 returns-then-is_for_target-clause-exact g c =
@@ -35,7 +38,8 @@ returns-then-is_for_target-clause-sound g c =
 pub returns-then-is_for_target-clause-nothing : goal.returns-then-is_for_target-clause-nothing
 returns-then-is_for_target-clause-nothing g c =
     let report : is_for_target c.args.cdb ≡ true = sym c.is_for_target.ensures ∙ c.if-is_for_target.true in
-    let nothing = rw (c.as_slice.ensures.value, c.self.view_is) at c.reported_luns.ensures.nothing in
+    let known : c.as_slice.result.now ≡ numbers_of c.args.self.now = c.as_slice.ensures.value ∙ c.self.invariant ∙ ap numbers_of c.self.view_is in
+    let nothing = rw known at c.reported_luns.ensures.nothing in
     λ calm plain given. luns_given c.reported_luns.result c.args.self.now c.args.nexus.now c.args.lun c.args.cdb c.args.«data».now c.in-Some.at
     (sym c.in-Some.ensures.value) c.in-Some.ensures.bound report nothing given
 
@@ -92,3 +96,12 @@ returns-clause-nothing g c =
     unit_given c.perform_with.result c.args.self.now c.args.nexus.now c.args.lun c.args.cdb
     c.args.«data».now c.in-Some.at c.index_mut-unit.result.now
     (sym c.in-Some.ensures.value) c.in-Some.ensures.bound other (rw (c.index_mut-unit.ensures.value, c.self.view_is) at c.perform_with.ensures.nothing)
+
+-- ---- the units keep their numbers
+
+pub invariant_of-self : goal.invariant_of-self
+invariant_of-self g c =
+    c.self.invariant
+    ∙ sym (numbers_set c.self.inside.units.items c.in-Some.at c.perform_with.new.self _
+    (result_same c.perform_with.result c.args.nexus.now c.args.cdb c.args.«data».now _ c.index_mut-unit.result.now c.perform_with.new.self
+    c.perform_with.ensures.done c.perform_with.ensures.err ∙ ap (λ (unit : UnitState). unit.lun) c.index_mut-unit.ensures.value))

@@ -1,0 +1,15 @@
+use Rattle.std.proofs.Common.{◌∙◌, refl, sym, ap, arith}
+use Rattle.scsi_unit.specs.Unit.{joined_unit}
+use Rattle.scsi_unit.specs.Units.{numbers_of}
+use Rattle.scsi_unit.proofs.Lists.{over_all}
+use Rattle.scsi_unit.proofs.Numbers.{numbers_result}
+use Rattle.scsi_unit.proofs.units.Units.join.Goals as goal
+
+pub invariant_of-self : goal.invariant_of-self
+invariant_of-self g c =
+    let whole = over_all c.join_each.new.units c.self.inside.units.items c.self.inside.units.len
+    (omega (arith, c.as_mut_slice.ensures.len, c.join_each.auto.units)) in
+    c.self.invariant ∙ sym (ap numbers_of c.as_mut_slice.ensures.value)
+    ∙ sym (numbers_result c.join_each.result (joined_unit c.args.nexus.now) c.as_mut_slice.result.now c.join_each.new.units (λ unit. refl)
+    c.join_each.ensures.ok c.join_each.ensures.err)
+    ∙ ap numbers_of (sym whole)

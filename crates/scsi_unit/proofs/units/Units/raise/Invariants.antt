@@ -1,0 +1,9 @@
+use Rattle.std.proofs.Common.{◌≡◌, ◌++◌, map, take, drop}
+use Rattle.scsi_unit.specs.Unit.{where_named, raised_unit}
+use Rattle.scsi_unit.proofs.units.Units.raise.Given as goal
+
+-- the units so far have told it, and the others are as they were
+abbrev pub invariant-loop-unit : goal.invariant-loop-unit
+invariant-loop-unit g l =
+    l.unit-items ≡ map (where_named l.lun (raised_unit l.nexus l.attention)) (take l.unit-index l.initial.unit-items)
+    ++ drop l.unit-index l.initial.unit-items
