@@ -21,9 +21,11 @@
 //! Nothing here takes memory.
 #![tactic(auto)]
 
+mod comparing;
 pub mod laws;
 mod stat;
 mod window;
 
+pub use comparing::is_before;
 pub use stat::Stat;
 pub use window::{Arrival, CommandNumbers, Window};

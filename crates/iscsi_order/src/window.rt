@@ -3,7 +3,7 @@
 ghost use Rattle.std.specs.Prelude.{◌≡◌, ◌<◌, ◌-◌, is_some, slice_index_or, length, map, replicate, None, if◌then◌else◌};
 ghost use Rattle.std.specs.List.{prefix_len};
 ghost use Rattle.iscsi_order.specs.Window.{Past, begun, is_new as is_new_in, arrived, arrival_of, handed_over, next_of, finished_one, numbers_of};
-ghost use Rattle.iscsi_order.specs.WindowState.{Stands, marked, is_vacant, with_key, turned};
+ghost use Rattle.iscsi_order.specs.WindowState.{Stands, marked, is_vacant, key_at, with_key, turned};
 ghost use Rattle.iscsi_order.specs.declared.window.Arrival.TheVariants.{New, Ignored};
 
 use std::marker::Model;
@@ -114,6 +114,17 @@ impl Window {
     {
         if self.unfinished > 0 {
             self.unfinished -= 1;
+        }
+    }
+
+    /// The key of the request with CmdSN `n`, where it has come and is not handed over.
+    pub fn key_of(&self, n: u32) -> Option<usize>
+        ensures { result ≡ key_at self.now n }
+    {
+        let place = n.wrapping_sub(self.next) as usize;
+        match self.held.get(place) {
+            Some(key) => *key,
+            None => None,
         }
     }
 

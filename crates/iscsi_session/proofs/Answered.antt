@@ -1,5 +1,5 @@
 -- What a request is answered, by its opcode, and what its act leaves of the session.
-use Rattle.std.proofs.Common.{◌≡◌, ◌≢◌, inl, inr, ℕ, min, List, [], ◌∷◌, ◌++◌, length, map, take, drop, Bool, true, false, cond, ◌==◌, eqb, refl, sym, ap, ◌∙◌, subst, arith, append-nil, ◌<◌}
+use Rattle.std.proofs.Common.{◌≡◌, ◌≢◌, inl, inr, ℕ, ◌+◌, min, List, [], ◌∷◌, ◌++◌, length, map, take, drop, Bool, true, false, cond, ◌&&◌, ◌==◌, eqb, refl, sym, ap, ◌∙◌, subst, arith, append-nil, ◌<◌}
 use Rattle.std.specs.Prelude.{◌⊎◌, flat_map, Option, Some, None}
 use Rattle.std.proofs.lemmas.Bool.{eqb-true, false_from_ne_true}
 use Rattle.std.proofs.lemmas.List.{take_min}
@@ -16,15 +16,19 @@ use Rattle.iscsi_pdu.specs.declared.logout_response.LogoutResult.TheVariants as 
 use Rattle.iscsi_pdu.specs.LogoutRequest.{logout_reason}
 use Rattle.iscsi_pdu.specs.declared.stamp.Stamp.{Stamp}
 use Rattle.iscsi_login.specs.declared.params.Params.{Params}
+use Rattle.iscsi_order.specs.Window as order
+use Rattle.iscsi_order.specs.declared.window.CommandNumbers.{CommandNumbers}
+use Rattle.iscsi_order.specs.Stat.{stat_sn}
 use Rattle.iscsi_login.specs.declared.values.Values.{Values}
 use Rattle.iscsi_session.specs.Judging.{reserved_tag, reject}
-use Rattle.iscsi_session.specs.Requests.{Request, Past, frame_of, frames_of, is_in, left, is_command, is_function, functions, due, queue, finished, moved, bears_status, bearing, stamp, answering}
+use Rattle.iscsi_session.specs.Requests.{Request, Past, frame_of, frames_of, is_in, left, is_command, is_function, functions, due, queue, finished, moved, numbers, bears_status, bearing, statuses, stamp, answering}
 use Rattle.iscsi_session.specs.State.{SessionState, standing, TaskLists, TransferList, IsLawful, Stands, functions_of, one_fewer, removed_at, place_for, function_place, function_removed}
 use Rattle.iscsi_session.specs.Transfers.{tag_of}
-use Rattle.iscsi_session.specs.Functions.{function_answer}
+use Rattle.iscsi_pdu.specs.declared.task_management_response.TaskResult.{TaskResult}
+use Rattle.iscsi_session.specs.Functions.{own_reach, plugs, function_result, function_answer}
 use Rattle.iscsi_session.specs.declared.act.Act.{Act}
 use Rattle.iscsi_session.specs.declared.act.Act.TheVariants.{Idle, Taken, Ended}
-use Rattle.iscsi_session.specs.Acts.{acted, act_answers, act_by, acted_by, answers_by, act_answers_by, ends, ends_by, closes, logout_response, logout_answer, ping_answers}
+use Rattle.iscsi_session.specs.Acts.{acted, reach_of, ended, behind, act_answers, act_by, acted_by, answers_by, ordered, orders_by, act_answers_by, ends, ends_by, closes, logout_response, logout_answer, ping_answers}
 use Rattle.iscsi_exchange.specs.ExchangeState.{ExchangeState}
 use Rattle.iscsi_exchange.specs.Exchange.{TextPiece, ToldState, hears}
 use Rattle.iscsi_session.specs.Texts.{is_text, exchange_behind, exchange_of, text_answer}
@@ -49,37 +53,94 @@ moved_same k past =
     same_by (is_command (frame_of past.came k)) past (record past { acted = past.acted ++ k ∷ [] })
     (record past { acted = past.acted ++ k ∷ []; finished = past.finished ++ k ∷ [] }) refl refl refl refl
 
+-- ---- what an act leaves
+
+abbrev pub kind_of : Frame → Opcode
+kind_of frame = opcode_of (opcode_number frame.header)
+
+function_kind : (frame : Frame) → is_function frame ≡ true → kind_of frame ≡ opcodes.TaskManagement
+function_kind frame e = ap opcode_of (eqb-true (opcode_number frame.header) 0x02 e)
+
+-- a request of another kind
+pub no_function_kind : (frame : Frame) {o : Opcode} → kind_of frame ≡ o → (opcodes.TaskManagement ≡ o → ⊥) → is_function frame ≡ false
+no_function_kind frame is other = false_from_ne_true (is_function frame) (λ h. absurd (other (sym (function_kind frame h) ∙ is)))
+
+ended_plain : (luns : List ℕ) (k : ℕ) (past : Past) → is_function (frame_of past.came k) ≡ false → ended luns k past ≡ moved k past
+ended_plain luns k past e = rw e refl
+
+acted_plain : (luns : List ℕ) (k : ℕ) (past : Past) → is_function (frame_of past.came k) ≡ false
+    → acted luns k past ≡ answering (act_answers luns k past) (moved k past)
+acted_plain luns k past e = ap (answering (act_answers luns k past)) (behind_plain (ended luns k past) ∙ ended_plain luns k past e)
+  where
+    behind_plain : (after : Past) → behind luns k past after ≡ after
+    behind_plain after = rw e refl
+
+pub stands_plain : (luns : List ℕ) (k : ℕ) (past : Past) (state : SessionState) → is_function (frame_of past.came k) ≡ false
+    → Stands (answering (act_answers luns k past) (moved k past)) state → Stands (acted luns k past) state
+stands_plain luns k past state e s = subst (λ (p : Past). Stands p state) (sym (acted_plain luns k past e)) s
+
+ended_same : (luns : List ℕ) (b : Bool) (k : ℕ) (past : Past) → is_function (frame_of past.came k) ≡ b
+    → ((ended luns k past).params ≡ past.params) × ((ended luns k past).answers ≡ past.answers)
+ended_same luns true k past e = rw e (moved_same k past)
+ended_same luns false k past e = rw e (moved_same k past)
+
+behind_same : (luns : List ℕ) (b : Bool) (k : ℕ) (past after : Past) → (is_function (frame_of past.came k) && plugs past (reach_of luns k past)) ≡ b
+    → ((behind luns k past after).params ≡ after.params) × ((behind luns k past after).answers ≡ after.answers)
+behind_same luns true k past after e = rw e (refl, refl)
+behind_same luns false k past after e = rw e (refl, refl)
+
+pub statuses_behind : (luns : List ℕ) (k : ℕ) (past after : Past) → statuses (behind luns k past after) ≡ statuses after
+statuses_behind luns k past after =
+    let b = behind_same luns _ k past after refl in
+    ap (λ (x : Params). x.next_stat_sn + bearing (behind luns k past after).answers) b.0 ∙ ap (λ (l : List Answer). after.params.next_stat_sn + bearing l) b.1
+
+pub stamp_is : (past : Past) (stat : ℕ) (now : CommandNumbers) → stat ≡ stat_sn (statuses past) → now ≡ order.numbers_of (numbers past)
+    → record { stat_sn = stat; exp_cmd_sn = now.exp_cmd_sn; max_cmd_sn = now.max_cmd_sn } ≡ stamp past
+unfolding stamp
+stamp_is past stat now e f = rw (e, f) refl
+
+pub acted_same : (luns : List ℕ) (k : ℕ) (past : Past) → ((acted luns k past).params ≡ past.params) ×
+    ((acted luns k past).answers ≡ past.answers ++ act_answers luns k past)
+acted_same luns k past =
+    let a = behind_same luns _ k past (ended luns k past) refl in
+    let b = ended_same luns _ k past refl in
+    (a.0 ∙ b.0, ap (λ (l : List Answer). l ++ act_answers luns k past) (a.1 ∙ b.1))
+
 -- ---- by the opcode
 
-pub command_answers_none : (k : ℕ) (past : Past) → is_command (frame_of past.came k) ≡ true → act_answers k past ≡ []
+pub command_answers_none : (luns : List ℕ) (k : ℕ) (past : Past) → is_command (frame_of past.came k) ≡ true → act_answers luns k past ≡ []
 unfolding act_answers
-command_answers_none k past e =
-    ap (λ (n : ℕ). act_answers_by (opcode_of n) (exchange_of past) (stamp (moved k past)) past.params (frame_of past.came k))
+command_answers_none luns k past e =
+    ap (λ (n : ℕ). act_answers_by (opcode_of n) (function_result past (reach_of luns k past)) (exchange_of past)
+    (stamp (ended luns k past)) past.params (frame_of past.came k))
     (eqb-true (opcode_number (frame_of past.came k).header) 0x01 e)
 
 pub command_goes_on : (params : Params) (frame : Frame) → is_command frame ≡ true → ends params frame ≡ false
 unfolding ends
 command_goes_on params frame e = ap (λ (n : ℕ). ends_by (opcode_of n) params frame) (eqb-true (opcode_number frame.header) 0x01 e)
 
-abbrev pub kind_of : Frame → Opcode
-kind_of frame = opcode_of (opcode_number frame.header)
-
-pub ping_is : (k : ℕ) (past : Past) → kind_of (frame_of past.came k) ≡ opcodes.NopOut
-    → act_answers k past ≡ ping_answers (stamp (moved k past)) (moved k past).params.values (frame_of past.came k)
+pub ping_is : (luns : List ℕ) (k : ℕ) (past : Past) → kind_of (frame_of past.came k) ≡ opcodes.NopOut
+    → act_answers luns k past ≡ ping_answers (stamp (moved k past)) (moved k past).params.values (frame_of past.came k)
 unfolding act_answers
-ping_is k past is =
-    ap (λ (o : Opcode). act_answers_by o (exchange_of past) (stamp (moved k past)) past.params (frame_of past.came k)) is
+ping_is luns k past is =
+    ap (λ (o : Opcode). act_answers_by o (function_result past (reach_of luns k past)) (exchange_of past) (stamp (ended luns k past)) past.params
+    (frame_of past.came k)) is
+    ∙ ap (λ (p : Past). ping_answers (stamp p) past.params.values (frame_of past.came k))
+    (ended_plain luns k past (no_function_kind (frame_of past.came k) is (λ x. absurd cc)))
     ∙ ap (λ (p : Params). ping_answers (stamp (moved k past)) p.values (frame_of past.came k)) (sym (moved_same k past).0)
 
 pub ping_goes_on : (params : Params) (frame : Frame) → kind_of frame ≡ opcodes.NopOut → ends params frame ≡ false
 unfolding ends
 ping_goes_on params frame is = ap (λ (o : Opcode). ends_by o params frame) is
 
-pub logout_is : (k : ℕ) (past : Past) → kind_of (frame_of past.came k) ≡ opcodes.Logout
-    → act_answers k past ≡ logout_answer (stamp (moved k past)) (moved k past).params (frame_of past.came k) ∷ []
+pub logout_is : (luns : List ℕ) (k : ℕ) (past : Past) → kind_of (frame_of past.came k) ≡ opcodes.Logout
+    → act_answers luns k past ≡ logout_answer (stamp (moved k past)) (moved k past).params (frame_of past.came k) ∷ []
 unfolding act_answers
-logout_is k past is =
-    ap (λ (o : Opcode). act_answers_by o (exchange_of past) (stamp (moved k past)) past.params (frame_of past.came k)) is
+logout_is luns k past is =
+    ap (λ (o : Opcode). act_answers_by o (function_result past (reach_of luns k past)) (exchange_of past) (stamp (ended luns k past)) past.params
+    (frame_of past.came k)) is
+    ∙ ap (λ (p : Past). logout_answer (stamp p) past.params (frame_of past.came k) ∷ [])
+    (ended_plain luns k past (no_function_kind (frame_of past.came k) is (λ x. absurd cc)))
     ∙ ap (λ (p : Params). logout_answer (stamp (moved k past)) p (frame_of past.came k) ∷ []) (sym (moved_same k past).0)
 
 pub logout_ends : (params : Params) (frame : Frame) → kind_of frame ≡ opcodes.Logout → ends params frame ≡ closes params frame
@@ -126,15 +187,15 @@ IsOther o =
     (o ≡ opcodes.ScsiCommand) ⊎ ((o ≡ opcodes.TaskManagement) ⊎ ((o ≡ opcodes.Text) ⊎ ((o ≡ opcodes.Login)
     ⊎ ((o ≡ opcodes.DataOut) ⊎ ((o ≡ opcodes.Snack) ⊎ ((n : ℕ) × (o ≡ opcodes.Other n)))))))
 
-other_answers : (o : Opcode) (exchange : ExchangeState) (numbers_now : Stamp) (params : Params) (frame : Frame) → IsOther o → o ≢ opcodes.Text
-    → o ≢ opcodes.TaskManagement → act_answers_by o exchange numbers_now params frame ≡ []
-other_answers o exchange numbers_now params frame (inl e) no_text no_function = rw e refl
-other_answers o exchange numbers_now params frame (inr (inl e)) no_text no_function = absurd (no_function e)
-other_answers o exchange numbers_now params frame (inr (inr (inl e))) no_text no_function = absurd (no_text e)
-other_answers o exchange numbers_now params frame (inr (inr (inr (inl e)))) no_text no_function = rw e refl
-other_answers o exchange numbers_now params frame (inr (inr (inr (inr (inl e))))) no_text no_function = rw e refl
-other_answers o exchange numbers_now params frame (inr (inr (inr (inr (inr (inl e)))))) no_text no_function = rw e refl
-other_answers o exchange numbers_now params frame (inr (inr (inr (inr (inr (inr (n, e))))))) no_text no_function = rw e refl
+other_answers : (o : Opcode) (result : TaskResult) (exchange : ExchangeState) (numbers_now : Stamp) (params : Params) (frame : Frame) → IsOther o → o ≢ opcodes.Text
+    → o ≢ opcodes.TaskManagement → act_answers_by o result exchange numbers_now params frame ≡ []
+other_answers o result exchange numbers_now params frame (inl e) no_text no_function = rw e refl
+other_answers o result exchange numbers_now params frame (inr (inl e)) no_text no_function = absurd (no_function e)
+other_answers o result exchange numbers_now params frame (inr (inr (inl e))) no_text no_function = absurd (no_text e)
+other_answers o result exchange numbers_now params frame (inr (inr (inr (inl e)))) no_text no_function = rw e refl
+other_answers o result exchange numbers_now params frame (inr (inr (inr (inr (inl e))))) no_text no_function = rw e refl
+other_answers o result exchange numbers_now params frame (inr (inr (inr (inr (inr (inl e)))))) no_text no_function = rw e refl
+other_answers o result exchange numbers_now params frame (inr (inr (inr (inr (inr (inr (n, e))))))) no_text no_function = rw e refl
 
 other_ends : (o : Opcode) (params : Params) (frame : Frame) → IsOther o → ends_by o params frame ≡ false
 other_ends o params frame (inl e) = rw e refl
@@ -145,32 +206,35 @@ other_ends o params frame (inr (inr (inr (inr (inl e))))) = rw e refl
 other_ends o params frame (inr (inr (inr (inr (inr (inl e)))))) = rw e refl
 other_ends o params frame (inr (inr (inr (inr (inr (inr (n, e))))))) = rw e refl
 
-pub other_is : (k : ℕ) (past : Past) → IsOther (kind_of (frame_of past.came k)) → is_text (frame_of past.came k) ≡ false
-    → is_function (frame_of past.came k) ≡ false → act_answers k past ≡ []
+pub other_is : (luns : List ℕ) (k : ℕ) (past : Past) → IsOther (kind_of (frame_of past.came k)) → is_text (frame_of past.came k) ≡ false
+    → is_function (frame_of past.came k) ≡ false → act_answers luns k past ≡ []
 unfolding act_answers
-other_is k past is no_text no_function =
-    other_answers (kind_of (frame_of past.came k)) (exchange_of past) (stamp (moved k past)) past.params (frame_of past.came k) is
+other_is luns k past is no_text no_function =
+    other_answers (kind_of (frame_of past.came k)) (function_result past (reach_of luns k past)) (exchange_of past)
+    (stamp (ended luns k past)) past.params (frame_of past.came k) is
     (λ e. is_no_text (frame_of past.came k) no_text e) (λ e. is_no_function (frame_of past.came k) no_function e)
 
-function_kind : (frame : Frame) → is_function frame ≡ true → kind_of frame ≡ opcodes.TaskManagement
-function_kind frame e = ap opcode_of (eqb-true (opcode_number frame.header) 0x02 e)
-
-pub function_is : (k : ℕ) (past : Past) → is_function (frame_of past.came k) ≡ true
-    → act_answers k past ≡ function_answer (stamp (moved k past)) (frame_of past.came k) ∷ []
+pub function_is : (luns : List ℕ) (k : ℕ) (past : Past) → is_function (frame_of past.came k) ≡ true
+    → act_answers luns k past ≡ function_answer (stamp (ended luns k past)) (function_result past (reach_of luns k past)) (frame_of past.came k).header ∷ []
 unfolding act_answers
-function_is k past e =
-    ap (λ (o : Opcode). act_answers_by o (exchange_of past) (stamp (moved k past)) past.params (frame_of past.came k))
+function_is luns k past e =
+    ap (λ (o : Opcode). act_answers_by o (function_result past (reach_of luns k past)) (exchange_of past) (stamp (ended luns k past)) past.params
+    (frame_of past.came k))
     (function_kind (frame_of past.came k) e)
 
 pub function_act : (k : ℕ) (past : Past) → is_function (frame_of past.came k) ≡ true → Taken ≡ cond (ends past.params (frame_of past.came k)) Ended Taken
 unfolding ends
 function_act k past e = ap (λ (o : Opcode). cond (ends_by o past.params (frame_of past.came k)) Ended Taken) (sym (function_kind (frame_of past.came k) e))
 
-pub text_is : (k : ℕ) (past : Past) → is_text (frame_of past.came k) ≡ true
-    → act_answers k past ≡ text_answer (stamp (moved k past)) (hears (exchange_of past) (frame_of past.came k) past.params).piece (frame_of past.came k) ∷ []
+pub text_is : (luns : List ℕ) (k : ℕ) (past : Past) → is_text (frame_of past.came k) ≡ true
+    → act_answers luns k past ≡ text_answer (stamp (moved k past)) (hears (exchange_of past) (frame_of past.came k) past.params).piece
+    (frame_of past.came k) ∷ []
 unfolding act_answers
-text_is k past e =
-    ap (λ (o : Opcode). act_answers_by o (exchange_of past) (stamp (moved k past)) past.params (frame_of past.came k)) (text_kind (frame_of past.came k) e)
+text_is luns k past e =
+    ap (λ (o : Opcode). act_answers_by o (function_result past (reach_of luns k past)) (exchange_of past) (stamp (ended luns k past)) past.params
+    (frame_of past.came k)) (text_kind (frame_of past.came k) e)
+    ∙ ap (λ (p : Past). text_answer (stamp p) (hears (exchange_of past) (frame_of past.came k) past.params).piece (frame_of past.came k) ∷ [])
+    (ended_plain luns k past (no_function_kind (frame_of past.came k) (text_kind (frame_of past.came k) e) (λ x. absurd cc)))
 
 pub text_goes_on : (params : Params) (frame : Frame) → is_text frame ≡ true → ends params frame ≡ false
 unfolding ends
@@ -246,7 +310,7 @@ answering_none past more e = ap (λ (l : List Answer). record past { answers = l
 moved_command : (k : ℕ) (past : Past) → is_command (frame_of past.came k) ≡ true → record past { acted = past.acted ++ k ∷ [] } ≡ moved k past
 moved_command k past e = rw e refl
 
-moved_other : (k : ℕ) (past : Past) → is_command (frame_of past.came k) ≡ false
+pub moved_other : (k : ℕ) (past : Past) → is_command (frame_of past.came k) ≡ false
     → record past { acted = past.acted ++ k ∷ []; finished = past.finished ++ k ∷ [] } ≡ moved k past
 moved_other k past e = rw e refl
 
@@ -261,6 +325,14 @@ pub stands_other_kind : (past : Past) (state : SessionState) (k : ℕ) (rest : L
 stands_other_kind past state k rest s is e =
     standing_kept past k (due_came past s.lawful k rest is) (stays_other past s.lawful k rest is e)
 
+-- and with it the others, in the code
+pub first_drops : (past : Past) (state : SessionState) (k : ℕ) (rest : List ℕ) → Stands past state → due past ≡ k ∷ rest
+    → is_command (frame_of past.came k) ≡ false → state.tasks.due ≡ frame_of past.came k ∷ drop 1 state.tasks.due
+first_drops past state k rest s is e =
+    let d = first_due past state k rest s is in
+    d ∙ ap (λ (f : Frame). f ∷ frames_of (standing past) rest) (stands_other_kind past state k rest s is e)
+    ∙ ap (λ (l : List Frame). frame_of past.came k ∷ l) (sym (ap (drop 1) d))
+
 function_no_text : (frame : Frame) → is_function frame ≡ true → is_text frame ≡ false
 function_no_text frame e = not_text frame opcodes.TaskManagement (function_kind frame e) (λ x. absurd cc)
 
@@ -270,16 +342,17 @@ command_no_text frame e = not_text frame opcodes.ScsiCommand (ap opcode_of (eqb-
 pub text_no_command : (frame : Frame) → is_text frame ≡ true → is_command frame ≡ false
 text_no_command frame e = false_from_ne_true (is_command frame) (λ h. absurd (let no = sym (command_no_text frame h) ∙ e in cc))
 
-text_no_function : (frame : Frame) → is_text frame ≡ true → is_function frame ≡ false
+pub text_no_function : (frame : Frame) → is_text frame ≡ true → is_function frame ≡ false
 text_no_function frame e = false_from_ne_true (is_function frame) (λ h. absurd (let no = sym (function_no_text frame h) ∙ e in cc))
 
-pub stands_command : (past : Past) (state : SessionState) (k : ℕ) (rest : List ℕ) → Stands past state → due past ≡ k ∷ rest
+pub stands_command : (luns : List ℕ) (past : Past) (state : SessionState) (k : ℕ) (rest : List ℕ) → Stands past state → due past ≡ k ∷ rest
     → is_command (frame_of past.came k) ≡ true → is_in k past.removed ≡ false
-    → Stands (acted k past)
+    → Stands (acted luns k past)
     (record state { tasks = record state.tasks { due = frames_of (standing past) rest; queue = state.tasks.queue ++ frame_of past.came k ∷ [] } })
-stands_command past state k rest s is e stays =
+stands_command luns past state k rest s is e stays =
     let after : Past = record past { acted = past.acted ++ k ∷ [] } in
-    let same : after ≡ acted k past = moved_command k past e ∙ answering_none (moved k past) (act_answers k past) (command_answers_none k past e) in
+    let same : after ≡ acted luns k past = moved_command k past e ∙ answering_none (moved k past) (act_answers luns k past) (command_answers_none luns k past e)
+    ∙ sym (acted_plain luns k past (command_no_function (frame_of past.came k) e)) in
     subst (λ (p : Past). Stands p
     (record state { tasks = record state.tasks { due = frames_of (standing past) rest; queue = state.tasks.queue ++ frame_of past.came k ∷ [] } })) same
     (stands_tasks past after state _ s (lawful_command past s.lawful k rest is stays e) refl refl
@@ -304,12 +377,12 @@ stands_gone past state k rest s is e gone =
     ∙ tasks_gone past s.lawful k rest is gone e) (transfers_command past s.lawful k rest is) (functions_command past s.lawful k rest is)
     (exchange_acted past after k refl refl refl ∙ exchange_other past.params (exchange_of past) (frame_of past.came k) (command_no_text (frame_of past.came k) e)))
 
-pub stands_queued : (past : Past) (state : SessionState) (k : ℕ) (rest : List ℕ) (frame : Frame) (others : List Frame) (tasks : TaskLists)
+pub stands_queued : (luns : List ℕ) (past : Past) (state : SessionState) (k : ℕ) (rest : List ℕ) (frame : Frame) (others : List Frame) (tasks : TaskLists)
     → Stands past state → due past ≡ k ∷ rest → is_command (frame_of past.came k) ≡ true → is_in k past.removed ≡ false
     → frame ≡ frame_of past.came k → others ≡ frames_of (standing past) rest
-    → tasks ≡ record state.tasks { due = others; queue = state.tasks.queue ++ frame ∷ [] } → Stands (acted k past) (record state { tasks = tasks })
-stands_queued past state k rest frame others tasks s is e stays here left same =
-    rw (same, here, left) (stands_command past state k rest s is e stays)
+    → tasks ≡ record state.tasks { due = others; queue = state.tasks.queue ++ frame ∷ [] } → Stands (acted luns k past) (record state { tasks = tasks })
+stands_queued luns past state k rest frame others tasks s is e stays here left same =
+    rw (same, here, left) (stands_command luns past state k rest s is e stays)
 
 -- the first that is due, by the kind of what stands there: it was removed, or stands as it came
 pub command_there : (past : Past) (state : SessionState) (k : ℕ) (rest : List ℕ) → Stands past state → due past ≡ k ∷ rest
@@ -398,6 +471,9 @@ same_functions past state k s e = (parts past state s).functions_is ∙ sym (fun
 pub same_head : (a b : Frame) (x y l : List Frame) → l ≡ a ∷ x → l ≡ b ∷ y → a ≡ b
 same_head a b x y l p q = let both : a ∷ x ≡ b ∷ y = sym p ∙ q in cc
 
+pub same_tail : (a b : Frame) (x y l : List Frame) → l ≡ a ∷ x → l ≡ b ∷ y → x ≡ y
+same_tail a b x y l p q = let both : a ∷ x ≡ b ∷ y = sym p ∙ q in cc
+
 -- the first that is due is finished, in the code
 pub finished_here : (past : Past) (state : SessionState) (k : ℕ) (rest : List ℕ) (frame : Frame) (tasks : TaskLists) → Stands past state
     → due past ≡ k ∷ rest → is_command (frame_of (standing past) k) ≡ false → is_text (frame_of past.came k) ≡ false
@@ -445,19 +521,19 @@ function_gone past state k s there =
     ∙ function_at past k _ s.lawful there (function_located past (tag_of past.came k)) ∙ functions_left past k
 
 -- a Task Management Function Request is finished, in the code
-pub function_here : (past : Past) (state : SessionState) (k : ℕ) (rest : List ℕ) (frame : Frame) (tasks : TaskLists) (headers : List (List ℕ))
+pub function_here : (past : Past) (state : SessionState) (k : ℕ) (rest : List ℕ) (frame : Frame) (tasks : TaskLists) (tag : ℕ) (headers : List (List ℕ))
     → Stands past state → due past ≡ k ∷ rest → is_function (frame_of past.came k) ≡ true
     → state.tasks.due ≡ frame ∷ drop 1 state.tasks.due → tasks ≡ one_fewer frame (record state.tasks { due = drop 1 state.tasks.due })
-    → headers ≡ function_removed state.functions (function_place (initiator_task_tag frame.header) state.functions)
+    → tag ≡ tag_of past.came k → headers ≡ function_removed state.functions (function_place tag state.functions)
     → (frame ≡ frame_of past.came k) × Stands (moved k past) (record state { tasks = tasks; functions = headers })
-function_here past state k rest frame tasks headers s is e some same gone =
+function_here past state k rest frame tasks tag headers s is e some same tag_is gone =
     let f = frame_of past.came k in
     let here = same_head frame (frame_of (standing past) k) (drop 1 state.tasks.due) (frames_of (standing past) rest) state.tasks.due some
     (first_due past state k rest s is) ∙ stands_other_kind past state k rest s is (function_no_command f e) in
     let kept : state.exchange ≡ exchange_behind past.params (exchange_of past) f = (parts past state s).exchange_is
     ∙ sym (exchange_other past.params (exchange_of past) f (function_no_text f e)) in
     let left_over : headers ≡ functions_of (finished k past) = gone
-    ∙ ap (λ (g : Frame). function_removed state.functions (function_place (initiator_task_tag g.header) state.functions)) here
+    ∙ ap (λ (t : ℕ). function_removed state.functions (function_place t state.functions)) tag_is
     ∙ function_gone past state k s (due_function past s.lawful k rest is e) in (
       here,
       rw (same, here) (subst (λ (x : ExchangeState). Stands (moved k past) (record state {
@@ -500,24 +576,33 @@ logout_act k past frame params act same agreed kind is =
     is ∙ ap (λ (p : Params). cond (closes p frame) Ended Taken) agreed ∙ ap (λ (f : Frame). cond (closes past.params f) Ended Taken) same
     ∙ ap (λ (b : Bool). cond b Ended Taken) (sym (logout_ends past.params (frame_of past.came k) kind))
 
-pub ping_same : (k : ℕ) (past : Past) (frame : Frame) → frame ≡ frame_of past.came k → kind_of (frame_of past.came k) ≡ opcodes.NopOut
-    → ping_answers (stamp (moved k past)) (moved k past).params.values frame ≡ act_answers k past
-ping_same k past frame same kind = ap (ping_answers (stamp (moved k past)) (moved k past).params.values) same ∙ sym (ping_is k past kind)
+pub ping_same : (luns : List ℕ) (k : ℕ) (past : Past) (frame : Frame) → frame ≡ frame_of past.came k → kind_of (frame_of past.came k) ≡ opcodes.NopOut
+    → ping_answers (stamp (moved k past)) (moved k past).params.values frame ≡ act_answers luns k past
+ping_same luns k past frame same kind = ap (ping_answers (stamp (moved k past)) (moved k past).params.values) same ∙ sym (ping_is luns k past kind)
 
-pub logout_same : (k : ℕ) (past : Past) (frame : Frame) → frame ≡ frame_of past.came k → kind_of (frame_of past.came k) ≡ opcodes.Logout
-    → logout_answer (stamp (moved k past)) (moved k past).params frame ∷ [] ≡ act_answers k past
-logout_same k past frame same kind = ap (λ (f : Frame). logout_answer (stamp (moved k past)) (moved k past).params f ∷ []) same ∙ sym (logout_is k past kind)
+pub logout_same : (luns : List ℕ) (k : ℕ) (past : Past) (frame : Frame) → frame ≡ frame_of past.came k → kind_of (frame_of past.came k) ≡ opcodes.Logout
+    → logout_answer (stamp (moved k past)) (moved k past).params frame ∷ [] ≡ act_answers luns k past
+logout_same luns k past frame same kind = ap (λ (f : Frame). logout_answer (stamp (moved k past)) (moved k past).params f ∷ []) same
+    ∙ sym (logout_is luns k past kind)
 
-pub function_same : (k : ℕ) (past : Past) (frame : Frame) → frame ≡ frame_of past.came k → is_function (frame_of past.came k) ≡ true
-    → function_answer (stamp (moved k past)) frame ∷ [] ≡ act_answers k past
-function_same k past frame same e = ap (λ (f : Frame). function_answer (stamp (moved k past)) f ∷ []) same ∙ sym (function_is k past e)
+pub function_bears : (luns : List ℕ) (k : ℕ) (past : Past) → is_function (frame_of past.came k) ≡ true → bearing (act_answers luns k past) ≡ 1
+function_bears luns k past e =
+    ap bearing (function_is luns k past e)
+    ∙ one_bearing (function_answer (stamp (ended luns k past)) (function_result past (reach_of luns k past)) (frame_of past.came k).header) refl
 
-pub text_same : (k : ℕ) (past : Past) (frame : Frame) (told : ToldState) → frame ≡ frame_of past.came k
+pub function_same : (luns : List ℕ) (k : ℕ) (past : Past) (header : List ℕ) (result : TaskResult) → header ≡ (frame_of past.came k).header
+    → result ≡ function_result past (own_reach luns header) → is_function (frame_of past.came k) ≡ true
+    → function_answer (stamp (ended luns k past)) result header ∷ [] ≡ act_answers luns k past
+function_same luns k past header result same is e =
+    ap (λ (r : TaskResult). function_answer (stamp (ended luns k past)) r header ∷ []) is
+    ∙ ap (λ (h : List ℕ). function_answer (stamp (ended luns k past)) (function_result past (own_reach luns h)) h ∷ []) same ∙ sym (function_is luns k past e)
+
+pub text_same : (luns : List ℕ) (k : ℕ) (past : Past) (frame : Frame) (told : ToldState) → frame ≡ frame_of past.came k
     → told ≡ hears (exchange_of past) (frame_of past.came k) past.params → is_text (frame_of past.came k) ≡ true
-    → text_answer (stamp (moved k past)) told.piece frame ∷ [] ≡ act_answers k past
-text_same k past frame told same heard e =
+    → text_answer (stamp (moved k past)) told.piece frame ∷ [] ≡ act_answers luns k past
+text_same luns k past frame told same heard e =
     ap (λ (f : Frame). text_answer (stamp (moved k past)) told.piece f ∷ []) same
-    ∙ ap (λ (t : ToldState). text_answer (stamp (moved k past)) t.piece (frame_of past.came k) ∷ []) heard ∙ sym (text_is k past e)
+    ∙ ap (λ (t : ToldState). text_answer (stamp (moved k past)) t.piece (frame_of past.came k) ∷ []) heard ∙ sym (text_is luns k past e)
 
 pub one_spelled : (old : List ℕ) (answer : Answer) (all : List Answer) → answer ∷ [] ≡ all → old ++ spelling answer ≡ old ++ flat_map spelling all
 one_spelled old answer all e = ap (λ (bytes : List ℕ). old ++ bytes) (sym (append-nil (spelling answer)))
@@ -526,8 +611,10 @@ one_spelled old answer all e = ap (λ (bytes : List ℕ). old ++ bytes) (sym (ap
 pub none_spelled : (old : List ℕ) (all : List Answer) → all ≡ [] → old ≡ old ++ flat_map spelling all
 none_spelled old all e = sym (append-nil old) ∙ ap (λ (l : List Answer). old ++ flat_map spelling l) (sym e)
 
-pub stands_silent : (k : ℕ) (past : Past) (state : SessionState) → act_answers k past ≡ [] → Stands (moved k past) state → Stands (acted k past) state
-stands_silent k past state e s = subst (λ (p : Past). Stands p state) (answering_none (moved k past) (act_answers k past) e) s
+pub stands_silent : (luns : List ℕ) (k : ℕ) (past : Past) (state : SessionState) → is_function (frame_of past.came k) ≡ false → act_answers luns k past ≡ []
+    → Stands (moved k past) state → Stands (acted luns k past) state
+stands_silent luns k past state no_function e s =
+    stands_plain luns k past state no_function (subst (λ (p : Past). Stands p state) (answering_none (moved k past) (act_answers luns k past) e) s)
 
 pub some_due : (past : Past) (state : SessionState) (k : ℕ) (rest : List ℕ) → Stands past state → due past ≡ k ∷ rest → state.tasks.due ≡ [] → ⊥
 some_due past state k rest s is none = let both : frame_of (standing past) k ∷ frames_of (standing past) rest ≡ [] = sym (first_due past state k rest s is) ∙ none in cc
@@ -553,23 +640,41 @@ due_first past state frame others s e = some_names (standing past) (due past) fr
 pub idle_act : (past : Past) → due past ≡ [] → Idle ≡ act_by (due past) past
 idle_act past e = ap (λ (l : List ℕ). act_by l past) (sym e)
 
-pub idle_stands : (past : Past) (state : SessionState) → due past ≡ [] → Stands past state → Stands (acted_by (due past) past) state
-idle_stands past state e s = subst (λ (l : List ℕ). Stands (acted_by l past) state) (sym e) s
+pub idle_stands : (luns : List ℕ) (past : Past) (state : SessionState) → due past ≡ [] → Stands past state → Stands (acted_by luns (due past) past) state
+idle_stands luns past state e s = subst (λ (l : List ℕ). Stands (acted_by luns l past) state) (sym e) s
 
-pub idle_out : (past : Past) (items : List ℕ) → due past ≡ [] → items ≡ items ++ flat_map spelling (answers_by (due past) past)
-idle_out past items e = none_spelled items (answers_by (due past) past) (ap (λ (l : List ℕ). answers_by l past) e)
+pub idle_out : (luns : List ℕ) (past : Past) (items : List ℕ) → due past ≡ [] → items ≡ items ++ flat_map spelling (answers_by luns (due past) past)
+idle_out luns past items e = none_spelled items (answers_by luns (due past) past) (ap (λ (l : List ℕ). answers_by luns l past) e)
 
 pub one_act : (past : Past) (k : ℕ) (rest : List ℕ) (act : Act) → due past ≡ k ∷ rest → act ≡ cond (ends past.params (frame_of past.came k)) Ended Taken
     → act ≡ act_by (due past) past
 one_act past k rest act e is = is ∙ ap (λ (l : List ℕ). act_by l past) (sym e)
 
-pub one_stands : (past : Past) (k : ℕ) (rest : List ℕ) (state : SessionState) → due past ≡ k ∷ rest → Stands (acted k past) state
-    → Stands (acted_by (due past) past) state
-one_stands past k rest state e s = subst (λ (l : List ℕ). Stands (acted_by l past) state) (sym e) s
+pub one_stands : (luns : List ℕ) (past : Past) (k : ℕ) (rest : List ℕ) (state : SessionState) → due past ≡ k ∷ rest → Stands (acted luns k past) state
+    → Stands (acted_by luns (due past) past) state
+one_stands luns past k rest state e s = subst (λ (l : List ℕ). Stands (acted_by luns l past) state) (sym e) s
 
-pub one_out : (past : Past) (k : ℕ) (rest : List ℕ) (old new : List ℕ) → due past ≡ k ∷ rest → new ≡ old ++ flat_map spelling (act_answers k past)
-    → new ≡ old ++ flat_map spelling (answers_by (due past) past)
-one_out past k rest old new e is = is ∙ ap (λ (l : List ℕ). old ++ flat_map spelling (answers_by l past)) (sym e)
+pub one_out : (luns : List ℕ) (past : Past) (k : ℕ) (rest : List ℕ) (old new : List ℕ) → due past ≡ k ∷ rest
+    → new ≡ old ++ flat_map spelling (act_answers luns k past)
+    → new ≡ old ++ flat_map spelling (answers_by luns (due past) past)
+one_out luns past k rest old new e is = is ∙ ap (λ (l : List ℕ). old ++ flat_map spelling (answers_by luns l past)) (sym e)
+
+-- ---- what it orders of its target
+
+pub idle_orders : (past : Past) (orders : List (List ℕ)) → due past ≡ [] → orders ≡ orders ++ orders_by (due past) past
+idle_orders past orders e = sym (append-nil orders) ∙ ap (λ (l : List ℕ). orders ++ orders_by l past) (sym e)
+
+pub one_ordered : (past : Past) (k : ℕ) (rest : List ℕ) (old new : List (List ℕ)) → due past ≡ k ∷ rest → new ≡ old ++ ordered k past
+    → new ≡ old ++ orders_by (due past) past
+one_ordered past k rest old new e is = is ∙ ap (λ (l : List ℕ). old ++ orders_by l past) (sym e)
+
+-- only a Task Management Function Request does
+pub none_ordered : (past : Past) (k : ℕ) (orders : List (List ℕ)) → is_function (frame_of past.came k) ≡ false → orders ≡ orders ++ ordered k past
+none_ordered past k orders e = rw e (sym (append-nil orders))
+
+pub function_ordered : (past : Past) (k : ℕ) (header : List ℕ) (orders : List (List ℕ)) → is_function (frame_of past.came k) ≡ true
+    → header ≡ (frame_of past.came k).header → orders ++ header ∷ [] ≡ orders ++ ordered k past
+function_ordered past k header orders e same = rw e (ap (λ (h : List ℕ). orders ++ h ∷ []) same)
 
 pub command_act : (k : ℕ) (past : Past) → is_command (frame_of past.came k) ≡ true → Taken ≡ cond (ends past.params (frame_of past.came k)) Ended Taken
 command_act k past e = ap (λ (b : Bool). cond b Ended Taken) (sym (command_goes_on past.params (frame_of past.came k) e))

@@ -2,23 +2,24 @@
 use Rattle.std.proofs.Common.{◌≡◌, ℕ, List, [], ◌∷◌, ◌++◌, Bool, true, false, Option, Some, None, refl, sym, ap, ◌∙◌, subst, append-nil}
 use Rattle.std.specs.Prelude.{flat_map, is_some}
 use Rattle.std.proofs.lemmas.Bool.{eq-eqb}
-use Rattle.scsi_unit.specs.Units.{UnitStates}
+use Rattle.scsi_unit.specs.Units.{UnitStates, numbers_of}
 use Rattle.iscsi_pdu.specs.Frames.{Frame}
 use Rattle.iscsi_pdu.specs.Answer.{spelling}
 use Rattle.iscsi_session.specs.Requests.{Past}
 use Rattle.iscsi_session.specs.Transfers.{asking, asked_by, r2t_of, r2ts_by}
 use Rattle.iscsi_session.specs.State.{SessionState, Stands, asking_place}
 use Rattle.iscsi_session.specs.Steps.{Step, Judging, Taking, Asking, is_serving, Work, reaches, ask, first_steps, ask_due, taken_in, served}
-use Rattle.iscsi_session.specs.Runs.{Starts, Leaves, FailsAs, IsReached, Runs, Stops}
+use Rattle.iscsi_session.specs.Runs.{Output, Starts, Leaves, FailsAs, IsReached, Runs, Stops}
 use Rattle.iscsi_session.proofs.Asking.{asking_there}
 use Rattle.iscsi_session.proofs.Steps.{taken_agrees}
 use Rattle.iscsi_session.proofs.Served.{same_place}
-use Rattle.iscsi_session.proofs.Runs.{stands_of, starts_again, leaves_then, leaves_standing, leaves_stopped, step_done, step_fails, first_stopped, reached_last, taking_kind}
+use Rattle.iscsi_session.proofs.Runs.{stands_of, starts_again, leaves_then, leaves_answering, leaves_as, leaves_stopped, step_done, step_fails, first_stopped, reached_last, taking_kind}
 
 -- what the call that asks leaves
-pub record Asks (old new : SessionState) (before waiting : List ℕ) : Type 0 where
+pub record Asks (old new : SessionState) (before waiting : Output) : Type 0 where
   pub stands : (past : Past) → Stands past old → Stands (asked_by (asking past) past) new
-  pub out : (past : Past) → Stands past old → waiting ≡ before ++ flat_map spelling (r2ts_by (asking past) past)
+  pub out : (past : Past) → Stands past old → waiting.bytes ≡ before.bytes ++ flat_map spelling (r2ts_by (asking past) past)
+  pub orders : waiting.orders ≡ before.orders
 
 -- ---- a session that has ended asks for nothing
 
@@ -26,7 +27,7 @@ asks_nothing : (fails : Step → Bool) (place : ℕ) (work : Work) → work.goes
 unfolding ask_due
 asks_nothing fails place work off = first_stopped fails (Asking place) ask (asking work.past) work off
 
-pub served_ended : (frame : Frame) (failed : Option (ℕ → Step)) (old new : SessionState) (before waiting : List ℕ) (units : UnitStates)
+pub served_ended : (frame : Frame) (failed : Option (ℕ → Step)) (old new : SessionState) (before waiting : Output) (units : UnitStates)
     → Runs (λ fails place. taken_in fails place frame) failed false old new before waiting units units
     → Runs (λ fails place. served fails place frame) failed false old new before waiting units units
 unfolding served
@@ -42,14 +43,16 @@ served_ended frame failed old new before waiting units r =
           (r.reached place fails work told s);
     }
 
-pub stops_served : (frame : Frame) (old new : SessionState) (before waiting : List ℕ)
-    → Stops is_serving (λ failed. (units : UnitStates) → Runs (λ fails place. taken_in fails place frame) failed false old new before waiting units units)
-    → Stops is_serving (λ failed. (units : UnitStates) → Runs (λ fails place. served fails place frame) failed false old new before waiting units units)
-stops_served frame old new before waiting stops = record {
+pub stops_served : (luns : List ℕ) (frame : Frame) (old new : SessionState) (before waiting : Output)
+    → Stops is_serving (λ failed. (units : UnitStates) → luns ≡ numbers_of units
+    → Runs (λ fails place. taken_in fails place frame) failed false old new before waiting units units)
+    → Stops is_serving (λ failed. (units : UnitStates) → luns ≡ numbers_of units
+    → Runs (λ fails place. served fails place frame) failed false old new before waiting units units)
+stops_served luns frame old new before waiting stops = record {
   step = stops.step;
   of_frame = stops.of_frame;
   of_kind = stops.of_kind;
-  leads = λ units. served_ended frame (Some stops.step) old new before waiting units (stops.leads units);
+  leads = λ units numbers. served_ended frame (Some stops.step) old new before waiting units (stops.leads units numbers);
 }
 
 -- ---- the R2T is sent
@@ -58,41 +61,44 @@ asks_goes_on : (k : ℕ) (work : Work) → (ask k work).goes_on ≡ work.goes_on
 unfolding ask
 asks_goes_on k work = refl
 
-ask_leaves : (k : ℕ) (work : Work) (new : SessionState) (before waiting : List ℕ) (units : UnitStates) → Stands (asked_by (k ∷ []) work.past) new
-    → waiting ≡ before ++ flat_map spelling (r2t_of work.past k) → work.units ≡ units → Leaves work (ask k (reaches (Asking 0) work)) new before waiting units
+ask_leaves : (k : ℕ) (work : Work) (new : SessionState) (before waiting : Output) (units : UnitStates) → Stands (asked_by (k ∷ []) work.past) new
+    → waiting.bytes ≡ before.bytes ++ flat_map spelling (r2t_of work.past k) → waiting.orders ≡ before.orders → work.units ≡ units
+    → Leaves work (ask k (reaches (Asking 0) work)) new before waiting units
 unfolding ask
-ask_leaves k work new before waiting units s out same =
-    leaves_standing work (ask k (reaches (Asking 0) work)) new before waiting units (r2t_of work.past k) s refl refl out same
+ask_leaves k work new before waiting units s out orders same =
+    leaves_answering work (ask k (reaches (Asking 0) work)) new before waiting units (r2t_of work.past k) s refl refl out orders refl same
 
-ask_reaching : (k place : ℕ) (work : Work) (new : SessionState) (before waiting : List ℕ) (units : UnitStates)
+ask_reaching : (k place : ℕ) (work : Work) (new : SessionState) (before waiting : Output) (units : UnitStates)
     → Leaves work (ask k (reaches (Asking 0) work)) new before waiting units → Leaves work (ask k (reaches (Asking place) work)) new before waiting units
 unfolding ask
 ask_reaching k place work new before waiting units l =
-    record { lawful = l.lawful; remembered = l.remembered; units = l.units; params = l.params; more = l.more; answers = l.answers; spelled = l.spelled }
+    leaves_as work (ask k (reaches (Asking 0) work)) work (ask k (reaches (Asking place) work)) new before waiting units refl refl refl refl refl l
 
-abbrev Asked : (Step → Bool) → ℕ → List ℕ → Work → SessionState → List ℕ → List ℕ → UnitStates → Type 0
+abbrev Asked : (Step → Bool) → ℕ → List ℕ → Work → SessionState → Output → Output → UnitStates → Type 0
 Asked fails place l work new before waiting units =
     (v : Work) × (first_steps fails (Asking place) ask l work ≡ v) × (v.goes_on ≡ true) × Leaves work v new before waiting units
 
-asked_leaves : (l : List ℕ) (fails : Step → Bool) (place : ℕ) (work : Work) (new : SessionState) (before waiting : List ℕ) (units : UnitStates)
+asked_leaves : (l : List ℕ) (fails : Step → Bool) (place : ℕ) (work : Work) (new : SessionState) (before waiting : Output) (units : UnitStates)
     → fails (Asking place) ≡ false → work.goes_on ≡ true → work.units ≡ units → Stands (asked_by l work.past) new
-    → waiting ≡ before ++ flat_map spelling (r2ts_by l work.past) → Asked fails place l work new before waiting units
-asked_leaves [] fails place work new before waiting units un on same s out =
-    (work, refl, on, leaves_standing work work new before waiting units [] s refl (sym (append-nil work.past.answers)) out same)
-asked_leaves (k ∷ others) fails place work new before waiting units un on same s out = (
+    → waiting.bytes ≡ before.bytes ++ flat_map spelling (r2ts_by l work.past) → waiting.orders ≡ before.orders
+    → Asked fails place l work new before waiting units
+asked_leaves [] fails place work new before waiting units un on same s out orders =
+    (work, refl, on, leaves_answering work work new before waiting units [] s refl (sym (append-nil work.past.answers)) out orders refl same)
+asked_leaves (k ∷ others) fails place work new before waiting units un on same s out orders = (
   ask k (reaches (Asking place) work),
   step_done fails (Asking place) (ask k) work on un,
   asks_goes_on k (reaches (Asking place) work) ∙ on,
-  ask_reaching k place work new before waiting units (ask_leaves k work new before waiting units s out same),
+  ask_reaching k place work new before waiting units (ask_leaves k work new before waiting units s out orders same),
 )
 
-asked_here : (fails : Step → Bool) (place : ℕ) (work : Work) (old new : SessionState) (before waiting : List ℕ) (units : UnitStates)
+asked_here : (fails : Step → Bool) (place : ℕ) (work : Work) (old new : SessionState) (before waiting : Output) (units : UnitStates)
     → fails (Asking place) ≡ false → Starts work old units → Asks old new before waiting → Asked fails place (asking work.past) work new before waiting units
 asked_here fails place work old new before waiting units un s asks =
     let st = stands_of work old units s in
     asked_leaves (asking work.past) fails place work new before waiting units un s.goes_on s.units (asks.stands work.past st) (asks.out work.past st)
+    asks.orders
 
-pub served_on : (frame : Frame) (old middle new : SessionState) (before waiting items : List ℕ) (units : UnitStates)
+pub served_on : (frame : Frame) (old middle new : SessionState) (before waiting items : Output) (units : UnitStates)
     → Runs (λ fails place. taken_in fails place frame) None true old middle before waiting units units → Asks middle new waiting items
     → Runs (λ fails place. served fails place frame) None true old new before items units units
 unfolding served ask_due
@@ -125,13 +131,13 @@ stopped_before l fails place k others work is on fail =
 no_failure : Step → Bool
 no_failure step = false
 
-record StopsAt (place : ℕ) (fails : Step → Bool) (frame : Frame) (work : Work) (middle : SessionState) (before waiting : List ℕ)
+record StopsAt (place : ℕ) (fails : Step → Bool) (frame : Frame) (work : Work) (middle : SessionState) (before waiting : Output)
     (units : UnitStates) : Type 0 where
   pub taken : Work
   pub leaves : Leaves work taken middle before waiting units
   pub is : served fails place frame work ≡ record (reaches (Asking place) taken) { goes_on = false }
 
-stops_at : (frame : Frame) (old middle : SessionState) (before waiting : List ℕ) (units : UnitStates)
+stops_at : (frame : Frame) (old middle : SessionState) (before waiting : Output) (units : UnitStates)
     → Runs (λ fails place. taken_in fails place frame) None true old middle before waiting units units
     → is_some (asking_place middle.transfers.list) ≡ true → (place : ℕ) (fails : Step → Bool) (work : Work)
     → FailsAs (Some (λ place. Asking place)) place fails → Starts work old units → StopsAt place fails frame work middle before waiting units
@@ -152,7 +158,7 @@ stops_at frame old middle before waiting units r due place fails work told s =
       is = ap (ask_due fails place) same ∙ stopped_before (asking t.past) fails place found.0 found.1 t found.2 on fail;
     }
 
-pub served_stops : (frame : Frame) (old middle : SessionState) (before waiting : List ℕ) (units : UnitStates)
+pub served_stops : (frame : Frame) (old middle : SessionState) (before waiting : Output) (units : UnitStates)
     → Runs (λ fails place. taken_in fails place frame) None true old middle before waiting units units
     → is_some (asking_place middle.transfers.list) ≡ true
     → Runs (λ fails place. served fails place frame) (Some (λ place. Asking place)) false old middle before waiting units units
@@ -168,13 +174,14 @@ served_stops frame old middle before waiting units r due = record {
       reached_last (Asking place) t.taken (served fails place frame work) t.is);
 }
 
-pub asking_stops : (frame : Frame) (old middle new : SessionState) (before waiting items : List ℕ) → new ≡ middle → items ≡ waiting
-    → ((units : UnitStates) → Runs (λ fails place. taken_in fails place frame) None true old middle before waiting units units)
+pub asking_stops : (luns : List ℕ) (frame : Frame) (old middle new : SessionState) (before waiting items : Output) → new ≡ middle → items ≡ waiting
+    → ((units : UnitStates) → luns ≡ numbers_of units → Runs (λ fails place. taken_in fails place frame) None true old middle before waiting units units)
     → is_some (asking_place middle.transfers.list) ≡ true
-    → Stops is_serving (λ failed. (units : UnitStates) → Runs (λ fails place. served fails place frame) failed false old new before items units units)
-asking_stops frame old middle new before waiting items same is r due = record {
+    → Stops is_serving (λ failed. (units : UnitStates) → luns ≡ numbers_of units
+    → Runs (λ fails place. served fails place frame) failed false old new before items units units)
+asking_stops luns frame old middle new before waiting items same is r due = record {
   step = λ place. Asking place;
   of_frame = λ place. eq-eqb place place refl;
   of_kind = λ place. refl;
-  leads = λ units. rw (same, is) (served_stops frame old middle before waiting units (r units) due);
+  leads = λ units numbers. rw (same, is) (served_stops frame old middle before waiting units (r units numbers) due);
 }

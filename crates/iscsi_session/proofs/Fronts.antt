@@ -62,7 +62,7 @@ moment_come came (suc k) n come le =
     omega arith
 
 -- it is the greatest of all places up to it
-moment_above : (came : List Request) (j k : ℕ) → j ≤ k → place_of came j ≤ moment came k
+pub moment_above : (came : List Request) (j k : ℕ) → j ≤ k → place_of came j ≤ moment came k
 moment_above came j zero le = let e : j ≡ 0 = omega arith in ap_le e
   where
     ap_le : j ≡ 0 → place_of came j ≤ place_of came 0

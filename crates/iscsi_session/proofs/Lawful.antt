@@ -1,19 +1,22 @@
 -- Every past that the steps can reach is lawful, and what a lawful past says of the order.
-use Rattle.std.proofs.Common.{◌≡◌, ℕ, zero, suc, ◌^◌, ◌<◌, List, [], ◌∷◌, ◌++◌, length, Bool, true, false, not, cond, refl, sym, ap, subst, ◌∙◌, arith, append_assoc}
+use Rattle.std.proofs.Common.{◌≡◌, ℕ, zero, suc, ◌^◌, ◌<◌, ◌≤◌, ◌&&◌, List, [], ◌∷◌, ◌++◌, length, Bool, true, false, not, cond, refl, sym, ap, subst, ◌∙◌, arith, append_assoc}
 use Rattle.std.specs.Prelude.{filter}
 use Rattle.std.proofs.lemmas.Bool.{ltb-true}
 use Rattle.std.proofs.lemmas.List.Elements.{filter-append}
-use Rattle.iscsi_pdu.specs.Header.{is_immediate, cmd_sn, initiator_task_tag}
+use Rattle.iscsi_pdu.specs.Header.{is_immediate, cmd_sn}
 use Rattle.iscsi_pdu.specs.Frames.{Frame}
 use Rattle.iscsi_order.specs.Window as order
 use Rattle.iscsi_order.specs.Window.{taken as taken_numbers, window}
 use Rattle.iscsi_order.specs.Serial.{distance}
 use Rattle.iscsi_order.proofs.Standing.{window_is}
+use Rattle.scsi_unit.specs.Units.{numbers_of}
 use Rattle.iscsi_session.specs.declared.verdict.Verdict.{Verdict}
 use Rattle.iscsi_session.specs.declared.verdict.Verdict.TheVariants.{Ignored, Dropped, Rejected, Violating, Accepted, Feeding}
-use Rattle.iscsi_session.specs.Requests.{Past, frame_of, is_in, left, is_command, commands, others, taken, numbers, due, queue, moved, finished, accepted}
+use Rattle.iscsi_session.specs.Requests.{Past, frame_of, is_function, removing, is_in, left, is_command, commands, others, taken, numbers, due, queue, moved, finished, accepted}
 use Rattle.iscsi_session.specs.Judging.{verdict, judged}
-use Rattle.iscsi_session.specs.Acts.{act_answers}
+use Rattle.iscsi_pdu.specs.TaskManagement.{ref_cmd_sn}
+use Rattle.iscsi_session.specs.Functions.{reached, plugs}
+use Rattle.iscsi_session.specs.Acts.{reach_of, act_answers, ended, behind}
 use Rattle.iscsi_session.specs.State.{IsLawful}
 use Rattle.iscsi_session.specs.Steps.{Step, Judging, Taking, Asking, Doing, Work, reaches, take_step, judge, act, ask, finish, first_steps, one_by_one, waiting_in, act_all, ask_due, taken_in, served, ready, settled}
 use Rattle.iscsi_session.specs.Transfers.{asking}
@@ -22,11 +25,18 @@ use Rattle.iscsi_session.specs.Laws.{TakenOnce, FinishedAsTaken, DueInOrder, Don
 use Rattle.iscsi_session.proofs.Left.{left_append}
 use Rattle.iscsi_session.proofs.Taken.{distinct_taken}
 use Rattle.iscsi_session.proofs.Accepted.{begun_lawful, HasFreeTag, IsAhead, lawful_now, lawful_with}
-use Rattle.iscsi_session.proofs.Moved.{due_after, due_other, lawful_command, lawful_gone, lawful_other, lawful_finished, queue_after}
+use Rattle.iscsi_session.proofs.Moved.{due_after, due_other, stays_other, lawful_command, lawful_gone, lawful_other, lawful_finished, queue_after}
 use Rattle.iscsi_session.proofs.Parts.{both_true, fresh_is, accepted_now, accepted_with}
 use Rattle.iscsi_session.proofs.Verdicts.{IsFree, accepted_free}
 use Rattle.iscsi_session.proofs.Feeding.{free_by_past, lawful_fed}
 use Rattle.iscsi_session.proofs.Runs.{lawful_answering}
+use Rattle.iscsi_session.proofs.Left.{and_true_both}
+use Rattle.iscsi_session.proofs.Kept.{function_no_command}
+use Rattle.iscsi_session.proofs.Over.{over_other}
+use Rattle.iscsi_session.proofs.Answered.{moved_other}
+use Rattle.iscsi_session.proofs.Removing.{lawful_removing, removing_over}
+use Rattle.iscsi_session.proofs.Plugging.{plugged_lawful}
+use Rattle.iscsi_session.proofs.Ending.{reached_moved, ended_function, plugs_new}
 
 -- ---- the order
 
@@ -102,9 +112,49 @@ judge_lawful : (frame : Frame) (work : Work) → cmd_sn frame.header < 2 ^ 32 �
 unfolding judge
 judge_lawful frame work fits lawful = judged_by _ work.past frame refl fits lawful
 
+-- what a function removes
+ended_lawful : (luns : List ℕ) (b : Bool) (past : Past) (k : ℕ) (rest : List ℕ) → is_function (frame_of past.came k) ≡ b → IsLawful past → due past ≡ k ∷ rest
+    → IsLawful (moved k past) → IsLawful (ended luns k past)
+ended_lawful luns false past k rest f lawful is moves = rw f moves
+ended_lawful luns true past k rest f lawful is moves =
+    rw f (subst (λ (l : List ℕ). IsLawful (removing l (moved k past))) (reached_moved luns past k f)
+    (lawful_removing (reach_of luns k past) (moved k past) moves))
+
+-- and the number that it plugs
+more_over : (luns : List ℕ) (past : Past) (k : ℕ) (rest : List ℕ) → is_function (frame_of past.came k) ≡ true → IsLawful past → due past ≡ k ∷ rest
+    → IsLawful (moved k past) → ((numbers past).finished ≤ (numbers (ended luns k past)).finished)
+    × ((ended luns k past).came ≡ past.came) × ((ended luns k past).params ≡ past.params)
+more_over luns past k rest f lawful is moves =
+    let reach = reach_of luns k past in
+    let no_command = function_no_command (frame_of past.came k) f in
+    let same : record past { acted = past.acted ++ k ∷ []; finished = past.finished ++ k ∷ [] } ≡ moved k past = moved_other k past no_command in
+    let removes : removing (reached reach (moved k past)) (moved k past) ≡ ended luns k past =
+    ap (λ (l : List ℕ). removing l (moved k past)) (reached_moved luns past k f) ∙ sym (ended_function luns past k f) in
+    let a = over_other past k (stays_other past lawful k rest is no_command) in
+    let b = removing_over reach (moved k past) moves in
+    let c = ap (λ (p : Past). (numbers p).finished) same in
+    let d = ap (λ (p : Past). (numbers p).finished) removes in (
+      omega (arith, a, b, c, d),
+      ap (λ (p : Past). p.came) (sym removes) ∙ ap (λ (p : Past). p.came) (sym same),
+      ap (λ (p : Past). p.params) (sym removes) ∙ ap (λ (p : Past). p.params) (sym same),
+    )
+
+behind_lawful : (luns : List ℕ) (b : Bool) (past : Past) (k : ℕ) (rest : List ℕ) → (is_function (frame_of past.came k) && plugs past (reach_of luns k past)) ≡ b
+    → due past ≡ k ∷ rest → IsLawful past → IsLawful (ended luns k past) → IsLawful (behind luns k past (ended luns k past))
+behind_lawful luns false past k rest e is lawful ends = rw e ends
+behind_lawful luns true past k rest e is lawful ends =
+    let both = and_true_both (is_function (frame_of past.came k)) (plugs past (reach_of luns k past)) e in
+    let m = more_over luns past k rest both.0 lawful is (moved_by _ past k rest refl lawful is) in
+    rw e (plugged_lawful (ref_cmd_sn (frame_of past.came k).header) past (ended luns k past) m.1 m.2 lawful ends m.0
+    (plugs_new past (reach_of luns k past) both.1))
+
 act_lawful : (work : Work) (k : ℕ) (rest : List ℕ) → due work.past ≡ k ∷ rest → IsLawful work.past → IsLawful (act k work).past
 unfolding act
-act_lawful work k rest is lawful = lawful_answering (act_answers k work.past) (moved k work.past) (moved_by _ work.past k rest refl lawful is)
+act_lawful work k rest is lawful =
+    let luns = numbers_of work.units in
+    let moves = moved_by _ work.past k rest refl lawful is in
+    lawful_answering (act_answers luns k work.past) (behind luns k work.past (ended luns k work.past))
+    (behind_lawful luns _ work.past k rest refl is lawful (ended_lawful luns _ work.past k rest refl lawful is moves))
 
 finish_lawful : (work : Work) (k : ℕ) (rest : List ℕ) → ready work.past ≡ k ∷ rest → IsLawful work.past → IsLawful (finish k work).past
 unfolding finish

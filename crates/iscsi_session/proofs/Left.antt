@@ -45,6 +45,10 @@ left_more gone more names =
     ∙ filter_cong _ _ names (λ i d lt. not_or (is_in (get_or names i d) gone) (is_in (get_or names i d) more)
     ∙ ap not (sym (list_any-append (λ a. eqb a (get_or names i d)) gone more))))
 
+pub and_true_both : (a b : Bool) → (a && b) ≡ true → (a ≡ true) × (b ≡ true)
+and_true_both true b e = (refl, e)
+and_true_both false b e = absurd cc
+
 pub and_swap : (a b : Bool) → (a && b) ≡ (b && a)
 and_swap true true = refl
 and_swap true false = refl

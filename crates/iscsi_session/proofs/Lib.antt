@@ -10,12 +10,19 @@ pub mod Accepted
 pub mod Over
 pub mod Moved
 mod Lines
+mod Replacing
 pub mod Exchanging
 pub mod Parts
+mod Weights
+pub mod Removing
+mod Voiding
+mod Sweeping
+mod Plugging
 mod Feeding
 mod Asking
 mod Verdicts
 mod Answered
+mod Ending
 mod Settled
 mod Served
 pub mod Steps

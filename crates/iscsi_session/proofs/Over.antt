@@ -1,5 +1,5 @@
 -- How many numbers are over: of the requests that are finished, and of those that were removed and whose turn has come.
-use Rattle.std.proofs.Common.{◌≡◌, ℕ, zero, ◌+◌, ◌-◌, ◌<◌, ◌≤◌, List, [], ◌∷◌, ◌++◌, length, get_or, Bool, true, false, not, ◌&&◌, cond, refl, sym, ap, ◌∙◌, inl, inr, arith, append_assoc}
+use Rattle.std.proofs.Common.{◌≡◌, ℕ, zero, ◌+◌, ◌-◌, ◌<◌, ◌≤◌, List, [], ◌∷◌, ◌++◌, length, get_or, Bool, true, false, not, cond, refl, sym, ap, ◌∙◌, inl, inr, arith, append_assoc}
 use Rattle.std.specs.Prelude.{is_some, All, filter}
 use Rattle.std.proofs.lemmas.Bool.{cases_eq, ne_eqb, false_from_ne_true}
 use Rattle.std.proofs.lemmas.List.{append-nil}
@@ -25,7 +25,7 @@ split_with false true q came k names e f rest = rw (e, f, e) rest
 split_with false false q came k names e f rest = rw (e, f, e) rest
 
 -- those for which it holds, and the others
-split : (q : ℕ → Bool) (came : List Request) (names : List ℕ) → counted came names ≡ counted came (filter q names) + counted came (filter (λ a. not (q a)) names)
+pub split : (q : ℕ → Bool) (came : List Request) (names : List ℕ) → counted came names ≡ counted came (filter q names) + counted came (filter (λ a. not (q a)) names)
 split q came [] = refl
 split q came (k ∷ names) = split_with _ _ q came k names refl refl (split q came names)
 
@@ -56,7 +56,7 @@ others_stay past names all = left_all past.removed (others past.came names) (λ 
     was_not false e = refl
 
 -- of those that acted: the removed ones, the SCSI Commands that were not removed, and the other requests
-acted_counted : (past : Past) → All (λ a. is_command (frame_of past.came a) ≡ true) past.removed
+pub acted_counted : (past : Past) → All (λ a. is_command (frame_of past.came a) ≡ true) past.removed
     → counted past.came past.acted ≡ counted past.came (filter (λ k. is_in k past.removed) past.acted)
     + (counted past.came (left past.removed (commands past.came past.acted)) + counted past.came (others past.came past.acted))
 unfolding left

@@ -5,7 +5,7 @@ use Rattle.std.specs.Result.{is_err}
 use Rattle.std.specs.List.{range_with_len}
 use Rattle.std.proofs.lemmas.Bool.{ltb-true}
 use Rattle.std.proofs.lemmas.List.FromFn.{get_or-map-range_with_len}
-use Rattle.iscsi_pdu.specs.Header.{is_immediate, cmd_sn, initiator_task_tag}
+use Rattle.iscsi_pdu.specs.Header.{is_immediate, cmd_sn}
 use Rattle.iscsi_pdu.specs.Frames.{Frame}
 use Rattle.iscsi_pdu.specs.declared.answer.Answer.{Answer}
 use Rattle.iscsi_login.specs.declared.params.Params.{Params}
@@ -15,9 +15,8 @@ use Rattle.iscsi_order.specs.WindowState as windows
 use Rattle.iscsi_order.specs.WindowState.{remembered as remembered_window}
 use Rattle.iscsi_order.specs.Serial.{distance}
 use Rattle.iscsi_order.specs.Stat.{stat_sn}
-use Rattle.iscsi_session.specs.Requests.{Past, is_command, is_function, functions, left, numbered, numbers, due, queue, frames_of, is_in, unfinished, statuses, bearing, answering, accepted, begun, taken}
+use Rattle.iscsi_session.specs.Requests.{Past, is_command, is_function, functions, left, numbered, numbers, due, queue, frames_of, unfinished, statuses, bearing, answering, accepted, begun, taken}
 use Rattle.iscsi_session.specs.Judging.{is_fresh}
-use Rattle.iscsi_session.specs.Transfers.{tag_of}
 use Rattle.iscsi_session.specs.declared.transfers.Transfer.{Transfer}
 use Rattle.iscsi_transfer.specs.Task.{TaskState, remembered as task_of}
 use Rattle.iscsi_transfer.specs.Payload.{begun as begun_data}

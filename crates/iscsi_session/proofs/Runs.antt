@@ -10,9 +10,9 @@ use Rattle.iscsi_pdu.specs.Answer.{spelling}
 use Rattle.iscsi_pdu.specs.declared.answer.Answer.{Answer}
 use Rattle.iscsi_session.specs.Transfers.{task_at, outs_of, tags_of}
 use Rattle.iscsi_session.specs.Requests.{Past, DataOut, SentR2t, due, queue, unfinished, functions, bears_status, bearing, statuses, answering}
-use Rattle.iscsi_session.specs.State.{SessionState, IsLawful, Stands, standing, tasks_of, transfers_of, functions_of, remembered}
+use Rattle.iscsi_session.specs.State.{SessionState, IsLawful, Stands, waiting, standing, tasks_of, transfers_of, functions_of, remembered}
 use Rattle.iscsi_session.specs.Steps.{Step, Taking, Doing, is_step, is_of, Work, reaches, take_step, first_steps, one_by_one}
-use Rattle.iscsi_session.specs.Runs.{Starts, Leaves, FailsAs, IsReached, Runs}
+use Rattle.iscsi_session.specs.Runs.{Output, output, Starts, Leaves, FailsAs, IsReached, Runs}
 
 -- ---- a session that was answered more, or has more data
 
@@ -65,7 +65,7 @@ functions_answering more past = refl
 pub stands_of : (work : Work) (state : SessionState) (units : UnitStates) → Starts work state units → Stands work.past state
 stands_of work state units s = record { lawful = s.lawful; remembered = s.remembered }
 
-pub starts_again : (given work : Work) (state : SessionState) (before waiting : List ℕ) (units : UnitStates) → Leaves given work state before waiting units
+pub starts_again : (given work : Work) (state : SessionState) (before waiting : Output) (units : UnitStates) → Leaves given work state before waiting units
     → work.goes_on ≡ true → Starts work state units
 starts_again given work state before waiting units l goes_on = record { lawful = l.lawful; remembered = l.remembered; units = l.units; goes_on = goes_on }
 
@@ -73,7 +73,7 @@ starts_again given work state before waiting units l goes_on = record { lawful =
 pub starts_reaching : (step : Step) (work : Work) (state : SessionState) (units : UnitStates) → Starts work state units → Starts (reaches step work) state units
 starts_reaching step work state units s = record { lawful = s.lawful; remembered = s.remembered; units = s.units; goes_on = s.goes_on }
 
-pub leaves_nothing : (work : Work) (state : SessionState) (before : List ℕ) (units : UnitStates) → Starts work state units
+pub leaves_nothing : (work : Work) (state : SessionState) (before : Output) (units : UnitStates) → Starts work state units
     → Leaves work work state before before units
 leaves_nothing work state before units s = record {
   lawful = s.lawful;
@@ -82,10 +82,17 @@ leaves_nothing work state before units s = record {
   params = refl;
   more = [];
   answers = sym (append-nil work.past.answers);
-  spelled = sym (append-nil before);
+  spelled = sym (append-nil before.bytes);
+  functions = [];
+  acted = sym (append-nil work.orders);
+  ordered = sym (append-nil before.orders);
 }
 
-pub leaves_then : (given work next : Work) (state after : SessionState) (before waiting items : List ℕ) (units units_after : UnitStates)
+-- twice behind
+behind_both : {A : Type 0} (l before waiting a b : List A) → waiting ≡ before ++ a → l ≡ waiting ++ b → l ≡ before ++ (a ++ b)
+behind_both {A} l before waiting a b first then_ = then_ ∙ ap (λ (x : List A). x ++ b) first ∙ append_assoc before a b
+
+pub leaves_then : (given work next : Work) (state after : SessionState) (before waiting items : Output) (units units_after : UnitStates)
     → Leaves given work state before waiting units → Leaves work next after waiting items units_after
     → Leaves given next after before items units_after
 leaves_then given work next state after before waiting items units units_after a b = record {
@@ -94,34 +101,88 @@ leaves_then given work next state after before waiting items units units_after a
   units = b.units;
   params = b.params ∙ a.params;
   more = a.more ++ b.more;
-  answers = b.answers ∙ ap (λ (l : List Answer). l ++ b.more) a.answers ∙ append_assoc given.past.answers a.more b.more;
-  spelled = b.spelled ∙ ap (λ (l : List ℕ). l ++ flat_map spelling b.more) a.spelled ∙ append_assoc before (flat_map spelling a.more) (flat_map spelling b.more)
-      ∙ ap (λ (l : List ℕ). before ++ l) (sym (flat_map-append spelling a.more b.more));
+  answers = behind_both next.past.answers given.past.answers work.past.answers a.more b.more a.answers b.answers;
+  spelled = behind_both items.bytes before.bytes waiting.bytes (flat_map spelling a.more) (flat_map spelling b.more) a.spelled b.spelled
+      ∙ ap (λ (l : List ℕ). before.bytes ++ l) (sym (flat_map-append spelling a.more b.more));
+  functions = a.functions ++ b.functions;
+  acted = behind_both next.orders given.orders work.orders a.functions b.functions a.acted b.acted;
+  ordered = behind_both items.orders before.orders waiting.orders a.functions b.functions a.ordered b.ordered;
 }
 
--- a step that answers this much
-pub leaves_standing : (given work : Work) (state : SessionState) (before waiting : List ℕ) (units : UnitStates) (more : List Answer)
-    → Stands work.past state → work.past.params ≡ given.past.params
-    → work.past.answers ≡ given.past.answers ++ more → waiting ≡ before ++ flat_map spelling more → work.units ≡ units
-    → Leaves given work state before waiting units
-leaves_standing given work state before waiting units more s params answers spelled same =
-    record { lawful = s.lawful; remembered = s.remembered; units = same; params = params; more = more; answers = answers; spelled = spelled }
+-- a step that answers and orders this much
+pub record Gives (given work : Work) (before waiting : Output) (more : List Answer) (functions : List (List ℕ)) : Type 0 where
+  pub params : work.past.params ≡ given.past.params
+  pub answers : work.past.answers ≡ given.past.answers ++ more
+  pub spelled : waiting.bytes ≡ before.bytes ++ flat_map spelling more
+  pub acted : work.orders ≡ given.orders ++ functions
+  pub ordered : waiting.orders ≡ before.orders ++ functions
 
-pub leaves_reaching : (step : Step) (work next : Work) (state : SessionState) (before waiting : List ℕ) (units : UnitStates)
+pub leaves_standing : (given work : Work) (state : SessionState) (before waiting : Output) (units : UnitStates) (more : List Answer)
+    (functions : List (List ℕ)) → Stands work.past state → work.units ≡ units → Gives given work before waiting more functions
+    → Leaves given work state before waiting units
+leaves_standing given work state before waiting units more functions s same gives = record {
+  lawful = s.lawful;
+  remembered = s.remembered;
+  units = same;
+  params = gives.params;
+  more = more;
+  answers = gives.answers;
+  spelled = gives.spelled;
+  functions = functions;
+  acted = gives.acted;
+  ordered = gives.ordered;
+}
+
+-- one that orders nothing
+pub leaves_answering : (given work : Work) (state : SessionState) (before waiting : Output) (units : UnitStates) (more : List Answer)
+    → Stands work.past state → work.past.params ≡ given.past.params → work.past.answers ≡ given.past.answers ++ more
+    → waiting.bytes ≡ before.bytes ++ flat_map spelling more → waiting.orders ≡ before.orders → work.orders ≡ given.orders → work.units ≡ units
+    → Leaves given work state before waiting units
+leaves_answering given work state before waiting units more s params answers spelled ordered acted same =
+    leaves_standing given work state before waiting units more [] s same (record {
+      params = params;
+      answers = answers;
+      spelled = spelled;
+      acted = acted ∙ sym (append-nil given.orders);
+      ordered = ordered ∙ sym (append-nil before.orders);
+    })
+
+-- the same, but for the steps that were reached and whether it goes on
+pub leaves_as : (given work given_too work_too : Work) (state : SessionState) (before waiting : Output) (units : UnitStates)
+    → given_too.past ≡ given.past → given_too.orders ≡ given.orders → work_too.past ≡ work.past → work_too.orders ≡ work.orders
+    → work_too.units ≡ work.units → Leaves given work state before waiting units → Leaves given_too work_too state before waiting units
+leaves_as given work given_too work_too state before waiting units g go w wo u l = record {
+  lawful = subst IsLawful (sym w) l.lawful;
+  remembered = l.remembered ∙ ap remembered (sym w);
+  units = u ∙ l.units;
+  params = ap (λ (p : Past). p.params) w ∙ l.params ∙ ap (λ (p : Past). p.params) (sym g);
+  more = l.more;
+  answers = ap (λ (p : Past). p.answers) w ∙ l.answers ∙ ap (λ (p : Past). p.answers ++ l.more) (sym g);
+  spelled = l.spelled;
+  functions = l.functions;
+  acted = wo ∙ l.acted ∙ ap (λ (o : List (List ℕ)). o ++ l.functions) (sym go);
+  ordered = l.ordered;
+}
+
+pub leaves_reaching : (step : Step) (work next : Work) (state : SessionState) (before waiting : Output) (units : UnitStates)
     → Leaves (reaches step work) next state before waiting units → Leaves work next state before waiting units
 leaves_reaching step work next state before waiting units l =
-    record { lawful = l.lawful; remembered = l.remembered; units = l.units; params = l.params; more = l.more; answers = l.answers; spelled = l.spelled }
+    leaves_as (reaches step work) next work next state before waiting units refl refl refl refl refl l
 
-pub leaves_stopped : (step : Step) (given work : Work) (state : SessionState) (before waiting : List ℕ) (units : UnitStates)
+pub leaves_stopped : (step : Step) (given work : Work) (state : SessionState) (before waiting : Output) (units : UnitStates)
     → Leaves given work state before waiting units → Leaves given (record (reaches step work) { goes_on = false }) state before waiting units
 leaves_stopped step given work state before waiting units l =
-    record { lawful = l.lawful; remembered = l.remembered; units = l.units; params = l.params; more = l.more; answers = l.answers; spelled = l.spelled }
+    leaves_as given work given (record (reaches step work) { goes_on = false }) state before waiting units refl refl refl refl refl l
 
 pub reached_last : (step : Step) (work last : Work) → last ≡ record (reaches step work) { goes_on = false }
     → (before : List Step) × (last.reached ≡ before ++ step ∷ [])
 reached_last step work last e = (work.reached, ap (λ (v : Work). v.reached) e)
 
 -- ---- more waits behind what did
+
+pub same_output : (bytes bytes_too : List ℕ) (orders orders_too : List (List ℕ)) → bytes ≡ bytes_too → orders ≡ orders_too
+    → output bytes orders ≡ output bytes_too orders_too
+same_output bytes bytes_too orders orders_too e f = rw (e, f) refl
 
 pub grows_none : (before : List ℕ) → (more : List ℕ) × (before ≡ before ++ more)
 grows_none before = ([], sym (append-nil before))
@@ -189,9 +250,9 @@ doing_kind = record {
   apart = λ place turn other differ. rw (eq-eqb place place refl, ne_eqb turn other differ) refl;
 }
 
--- how many requests wait to act, and how many commands are to be done
+-- how many acts can follow at most, and how many commands are to be done
 abbrev pub tasks_count : SessionState → ℕ
-tasks_count state = length state.tasks.due
+tasks_count state = waiting state.tasks
 
 abbrev pub queue_count : SessionState → ℕ
 queue_count state = length state.tasks.queue
@@ -199,7 +260,7 @@ queue_count state = length state.tasks.queue
 module _ (kind : ℕ → ℕ → Step) (line : Past → List ℕ) (does : ℕ → Work → Work) (count : SessionState → ℕ) (size : Past → ℕ) (fits : (past : Past)
     → IsLawful past → count (remembered past) ≤ size past) where
   -- what is left of the turns
-  pub record RanTo (turns : ℕ) (place : ℕ) (fails : Step → Bool) (given : Work) (most : ℕ) (now : SessionState) (before waiting : List ℕ)
+  pub record RanTo (turns : ℕ) (place : ℕ) (fails : Step → Bool) (given : Work) (most : ℕ) (now : SessionState) (before waiting : Output)
       (units : UnitStates) : Type 0 where
     pub work : Work
     pub left : ℕ
@@ -209,19 +270,19 @@ module _ (kind : ℕ → ℕ → Step) (line : Past → List ℕ) (does : ℕ �
     pub same : one_by_one fails (kind place) line does 0 most given ≡ one_by_one fails (kind place) line does turns left work
 
   -- so many steps were done
-  pub record Ran (turns : ℕ) (old now : SessionState) (before waiting : List ℕ) (units after : UnitStates) : Type 0 where
+  pub record Ran (turns : ℕ) (old now : SessionState) (before waiting : Output) (units after : UnitStates) : Type 0 where
     pub runs : (place : ℕ) (fails : Step → Bool) (given : Work) (most : ℕ) → ((turn : ℕ) → turn < turns → fails (kind place turn) ≡ false)
         → Starts given old units → count old ≤ most
         → RanTo turns place fails given most now before waiting after
 
-  pub none_ran : (old : SessionState) (before : List ℕ) (units : UnitStates) → Ran 0 old old before before units units
+  pub none_ran : (old : SessionState) (before : Output) (units : UnitStates) → Ran 0 old old before before units units
   none_ran old before units = record {
     runs = λ place fails given most un s le. record
         { work = given; left = most; leaves = leaves_nothing given old before units s; goes_on = s.goes_on; enough = le; same = refl };
   }
 
   -- the first of the line takes a step, and the session goes on, or not
-  pub record StepsTo (goes_on : Bool) (now next : SessionState) (before waiting : List ℕ) (units after : UnitStates) : Type 0 where
+  pub record StepsTo (goes_on : Bool) (now next : SessionState) (before waiting : Output) (units after : UnitStates) : Type 0 where
     pub steps : (work : Work) → Starts work now units
         → (request : ℕ) × (others : List ℕ) × (line work.past ≡ request ∷ others) × ((does request work).goes_on ≡ goes_on)
         × Leaves work (does request work) next before waiting after
@@ -236,7 +297,7 @@ module _ (kind : ℕ → ℕ → Step) (line : Past → List ℕ) (does : ℕ �
       ∙ ap (one_by_one fails (kind place) line does (suc turn) left) (step_done fails (kind place turn) (does request) work on un)
 
   pub record Stepped (turns : ℕ) (place : ℕ) (fails : Step → Bool) (given : Work) (most : ℕ) (goes_on_then : Bool) (now next : SessionState)
-      (before waiting : List ℕ) (units : UnitStates) : Type 0 where
+      (before waiting : Output) (units : UnitStates) : Type 0 where
     pub work : Work
     pub left : ℕ
     pub leaves : Leaves given work next before waiting units
@@ -245,7 +306,7 @@ module _ (kind : ℕ → ℕ → Step) (line : Past → List ℕ) (does : ℕ �
     pub same : one_by_one fails (kind place) line does 0 most given ≡ one_by_one fails (kind place) line does (suc turns) left work
 
   stepped_by : (left : ℕ) (turns place : ℕ) (fails : Step → Bool) (given : Work) (most : ℕ) (goes_on : Bool) (now next : SessionState)
-      (before waiting items : List ℕ) (units after : UnitStates) (r : RanTo turns place fails given most now before waiting units)
+      (before waiting items : Output) (units after : UnitStates) (r : RanTo turns place fails given most now before waiting units)
       → r.left ≡ left → fails (kind place turns) ≡ false → StepsTo goes_on now next waiting items units after
       → Stepped turns place fails given most goes_on now next before items after
   stepped_by zero turns place fails given most goes_on now next before waiting items units after r e un s =
@@ -266,7 +327,7 @@ module _ (kind : ℕ → ℕ → Step) (line : Past → List ℕ) (does : ℕ �
             ∙ one_step turns left place fails r.work request found.1 found.2 r.goes_on un;
       }
 
-  pub ran_more : (turns : ℕ) (old now next : SessionState) (before waiting items : List ℕ) (units middle after : UnitStates)
+  pub ran_more : (turns : ℕ) (old now next : SessionState) (before waiting items : Output) (units middle after : UnitStates)
       → Ran turns old now before waiting units middle → StepsTo true now next waiting items middle after → count next < count now
       → Ran (suc turns) old next before items units after
   ran_more turns old now next before waiting items units middle after ran s fewer = record {
@@ -285,12 +346,12 @@ module _ (kind : ℕ → ℕ → Step) (line : Past → List ℕ) (does : ℕ �
   begins work old units s = omega (arith, ap count s.remembered, fits work.past s.lawful)
 
   -- the line is empty, and nothing changes
-  pub record IsIdle (now next : SessionState) (before waiting : List ℕ) (units after : UnitStates) : Type 0 where
+  pub record IsIdle (now next : SessionState) (before waiting : Output) (units after : UnitStates) : Type 0 where
     pub none : (work : Work) → Starts work now units → line work.past ≡ []
     pub leaves : (work : Work) → Starts work now units → Leaves work work next before waiting after
 
   idle_to : (facts : IsKind kind) (turns place : ℕ) (fails : Step
-      → Bool) (given : Work) (old now next : SessionState) (before waiting items : List ℕ) (units middle after : UnitStates)
+      → Bool) (given : Work) (old now next : SessionState) (before waiting items : Output) (units middle after : UnitStates)
       → Ran turns old now before waiting units middle → IsIdle now next waiting items middle after → FailsAs None place fails → Starts given old units
       → (work : Work) × (all_of fails place given ≡ work) × (work.goes_on ≡ true) × Leaves given work next before items after
   unfolding all_of
@@ -304,7 +365,7 @@ module _ (kind : ℕ → ℕ → Step) (line : Past → List ℕ) (does : ℕ �
             next before waiting items middle after r.leaves (none.leaves r.work starts),
       )
 
-  pub ran_idle : (facts : IsKind kind) (turns : ℕ) (old now next : SessionState) (before waiting items : List ℕ) (units middle after : UnitStates)
+  pub ran_idle : (facts : IsKind kind) (turns : ℕ) (old now next : SessionState) (before waiting items : Output) (units middle after : UnitStates)
       → Ran turns old now before waiting units middle → IsIdle now next waiting items middle after → Runs all_of None true old next before items units after
   ran_idle facts turns old now next before waiting items units middle after ran none = record {
     leads = λ place fails given told s. (let t = idle_to facts turns place fails given old now next before waiting items units middle after ran none told s
@@ -316,7 +377,7 @@ module _ (kind : ℕ → ℕ → Step) (line : Past → List ℕ) (does : ℕ �
 
   -- the session ended
   ended_to : (facts : IsKind kind) (turns place : ℕ) (fails : Step
-      → Bool) (given : Work) (old now next : SessionState) (before waiting items : List ℕ) (units middle after : UnitStates)
+      → Bool) (given : Work) (old now next : SessionState) (before waiting items : Output) (units middle after : UnitStates)
       → Ran turns old now before waiting units middle → StepsTo false now next waiting items middle after → FailsAs None place fails → Starts given old units
       → (work : Work) × (all_of fails place given ≡ work) × (work.goes_on ≡ false) × Leaves given work next before items after
   unfolding all_of
@@ -326,7 +387,7 @@ module _ (kind : ℕ → ℕ → Step) (line : Past → List ℕ) (does : ℕ �
       (told (kind place turns) (facts.of place turns)) steps in
       (n.work, n.same ∙ stopped fails (kind place) line does (suc turns) n.left n.work n.goes_on, n.goes_on, n.leaves)
 
-  pub ran_ended : (facts : IsKind kind) (turns : ℕ) (old now next : SessionState) (before waiting items : List ℕ) (units middle after : UnitStates)
+  pub ran_ended : (facts : IsKind kind) (turns : ℕ) (old now next : SessionState) (before waiting items : Output) (units middle after : UnitStates)
       → Ran turns old now before waiting units middle → StepsTo false now next waiting items middle after
       → Runs all_of None false old next before items units after
   ran_ended facts turns old now next before waiting items units middle after ran steps = record {
@@ -354,7 +415,7 @@ module _ (kind : ℕ → ℕ → Step) (line : Past → List ℕ) (does : ℕ �
       ∙ stopped fails (kind place) line does (suc turn) left (record (reaches (kind place turn) work) { goes_on = false }) refl
 
   failed_to : (facts : IsKind kind) (turns place : ℕ) (fails : Step
-      → Bool) (given : Work) (old now : SessionState) (before waiting : List ℕ) (units after : UnitStates) → Ran turns old now before waiting units after
+      → Bool) (given : Work) (old now : SessionState) (before waiting : Output) (units after : UnitStates) → Ran turns old now before waiting units after
       → HasMore now after → FailsAs (Some (λ place. kind place turns)) place fails → Starts given old units
       → (work : Work) × (all_of fails place given ≡ record (reaches (kind place turns) work) { goes_on = false }) × Leaves given work now before waiting after
   unfolding all_of
@@ -370,7 +431,7 @@ module _ (kind : ℕ → ℕ → Step) (line : Past → List ℕ) (does : ℕ �
         r.leaves,
       )
 
-  pub ran_failed : (facts : IsKind kind) (turns : ℕ) (old now : SessionState) (before waiting : List ℕ) (units after : UnitStates)
+  pub ran_failed : (facts : IsKind kind) (turns : ℕ) (old now : SessionState) (before waiting : Output) (units after : UnitStates)
       → Ran turns old now before waiting units after → HasMore now after
       → Runs all_of (Some (λ place. kind place turns)) false old now before waiting units after
   ran_failed facts turns old now before waiting units after ran has = record {
@@ -385,7 +446,7 @@ module _ (kind : ℕ → ℕ → Step) (line : Past → List ℕ) (does : ℕ �
 
 -- ---- the same by another name
 
-pub runs_as : (run all : (Step → Bool) → ℕ → Work → Work) (failed : Option (ℕ → Step)) (goes_on : Bool) (old new : SessionState) (before waiting : List ℕ)
+pub runs_as : (run all : (Step → Bool) → ℕ → Work → Work) (failed : Option (ℕ → Step)) (goes_on : Bool) (old new : SessionState) (before waiting : Output)
     (units after : UnitStates) → ((fails : Step → Bool) (place : ℕ) (work : Work) → all fails place work ≡ run fails place work)
     → Runs all failed goes_on old new before waiting units after → Runs run failed goes_on old new before waiting units after
 runs_as run all failed goes_on old new before waiting units after same r = record {

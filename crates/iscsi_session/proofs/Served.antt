@@ -2,65 +2,81 @@
 use Rattle.std.proofs.Common.{◌≡◌, ◌≢◌, ◌≤◌, map, ℕ, suc, ◌<◌, List, [], ◌∷◌, ◌++◌, length, Bool, true, false, not, cond, Option, Some, None, refl, sym, ap, ◌∙◌, subst, arith, append-nil}
 use Rattle.std.specs.Prelude.{flat_map, Result, Ok, Err, IfOk, OnErr}
 use Rattle.std.proofs.lemmas.Bool.{eq-eqb}
-use Rattle.std.proofs.lemmas.List.{length-map}
-use Rattle.scsi_unit.specs.Units.{UnitStates}
+use Rattle.scsi_unit.specs.Units.{UnitStates, numbers_of}
 use Rattle.iscsi_pdu.specs.Frames.{Frame}
 use Rattle.iscsi_pdu.specs.Answer.{spelling}
-use Rattle.iscsi_pdu.specs.declared.answer.Answer.{Answer}
 use Rattle.iscsi_session.specs.Requests.{Past, frame_of, due}
-use Rattle.iscsi_session.specs.State.{SessionState, IsLawful, Stands, remembered, tasks_of, standing}
+use Rattle.iscsi_session.specs.State.{SessionState, IsLawful, Stands, remembered, standing}
 use Rattle.iscsi_session.specs.declared.act.Act.{Act}
 use Rattle.iscsi_session.specs.declared.act.Act.TheVariants.{Idle, Taken, Ended}
 use Rattle.iscsi_session.specs.declared.verdict.Verdict.{Verdict}
 use Rattle.iscsi_session.specs.declared.verdict.Verdict.TheVariants.{Ignored, Dropped, Rejected, Violating, Accepted, Feeding}
 use Rattle.iscsi_session.specs.Judging.{verdict, judged, judged_answers, violates}
-use Rattle.iscsi_session.specs.Acts.{act_answers, act_by, acted_by, answers_by, ends}
+use Rattle.iscsi_session.specs.Acts.{act_answers, act_by, acted_by, answers_by, ordered, orders_by, ends}
 use Rattle.iscsi_session.specs.Steps.{is_serving, Step, Judging, Taking, is_of, Work, reaches, judge, act, act_all, taken_in, waiting_in}
-use Rattle.iscsi_session.specs.Runs.{Starts, Leaves, FailsAs, IsReached, Runs, is_failed, Stops}
+use Rattle.iscsi_session.specs.Runs.{Output, Starts, Leaves, FailsAs, IsReached, Runs, is_failed, Stops}
 use Rattle.iscsi_pdu.specs.Header.{initiator_task_tag}
 use Rattle.iscsi_session.specs.Transfers.{command_with}
 use Rattle.iscsi_session.proofs.Feeding.{fed_same}
 use Rattle.iscsi_session.proofs.Parts.{due_is}
-use Rattle.iscsi_session.proofs.Answered.{moved_same}
-use Rattle.iscsi_session.proofs.Runs.{Ran, tasks_count, all_of, ran_more, ran_idle, ran_ended, ran_failed, runs_as, taking_kind, stands_of, starts_again, starts_reaching, leaves_then, leaves_standing, leaves_nothing, step_done, step_fails, stopped, leaves_reaching, leaves_stopped, reached_last}
+use Rattle.iscsi_session.proofs.Weights.{waiting_fits, waiting_some}
+use Rattle.iscsi_session.proofs.Answered.{acted_same}
+use Rattle.iscsi_session.proofs.Runs.{Ran, tasks_count, all_of, ran_more, ran_idle, ran_ended, ran_failed, runs_as, taking_kind, stands_of, starts_again, starts_reaching, leaves_then, leaves_standing, leaves_answering, leaves_nothing, step_done, step_fails, stopped, leaves_reaching, leaves_stopped, reached_last}
 
 -- ---- what an act leaves
 
-pub record Acts (a : Act) (old new : SessionState) (before waiting : List ℕ) : Type 0 where
+-- where these are the numbers of the target's units
+pub record Acts (luns : List ℕ) (a : Act) (old new : SessionState) (before waiting : Output) : Type 0 where
   pub act : (past : Past) → Stands past old → a ≡ act_by (due past) past
-  pub stands : (past : Past) → Stands past old → Stands (acted_by (due past) past) new
-  pub out : (past : Past) → Stands past old → waiting ≡ before ++ flat_map spelling (answers_by (due past) past)
+  pub stands : (past : Past) → Stands past old → Stands (acted_by luns (due past) past) new
+  pub out : (past : Past) → Stands past old → waiting.bytes ≡ before.bytes ++ flat_map spelling (answers_by luns (due past) past)
+  pub orders : (past : Past) → Stands past old → waiting.orders ≡ before.orders ++ orders_by (due past) past
 
-act_leaves : (work : Work) (k : ℕ) (new : SessionState) (before waiting : List ℕ) (units : UnitStates) → work.units ≡ units
-    → Stands (acted_by (k ∷ []) work.past) new
-    → waiting ≡ before ++ flat_map spelling (act_answers k work.past) → Leaves work (act k work) new before waiting units
+act_leaves : (work : Work) (k : ℕ) (new : SessionState) (before waiting : Output) (units : UnitStates) → work.units ≡ units
+    → Stands (acted_by (numbers_of work.units) (k ∷ []) work.past) new
+    → waiting.bytes ≡ before.bytes ++ flat_map spelling (act_answers (numbers_of work.units) k work.past)
+    → waiting.orders ≡ before.orders ++ ordered k work.past → Leaves work (act k work) new before waiting units
 unfolding act
-act_leaves work k new before waiting units same s spelled =
-    let kept = moved_same k work.past in
-    leaves_standing work (act k work) new before waiting units (act_answers k work.past) s kept.0
-    (ap (λ (l : List Answer). l ++ act_answers k work.past) kept.1) spelled same
+act_leaves work k new before waiting units same s spelled orders =
+    let luns = numbers_of work.units in
+    let kept = acted_same luns k work.past in
+    leaves_standing work (act k work) new before waiting units (act_answers luns k work.past) (ordered k work.past) s same
+    (record { params = kept.0; answers = kept.1; spelled = spelled; acted = refl; ordered = orders })
 
 act_goes_on : (work : Work) (k : ℕ) → (act k work).goes_on ≡ not (ends work.past.params (frame_of work.past.came k))
 unfolding act
 act_goes_on work k = refl
 
-abbrev ActsFirst : List ℕ → Act → Work → SessionState → List ℕ → List ℕ → UnitStates → Type 0
+abbrev ActsFirst : List ℕ → Act → Work → SessionState → Output → Output → UnitStates → Type 0
 ActsFirst [] a work new before waiting units = (a ≡ Idle) × Leaves work work new before waiting units
 ActsFirst (k ∷ others) a work new before waiting units = (a ≡ cond (ends work.past.params (frame_of work.past.came k)) Ended Taken) × Leaves work
     (act k work) new before waiting units
 
-acts_first : (l : List ℕ) (a : Act) (work : Work) (new : SessionState) (before waiting : List ℕ) (units : UnitStates) → work.units ≡ units
-    → a ≡ act_by l work.past
-    → Stands (acted_by l work.past) new → waiting ≡ before ++ flat_map spelling (answers_by l work.past) → ActsFirst l a work new before waiting units
-acts_first [] a work new before waiting units same is s spelled =
-    (is, leaves_standing work work new before waiting units [] s refl (sym (append-nil work.past.answers)) spelled same)
-acts_first (k ∷ others) a work new before waiting units same is s spelled = (is, act_leaves work k new before waiting units same s spelled)
+acts_first : (l : List ℕ) (a : Act) (work : Work) (new : SessionState) (before waiting : Output) (units : UnitStates) → work.units ≡ units
+    → a ≡ act_by l work.past → Stands (acted_by (numbers_of work.units) l work.past) new
+    → waiting.bytes ≡ before.bytes ++ flat_map spelling (answers_by (numbers_of work.units) l work.past)
+    → waiting.orders ≡ before.orders ++ orders_by l work.past → ActsFirst l a work new before waiting units
+acts_first [] a work new before waiting units same is s spelled orders = (
+  is,
+  leaves_standing work work new before waiting units [] [] s same (record {
+    params = refl;
+    answers = sym (append-nil work.past.answers);
+    spelled = spelled;
+    acted = sym (append-nil work.orders);
+    ordered = orders;
+  }),
+)
+acts_first (k ∷ others) a work new before waiting units same is s spelled orders =
+    (is, act_leaves work k new before waiting units same s spelled orders)
 
-acts_here : (a : Act) (work : Work) (old new : SessionState) (before waiting : List ℕ) (units : UnitStates) → Acts a old new before waiting
-    → Starts work old units → ActsFirst (due work.past) a work new before waiting units
-acts_here a work old new before waiting units acts s =
+-- they are those of the units that it works on
+acts_here : (luns : List ℕ) (a : Act) (work : Work) (old new : SessionState) (before waiting : Output) (units : UnitStates) → luns ≡ numbers_of units
+    → Acts luns a old new before waiting → Starts work old units → ActsFirst (due work.past) a work new before waiting units
+acts_here luns a work old new before waiting units numbers acts_so s =
     let st = stands_of work old units s in
+    let acts = subst (λ (l : List ℕ). Acts l a old new before waiting) (numbers ∙ ap numbers_of (sym s.units)) acts_so in
     acts_first (due work.past) a work new before waiting units s.units (acts.act work.past st) (acts.stands work.past st) (acts.out work.past st)
+    (acts.orders work.past st)
 
 -- ---- all that is due
 
@@ -72,11 +88,11 @@ does_end : (b : Bool) → Ended ≡ cond b Ended Taken → b ≡ true
 does_end true e = refl
 does_end false e = absurd cc
 
-abbrev FoundActed : List ℕ → Bool → Work → SessionState → List ℕ → List ℕ → UnitStates → Type 0
+abbrev FoundActed : List ℕ → Bool → Work → SessionState → Output → Output → UnitStates → Type 0
 FoundActed l goes_on work new before waiting units =
     (k : ℕ) × (others : List ℕ) × (l ≡ k ∷ others) × ((act k work).goes_on ≡ goes_on) × Leaves work (act k work) new before waiting units
 
-found_taken : (l : List ℕ) (work : Work) (new : SessionState) (before waiting : List ℕ) (units : UnitStates)
+found_taken : (l : List ℕ) (work : Work) (new : SessionState) (before waiting : Output) (units : UnitStates)
     → ActsFirst l Taken work new before waiting units → FoundActed l true work new before waiting units
 found_taken [] work new before waiting units acts = absurd (let no = acts.0 in cc)
 found_taken (k ∷ others) work new before waiting units acts = (
@@ -88,7 +104,7 @@ found_taken (k ∷ others) work new before waiting units acts = (
   acts.1,
 )
 
-found_ended : (l : List ℕ) (work : Work) (new : SessionState) (before waiting : List ℕ) (units : UnitStates)
+found_ended : (l : List ℕ) (work : Work) (new : SessionState) (before waiting : Output) (units : UnitStates)
     → ActsFirst l Ended work new before waiting units → FoundActed l false work new before waiting units
 found_ended [] work new before waiting units acts = absurd (let no = acts.0 in cc)
 found_ended (k ∷ others) work new before waiting units acts = (
@@ -100,7 +116,7 @@ found_ended (k ∷ others) work new before waiting units acts = (
   acts.1,
 )
 
-found_idle : (l : List ℕ) (work : Work) (new : SessionState) (before waiting : List ℕ) (units : UnitStates)
+found_idle : (l : List ℕ) (work : Work) (new : SessionState) (before waiting : Output) (units : UnitStates)
     → ActsFirst l Idle work new before waiting units → (l ≡ []) × Leaves work work new before waiting units
 found_idle [] work new before waiting units acts = (refl, acts.1)
 found_idle (k ∷ others) work new before waiting units acts = absurd (no_idle (ends work.past.params (frame_of work.past.came k)) acts.0)
@@ -110,18 +126,18 @@ found_idle (k ∷ others) work new before waiting units acts = absurd (no_idle (
     no_idle false e = cc
 
 pub due_fits : (past : Past) → IsLawful past → tasks_count (remembered past) ≤ waiting_in past
-unfolding tasks_of
-due_fits past lawful = omega (arith, length-map (due past) (frame_of (standing past)))
+due_fits past lawful = waiting_fits past
 
-pub acted_more : (turns : ℕ) (a : Act) (old now next : SessionState) (before waiting items : List ℕ) (units : UnitStates)
-    → Ran Taking due act tasks_count waiting_in due_fits turns old now before waiting units units → Acts a now next waiting items → a ≡ Taken
+pub acted_more : (luns : List ℕ) (turns : ℕ) (a : Act) (old now next : SessionState) (before waiting items : Output) (units : UnitStates)
+    → luns ≡ numbers_of units → Ran Taking due act tasks_count waiting_in due_fits turns old now before waiting units units
+    → Acts luns a now next waiting items → a ≡ Taken
     → tasks_count next < tasks_count now
     → Ran Taking due act tasks_count waiting_in due_fits (suc turns) old next before items units units
-acted_more turns a old now next before waiting items units ran acts is fewer =
-    let A : Act → Type 0 = λ x. Acts x now next waiting items in
+acted_more luns turns a old now next before waiting items units numbers ran acts is fewer =
+    let A : Act → Type 0 = λ x. Acts luns x now next waiting items in
     let one = subst A is acts in
     ran_more Taking due act tasks_count waiting_in due_fits turns old now next before waiting items units units units ran (record {
-      steps = λ work s. found_taken (due work.past) work next waiting items units (acts_here Taken work now next waiting items units one s);
+      steps = λ work s. found_taken (due work.past) work next waiting items units (acts_here luns Taken work now next waiting items units numbers one s);
       some = λ work s. omega arith;
     }) fewer
 
@@ -129,42 +145,44 @@ acts_all : (fails : Step → Bool) (place : ℕ) (work : Work) → all_of Taking
 unfolding all_of act_all
 acts_all fails place work = refl
 
-pub all_acted : (turns : ℕ) (a : Act) (old now next : SessionState) (before waiting items : List ℕ) (units : UnitStates)
-    → Ran Taking due act tasks_count waiting_in due_fits turns old now before waiting units units → Acts a now next waiting items → a ≡ Idle
+pub all_acted : (luns : List ℕ) (turns : ℕ) (a : Act) (old now next : SessionState) (before waiting items : Output) (units : UnitStates)
+    → luns ≡ numbers_of units → Ran Taking due act tasks_count waiting_in due_fits turns old now before waiting units units
+    → Acts luns a now next waiting items → a ≡ Idle
     → Runs act_all None true old next before items units units
-all_acted turns a old now next before waiting items units ran acts is =
-    let A : Act → Type 0 = λ x. Acts x now next waiting items in
+all_acted luns turns a old now next before waiting items units numbers ran acts is =
+    let A : Act → Type 0 = λ x. Acts luns x now next waiting items in
     let one = subst A is acts in
     runs_as act_all (all_of Taking due act tasks_count waiting_in due_fits) None true old next before items units units acts_all
     (ran_idle Taking due act tasks_count waiting_in due_fits taking_kind turns old now next before waiting items units units units ran (record {
-      none = λ work s. (found_idle (due work.past) work next waiting items units (acts_here Idle work now next waiting items units one s)).0;
-      leaves = λ work s. (found_idle (due work.past) work next waiting items units (acts_here Idle work now next waiting items units one s)).1;
+      none = λ work s. (found_idle (due work.past) work next waiting items units (acts_here luns Idle work now next waiting items units numbers one s)).0;
+      leaves = λ work s. (found_idle (due work.past) work next waiting items units (acts_here luns Idle work now next waiting items units numbers one s)).1;
     }))
 
-pub acting_ends : (turns : ℕ) (a : Act) (old now next : SessionState) (before waiting items : List ℕ) (units : UnitStates)
-    → Ran Taking due act tasks_count waiting_in due_fits turns old now before waiting units units → Acts a now next waiting items → a ≡ Ended
+pub acting_ends : (luns : List ℕ) (turns : ℕ) (a : Act) (old now next : SessionState) (before waiting items : Output) (units : UnitStates)
+    → luns ≡ numbers_of units → Ran Taking due act tasks_count waiting_in due_fits turns old now before waiting units units
+    → Acts luns a now next waiting items → a ≡ Ended
     → Runs act_all None false old next before items units units
-acting_ends turns a old now next before waiting items units ran acts is =
-    let A : Act → Type 0 = λ x. Acts x now next waiting items in
+acting_ends luns turns a old now next before waiting items units numbers ran acts is =
+    let A : Act → Type 0 = λ x. Acts luns x now next waiting items in
     let one = subst A is acts in
     runs_as act_all (all_of Taking due act tasks_count waiting_in due_fits) None false old next before items units units acts_all
     (ran_ended Taking due act tasks_count waiting_in due_fits taking_kind turns old now next before waiting items units units units ran (record {
-      steps = λ work s. found_ended (due work.past) work next waiting items units (acts_here Ended work now next waiting items units one s);
+      steps = λ work s. found_ended (due work.past) work next waiting items units (acts_here luns Ended work now next waiting items units numbers one s);
       some = λ work s.
-          (let f = found_ended (due work.past) work next waiting items units (acts_here Ended work now next waiting items units one s) in
-          omega (
+          (let f = found_ended (due work.past) work next waiting items units (acts_here luns Ended work now next waiting items units numbers one s) in
+          waiting_some now.tasks (omega (
             arith,
             ap (λ (l : List Frame). length l) (due_is work.past now (stands_of work now units s)
                 ∙ ap (λ (l : List ℕ). map (frame_of (standing work.past)) l) f.2),
-          ));
+          )));
     }))
 
 due_there : (past : Past) (l : List ℕ) → 0 < length (map (frame_of (standing past)) l) → (k : ℕ) × (others : List ℕ) × (l ≡ k ∷ others)
 due_there past [] some = absurd (omega arith)
 due_there past (k ∷ others) some = (k, others, refl)
 
-pub acting_stops : (turns : ℕ) (old now : SessionState) (before waiting : List ℕ) (units : UnitStates)
-    → Ran Taking due act tasks_count waiting_in due_fits turns old now before waiting units units → 0 < tasks_count now
+pub acting_stops : (turns : ℕ) (old now : SessionState) (before waiting : Output) (units : UnitStates)
+    → Ran Taking due act tasks_count waiting_in due_fits turns old now before waiting units units → 0 < length now.tasks.due
     → Runs act_all (Some (λ place. Taking place turns)) false old now before waiting units units
 acting_stops turns old now before waiting units ran some =
     runs_as act_all (all_of Taking due act tasks_count waiting_in due_fits) (Some (λ place. Taking place turns)) false old now before waiting units units
@@ -172,15 +190,16 @@ acting_stops turns old now before waiting units ran some =
     (ran_failed Taking due act tasks_count waiting_in due_fits taking_kind turns old now before waiting units units ran (record {
       more = λ work s. due_there work.past (due work.past)
           (omega (arith, ap (λ (l : List Frame). length l) (due_is work.past now (stands_of work now units s)), some));
-      some = λ work s. some;
+      some = λ work s. waiting_some now.tasks some;
     }))
 
 -- ---- a frame is judged
 
-pub record Judges (v : Verdict) (frame : Frame) (old new : SessionState) (before waiting : List ℕ) : Type 0 where
+pub record Judges (v : Verdict) (frame : Frame) (old new : SessionState) (before waiting : Output) : Type 0 where
   pub judged_is : (past : Past) → Stands past old → v ≡ verdict past frame
   pub stands : (past : Past) → Stands past old → Stands (judged (verdict past frame) frame past) new
-  pub out : (past : Past) → Stands past old → waiting ≡ before ++ flat_map spelling (judged_answers (verdict past frame) past frame)
+  pub out : (past : Past) → Stands past old → waiting.bytes ≡ before.bytes ++ flat_map spelling (judged_answers (verdict past frame) past frame)
+  pub orders : waiting.orders ≡ before.orders
 
 pub judged_same : (v : Verdict) (frame : Frame) (past : Past)
     → ((judged v frame past).params ≡ past.params) × ((judged v frame past).answers ≡ past.answers ++ judged_answers v past frame)
@@ -192,7 +211,7 @@ judged_same Ignored frame past = (refl, sym (append-nil past.answers))
 judged_same Dropped frame past = (refl, sym (append-nil past.answers))
 judged_same Violating frame past = (refl, sym (append-nil past.answers))
 
-judge_leaves : (v : Verdict) (frame : Frame) (work : Work) (old new : SessionState) (before waiting : List ℕ) (units : UnitStates)
+judge_leaves : (v : Verdict) (frame : Frame) (work : Work) (old new : SessionState) (before waiting : Output) (units : UnitStates)
     → Judges v frame old new before waiting → Starts work old units
     → Leaves work (judge frame work) new before waiting units × ((judge frame work).goes_on ≡ not (violates v))
 unfolding judge
@@ -200,8 +219,8 @@ judge_leaves v frame work old new before waiting units judges s =
     let st = stands_of work old units s in
     let is = verdict work.past frame in
     let kept = judged_same is frame work.past in (
-      leaves_standing work (judge frame work) new before waiting units (judged_answers is work.past frame) (judges.stands work.past st) kept.0 kept.1
-          (judges.out work.past st) s.units,
+      leaves_answering work (judge frame work) new before waiting units (judged_answers is work.past frame) (judges.stands work.past st) kept.0 kept.1
+          (judges.out work.past st) judges.orders refl s.units,
       ap (λ (x : Verdict). not (violates x)) (sym (judges.judged_is work.past st)),
     )
 
@@ -225,7 +244,7 @@ pub same_place : (place : ℕ) → is_of place (Judging place) ≡ true
 same_place place = eq-eqb place place refl
 
 -- an allocation failed before it
-pub judging_stops : (frame : Frame) (old : SessionState) (before : List ℕ) (units : UnitStates)
+pub judging_stops : (frame : Frame) (old : SessionState) (before : Output) (units : UnitStates)
     → Runs (λ fails place. taken_in fails place frame) (Some (λ place. Judging place)) false old old before before units units
 judging_stops frame old before units =
     let fails_at : (place : ℕ) (fails : Step → Bool) (work : Work) → FailsAs (Some (λ place. Judging place)) place fails → Starts work old units
@@ -239,7 +258,7 @@ judging_stops frame old before units =
     }
 
 -- the session ends with it
-pub judging_ends : (v : Verdict) (frame : Frame) (old new : SessionState) (before waiting : List ℕ) (units : UnitStates)
+pub judging_ends : (v : Verdict) (frame : Frame) (old new : SessionState) (before waiting : Output) (units : UnitStates)
     → Judges v frame old new before waiting → v ≡ Violating → Runs (λ fails place. taken_in fails place frame) None false old new before waiting units units
 judging_ends v frame old new before waiting units judges is =
     let there : (place : ℕ) (fails : Step → Bool) (work : Work) → FailsAs None place fails → Starts work old units
@@ -269,7 +288,7 @@ goes_on_by Violating differ = absurd (differ refl)
 
 -- the requests that are due act behind it
 pub taken_on : (v : Verdict) (frame : Frame) (failed : Option (ℕ
-    → Step)) (goes_on : Bool) (old middle new : SessionState) (before waiting items : List ℕ) (units : UnitStates)
+    → Step)) (goes_on : Bool) (old middle new : SessionState) (before waiting items : Output) (units : UnitStates)
     → Judges v frame old middle before waiting → v ≢ Violating
     → ((place : ℕ) → is_failed failed place (Judging place) ≡ false) → Runs act_all failed goes_on middle new waiting items units units
     → Runs (λ fails place. taken_in fails place frame) failed goes_on old new before items units units
@@ -300,38 +319,42 @@ taken_on v frame failed goes_on old middle new before waiting items units judges
 
 -- ---- what the calls tell
 
-pub act_stops : (turn : ℕ) (old now next : SessionState) (before waiting items : List ℕ) → next ≡ now → items ≡ waiting
-    → ((units : UnitStates) → Runs act_all (Some (λ place. Taking place turn)) false old now before waiting units units)
-    → (turn : ℕ) × ((units : UnitStates) → Runs act_all (Some (λ place. Taking place turn)) false old next before items units units)
-act_stops turn old now next before waiting items same is runs = (turn, λ units. rw (same, is) (runs units))
+pub act_stops : (luns : List ℕ) (turn : ℕ) (old now next : SessionState) (before waiting items : Output) → next ≡ now → items ≡ waiting
+    → ((units : UnitStates) → luns ≡ numbers_of units → Runs act_all (Some (λ place. Taking place turn)) false old now before waiting units units)
+    → (turn : ℕ) × ((units : UnitStates) → luns ≡ numbers_of units
+    → Runs act_all (Some (λ place. Taking place turn)) false old next before items units units)
+act_stops luns turn old now next before waiting items same is runs = (turn, λ units numbers. rw (same, is) (runs units numbers))
 
-pub judging_stop : (frame : Frame) (old new : SessionState) (before waiting : List ℕ) → new ≡ old → waiting ≡ before
-    → Stops is_serving (λ failed. (units : UnitStates) → Runs (λ fails place. taken_in fails place frame) failed false old new before waiting units units)
-judging_stop frame old new before waiting same is = record {
+pub judging_stop : (luns : List ℕ) (frame : Frame) (old new : SessionState) (before waiting : Output) → new ≡ old → waiting ≡ before
+    → Stops is_serving (λ failed. (units : UnitStates) → luns ≡ numbers_of units
+    → Runs (λ fails place. taken_in fails place frame) failed false old new before waiting units units)
+judging_stop luns frame old new before waiting same is = record {
   step = λ place. Judging place;
   of_frame = λ place. same_place place;
   of_kind = λ place. refl;
-  leads = λ units. rw (same, is) (judging_stops frame old before units);
+  leads = λ units numbers. rw (same, is) (judging_stops frame old before units);
 }
 
-pub taken_ok : {E : Type 0} (r : Result Bool E) (v : Verdict) (frame : Frame) (old middle new : SessionState) (before waiting items : List ℕ)
+pub taken_ok : {E : Type 0} (luns : List ℕ) (r : Result Bool E) (v : Verdict) (frame : Frame) (old middle new : SessionState) (before waiting items : Output)
     → Judges v frame old middle before waiting → v ≢ Violating
-    → IfOk r (λ goes_on. (units : UnitStates) → Runs act_all None goes_on middle new waiting items units units)
-    → IfOk r (λ goes_on. (units : UnitStates) → Runs (λ fails place. taken_in fails place frame) None goes_on old new before items units units)
-taken_ok (Ok goes_on) v frame old middle new before waiting items judges differ acts = λ units. taken_on v frame None goes_on old middle new before
-    waiting items units judges differ (λ place. refl) (acts units)
-taken_ok (Err fault) v frame old middle new before waiting items judges differ acts = tt
+    → IfOk r (λ goes_on. (units : UnitStates) → luns ≡ numbers_of units → Runs act_all None goes_on middle new waiting items units units)
+    → IfOk r (λ goes_on. (units : UnitStates) → luns ≡ numbers_of units
+    → Runs (λ fails place. taken_in fails place frame) None goes_on old new before items units units)
+taken_ok luns (Ok goes_on) v frame old middle new before waiting items judges differ acts =
+    λ units numbers. taken_on v frame None goes_on old middle new before waiting items units judges differ (λ place. refl) (acts units numbers)
+taken_ok luns (Err fault) v frame old middle new before waiting items judges differ acts = tt
 
-pub taken_err : {T E : Type 0} (r : Result T E) (v : Verdict) (frame : Frame) (old middle new : SessionState) (before waiting items : List ℕ)
+pub taken_err : {T E : Type 0} (luns : List ℕ) (r : Result T E) (v : Verdict) (frame : Frame) (old middle new : SessionState) (before waiting items : Output)
     → Judges v frame old middle before waiting → v ≢ Violating
-    → OnErr r ((turn : ℕ) × ((units : UnitStates) → Runs act_all (Some (λ place. Taking place turn)) false middle new waiting items units units))
-    → OnErr r (Stops is_serving (λ failed. (units : UnitStates)
+    → OnErr r ((turn : ℕ) × ((units : UnitStates) → luns ≡ numbers_of units
+    → Runs act_all (Some (λ place. Taking place turn)) false middle new waiting items units units))
+    → OnErr r (Stops is_serving (λ failed. (units : UnitStates) → luns ≡ numbers_of units
     → Runs (λ fails place. taken_in fails place frame) failed false old new before items units units))
-taken_err (Ok x) v frame old middle new before waiting items judges differ acts = tt
-taken_err (Err fault) v frame old middle new before waiting items judges differ acts = record {
+taken_err luns (Ok x) v frame old middle new before waiting items judges differ acts = tt
+taken_err luns (Err fault) v frame old middle new before waiting items judges differ acts = record {
   step = λ place. Taking place acts.0;
   of_frame = λ place. taking_kind.of place acts.0;
   of_kind = λ place. refl;
-  leads = λ units. taken_on v frame (Some (λ place. Taking place acts.0)) false old middle new before waiting items units judges differ (λ place. refl)
-      (acts.1 units);
+  leads = λ units numbers. taken_on v frame (Some (λ place. Taking place acts.0)) false old middle new before waiting items units judges differ
+      (λ place. refl) (acts.1 units numbers);
 }

@@ -20,10 +20,10 @@ use Rattle.iscsi_session.specs.Answers.{data_sent, sent_pieces, data_in, data_an
 use Rattle.iscsi_session.specs.Commands.{carried_out}
 use Rattle.iscsi_session.specs.Transfers.{payload_of, is_whole_of}
 use Rattle.iscsi_session.specs.Steps.{is_doing, Step, Doing, Work, answered_command, finish, ready, ready_in, settled}
-use Rattle.iscsi_session.specs.Runs.{Starts, Leaves, StepsFirst, Runs, Stops}
+use Rattle.iscsi_session.specs.Runs.{Output, Starts, Leaves, StepsFirst, Runs, Stops}
 use Rattle.iscsi_session.proofs.Feeding.{whole_is, payload_is, first_unfinished}
 use Rattle.iscsi_session.proofs.Parts.{parts, queue_is}
-use Rattle.iscsi_session.proofs.Runs.{stands_of, leaves_standing, Ran, queue_count, ran_more, ran_idle, ran_failed, all_of, runs_as, doing_kind}
+use Rattle.iscsi_session.proofs.Runs.{stands_of, leaves_answering, Ran, queue_count, ran_more, ran_idle, ran_failed, all_of, runs_as, doing_kind}
 
 -- ---- one answer of a command bears status
 
@@ -43,7 +43,7 @@ command_bears numbers values frame done =
 
 -- ---- the line is empty
 
-pub none_steps : (does : ℕ → Work → Work) (l : List ℕ) (work : Work) (state : SessionState) (waiting : List ℕ) (units : UnitStates) → l ≡ []
+pub none_steps : (does : ℕ → Work → Work) (l : List ℕ) (work : Work) (state : SessionState) (waiting : Output) (units : UnitStates) → l ≡ []
     → work.units ≡ units → StepsFirst does l work false state state waiting waiting units
 none_steps does [] work state waiting units none same = (refl, refl, refl, sym same)
 none_steps does (request ∷ others) work state waiting units none same = absurd cc
@@ -100,12 +100,13 @@ not_waiting state frame rest first whole =
 -- ---- a command is done
 
 -- what the call that answers it leaves
-pub record Answers (old new : SessionState) (before waiting : List ℕ) (done : Outcome) : Type 0 where
+pub record Answers (old new : SessionState) (before waiting : Output) (done : Outcome) : Type 0 where
   pub stands : (past : Past) (k : ℕ) (others : List ℕ) → Stands past old → queue past ≡ k ∷ others → Stands (answered_command done k past) new
   pub out : (past : Past) (k : ℕ) (others : List ℕ) → Stands past old → queue past ≡ k ∷ others
-      → waiting ≡ before ++ flat_map spelling (command_answers (stamp (finished k past)) past.params.values (frame_of past.came k) done)
+      → waiting.bytes ≡ before.bytes ++ flat_map spelling (command_answers (stamp (finished k past)) past.params.values (frame_of past.came k) done)
+  pub orders : waiting.orders ≡ before.orders
 
-finish_leaves : (work : Work) (k : ℕ) (others : List ℕ) (old new : SessionState) (before waiting : List ℕ) (units after : UnitStates) (done : Outcome)
+finish_leaves : (work : Work) (k : ℕ) (others : List ℕ) (old new : SessionState) (before waiting : Output) (units after : UnitStates) (done : Outcome)
     → Starts work old units → queue work.past ≡ k ∷ others
     → (after, done) ≡ carried_out units work.past.params.nexus (frame_of work.past.came k) (payload_of work.past k) → Answers old new before waiting done
     → Leaves work (finish k work) new before waiting after
@@ -117,15 +118,16 @@ finish_leaves work k others old new before waiting units after done s is carried
     let all : carried_out work.units past.params.nexus (frame_of past.came k) (payload_of past k) ≡ (after, done) = ap
     (λ (us : UnitStates). carried_out us past.params.nexus (frame_of past.came k) (payload_of past k)) s.units ∙ sym carried in
     let same : (finish k work).past ≡ answered_command done k past = ap (λ (p : UnitStates × Outcome). answered_command p.1 k past) all in
-    leaves_standing work (finish k work) new before waiting after more
+    leaves_answering work (finish k work) new before waiting after more
     (subst (λ (p : Past). Stands p new) (sym same) (answers.stands past k others standing is))
-    (ap (λ (p : Past). p.params) same) (ap (λ (p : Past). p.answers) same) (answers.out past k others standing is) (ap (λ (p : UnitStates × Outcome). p.0) all)
+    (ap (λ (p : Past). p.params) same) (ap (λ (p : Past). p.answers) same) (answers.out past k others standing is) answers.orders refl
+    (ap (λ (p : UnitStates × Outcome). p.0) all)
 
 -- the payload that the code has of it
 abbrev payload_in : SessionState → Frame → List ℕ
 payload_in state frame = payload_at state.transfers.list (place_for frame state.transfers.list)
 
-finish_first : (l : List ℕ) (work : Work) (old new : SessionState) (before waiting : List ℕ) (units after : UnitStates) (frame : Frame) (rest : List Frame)
+finish_first : (l : List ℕ) (work : Work) (old new : SessionState) (before waiting : Output) (units after : UnitStates) (frame : Frame) (rest : List Frame)
     (nexus : NexusName) (done : Outcome) → queue work.past ≡ l → Starts work old units
     → old.tasks.queue ≡ frame ∷ rest → nexus ≡ old.params.nexus → (after, done) ≡ carried_out units nexus frame (payload_in old frame)
     → Answers old new before waiting done
@@ -147,7 +149,7 @@ finish_first (k ∷ others) work old new before waiting units after frame rest n
           ∙ ap (carried_out units work.past.params.nexus (frame_of work.past.came k)) payload) answers,
     )
 
-pub finish_steps : (work : Work) (old new : SessionState) (before waiting : List ℕ) (units after : UnitStates) (frame : Frame) (rest : List Frame)
+pub finish_steps : (work : Work) (old new : SessionState) (before waiting : Output) (units after : UnitStates) (frame : Frame) (rest : List Frame)
     (nexus : NexusName) (done : Outcome) → Starts work old units
     → old.tasks.queue ≡ frame ∷ rest → whole_at old.transfers.list (place_for frame old.transfers.list) ≡ true
     → nexus ≡ old.params.nexus → (after, done) ≡ carried_out units nexus frame (payload_in old frame) → Answers old new before waiting done
@@ -166,13 +168,13 @@ pub queue_fits : (past : Past) → IsLawful past → queue_count (remembered pas
 unfolding tasks_of
 queue_fits past lawful = omega (arith, length-map (queue past) (frame_of past.came))
 
-found_finished : (l : List ℕ) (work : Work) (old new : SessionState) (before waiting : List ℕ) (after : UnitStates)
+found_finished : (l : List ℕ) (work : Work) (old new : SessionState) (before waiting : Output) (after : UnitStates)
     → StepsFirst finish l work true old new before waiting after
     → (request : ℕ) × (others : List ℕ) × (l ≡ request ∷ others) × Leaves work (finish request work) new before waiting after
 found_finished [] work old new before waiting after s = absurd (let no = s.0 in cc)
 found_finished (request ∷ others) work old new before waiting after s = (request, others, refl, s.1)
 
-found_none : (l : List ℕ) (work : Work) (old new : SessionState) (before waiting : List ℕ) (units after : UnitStates) → Starts work old units
+found_none : (l : List ℕ) (work : Work) (old new : SessionState) (before waiting : Output) (units after : UnitStates) → Starts work old units
     → StepsFirst finish l work false old new before waiting after → (l ≡ []) × Leaves work work new before waiting after
 found_none [] work old new before waiting units after s is = (
   refl,
@@ -183,7 +185,10 @@ found_none [] work old new before waiting units after s is = (
     params = refl;
     more = [];
     answers = sym (append-nil work.past.answers);
-    spelled = is.2 ∙ sym (append-nil before);
+    spelled = ap (λ (o : Output). o.bytes) is.2 ∙ sym (append-nil before.bytes);
+    functions = [];
+    acted = sym (append-nil work.orders);
+    ordered = ap (λ (o : Output). o.orders) is.2 ∙ sym (append-nil before.orders);
   },
 )
 found_none (request ∷ others) work old new before waiting units after s is = absurd (let no = is.0 in cc)
@@ -192,11 +197,11 @@ finish_goes_on : (request : ℕ) (work : Work) → work.goes_on ≡ true → (fi
 unfolding finish
 finish_goes_on request work on = on
 
-abbrev pub FinishesOne : Bool → SessionState → SessionState → List ℕ → List ℕ → UnitStates → UnitStates → Type 0
+abbrev pub FinishesOne : Bool → SessionState → SessionState → Output → Output → UnitStates → UnitStates → Type 0
 FinishesOne more old new before waiting units after = (work : Work) → Starts work old units
     → StepsFirst finish (ready work.past) work more old new before waiting after
 
-pub settled_more : (turns : ℕ) (more : Bool) (old now next : SessionState) (before waiting items : List ℕ) (units middle after : UnitStates)
+pub settled_more : (turns : ℕ) (more : Bool) (old now next : SessionState) (before waiting items : Output) (units middle after : UnitStates)
     → Ran Doing ready finish queue_count queued_in queue_fits turns old now before waiting units middle
     → FinishesOne more now next waiting items middle after → more ≡ true → queue_count next < queue_count now
     → Ran Doing ready finish queue_count queued_in queue_fits (suc turns) old next before items units after
@@ -214,7 +219,7 @@ settles_all : (fails : Step → Bool) (place : ℕ) (work : Work)
 unfolding all_of settled
 settles_all fails place work = refl
 
-pub all_settled : (turns : ℕ) (more : Bool) (old now next : SessionState) (before waiting items : List ℕ) (units middle after : UnitStates)
+pub all_settled : (turns : ℕ) (more : Bool) (old now next : SessionState) (before waiting items : Output) (units middle after : UnitStates)
     → Ran Doing ready finish queue_count queued_in queue_fits turns old now before waiting units middle
     → FinishesOne more now next waiting items middle after → more ≡ false → Runs settled None true old next before items units after
 all_settled turns more old now next before waiting items units middle after ran steps is =
@@ -226,7 +231,7 @@ all_settled turns more old now next before waiting items units middle after ran 
       leaves = λ work s. (found_none (ready work.past) work now next waiting items middle after s (one work s)).1;
     }))
 
-pub settling_stops : (turns : ℕ) (old now : SessionState) (before waiting : List ℕ) (units after : UnitStates)
+pub settling_stops : (turns : ℕ) (old now : SessionState) (before waiting : Output) (units after : UnitStates)
     → Ran Doing ready finish queue_count queued_in queue_fits turns old now before waiting units after → is_waiting now ≡ false
     → Runs settled (Some (λ place. Doing place turns)) false old now before waiting units after
 settling_stops turns old now before waiting units after ran more =
@@ -237,7 +242,7 @@ settling_stops turns old now before waiting units after ran more =
       some = λ work s. some_queued now more;
     }))
 
-pub settle_stops : (turns : ℕ) (old now next : SessionState) (before waiting items : List ℕ) (units middle after : UnitStates) (Sound : Type 0)
+pub settle_stops : (turns : ℕ) (old now next : SessionState) (before waiting items : Output) (units middle after : UnitStates) (Sound : Type 0)
     → next ≡ now → items ≡ waiting → after ≡ middle → (Sound → Runs settled (Some (λ place. Doing place turns)) false old now before waiting units middle)
     → Stops is_doing (λ failed. Sound → Runs settled failed false old next before items units after)
 settle_stops turns old now next before waiting items units middle after Sound same is also runs = record {

@@ -1,6 +1,6 @@
 -- The requests as they stand: those that were removed are voided, and keep their numbers.
-use Rattle.std.proofs.Common.{◌≡◌, ℕ, zero, suc, ◌+◌, ◌<◌, List, [], ◌∷◌, ◌++◌, length, map, get_or, Bool, true, false, cond, not, refl, sym, ap, ◌∙◌, arith}
-use Rattle.std.specs.Prelude.{All, filter_map, Option, Some, None, if◌then◌else◌}
+use Rattle.std.proofs.Common.{◌≡◌, ℕ, zero, suc, ◌+◌, ◌<◌, List, [], ◌∷◌, ◌++◌, length, get_or, Bool, true, false, cond, refl, sym, ap, ◌∙◌, arith}
+use Rattle.std.specs.Prelude.{All, filter_map, Option}
 use Rattle.std.proofs.lemmas.Bool.{false_from_ne_true}
 use Rattle.std.proofs.lemmas.List.Elements.{filter_map-append}
 use Rattle.iscsi_session.specs.Requests.{Request, Past, request_at, frame_of, frames_of, is_in, numbered, has_number, place_of}

@@ -1,5 +1,6 @@
 -- What every run of steps keeps, and which failures it looks at.
 use Rattle.std.proofs.Common.{◌≡◌, ℕ, zero, suc, length, List, [], ◌∷◌, ◌++◌, Bool, true, false, not, cond, refl, sym, ap, ◌∙◌, append_assoc, append-nil}
+use Rattle.scsi_unit.specs.Units.{numbers_of}
 use Rattle.iscsi_pdu.specs.Frames.{Frame}
 use Rattle.iscsi_pdu.specs.declared.answer.Answer.{Answer}
 use Rattle.iscsi_session.specs.Requests.{Past, queue, due}
@@ -8,7 +9,7 @@ use Rattle.iscsi_session.specs.Acts.{act_answers}
 use Rattle.iscsi_session.specs.Steps.{Step, Judging, Taking, Asking, Doing, Work, reaches, take_step, judge, act, ask, finish, first_steps, one_by_one, waiting_in, act_all, ask_due, taken_in, served, ready, settled}
 use Rattle.iscsi_session.specs.Transfers.{asking, r2t_of}
 use Rattle.iscsi_session.proofs.Served.{judged_same}
-use Rattle.iscsi_session.proofs.Answered.{moved_same}
+use Rattle.iscsi_session.proofs.Answered.{acted_same}
 
 -- ---- two ways to fail that agree on the steps
 
@@ -106,8 +107,9 @@ judge_extends frame work =
 act_extends : (k : ℕ) (work : Work) → Extends work (act k work)
 unfolding act
 act_extends k work =
-    let kept = moved_same k work.past in
-    record { params = kept.0; more = act_answers k work.past; answers = ap (λ (l : List Answer). l ++ act_answers k work.past) kept.1 }
+    let luns = numbers_of work.units in
+    let kept = acted_same luns k work.past in
+    record { params = kept.0; more = act_answers luns k work.past; answers = kept.1 }
 
 finish_extends : (k : ℕ) (work : Work) → Extends work (finish k work)
 unfolding finish

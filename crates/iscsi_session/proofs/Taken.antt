@@ -2,14 +2,14 @@
 use Rattle.std.proofs.Common.{◌≡◌, ◌≢◌, ℕ, zero, suc, ◌+◌, ◌<◌, ◌≤◌, List, [], ◌∷◌, ◌++◌, length, map, get_or, Bool, true, false, cond, eqb, Option, Some, None, refl, sym, ap, ◌∙◌, arith, inl, inr, length-append}
 use Rattle.std.specs.Prelude.{filter, flat_map, is_some, min, All}
 use Rattle.std.specs.List.{range_with_len}
-use Rattle.std.proofs.lemmas.Bool.{ne_eqb, eq-eqb, cases_eq, eqb-true}
+use Rattle.std.proofs.lemmas.Bool.{ne_eqb, eq-eqb, cases_eq, eqb-true, false_from_ne_true}
 use Rattle.std.proofs.lemmas.List.{append-nil}
 use Rattle.std.proofs.lemmas.List.Concat.{flat_map-append}
 use Rattle.std.proofs.lemmas.List.Elements.{All-head, All-tail, All-nil, All-cons, All-append, filter_passes}
 use Rattle.std.proofs.lemmas.List.Folds.{position_or_len_push}
 use Rattle.iscsi_session.specs.Requests.{Request, request_at, is_in, has_number, place_of, moment, taken_at, taken}
 use Rattle.iscsi_session.specs.State.{AreDistinct}
-use Rattle.iscsi_session.proofs.Left.{filter_cong, map_cong, range_more, range_below, distinct_filter, distinct_range, distinct_append, is_in_append}
+use Rattle.iscsi_session.proofs.Left.{filter_cong, map_cong, range_more, range_below, distinct_filter, distinct_range, distinct_append, is_in_append, below_of}
 
 -- ---- the requests that came before are as they were
 
@@ -220,6 +220,16 @@ distinct_over came (p ∷ ps) within distinct =
 pub distinct_taken : (came : List Request) → AreDistinct (taken came)
 unfolding taken
 distinct_taken came = distinct_over came (range_with_len 0 (length came)) (range_below (length came)) (distinct_range 0 (length came))
+
+-- a request with a number before which one is missing is not taken
+pub beyond_not_taken : (came : List Request) (n : ℕ) → place_of came n < length came → length came ≤ moment came n → is_in (place_of came n) (taken came) ≡ false
+unfolding taken key
+beyond_not_taken came n lt le =
+    let p = place_of came n in
+    let is : key came p ≡ moment came n = key_of_number (request_at came p).number came n p (place_has came n lt) in
+    not_taken came p (range_with_len 0 (length came)) (range_below (length came))
+    (false_from_ne_true (is_in (key came p) (range_with_len 0 (length came))) (λ h. let less = below_of (length came) (key came p) _ (range_below (length came)) h
+    in absurd (omega arith)))
 
 -- what is taken came
 below_with : (b : Bool) (n p : ℕ) → p < n → All (λ a. a < n) (cond b [] (p ∷ []))

@@ -1,10 +1,8 @@
 -- The SCSI Commands that are not finished, and what is remembered of their data, as requests come and are finished.
-use Rattle.std.proofs.Common.{◌≡◌, ℕ, ◌+◌, ◌<◌, List, [], ◌∷◌, ◌++◌, length, map, Bool, true, false, not, cond, refl, sym, ap, subst, ◌∙◌, arith, append-nil}
+use Rattle.std.proofs.Common.{◌≡◌, ℕ, ◌<◌, List, [], ◌∷◌, ◌++◌, length, map, Bool, true, false, cond, refl, sym, ap, subst, ◌∙◌, arith, append-nil}
 use Rattle.std.specs.Prelude.{All}
 use Rattle.std.specs.List.{range_with_len}
-use Rattle.std.proofs.lemmas.Bool.{false_from_ne_true}
-use Rattle.std.proofs.lemmas.List.{length-append, map-append}
-use Rattle.std.proofs.lemmas.List.Elements.{filter-append, All-cons, All-nil}
+use Rattle.std.proofs.lemmas.List.{map-append}
 use Rattle.iscsi_pdu.specs.Frames.{Frame}
 use Rattle.iscsi_pdu.specs.Header.{initiator_task_tag}
 use Rattle.iscsi_transfer.specs.Task.{remembered as task_of}
@@ -13,7 +11,7 @@ use Rattle.iscsi_session.specs.declared.transfers.Transfer.{Transfer}
 use Rattle.iscsi_session.specs.Requests.{Request, Past, frame_of, is_in, left, is_command, commands, queue, unfinished, finished}
 use Rattle.iscsi_session.specs.Transfers.{tag_of, outs_of, tags_of, task_at, last_tag}
 use Rattle.iscsi_session.specs.State.{AreDistinct, transfer_of, transfers_of, begun_transfer}
-use Rattle.iscsi_session.proofs.Left.{filter_cong, map_cong, left_more, left_append, left_all, left_none, left_one, in_at, in_left, in_left_back, in_filter, in_filter_back, in_range, passes_in, not_gone, below_of, distinct_left, distinct_filter, distinct_range, range_below, range_more, distinct_map_filter, distinct_push}
+use Rattle.iscsi_session.proofs.Left.{map_cong, in_at, in_left, in_left_back, in_filter, in_filter_back, in_range, passes_in, not_gone, below_of}
 use Rattle.iscsi_session.proofs.Kept.{joined, Below, kind_same, all_came, all_of_kind, kept_in, kept_distinct, kept_joined, kept_without, kept_other, tags_with}
 use Rattle.iscsi_session.proofs.Places.{none_named}
 use Rattle.iscsi_session.proofs.Taken.{request_before, request_new}

@@ -3,6 +3,8 @@ use Rattle.std.specs.Prelude.{ℕ, List, [], ◌∷◌, take, min, Bool, false, 
 use Rattle.iscsi_pdu.specs.Header.{opcode_of, opcode_number, initiator_task_tag}
 use Rattle.iscsi_pdu.specs.LoginRequest.{connection_id}
 use Rattle.iscsi_pdu.specs.LogoutRequest.{logout_reason}
+use Rattle.iscsi_pdu.specs.TaskManagement.{ref_cmd_sn}
+use Rattle.iscsi_pdu.specs.declared.task_management_response.TaskResult.{TaskResult}
 use Rattle.iscsi_pdu.specs.Frames.{Frame}
 use Rattle.iscsi_pdu.specs.Segment.{most_data}
 use Rattle.iscsi_pdu.specs.declared.header.Opcode.{Opcode}
@@ -15,10 +17,10 @@ use Rattle.iscsi_pdu.specs.declared.answer.Answer.TheVariants as answers
 use Rattle.iscsi_pdu.specs.declared.stamp.Stamp.{Stamp}
 use Rattle.iscsi_login.specs.declared.params.Params.{Params}
 use Rattle.iscsi_login.specs.declared.values.Values.{Values}
-use Rattle.iscsi_session.specs.Requests.{Past, frame_of, moved, answering, stamp}
+use Rattle.iscsi_session.specs.Requests.{Past, frame_of, is_function, moved, removing, answering, stamp}
 use Rattle.iscsi_session.specs.Judging.{reserved_tag, reject}
 use Rattle.iscsi_session.specs.Texts.{exchange_of, text_answer_in}
-use Rattle.iscsi_session.specs.Functions.{function_answer}
+use Rattle.iscsi_session.specs.Functions.{FunctionReach, own_reach, reached, plugs, plugged, function_result, function_answer}
 use Rattle.iscsi_exchange.specs.ExchangeState.{ExchangeState}
 use Rattle.iscsi_session.specs.declared.act.Act.{Act}
 use Rattle.iscsi_session.specs.declared.act.Act.TheVariants.{Idle, Taken, Ended}
@@ -51,25 +53,44 @@ logout_answer numbers_now params frame =
     else reject reasons.InvalidField numbers_now frame
 
 -- by the opcode: a request of any other kind is not accepted
-abbrev pub act_answers_by : Opcode → ExchangeState → Stamp → Params → Frame → List Answer
-act_answers_by opcodes.ScsiCommand exchange numbers_now params frame = []
-act_answers_by opcodes.NopOut exchange numbers_now params frame = ping_answers numbers_now params.values frame
-act_answers_by opcodes.Logout exchange numbers_now params frame = logout_answer numbers_now params frame ∷ []
-act_answers_by opcodes.TaskManagement exchange numbers_now params frame = function_answer numbers_now frame ∷ []
-act_answers_by opcodes.Login exchange numbers_now params frame = []
-act_answers_by opcodes.Text exchange numbers_now params frame = text_answer_in exchange numbers_now params frame ∷ []
-act_answers_by opcodes.DataOut exchange numbers_now params frame = []
-act_answers_by opcodes.Snack exchange numbers_now params frame = []
-act_answers_by (opcodes.Other n) exchange numbers_now params frame = []
+abbrev pub act_answers_by : Opcode → TaskResult → ExchangeState → Stamp → Params → Frame → List Answer
+act_answers_by opcodes.ScsiCommand result exchange numbers_now params frame = []
+act_answers_by opcodes.NopOut result exchange numbers_now params frame = ping_answers numbers_now params.values frame
+act_answers_by opcodes.Logout result exchange numbers_now params frame = logout_answer numbers_now params frame ∷ []
+act_answers_by opcodes.TaskManagement result exchange numbers_now params frame = function_answer numbers_now result frame.header ∷ []
+act_answers_by opcodes.Login result exchange numbers_now params frame = []
+act_answers_by opcodes.Text result exchange numbers_now params frame = text_answer_in exchange numbers_now params frame ∷ []
+act_answers_by opcodes.DataOut result exchange numbers_now params frame = []
+act_answers_by opcodes.Snack result exchange numbers_now params frame = []
+act_answers_by (opcodes.Other n) result exchange numbers_now params frame = []
+
+-- the commands of its own session that a request is to look at, where these are the numbers of the target's units
+abbrev pub reach_of : List ℕ → ℕ → Past → FunctionReach
+reach_of luns k past = own_reach luns (frame_of past.came k).header
+
+-- a Task Management Function Request removes the SCSI Commands that it reaches
+abbrev pub ended : List ℕ → ℕ → Past → Past
+ended luns k past = if is_function (frame_of past.came k) then removing (reached (reach_of luns k past) past) (moved k past) else moved k past
+
+-- and an ABORT TASK may plug a number; its answer is stamped before
+abbrev pub behind : List ℕ → ℕ → Past → Past → Past
+behind luns k past after =
+    if is_function (frame_of past.came k) && plugs past (reach_of luns k past) then plugged (ref_cmd_sn (frame_of past.came k).header) after else after
 
 -- a request that is no SCSI Command counts as finished before its answer is stamped
-unfoldable pub act_answers : ℕ → Past → List Answer
-act_answers k past =
-    act_answers_by (opcode_of (opcode_number (frame_of past.came k).header)) (exchange_of past) (stamp (moved k past)) past.params (frame_of past.came k)
+unfoldable pub act_answers : List ℕ → ℕ → Past → List Answer
+act_answers luns k past =
+    let frame = frame_of past.came k in
+    let result = function_result past (reach_of luns k past) in
+    act_answers_by (opcode_of (opcode_number frame.header)) result (exchange_of past) (stamp (ended luns k past)) past.params frame
 
 -- a request that was taken acts
-abbrev pub acted : ℕ → Past → Past
-acted k past = answering (act_answers k past) (moved k past)
+abbrev pub acted : List ℕ → ℕ → Past → Past
+acted luns k past = answering (act_answers luns k past) (behind luns k past (ended luns k past))
+
+-- what a Task Management Function Request that acts orders of its target: its header
+abbrev pub ordered : ℕ → Past → List (List ℕ)
+ordered k past = if is_function (frame_of past.came k) then (frame_of past.came k).header ∷ [] else []
 
 abbrev pub ends_by : Opcode → Params → Frame → Bool
 ends_by opcodes.ScsiCommand params frame = false
@@ -92,10 +113,14 @@ abbrev pub act_by : List ℕ → Past → Act
 act_by [] past = Idle
 act_by (k ∷ others) past = if ends past.params (frame_of past.came k) then Ended else Taken
 
-abbrev pub acted_by : List ℕ → Past → Past
-acted_by [] past = past
-acted_by (k ∷ others) past = acted k past
+abbrev pub acted_by : List ℕ → List ℕ → Past → Past
+acted_by luns [] past = past
+acted_by luns (k ∷ others) past = acted luns k past
 
-abbrev pub answers_by : List ℕ → Past → List Answer
-answers_by [] past = []
-answers_by (k ∷ others) past = act_answers k past
+abbrev pub answers_by : List ℕ → List ℕ → Past → List Answer
+answers_by luns [] past = []
+answers_by luns (k ∷ others) past = act_answers luns k past
+
+abbrev pub orders_by : List ℕ → Past → List (List ℕ)
+orders_by [] past = []
+orders_by (k ∷ others) past = ordered k past

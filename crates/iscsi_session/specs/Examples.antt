@@ -1,10 +1,12 @@
 -- Sessions computed from the definitions alone, with the expected numbers written by hand.
-use Rattle.std.specs.Prelude.{◌≡◌, ℕ, Option, Some, None, is_some, not, filter, filter_map, List, [], ◌∷◌, ◌++◌, fold, replicate, Bool, true, false, refl}
+use Rattle.std.specs.Prelude.{◌≡◌, ℕ, Option, Some, None, is_some, not, filter, filter_map, List, [], ◌∷◌, ◌++◌, ◌+◌, take, drop, fold, replicate, Bool, true, false, refl}
+use Rattle.scsi_unit.specs.Lun.{lun_number}
 use Rattle.iscsi_pdu.specs.Frames.{Frame}
 use Rattle.iscsi_pdu.specs.declared.answer.Answer.{Answer}
 use Rattle.iscsi_pdu.specs.declared.answer.Answer.TheVariants as answers
 use Rattle.iscsi_pdu.specs.declared.reject.RejectReason.TheVariants as reasons
 use Rattle.iscsi_pdu.specs.declared.logout_response.LogoutResult.TheVariants as results
+use Rattle.iscsi_pdu.specs.declared.task_management_response.TaskResult.TheVariants.{Complete, NoTask, NoUnit}
 use Rattle.iscsi_pdu.specs.declared.stamp.Stamp.{Stamp}
 use Rattle.iscsi_login.specs.declared.params.Params.{Params}
 use Rattle.iscsi_login.specs.Values.{default_values}
@@ -17,12 +19,13 @@ use Rattle.iscsi_session.specs.Judging.{is_refused, verdict, verdict_by, task_ve
 use Rattle.scsi_sense.specs.Done.{good}
 use Rattle.iscsi_session.specs.Answers.{data_answers, scsi_answer}
 use Rattle.iscsi_session.specs.Steps.{answered_command, ready}
+use Rattle.iscsi_session.specs.Functions.{own_reach, reaches, reached, plugs, function_result, function_answer}
 use Rattle.iscsi_session.specs.Acts.{acted, act_answers, ends, logout_response}
 
 -- what an example unfolds
 unfoldable pub computed : Bool
 unfolding order.taken left taken taken_at held due queue unfinished stamp task_verdict functions is_refused verdict_by act_answers ends data_answers scsi_answer
-    outs_of tags_of task_at task_of fault_of asking r2t_of ready
+    outs_of tags_of task_at task_of fault_of asking r2t_of ready reaches reached plugs function_result lun_number
 computed = true
 
 -- ---- requests
@@ -61,7 +64,7 @@ data_out tag = request 0x05 0x80 (low tag) (low 0)
 
 -- ---- sessions
 
--- the first CmdSN, and behind a login of one answer; CID 0
+-- the first CmdSN, and behind a login of one answer; CID 0; the units of the target are 0 and 1
 abbrev params_from : ℕ → Params
 params_from first = record {
   nexus = record { initiator_name = 0x61 ∷ []; isid = replicate 6 0 };
@@ -95,7 +98,7 @@ abbrev from : ℕ → Past
 from first = begun (params_from first)
 
 abbrev acts : Past → ℕ → Past
-acts past k = acted k past
+acts past k = acted (0 ∷ 1 ∷ []) k past
 
 -- a command that gives no data is done
 abbrev does : Past → ℕ → Past
@@ -310,3 +313,70 @@ in_order = refl
 waits_for_the_missing : held (judges (from 5) (command 1 6)) ≡ 0 ∷ []
 unfolding computed
 waits_for_the_missing = refl
+
+-- ---- ABORT TASK for immediate delivery: its tag and CmdSN, the referenced tag and RefCmdSN
+
+abbrev abort : ℕ → ℕ → ℕ → ℕ → Frame
+abort tag number task task_number = record {
+  header = 0x42 ∷ 0x81 ∷ replicate 14 0 ++ low tag ++ low task ++ low number ++ replicate 4 0 ++ low task_number ++ replicate 12 0;
+  body = [];
+}
+
+-- of a task that has not come: its number is plugged, and finished in its turn
+abbrev plugs_five : Past
+plugs_five = all_come prepared (abort 3 6 77 5 ∷ command 4 6 ∷ [])
+
+is_plugged_first : said plugs_five ≡ function_answer (record { stat_sn = 3; exp_cmd_sn = 5; max_cmd_sn = 36 }) Complete (abort 3 6 77 5).header ∷ []
+unfolding computed
+is_plugged_first = refl
+
+is_finished_then : filter_map command_stamp (drop 3 plugs_five.answers) ≡ record { stat_sn = 4; exp_cmd_sn = 7; max_cmd_sn = 38 } ∷ []
+unfolding computed
+is_finished_then = refl
+
+-- of one that is held: it is removed once, does nothing, and is finished in its turn
+abbrev removes_six : Past
+removes_six = all_come (from 5) (command 1 6 ∷ abort 3 7 1 6 ∷ abort 3 7 1 6 ∷ command 4 5 ∷ [])
+
+is_removed_once : said removes_six ≡ function_answer (record { stat_sn = 1; exp_cmd_sn = 5; max_cmd_sn = 36 }) Complete (abort 3 7 1 6).header
+    ∷ function_answer (record { stat_sn = 2; exp_cmd_sn = 5; max_cmd_sn = 36 }) NoTask (abort 3 7 1 6).header ∷ []
+unfolding computed
+is_removed_once = refl
+
+is_done_alone : stamps removes_six ≡ record { stat_sn = 3; exp_cmd_sn = 7; max_cmd_sn = 38 } ∷ []
+unfolding computed
+is_done_alone = refl
+
+-- ---- functions for all commands of a unit: first 5; 6 is for unit 0, 7 for unit 1, 8 for none, and 10 for unit 0
+
+abbrev to_unit : ℕ → Frame → Frame
+to_unit n frame = record frame { header = take 9 frame.header ++ n ∷ drop 10 frame.header }
+
+abbrev held_of_each : Past
+held_of_each = all_come (from 5) (command 1 6 ∷ to_unit 1 (command 2 7) ∷ to_unit 7 (command 3 8) ∷ command 4 10 ∷ [])
+
+-- for immediate delivery, with CmdSN 9: its code, and its LUN
+abbrev function_nine : ℕ → ℕ → Frame
+function_nine code n = to_unit n (request 0x42 (0x80 + code) (low 9) (low 9))
+
+abbrev gone_by : Frame → List ℕ
+gone_by function = (comes held_of_each function).removed
+
+-- ABORT TASK SET, CLEAR TASK SET, LOGICAL UNIT RESET of a unit that is there, and of one that is not; TARGET WARM RESET
+each_removes : gone_by (function_nine 2 0) ∷ gone_by (function_nine 4 0) ∷ gone_by (function_nine 5 1) ∷ gone_by (function_nine 5 7)
+    ∷ gone_by (function_nine 6 7) ∷ [] ≡ (0 ∷ []) ∷ (0 ∷ []) ∷ (1 ∷ []) ∷ [] ∷ (0 ∷ 1 ∷ []) ∷ []
+unfolding computed
+each_removes = refl
+
+no_unit_is_told : function_result held_of_each (own_reach (0 ∷ 1 ∷ []) (function_nine 5 7).header) ≡ NoUnit
+unfolding computed
+no_unit_is_told = refl
+
+-- of the commands of another session those behind it too
+abbrev gone_elsewhere : Frame → List ℕ
+gone_elsewhere function = reached (record { function = function.header; luns = 0 ∷ 1 ∷ []; is_own = false }) held_of_each
+
+each_removes_elsewhere : gone_elsewhere (function_nine 2 0) ∷ gone_elsewhere (function_nine 4 0) ∷ gone_elsewhere (function_nine 6 7) ∷ []
+    ≡ [] ∷ (0 ∷ 3 ∷ []) ∷ (0 ∷ 1 ∷ 3 ∷ []) ∷ []
+unfolding computed
+each_removes_elsewhere = refl

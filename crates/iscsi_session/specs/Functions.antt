@@ -1,7 +1,9 @@
 -- Task Management (RFC 7143 §11.5, §11.6).
-use Rattle.std.specs.Prelude.{ℕ, List, map, find, filter, length, ◌==◌, Option}
-use Rattle.iscsi_pdu.specs.Header.{initiator_task_tag, is_immediate}
-use Rattle.iscsi_pdu.specs.TaskManagement.{task_function, function_code}
+use Rattle.std.specs.Prelude.{ℕ, List, [], ◌∷◌, ◌++◌, find, filter, length, replicate, Bool, true, false, ◌&&◌, ◌||◌, ◌==◌, not, Option, Some, None, is_some, option_and_then, if◌then◌else◌}
+use Rattle.std.specs.List.{list_any}
+use Rattle.scsi_unit.specs.Lun.{lun_number}
+use Rattle.iscsi_pdu.specs.Header.{initiator_task_tag, is_immediate, cmd_sn, lun_field, opcode_number}
+use Rattle.iscsi_pdu.specs.TaskManagement.{task_function, function_code, referenced_task_tag, ref_cmd_sn}
 use Rattle.iscsi_pdu.specs.Frames.{Frame}
 use Rattle.iscsi_pdu.specs.declared.task_management.TaskFunction.{TaskFunction}
 use Rattle.iscsi_pdu.specs.declared.task_management.TaskFunction.TheVariants as functions
@@ -10,7 +12,9 @@ use Rattle.iscsi_pdu.specs.declared.task_management_response.TaskResult.TheVaria
 use Rattle.iscsi_pdu.specs.declared.answer.Answer.{Answer}
 use Rattle.iscsi_pdu.specs.declared.answer.Answer.TheVariants as answers
 use Rattle.iscsi_pdu.specs.declared.stamp.Stamp.{Stamp}
-use Rattle.iscsi_session.specs.Requests.{Past, frame_of, functions as unfinished_functions}
+use Rattle.iscsi_order.specs.Window as order
+use Rattle.iscsi_order.specs.Serial.{is_before}
+use Rattle.iscsi_session.specs.Requests.{Past, frame_of, place_of, numbers, unfinished, functions as unfinished_functions}
 use Rattle.iscsi_session.specs.Transfers.{tag_of}
 
 -- RFC 7143 §11.2.1.8: the Task Management Function Request with this tag that is not finished
@@ -21,21 +25,130 @@ function_with past tag = find (λ k. tag_of past.came k == tag) (unfinished_func
 abbrev pub immediate_in : Past → List ℕ → ℕ
 immediate_in past names = length (filter (λ k. is_immediate (frame_of past.came k).header) names)
 
--- RFC 7143 §11.6.1: what each function comes to. Own: no task is ended yet.
-abbrev pub result_of : TaskFunction → TaskResult
-result_of functions.AbortTask = results.NotSupported
-result_of functions.AbortTaskSet = results.NotSupported
-result_of functions.ClearAca = results.NotSupported
-result_of functions.ClearTaskSet = results.NotSupported
-result_of functions.LogicalUnitReset = results.NotSupported
-result_of functions.TargetWarmReset = results.NotSupported
-result_of functions.TargetColdReset = results.NotSupported
-result_of functions.TaskReassign = results.NoReassignment
-result_of (functions.Other n) = results.NotSupported
+-- ---- which SCSI Commands a function removes, by the headers of both
 
-abbrev pub function_answer : Stamp → Frame → Answer
-function_answer numbers_now frame = answers.TaskManagementResponse (record {
-  initiator_task_tag = initiator_task_tag frame.header;
-  stamp = numbers_now;
-  response = result_of (task_function (function_code frame.header));
-})
+-- a Task Management Function Request, as it looks at the commands of one session of its target
+pub record FunctionReach : Type 0 where
+  -- its header
+  pub function : List ℕ
+  -- the numbers of the target's units
+  pub luns : List ℕ
+  -- the session is the one that it came from
+  pub is_own : Bool
+
+abbrev pub own_reach : List ℕ → List ℕ → FunctionReach
+own_reach luns function = record { function = function; luns = luns; is_own = true }
+
+abbrev pub has_unit : List ℕ → ℕ → Bool
+has_unit luns n = list_any (λ m. m == n) luns
+
+-- the number of the unit that the LUN of a header names, where the target has it
+abbrev pub unit_named : List ℕ → List ℕ → Option ℕ
+unit_named luns header = option_and_then (λ n. if has_unit luns n then Some n else None) (lun_number (lun_field header))
+
+abbrev pub is_number : ℕ → Option ℕ → Bool
+is_number n None = false
+is_number n (Some m) = m == n
+
+-- both name one unit
+abbrev pub is_one_unit : Option ℕ → Option ℕ → Bool
+is_one_unit None other = false
+is_one_unit (Some n) other = is_number n other
+
+-- of the session that the request came from: a command for immediate delivery, or numbered before the request (serially, RFC 1982)
+abbrev pub is_earlier : FunctionReach → List ℕ → Bool
+is_earlier reach command = not reach.is_own || is_immediate command || is_before (cmd_sn command) (cmd_sn reach.function)
+
+-- a command of the task set (SAM-5) of the unit that the request names
+abbrev pub is_in_set : FunctionReach → List ℕ → Bool
+is_in_set reach command = is_one_unit (unit_named reach.luns reach.function) (unit_named reach.luns command) && is_earlier reach command
+
+-- RFC 7143 §11.5.1. Own: ABORT TASK does not look at the LUN.
+abbrev pub reaches_by : TaskFunction → FunctionReach → List ℕ → Bool
+reaches_by functions.AbortTask reach command = reach.is_own && initiator_task_tag command == referenced_task_tag reach.function
+reaches_by functions.AbortTaskSet reach command = reach.is_own && is_in_set reach command
+reaches_by functions.ClearAca reach command = false
+reaches_by functions.ClearTaskSet reach command = is_in_set reach command
+reaches_by functions.LogicalUnitReset reach command = is_in_set reach command
+reaches_by functions.TargetWarmReset reach command = is_some (unit_named reach.luns command) && is_earlier reach command
+reaches_by functions.TargetColdReset reach command = false
+reaches_by functions.TaskReassign reach command = false
+reaches_by (functions.Other n) reach command = false
+
+unfoldable pub reaches : FunctionReach → List ℕ → Bool
+reaches reach command = reaches_by (task_function (function_code reach.function)) reach command
+
+-- of those that are not finished, held or taken
+unfoldable pub reached : FunctionReach → Past → List ℕ
+reached reach past = filter (λ k. reaches reach (frame_of past.came k).header) (unfinished past)
+
+-- ---- plugging (RFC 7143 §11.5.1, ABORT TASK)
+
+-- own: what stands at a number that was plugged. Its opcode is none of an initiator's, and it does nothing.
+abbrev pub plug : Frame
+plug = record { header = 0x3E ∷ replicate 47 0; body = [] }
+
+abbrev pub is_plug : Frame → Bool
+is_plug frame = opcode_number frame.header == 0x3E
+
+-- a number comes as if its request had
+abbrev pub plugged : ℕ → Past → Past
+plugged n past = record past { came = past.came ++ record { number = Some (order.index_of (numbers past) n); frame = plug } ∷ [] }
+
+-- the number was plugged, and is not taken
+abbrev pub is_plugged : Past → ℕ → Bool
+is_plugged past n = is_plug (frame_of past.came (place_of past.came (order.index_of (numbers past) n)))
+
+-- the number is before the request's own (serially, RFC 1982)
+abbrev pub refers_back : List ℕ → Bool
+refers_back function = is_before (ref_cmd_sn function) (cmd_sn function)
+
+-- an ABORT TASK refers to a task that has not come, though its number may
+abbrev pub aborts_unseen : Past → FunctionReach → Bool
+aborts_unseen past reach =
+    length (reached reach past) == 0 && refers_back reach.function && order.is_new (numbers past) (ref_cmd_sn reach.function)
+
+abbrev pub plugs_by : TaskFunction → Past → FunctionReach → Bool
+plugs_by functions.AbortTask past reach = aborts_unseen past reach
+plugs_by functions.AbortTaskSet past reach = false
+plugs_by functions.ClearAca past reach = false
+plugs_by functions.ClearTaskSet past reach = false
+plugs_by functions.LogicalUnitReset past reach = false
+plugs_by functions.TargetWarmReset past reach = false
+plugs_by functions.TargetColdReset past reach = false
+plugs_by functions.TaskReassign past reach = false
+plugs_by (functions.Other n) past reach = false
+
+unfoldable pub plugs : Past → FunctionReach → Bool
+plugs past reach = plugs_by (task_function (function_code reach.function)) past reach
+
+-- ---- what a function comes to (RFC 7143 §11.6.1)
+
+abbrev pub abort_result : Past → FunctionReach → TaskResult
+abort_result past reach =
+    let n = ref_cmd_sn reach.function in
+    if not (length (reached reach past) == 0) then results.Complete
+    else if refers_back reach.function && (order.is_new (numbers past) n || is_plugged past n) then results.Complete
+    else results.NoTask
+
+-- of one that is for all commands of a unit
+abbrev pub set_result : FunctionReach → TaskResult
+set_result reach = if is_some (unit_named reach.luns reach.function) then results.Complete else results.NoUnit
+
+abbrev pub result_by : TaskFunction → Past → FunctionReach → TaskResult
+result_by functions.AbortTask past reach = abort_result past reach
+result_by functions.AbortTaskSet past reach = set_result reach
+result_by functions.ClearAca past reach = results.NotSupported
+result_by functions.ClearTaskSet past reach = set_result reach
+result_by functions.LogicalUnitReset past reach = set_result reach
+result_by functions.TargetWarmReset past reach = results.Complete
+result_by functions.TargetColdReset past reach = results.NotSupported
+result_by functions.TaskReassign past reach = results.NoReassignment
+result_by (functions.Other n) past reach = results.NotSupported
+
+unfoldable pub function_result : Past → FunctionReach → TaskResult
+function_result past reach = result_by (task_function (function_code reach.function)) past reach
+
+abbrev pub function_answer : Stamp → TaskResult → List ℕ → Answer
+function_answer numbers_now result function = answers.TaskManagementResponse
+    (record { initiator_task_tag = initiator_task_tag function; stamp = numbers_now; response = result })

@@ -192,5 +192,9 @@ abbrev pub moved : ℕ → Past → Past
 moved k past =
     if is_command (frame_of past.came k) then record past { acted = past.acted ++ k ∷ [] } else finished k (record past { acted = past.acted ++ k ∷ [] })
 
+-- own: SCSI Commands are removed before they are finished
+abbrev pub removing : List ℕ → Past → Past
+removing names past = record past { removed = past.removed ++ names }
+
 abbrev pub answering : List Answer → Past → Past
 answering more past = record past { answers = past.answers ++ more }

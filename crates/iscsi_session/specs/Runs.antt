@@ -13,15 +13,26 @@ pub record Starts (work : Work) (state : SessionState) (target : UnitStates) : T
   pub units : work.units ≡ target
   pub goes_on : work.goes_on ≡ true
 
--- of what it began with: the code stands where this work does, and what it was answered more waits behind what did
-pub record Leaves (given work : Work) (state : SessionState) (before waiting : List ℕ) (target : UnitStates) : Type 0 where
+-- what a session has for others: the bytes that wait to be sent, and the orders that its target is to carry out
+pub record Output : Type 0 where
+  pub bytes : List ℕ
+  pub orders : List (List ℕ)
+
+abbrev pub output : List ℕ → List (List ℕ) → Output
+output bytes orders = record { bytes = bytes; orders = orders }
+
+-- of what it began with: the code stands where this work does, and what it was answered and ordered more waits behind what did
+pub record Leaves (given work : Work) (state : SessionState) (before waiting : Output) (target : UnitStates) : Type 0 where
   pub lawful : IsLawful work.past
   pub remembered : state ≡ remembered work.past
   pub units : work.units ≡ target
   pub params : work.past.params ≡ given.past.params
   pub more : List Answer
   pub answers : work.past.answers ≡ given.past.answers ++ more
-  pub spelled : waiting ≡ before ++ flat_map spelling more
+  pub spelled : waiting.bytes ≡ before.bytes ++ flat_map spelling more
+  pub functions : List (List ℕ)
+  pub acted : work.orders ≡ given.orders ++ functions
+  pub ordered : waiting.orders ≡ before.orders ++ functions
 
 -- ---- which step fails
 
@@ -42,7 +53,7 @@ IsReached (Some failed) place work = (before : List Step) × (work.reached ≡ b
 -- ---- the call
 
 -- Wherever the code stood, it stands where these steps lead; the session goes on, or not.
-pub record Runs (run : (Step → Bool) → ℕ → Work → Work) (failed : Option (ℕ → Step)) (goes_on : Bool) (old new : SessionState) (before waiting : List ℕ)
+pub record Runs (run : (Step → Bool) → ℕ → Work → Work) (failed : Option (ℕ → Step)) (goes_on : Bool) (old new : SessionState) (before waiting : Output)
     (units after : UnitStates) : Type 0 where
   pub leads : (place : ℕ) (fails : Step → Bool) (work : Work) → FailsAs failed place fails → Starts work old units
       → Leaves work (run fails place work) new before waiting after
@@ -61,6 +72,6 @@ pub record Stops (is_kind : Step → Bool) (Leads : Option (ℕ → Step) → Ty
 -- ---- one step
 
 -- the first of a line took a step, where there is one
-abbrev pub StepsFirst : (ℕ → Work → Work) → List ℕ → Work → Bool → SessionState → SessionState → List ℕ → List ℕ → UnitStates → Type 0
+abbrev pub StepsFirst : (ℕ → Work → Work) → List ℕ → Work → Bool → SessionState → SessionState → Output → Output → UnitStates → Type 0
 StepsFirst does [] work more old new before waiting after = (more ≡ false) × (new ≡ old) × (waiting ≡ before) × (after ≡ work.units)
 StepsFirst does (k ∷ others) work more old new before waiting after = (more ≡ true) × Leaves work (does k work) new before waiting after

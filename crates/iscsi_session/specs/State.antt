@@ -1,6 +1,6 @@
 -- What a session remembers of its past.
 use Rattle.std.specs.Prelude.{◌≡◌, All, ℕ, zero, suc, ◌+◌, ◌-◌, ◌^◌, ◌%◌, ◌<◌, List, [], ◌∷◌, ◌++◌, length, map, filter, filter_map, find, position, remove, drop, take, replicate, Bool, true, false, ◌&&◌, ◌||◌, not, ◌==◌, nat_lt, Option, Some, None, is_some, option_map, slice_index_or, slice_set, if◌then◌else◌, ⊤}
-use Rattle.std.specs.List.{range_with_len, prefix_len}
+use Rattle.std.specs.List.{range_with_len, prefix_len, list_any}
 use Rattle.iscsi_pdu.specs.Header.{is_immediate, cmd_sn, initiator_task_tag}
 use Rattle.iscsi_pdu.specs.Frames.{Frame}
 use Rattle.iscsi_login.specs.declared.params.Params.{Params}
@@ -17,6 +17,7 @@ use Rattle.iscsi_session.specs.declared.transfers.Transfer.{Transfer}
 use Rattle.iscsi_session.specs.declared.verdict.Verdict.{Verdict}
 use Rattle.iscsi_session.specs.declared.verdict.Verdict.TheVariants.{Dropped, Violating, Feeding}
 use Rattle.iscsi_session.specs.Texts.{exchange_of}
+use Rattle.iscsi_session.specs.Functions.{FunctionReach, reaches, plug, is_plug}
 use Rattle.iscsi_exchange.specs.ExchangeState.{ExchangeState}
 use Rattle.iscsi_session.specs.Transfers.{tag_of, tags_of, task_at, next_transfer_tag, unsent, r2t_for}
 
@@ -185,6 +186,59 @@ one_fewer frame tasks = if is_immediate frame.header then tasks else record task
 abbrev pub kept : Frame → TaskLists → TaskLists
 kept frame tasks = if is_immediate frame.header then record tasks { due = tasks.due ++ frame ∷ [] } else takes_all (holding (cmd_sn frame.header) frame tasks)
 
+-- ---- what a Task Management Function Request does to them
+
+-- a SCSI Command that it reaches is voided
+abbrev pub reaches_frame : FunctionReach → Frame → Bool
+reaches_frame reach frame = is_command frame && reaches reach frame.header
+
+abbrev pub void_if : FunctionReach → Frame → Frame
+void_if reach frame = if reaches_frame reach frame then void (is_immediate frame.header) else frame
+
+-- one of the queue leaves it, and is finished
+abbrev pub stays : FunctionReach → Frame → Bool
+stays reach frame = not (reaches_frame reach frame)
+
+abbrev pub counts_out : FunctionReach → Frame → Bool
+counts_out reach frame = reaches_frame reach frame && not (is_immediate frame.header)
+
+abbrev pub without : FunctionReach → TaskLists → TaskLists
+without reach tasks = record tasks {
+  unfinished = tasks.unfinished - length (filter (counts_out reach) tasks.queue);
+  held = map (option_map (void_if reach)) tasks.held;
+  due = map (void_if reach) tasks.due;
+  queue = filter (stays reach) tasks.queue;
+}
+
+-- the first of the queue leaves it, or goes behind the others
+abbrev pub swept_one : FunctionReach → Frame → List Frame → TaskLists → TaskLists
+swept_one reach frame others tasks =
+    if reaches_frame reach frame then one_fewer frame (record tasks { queue = others }) else record tasks { queue = others ++ frame ∷ [] }
+
+-- what has come with this number, and is held
+abbrev pub held_numbered : TaskLists → ℕ → Option Frame
+held_numbered tasks n = slice_index_or tasks.held (distance tasks.next n) None
+
+abbrev pub is_some_plug : Option Frame → Bool
+is_some_plug None = false
+is_some_plug (Some frame) = is_plug frame
+
+-- the first that is due is finished, and a number is plugged
+abbrev pub plugged_behind : ℕ → TaskLists → List Frame → TaskLists
+plugged_behind n tasks [] = tasks
+plugged_behind n tasks (frame ∷ others) = takes_all (holding n plug (one_fewer frame (record tasks { due = others })))
+
+-- no more acts than this follow: a Task Management Function Request may plug a number
+abbrev pub weight : Frame → ℕ
+weight frame = if is_function frame then 2 else 1
+
+abbrev pub weigh : List Frame → ℕ
+weigh [] = 0
+weigh (frame ∷ frames) = weight frame + weigh frames
+
+abbrev pub waiting : TaskLists → ℕ
+waiting tasks = weigh (filter_map (λ o. o) tasks.held) + weigh tasks.due
+
 -- ---- what the code does to the data of its commands
 
 abbrev pub no_transfers : TransferList
@@ -223,6 +277,13 @@ judged_at transfers frame (Some i) = if is_some (fault_of (transfer_at transfers
 abbrev pub fed_at : List Transfer → Frame → Option ℕ → List Transfer
 fed_at transfers frame None = transfers
 fed_at transfers frame (Some i) = slice_set transfers i (record (transfer_at transfers i) { task = with_data (transfer_at transfers i).task frame })
+
+-- of those that a Task Management Function Request does not reach
+abbrev pub transfers_without : FunctionReach → List Transfer → List Transfer
+transfers_without reach transfers = filter (λ transfer. not (reaches reach transfer.header)) transfers
+
+abbrev pub reaches_some : FunctionReach → List Transfer → Bool
+reaches_some reach transfers = list_any (λ transfer. reaches reach transfer.header) transfers
 
 abbrev pub whole_at : List Transfer → Option ℕ → Bool
 whole_at transfers None = true

@@ -1,12 +1,12 @@
 -- The steps of a session that a frame sets off, done on the session and on its target's units.
-use Rattle.std.specs.Prelude.{ℕ, zero, suc, ◌+◌, List, [], ◌∷◌, ◌++◌, length, Bool, true, false, ◌&&◌, not, ◌==◌, if◌then◌else◌}
+use Rattle.std.specs.Prelude.{ℕ, zero, suc, ◌+◌, ◌*◌, List, [], ◌∷◌, ◌++◌, length, Bool, true, false, ◌&&◌, not, ◌==◌, if◌then◌else◌}
 use Rattle.scsi_sense.specs.Done.{Outcome}
-use Rattle.scsi_unit.specs.Units.{UnitStates}
+use Rattle.scsi_unit.specs.Units.{UnitStates, numbers_of}
 use Rattle.iscsi_pdu.specs.Frames.{Frame}
 use Rattle.iscsi_session.specs.Requests.{Past, frame_of, held, due, queue, finished, stamp, answering}
 use Rattle.iscsi_session.specs.Transfers.{payload_of, is_whole_of, asking, asked}
 use Rattle.iscsi_session.specs.Judging.{verdict, judged, violates}
-use Rattle.iscsi_session.specs.Acts.{acted, ends}
+use Rattle.iscsi_session.specs.Acts.{acted, ordered, ends}
 use Rattle.iscsi_session.specs.Answers.{command_answers}
 use Rattle.iscsi_session.specs.Commands.{carried_out}
 
@@ -61,9 +61,11 @@ pub record Work : Type 0 where
   pub goes_on : Bool
   -- the steps that were reached, in order
   pub reached : List Step
+  -- the headers of the Task Management Function Requests that acted, in order
+  pub orders : List (List ℕ)
 
 abbrev pub begun_work : Past → UnitStates → Work
-begun_work past units = record { past = past; units = units; goes_on = true; reached = [] }
+begun_work past units = record { past = past; units = units; goes_on = true; reached = []; orders = [] }
 
 abbrev pub reaches : Step → Work → Work
 reaches step work = record work { reached = work.reached ++ step ∷ [] }
@@ -83,7 +85,11 @@ judge frame work = record work { past = judged (verdict work.past frame) frame w
 
 -- a request acts: a Logout that closes ends the session
 unfoldable pub act : ℕ → Work → Work
-act k work = record work { past = acted k work.past; goes_on = not (ends work.past.params (frame_of work.past.came k)) }
+act k work = record work {
+  past = acted (numbers_of work.units) k work.past;
+  goes_on = not (ends work.past.params (frame_of work.past.came k));
+  orders = work.orders ++ ordered k work.past;
+}
 
 -- a command is asked for a part of its data by an R2T
 unfoldable pub ask : ℕ → Work → Work
@@ -111,9 +117,9 @@ one_by_one fails step line does turn zero work = work
 one_by_one fails step line does turn (suc most) work =
     one_by_one fails step line does (suc turn) most (first_steps fails (step turn) does (line work.past) work)
 
--- how many requests have not acted
+-- no more acts than these: each request that has not acted, and one number that it may plug
 abbrev pub waiting_in : Past → ℕ
-waiting_in past = length (held past) + length (due past)
+waiting_in past = (length (held past) + length (due past)) * 2
 
 -- the requests that are due act
 unfoldable pub act_all : (Step → Bool) → ℕ → Work → Work

@@ -1,10 +1,12 @@
 -- How the requests of a session stand in a slab, and their keys in three lines.
-use Rattle.std.specs.Prelude.{◌≡◌, ℕ, zero, suc, ◌+◌, List, filter_map, map, take, ◌++◌, ◌==◌, Option, is_some, option_and_then, if◌then◌else◌, count_by}
+use Rattle.std.specs.Prelude.{◌≡◌, ℕ, zero, suc, ◌+◌, List, filter_map, map, take, ◌++◌, ◌==◌, Option, is_some, option_and_then, option_map, if◌then◌else◌, count_by}
 use Rattle.std.specs.List.{prefix_len}
 use Rattle.slab.specs.Slab.{Slab, get}
 use Rattle.iscsi_order.specs.WindowState.{WindowKeys, turned}
 use Rattle.iscsi_pdu.specs.Frames.{Frame}
-use Rattle.iscsi_session.specs.State.{TaskLists}
+use Rattle.iscsi_session.specs.Requests.{is_in}
+use Rattle.iscsi_session.specs.Functions.{FunctionReach}
+use Rattle.iscsi_session.specs.State.{TaskLists, void_if}
 
 -- the requests at these keys
 abbrev pub requests_at : Slab Frame → List ℕ → List Frame
@@ -46,3 +48,7 @@ moves (suc n) p = moves n (turned p.0, p.1 ++ keys_in (take 1 p.0.keys))
 
 abbrev pub moves_all : WindowKeys × List ℕ → WindowKeys × List ℕ
 moves_all p = moves (prefix_len (λ k. is_some k) p.0.keys) p
+
+-- the requests at these keys are voided where the function reaches them
+pub record Voids (reach : FunctionReach) (keys : List ℕ) (old new : Slab Frame) : Type 0 where
+  pub at : (key : ℕ) → get new key ≡ (if is_in key keys then option_map (void_if reach) (get old key) else get old key)

@@ -1,5 +1,5 @@
 -- The exchange of texts of a session (RFC 7143 §11.10, §11.11).
-use Rattle.std.specs.Prelude.{ℕ, List, fold, Bool, ◌==◌, Option, Some, None, if◌then◌else◌}
+use Rattle.std.specs.Prelude.{fold, Bool, ◌==◌, Option, Some, None, if◌then◌else◌}
 use Rattle.iscsi_pdu.specs.Header.{opcode_number, initiator_task_tag}
 use Rattle.iscsi_pdu.specs.Frames.{Frame}
 use Rattle.iscsi_pdu.specs.declared.answer.Answer.{Answer}

@@ -1,15 +1,15 @@
 //! The requests that are taken act.
 
 ghost use Rattle.std.specs.Prelude.{◌≡◌, ◌≤◌, ◌<◌, ◌++◌, ◌∷◌, ℕ, List, [], None, Some, length, flat_map, true, false, if◌then◌else◌, IfOk, OnOk, OnErr};
-ghost use Rattle.scsi_unit.specs.Units.{UnitStates};
+ghost use Rattle.scsi_unit.specs.Units.{UnitStates, numbers_of};
 ghost use Rattle.iscsi_pdu.specs.Answer.{spelling};
 ghost use Rattle.iscsi_pdu.specs.Frames as pdu;
 ghost use Rattle.iscsi_session.specs.Requests.{Past, is_command, is_function as is_function_in, frame_of, due, stamp, answering};
-ghost use Rattle.iscsi_session.specs.Acts.{acted, act_answers, act_by, acted_by, answers_by, closes, ends, logout_answer, ping_answers};
+ghost use Rattle.iscsi_session.specs.Acts.{acted, act_answers, act_by, acted_by, answers_by, orders_by, closes, ends, logout_answer, ping_answers};
 ghost use Rattle.iscsi_session.specs.Room.{room_to_act};
-ghost use Rattle.iscsi_session.specs.State.{Stands, standing};
+ghost use Rattle.iscsi_session.specs.State.{Stands, standing, waiting};
 ghost use Rattle.iscsi_session.specs.Steps.{Taking, act_all};
-ghost use Rattle.iscsi_session.specs.Runs.{Runs};
+ghost use Rattle.iscsi_session.specs.Runs.{Runs, output};
 ghost use Rattle.iscsi_session.specs.Texts.{is_text as is_text_in};
 
 use crate::act::Act;
@@ -39,15 +39,22 @@ pub(crate) fn is_command(frame: &Frame) -> bool
 impl Session {
     /// The requests that are due act, one after the other, until there is none or one ends the session:
     /// whether it goes on. Where an allocation fails those before have acted.
-    pub(crate) fn act_all(&mut self, out: &mut BytesMut) -> Result<bool, Memory>
-        ensures ok { IfOk result (λ goes_on. (units : UnitStates) → Runs act_all None goes_on self.old self.new out.old.items out.new.items units units) }
-        ensures err { OnErr result ((turn : ℕ) × ((units : UnitStates)
-            → Runs act_all (Some (λ place. Taking place turn)) false self.old self.new out.old.items out.new.items units units)) }
+    pub(crate) fn act_all(
+        &mut self,
+        luns: &[u8],
+        out: &mut BytesMut,
+        orders: &mut Vec<Header>,
+    ) -> Result<bool, Memory>
+        ensures ok { IfOk result (λ goes_on. (units : UnitStates) → luns.now ≡ numbers_of units → Runs act_all None goes_on self.old self.new
+            (output out.old.items orders.old.items) (output out.new.items orders.new.items) units units) }
+        ensures err { OnErr result ((turn : ℕ) × ((units : UnitStates) → luns.now ≡ numbers_of units
+            → Runs act_all (Some (λ place. Taking place turn)) false self.old self.new
+            (output out.old.items orders.old.items) (output out.new.items orders.new.items) units units)) }
         ensures grows { (more : List ℕ) × (out.new.items ≡ out.old.items ++ more) }
         ensures params { self.new.params ≡ self.old.params }
     {
         loop {
-            match self.act(out)? {
+            match self.act(luns, out, orders)? {
                 Act::Idle => return Ok(true),
                 Act::Taken => {}
                 Act::Ended => return Ok(false),
@@ -56,17 +63,26 @@ impl Session {
     }
 
     /// The next request that was taken acts: a SCSI Command joins the queue, every other request is
-    /// answered at the end of the buffer. Where an allocation fails nothing changes.
-    fn act(&mut self, out: &mut BytesMut) -> Result<Act, Memory>
+    /// answered at the end of the buffer, and a Task Management Function Request is put behind the orders. Where an
+    /// allocation fails nothing changes.
+    fn act(
+        &mut self,
+        luns: &[u8],
+        out: &mut BytesMut,
+        orders: &mut Vec<Header>,
+    ) -> Result<Act, Memory>
         ensures act { IfOk result (λ a. (past : Past) → Stands past self.old → a ≡ act_by (due past) past) }
-        ensures stands { OnOk result ((past : Past) → Stands past self.old → Stands (acted_by (due past) past) self.new) }
-        ensures out { OnOk result ((past : Past) → Stands past self.old → out.new.items ≡ out.old.items ++ flat_map spelling (answers_by (due past) past)) }
+        ensures stands { OnOk result ((past : Past) → Stands past self.old → Stands (acted_by luns.now (due past) past) self.new) }
+        ensures out { OnOk result ((past : Past) → Stands past self.old
+            → out.new.items ≡ out.old.items ++ flat_map spelling (answers_by luns.now (due past) past)) }
+        ensures orders { OnOk result ((past : Past) → Stands past self.old → orders.new.items ≡ orders.old.items ++ orders_by (due past) past) }
         ensures grows { (more : List ℕ) × (out.new.items ≡ out.old.items ++ more) }
-        ensures fewer { IfOk result (λ a. a ≡ Act.Taken → length self.new.tasks.due < length self.old.tasks.due) }
+        ensures fewer { IfOk result (λ a. a ≡ Act.Taken → waiting self.new.tasks < waiting self.old.tasks) }
         ensures params { self.new.params ≡ self.old.params }
         ensures due { OnErr result (0 < length self.old.tasks.due) }
         ensures err { OnErr result (self.new ≡ self.old) }
         ensures out_err { OnErr result (out.new.items ≡ out.old.items) }
+        ensures orders_err { OnErr result (orders.new.items ≡ orders.old.items) }
     {
         match self.tasks.due() {
             None => Ok(Act::Idle),
@@ -75,7 +91,7 @@ impl Session {
                 Ok(Act::Taken)
             }
             Some(frame) if is_text(frame) => self.answer_text(out),
-            Some(frame) if is_function(frame) => self.answer_function(out),
+            Some(frame) if is_function(frame) => self.answer_function(luns, out, orders),
             Some(frame) => {
                 out.reserve(frame.body.len() + ROOM_TO_ACT)?;
                 Ok(self.answer(out))
@@ -89,12 +105,14 @@ impl Session {
         requires { (frame : pdu.Frame) (others : List pdu.Frame) → self.old.tasks.due ≡ frame ∷ others → room_to_act frame ≤ out.old.spare }
         ensures act { (past : Past) (k : ℕ) (others : List ℕ) → Stands past self.old → due past ≡ k ∷ others
             → is_command (frame_of (standing past) k) ≡ false → is_text_in (frame_of past.came k) ≡ false → is_function_in (frame_of past.came k) ≡ false → result ≡ (if ends past.params (frame_of past.came k) then Act.Ended else Act.Taken) }
-        ensures stands { (past : Past) (k : ℕ) (others : List ℕ) → Stands past self.old → due past ≡ k ∷ others → is_command (frame_of (standing past) k) ≡ false
-            → is_text_in (frame_of past.came k) ≡ false → is_function_in (frame_of past.came k) ≡ false → Stands (acted k past) self.new }
-        ensures out { (past : Past) (k : ℕ) (others : List ℕ) → Stands past self.old → due past ≡ k ∷ others → is_command (frame_of (standing past) k) ≡ false
-            → is_text_in (frame_of past.came k) ≡ false → is_function_in (frame_of past.came k) ≡ false → out.new.items ≡ out.old.items ++ flat_map spelling (act_answers k past) }
+        ensures stands { (luns : List ℕ) (past : Past) (k : ℕ) (others : List ℕ) → Stands past self.old → due past ≡ k ∷ others
+            → is_command (frame_of (standing past) k) ≡ false → is_text_in (frame_of past.came k) ≡ false → is_function_in (frame_of past.came k) ≡ false
+            → Stands (acted luns k past) self.new }
+        ensures out { (luns : List ℕ) (past : Past) (k : ℕ) (others : List ℕ) → Stands past self.old → due past ≡ k ∷ others
+            → is_command (frame_of (standing past) k) ≡ false → is_text_in (frame_of past.came k) ≡ false → is_function_in (frame_of past.came k) ≡ false
+            → out.new.items ≡ out.old.items ++ flat_map spelling (act_answers luns k past) }
         ensures grows { (more : List ℕ) × (out.new.items ≡ out.old.items ++ more) }
-        ensures fewer { result ≡ Act.Taken → length self.new.tasks.due < length self.old.tasks.due }
+        ensures fewer { result ≡ Act.Taken → waiting self.new.tasks < waiting self.old.tasks }
         ensures params { self.new.params ≡ self.old.params }
     {
         let Some(frame) = self.tasks.finish_due() else {

@@ -1,17 +1,23 @@
 //! The Task Management Function Requests of a session.
 
-ghost use Rattle.std.specs.Prelude.{◌≡◌, ◌≤◌, ◌<◌, ◌++◌, ◌∷◌, ℕ, List, [], is_some, length, flat_map, true, IfOk, OnOk, OnErr};
+ghost use Rattle.std.specs.Prelude.{◌≡◌, ◌≤◌, ◌<◌, ◌++◌, ◌∷◌, ◌==◌, ℕ, List, [], is_some, length, flat_map, true, not, IsTrue, IfOk, OnOk, OnErr};
 ghost use Rattle.iscsi_pdu.specs.Answer.{spelling};
-ghost use Rattle.iscsi_session.specs.Requests.{Past, frame_of, due, is_function as is_function_in};
-ghost use Rattle.iscsi_session.specs.Functions.{function_answer, result_of};
-ghost use Rattle.iscsi_session.specs.Acts.{acted, act_answers};
-ghost use Rattle.iscsi_session.specs.State.{Stands, function_place, immediate_functions, function_removed};
+ghost use Rattle.iscsi_pdu.specs.Frames as pdu;
+ghost use Rattle.iscsi_pdu.specs.TaskManagement.{ref_cmd_sn};
+ghost use Rattle.iscsi_order.specs.Window as order;
+ghost use Rattle.iscsi_session.specs.Requests.{Past, frame_of, due, numbers as numbers_in, removing, is_function as is_function_in};
+ghost use Rattle.iscsi_session.specs.Functions.{own_reach, reached, is_plug as is_plug_in, refers_back, aborts_unseen, plugs as plugs_in, abort_result, function_result, function_answer};
+ghost use Rattle.iscsi_session.specs.Acts.{acted, ordered, ended, behind, act_answers};
+ghost use Rattle.iscsi_session.specs.State.{Stands, function_place, immediate_functions, function_removed, is_vacant, waiting};
 
 use crate::act::Act;
 use crate::answers::put;
 use crate::fault::Memory;
+use crate::reach::Reach;
 use crate::session::Session;
+use crate::voids::PLUGGED;
 use bytes::BytesMut;
+use iscsi_order::{CommandNumbers, is_before};
 use iscsi_pdu::{
     Answer, Frame, Header, Opcode, Stamp, TaskFunction, TaskManagementResponse, TaskResult,
 };
@@ -28,32 +34,29 @@ pub(crate) fn is_function(frame: &Frame) -> bool
     matches!(frame.header.opcode(), Opcode::TaskManagement)
 }
 
-/// What a function comes to (RFC 7143 §11.6.1). No task is ended yet.
-fn result_of(function: TaskFunction) -> TaskResult
-    ensures { result ≡ result_of function }
+/// It stands at a number that was plugged.
+pub(crate) fn is_plug(frame: &Frame) -> bool
+    ensures { result ≡ is_plug_in frame.now }
 {
-    match function {
-        TaskFunction::TaskReassign => TaskResult::NoReassignment,
-        TaskFunction::AbortTask
-        | TaskFunction::AbortTaskSet
-        | TaskFunction::ClearAca
-        | TaskFunction::ClearTaskSet
-        | TaskFunction::LogicalUnitReset
-        | TaskFunction::TargetWarmReset
-        | TaskFunction::TargetColdReset
-        | TaskFunction::Other(_) => TaskResult::NotSupported,
-    }
+    matches!(frame.header.opcode(), Opcode::Other(PLUGGED))
+}
+
+/// The number that a function refers to is before its own.
+fn refers_back(function: &Header) -> bool
+    ensures { result ≡ refers_back function.now }
+{
+    is_before(function.ref_cmd_sn(), function.cmd_sn())
 }
 
 /// What a function is answered.
-fn answer_to(header: &Header, stamp: Stamp) -> Answer<'static>
-    ensures value { result ≡ function_answer stamp (record { header = header.now; body = [] }) }
+fn answer_to(function: &Header, stamp: Stamp, response: TaskResult) -> Answer<'static>
+    ensures value { result ≡ function_answer stamp response function.now }
     ensures short { length (spelling result) ≤ 48 }
 {
     Answer::TaskManagementResponse(TaskManagementResponse {
-        initiator_task_tag: header.initiator_task_tag(),
+        initiator_task_tag: function.initiator_task_tag(),
         stamp,
-        response: result_of(header.task_function()),
+        response,
     })
 }
 
@@ -138,27 +141,158 @@ impl Functions {
 }
 
 impl Session {
-    /// The first request that is due, a Task Management Function Request, acts and is answered at the end of the
-    /// buffer. Where an allocation fails nothing changes.
-    pub(crate) fn answer_function(&mut self, out: &mut BytesMut) -> Result<Act, Memory>
+    /// The first request that is due, a Task Management Function Request, acts. It is answered at the end of the
+    /// buffer, and its header is put behind the orders. Where an allocation fails nothing changes.
+    pub(crate) fn answer_function(
+        &mut self,
+        luns: &[u8],
+        out: &mut BytesMut,
+        orders: &mut Vec<Header>,
+    ) -> Result<Act, Memory>
         ensures act { IfOk result (λ a. 0 < length self.old.tasks.due → a ≡ Act.Taken) }
         ensures stands { OnOk result ((past : Past) (k : ℕ) (others : List ℕ) → Stands past self.old → due past ≡ k ∷ others
-            → is_function_in (frame_of past.came k) ≡ true → Stands (acted k past) self.new) }
+            → is_function_in (frame_of past.came k) ≡ true → Stands (acted luns.now k past) self.new) }
         ensures out { OnOk result ((past : Past) (k : ℕ) (others : List ℕ) → Stands past self.old → due past ≡ k ∷ others
-            → is_function_in (frame_of past.came k) ≡ true → out.new.items ≡ out.old.items ++ flat_map spelling (act_answers k past)) }
+            → is_function_in (frame_of past.came k) ≡ true → out.new.items ≡ out.old.items ++ flat_map spelling (act_answers luns.now k past)) }
+        ensures orders { OnOk result ((past : Past) (k : ℕ) (others : List ℕ) → Stands past self.old → due past ≡ k ∷ others
+            → is_function_in (frame_of past.came k) ≡ true → orders.new.items ≡ orders.old.items ++ ordered k past) }
         ensures grows { (more : List ℕ) × (out.new.items ≡ out.old.items ++ more) }
-        ensures fewer { IfOk result (λ a. a ≡ Act.Taken → length self.new.tasks.due < length self.old.tasks.due) }
+        ensures fewer { IfOk result (λ a. (frame : pdu.Frame) (others : List pdu.Frame) → self.old.tasks.due ≡ frame ∷ others → is_function_in frame ≡ true
+            → waiting self.new.tasks < waiting self.old.tasks) }
         ensures params { self.new.params ≡ self.old.params }
         ensures err { OnErr result (self.new ≡ self.old) }
         ensures out_err { OnErr result (out.new.items ≡ out.old.items) }
+        ensures orders_err { OnErr result (orders.new.items ≡ orders.old.items) }
     {
         out.reserve(RESPONSE_LENGTH)?;
-        let Some(frame) = self.tasks.finish_due() else {
+        orders.reserve(1)?;
+        let Some(frame) = self.tasks.due() else {
             return Ok(Act::Idle);
         };
-        self.functions.finish(frame.header.initiator_task_tag());
-        let stamp = self.next_stamp();
-        put(out, &answer_to(&frame.header, stamp));
+        let function = frame.header;
+        let reach = Reach {
+            function,
+            luns,
+            is_own: true,
+        };
+        let response = self.function_result(&reach);
+        let numbers = self.end_tasks(&reach)?;
+        let stamp = Stamp {
+            stat_sn: self.stat.next(),
+            exp_cmd_sn: numbers.exp_cmd_sn,
+            max_cmd_sn: numbers.max_cmd_sn,
+        };
+        put(out, &answer_to(&function, stamp, response));
+        orders.push_reserved(function);
         Ok(Act::Taken)
+    }
+
+    /// The first request that is due is finished. It is this function: what it reaches is removed, or the number
+    /// that it refers to is plugged. It gives the numbers before that. Where an allocation fails nothing changes.
+    fn end_tasks(&mut self, reach: &Reach) -> Result<CommandNumbers, Memory>
+        requires { 0 < length self.old.tasks.due }
+        ensures stands { IfOk result (λ numbers. (luns : List ℕ) (past : Past) (k : ℕ) (others : List ℕ) → Stands past self.old
+            → due past ≡ k ∷ others → is_function_in (frame_of past.came k) ≡ true → reach.now ≡ own_reach luns (frame_of past.came k).header
+            → (numbers ≡ order.numbers_of (numbers_in (ended luns k past))) × Stands (behind luns k past (ended luns k past)) self.new) }
+        ensures fewer { OnOk result ((frame : pdu.Frame) (others : List pdu.Frame) → self.old.tasks.due ≡ frame ∷ others → is_function_in frame ≡ true
+            → waiting self.new.tasks < waiting self.old.tasks) }
+        ensures same { self.new ≡ record self.old { tasks = self.new.tasks; transfers = self.new.transfers; functions = self.new.functions } }
+        ensures err { OnErr result (self.new ≡ self.old) }
+    {
+        let function = &reach.function;
+        let tag = function.initiator_task_tag();
+        if self.plugs(reach) {
+            let numbers = self.tasks.plug_behind_first(function.ref_cmd_sn())?;
+            self.functions.finish(tag);
+            return Ok(numbers);
+        }
+        self.tasks.finish_due();
+        self.functions.finish(tag);
+        self.transfers.remove(reach);
+        self.tasks.remove(reach);
+        Ok(self.tasks.numbers())
+    }
+
+    /// The SCSI Commands that a function reaches are removed: whether there was one. It takes no memory.
+    pub fn remove(&mut self, reach: &Reach) -> bool
+        ensures some { (past : Past) → Stands past self.old → result ≡ not (length (reached reach.now past) == 0) }
+        ensures stands { (past : Past) → Stands past self.old → Stands (removing (reached reach.now past) past) self.new }
+        ensures params { self.new.params ≡ self.old.params }
+    {
+        let some = self.transfers.has_reached(reach);
+        self.transfers.remove(reach);
+        self.tasks.remove(reach);
+        some
+    }
+
+    /// A function plugs the number that it refers to: the ABORT TASK of a task that has not come.
+    #[tactic(auto, unfolding(crate::specs::Functions::plugs))]
+    fn plugs(&self, reach: &Reach) -> bool
+        ensures past { (past : Past) → Stands past self.now → result ≡ plugs_in past reach.now }
+        ensures vacant { IsTrue result → is_vacant self.now.tasks (ref_cmd_sn reach.now.function) ≡ true }
+    {
+        match reach.function.task_function() {
+            TaskFunction::AbortTask => self.aborts_unseen(reach),
+            TaskFunction::AbortTaskSet
+            | TaskFunction::ClearAca
+            | TaskFunction::ClearTaskSet
+            | TaskFunction::LogicalUnitReset
+            | TaskFunction::TargetWarmReset
+            | TaskFunction::TargetColdReset
+            | TaskFunction::TaskReassign
+            | TaskFunction::Other(_) => false,
+        }
+    }
+
+    /// An ABORT TASK refers to a task that has not come, though its number may.
+    fn aborts_unseen(&self, reach: &Reach) -> bool
+        ensures past { (past : Past) → Stands past self.now → result ≡ aborts_unseen past reach.now }
+        ensures vacant { IsTrue result → is_vacant self.now.tasks (ref_cmd_sn reach.now.function) ≡ true }
+    {
+        if self.transfers.has_reached(reach) {
+            return false;
+        }
+        if !refers_back(&reach.function) {
+            return false;
+        }
+        self.tasks.is_new(reach.function.ref_cmd_sn())
+    }
+
+    /// What a function comes to (RFC 7143 §11.6.1).
+    #[tactic(auto, unfolding(crate::specs::Functions::function_result))]
+    fn function_result(&self, reach: &Reach) -> TaskResult
+        ensures { (past : Past) → Stands past self.now → result ≡ function_result past reach.now }
+    {
+        match reach.function.task_function() {
+            TaskFunction::AbortTask => self.abort_result(reach),
+            TaskFunction::AbortTaskSet
+            | TaskFunction::ClearTaskSet
+            | TaskFunction::LogicalUnitReset => reach.set_result(),
+            TaskFunction::TargetWarmReset => TaskResult::Complete,
+            TaskFunction::TaskReassign => TaskResult::NoReassignment,
+            TaskFunction::ClearAca | TaskFunction::TargetColdReset | TaskFunction::Other(_) => {
+                TaskResult::NotSupported
+            }
+        }
+    }
+
+    /// What an ABORT TASK comes to.
+    fn abort_result(&self, reach: &Reach) -> TaskResult
+        ensures { (past : Past) → Stands past self.now → result ≡ abort_result past reach.now }
+    {
+        if self.transfers.has_reached(reach) {
+            return TaskResult::Complete;
+        }
+        if !refers_back(&reach.function) {
+            return TaskResult::NoTask;
+        }
+        let number = reach.function.ref_cmd_sn();
+        if self.tasks.is_new(number) {
+            return TaskResult::Complete;
+        }
+        if self.tasks.is_plugged(number) {
+            return TaskResult::Complete;
+        }
+        TaskResult::NoTask
     }
 }

@@ -5,12 +5,14 @@
 //!   frame   judged   held in the window      due        queue      done, where its data is whole,
 //!   ----->  --------> behind a missing  ---> acts  ---> SCSI  ---> on the units,
 //!           rejected  number                 │          Commands   and answered
-//!                │                           └ NOP-Out, Text, Logout: answered at once
+//!                │                           └ NOP-Out, Text, Logout, Task Management: answered at once
 //!                └ Data-Out: the data of its command grows; where more is wanted, an R2T asks for it
 //! ```
 //!
 //! [`Session::serve`] judges a frame, lets the requests act that it lets be taken, and sends the R2T that it
-//! made due; [`Session::settle`] does the commands that acted and whose data is whole. What each call does is
+//! made due; a Task Management function takes commands out of these lines, and an ABORT TASK may plug the number of one that
+//! has not come;
+//! [`Session::settle`] does the commands that acted and whose data is whole. What each call does is
 //! said of the session's past (`specs/Requests.antt`), plain lists in which a request is named by its place among those that came: a
 //! session that stood where one past is stands where its steps lead (`specs/Steps.antt`), all of them, or
 //! those before an allocation that failed. What holds of every past is in [`laws`].
@@ -25,12 +27,15 @@ mod fault;
 mod functions;
 mod judging;
 pub mod laws;
+mod reach;
 mod serving;
 mod session;
 mod tasks;
 mod texts;
 mod transfers;
 mod verdict;
+mod voids;
 
 pub use fault::Memory;
+pub use reach::Reach;
 pub use session::Session;

@@ -1,8 +1,8 @@
 //! A frame of a session, and the commands that were taken.
 
-ghost use Rattle.std.specs.Prelude.{◌≡◌, ◌<◌, ◌≤◌, ◌++◌, ℕ, List, None, length, flat_map, is_some, true, false, IfOk, OnOk, OnErr};
+ghost use Rattle.std.specs.Prelude.{◌≡◌, ◌<◌, ◌≤◌, ◌++◌, ℕ, List, [], None, length, flat_map, is_some, true, false, IfOk, OnOk, OnErr};
 ghost use Rattle.scsi_unit.specs.DiskCommands.{most_given};
-ghost use Rattle.scsi_unit.specs.Units.{UnitStates, AreSound, AreSure};
+ghost use Rattle.scsi_unit.specs.Units.{UnitStates, numbers_of, AreSound, AreSure};
 ghost use Rattle.iscsi_login.specs.Values.{AreInRange};
 ghost use Rattle.iscsi_pdu.specs.Answer.{spelling};
 ghost use Rattle.iscsi_session.specs.Requests.{Past};
@@ -10,14 +10,14 @@ ghost use Rattle.iscsi_session.specs.Transfers.{asking, asked_by, r2ts_by};
 ghost use Rattle.iscsi_session.specs.State.{Stands, asking_place, is_waiting};
 ghost use Rattle.iscsi_session.specs.Commands.{carried_out};
 ghost use Rattle.iscsi_session.specs.Steps.{Work, is_doing, is_serving, ready, finish, taken_in, served, settled};
-ghost use Rattle.iscsi_session.specs.Runs.{Starts, Runs, Stops, StepsFirst};
+ghost use Rattle.iscsi_session.specs.Runs.{output, Starts, Runs, Stops, StepsFirst};
 
 use crate::answers::{make_room, put_r2t};
 use crate::fault::Memory;
 use crate::session::Session;
 use crate::verdict::Verdict;
 use bytes::BytesMut;
-use iscsi_pdu::Frame;
+use iscsi_pdu::{Frame, Header};
 use media_store::Store;
 use scsi_sense::{Condition, Done, Nexus, Sense};
 use scsi_unit::Units;
@@ -53,19 +53,29 @@ fn carry_out<S: Store>(
 
 impl Session {
     /// A frame is judged, the requests that it lets be taken act, and the R2T that it makes due is sent; all
-    /// of that is added at the end of the buffer. It tells whether the session goes on: a violation and a
-    /// Logout that closes end it.
-    /// Where an allocation fails the session is to be closed: the steps before it were done and answered whole.
-    pub fn serve(&mut self, frame: Frame, out: &mut BytesMut) -> Result<bool, Memory>
+    /// of that is added at the end of the buffer. The header of each Task Management Function Request that acts is
+    /// put behind the orders: the target is to carry it out on its other sessions and on its units, which have these
+    /// numbers. It tells whether the session goes on: a violation and a Logout that closes end it.
+    /// Where an allocation fails the session is to be closed: the steps before it were done and answered whole, and
+    /// their orders stand.
+    pub fn serve(
+        &mut self,
+        frame: Frame,
+        luns: &[u8],
+        out: &mut BytesMut,
+        orders: &mut Vec<Header>,
+    ) -> Result<bool, Memory>
         requires { AreInRange self.old.params.values }
-        ensures ok { IfOk result (λ goes_on. (units : UnitStates)
-            → Runs (λ fails place. served fails place frame) None goes_on self.old self.new out.old.items out.new.items units units) }
-        ensures err { OnErr result (Stops is_serving (λ failed. (units : UnitStates)
-            → Runs (λ fails place. served fails place frame) failed false self.old self.new out.old.items out.new.items units units)) }
+        ensures ok { IfOk result (λ goes_on. (units : UnitStates) → luns.now ≡ numbers_of units
+            → Runs (λ fails place. served fails place frame) None goes_on self.old self.new
+            (output out.old.items orders.old.items) (output out.new.items orders.new.items) units units) }
+        ensures err { OnErr result (Stops is_serving (λ failed. (units : UnitStates) → luns.now ≡ numbers_of units
+            → Runs (λ fails place. served fails place frame) failed false self.old self.new
+            (output out.old.items orders.old.items) (output out.new.items orders.new.items) units units)) }
         ensures grows { (more : List ℕ) × (out.new.items ≡ out.old.items ++ more) }
         ensures params { self.new.params ≡ self.old.params }
     {
-        if !self.take_in(frame, out)? {
+        if !self.take_in(frame, luns, out, orders)? {
             return Ok(false);
         }
         self.ask_due(out)?;
@@ -74,19 +84,27 @@ impl Session {
 
     /// A frame is judged, and the requests that it lets be taken act. It tells whether the session goes on. Where
     /// an allocation fails the steps before it were done.
-    fn take_in(&mut self, frame: Frame, out: &mut BytesMut) -> Result<bool, Memory>
+    fn take_in(
+        &mut self,
+        frame: Frame,
+        luns: &[u8],
+        out: &mut BytesMut,
+        orders: &mut Vec<Header>,
+    ) -> Result<bool, Memory>
         requires { AreInRange self.old.params.values }
-        ensures ok { IfOk result (λ goes_on. (units : UnitStates)
-            → Runs (λ fails place. taken_in fails place frame) None goes_on self.old self.new out.old.items out.new.items units units) }
-        ensures err { OnErr result (Stops is_serving (λ failed. (units : UnitStates)
-            → Runs (λ fails place. taken_in fails place frame) failed false self.old self.new out.old.items out.new.items units units)) }
+        ensures ok { IfOk result (λ goes_on. (units : UnitStates) → luns.now ≡ numbers_of units
+            → Runs (λ fails place. taken_in fails place frame) None goes_on self.old self.new
+            (output out.old.items orders.old.items) (output out.new.items orders.new.items) units units) }
+        ensures err { OnErr result (Stops is_serving (λ failed. (units : UnitStates) → luns.now ≡ numbers_of units
+            → Runs (λ fails place. taken_in fails place frame) failed false self.old self.new
+            (output out.old.items orders.old.items) (output out.new.items orders.new.items) units units)) }
         ensures grows { (more : List ℕ) × (out.new.items ≡ out.old.items ++ more) }
         ensures params { self.new.params ≡ self.old.params }
     {
         if let Verdict::Violating = self.take(frame, out)? {
             return Ok(false);
         }
-        self.act_all(out)
+        self.act_all(luns, out, orders)
     }
 
     /// The R2T that is due is added at the end of the buffer. Where an allocation fails nothing changes.
@@ -119,9 +137,10 @@ impl Session {
         units: &mut Units<S>,
     ) -> Result<(), Memory>
         requires { AreInRange self.old.params.values }
-        ensures ok { OnOk result (AreSound units.new → Runs settled None true self.old self.new out.old.items out.new.items units.old units.new) }
+        ensures ok { OnOk result (AreSound units.new → Runs settled None true self.old self.new
+            (output out.old.items []) (output out.new.items []) units.old units.new) }
         ensures err { OnErr result (Stops is_doing (λ failed. AreSound units.new
-            → Runs settled failed false self.old self.new out.old.items out.new.items units.old units.new)) }
+            → Runs settled failed false self.old self.new (output out.old.items []) (output out.new.items []) units.old units.new)) }
         ensures back { AreSound units.new → AreSound units.old }
         ensures sure { AreSure units.old → AreSure units.new }
         ensures grows { (more : List ℕ) × (out.new.items ≡ out.old.items ++ more) }
@@ -142,7 +161,7 @@ impl Session {
     ) -> Result<bool, Memory>
         requires { AreInRange self.old.params.values }
         ensures steps { IfOk result (λ more. AreSound units.new → (work : Work) → Starts work self.old units.old
-            → StepsFirst finish (ready work.past) work more self.old self.new out.old.items out.new.items units.new) }
+            → StepsFirst finish (ready work.past) work more self.old self.new (output out.old.items []) (output out.new.items []) units.new) }
         ensures fewer { IfOk result (λ more. more ≡ true → length self.new.tasks.queue < length self.old.tasks.queue) }
         ensures back { AreSound units.new → AreSound units.old }
         ensures sure { AreSure units.old → AreSure units.new }

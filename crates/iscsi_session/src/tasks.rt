@@ -1,13 +1,17 @@
 //! The requests of a session that are not finished, and their numbers.
 
-ghost use Rattle.std.specs.Prelude.{◌≡◌, ◌≤◌, ◌+◌, ◌++◌, ◌∷◌, List, [], true, length, drop, vec_capacity, IfSome, IfNone, OnOk, OnErr};
+ghost use Rattle.std.specs.Prelude.{◌≡◌, ◌≤◌, ◌<◌, ◌+◌, ◌-◌, ◌++◌, ◌∷◌, List, [], true, length, map, filter, drop, option_map, vec_capacity, IfSome, IfNone, IfOk, OnOk, OnErr, if◌then◌else◌};
 ghost use Rattle.iscsi_order.specs.Window as order;
 ghost use Rattle.iscsi_order.specs.WindowState as window;
 ghost use Rattle.iscsi_pdu.specs.Frames as pdu;
-ghost use Rattle.iscsi_session.specs.State.{no_tasks, window_of, is_vacant, is_vacant_for, holding, kept, takes_all, one_fewer};
+ghost use Rattle.iscsi_pdu.specs.Header.{is_immediate};
+ghost use Rattle.iscsi_session.specs.State.{no_tasks, window_of, is_vacant, is_vacant_for, holding, kept, takes_all, one_fewer, without, held_numbered, is_some_plug, plugged_behind, void_if, stays, counts_out, swept_one};
 ghost use Rattle.iscsi_session.specs.Tasks.{moves_all};
 
 use crate::fault::Memory;
+use crate::functions::is_plug;
+use crate::reach::Reach;
+use crate::voids::{plug, void_held, void_line};
 use iscsi_order::{CommandNumbers, Window};
 use iscsi_pdu::Frame;
 use slab::Slab;
@@ -25,6 +29,7 @@ pub(crate) struct Tasks {
     due: Vec<usize>,
     /// The keys of the SCSI Commands that acted, in order.
     queue: Vec<usize>,
+    alloc: Global,
 }
 
 impl Model for Tasks {
@@ -50,6 +55,15 @@ fn take_ready(window: &mut Window, due: &mut Vec<usize>)
     }
 }
 
+/// A request is finished whose number was handed over. One for immediate delivery has none.
+fn count_out(window: &mut Window, frame: &Frame)
+    ensures { window.new ≡ (if is_immediate frame.now.header then window.old else record window.old { unfinished = window.old.unfinished - 1 }) }
+{
+    if !frame.header.is_immediate() {
+        window.finish();
+    }
+}
+
 impl Tasks {
     /// No requests, before the first number. It takes no memory.
     pub(crate) fn new(alloc: Global, first: u32) -> Tasks
@@ -60,6 +74,7 @@ impl Tasks {
             window: Window::new(first),
             due: Vec::new(alloc),
             queue: Vec::new(alloc),
+            alloc,
         }
     }
 
@@ -99,6 +114,42 @@ impl Tasks {
         let _ = self.window.arrive(number, key);
         take_ready(&mut self.window, &mut self.due);
         Ok(())
+    }
+
+    /// The first that is due is finished, and this number is plugged. It gives the numbers in between. Where an
+    /// allocation fails nothing changes.
+    pub(crate) fn plug_behind_first(&mut self, number: u32) -> Result<CommandNumbers, Memory>
+        requires vacant { is_vacant self.old number ≡ true }
+        requires some { 0 < length self.old.due }
+        ensures ok { OnOk result (self.new ≡ plugged_behind number self.old self.old.due) }
+        ensures numbers { IfOk result (λ numbers. (past : order.Past) (frame : pdu.Frame) (others : List pdu.Frame) → self.old.due ≡ frame ∷ others
+            → window.Stands past (window_of (one_fewer frame (record self.old { due = others }))) → numbers ≡ order.numbers_of past) }
+        ensures err { OnErr result (self.new ≡ self.old) }
+    {
+        self.due.reserve(self.window.held().len())?;
+        let key = self.due.remove(0);
+        let frame = self.requests.remove(key);
+        count_out(&mut self.window, &frame);
+        let numbers = self.window.numbers();
+        // There is room for it where the other one was.
+        let key = self.requests.insert_reserved(plug(self.alloc));
+        // It is new, so it is not ignored.
+        let _ = self.window.arrive(number, key);
+        take_ready(&mut self.window, &mut self.due);
+        Ok(numbers)
+    }
+
+    /// This number was plugged, and is not taken.
+    pub(crate) fn is_plugged(&self, number: u32) -> bool
+        ensures { result ≡ is_some_plug (held_numbered self.now number) }
+    {
+        let Some(key) = self.window.key_of(number) else {
+            return false;
+        };
+        match self.requests.get(key) {
+            Some(frame) => is_plug(frame),
+            None => false,
+        }
     }
 
     /// A request with this CmdSN would be new.
@@ -180,12 +231,62 @@ impl Tasks {
         Some(frame)
     }
 
+    /// The SCSI Commands that a Task Management Function Request reaches are removed: what is held or due is voided,
+    /// and what stands in the queue is finished.
+    pub(crate) fn remove(&mut self, reach: &Reach)
+        ensures { self.new ≡ without reach.now self.old }
+    {
+        self.void_waiting(reach);
+        self.sweep_queue(reach);
+    }
+
+    /// Of those that are held or due.
+    fn void_waiting(&mut self, reach: &Reach)
+        ensures { self.new ≡ record self.old { held = map (option_map (void_if reach.now)) self.old.held; due = map (void_if reach.now) self.old.due } }
+    {
+        void_held(self.alloc, &mut self.requests, self.window.held(), reach);
+        void_line(self.alloc, &mut self.requests, &self.due, reach);
+    }
+
+    /// Of those in the queue.
+    fn sweep_queue(&mut self, reach: &Reach)
+        ensures { self.new ≡ record self.old {
+          unfinished = self.old.unfinished - length (filter (counts_out reach.now) self.old.queue);
+          queue = filter (stays reach.now) self.old.queue;
+        } }
+    {
+        // Each goes behind the others once, or leaves.
+        for _ in 0..self.queued() {
+            self.turn_queue(reach);
+        }
+    }
+
+    /// How many stand in the queue.
+    fn queued(&self) -> usize
+        ensures { result ≡ length self.now.queue }
+    {
+        self.queue.len()
+    }
+
+    /// The first of the queue goes behind the others, or leaves it.
+    fn turn_queue(&mut self, reach: &Reach)
+        ensures { (frame : pdu.Frame) (others : List pdu.Frame) → self.old.queue ≡ frame ∷ others → self.new ≡ swept_one reach.now frame others self.old }
+    {
+        let Some(frame) = self.first() else {
+            return;
+        };
+        if reach.has_frame(frame) {
+            self.finish();
+        } else {
+            let key = self.queue.remove(0);
+            self.queue.push_reserved(key);
+        }
+    }
+
     /// A request is finished whose number was taken. One for immediate delivery has none.
     fn finish_number(&mut self, frame: &Frame)
         ensures { self.new ≡ one_fewer frame.now self.old }
     {
-        if !frame.header.is_immediate() {
-            self.window.finish();
-        }
+        count_out(&mut self.window, frame);
     }
 }

@@ -8,7 +8,7 @@ ghost use Rattle.iscsi_session.specs.Requests.{Past, frame_of, due};
 ghost use Rattle.iscsi_session.specs.Acts.{acted, act_answers};
 ghost use Rattle.iscsi_session.specs.Texts.{is_text as is_text_in, text_answer};
 ghost use Rattle.iscsi_session.specs.Room.{room_to_tell};
-ghost use Rattle.iscsi_session.specs.State.{Stands};
+ghost use Rattle.iscsi_session.specs.State.{Stands, waiting};
 
 use crate::act::Act;
 use crate::answers::{put, rejected};
@@ -68,12 +68,12 @@ impl Session {
     /// or is over. Where an allocation fails nothing changes.
     pub(crate) fn answer_text(&mut self, out: &mut BytesMut) -> Result<Act, Memory>
         ensures act { IfOk result (λ a. 0 < length self.old.tasks.due → a ≡ Act.Taken) }
-        ensures stands { OnOk result ((past : Past) (k : ℕ) (others : List ℕ) → Stands past self.old → due past ≡ k ∷ others
-            → is_text_in (frame_of past.came k) ≡ true → Stands (acted k past) self.new) }
-        ensures out { OnOk result ((past : Past) (k : ℕ) (others : List ℕ) → Stands past self.old → due past ≡ k ∷ others
-            → is_text_in (frame_of past.came k) ≡ true → out.new.items ≡ out.old.items ++ flat_map spelling (act_answers k past)) }
+        ensures stands { OnOk result ((luns : List ℕ) (past : Past) (k : ℕ) (others : List ℕ) → Stands past self.old → due past ≡ k ∷ others
+            → is_text_in (frame_of past.came k) ≡ true → Stands (acted luns k past) self.new) }
+        ensures out { OnOk result ((luns : List ℕ) (past : Past) (k : ℕ) (others : List ℕ) → Stands past self.old → due past ≡ k ∷ others
+            → is_text_in (frame_of past.came k) ≡ true → out.new.items ≡ out.old.items ++ flat_map spelling (act_answers luns k past)) }
         ensures grows { (more : List ℕ) × (out.new.items ≡ out.old.items ++ more) }
-        ensures fewer { IfOk result (λ a. a ≡ Act.Taken → length self.new.tasks.due < length self.old.tasks.due) }
+        ensures fewer { IfOk result (λ a. a ≡ Act.Taken → waiting self.new.tasks < waiting self.old.tasks) }
         ensures params { self.new.params ≡ self.old.params }
         ensures err { OnErr result (self.new ≡ self.old) }
         ensures out_err { OnErr result (out.new.items ≡ out.old.items) }
@@ -92,14 +92,14 @@ impl Session {
         requires short { IsShort told.piece }
         requires room { room_to_tell told.piece ≤ out.old.spare }
         ensures act { 0 < length self.old.tasks.due → result ≡ Act.Taken }
-        ensures stands { (past : Past) (k : ℕ) (others : List ℕ) → Stands past self.old → due past ≡ k ∷ others
+        ensures stands { (luns : List ℕ) (past : Past) (k : ℕ) (others : List ℕ) → Stands past self.old → due past ≡ k ∷ others
             → is_text_in (frame_of past.came k) ≡ true → told ≡ hears self.old.exchange (frame_of past.came k) self.old.params
-            → Stands (acted k past) self.new }
-        ensures out { (past : Past) (k : ℕ) (others : List ℕ) → Stands past self.old → due past ≡ k ∷ others
+            → Stands (acted luns k past) self.new }
+        ensures out { (luns : List ℕ) (past : Past) (k : ℕ) (others : List ℕ) → Stands past self.old → due past ≡ k ∷ others
             → is_text_in (frame_of past.came k) ≡ true → told ≡ hears self.old.exchange (frame_of past.came k) self.old.params
-            → out.new.items ≡ out.old.items ++ flat_map spelling (act_answers k past) }
+            → out.new.items ≡ out.old.items ++ flat_map spelling (act_answers luns k past) }
         ensures grows { (more : List ℕ) × (out.new.items ≡ out.old.items ++ more) }
-        ensures fewer { result ≡ Act.Taken → length self.new.tasks.due < length self.old.tasks.due }
+        ensures fewer { result ≡ Act.Taken → waiting self.new.tasks < waiting self.old.tasks }
         ensures params { self.new.params ≡ self.old.params }
     {
         let Some(frame) = self.tasks.finish_due() else {

@@ -6,9 +6,10 @@ ghost use Rattle.iscsi_transfer.specs.Task.{command_fault, remembered as task_of
 ghost use Rattle.iscsi_session.specs.Transfers.{r2t_for};
 ghost use Rattle.iscsi_session.specs.declared.transfers.Transfer.{Transfer};
 ghost use Rattle.iscsi_session.specs.declared.verdict.Verdict.TheVariants.{Feeding};
-ghost use Rattle.iscsi_session.specs.State.{no_transfers, place_with, immediate_transfers, judged_at, fed_at, whole_at, payload_at, removed_at, place_for, begun_transfer, due_of, asking_place, r2t_at, asked_at};
+ghost use Rattle.iscsi_session.specs.State.{no_transfers, place_with, immediate_transfers, judged_at, fed_at, whole_at, payload_at, removed_at, place_for, begun_transfer, due_of, asking_place, r2t_at, asked_at, reaches_some, transfers_without};
 
 use crate::fault::Memory;
+use crate::reach::Reach;
 use crate::verdict::Verdict;
 use iscsi_login::Values;
 use iscsi_pdu::{Frame, Header, R2t, Stamp};
@@ -178,6 +179,27 @@ impl Transfers {
     {
         if let Some(place) = self.place_of(tag) {
             self.list.remove(place);
+        }
+    }
+
+    /// A Task Management Function Request reaches one.
+    pub(crate) fn has_reached(&self, reach: &Reach) -> bool
+        ensures { result ≡ reaches_some reach.now self.now.list }
+    {
+        self.list.iter().any(|transfer| reach.has(&transfer.header))
+    }
+
+    /// The commands that a Task Management Function Request reaches are removed.
+    pub(crate) fn remove(&mut self, reach: &Reach)
+        ensures { self.new ≡ record self.old { list = transfers_without reach.now self.old.list } }
+    {
+        let mut place = 0;
+        while place < self.list.len() {
+            if reach.has(&self.list[place].header) {
+                self.list.remove(place);
+            } else {
+                place += 1;
+            }
         }
     }
 

@@ -1,6 +1,5 @@
 -- A call of a session, as a call of the target.
 use Rattle.std.proofs.Common.{◌≡◌, ℕ, ◌<◌, List, [], ◌∷◌, ◌++◌, map, Bool, true, false, ◌&&◌, ◌||◌, Option, Some, None, refl, sym, ap, ◌∙◌, subst}
-use Rattle.std.specs.Prelude.{slice_set}
 use Rattle.std.specs.List.{list_any, list_all}
 use Rattle.std.proofs.lemmas.List.{map-append}
 use Rattle.std.proofs.lemmas.List.Folds.{list_any-append}
@@ -10,11 +9,11 @@ use Rattle.scsi_unit.specs.Units.{UnitStates}
 use Rattle.iscsi_session.specs.Requests.{Past}
 use Rattle.iscsi_session.specs.State.{SessionState, IsLawful, remembered}
 use Rattle.iscsi_session.specs.Steps.{Step, Judging, Taking, Asking, Doing, is_of, is_doing, is_serving, Work, served, settled}
-use Rattle.iscsi_session.specs.Runs.{Starts, is_failed, IsReached, Runs}
+use Rattle.iscsi_session.specs.Runs.{output, Starts, is_failed, IsReached, Runs}
 use Rattle.iscsi_session.proofs.Steps.{served_agrees, settled_agrees}
 use Rattle.iscsi_login.specs.Session.{is_same_target}
 use Rattle.iscsi_target.specs.History.{Point, Before, Mark, is_same, connection_limit}
-use Rattle.iscsi_target.specs.World.{Setting, World, present, past_of, is_marked, fails, work_of, changed, close, worked_on, worked, served_by, take_in, settled_by, settle_one, units_at, with_units}
+use Rattle.iscsi_target.specs.World.{Setting, World, present, past_of, is_marked, fails, work_of, changed, close, worked_on, worked, served_by, take_in, settled_by, settle_one, units_at, with_units, orders_by, orders_in}
 use Rattle.iscsi_target.specs.Machine.{Machine, IsSound, link_at, with_link}
 use Rattle.iscsi_target.specs.Stands.{IsQuiet, IsQuietIn, are_reached}
 use Rattle.iscsi_target.specs.Serving.{Serves, Begins, Agrees, Does, kept, is_taken_at, is_done_by, SettlesOne}
@@ -36,7 +35,7 @@ abbrev pub starved_if : Option (ℕ → Step) → ℕ → Option ℕ
 starved_if None c = None
 starved_if (Some step) c = Some c
 
-begins_if : (failed : Option (ℕ → Step)) (c place : ℕ) → Begins (starved_if failed c) (marks_of c failed place)
+pub begins_if : (failed : Option (ℕ → Step)) (c place : ℕ) → Begins (starved_if failed c) (marks_of c failed place)
 begins_if None c place = refl
 begins_if (Some step) c place = refl
 
@@ -75,7 +74,7 @@ reached_on (Some step) c place work w r =
     ap (λ (l : List Mark). list_any (is_same m) (w.reached ++ l)) split ∙ last_there m w.reached (points c r.0) in
     ap (λ (b : Bool). b && true) here
 
-reached_by : (b : Bool) (failed : Option (ℕ → Step)) (c place : ℕ) (work : Work) (w : World) → work.goes_on ≡ b → IsReached failed place work
+pub reached_by : (b : Bool) (failed : Option (ℕ → Step)) (c place : ℕ) (work : Work) (w : World) → work.goes_on ≡ b → IsReached failed place work
     → are_reached (marks_of c failed place) (worked c work w) ≡ true
 unfolding worked
 reached_by true failed c place work w e r = rw e (reached_on failed c place work w r)
@@ -90,15 +89,16 @@ pub record Calls (run : (Step → Bool) → ℕ → Work → Work) (failed : Opt
   pub state : SessionState
   pub then_ : SessionState
   pub waiting : List ℕ
+  pub orders : List (List ℕ)
   pub units : UnitStates
   pub units_then : UnitStates
   pub phase : (link_at given c).phase ≡ phases.FullFeature state
   pub target : units_at state.params.target given.units ≡ units
-  pub runs : IsSound after → Runs run failed goes_on state then_ (link_at given c).waiting waiting units units_then
+  pub runs : IsSound after → Runs run failed goes_on state then_ (output (link_at given c).waiting []) (output waiting orders) units units_then
   pub is : after ≡ left_by goes_on c (record (with_link given c (session_link then_ waiting (link_at given c)))
       { units = with_units state.params.target units_then given.units })
 
-params_same : (past : Past) → (remembered past).params ≡ past.params
+pub params_same : (past : Past) → (remembered past).params ≡ past.params
 params_same past = refl
 
 lawful_there : (s : Setting) (sent : ℕ → ℕ) (half : ℕ → List ℕ) (w : World) (machine : Machine) (c : ℕ) (past : Past) → c < connection_limit
@@ -107,7 +107,7 @@ lawful_there s sent half w machine c past lt h a =
     let quiet : IsQuiet (Some a.life) = (let q = h.quiet c lt in rw a.at at q) in
     subst IsQuietIn a.phase quiet
 
-starts : (s : Setting) (sent : ℕ → ℕ) (half : ℕ → List ℕ) (w : World) (machine : Machine) (c : ℕ) (past : Past) (state : SessionState)
+pub starts : (s : Setting) (sent : ℕ → ℕ) (half : ℕ → List ℕ) (w : World) (machine : Machine) (c : ℕ) (past : Past) (state : SessionState)
     (units : UnitStates) → c < connection_limit → Serves s sent half w machine → IsAtWork w c past
     → state ≡ remembered past → units_at state.params.target machine.units ≡ units → Starts (work_of past w) state units
 starts s sent half w machine c past state units lt h a is target = record {
@@ -119,7 +119,7 @@ starts s sent half w machine c past state units lt h a is target = record {
   goes_on = refl;
 }
 
-pub call_does : (kind : ℕ → Mark → Bool) (act : Act) (run : (Step → Bool) → ℕ → Work → Work) (failed : Option (ℕ → Step)) (goes_on : Bool) (c : ℕ)
+unfoldable pub call_does : (kind : ℕ → Mark → Bool) (act : Act) (run : (Step → Bool) → ℕ → Work → Work) (failed : Option (ℕ → Step)) (goes_on : Bool) (c : ℕ)
     (given after : Machine) → (k : Calls run failed goes_on c given after)
     → ((s : Setting) (marks : List Mark) (place : ℕ) (w : World) (past : Past) → past_of (present c w) ≡ Some past → past.params ≡ k.state.params
     → act s marks place w ≡ worked c (run (fails marks c) place (work_of past w)) w)
@@ -143,7 +143,7 @@ call_does kind act run failed goes_on c given after k acts agrees of_kind = reco
       let params : past.params ≡ k.state.params = sym (ap (λ (x : SessionState). x.params) there.2 ∙ params_same past) in
       let is : act s marks place w ≡ worked c work w =
       acts s marks place w past (past_at w c past there.1) params ∙ ap (λ (x : Work). worked c x w) (agrees place marks (work_of past w) agree) in
-      let serves = serves_worked s sent half w given c past work k.then_ k.waiting k.units_then goes_on k.in_range h there.1 leaves ends in
+      let serves = serves_worked s sent half w given c past work k.then_ k.waiting k.orders k.units_then goes_on k.in_range h there.1 leaves ends in
       let same = k.is ∙ ap (λ (p : Params). left_by goes_on c (record (with_link given c (session_link k.then_ k.waiting (link_at given c)))
       { units = with_units p.target k.units_then given.units })) (sym params) in
       rw (is, same) (serves, reached_by goes_on failed c place work w ends reached));
@@ -171,7 +171,7 @@ settle_agrees failed c place marks work agree =
     settled_agrees (fails marks c) (is_failed failed place) place work
     (λ k. step_there (is_done_by c) failed c place marks (Doing place k) agree (rw (eqb_self c, eqb_self place) refl))
 
-serve_acts : (c : ℕ) (frame : Frame) (marks : List Mark) (place : ℕ) (w : World) (past : Past) → past_of (present c w) ≡ Some past
+pub serve_acts : (c : ℕ) (frame : Frame) (marks : List Mark) (place : ℕ) (w : World) (past : Past) → past_of (present c w) ≡ Some past
     → take_in marks c place frame w ≡ worked c (served (fails marks c) place frame (work_of past w)) w
 unfolding take_in
 serve_acts c frame marks place w past at = ap (λ (o : Option Past). served_by o marks c place frame w) at
@@ -185,7 +185,7 @@ settle_acts c target marks place w past at same =
     (ap (λ (t : Option ℕ). is_same_target t (Some target)) same ∙ eqb_self target)
 
 -- a frame was served by the session of a connection
-pub serves_does : (failed : Option (ℕ → Step)) (goes_on : Bool) (c : ℕ) (frame : Frame) (given after : Machine)
+unfoldable pub serves_does : (failed : Option (ℕ → Step)) (goes_on : Bool) (c : ℕ) (frame : Frame) (given after : Machine)
     → Calls (λ f place. served f place frame) failed goes_on c given after
     → ((place : ℕ) → list_all (is_taken_at place) (marks_of c failed place) ≡ true)
     → Does is_taken_at (λ s marks place w. take_in marks c place frame w) kept (starved_if failed c) given after
@@ -193,6 +193,21 @@ serves_does failed goes_on c frame given after k of_kind =
     call_does is_taken_at (λ s marks place w. take_in marks c place frame w) (λ f place. served f place frame) failed goes_on c given after k
     (λ s marks place w past at params. serve_acts c frame marks place w past at)
     (λ place marks work agree. serve_agrees failed c frame place marks work agree) of_kind
+
+-- the functions that acted in it
+pub served_orders : (s : Setting) (sent : ℕ → ℕ) (half : ℕ → List ℕ) (w : World) (given middle : Machine) (c : ℕ) (frame : Frame)
+    (failed : Option (ℕ → Step)) (goes_on : Bool) (place : ℕ) (marks : List Mark)
+    → (k : Calls (λ f place. served f place frame) failed goes_on c given middle) → IsSound middle
+    → Agrees (is_taken_at place) marks (marks_of c failed place) → Serves s sent half w given → orders_in marks c place frame w ≡ k.orders
+unfolding orders_in
+served_orders s sent half w given middle c frame failed goes_on place marks k sound agree h =
+    let there = at_work s sent half w given c k.state k.in_range h k.phase in
+    let past = there.0 in
+    let begin = starts s sent half w given c past k.state k.units k.in_range h there.1 there.2 k.target in
+    let leaves = (k.runs sound).leads place (is_failed failed place) (work_of past w) (λ step of. refl) begin in
+    ap (λ (o : Option Past). orders_by o marks c place frame w) (past_at w c past there.1)
+    ∙ ap (λ (x : Work). x.orders) (serve_agrees failed c frame place marks (work_of past w) agree)
+    ∙ leaves.acted ∙ sym leaves.ordered
 
 -- its commands were done
 pub settles_does : (failed : Option (ℕ → Step)) (goes_on : Bool) (c target : ℕ) (given after : Machine)

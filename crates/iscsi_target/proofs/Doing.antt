@@ -19,7 +19,7 @@ Halves = (ℕ → List ℕ) → ℕ → List ℕ
 
 -- ---- which connection was closed first
 
-begins_both : (a b : Option ℕ) (xs ys : List Mark) → Begins a xs → Begins b ys → Begins (first_of a b) (xs ++ ys)
+pub begins_both : (a b : Option ℕ) (xs ys : List Mark) → Begins a xs → Begins b ys → Begins (first_of a b) (xs ++ ys)
 begins_both None b xs ys none h = subst (λ (l : List Mark). Begins b (l ++ ys)) (sym none) h
 begins_both (Some c) b [] ys h g = absurd h
 begins_both (Some c) b (m ∷ xs) ys h g = h
@@ -77,7 +77,7 @@ does_starved kind act halves a b given after e d = let P : Option ℕ → Type 0
 
 -- ---- one call after the other
 
-pub does_then : (one two both : ℕ → Mark → Bool) (act_one act_two : Act) (halves_one halves_two : Halves) (a b : Option ℕ) (given middle after : Machine)
+unfoldable pub does_then : (one two both : ℕ → Mark → Bool) (act_one act_two : Act) (halves_one halves_two : Halves) (a b : Option ℕ) (given middle after : Machine)
     → ((place : ℕ) → Apart (one place) (two place)) → ((place : ℕ) → Apart (two place) (one place)) → ((place : ℕ) → Wider (one place) (both place))
     → ((place : ℕ) → Wider (two place) (both place))
     → (IsSound after → IsSound middle) → ((s : Setting) (marks : List Mark) (place : ℕ) (w : World) → Goes w (act_two s marks place w))

@@ -13,20 +13,20 @@ use Rattle.iscsi_session.specs.Steps.{Step, served}
 use Rattle.iscsi_login.specs.Directory.{KnownTargets}
 use Rattle.iscsi_target.specs.History.{Point, Arriving, Mark, Arrival, Whole, connection_limit}
 use Rattle.iscsi_target.specs.Life.{Life, Phase, LoggingIn, FullFeature, Closing, Over, reads}
-use Rattle.iscsi_target.specs.World.{Setting, World, present, reads_life, is_marked, close, reaching, take_step, log_in, take_in, settle_one, settle, serve, is_login, taken_in, taken_by, comes, arrive, settle_for}
+use Rattle.iscsi_target.specs.World.{Setting, World, present, reads_life, is_marked, close, reaching, take_step, log_in, take_in, settle_one, settle, serve, is_login, taken_in, taken_by, comes, arrive, settle_for, carry_out_for, orders_in}
 use Rattle.iscsi_target.specs.Machine.{LinkState, Machine, IsSound, link_at, is_reading, closed, logged_in}
 use Rattle.iscsi_target.specs.Stands.{phase_for, link_of, are_reached}
-use Rattle.iscsi_target.specs.Serving.{Serves, Agrees, Does, kept, first_of, is_of_frame, is_taken_at, is_done_at, is_done_by, is_done_below, Takes, Settles, SettlesOne, SettlesFor}
+use Rattle.iscsi_target.specs.Serving.{Serves, Agrees, Does, CarriesOut, kept, is_of_none, first_of, is_of_frame, is_taken_at, is_done_at, is_done_by, is_done_below, Takes, Settles, SettlesOne, SettlesFor}
 use Rattle.iscsi_target.specs.declared.phase.Phase.TheVariants as phases
 use Rattle.iscsi_target.proofs.Choices.{eqb_self, cond_true, cond_false, and_true, and_false}
 use Rattle.iscsi_target.proofs.Lists.{range_next}
 use Rattle.iscsi_target.proofs.Linked.{link_is, reads_there, some_reads, closes, present-reaching, serves_as, serves_world, serves_reaching}
 use Rattle.iscsi_target.proofs.LoggingIn.{Entering, logs_in}
-use Rattle.iscsi_target.proofs.Marks.{mark_at, marked_one, marked_none, unmarked, Apart, Wider, all_wider, is_step_at, taken_done, done_taken, taken_step, done_step, step_within}
+use Rattle.iscsi_target.proofs.Marks.{mark_at, marked_one, marked_none, unmarked, Apart, Wider, agrees_left, all_wider, is_step_at, taken_done, done_taken, taken_step, done_step, step_within}
 use Rattle.iscsi_target.proofs.Working.{at_work}
-use Rattle.iscsi_target.proofs.Keeping.{on-close, on-settle, on-settle_one, on-settle_for}
+use Rattle.iscsi_target.proofs.Keeping.{on-then, on-close, on-settle_one, on-settle_for, on-carry_out_for}
 use Rattle.iscsi_target.proofs.Doing.{still_reached, does_nothing, does_as, does_then}
-use Rattle.iscsi_target.proofs.AtWork.{last_there, marks_of, starved_if, Calls, serves_does}
+use Rattle.iscsi_target.proofs.AtWork.{last_there, marks_of, starved_if, Calls, call_does, serves_does, served_orders}
 
 -- ---- a connection that does not read
 
@@ -178,18 +178,32 @@ takes_starved given after c frame lt r is = starves given after c (Whole frame) 
 target_same : (past : Past) → (session_remembered past).params.target ≡ past.params.target
 target_same past = refl
 
--- its session served the frame, and then the sessions of its target were settled
-pub takes_served : (c : ℕ) (target : Option ℕ) (frame : Frame) (given middle after : Machine) (failed : Option (ℕ → Step)) (goes_on : Bool) (starved : Option ℕ)
+-- the functions that acted were carried out, and then the sessions of the target were settled
+abbrev pub Finishes : ℕ → Option ℕ → List (List ℕ) → Option ℕ → Machine → Machine → Type 0
+Finishes c target orders starved middle after =
+    Does is_done_at (λ s marks place w. settle_for marks place target (carry_out_for c target orders w)) kept starved middle after
+
+pub finishes : (c : ℕ) (target : Option ℕ) (orders : List (List ℕ)) (starved : Option ℕ) (middle carried after : Machine) → (IsSound after → IsSound carried)
+    → CarriesOut (carry_out_for c target orders) middle carried → SettlesFor target starved carried after → Finishes c target orders starved middle after
+finishes c target orders starved middle carried after back carries settles =
+    does_then is_of_none is_done_at is_done_at (λ s marks place w. carry_out_for c target orders w) (λ s marks place w. settle_for marks place target w)
+    kept kept None starved middle carried after (λ place mark e. absurd cc) (λ place mark e. refl) (λ place mark e. absurd cc) (λ place mark e. e) back
+    (λ s marks place w. on-settle_for marks place target w) carries settles
+
+-- its session served the frame
+pub takes_served : (c : ℕ) (target : Option ℕ) (frame : Frame) (orders : List (List ℕ)) (given middle after : Machine) (failed : Option (ℕ → Step))
+    (goes_on : Bool) (starved : Option ℕ)
     → (k : Calls (λ f place. served f place frame) failed goes_on c given middle)
-    → k.state.params.target ≡ target → ((place : ℕ) → list_all (is_taken_at place) (marks_of c failed place) ≡ true)
-    → (IsSound after → IsSound middle) → SettlesFor target starved middle after
+    → k.orders ≡ orders → k.state.params.target ≡ target → ((place : ℕ) → list_all (is_taken_at place) (marks_of c failed place) ≡ true)
+    → (IsSound after → IsSound middle) → Finishes c target orders starved middle after
     → Takes c frame (first_of (starved_if failed c) starved) given after
-unfolding serve
-takes_served c target frame given middle after failed goes_on starved k same of_kind back settles =
+unfolding serve does_then serves_does call_does
+takes_served c target frame orders given middle after failed goes_on starved k ordered same of_kind back second =
     let both = does_then is_taken_at is_done_at is_step_at (λ s marks place w. take_in marks c place frame w)
-    (λ s marks place w. settle_for marks place target w) kept kept (starved_if failed c) starved given middle after
-    taken_done done_taken taken_step done_step back (λ s marks place w. on-settle_for marks place target w)
-    (serves_does failed goes_on c frame given middle k of_kind) settles in
+    (λ s marks place w. settle_for marks place target (carry_out_for c target orders w)) kept kept (starved_if failed c) starved given middle after
+    taken_done done_taken taken_step done_step back (λ s marks place w. on-then w (carry_out_for c target orders w) _
+    (on-carry_out_for c target orders w) (on-settle_for marks place target (carry_out_for c target orders w)))
+    (serves_does failed goes_on c frame given middle k of_kind) second in
     record {
       failed = both.failed;
       first = both.first;
@@ -202,11 +216,17 @@ takes_served c target frame given middle after failed goes_on starved k same of_
           let free : is_marked marks c (Arriving place) ≡ false =
           agree (mark_at c (Arriving place)) (eqb_self place) ∙ unmarked (is_step_at place) (both.failed place) (mark_at c (Arriving place))
           (both.of_kind place) (and_false (eqb place place)) in
+          let here = serves_reaching s sent half w given c (Arriving place ∷ []) h in
+          let inner : Agrees (is_step_at place) marks (both.failed place) = λ mark is. agree mark (step_within place mark is) in
+          let acted : orders_in marks c place frame v ≡ orders =
+          served_orders s sent half v given middle c frame failed goes_on place marks k (back sound)
+          (agrees_left (is_taken_at place) (is_done_at place) (is_step_at place) marks (marks_of c failed place) (second.failed place)
+          (taken_done place) (taken_step place) (second.of_kind place) inner) here ∙ ordered in
           let step = arrived_free s marks c w place (Whole frame) (ap reads_life a.at ∙ ap reads a.phase) free
           ∙ arrived_in s marks c w place frame a.life (FullFeature there.0) a.at a.phase
-          ∙ ap (λ (t : Option ℕ). settle_for marks place t (take_in marks c place frame v)) target_is in
-          rw step (both.stands sound s sent half v place marks (λ mark is. agree mark (step_within place mark is))
-          (serves_reaching s sent half w given c (Arriving place ∷ []) h)));
+          ∙ ap (λ (t : Option ℕ). settle_for marks place t (carry_out_for c t (orders_in marks c place frame v) (take_in marks c place frame v))) target_is
+          ∙ ap (λ (os : List (List ℕ)). settle_for marks place target (carry_out_for c target os (take_in marks c place frame v))) acted in
+          rw step (both.stands sound s sent half v place marks inner here));
     }
 
 -- ---- the sessions of a target are settled, one after the other

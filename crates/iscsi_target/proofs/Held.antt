@@ -1,15 +1,15 @@
 -- A session's call, as the code makes it: on the link that is borrowed from the list.
-use Rattle.std.proofs.Common.{◌≡◌, ◌≢◌, ℕ, ◌<◌, List, [], ◌++◌, length, set, get_or, Bool, true, false, cond, eqb, Option, Some, None, refl, sym, ap, ◌∙◌, subst, arith}
+use Rattle.std.proofs.Common.{◌≡◌, ◌≢◌, ℕ, ◌<◌, List, [], ◌++◌, length, set, get_or, Bool, true, false, cond, Option, Some, None, refl, sym, ap, ◌∙◌, subst, arith}
 use Rattle.std.specs.Prelude.{All, slice_set, Result, Ok, Err, IfOk, OnErr}
 use Rattle.iscsi_pdu.specs.Frames.{Frame}
 use Rattle.std.specs.List.{list_all}
 use Rattle.std.proofs.lemmas.Bool.{ne_eqb, eqb-true, eq-eqb}
 use Rattle.std.proofs.lemmas.List.{length-set, set-get_or, get_or-set_same}
-use Rattle.scsi_unit.specs.Units.{UnitStates, AreSound, AreSure}
+use Rattle.scsi_unit.specs.Units.{UnitStates, AreSound, AreSure, numbers_of}
 use Rattle.iscsi_session.specs.Requests.{Past}
 use Rattle.iscsi_session.specs.State.{SessionState, remembered}
 use Rattle.iscsi_session.specs.Steps.{Step, Work, is_serving, served, settled}
-use Rattle.iscsi_session.specs.Runs.{Runs, Stops}
+use Rattle.iscsi_session.specs.Runs.{Output, output, Runs, Stops}
 use Rattle.iscsi_login.specs.Directory.{KnownTargets}
 use Rattle.iscsi_login.specs.Session.{is_same_target}
 use Rattle.iscsi_login.specs.LoginState.{IsTargetBelow}
@@ -27,7 +27,7 @@ use Rattle.iscsi_target.proofs.Linked.{link_is, serves_world}
 use Rattle.iscsi_target.proofs.Working.{left_by}
 use Rattle.iscsi_target.proofs.Doing.{does_nothing}
 use Rattle.iscsi_target.proofs.AtWork.{marks_of, starved_if, Calls, settles_does, serve_kind}
-use Rattle.iscsi_target.proofs.Frames.{takes_served}
+use Rattle.iscsi_target.proofs.Frames.{Finishes, takes_served}
 use Rattle.iscsi_target.proofs.Moving.{length_with, IsOwn, own_self, changes_moves, session_changes, session_half, units_back, units_sure, moves_as, moves_then, closed_moves, starved_moves}
 
 abbrev pub viewed : List ℕ → CodePhase → List ℕ → LinkState
@@ -44,11 +44,11 @@ held_same links c view e = ap (set links c) e ∙ set-get_or links c free_link
 
 -- ---- nothing is to be done
 
-abbrev IsOther : ℕ → CodePhase → Type 0
+abbrev pub IsOther : ℕ → CodePhase → Type 0
 IsOther target phase = (state : SessionState) → phase ≡ phases.FullFeature state → state.params.target ≢ Some target
 
 -- a session with another target, or with none
-not_same : (o : Option ℕ) (target : ℕ) → o ≢ Some target → is_same_target o (Some target) ≡ false
+pub not_same : (o : Option ℕ) (target : ℕ) → o ≢ Some target → is_same_target o (Some target) ≡ false
 not_same None target differ = refl
 not_same (Some t) target differ = ne_eqb t target (λ same. differ (ap (λ (n : ℕ). Some n) same))
 
@@ -60,7 +60,7 @@ pub other_target : (o : Option ℕ) (target : ℕ) → is_same_target o (Some ta
 other_target o target e same = let is : is_same_target (Some target) (Some target) ≡ false = ap (λ (t : Option ℕ). is_same_target t (Some target)) (sym same) ∙ e in
     absurd (cc (is, eq-eqb target target refl))
 
-target_is : (past : Past) → (remembered past).params.target ≡ past.params.target
+pub target_is : (past : Past) → (remembered past).params.target ≡ past.params.target
 target_is past = refl
 
 other_in : (directory : KnownTargets) (marks : List Mark) (place target c : ℕ) (w : World) (life : Life) (phase : Phase)
@@ -96,29 +96,31 @@ settles_for_none machine = does_nothing is_done_at (λ s marks place w. settle_f
 
 -- ---- a call
 
-reads_in : (phase : CodePhase) (state : SessionState) → phase ≡ phases.FullFeature state → is_reading phase ≡ true
+pub reads_in : (phase : CodePhase) (state : SessionState) → phase ≡ phases.FullFeature state → is_reading phase ≡ true
 reads_in phase state e = ap is_reading e
 
-pub session_calls : (run : (Step → Bool) → ℕ → Work → Work) (failed : Option (ℕ → Step)) (goes_on : Bool) (c : ℕ) (machine after : Machine)
-    (framer : List ℕ) (phase : CodePhase) (before waiting : List ℕ)
+unfoldable pub session_calls : (run : (Step → Bool) → ℕ → Work → Work) (failed : Option (ℕ → Step)) (goes_on : Bool) (c : ℕ) (machine after : Machine)
+    (framer : List ℕ) (phase : CodePhase) (before waiting : List ℕ) (orders : List (List ℕ))
     (state then_ : SessionState) (units units_then : UnitStates) → c < connection_limit → viewed framer phase before ≡ link_at machine c
-    → phase ≡ phases.FullFeature state
-    → units_at state.params.target machine.units ≡ units → (IsSound after → Runs run failed goes_on state then_ before waiting units units_then)
+    → phase ≡ phases.FullFeature state → units_at state.params.target machine.units ≡ units
+    → (IsSound after → Runs run failed goes_on state then_ (output before []) (output waiting orders) units units_then)
     → after ≡ left_by goes_on c (record machine {
       units = with_units state.params.target units_then machine.units;
       links = slice_set machine.links c (viewed framer (phases.FullFeature then_) waiting);
     })
     → Calls run failed goes_on c machine after
-session_calls run failed goes_on c machine after framer phase before waiting state then_ units units_then lt link is target runs e = record {
+session_calls run failed goes_on c machine after framer phase before waiting orders state then_ units units_then lt link is target runs e = record {
   in_range = lt;
   state = state;
   then_ = then_;
   waiting = waiting;
+  orders = orders;
   units = units;
   units_then = units_then;
   phase = ap (λ (l : LinkState). l.phase) (sym link) ∙ is;
   target = target;
-  runs = λ sound. subst (λ (b : List ℕ). Runs run failed goes_on state then_ b waiting units units_then) (ap (λ (l : LinkState). l.waiting) link) (runs sound);
+  runs = λ sound. subst (λ (b : List ℕ). Runs run failed goes_on state then_ (output b []) (output waiting orders) units units_then)
+      (ap (λ (l : LinkState). l.waiting) link) (runs sound);
   is = e ∙ ap (λ (half : List ℕ). left_by goes_on c (record machine {
     units = with_units state.params.target units_then machine.units;
     links = slice_set machine.links c (record { half = half; phase = phases.FullFeature then_; waiting = waiting });
@@ -185,22 +187,22 @@ settle_moves b c target machine framer phase before waiting state then_ units un
 abbrev pub called : Machine → ℕ → Option ℕ → UnitStates → LinkState → Machine
 called machine c target units link = record machine { units = with_units target units machine.units; links = slice_set machine.links c link }
 
-called_at : (machine : Machine) (c : ℕ) (a b : Option ℕ) (units : UnitStates) (link : LinkState) → a ≡ b → called machine c a units link ≡ called machine c b units link
+pub called_at : (machine : Machine) (c : ℕ) (a b : Option ℕ) (units : UnitStates) (link : LinkState) → a ≡ b → called machine c a units link ≡ called machine c b units link
 called_at machine c a b units link e = ap (λ (t : Option ℕ). called machine c t units link) e
 
 -- the commands of a session of this target were done, or those before one
 pub settle_does : (failed : Option (ℕ → Step)) (goes_on : Bool) (c target : ℕ) (machine after : Machine) (framer : List ℕ) (phase : CodePhase)
     (before waiting : List ℕ)
     (state then_ : SessionState) (units units_then : UnitStates) → c < connection_limit → viewed framer phase before ≡ link_at machine c
-    → phase ≡ phases.FullFeature state → state.params.target ≡ Some target
-    → units_at state.params.target machine.units ≡ units → (IsSound after → Runs settled failed goes_on state then_ before waiting units units_then)
+    → phase ≡ phases.FullFeature state → state.params.target ≡ Some target → units_at state.params.target machine.units ≡ units
+    → (IsSound after → Runs settled failed goes_on state then_ (output before []) (output waiting []) units units_then)
     → ((place : ℕ) → list_all (is_done_by c place) (marks_of c failed place) ≡ true)
     → after ≡ left_by goes_on c (called machine c (Some target) units_then (viewed framer (phases.FullFeature then_) waiting))
     → SettlesOne target c (starved_if failed c) machine after
 unfolding session_calls
 settle_does failed goes_on c target machine after framer phase before waiting state then_ units units_then lt link is same at runs kind e =
     settles_does failed goes_on c target machine after
-    (session_calls settled failed goes_on c machine after framer phase before waiting state then_ units units_then lt link is at runs
+    (session_calls settled failed goes_on c machine after framer phase before waiting [] state then_ units units_then lt link is at runs
     (e ∙ ap (left_by goes_on c) (called_at machine c (Some target) state.params.target units_then (viewed framer (phases.FullFeature then_) waiting)
     (sym same)))) same kind
 
@@ -213,41 +215,48 @@ same_units machine c None link = refl
 same_units machine c (Some target) link = ap (λ (all : List UnitStates). let m : Machine =
     record { directory = machine.directory; units = all; links = slice_set machine.links c link } in m) (set-get_or machine.units target [])
 
-abbrev pub Served : Frame → Option (ℕ → Step) → Bool → SessionState → SessionState → List ℕ → List ℕ → Type 0
-Served frame failed goes_on state then_ before waiting = (units : UnitStates)
+abbrev pub Served : Frame → List ℕ → Option (ℕ → Step) → Bool → SessionState → SessionState → Output → Output → Type 0
+Served frame luns failed goes_on state then_ before waiting = (units : UnitStates) → luns ≡ numbers_of units
     → Runs (λ fails place. served fails place frame) failed goes_on state then_ before waiting units units
 
-serve_takes_by : (failed : Option (ℕ → Step)) (goes_on : Bool) (c : ℕ) (target : Option ℕ) (frame : Frame) (machine middle after : Machine) (framer : List ℕ)
-    (phase : CodePhase) (before waiting : List ℕ)
-    (state then_ : SessionState) (starved : Option ℕ) → c < connection_limit → viewed framer phase before ≡ link_at machine c
-    → phase ≡ phases.FullFeature state → state.params.target ≡ target
-    → Served frame failed goes_on state then_ before waiting → ((place : ℕ) → list_all (is_taken_at place) (marks_of c failed place) ≡ true)
+serve_takes_by : (failed : Option (ℕ → Step)) (goes_on : Bool) (c : ℕ) (target : Option ℕ) (frame : Frame) (luns : List ℕ) (orders : List (List ℕ))
+    (machine middle after : Machine) (framer : List ℕ) (phase : CodePhase) (before waiting : List ℕ) (state then_ : SessionState) (starved : Option ℕ)
+    → c < connection_limit → viewed framer phase before ≡ link_at machine c
+    → phase ≡ phases.FullFeature state → state.params.target ≡ target → luns ≡ numbers_of (units_at target machine.units)
+    → Served frame luns failed goes_on state then_ (output before []) (output waiting orders) → ((place : ℕ) → list_all (is_taken_at place) (marks_of c failed place) ≡ true)
     → middle ≡ left_by goes_on c (with_link machine c (viewed framer (phases.FullFeature then_) waiting)) → (IsSound after → IsSound middle)
-    → SettlesFor target starved middle after
+    → Finishes c target orders starved middle after
     → Takes c frame (first_of (starved_if failed c) starved) machine after
 unfolding session_calls
-serve_takes_by failed goes_on c target frame machine middle after framer phase before waiting state then_ starved lt link is same runs kind e back settles =
+serve_takes_by failed goes_on c target frame luns orders machine middle after framer phase before waiting state then_ starved lt link is same numbers runs
+    kind e back finish =
     let units = units_at state.params.target machine.units in
-    takes_served c target frame machine middle after failed goes_on starved
-    (session_calls (λ f place. served f place frame) failed goes_on c machine middle framer phase before waiting state then_ units units lt link is
-    refl (λ sound. runs units)
-    (e ∙ ap (left_by goes_on c) (sym (same_units machine c state.params.target (viewed framer (phases.FullFeature then_) waiting))))) same kind back settles
+    let known : luns ≡ numbers_of units = numbers ∙ ap (λ (t : Option ℕ). numbers_of (units_at t machine.units)) (sym same) in
+    takes_served c target frame orders machine middle after failed goes_on starved
+    (session_calls (λ f place. served f place frame) failed goes_on c machine middle framer phase before waiting orders state then_ units units lt
+    link is refl (λ sound. runs units known)
+    (e ∙ ap (left_by goes_on c) (sym (same_units machine c state.params.target (viewed framer (phases.FullFeature then_) waiting)))))
+    refl same kind back finish
 
-pub serve_takes : {E : Type 0} (r : Result Bool E) (c : ℕ) (target : Option ℕ) (frame : Frame) (machine middle after : Machine) (framer : List ℕ)
-    (phase : CodePhase) (before waiting : List ℕ)
-    (state then_ : SessionState) (starved : Option ℕ) → c < connection_limit → viewed framer phase before ≡ link_at machine c
-    → phase ≡ phases.FullFeature state → state.params.target ≡ target
-    → IfOk r (λ goes_on. Served frame None goes_on state then_ before waiting)
-    → OnErr r (Stops is_serving (λ failed. Served frame failed false state then_ before waiting))
+pub serve_takes : {E : Type 0} (r : Result Bool E) (c : ℕ) (target : Option ℕ) (frame : Frame) (luns : List ℕ) (none orders : List (List ℕ))
+    (machine middle after : Machine) (framer : List ℕ) (phase : CodePhase) (before waiting : List ℕ) (state then_ : SessionState) (starved : Option ℕ)
+    → c < connection_limit → viewed framer phase before ≡ link_at machine c
+    → phase ≡ phases.FullFeature state → state.params.target ≡ target → luns ≡ numbers_of (units_at target machine.units) → none ≡ []
+    → IfOk r (λ goes_on. Served frame luns None goes_on state then_ (output before none) (output waiting orders))
+    → OnErr r (Stops is_serving (λ failed. Served frame luns failed false state then_ (output before none) (output waiting orders)))
     → middle ≡ ended_unless r c (with_link machine c (viewed framer (phases.FullFeature then_) waiting)) → (IsSound after → IsSound middle)
-    → SettlesFor target starved middle after
+    → Finishes c target orders starved middle after
     → Takes c frame (first_of (starved_by c r) starved) machine after
-serve_takes (Ok goes_on) c target frame machine middle after framer phase before waiting state then_ starved lt link is same ok err e back settles =
-    serve_takes_by None goes_on c target frame machine middle after framer phase before waiting state then_ starved lt link is same ok
-    (λ place. refl) e back settles
-serve_takes (Err x) c target frame machine middle after framer phase before waiting state then_ starved lt link is same ok err e back settles =
-    serve_takes_by (Some err.step) false c target frame machine middle after framer phase before waiting state then_ starved lt link is same
-    err.leads (serve_kind c err.step err.of_frame err.of_kind) e back settles
+serve_takes (Ok goes_on) c target frame luns none orders machine middle after framer phase before waiting state then_ starved lt link is same numbers empty
+    ok err e back finish =
+    serve_takes_by None goes_on c target frame luns orders machine middle after framer phase before waiting state then_ starved lt link is same numbers
+    (subst (λ (o : List (List ℕ)). Served frame luns None goes_on state then_ (output before o) (output waiting orders)) empty ok)
+    (λ place. refl) e back finish
+serve_takes (Err x) c target frame luns none orders machine middle after framer phase before waiting state then_ starved lt link is same numbers empty
+    ok err e back finish =
+    serve_takes_by (Some err.step) false c target frame luns orders machine middle after framer phase before waiting state then_ starved lt link is same
+    numbers (subst (λ (o : List (List ℕ)). Served frame luns (Some err.step) false state then_ (output before o) (output waiting orders)) empty err.leads)
+    (serve_kind c err.step err.of_frame err.of_kind) e back finish
 
 left_moves : {E : Type 0} (r : Result Bool E) (c : ℕ) (given machine : Machine) → c < length machine.links
     → is_reading (link_at machine c).phase ≡ true → IsOwn c machine c

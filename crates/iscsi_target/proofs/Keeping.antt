@@ -19,7 +19,7 @@ use Rattle.iscsi_session.proofs.Steps.{Extends, served_extends, settled_extends}
 use Rattle.iscsi_login.specs.Session.{is_same_target}
 use Rattle.iscsi_target.specs.History.{Mark, Point, Arriving, AtEnd, Arrival, Whole, TooLong, Bytes, marked, connections, History, Happening}
 use Rattle.iscsi_target.specs.Life.{Life, Phase, LoggingIn, FullFeature, Closing, Over, is_over, reads, past_in, session_answers, out_of, ended_in}
-use Rattle.iscsi_target.specs.World.{Setting, World, is_present, present, changed_first, changed, reads_life, past_of, live, close, reaching, is_marked, take_step, answered, asked, begun, begins, requests_of, lookup_for, end_older, replied, log_in, fails, work_of, with_past, worked_on, worked, served_by, take_in, settled_by, settle_one, settle, serve, is_login, enter, taken_in, taken_by, comes, arrive, brought, longer, bring, happened, new_world, world, settle_for}
+use Rattle.iscsi_target.specs.World.{Setting, World, is_present, present, changed_first, changed, reads_life, past_of, live, close, reaching, is_marked, take_step, answered, asked, begun, begins, requests_of, lookup_for, end_older, replied, log_in, fails, work_of, with_past, worked_on, worked, served_by, take_in, settled_by, settle_one, settle, serve, is_login, enter, taken_in, taken_by, comes, arrive, brought, longer, bring, happened, new_world, world, settle_for, function_of, reaches_others, losing, lost_by, lose_one, reset, carry_out, carry_out_for, orders_in}
 use Rattle.iscsi_target.specs.Runs.{RowState, open_row, row_of}
 use Rattle.iscsi_target.specs.Laws.{GoesOn, LivesGoOn, AnswersStay}
 use Rattle.iscsi_target.proofs.Working.{answers_grow}
@@ -368,6 +368,48 @@ pub on-take_in : (marks : List Mark) (c place : ℕ) (frame : Frame) (w : World)
 unfolding take_in
 on-take_in marks c place frame w = on-served_by (past_of (present c w)) marks c place frame w refl
 
+-- ---- Task Management
+
+on-lost_by : (o : Option Past) (header : List ℕ) (target d : ℕ) (w : World) → past_of (present d w) ≡ o → Goes w (lost_by o header target d w)
+on-lost_by None header target d w at = on-same w
+on-lost_by (Some past) header target d w at =
+    on-cond (is_same_target past.params.target (Some target)) (worked_on d (losing header (work_of past w)) w) w w
+    (on-worked_on d past (losing header (work_of past w)) w at [] (sym (append-nil past.answers))) (on-same w)
+
+pub on-lose_one : (header : List ℕ) (target c : ℕ) (w : World) (d : ℕ) → Goes w (lose_one header target c w d)
+unfolding lose_one
+on-lose_one header target c w d =
+    on-cond (eqb d c) w (lost_by (past_of (present d w)) header target d w) w (on-same w) (on-lost_by (past_of (present d w)) header target d w refl)
+
+on-lose_all : (header : List ℕ) (target c : ℕ) (w : World) (ds : List ℕ) → Goes w (fold (lose_one header target c) w ds)
+on-lose_all header target c w [] = on-same w
+on-lose_all header target c w (d ∷ ds) =
+    let v = lose_one header target c w d in
+    on-then w v (fold (lose_one header target c) v ds) (on-lose_one header target c w d) (on-lose_all header target c v ds)
+
+pub on-reset : (header : List ℕ) (target : ℕ) (w : World) → Goes w (reset header target w)
+unfolding reset
+on-reset header target w = with_lives w w (reset header target w) (on-same w) refl [] (sym (append-nil w.reached))
+
+pub on-carry_out : (c target : ℕ) (header : List ℕ) (w : World) → Goes w (carry_out c target w header)
+unfolding carry_out
+on-carry_out c target header w =
+    let v = fold (lose_one header target c) w connections in
+    on-cond (reaches_others (function_of header)) (reset header target v) w w
+    (on-then w v (reset header target v) (on-lose_all header target c w connections) (on-reset header target v)) (on-same w)
+
+on-carry_all : (c target : ℕ) (headers : List (List ℕ)) (w : World) → Goes w (fold (carry_out c target) w headers)
+on-carry_all c target [] w = on-same w
+on-carry_all c target (header ∷ headers) w =
+    let v = carry_out c target w header in
+    on-then w v (fold (carry_out c target) v headers) (on-carry_out c target header w) (on-carry_all c target headers v)
+
+pub on-carry_out_for : (c : ℕ) (target : Option ℕ) (headers : List (List ℕ)) (w : World) → Goes w (carry_out_for c target headers w)
+on-carry_out_for c None headers w = on-same w
+on-carry_out_for c (Some target) headers w = on-carry_all c target headers w
+
+-- ---- the commands of all sessions
+
 on-settled_by : (o : Option Past) (marks : List Mark) (place target c : ℕ) (w : World) → past_of (present c w) ≡ o
     → Goes w (settled_by o marks place target c w)
 on-settled_by None marks place target c w at = on-same w
@@ -396,7 +438,9 @@ pub on-serve : (marks : List Mark) (c place : ℕ) (target : Option ℕ) (frame 
 unfolding serve
 on-serve marks c place target frame w =
     let v = take_in marks c place frame w in
-    on-then w v (settle_for marks place target v) (on-take_in marks c place frame w) (on-settle_for marks place target v)
+    let u = carry_out_for c target (orders_in marks c place frame w) v in
+    on-then w u (settle_for marks place target u)
+    (on-then w v u (on-take_in marks c place frame w) (on-carry_out_for c target (orders_in marks c place frame w) v)) (on-settle_for marks place target u)
 
 -- ---- one event
 

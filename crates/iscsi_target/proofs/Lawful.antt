@@ -1,5 +1,5 @@
 -- Each session of a World has a lawful past, whatever has happened.
-use Rattle.std.proofs.Common.{◌≡◌, ◌≢◌, ℕ, zero, suc, ◌+◌, ◌^◌, ◌<◌, List, [], ◌∷◌, ◌++◌, length, map, take, drop, get_or, Bool, true, false, cond, not, Option, Some, None, refl, sym, ap, ◌∙◌, subst, arith}
+use Rattle.std.proofs.Common.{◌≡◌, ◌≢◌, ℕ, zero, suc, ◌+◌, ◌^◌, ◌<◌, List, [], ◌∷◌, ◌++◌, length, map, take, drop, get_or, Bool, true, false, cond, not, eqb, Option, Some, None, refl, sym, ap, ◌∙◌, subst, arith}
 use Rattle.std.specs.Prelude.{find, ⊤}
 use Rattle.std.specs.List.{AllByRecursion, fold, enumerate_from}
 use Rattle.iscsi_pdu.specs.Header.{cmd_sn, header_length}
@@ -14,11 +14,12 @@ use Rattle.iscsi_login.specs.declared.reply.Reply.TheVariants.{GoOn, Full, Refus
 use Rattle.iscsi_session.specs.Requests.{Past}
 use Rattle.iscsi_session.specs.State.{IsLawful}
 use Rattle.iscsi_session.specs.Steps.{Work, served, settled}
+use Rattle.iscsi_session.proofs.Removing.{lawful_removing}
 use Rattle.iscsi_session.proofs.Lawful.{taken_once, finished_as_taken, steps_are_lawful}
 use Rattle.iscsi_login.specs.Session.{is_same_target}
 use Rattle.iscsi_target.specs.History.{Event, Open, Bytes, Gone, Mark, Point, Arriving, AtEnd, Arrival, Whole, TooLong, arrivals, new_arrivals, connections, History, marked}
 use Rattle.iscsi_target.specs.Life.{Life, Phase, LoggingIn, FullFeature, Closing, Over, born, past_in, ended_in}
-use Rattle.iscsi_target.specs.World.{Setting, World, is_present, present, changed_first, changed, reads_life, past_of, live, close, over, end, reaching, is_marked, take_step, answered, asked, begun, begins, requests_of, lookup_for, end_older, replied, log_in, fails, work_of, with_past, worked_on, worked, served_by, take_in, settled_by, settle_one, settle, serve, is_login, taken_in, taken_by, comes, arrive, brought, longer, bring, happen, happened, new_world, world, settle_for}
+use Rattle.iscsi_target.specs.World.{Setting, World, is_present, present, changed_first, changed, reads_life, past_of, live, close, over, end, reaching, is_marked, take_step, answered, asked, begun, begins, requests_of, lookup_for, end_older, replied, log_in, fails, work_of, with_past, worked_on, worked, served_by, take_in, settled_by, settle_one, settle, serve, is_login, taken_in, taken_by, comes, arrive, brought, longer, bring, happen, happened, new_world, world, settle_for, function_of, reaches_others, reach_from, losing, lost_by, lose_one, reset, carry_out, carry_out_for, orders_in}
 use Rattle.iscsi_target.specs.Stands.{IsQuietIn}
 use Rattle.iscsi_target.specs.Laws.{HasBytes, FinishesAsTaken, SessionsFinishAsTaken, OthersStay}
 use Rattle.iscsi_target.proofs.Arrivals.{long_end}
@@ -210,6 +211,44 @@ fit-take_in : (marks : List Mark) (c place : ℕ) (frame : Frame) (w : World) �
 unfolding take_in
 fit-take_in marks c place frame w fits a = fit-served_by (past_of (present c w)) marks c place frame w refl fits a
 
+-- ---- Task Management
+
+lost_lawful : (header : List ℕ) (work : Work) → IsLawful work.past → IsLawful (losing header work).past
+lost_lawful header work lawful = lawful_removing (reach_from header work.units) work.past lawful
+
+fit-lost_by : (o : Option Past) (header : List ℕ) (target d : ℕ) (w : World) → past_of (present d w) ≡ o → AreFit w → AreFit (lost_by o header target d w)
+fit-lost_by None header target d w at a = a
+fit-lost_by (Some past) header target d w at a =
+    let work = losing header (work_of past w) in
+    let lawful : IsLawful work.past = lost_lawful header (work_of past w) (lawful_of (present d w) d w past refl a at) in
+    fit-cond (is_same_target past.params.target (Some target)) (worked_on d work w) w
+    (fit-changed (with_past work.past) d w (λ life fit. (fit.0, lawful)) a) a
+
+fit-lose_one : (header : List ℕ) (target c : ℕ) (w : World) (d : ℕ) → AreFit w → AreFit (lose_one header target c w d)
+unfolding lose_one
+fit-lose_one header target c w d a =
+    fit-cond (eqb d c) w (lost_by (past_of (present d w)) header target d w) a (fit-lost_by (past_of (present d w)) header target d w refl a)
+
+fit-lose_all : (header : List ℕ) (target c : ℕ) (w : World) (ds : List ℕ) → AreFit w → AreFit (fold (lose_one header target c) w ds)
+fit-lose_all header target c w [] a = a
+fit-lose_all header target c w (d ∷ ds) a = fit-lose_all header target c (lose_one header target c w d) ds (fit-lose_one header target c w d a)
+
+fit-carry_out : (c target : ℕ) (w : World) (header : List ℕ) → AreFit w → AreFit (carry_out c target w header)
+unfolding carry_out reset
+fit-carry_out c target w header a =
+    fit-cond (reaches_others (function_of header)) (reset header target (fold (lose_one header target c) w connections)) w
+    (fit-lose_all header target c w connections a) a
+
+fit-carry_all : (c target : ℕ) (w : World) (headers : List (List ℕ)) → AreFit w → AreFit (fold (carry_out c target) w headers)
+fit-carry_all c target w [] a = a
+fit-carry_all c target w (header ∷ headers) a = fit-carry_all c target (carry_out c target w header) headers (fit-carry_out c target w header a)
+
+fit-carry_out_for : (c : ℕ) (target : Option ℕ) (headers : List (List ℕ)) (w : World) → AreFit w → AreFit (carry_out_for c target headers w)
+fit-carry_out_for c None headers w a = a
+fit-carry_out_for c (Some target) headers w a = fit-carry_all c target w headers a
+
+-- ---- the commands of all sessions
+
 fit-settled_by : (o : Option Past) (marks : List Mark) (place target c : ℕ) (w : World) → past_of (present c w) ≡ o → AreFit w
     → AreFit (settled_by o marks place target c w)
 fit-settled_by None marks place target c w at a = a
@@ -233,7 +272,10 @@ fit-settle_for marks place (Some target) w a = fit-all marks place target w conn
 
 fit-serve : (marks : List Mark) (c place : ℕ) (target : Option ℕ) (frame : Frame) (w : World) → Fits frame → AreFit w → AreFit (serve marks c place target frame w)
 unfolding serve
-fit-serve marks c place target frame w fits a = fit-settle_for marks place target (take_in marks c place frame w) (fit-take_in marks c place frame w fits a)
+fit-serve marks c place target frame w fits a =
+    let orders = orders_in marks c place frame w in
+    fit-settle_for marks place target (carry_out_for c target orders (take_in marks c place frame w))
+    (fit-carry_out_for c target orders (take_in marks c place frame w) (fit-take_in marks c place frame w fits a))
 
 -- ---- one event
 

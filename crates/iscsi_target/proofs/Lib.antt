@@ -8,6 +8,17 @@ mod LoggingIn
 mod Marks
 pub mod Keeping
 mod Lawful
+mod IsolatedLives
+mod IsolatedLogin
+mod IsolatedNames
+mod IsolatedAsking
+mod IsolatedWorlds
+mod IsolatedFits
+mod IsolatedOutside
+mod IsolatedInside
+mod IsolatedServing
+mod IsolatedEvents
+mod Isolation
 mod Doing
 mod AtWork
 mod Sound
@@ -16,6 +27,7 @@ mod Apart
 mod Asking
 mod Frames
 mod Held
+mod Carrying
 pub mod Standing
 mod Taking
 mod Feeding

@@ -1,14 +1,19 @@
 -- A target that is sound after a step was so before it, and one that is sure stays so.
-use Rattle.std.proofs.Common.{◌≡◌, ℕ, ◌<◌, List, [], ◌∷◌, length, map, set, get_or, Option, Some, None, refl, sym, ap, ◌∙◌, subst, arith, inl, inr}
+use Rattle.std.proofs.Common.{◌≡◌, ℕ, ◌<◌, List, [], ◌∷◌, length, map, set, get_or, Bool, true, false, cond, Option, Some, None, refl, sym, ap, ◌∙◌, subst, arith, inl, inr}
 use Rattle.std.specs.Prelude.{All, slice_index_or, slice_set}
 use Rattle.std.proofs.Math.Seq.{map-set_same}
 use Rattle.std.proofs.lemmas.Bool.Decides.{eqb_tells}
 use Rattle.std.proofs.lemmas.List.{length-set, length-map, get_or-map, get_or_default, get_or-set_same, get_or-set_other}
 use Rattle.std.proofs.lemmas.List.Elements.{All-map}
+use Rattle.scsi_sense.specs.Nexus.{NexusName}
+use Rattle.scsi_sense.specs.declared.condition.Attention.TheVariants.{BusDeviceResetFunctionOccurred, CommandsClearedByAnotherInitiator}
+use Rattle.iscsi_pdu.specs.Header.{lun_field}
+use Rattle.iscsi_pdu.specs.declared.task_management.TaskFunction.{TaskFunction}
+use Rattle.iscsi_pdu.specs.declared.task_management.TaskFunction.TheVariants as functions
 use Rattle.scsi_unit.specs.Device.{DeviceState}
 use Rattle.scsi_unit.specs.State.{UnitState}
-use Rattle.scsi_unit.specs.Unit.{joined_unit, left_unit}
-use Rattle.scsi_unit.specs.Units.{UnitStates, AreSound, AreSure, IsSoundDevice, IsSureDevice, join, leave}
+use Rattle.scsi_unit.specs.Unit.{joined_unit, left_unit, raised_unit, raised_unit_for_all, names_unit, where_named}
+use Rattle.scsi_unit.specs.Units.{UnitStates, AreSound, AreSure, IsSoundDevice, IsSureDevice, join, leave, raised_at, raised_for_all_at, raised_everywhere}
 use Rattle.iscsi_pdu.specs.declared.answer.Answer.{Answer}
 use Rattle.iscsi_pdu.specs.declared.answer.Answer.TheVariants as answers
 use Rattle.iscsi_pdu.specs.Frames.{Frame}
@@ -18,7 +23,7 @@ use Rattle.iscsi_login.specs.Login.{advanced, reply_of}
 use Rattle.iscsi_login.specs.declared.params.Params.{Params}
 use Rattle.iscsi_login.specs.declared.reply.Reply.{Reply}
 use Rattle.iscsi_login.specs.declared.reply.Reply.TheVariants.{GoOn, Full, Refused}
-use Rattle.iscsi_target.specs.World.{left, changed_units, lookup_for}
+use Rattle.iscsi_target.specs.World.{left, changed_units, lookup_for, function_of, told_by, reset_by}
 use Rattle.iscsi_target.specs.Machine.{Machine, IsSound, IsSure, link_at, with_link, begun_link, closed, session_in_phase, sessions, shut_older, begun, replied, logged_in}
 
 -- one target's units are set to others, which are sound only where they were
@@ -93,6 +98,40 @@ pub logged_in_units : (machine : Machine) (c : ℕ) (login : LoginState) (reques
     → length (logged_in machine c login request).units ≡ length machine.units
 logged_in_units machine c login request = as_many (logged_in machine c login request).units machine.units (media_logged_in machine c login request)
 
+-- ---- and when it is told of an attention
+
+media_named : (b : Bool) (f : UnitState → UnitState) (unit : UnitState) → (f unit).device ≡ unit.device → (cond b (f unit) unit).device ≡ unit.device
+media_named true f unit same = same
+media_named false f unit same = refl
+
+media_where : (lun : List ℕ) (f : UnitState → UnitState) (units : UnitStates) → ((unit : UnitState) → (f unit).device ≡ unit.device)
+    → media (map (where_named lun f) units) ≡ media units
+media_where lun f units same = media_map (where_named lun f) units (λ unit. media_named (names_unit lun unit) f unit (same unit))
+
+media_told : (kind : TaskFunction) (lun : List ℕ) (nexus : NexusName) (units : UnitStates) → media (told_by kind lun nexus units) ≡ media units
+unfolding raised_at
+media_told functions.AbortTask lun nexus units = refl
+media_told functions.AbortTaskSet lun nexus units = refl
+media_told functions.ClearAca lun nexus units = refl
+media_told functions.ClearTaskSet lun nexus units = media_where lun (raised_unit nexus CommandsClearedByAnotherInitiator) units (λ unit. refl)
+media_told functions.LogicalUnitReset lun nexus units = refl
+media_told functions.TargetWarmReset lun nexus units = refl
+media_told functions.TargetColdReset lun nexus units = refl
+media_told functions.TaskReassign lun nexus units = refl
+media_told (functions.Other n) lun nexus units = refl
+
+media_reset : (kind : TaskFunction) (lun : List ℕ) (units : UnitStates) → media (reset_by kind lun units) ≡ media units
+unfolding raised_for_all_at raised_everywhere
+media_reset functions.AbortTask lun units = refl
+media_reset functions.AbortTaskSet lun units = refl
+media_reset functions.ClearAca lun units = refl
+media_reset functions.ClearTaskSet lun units = refl
+media_reset functions.LogicalUnitReset lun units = media_where lun (raised_unit_for_all BusDeviceResetFunctionOccurred) units (λ unit. refl)
+media_reset functions.TargetWarmReset lun units = media_map (raised_unit_for_all BusDeviceResetFunctionOccurred) units (λ unit. refl)
+media_reset functions.TargetColdReset lun units = refl
+media_reset functions.TaskReassign lun units = refl
+media_reset (functions.Other n) lun units = refl
+
 -- ---- so what holds of each medium stays
 
 of_media : (P : DeviceState → Type 0) (units : UnitStates) → All P (media units) → All (λ unit. P unit.device) units
@@ -107,6 +146,34 @@ to_all_media P all h = All-map (All P) media all (λ i d lt. All-map P (λ (unit
 over_media : (P : DeviceState → Type 0) (a b : List UnitStates) → map media a ≡ map media b → All (All (λ unit. P unit.device)) a
     → All (All (λ unit. P unit.device)) b
 over_media P a b e h = of_all_media P b (subst (All (All P)) e (to_all_media P a h))
+
+media_target : (header : List ℕ) (target : ℕ) (all : List UnitStates)
+    → map media (changed_units (reset_by (function_of header) (lun_field header)) (Some target) all) ≡ map media all
+media_target header target all = media_changed (reset_by (function_of header) (lun_field header)) (Some target) all
+    (λ units. media_reset (function_of header) (lun_field header) units)
+
+pub reset_sound : (header : List ℕ) (target : ℕ) (machine : Machine)
+    → All AreSound (changed_units (reset_by (function_of header) (lun_field header)) (Some target) machine.units) → IsSound machine
+reset_sound header target machine sound = over_media IsSoundDevice _ machine.units (media_target header target machine.units) sound
+
+pub reset_sure : (header : List ℕ) (target : ℕ) (machine : Machine) → IsSure machine
+    → All AreSure (changed_units (reset_by (function_of header) (lun_field header)) (Some target) machine.units)
+reset_sure header target machine sure = over_media IsSureDevice machine.units _ (sym (media_target header target machine.units)) sure
+
+pub reset_units : (header : List ℕ) (target : ℕ) (machine : Machine)
+    → length (changed_units (reset_by (function_of header) (lun_field header)) (Some target) machine.units) ≡ length machine.units
+reset_units header target machine = as_many _ machine.units (media_target header target machine.units)
+
+over_units : (P : DeviceState → Type 0) (a b : UnitStates) → media a ≡ media b → All (λ unit. P unit.device) a → All (λ unit. P unit.device) b
+over_units P a b e h = of_media P b (subst (All P) e (All-map P (λ (unit : UnitState). unit.device) a h))
+
+pub told_sound : (header : List ℕ) (nexus : NexusName) (units : UnitStates)
+    → AreSound (told_by (function_of header) (lun_field header) nexus units) → AreSound units
+told_sound header nexus units sound = over_units IsSoundDevice _ units (media_told (function_of header) (lun_field header) nexus units) sound
+
+pub told_sure : (header : List ℕ) (nexus : NexusName) (units : UnitStates)
+    → AreSure units → AreSure (told_by (function_of header) (lun_field header) nexus units)
+told_sure header nexus units sure = over_units IsSureDevice units _ (sym (media_told (function_of header) (lun_field header) nexus units)) sure
 
 pub closed_sound : (machine : Machine) (c : ℕ) → IsSound (closed machine c) → IsSound machine
 closed_sound machine c sound = over_media IsSoundDevice (closed machine c).units machine.units (media_closed machine c) sound

@@ -1,5 +1,5 @@
 -- What the steps of a session make of the code and of the World.
-use Rattle.std.proofs.Common.{◌≡◌, ◌≢◌, ℕ, ◌<◌, ◌≤◌, List, ◌++◌, length, drop, Bool, true, false, not, cond, eqb, Option, Some, None, refl, sym, ap, ◌∙◌, append_assoc}
+use Rattle.std.proofs.Common.{◌≡◌, ◌≢◌, ℕ, ◌<◌, ◌≤◌, List, [], ◌++◌, length, drop, Bool, true, false, not, cond, eqb, Option, Some, None, refl, sym, ap, ◌∙◌, append_assoc}
 use Rattle.std.specs.Prelude.{flat_map}
 use Rattle.iscsi_pdu.specs.Answer.{spelling}
 use Rattle.iscsi_pdu.specs.declared.answer.Answer.{Answer}
@@ -7,7 +7,7 @@ use Rattle.scsi_unit.specs.Units.{UnitStates}
 use Rattle.iscsi_session.specs.Requests.{Past}
 use Rattle.iscsi_session.specs.State.{SessionState, IsLawful, remembered}
 use Rattle.iscsi_session.specs.Steps.{Work}
-use Rattle.iscsi_session.specs.Runs.{Leaves}
+use Rattle.iscsi_session.specs.Runs.{output, Leaves}
 use Rattle.iscsi_login.specs.Directory.{KnownTargets}
 use Rattle.iscsi_target.specs.History.{connection_limit}
 use Rattle.iscsi_target.specs.Life.{Life, Phase, LoggingIn, FullFeature, Closing, Over, is_over, past_in, session_answers, answers_of, out_of}
@@ -95,11 +95,12 @@ units_set w machine units target e = ap (with_units target units) (sym e)
 
 -- the session goes on
 works : (s : Setting) (sent : ℕ → ℕ) (half : ℕ → List ℕ) (w : World) (machine : Machine) (c : ℕ) (past : Past) (work : Work) (state : SessionState)
-    (waiting : List ℕ) (after : UnitStates) → c < connection_limit
-    → Serves s sent half w machine → IsAtWork w c past → Leaves (work_of past w) work state (link_at machine c).waiting waiting after
+    (waiting : List ℕ) (orders : List (List ℕ)) (after : UnitStates) → c < connection_limit
+    → Serves s sent half w machine → IsAtWork w c past
+    → Leaves (work_of past w) work state (output (link_at machine c).waiting []) (output waiting orders) after
     → Serves s sent half (worked_on c work w) (record (with_link machine c (session_link state waiting (link_at machine c)))
     { units = with_units past.params.target after machine.units })
-works s sent half w machine c past work state waiting after lt h a l =
+works s sent half w machine c past work state waiting orders after lt h a l =
     let now = present_worked w c past work a in
     let link = link_is s sent half w machine c lt h ∙ ap (link_of s.directory (sent c) (half c)) a.at in
     let le : sent c ≤ length (out_of a.life) = (let was = h.answered c lt in rw a.at at was) in
@@ -133,10 +134,10 @@ left_with false s sent half w machine c past work lt e a h = rw e (closes s sent
     h (present_worked w c past work a))
 
 pub serves_worked : (s : Setting) (sent : ℕ → ℕ) (half : ℕ → List ℕ) (w : World) (machine : Machine) (c : ℕ) (past : Past) (work : Work)
-    (state : SessionState) (waiting : List ℕ) (after : UnitStates) (goes_on : Bool)
+    (state : SessionState) (waiting : List ℕ) (orders : List (List ℕ)) (after : UnitStates) (goes_on : Bool)
     → c < connection_limit → Serves s sent half w machine → IsAtWork w c past
-    → Leaves (work_of past w) work state (link_at machine c).waiting waiting after → work.goes_on ≡ goes_on
+    → Leaves (work_of past w) work state (output (link_at machine c).waiting []) (output waiting orders) after → work.goes_on ≡ goes_on
     → Serves s sent half (worked c work w) (left_by goes_on c (record (with_link machine c (session_link state waiting (link_at machine c)))
     { units = with_units past.params.target after machine.units }))
-serves_worked s sent half w machine c past work state waiting after goes_on lt h a l e =
-    left_with goes_on s sent half w _ c past work lt e a (works s sent half w machine c past work state waiting after lt h a l)
+serves_worked s sent half w machine c past work state waiting orders after goes_on lt h a l e =
+    left_with goes_on s sent half w _ c past work lt e a (works s sent half w machine c past work state waiting orders after lt h a l)

@@ -34,6 +34,8 @@ pub mod Stands
 pub mod Serving
 pub mod Runs
 pub mod Laws
+pub mod Isolation
 pub mod ExamplesBytes
 pub mod ExamplesWorld
 pub mod ExamplesData
+pub mod ExamplesIsolation

@@ -83,6 +83,14 @@ pub record Moves (c : ℕ) (starved : Option ℕ) (given after : Machine) : Type
   pub units : length after.units ≡ length given.units
   pub keeps : (d : ℕ) → is_reading (link_at given d).phase ≡ true → KeepsHalf (link_at given d).half (link_at after d)
 
+-- own: a call that takes no memory sets no step off
+abbrev pub is_of_none : ℕ → Mark → Bool
+is_of_none place mark = false
+
+-- The call of an act in which nothing can fail.
+abbrev pub CarriesOut : (World → World) → Machine → Machine → Type 0
+CarriesOut act given after = Does is_of_none (λ s marks place w. act w) kept None given after
+
 -- ---- the acts
 
 -- the frame of this place sets off what is marked: its judging or a request that acts, or a command that is done

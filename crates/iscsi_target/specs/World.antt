@@ -1,12 +1,18 @@
 -- The machine that the target is: plain lists of what came and what was answered, and the units.
-use Rattle.std.specs.Prelude.{ℕ, ◌+◌, List, [], ◌∷◌, ◌++◌, fold, map, find, Bool, false, ◌&&◌, not, ◌==◌, Option, Some, None, slice_index_or, slice_set, if◌then◌else◌}
+use Rattle.std.specs.Prelude.{ℕ, ◌+◌, List, [], ◌∷◌, ◌++◌, fold, length, map, find, Bool, true, false, ◌&&◌, not, ◌==◌, Option, Some, None, slice_index_or, slice_set, if◌then◌else◌}
 use Rattle.std.specs.List.{list_any}
 use Rattle.iscsi_pdu.specs.Frames.{Frame}
 use Rattle.iscsi_pdu.specs.Header.{opcode_number}
 use Rattle.iscsi_pdu.specs.declared.answer.Answer.{Answer}
 use Rattle.iscsi_pdu.specs.declared.answer.Answer.TheVariants as answers
 use Rattle.iscsi_pdu.specs.LoginRequest.{tsih}
-use Rattle.scsi_unit.specs.Units.{UnitStates, join, leave}
+use Rattle.iscsi_pdu.specs.Header.{lun_field}
+use Rattle.iscsi_pdu.specs.TaskManagement.{task_function, function_code}
+use Rattle.iscsi_pdu.specs.declared.task_management.TaskFunction.{TaskFunction}
+use Rattle.iscsi_pdu.specs.declared.task_management.TaskFunction.TheVariants as functions
+use Rattle.scsi_sense.specs.Nexus.{NexusName}
+use Rattle.scsi_sense.specs.declared.condition.Attention.TheVariants.{BusDeviceResetFunctionOccurred, CommandsClearedByAnotherInitiator}
+use Rattle.scsi_unit.specs.Units.{UnitStates, join, leave, numbers_of, raised_at, raised_for_all_at, raised_everywhere}
 use Rattle.iscsi_login.specs.Directory.{KnownTargets}
 use Rattle.iscsi_login.specs.Session.{Live, is_same_target, named_by, older}
 use Rattle.iscsi_login.specs.Lookup.{Lookup}
@@ -14,7 +20,8 @@ use Rattle.iscsi_login.specs.Login.{login}
 use Rattle.iscsi_login.specs.declared.params.Params.{Params}
 use Rattle.iscsi_login.specs.declared.reply.Reply.{Reply}
 use Rattle.iscsi_login.specs.declared.reply.Reply.TheVariants.{GoOn, Full, Refused}
-use Rattle.iscsi_session.specs.Requests.{Past, begun as begun_past}
+use Rattle.iscsi_session.specs.Requests.{Past, begun as begun_past, removing}
+use Rattle.iscsi_session.specs.Functions.{FunctionReach, reached}
 use Rattle.iscsi_session.specs.Steps.{Step, Work, begun_work, served, settled}
 use Rattle.iscsi_target.specs.History.{Event, Open, Bytes, Gone, Point, Arriving, Before, AtEnd, Mark, is_same, Happening, History, Arrival, Whole, TooLong, new_arrivals, connections}
 use Rattle.iscsi_target.specs.Life.{Life, Phase, LoggingIn, FullFeature, Closing, Over, born, reads, is_over, past_in, session_in, ended_in}
@@ -183,6 +190,75 @@ served_by (Some past) marks c place frame w = worked c (served (fails marks c) p
 unfoldable pub take_in : List Mark → ℕ → ℕ → Frame → World → World
 take_in marks c place frame w = served_by (past_of (present c w)) marks c place frame w
 
+-- the Task Management Functions that acted in it, by their headers
+abbrev pub orders_by : Option Past → List Mark → ℕ → ℕ → Frame → World → List (List ℕ)
+orders_by None marks c place frame w = []
+orders_by (Some past) marks c place frame w = (served (fails marks c) place frame (work_of past w)).orders
+
+unfoldable pub orders_in : List Mark → ℕ → ℕ → Frame → World → List (List ℕ)
+orders_in marks c place frame w = orders_by (past_of (present c w)) marks c place frame w
+
+-- ---- what a Task Management Function of one session does to the rest of its target (RFC 7143 §11.5.1)
+
+abbrev pub function_of : List ℕ → TaskFunction
+function_of header = task_function (function_code header)
+
+-- those that reach the commands of all sessions of the target
+abbrev pub reaches_others : TaskFunction → Bool
+reaches_others functions.ClearTaskSet = true
+reaches_others functions.LogicalUnitReset = true
+reaches_others functions.TargetWarmReset = true
+reaches_others _ = false
+
+-- SAM-5 "CLEAR TASK SET": a nexus that lost commands is to be told (COMMANDS CLEARED BY ANOTHER INITIATOR)
+abbrev pub told_by : TaskFunction → List ℕ → NexusName → UnitStates → UnitStates
+told_by functions.ClearTaskSet lun nexus units = raised_at nexus lun CommandsClearedByAnotherInitiator units
+told_by _ lun nexus units = units
+
+-- the commands of a session that the function of another one reaches
+abbrev pub reach_from : List ℕ → UnitStates → FunctionReach
+reach_from header units = record { function = header; luns = numbers_of units; is_own = false }
+
+abbrev pub lost : List ℕ → UnitStates → Past → List ℕ
+lost header units past = reached (reach_from header units) past
+
+abbrev pub told_loss : List ℕ → Past → UnitStates → UnitStates
+told_loss header past units =
+    if length (lost header units past) == 0 then units else told_by (function_of header) (lun_field header) past.params.nexus units
+
+-- it loses them
+abbrev pub losing : List ℕ → Work → Work
+losing header work = record work { past = removing (lost header work.units work.past) work.past; units = told_loss header work.past work.units }
+
+abbrev pub lost_by : Option Past → List ℕ → ℕ → ℕ → World → World
+lost_by None header target d w = w
+lost_by (Some past) header target d w = if is_same_target past.params.target (Some target) then worked_on d (losing header (work_of past w)) w else w
+
+-- another session than that of connection c
+unfoldable pub lose_one : List ℕ → ℕ → ℕ → World → ℕ → World
+lose_one header target c w d = if d == c then w else lost_by (past_of (present d w)) header target d w
+
+-- SAM-5 "Logical unit reset": every nexus is to be told (BUS DEVICE RESET FUNCTION OCCURRED). Own: nothing else is reset.
+abbrev pub reset_by : TaskFunction → List ℕ → UnitStates → UnitStates
+reset_by functions.LogicalUnitReset lun units = raised_for_all_at lun BusDeviceResetFunctionOccurred units
+reset_by functions.TargetWarmReset lun units = raised_everywhere BusDeviceResetFunctionOccurred units
+reset_by _ lun units = units
+
+unfoldable pub reset : List ℕ → ℕ → World → World
+reset header target w = record w { units = changed_units (reset_by (function_of header) (lun_field header)) (Some target) w.units }
+
+-- a function of the session of connection c: the other sessions lose what it reaches, in rising number of their connections
+unfoldable pub carry_out : ℕ → ℕ → World → List ℕ → World
+carry_out c target w header =
+    if reaches_others (function_of header) then reset header target (fold (lose_one header target c) w connections) else w
+
+-- one after the other, for the session's target, where it has one
+abbrev pub carry_out_for : ℕ → Option ℕ → List (List ℕ) → World → World
+carry_out_for c None headers w = w
+carry_out_for c (Some target) headers w = fold (carry_out c target) w headers
+
+-- ---- the commands that were taken
+
 abbrev pub settled_by : Option Past → List Mark → ℕ → ℕ → ℕ → World → World
 settled_by None marks place target c w = w
 settled_by (Some past) marks place target c w =
@@ -203,7 +279,8 @@ settle_for marks place (Some target) w = settle marks place target w
 
 -- a frame of a session with this target
 unfoldable pub serve : List Mark → ℕ → ℕ → Option ℕ → Frame → World → World
-serve marks c place target frame w = settle_for marks place target (take_in marks c place frame w)
+serve marks c place target frame w =
+    settle_for marks place target (carry_out_for c target (orders_in marks c place frame w) (take_in marks c place frame w))
 
 -- ---- one event
 

@@ -1,6 +1,7 @@
 //! What holds of the definitions. The functions do nothing: their contracts are the laws.
 
 ghost use Rattle.iscsi_target.specs.History.{ArrivalsInPieces};
+ghost use Rattle.iscsi_target.specs.Isolation.{TargetsAreIsolated, TargetsSeeTheirOwn, StrangersAreAlone};
 ghost use Rattle.iscsi_target.specs.Laws.{AnswersStay, SureIsSound, SessionsFinishAsTaken, OthersStay};
 
 /// However the bytes of a connection are cut into pieces, the frames that become whole are those of
@@ -32,4 +33,14 @@ pub fn sessions_finish_as_taken()
 #[tactic(auto, using(crate::proofs::Lawful::others_stay))]
 pub fn others_stay()
     ensures { OthersStay }
+{}
+
+/// Whatever others log in, break, reset or reserve elsewhere: where no allocation fails, the answers of the connections that
+/// name a target, and its units, are what they are without all other connections (`named`). The same holds of any
+/// choice of connections that has these and none that names another target (`selected`), and a connection that names
+/// no target is answered as if it were alone (`strangers`).
+pub fn targets_are_isolated()
+    ensures selected { TargetsAreIsolated }
+    ensures named { TargetsSeeTheirOwn }
+    ensures strangers { StrangersAreAlone }
 {}

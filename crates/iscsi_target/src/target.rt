@@ -16,6 +16,7 @@ ghost use Rattle.iscsi_target.specs.Serving.{Takes, TakesOne, TakesAll, Moves, f
 use crate::config::Config;
 use crate::fault::{Memory, Starved};
 use crate::link::Link;
+use crate::orders::luns_of;
 use crate::phase::Phase;
 use crate::serve::earlier_of;
 use crate::sessions::{named, older};
@@ -341,8 +342,11 @@ impl<S: Store> Target<S> {
             Phase::Login(_) => self.enter(c, &frame),
             Phase::FullFeature(session) => {
                 let target = session.params().target;
-                let goes_on = session.serve(frame, &mut link.waiting);
+                let luns = luns_of(self.units.as_slice(), target);
+                let mut orders = Vec::new(self.alloc);
+                let goes_on = session.serve(frame, luns, &mut link.waiting, &mut orders);
                 let served = self.end_unless(c, goes_on);
+                self.carry_out_for(c, target, orders.as_slice());
                 let settled = self.settle_for(target);
                 earlier_of(served, settled)
             }

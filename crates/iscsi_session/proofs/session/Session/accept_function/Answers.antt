@@ -1,4 +1,4 @@
-use Rattle.std.proofs.Common.{◌≡◌, true, None, refl, sym, ap, ◌∙◌, subst}
+use Rattle.std.proofs.Common.{◌≡◌, true, None, sym, ap, ◌∙◌, subst}
 use Rattle.iscsi_pdu.specs.Frames.{Frame}
 use Rattle.iscsi_pdu.specs.Header.{initiator_task_tag}
 use Rattle.iscsi_session.specs.State.{SessionState, Stands, is_vacant_for, place_for, function_place, kept}

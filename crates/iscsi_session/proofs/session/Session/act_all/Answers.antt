@@ -2,7 +2,7 @@ use Rattle.std.proofs.Common.{suc, refl, ◌∙◌}
 use Rattle.iscsi_session.specs.Requests.{due}
 use Rattle.iscsi_session.specs.Steps.{Taking, act}
 use Rattle.iscsi_session.proofs.Parts.{on_err_known}
-use Rattle.iscsi_session.proofs.Runs.{none_ran, grows_none, grows_then, tasks_count}
+use Rattle.iscsi_session.proofs.Runs.{same_output, none_ran, grows_none, grows_then, tasks_count}
 use Rattle.iscsi_session.proofs.Served.{acted_more, all_acted, acting_ends, acting_stops, act_stops}
 use Rattle.iscsi_session.specs.Steps.{waiting_in}
 use Rattle.iscsi_session.proofs.Served.{due_fits}
@@ -11,32 +11,36 @@ use Rattle.iscsi_session.proofs.session.Session.act_all.Goals as goal
 pub loop-init : goal.loop-init
 loop-init c = record {
   turns = 0;
-  ran = λ units. none_ran Taking due act tasks_count waiting_in due_fits _ _ units;
+  ran = λ units numbers. none_ran Taking due act tasks_count waiting_in due_fits _ _ units;
   grows = grows_none _;
   params = refl;
 }
 
 pub returns-in_err-act-clause-err : goal.returns-in_err-act-clause-err
 returns-in_err-act-clause-err c = on_err_known _
-    (act_stops c.loop.invariant.turns _ _ _ _ _ _ c.in_err-act.ensures.err c.in_err-act.ensures.out_err
-    (λ units. acting_stops _ _ _ _ _ units (c.loop.invariant.ran units) c.in_err-act.ensures.due))
+    (act_stops c.args.luns.now c.loop.invariant.turns _ _ _ _ _ _ c.in_err-act.ensures.err
+    (same_output _ _ _ _ c.in_err-act.ensures.out_err c.in_err-act.ensures.orders_err)
+    (λ units numbers. acting_stops _ _ _ _ _ units (c.loop.invariant.ran units numbers) c.in_err-act.ensures.due))
 
 pub returns-in-Idle-clause-ok : goal.returns-in-Idle-clause-ok
-returns-in-Idle-clause-ok c units =
-    all_acted _ _ _ _ _ _ _ _ units (c.loop.invariant.ran units)
-    (record { act = c.in_ok-act.ensures.act; stands = c.in_ok-act.ensures.stands; out = c.in_ok-act.ensures.out }) c.in-Idle.is
+returns-in-Idle-clause-ok c units numbers =
+    all_acted c.args.luns.now _ _ _ _ _ _ _ _ units numbers (c.loop.invariant.ran units numbers)
+    (record { act = c.in_ok-act.ensures.act; stands = c.in_ok-act.ensures.stands; out = c.in_ok-act.ensures.out; orders = c.in_ok-act.ensures.orders })
+    c.in-Idle.is
 
 pub loop-preserved : goal.loop-preserved
 loop-preserved c = record {
   turns = suc c.loop.invariant.turns;
-  ran = λ units. acted_more _ _ _ _ _ _ _ _ units (c.loop.invariant.ran units)
-      (record { act = c.in_ok-act.ensures.act; stands = c.in_ok-act.ensures.stands; out = c.in_ok-act.ensures.out }) c.in-Taken.is
+  ran = λ units numbers. acted_more c.args.luns.now _ _ _ _ _ _ _ _ units numbers (c.loop.invariant.ran units numbers)
+      (record { act = c.in_ok-act.ensures.act; stands = c.in_ok-act.ensures.stands; out = c.in_ok-act.ensures.out; orders = c.in_ok-act.ensures.orders })
+      c.in-Taken.is
       (c.in_ok-act.ensures.fewer c.in-Taken.is);
   grows = grows_then _ _ _ c.loop.invariant.grows c.in_ok-act.ensures.grows;
   params = c.in_ok-act.ensures.params ∙ c.loop.invariant.params;
 }
 
 pub returns-in-Ended-clause-ok : goal.returns-in-Ended-clause-ok
-returns-in-Ended-clause-ok c units =
-    acting_ends _ _ _ _ _ _ _ _ units (c.loop.invariant.ran units)
-    (record { act = c.in_ok-act.ensures.act; stands = c.in_ok-act.ensures.stands; out = c.in_ok-act.ensures.out }) c.in-Ended.is
+returns-in-Ended-clause-ok c units numbers =
+    acting_ends c.args.luns.now _ _ _ _ _ _ _ _ units numbers (c.loop.invariant.ran units numbers)
+    (record { act = c.in_ok-act.ensures.act; stands = c.in_ok-act.ensures.stands; out = c.in_ok-act.ensures.out; orders = c.in_ok-act.ensures.orders })
+    c.in-Ended.is

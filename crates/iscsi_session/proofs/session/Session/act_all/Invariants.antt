@@ -1,8 +1,10 @@
-use Rattle.std.proofs.Common.{length, ◌≡◌, ◌++◌, ℕ, List}
-use Rattle.scsi_unit.specs.Units.{UnitStates}
+use Rattle.std.proofs.Common.{◌≡◌, ◌++◌, ℕ, List}
+use Rattle.scsi_unit.specs.Units.{UnitStates, numbers_of}
 use Rattle.iscsi_session.specs.Requests.{due}
 use Rattle.iscsi_session.specs.Steps.{Taking, act}
+use Rattle.iscsi_session.specs.Runs.{output}
 use Rattle.iscsi_session.proofs.Runs.{Ran, tasks_count}
+use Rattle.iscsi_session.specs.State.{waiting}
 use Rattle.iscsi_session.specs.Steps.{waiting_in}
 use Rattle.iscsi_session.proofs.Served.{due_fits}
 use Rattle.iscsi_session.proofs.session.Session.act_all.Given as goal
@@ -11,11 +13,12 @@ use Rattle.iscsi_session.proofs.session.Session.act_all.Given as goal
 abbrev pub invariant-loop : goal.invariant-loop
 invariant-loop l = record {
   turns : ℕ;
-  ran : (units : UnitStates) → Ran Taking due act tasks_count waiting_in due_fits turns l.initial.self l.self l.initial.out.items l.out.items units units;
+  ran : (units : UnitStates) → l.luns ≡ numbers_of units → Ran Taking due act tasks_count waiting_in due_fits turns l.initial.self l.self
+      (output l.initial.out.items l.initial.orders.items) (output l.out.items l.orders.items) units units;
   grows : (more : List ℕ) × (l.out.items ≡ l.initial.out.items ++ more);
   params : l.self.params ≡ l.initial.self.params;
 }
 
 -- each that acts waits no longer
 abbrev pub decreases-loop : goal.decreases-loop
-decreases-loop l = length l.self.tasks.due
+decreases-loop l = waiting l.self.tasks

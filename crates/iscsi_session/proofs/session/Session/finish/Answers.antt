@@ -1,4 +1,4 @@
-use Rattle.std.proofs.Common.{◌≡◌, ◌++◌, ℕ, List, [], sym, ap, ◌∙◌, append-nil}
+use Rattle.std.proofs.Common.{◌≡◌, ◌++◌, ℕ, List, [], refl, sym, ap, ◌∙◌, append-nil}
 use Rattle.std.specs.Prelude.{flat_map}
 use Rattle.iscsi_pdu.specs.Answer.{spelling}
 use Rattle.iscsi_session.specs.Requests.{frame_of, stamp, finished}
@@ -31,6 +31,7 @@ returns-clause-steps g c =
       out = λ past k others st is. c.done-buffer.ensures.out past k others st is
           ∙ ap (λ (bytes : List ℕ). bytes ++ flat_map spelling
           (command_answers (stamp (finished k past)) past.params.values (frame_of past.came k) c.in_ok-done.done)) c.make_room.ensures.same;
+      orders = refl;
     }))
 
 pub returns-clause-back : goal.returns-clause-back

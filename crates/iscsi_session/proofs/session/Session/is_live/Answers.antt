@@ -1,6 +1,5 @@
-use Rattle.std.proofs.Common.{◌≡◌, ◌||◌, ℕ, true, false, refl, sym, ap, subst, ◌∙◌}
-use Rattle.std.specs.Prelude.{is_some}
-use Rattle.iscsi_session.specs.State.{SessionState, Stands, place_with, function_place}
+use Rattle.std.proofs.Common.{sym, subst, ◌∙◌}
+use Rattle.iscsi_session.specs.State.{SessionState, Stands}
 use Rattle.iscsi_session.proofs.Feeding.{live_is, live_first, live_second}
 use Rattle.iscsi_session.proofs.session.Session.is_live.Goals as goal
 

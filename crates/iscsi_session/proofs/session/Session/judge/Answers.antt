@@ -1,7 +1,6 @@
-use Rattle.std.proofs.Common.{◌≡◌, true, false, sym, ap, subst, ◌∙◌}
+use Rattle.std.proofs.Common.{◌≡◌, true, false, sym, ap, ◌∙◌}
 use Rattle.iscsi_login.specs.declared.params.Params.{Params}
 use Rattle.iscsi_session.specs.Judging.{is_refused}
-use Rattle.iscsi_session.specs.State.{SessionState, Stands}
 use Rattle.iscsi_session.proofs.Parts.{parts}
 use Rattle.iscsi_session.proofs.Verdicts.{verdict_refused, verdict_served}
 use Rattle.iscsi_session.proofs.session.Session.judge.Goals as goal

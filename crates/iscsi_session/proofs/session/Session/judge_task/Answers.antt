@@ -3,9 +3,8 @@ use Rattle.std.specs.Prelude.{is_some}
 use Rattle.iscsi_pdu.specs.Frames.{Frame}
 use Rattle.iscsi_pdu.specs.Header.{is_immediate, initiator_task_tag}
 use Rattle.iscsi_login.specs.declared.params.Params.{Params}
-use Rattle.iscsi_transfer.specs.Task.{command_fault}
 use Rattle.iscsi_session.specs.Judging.{is_full, is_faulty}
-use Rattle.iscsi_session.specs.State.{SessionState, place_with, function_place}
+use Rattle.iscsi_session.specs.State.{place_with, function_place}
 use Rattle.iscsi_session.proofs.Feeding.{none_by, or_front, or_behind}
 use Rattle.iscsi_session.proofs.Parts.{parts}
 use Rattle.iscsi_session.proofs.Verdicts.{is_taken, over_limit, numbered_below, below_limit, tag_reserved, tag_live, tag_free, task_told, faultless_agreed}

@@ -1,5 +1,6 @@
-use Rattle.std.proofs.Common.{suc, refl, ◌∙◌}
+use Rattle.std.proofs.Common.{ℕ, suc, List, [], refl, ap, ◌∙◌}
 use Rattle.scsi_unit.specs.Units.{AreSound}
+use Rattle.iscsi_session.specs.Runs.{output}
 use Rattle.iscsi_session.specs.Steps.{Doing, ready, finish}
 use Rattle.iscsi_session.proofs.Parts.{on_err_known}
 use Rattle.iscsi_session.proofs.Runs.{none_ran, grows_none, grows_then, queue_count}
@@ -19,7 +20,8 @@ loop-init g c = record {
 
 pub returns-in_err-finish-clause-err : goal.returns-in_err-finish-clause-err
 returns-in_err-finish-clause-err g c = on_err_known _
-    (settle_stops c.loop.invariant.turns _ _ _ _ _ _ _ _ _ (AreSound c.finish.new.units) c.in_err-finish.ensures.err c.in_err-finish.ensures.out_err
+    (settle_stops c.loop.invariant.turns _ _ _ _ _ _ _ _ _ (AreSound c.finish.new.units) c.in_err-finish.ensures.err
+    (ap (λ (bytes : List ℕ). output bytes []) c.in_err-finish.ensures.out_err)
     c.in_err-finish.ensures.units_err
     (λ sound. settling_stops _ _ _ _ _ _ _ (c.loop.invariant.ran (c.in_err-finish.ensures.back sound)) c.in_err-finish.ensures.waits))
 

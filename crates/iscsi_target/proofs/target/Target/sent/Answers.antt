@@ -1,4 +1,4 @@
-use Rattle.std.proofs.Common.{◌<◌, length, map, string_bytes, sym, ap, ◌∙◌, arith}
+use Rattle.std.proofs.Common.{◌<◌, length, sym, ap, ◌∙◌, arith}
 use Rattle.iscsi_target.specs.Machine.{LinkState, Machine, link_at, with_link, sent_link, free_link}
 use Rattle.iscsi_target.proofs.Asking.{get_or_any}
 use Rattle.iscsi_target.proofs.Sound.{sound_units}

@@ -1,4 +1,4 @@
-use Rattle.std.proofs.Common.{◌≡◌, true, false, ◌≢◌, ◌<◌, List, length, map, set, string_bytes, Some, None, refl, sym, ap, ◌∙◌, arith}
+use Rattle.std.proofs.Common.{◌≡◌, true, false, ◌≢◌, ◌<◌, List, length, set, Some, None, refl, sym, ap, ◌∙◌, arith}
 use Rattle.std.proofs.lemmas.List.{length-set, get_or-set_same}
 use Rattle.iscsi_session.specs.State.{SessionState}
 use Rattle.iscsi_target.specs.Machine.{LinkState, Machine, link_at, closed, is_with, is_reading, is_logging_in, free_link}

@@ -2,16 +2,36 @@ use Rattle.std.proofs.Common.{◌≡◌, ℕ, ◌<◌, List, length, true, Optio
 use Rattle.iscsi_login.specs.Session.{is_same_target}
 use Rattle.iscsi_login.specs.LoginState.{IsTargetBelow}
 use Rattle.iscsi_login.specs.declared.params.Params.{Params}
+use Rattle.scsi_unit.specs.Units.{UnitStates, numbers_of}
 use Rattle.iscsi_target.specs.Machine.{LinkState, Machine, link_at, is_with, is_reading}
-use Rattle.iscsi_target.specs.Serving.{first_of, first_starved}
+use Rattle.iscsi_target.specs.World.{units_at, carry_out_for}
+use Rattle.iscsi_target.specs.Serving.{CarriesOut, first_of, first_starved}
 use Rattle.iscsi_target.specs.declared.phase.Phase.{Phase}
 use Rattle.iscsi_target.specs.declared.phase.Phase.TheVariants as phases
-use Rattle.iscsi_target.proofs.Apart.{apart_from, part_as, part_none, served_apart, with_session}
+use Rattle.iscsi_target.proofs.Apart.{apart_from, apart_then, part_as, part_none, served_apart, with_session}
 use Rattle.iscsi_target.proofs.Doing.{does_on, does_starved}
-use Rattle.iscsi_target.proofs.Frames.{takes_idle}
+use Rattle.iscsi_target.proofs.Frames.{takes_idle, finishes}
 use Rattle.iscsi_target.proofs.Held.{viewed, held_here, held_same, same_target, serve_takes, serve_moves, within_there}
 use Rattle.iscsi_target.proofs.Moving.{moves_none, moves_as, moves_from, moves_then, moves_starved}
 use Rattle.iscsi_target.proofs.target.Target.take_frame.Goals as goal
+
+pub carry_out_for-requires : goal.carry_out_for-requires
+carry_out_for-requires g c =
+    let machine : Machine = record {
+      directory = c.self.inside.directory;
+      units = c.self.inside.units.items;
+      links = c.self.inside.links.items;
+    } in
+    let lt : c.args.c < length machine.links = (let count = c.self.invariant.0 in let below = c.requires in omega arith) in
+    let link : viewed c.link.inside.framer c.link.inside.phase c.link.inside.waiting.items ≡ link_at machine c.args.c =
+    held_here c.self.inside.links.items c.args.c _ c.index_mut-link.result.now _ c.self.invariant.0 c.requires c.index_mut-link.ensures.value c.link.view_is in
+    let below : IsTargetBelow (length machine.units) c.in-FullFeature.session.params.target =
+    within_there machine c.args.c c.in-FullFeature.session lt (ap (λ (l : LinkState). l.phase) (sym link) ∙ c.in-FullFeature.is) c.self.invariant.2 in
+    let m = serve_moves c.serve-goes_on.result c.args.c machine c.end_unless-served.new.self c.link.inside.framer c.link.inside.phase
+    c.link.inside.waiting.items c.serve-goes_on.new.out.items c.in-FullFeature.session c.serve-goes_on.new.self
+    lt link c.in-FullFeature.is below c.serve-goes_on.ensures.grows c.end_unless-served.ensures.same in
+    subst (λ (n : ℕ). IsTargetBelow n c.params.result.now.target) (sym m.units)
+    (subst (λ (p : Params). IsTargetBelow (length machine.units) p.target) (sym c.params.ensures) below)
 
 pub settle_for-settled-requires : goal.settle_for-settled-requires
 settle_for-settled-requires g c =
@@ -28,7 +48,8 @@ settle_for-settled-requires g c =
     let m = serve_moves c.serve-goes_on.result c.args.c machine c.end_unless-served.new.self c.link.inside.framer c.link.inside.phase
     c.link.inside.waiting.items c.serve-goes_on.new.out.items c.in-FullFeature.session c.serve-goes_on.new.self
     lt link c.in-FullFeature.is below c.serve-goes_on.ensures.grows c.end_unless-served.ensures.same in
-    subst (λ (n : ℕ). IsTargetBelow n c.params.result.now.target) (sym m.units) (subst (λ (p : Params). IsTargetBelow (length machine.units) p.target) (sym c.params.ensures) below)
+    subst (λ (n : ℕ). IsTargetBelow n c.params.result.now.target) (sym ((c.carry_out_for.ensures.moves 0).units ∙ m.units))
+    (subst (λ (p : Params). IsTargetBelow (length machine.units) p.target) (sym c.params.ensures) below)
 
 pub returns-in-FullFeature-clause-takes : goal.returns-in-FullFeature-clause-takes
 returns-in-FullFeature-clause-takes g c =
@@ -40,14 +61,21 @@ returns-in-FullFeature-clause-takes g c =
     let link : viewed c.link.inside.framer c.link.inside.phase c.link.inside.waiting.items ≡ link_at machine c.args.c =
     held_here c.self.inside.links.items c.args.c _ c.index_mut-link.result.now _ c.self.invariant.0 c.requires c.index_mut-link.ensures.value c.link.view_is in
     let target : c.in-FullFeature.session.params.target ≡ c.params.result.now.target = ap (λ (p : Params). p.target) (sym c.params.ensures) in
+    let known : c.luns_of-luns.result.now ≡ numbers_of (units_at c.params.result.now.target machine.units) =
+    c.luns_of-luns.ensures ∙ ap (λ (all : List UnitStates). numbers_of (units_at c.params.result.now.target all)) c.as_slice.ensures.value in
+    let carries = subst (λ (os : List (List ℕ)). CarriesOut (carry_out_for c.args.c c.params.result.now.target os) c.end_unless-served.new.self
+    c.carry_out_for.new.self) c.as_slice-in-FullFeature.ensures.value c.carry_out_for.ensures.carries in
     does_starved _ _ _ _ _ _ _ (ap (λ (o : Option ℕ). first_of o (first_starved c.settle_for-settled.result)) (sym c.end_unless-served.ensures.value)
     ∙ sym c.earlier_of.ensures)
     (does_on _ _ _ _ machine c.settle_for-settled.new.self c.args.self.now c.settle_for-settled.new.self c.self.view_is refl
-    (serve_takes c.serve-goes_on.result c.args.c c.params.result.now.target c.args.frame machine c.end_unless-served.new.self
-    c.settle_for-settled.new.self c.link.inside.framer c.link.inside.phase c.link.inside.waiting.items
+    (serve_takes c.serve-goes_on.result c.args.c c.params.result.now.target c.args.frame c.luns_of-luns.result.now c.new-orders.result.items
+    c.serve-goes_on.new.orders.items machine c.end_unless-served.new.self c.settle_for-settled.new.self c.link.inside.framer c.link.inside.phase c.link.inside.waiting.items
     c.serve-goes_on.new.out.items c.in-FullFeature.session c.serve-goes_on.new.self (first_starved c.settle_for-settled.result) c.requires link
-    c.in-FullFeature.is target c.serve-goes_on.ensures.ok c.serve-goes_on.ensures.err
-    c.end_unless-served.ensures.same (c.settle_for-settled.ensures.moves 0).back c.settle_for-settled.ensures.settles))
+    c.in-FullFeature.is target known c.new-orders.ensures.items c.serve-goes_on.ensures.ok c.serve-goes_on.ensures.err c.end_unless-served.ensures.same
+    (λ sound. (c.carry_out_for.ensures.moves 0).back ((c.settle_for-settled.ensures.moves 0).back sound))
+    (finishes c.args.c c.params.result.now.target c.serve-goes_on.new.orders.items (first_starved c.settle_for-settled.result) c.end_unless-served.new.self
+    c.carry_out_for.new.self c.settle_for-settled.new.self (c.settle_for-settled.ensures.moves 0).back carries
+    c.settle_for-settled.ensures.settles)))
 
 pub returns-in-FullFeature-clause-moves : goal.returns-in-FullFeature-clause-moves
 returns-in-FullFeature-clause-moves g c =
@@ -67,7 +95,9 @@ returns-in-FullFeature-clause-moves g c =
     moves_starved c.args.c _ _ _ _ (ap (λ (o : Option ℕ). first_of o (first_starved c.settle_for-settled.result))
     (sym c.end_unless-served.ensures.value) ∙ sym c.earlier_of.ensures)
     (moves_from c.args.c _ c.args.self.now machine c.settle_for-settled.new.self (sym c.self.view_is)
-    (moves_then c.args.c _ _ machine c.end_unless-served.new.self c.settle_for-settled.new.self m (c.settle_for-settled.ensures.moves c.args.c)))
+    (moves_then c.args.c _ _ machine c.end_unless-served.new.self c.settle_for-settled.new.self m
+    (moves_then c.args.c None _ c.end_unless-served.new.self c.carry_out_for.new.self c.settle_for-settled.new.self
+    (c.carry_out_for.ensures.moves c.args.c) (c.settle_for-settled.ensures.moves c.args.c))))
 
 pub returns-in-FullFeature-clause-part : goal.returns-in-FullFeature-clause-part
 returns-in-FullFeature-clause-part g c = λ target with_.
@@ -89,7 +119,8 @@ returns-in-FullFeature-clause-part g c = λ target with_.
     apart_from target c.args.self.now machine _ (sym c.self.view_is)
     (served_apart c.serve-goes_on.result target machine c.end_unless-served.new.self c.settle_for-settled.new.self c.args.c then_ lt own then_own
     c.end_unless-served.ensures.same
-    (c.settle_for-settled.ensures.apart target at)))
+    (apart_then target c.end_unless-served.new.self c.carry_out_for.new.self c.settle_for-settled.new.self
+    (c.carry_out_for.ensures.apart target at) (c.settle_for-settled.ensures.apart target at))))
 
 pub returns-in-Free-clause-takes : goal.returns-in-Free-clause-takes
 returns-in-Free-clause-takes g c =

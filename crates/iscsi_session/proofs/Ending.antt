@@ -1,0 +1,277 @@
+-- A Task Management Function Request acts: what it removes and plugs, in the code and in the past.
+use Rattle.std.proofs.Common.{◌≡◌, ℕ, zero, suc, ◌+◌, ◌-◌, ◌<◌, ◌≤◌, List, [], ◌∷◌, ◌++◌, length, get_or, map, ltb, eqb, Bool, true, false, not, cond, ◌&&◌, ◌||◌, ◌==◌, Option, None, refl, sym, ap, subst, ◌∙◌, arith, append-nil, inl, inr}
+use Rattle.std.specs.Prelude.{filter, is_some}
+use Rattle.std.specs.List.{list_any, range_with_len}
+use Rattle.std.proofs.lemmas.Bool.{eqb-true, ne_eqb, ltb-true, lt-ltb, false_from_ne_true}
+use Rattle.std.proofs.lemmas.Bool.Decides.{leb_tells}
+use Rattle.std.proofs.lemmas.List.{nil_from_length, length-map}
+use Rattle.std.proofs.lemmas.List.FromFn.{get_or-map-range_with_len, length-range_with_len}
+use Rattle.iscsi_pdu.specs.Header.{is_immediate, opcode_number}
+use Rattle.iscsi_pdu.specs.TaskManagement.{task_function, function_code, ref_cmd_sn}
+use Rattle.iscsi_pdu.specs.declared.task_management.TaskFunction.{TaskFunction}
+use Rattle.iscsi_pdu.specs.declared.task_management.TaskFunction.TheVariants as functions
+use Rattle.iscsi_pdu.specs.declared.task_management_response.TaskResult.TheVariants as results
+use Rattle.iscsi_pdu.specs.Frames.{Frame}
+use Rattle.iscsi_order.specs.Window as order
+use Rattle.iscsi_order.specs.Window.{window, taken as taken_numbers}
+use Rattle.iscsi_order.specs.Serial.{distance}
+use Rattle.iscsi_session.specs.Requests.{Request, Past, request_at, frame_of, is_in, is_command, is_function, numbered, place_of, unfinished, finished, moved, removing, numbers}
+use Rattle.iscsi_session.specs.declared.transfers.Transfer.{Transfer}
+use Rattle.iscsi_session.specs.Functions.{FunctionReach, reaches, reached, plug, is_plug, plugged, is_plugged, refers_back, aborts_unseen, plugs, plugs_by, abort_result}
+use Rattle.iscsi_session.specs.Acts.{reach_of, ended, behind}
+use Rattle.iscsi_session.specs.State.{SessionState, TaskLists, IsLawful, Stands, void, voided, standing, frame_numbered, tasks_of, transfer_of, is_vacant, one_fewer, without, transfers_without, reaches_some, holding, takes_all, held_numbered, is_some_plug}
+use Rattle.iscsi_session.proofs.Left.{and_true_both}
+use Rattle.iscsi_session.proofs.Kept.{function_no_command}
+use Rattle.iscsi_session.proofs.Unfinished.{unfinished_other}
+use Rattle.iscsi_session.proofs.Standing.{standing_at, standing_kept, numbered_standing, place_standing, length_standing}
+use Rattle.iscsi_session.proofs.Fronts.{frame_come, frame_missing, place_come, place_missing}
+use Rattle.iscsi_session.proofs.Over.{one_fewer_by, removed_command}
+use Rattle.iscsi_session.proofs.Parts.{parts}
+use Rattle.iscsi_session.proofs.Feeding.{list_is}
+use Rattle.iscsi_session.proofs.Answered.{moved_other}
+use Rattle.iscsi_session.proofs.Removing.{stands_removing}
+use Rattle.iscsi_session.proofs.Plugging.{stands_plugged}
+
+-- ---- what it removes
+
+unfinished_moved : (past : Past) (k : ℕ)
+    → unfinished (record past { acted = past.acted ++ k ∷ []; finished = past.finished ++ k ∷ [] }) ≡ unfinished (finished k past)
+unfolding unfinished
+unfinished_moved past k = refl
+
+reached_from : (reach : FunctionReach) (past after : Past) → after.came ≡ past.came → unfinished after ≡ unfinished past
+    → reached reach after ≡ reached reach past
+unfolding reached
+reached_from reach past after came same =
+    ap (filter (λ k. reaches reach (frame_of after.came k).header)) same
+    ∙ ap (λ (l : List Request). filter (λ k. reaches reach (frame_of l k).header) (unfinished past)) came
+
+pub reached_moved : (luns : List ℕ) (past : Past) (k : ℕ) → is_function (frame_of past.came k) ≡ true
+    → reached (reach_of luns k past) (moved k past) ≡ reached (reach_of luns k past) past
+reached_moved luns past k f =
+    let reach = reach_of luns k past in
+    let no_command = function_no_command (frame_of past.came k) f in
+    ap (reached reach) (sym (moved_other k past no_command))
+    ∙ reached_from reach past (record past { acted = past.acted ++ k ∷ []; finished = past.finished ++ k ∷ [] }) refl
+    (unfinished_moved past k ∙ unfinished_other past k no_command)
+
+pub ended_function : (luns : List ℕ) (past : Past) (k : ℕ) → is_function (frame_of past.came k) ≡ true
+    → ended luns k past ≡ removing (reached (reach_of luns k past) past) (moved k past)
+ended_function luns past k f = rw f refl
+
+-- ---- what it plugs
+
+plugs_parts : (o : TaskFunction) (past : Past) (reach : FunctionReach) → plugs_by o past reach ≡ true
+    → (reached reach past ≡ []) × (order.is_new (numbers past) (ref_cmd_sn reach.function) ≡ true)
+plugs_parts functions.AbortTask past reach e =
+    let first = and_true_both _ _ e in
+    let second = and_true_both _ _ first.0 in
+    (nil_from_length (reached reach past) (eqb-true (length (reached reach past)) 0 second.0), first.1)
+plugs_parts functions.AbortTaskSet past reach e = absurd cc
+plugs_parts functions.ClearAca past reach e = absurd cc
+plugs_parts functions.ClearTaskSet past reach e = absurd cc
+plugs_parts functions.LogicalUnitReset past reach e = absurd cc
+plugs_parts functions.TargetWarmReset past reach e = absurd cc
+plugs_parts functions.TargetColdReset past reach e = absurd cc
+plugs_parts functions.TaskReassign past reach e = absurd cc
+plugs_parts (functions.Other n) past reach e = absurd cc
+
+pub plugs_new : (past : Past) (reach : FunctionReach) → plugs past reach ≡ true → order.is_new (numbers past) (ref_cmd_sn reach.function) ≡ true
+unfolding plugs
+plugs_new past reach e = (plugs_parts (task_function (function_code reach.function)) past reach e).1
+
+pub plugs_none : (past : Past) (reach : FunctionReach) → plugs past reach ≡ true → reached reach past ≡ []
+unfolding plugs
+plugs_none past reach e = (plugs_parts (task_function (function_code reach.function)) past reach e).0
+
+-- ---- a number that was plugged
+
+no_plug_void : (b : Bool) → is_plug (void b) ≡ false
+no_plug_void true = refl
+no_plug_void false = refl
+
+no_plug_command : (frame : Frame) → is_command frame ≡ true → is_plug frame ≡ false
+no_plug_command frame e =
+    let n = opcode_number frame.header in
+    let one : n ≡ 1 = eqb-true n 1 e in
+    ap (λ (m : ℕ). eqb m 0x3E) one
+
+-- one that was removed stands for none, and was none
+plug_stands : (past : Past) (lawful : IsLawful past) (k : ℕ) → k < length past.came → is_plug (frame_of (standing past) k) ≡ is_plug (frame_of past.came k)
+plug_stands past lawful k lt = by_case (is_in k past.removed) refl
+  where
+    by_case : (b : Bool) → is_in k past.removed ≡ b → is_plug (frame_of (standing past) k) ≡ is_plug (frame_of past.came k)
+    by_case true e =
+        let r = request_at past.came k in
+        ap (λ (x : Request). is_plug x.frame) (standing_at past k lt ∙ ap (λ (x : Bool). cond x (voided r) r) e)
+        ∙ no_plug_void (is_immediate r.frame.header) ∙ sym (no_plug_command r.frame (removed_command past lawful k e))
+    by_case false e = ap is_plug (standing_kept past k lt e)
+
+missing_plug : (came : List Request) → is_plug (frame_of came (length came)) ≡ false
+missing_plug [] = refl
+missing_plug (r ∷ came) = missing_plug came
+
+held_plug : (b : Bool) (past : Past) (lawful : IsLawful past) (k : ℕ) → order.has_come (numbered past.came) k ≡ b
+    → is_some_plug (frame_numbered (standing past) k) ≡ is_plug (frame_of past.came (place_of past.came k))
+held_plug true past lawful k h =
+    let lt = place_come past.came k h in
+    let at = place_standing past k in
+    ap is_some_plug (frame_come (standing past) k (omega (arith, at, length_standing past)))
+    ∙ ap (λ (p : ℕ). is_plug (frame_of (standing past) p)) at ∙ plug_stands past lawful (place_of past.came k) lt
+held_plug false past lawful k h =
+    ap is_some_plug (frame_missing (standing past) k (ap (λ (l : List ℕ). order.has_come l k) (numbered_standing past) ∙ h))
+    ∙ sym (ap (λ (p : ℕ). is_plug (frame_of past.came p)) (place_missing past.came k h) ∙ missing_plug past.came)
+
+beyond : {A : Type 0} (l : List A) (i : ℕ) (d : A) → length l ≤ i → get_or l i d ≡ d
+beyond [] i d le = refl
+beyond (x ∷ l) zero d le = absurd (omega arith)
+beyond (x ∷ l) (suc i) d le = beyond l i d (omega arith)
+
+plugged_in : (past : Past) (n : ℕ) → IsLawful past → is_some_plug (held_numbered (tasks_of past) n) ≡ is_plugged past n
+unfolding tasks_of taken_numbers
+plugged_in past n lawful =
+    let d = distance (tasks_of past).next n in
+    let h = (numbers past).handed in
+    elim (leb_tells window d) [
+      | inr near ↦
+          ap is_some_plug (get_or-map-range_with_len (frame_numbered (standing past)) h window d (h + d) None near.1 refl)
+          ∙ held_plug _ past lawful (h + d) refl
+      | inl far ↦
+          let long = length-map-range (frame_numbered (standing past)) h window in
+          let few = lawful.window.finished in
+          let none : order.has_come (numbered past.came) (h + d) ≡ false = false_from_ne_true (order.has_come (numbered past.came) (h + d))
+          (λ e. let lt = lawful.window.within (h + d) e in absurd (omega arith)) in
+          ap is_some_plug (beyond (map (frame_numbered (standing past)) (range_with_len h window)) d None (omega arith))
+          ∙ sym (ap (λ (p : ℕ). is_plug (frame_of past.came p)) (place_missing past.came (h + d) none) ∙ missing_plug past.came)
+    ]
+  where
+    length-map-range : (f : ℕ → Option Frame) (a n : ℕ) → length (map f (range_with_len a n)) ≡ n
+    length-map-range f a n = length-map (range_with_len a n) f ∙ length-range_with_len a n
+
+plugged_is : (past : Past) (state : SessionState) (n : ℕ) → Stands past state → is_some_plug (held_numbered state.tasks n) ≡ is_plugged past n
+plugged_is past state n s = ap (λ (t : TaskLists). is_some_plug (held_numbered t n)) (parts past state s).tasks_is ∙ plugged_in past n s.lawful
+
+-- ---- in the code
+
+any_counts : (p : Transfer → Bool) (f : ℕ → Transfer) (l : List ℕ) → list_any p (map f l) ≡ not (length (filter (λ k. p (f k)) l) == 0)
+any_counts p f [] = refl
+any_counts p f (k ∷ l) = by_case (p (f k)) refl (any_counts p f l)
+  where
+    by_case : (b : Bool) → p (f k) ≡ b → list_any p (map f l) ≡ not (length (filter (λ k. p (f k)) l) == 0)
+        → list_any p (map f (k ∷ l)) ≡ not (length (filter (λ k. p (f k)) (k ∷ l)) == 0)
+    by_case true e rest = rw e (sym (ap not (ne_eqb (suc (length (filter (λ x. p (f x)) l))) 0 (λ h. absurd (omega (arith, h))))))
+    by_case false e rest = rw e rest
+
+pub some_reached : (past : Past) (state : SessionState) (reach : FunctionReach) → Stands past state
+    → reaches_some reach state.transfers.list ≡ not (length (reached reach past) == 0)
+unfolding reached
+some_reached past state reach s =
+    ap (reaches_some reach) (list_is past state s) ∙ any_counts (λ transfer. reaches reach transfer.header) (transfer_of past) (unfinished past)
+
+-- ---- what an ABORT TASK comes to
+
+abort_complete : (past : Past) (reach : FunctionReach) → not (length (reached reach past) == 0) ≡ true → results.Complete ≡ abort_result past reach
+abort_complete past reach e = rw e refl
+
+abort_ahead : (past : Past) (reach : FunctionReach) → not (length (reached reach past) == 0) ≡ false → refers_back reach.function ≡ false
+    → results.NoTask ≡ abort_result past reach
+abort_ahead past reach e f = rw (e, f) refl
+
+abort_back : (a b : Bool) (past : Past) (reach : FunctionReach) → not (length (reached reach past) == 0) ≡ false → refers_back reach.function ≡ true
+    → order.is_new (numbers past) (ref_cmd_sn reach.function) ≡ a → is_plugged past (ref_cmd_sn reach.function) ≡ b
+    → cond (a || b) results.Complete results.NoTask ≡ abort_result past reach
+abort_back a b past reach e f g h = rw (e, f, g, h) refl
+
+pub aborts_reached : (past : Past) (state : SessionState) (reach : FunctionReach) (r : Bool) → Stands past state
+    → r ≡ reaches_some reach state.transfers.list → r ≡ true → results.Complete ≡ abort_result past reach
+aborts_reached past state reach r s is e = abort_complete past reach (sym (some_reached past state reach s) ∙ sym is ∙ e)
+
+pub aborts_ahead : (past : Past) (state : SessionState) (reach : FunctionReach) (r b : Bool) → Stands past state
+    → r ≡ reaches_some reach state.transfers.list → r ≡ false → b ≡ refers_back reach.function → b ≡ false → results.NoTask ≡ abort_result past reach
+aborts_ahead past state reach r b s is e back f =
+    abort_ahead past reach (sym (some_reached past state reach s) ∙ sym is ∙ e) (sym back ∙ f)
+
+pub aborts_back : (past : Past) (state : SessionState) (reach : FunctionReach) (r b new plugs_it : Bool) → Stands past state
+    → r ≡ reaches_some reach state.transfers.list → r ≡ false → b ≡ refers_back reach.function → b ≡ true
+    → new ≡ order.is_new (numbers past) (ref_cmd_sn reach.function) → plugs_it ≡ is_some_plug (held_numbered state.tasks (ref_cmd_sn reach.function))
+    → cond (new || plugs_it) results.Complete results.NoTask ≡ abort_result past reach
+aborts_back past state reach r b new plugs_it s is e back f is_new is_plug =
+    abort_back new plugs_it past reach (sym (some_reached past state reach s) ∙ sym is ∙ e) (sym back ∙ f) (sym is_new)
+    (sym (plugged_is past state (ref_cmd_sn reach.function) s) ∙ sym is_plug)
+
+-- and whether it plugs a number
+unseen_by : (r b new : Bool) (past : Past) (reach : FunctionReach) → not (length (reached reach past) == 0) ≡ r → refers_back reach.function ≡ b
+    → order.is_new (numbers past) (ref_cmd_sn reach.function) ≡ new → (not r && b && new) ≡ aborts_unseen past reach
+unseen_by r b new past reach e f g = by_case (length (reached reach past) == 0) refl
+  where
+    by_case : (c : Bool) → (length (reached reach past) == 0) ≡ c → (not r && b && new) ≡ aborts_unseen past reach
+    by_case true h = let no : r ≡ false = sym e ∙ ap not h in rw (no, h, f, g) refl
+    by_case false h = let yes : r ≡ true = sym e ∙ ap not h in rw (yes, h) refl
+
+pub unseen_is : (past : Past) (state : SessionState) (reach : FunctionReach) (r b new : Bool) → Stands past state
+    → r ≡ reaches_some reach state.transfers.list → b ≡ refers_back reach.function → new ≡ order.is_new (numbers past) (ref_cmd_sn reach.function)
+    → (not r && b && new) ≡ aborts_unseen past reach
+unseen_is past state reach r b new s is back is_new =
+    unseen_by r b new past reach (sym (some_reached past state reach s) ∙ sym is) (sym back) (sym is_new)
+
+vacant_by : (d u : ℕ) (o : Bool) (b : Bool) → (ltb d (window - u) && o) ≡ true → (ltb d (window - cond b u (u - 1)) && o) ≡ true
+vacant_by d u o true e = e
+vacant_by d u o false e =
+    let both = and_true_both (ltb d (window - u)) o e in
+    let less = ltb-true d (window - u) both.0 in
+    rw (lt-ltb d (window - (u - 1)) (omega arith)) both.1
+
+-- a number that is vacant still is, where a request is finished
+pub vacant_still : (frame : Frame) (others : List Frame) (tasks : TaskLists) (n : ℕ) → is_vacant tasks n ≡ true
+    → is_vacant (one_fewer frame (record tasks { due = others })) n ≡ true
+vacant_still frame others tasks n e =
+    ap (λ (t : TaskLists). is_vacant t n) (one_fewer_by _ frame (record tasks { due = others }) refl)
+    ∙ vacant_by (distance tasks.next n) tasks.unfinished (not (is_some (get_or tasks.held (distance tasks.next n) None))) (is_immediate frame.header) e
+
+behind_plain : (luns : List ℕ) (past after : Past) (k : ℕ) → plugs past (reach_of luns k past) ≡ false → behind luns k past after ≡ after
+behind_plain luns past after k e = by_case (is_function (frame_of past.came k)) refl
+  where
+    by_case : (b : Bool) → is_function (frame_of past.came k) ≡ b → behind luns k past after ≡ after
+    by_case true f = rw (f, e) refl
+    by_case false f = rw f refl
+
+behind_plugs : (luns : List ℕ) (past after : Past) (k : ℕ) → is_function (frame_of past.came k) ≡ true → plugs past (reach_of luns k past) ≡ true
+    → behind luns k past after ≡ plugged (ref_cmd_sn (frame_of past.came k).header) after
+behind_plugs luns past after k f e = rw (f, e) refl
+
+-- it removes what it reaches
+pub stands_ended : (luns : List ℕ) (past : Past) (state : SessionState) (k : ℕ) → is_function (frame_of past.came k) ≡ true
+    → Stands (moved k past) state → Stands (ended luns k past) (record state {
+      tasks = without (reach_of luns k past) state.tasks;
+      transfers = record state.transfers { list = transfers_without (reach_of luns k past) state.transfers.list };
+    })
+stands_ended luns past state k f s =
+    let reach = reach_of luns k past in
+    let after : SessionState = record state {
+      tasks = without reach state.tasks;
+      transfers = record state.transfers { list = transfers_without reach state.transfers.list };
+    } in
+    subst (λ (p : Past). Stands p after)
+    (ap (λ (l : List ℕ). removing l (moved k past)) (reached_moved luns past k f) ∙ sym (ended_function luns past k f))
+    (stands_removing reach (moved k past) state s)
+
+pub stands_behind : (luns : List ℕ) (past : Past) (state : SessionState) (k : ℕ) → plugs past (reach_of luns k past) ≡ false
+    → Stands (ended luns k past) state → Stands (behind luns k past (ended luns k past)) state
+stands_behind luns past state k e s = subst (λ (p : Past). Stands p state) (sym (behind_plain luns past (ended luns k past) k e)) s
+
+-- and where it plugs it reaches none
+pub stands_unreached : (luns : List ℕ) (past : Past) (state : SessionState) (k : ℕ) → is_function (frame_of past.came k) ≡ true
+    → plugs past (reach_of luns k past) ≡ true → Stands (moved k past) state → Stands (ended luns k past) state
+stands_unreached luns past state k f e s =
+    let none : removing [] (moved k past) ≡ moved k past = ap (λ (l : List ℕ). record (moved k past) { removed = l }) (append-nil (moved k past).removed) in
+    subst (λ (p : Past). Stands p state)
+    (sym none ∙ ap (λ (l : List ℕ). removing l (moved k past)) (sym (plugs_none past (reach_of luns k past) e)) ∙ sym (ended_function luns past k f)) s
+
+pub stands_plugged_behind : (luns : List ℕ) (past : Past) (state : SessionState) (k n : ℕ) → is_function (frame_of past.came k) ≡ true
+    → plugs past (reach_of luns k past) ≡ true → n ≡ ref_cmd_sn (frame_of past.came k).header → is_vacant state.tasks n ≡ true
+    → Stands (ended luns k past) state
+    → Stands (behind luns k past (ended luns k past)) (record state { tasks = takes_all (holding n plug state.tasks) })
+stands_plugged_behind luns past state k n f e is free s =
+    subst (λ (p : Past). Stands p (record state { tasks = takes_all (holding n plug state.tasks) }))
+    (ap (λ (m : ℕ). plugged m (ended luns k past)) is ∙ sym (behind_plugs luns past (ended luns k past) k f e))
+    (stands_plugged n (ended luns k past) state s free)

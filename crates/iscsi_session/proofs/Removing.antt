@@ -1,0 +1,378 @@
+-- SCSI Commands that are not finished are removed: what the session remembers, and that its past stays lawful.
+use Rattle.std.proofs.Common.{◌≡◌, ℕ, ◌+◌, ◌-◌, ◌<◌, ◌≤◌, List, [], ◌∷◌, ◌++◌, length, map, get_or, Bool, true, false, not, cond, ◌&&◌, Some, refl, sym, ap, subst, ◌∙◌, arith}
+use Rattle.std.specs.Prelude.{All, filter, is_some, option_map}
+use Rattle.std.specs.List.{range_with_len}
+use Rattle.std.proofs.lemmas.Bool.{false_from_ne_true}
+use Rattle.std.proofs.lemmas.List.FromFn.{get_or-range_with_len, length-range_with_len}
+use Rattle.std.proofs.lemmas.List.Elements.{All-append}
+use Rattle.iscsi_pdu.specs.Header.{is_immediate}
+use Rattle.iscsi_pdu.specs.Frames.{Frame}
+use Rattle.iscsi_order.specs.Window as order
+use Rattle.iscsi_order.specs.Window.{taken as taken_numbers, window}
+use Rattle.iscsi_order.proofs.Front.{front_missing}
+use Rattle.iscsi_session.specs.Requests.{Request, Past, request_at, frame_of, frames_of, is_in, left, is_command, is_function, commands, counted, over, numbered, place_of, taken, numbers, due, queue, unfinished, functions, removing}
+use Rattle.iscsi_session.specs.Transfers.{tag_of, task_at, outs_of, tags_of}
+use Rattle.iscsi_session.specs.Functions.{FunctionReach, reaches, reached}
+use Rattle.iscsi_session.specs.declared.transfers.Transfer.{Transfer}
+use Rattle.iscsi_session.specs.Texts.{exchange_of}
+use Rattle.iscsi_session.specs.State.{SessionState, TransferList, Stands, AreDistinct, IsDelivered, IsLawful, void, voided, standing, frame_numbered, tasks_of, transfer_of, transfers_of, functions_of, void_if, stays, counts_out, reaches_frame, without, transfers_without}
+use Rattle.iscsi_session.proofs.Left.{filter_cong, filter_filter, map_cong, left_more, left_append, left_all, in_at, in_filter, in_filter_back, in_left, passes_in, not_gone, not_in, is_in_append, below_of, distinct_map_filter}
+use Rattle.iscsi_session.proofs.Places.{count_map}
+use Rattle.iscsi_session.proofs.Kept.{function_no_command, in_kept, all_of_kind, kept_in}
+use Rattle.iscsi_session.proofs.Unfinished.{unfinished_came, unfinished_command, queue_unfinished}
+use Rattle.iscsi_session.proofs.Standing.{numbered_standing, place_standing, length_standing, standing_at}
+use Rattle.iscsi_session.proofs.Taken.{beyond_not_taken, taken_below}
+use Rattle.iscsi_session.proofs.Fronts.{first_of, frame_come, frame_missing, place_come, place_missing, moment_above}
+use Rattle.iscsi_session.proofs.Accepted.{handed_is, handed_le, counted_append, due_is, in_queue}
+use Rattle.iscsi_session.proofs.Over.{split, acted_counted, few_over}
+use Rattle.iscsi_session.proofs.Parts.{parts, stands_parts}
+
+filter_map_names : {Y : Type 0} (p : Y → Bool) (f : ℕ → Y) (names : List ℕ) → filter p (map f names) ≡ map f (filter (λ k. p (f k)) names)
+filter_map_names p f [] = refl
+filter_map_names {Y = Y} p f (k ∷ names) = by_case (p (f k)) refl (filter_map_names p f names)
+  where
+    by_case : (b : Bool) → p (f k) ≡ b → filter p (map f names) ≡ map f (filter (λ k. p (f k)) names)
+        → filter p (map f (k ∷ names)) ≡ map f (filter (λ k. p (f k)) (k ∷ names))
+    by_case true e rest = rw e (ap (λ (l : List Y). f k ∷ l) rest)
+    by_case false e rest = rw e rest
+
+map_map_names : {Y Z : Type 0} (g : Y → Z) (f : ℕ → Y) (names : List ℕ) → map g (map f names) ≡ map (λ k. g (f k)) names
+map_map_names g f [] = refl
+map_map_names {Z = Z} g f (k ∷ names) = ap (λ (l : List Z). g (f k) ∷ l) (map_map_names g f names)
+
+pub void_kept : (reach : FunctionReach) (b : Bool) → void_if reach (void b) ≡ void b
+void_kept reach true = refl
+void_kept reach false = refl
+
+and_true : (a b : Bool) → a ≡ true → (a && b) ≡ b
+and_true true b e = refl
+and_true false b e = absurd cc
+
+and_false : (a b : Bool) → (a ≡ true → b ≡ false) → (a && b) ≡ false
+and_false true b e = e refl
+and_false false b e = refl
+
+module _ (reach : FunctionReach) (past : Past) (lawful : IsLawful past) where
+  abbrev hit : ℕ → Bool
+  hit k = reaches reach (frame_of past.came k).header
+
+  abbrev gone : List ℕ
+  gone = reached reach past
+
+  abbrev after : Past
+  after = removing (reached reach past) past
+
+  -- ---- which they are
+
+  gone_unfinished : (k : ℕ) → is_in k gone ≡ true → is_in k (unfinished past) ≡ true
+  unfolding reached
+  gone_unfinished k e = in_filter k hit (unfinished past) e
+
+  gone_hit : (k : ℕ) → is_in k gone ≡ true → hit k ≡ true
+  unfolding reached
+  gone_hit k e = passes_in k hit (unfinished past) e
+
+  hit_gone : (k : ℕ) → is_in k (unfinished past) ≡ true → hit k ≡ true → is_in k gone ≡ true
+  unfolding reached
+  hit_gone k there e = in_filter_back k hit (unfinished past) there e
+
+  -- of one that is not finished
+  gone_is : (k : ℕ) → is_in k (unfinished past) ≡ true → is_in k gone ≡ hit k
+  gone_is k there = by_case (hit k) refl
+    where
+      by_case : (b : Bool) → hit k ≡ b → is_in k gone ≡ hit k
+      by_case true e = hit_gone k there e ∙ sym e
+      by_case false e = false_from_ne_true (is_in k gone) (λ h. let no = sym (gone_hit k h) ∙ e in absurd cc) ∙ sym e
+
+  not_there : (k : ℕ) → is_in k (unfinished past) ≡ false → is_in k gone ≡ false
+  not_there k none = false_from_ne_true (is_in k gone) (λ h. let no = sym (gone_unfinished k h) ∙ none in absurd cc)
+
+  left_hit : (l : List ℕ) → All (λ k. is_in k (unfinished past) ≡ true) l → left gone l ≡ filter (λ k. not (hit k)) l
+  unfolding left
+  left_hit l all = filter_cong _ _ l (λ i d lt. ap not (gone_is _ (all i d lt)))
+
+  in_queue_unfinished : All (λ k. is_in k (unfinished past) ≡ true) (queue past)
+  in_queue_unfinished = λ i d lt. queue_unfinished past _ lawful.below (in_at (queue past) i d lt)
+
+  -- ---- the lines
+
+  left_again : (l : List ℕ) → left (past.removed ++ gone) l ≡ left gone (left past.removed l)
+  left_again l = left_more past.removed gone l
+
+  queue_gone : queue after ≡ left gone (queue past)
+  unfolding queue
+  queue_gone = left_again (left past.finished (commands past.came past.acted))
+
+  pub queue_hit : queue after ≡ filter (λ k. not (hit k)) (queue past)
+  queue_hit = queue_gone ∙ left_hit (queue past) in_queue_unfinished
+
+  unfinished_gone : unfinished after ≡ left gone (unfinished past)
+  unfolding unfinished
+  unfinished_gone = left_again (left past.finished (commands past.came (range_with_len 0 (length past.came))))
+
+  pub unfinished_hit : unfinished after ≡ filter (λ k. not (hit k)) (unfinished past)
+  unfinished_hit = unfinished_gone ∙ left_hit (unfinished past) (λ i d lt. in_at (unfinished past) i d lt)
+
+  no_function : (k : ℕ) → is_function (frame_of past.came k) ≡ true → is_in k gone ≡ false
+  no_function k f = not_there k (false_from_ne_true (is_in k (unfinished past)) (λ h.
+      let no = sym (unfinished_command past k h) ∙ function_no_command (frame_of past.came k) f in absurd cc))
+
+  functions_gone : functions after ≡ left gone (functions past)
+  unfolding functions
+  functions_gone = left_again (left past.finished (filter (λ k. is_function (frame_of past.came k)) (range_with_len 0 (length past.came))))
+
+  function_in : (k : ℕ) → is_in k (functions past) ≡ true → is_function (frame_of past.came k) ≡ true
+  unfolding functions
+  function_in k e = all_of_kind is_function past k (kept_in is_function past k e)
+
+  pub functions_same : functions after ≡ functions past
+  functions_same = functions_gone ∙ left_all gone (functions past) (λ i d lt. no_function _ (function_in _ (in_at (functions past) i d lt)))
+
+  pub due_same : due after ≡ due past
+  unfolding due
+  due_same = refl
+
+  -- ---- how many are over
+
+  unfinished_open : (k : ℕ) → is_in k (unfinished past) ≡ true → is_in k past.finished ≡ false
+  unfolding unfinished
+  unfinished_open k h = not_gone k past.finished _ (in_left k past.removed _ h)
+
+  finished_apart : (k : ℕ) → is_in k past.finished ≡ true → is_in k gone ≡ false
+  finished_apart k e = not_there k (false_from_ne_true (is_in k (unfinished past)) (λ h. let no = sym e ∙ unfinished_open k h in absurd cc))
+
+  finished_stay : left gone (commands past.came past.finished) ≡ commands past.came past.finished
+  finished_stay = left_all gone (commands past.came past.finished) (λ i d lt. finished_apart _
+      (in_filter _ (λ k. is_command (frame_of past.came k)) past.finished (in_at (commands past.came past.finished) i d lt)))
+
+  commands_left : left (past.removed ++ gone) (commands past.came past.acted) ≡ commands past.came past.finished ++ queue after
+  commands_left =
+      left_again (commands past.came past.acted) ∙ ap (left gone) (sym lawful.queued)
+      ∙ left_append gone (commands past.came past.finished) (queue past)
+      ∙ ap (λ (l : List ℕ). l ++ left gone (queue past)) finished_stay
+      ∙ ap (λ (l : List ℕ). commands past.came past.finished ++ l) (sym queue_gone)
+
+  pub handed_same : (numbers after).handed ≡ (numbers past).handed
+  unfolding taken_numbers
+  handed_same = refl
+
+  gone_below : All (λ k. k < length past.came) gone
+  gone_below = λ i d lt. unfinished_came past _ (gone_unfinished _ (in_at gone i d lt))
+
+  gone_commands : All (λ k. is_command (frame_of past.came k) ≡ true) gone
+  gone_commands = λ i d lt. unfinished_command past _ (gone_unfinished _ (in_at gone i d lt))
+
+  all_commands : All (λ k. is_command (frame_of past.came k) ≡ true) (past.removed ++ gone)
+  all_commands = All-append (λ k. is_command (frame_of past.came k) ≡ true) past.removed gone lawful.removed_commands gone_commands
+
+  pub over_more : counted past.came (over after) ≡ counted past.came (over past) + counted past.came (filter hit (queue past))
+  over_more =
+      let came = past.came in
+      let a = acted_counted past lawful.removed_commands in
+      let b = acted_counted after all_commands in
+      let c = ap (counted came) (sym lawful.queued) ∙ counted_append came (commands came past.finished) (queue past) in
+      let d = ap (counted came) commands_left ∙ counted_append came (commands came past.finished) (queue after) in
+      let e = split hit came (queue past) in
+      let f = ap (counted came) queue_hit in
+      let g = counted_append came past.finished (filter (λ k. is_in k past.removed) past.acted) in
+      let h = counted_append came past.finished (filter (λ k. is_in k (past.removed ++ gone)) past.acted) in
+      omega arith
+
+  pub lawful_removing : IsLawful after
+  lawful_removing =
+      let in_order : taken past.came ≡ past.acted ++ due after = lawful.in_order ∙ ap (λ (l : List ℕ). past.acted ++ l) (sym due_same) in
+      let handed : counted past.came (taken past.came) ≡ (numbers after).handed = lawful.handed ∙ sym handed_same in
+      let few = few_over after in_order (sym commands_left) lawful.at_once all_commands handed in
+      record {
+        window = record {
+          finished = few;
+          handed = handed_le after;
+          within = λ j come. (let lt = lawful.window.within j come in let more = over_more in omega arith);
+        };
+        distinct = lawful.distinct;
+        delivered = lawful.delivered;
+        in_order = in_order;
+        below = lawful.below;
+        acted = lawful.acted;
+        queued = sym commands_left;
+        at_once = lawful.at_once;
+        handed = handed;
+        fed = lawful.fed;
+        asked = lawful.asked;
+        tags = subst (λ (l : List ℕ). AreDistinct (map (tag_of past.came) l)) (sym unfinished_hit)
+            (distinct_map_filter (tag_of past.came) (λ k. not (hit k)) (unfinished past) lawful.tags);
+        function_tags = subst (λ (l : List ℕ). AreDistinct (map (tag_of past.came) l)) (sym functions_same) lawful.function_tags;
+        removed_below = All-append (λ k. k < length past.came) past.removed gone lawful.removed_below gone_below;
+        removed_commands = all_commands;
+        apart = λ i d lt. is_in_append _ past.removed gone
+            ∙ rw (lawful.apart i d lt, finished_apart _ (in_at past.finished i d lt)) refl;
+      }
+
+  -- ---- as they stand
+
+  still_there : (k : ℕ) → k < length past.came → is_in k past.finished ≡ false → is_in k past.removed ≡ false → is_command (frame_of past.came k) ≡ true
+      → is_in k (unfinished past) ≡ true
+  unfolding unfinished
+  still_there k lt un e h = in_kept is_command past k lt h un e
+
+  stands_at : (a b c : Bool) (k : ℕ) → k < length past.came → is_in k past.finished ≡ false → is_in k past.removed ≡ a → is_in k gone ≡ b
+      → is_command (frame_of past.came k) ≡ c
+      → frame_of (standing after) k ≡ void_if reach (frame_of (standing past) k)
+  stands_at true b c k lt un e f g =
+      let r = request_at past.came k in
+      let both : is_in k (past.removed ++ gone) ≡ true = is_in_append k past.removed gone ∙ rw e refl in
+      ap (λ (x : Request). x.frame) (standing_at after k lt ∙ ap (λ (x : Bool). cond x (voided r) r) both)
+      ∙ sym (void_kept reach (is_immediate r.frame.header))
+      ∙ ap (λ (x : Request). void_if reach x.frame) (sym (standing_at past k lt ∙ ap (λ (x : Bool). cond x (voided r) r) e))
+  stands_at false true c k lt un e f g =
+      let r = request_at past.came k in
+      let both : is_in k (past.removed ++ gone) ≡ true = is_in_append k past.removed gone ∙ rw (e, f) refl in
+      let reached_here : reaches_frame reach r.frame ≡ true = rw (unfinished_command past k (gone_unfinished k f)) (gone_hit k f) in
+      let voids : void_if reach r.frame ≡ void (is_immediate r.frame.header) = rw reached_here refl in
+      ap (λ (x : Request). x.frame) (standing_at after k lt ∙ ap (λ (x : Bool). cond x (voided r) r) both)
+      ∙ sym voids
+      ∙ ap (λ (x : Request). void_if reach x.frame) (sym (standing_at past k lt ∙ ap (λ (x : Bool). cond x (voided r) r) e))
+  stands_at false false c k lt un e f g =
+      let r = request_at past.came k in
+      let both : is_in k (past.removed ++ gone) ≡ false = is_in_append k past.removed gone ∙ rw (e, f) refl in
+      let not_reached : reaches_frame reach r.frame ≡ false = and_false (is_command r.frame) (reaches reach r.frame.header)
+      (λ h. sym (gone_is k (still_there k lt un e h)) ∙ f) in
+      let same : void_if reach r.frame ≡ r.frame = rw not_reached refl in
+      ap (λ (x : Request). x.frame) (standing_at after k lt ∙ ap (λ (x : Bool). cond x (voided r) r) both)
+      ∙ sym same
+      ∙ ap (λ (x : Request). void_if reach x.frame) (sym (standing_at past k lt ∙ ap (λ (x : Bool). cond x (voided r) r) e))
+
+  pub voids_here : (k : ℕ) → k < length past.came → is_in k past.finished ≡ false
+      → frame_of (standing after) k ≡ void_if reach (frame_of (standing past) k)
+  voids_here k lt un = stands_at _ _ _ k lt un refl refl refl
+
+  not_finished : (k : ℕ) → is_in k past.acted ≡ false → is_in k past.finished ≡ false
+  not_finished k none = not_in k past.finished past.acted lawful.acted none
+
+  -- those that are due
+  due_open : (k : ℕ) → is_in k (due past) ≡ true → (k < length past.came) × (is_in k past.finished ≡ false)
+  due_open k e =
+      let there : is_in k (left past.acted (taken past.came)) ≡ true = ap (λ (l : List ℕ). is_in k l) (sym (due_is past lawful)) ∙ e in (
+        below_of (length past.came) k (taken past.came) (taken_below past.came) (in_left k past.acted (taken past.came) there),
+        not_finished k (not_gone k past.acted (taken past.came) there),
+      )
+
+  due_voids : frames_of (standing after) (due after) ≡ map (void_if reach) (frames_of (standing past) (due past))
+  due_voids =
+      ap (frames_of (standing after)) due_same
+      ∙ map_cong _ _ (due past) (λ i d lt. let o = due_open _ (in_at (due past) i d lt) in voids_here _ o.0 o.1)
+      ∙ sym (map_map_names (void_if reach) (frame_of (standing past)) (due past))
+
+  -- those that are held
+  held_open : (n : ℕ) → (numbers past).handed ≤ n → place_of past.came n < length past.came → is_in (place_of past.came n) past.finished ≡ false
+  held_open n le lt =
+      let e = handed_is past in
+      let missing = place_missing past.came (first_of past.came) (front_missing (numbered past.came)) in
+      let above = moment_above past.came (first_of past.came) n (omega arith) in
+      let p = place_of past.came n in
+      let none : is_in p (taken past.came) ≡ false = beyond_not_taken past.came n lt (omega arith) in
+      not_finished p (false_from_ne_true (is_in p past.acted) (λ h. let no = sym (acted_taken p h) ∙ none in absurd cc))
+    where
+      acted_taken : (k : ℕ) → is_in k past.acted ≡ true → is_in k (taken past.came) ≡ true
+      acted_taken k h = ap (λ (l : List ℕ). is_in k l) lawful.in_order ∙ is_in_append k past.acted (due past) ∙ rw h refl
+
+  held_by : (b : Bool) (n : ℕ) → order.has_come (numbered past.came) n ≡ b → (numbers past).handed ≤ n
+      → frame_numbered (standing after) n ≡ option_map (void_if reach) (frame_numbered (standing past) n)
+  held_by true n h le =
+      let lt = place_come past.came n h in
+      let p = place_of past.came n in
+      let here : (p0 : Past) → length (standing p0) ≡ length past.came → place_of (standing p0) n ≡ p
+      → frame_numbered (standing p0) n ≡ Some (frame_of (standing p0) p) =
+      λ p0 long at. frame_come (standing p0) n (omega (arith, long, at)) ∙ ap (λ (m : ℕ). Some (frame_of (standing p0) m)) at in
+      here after (length_standing after) (place_standing after n)
+      ∙ ap (λ (f : Frame). Some f) (voids_here p lt (held_open n le lt))
+      ∙ ap (option_map (void_if reach)) (sym (here past (length_standing past) (place_standing past n)))
+  held_by false n h le =
+      frame_missing (standing after) n (ap (λ (l : List ℕ). order.has_come l n) (numbered_standing after) ∙ h)
+      ∙ ap (option_map (void_if reach)) (sym (frame_missing (standing past) n (ap (λ (l : List ℕ). order.has_come l n) (numbered_standing past) ∙ h)))
+
+  held_range : (a n : ℕ) → (numbers past).handed ≤ a
+      → map (frame_numbered (standing after)) (range_with_len a n) ≡ map (option_map (void_if reach))
+      (map (frame_numbered (standing past)) (range_with_len a n))
+  held_range a n le =
+      map_cong _ _ (range_with_len a n) (λ i d lt.
+      let at = get_or-range_with_len a n i d (omega (arith, length-range_with_len a n)) in
+      held_by _ (get_or (range_with_len a n) i d) refl (omega arith))
+      ∙ sym (map_map_names (option_map (void_if reach)) (frame_numbered (standing past)) (range_with_len a n))
+
+  -- those in the queue
+  queue_command : (k : ℕ) → is_in k (queue past) ≡ true → is_command (frame_of past.came k) ≡ true
+  queue_command k e = unfinished_command past k (queue_unfinished past k lawful.below e)
+
+  reached_in_queue : (k : ℕ) → is_in k (queue past) ≡ true → reaches_frame reach (frame_of past.came k) ≡ hit k
+  reached_in_queue k e = and_true (is_command (frame_of past.came k)) (hit k) (queue_command k e)
+
+  queue_stays : filter (stays reach) (frames_of past.came (queue past)) ≡ frames_of past.came (queue after)
+  queue_stays =
+      filter_map_names (stays reach) (frame_of past.came) (queue past)
+      ∙ ap (frames_of past.came) (filter_cong _ _ (queue past) (λ i d lt. ap not (reached_in_queue _ (in_at (queue past) i d lt))))
+      ∙ ap (frames_of past.came) (sym queue_hit)
+
+  counts_queue : length (filter (counts_out reach) (frames_of past.came (queue past))) ≡ counted past.came (filter hit (queue past))
+  counts_queue =
+      count_map (counts_out reach) (frame_of past.came) (queue past)
+      ∙ ap (λ (l : List ℕ). length l) (filter_cong _ _ (queue past) each)
+      ∙ ap (λ (l : List ℕ). length l) (sym (filter_filter (λ k. is_some (request_at past.came k).number) hit (queue past)))
+    where
+      each : All (λ k. counts_out reach (frame_of past.came k) ≡ (hit k && is_some (request_at past.came k).number)) (queue past)
+      each = λ i d lt.
+          let k = get_or (queue past) i d in
+          let there = in_at (queue past) i d lt in
+          let came = below_of (length past.came) k past.acted lawful.below (in_queue past lawful k there) in
+          let told : IsDelivered (request_at past.came k) = lawful.delivered k _ came in
+          rw (reached_in_queue k there, told) refl
+
+  pub tasks_removing : without reach (tasks_of past) ≡ tasks_of after
+  unfolding tasks_of
+  tasks_removing =
+      let fewer : (numbers past).handed - counted past.came (over past) - length (filter (counts_out reach) (frames_of past.came (queue past)))
+      ≡ (numbers after).handed - counted past.came (over after) = omega (arith, counts_queue, over_more, handed_same) in
+      let held : map (option_map (void_if reach)) (map (frame_numbered (standing past)) (range_with_len (numbers past).handed window))
+      ≡ map (frame_numbered (standing after)) (range_with_len (numbers after).handed window) =
+      sym (held_range (numbers past).handed window (omega arith)) ∙ ap (λ (h : ℕ). map (frame_numbered (standing after)) (range_with_len h window)) (sym handed_same) in
+      rw (fewer, held, ← due_voids, queue_stays, ← handed_same) refl
+
+  -- ---- their data
+
+  transfer_same : (k : ℕ) → transfer_of past k ≡ transfer_of after k
+  unfolding task_at outs_of tags_of
+  transfer_same k = refl
+
+  pub transfers_removing : record (transfers_of past) { list = transfers_without reach (transfers_of past).list } ≡ transfers_of after
+  unfolding transfers_of
+  transfers_removing =
+      ap (λ (l : List Transfer). record (transfers_of past) { list = l })
+      (filter_map_names (λ transfer. not (reaches reach transfer.header)) (transfer_of past) (unfinished past)
+      ∙ map_cong _ _ (filter (λ k. not (hit k)) (unfinished past)) (λ i d lt. transfer_same _)
+      ∙ ap (map (transfer_of after)) (sym unfinished_hit))
+
+  pub functions_removing : functions_of past ≡ functions_of after
+  unfolding functions_of
+  functions_removing = ap (map (λ k. (frame_of past.came k).header)) (sym functions_same)
+
+  pub exchange_removing : exchange_of past ≡ exchange_of after
+  unfolding exchange_of
+  exchange_removing = refl
+
+pub removing_over : (reach : FunctionReach) (past : Past) → IsLawful past
+    → (numbers past).finished ≤ (numbers (removing (reached reach past) past)).finished
+removing_over reach past lawful = omega (arith, over_more reach past lawful)
+
+-- a session whose commands were removed
+pub stands_removing : (reach : FunctionReach) (past : Past) (state : SessionState) → Stands past state
+    → Stands (removing (reached reach past) past) (record state {
+      tasks = without reach state.tasks;
+      transfers = record state.transfers { list = transfers_without reach state.transfers.list };
+    })
+stands_removing reach past state s =
+    let p = parts past state s in
+    stands_parts past (removing (reached reach past) past) state (without reach state.tasks) _ state.functions state.exchange s
+    (lawful_removing reach past s.lawful) refl refl
+    (ap (without reach) p.tasks_is ∙ tasks_removing reach past s.lawful)
+    (ap (λ (t : TransferList). record t { list = transfers_without reach t.list }) p.transfers_is ∙ transfers_removing reach past s.lawful)
+    (p.functions_is ∙ functions_removing reach past s.lawful) (p.exchange_is ∙ exchange_removing reach past s.lawful)

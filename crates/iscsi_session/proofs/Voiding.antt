@@ -1,0 +1,167 @@
+-- The requests of a slab that a Task Management Function Request reaches are voided.
+use Rattle.std.proofs.Common.{◌≡◌, ◌≢◌, ℕ, zero, suc, ◌<◌, ◌≤◌, List, [], ◌∷◌, ◌++◌, length, map, take, get_or, Bool, true, false, cond, ◌||◌, eqb, Option, Some, None, refl, sym, ap, ◌∙◌, arith, inl, inr}
+use Rattle.std.specs.Prelude.{All, option_map, is_some}
+use Rattle.std.proofs.lemmas.Bool.{cases_eq, eq-eqb, ne_eqb}
+use Rattle.std.proofs.lemmas.List.Elements.{filter_map-append}
+use Rattle.std.proofs.lemmas.List.Sums.{sum_by-cons}
+use Rattle.slab.specs.Slab.{Slab, get}
+use Rattle.iscsi_pdu.specs.Frames.{Frame}
+use Rattle.iscsi_pdu.specs.Header.{is_immediate}
+use Rattle.iscsi_order.specs.WindowState.{WindowKeys}
+use Rattle.iscsi_session.specs.Requests.{is_in}
+use Rattle.iscsi_session.specs.Functions.{FunctionReach}
+use Rattle.iscsi_session.specs.State.{void_if, reaches_frame}
+use Rattle.iscsi_session.specs.Tasks.{requests_at, held_at, keys_in, times, holds, AreLines, Voids, lists_of}
+use Rattle.iscsi_session.proofs.Left.{in_at, is_in_append}
+use Rattle.iscsi_session.proofs.Places.{or_known}
+use Rattle.iscsi_session.proofs.Removing.{void_kept}
+
+twice : (reach : FunctionReach) (frame : Frame) → void_if reach (void_if reach frame) ≡ void_if reach frame
+twice reach frame = by_case (reaches_frame reach frame) refl
+  where
+    by_case : (b : Bool) → reaches_frame reach frame ≡ b → void_if reach (void_if reach frame) ≡ void_if reach frame
+    by_case true e = rw e (void_kept reach (is_immediate frame.header))
+    by_case false e = ap (void_if reach) (let same : void_if reach frame ≡ frame = rw e refl in same)
+
+abbrev voids : FunctionReach → Option Frame → Option Frame
+voids reach slot = option_map (void_if reach) slot
+
+twice_slot : (reach : FunctionReach) (slot : Option Frame) → voids reach (voids reach slot) ≡ voids reach slot
+twice_slot reach None = refl
+twice_slot reach (Some frame) = ap (λ (f : Frame). Some f) (twice reach frame)
+
+both_ways : (a b : Bool) (reach : FunctionReach) (slot : Option Frame)
+    → cond b (voids reach (cond a (voids reach slot) slot)) (cond a (voids reach slot) slot) ≡ cond (a || b) (voids reach slot) slot
+both_ways true true reach slot = twice_slot reach slot
+both_ways true false reach slot = refl
+both_ways false true reach slot = refl
+both_ways false false reach slot = refl
+
+pub voids_none : (reach : FunctionReach) (requests : Slab Frame) → Voids reach [] requests requests
+voids_none reach requests = record { at = λ key. refl }
+
+pub voids_then : (reach : FunctionReach) (a b : List ℕ) (old mid new : Slab Frame) → Voids reach a old mid → Voids reach b mid new
+    → Voids reach (a ++ b) old new
+voids_then reach a b old mid new first second = record {
+  at = λ key. second.at key
+      ∙ ap (λ (slot : Option Frame). cond (is_in key b) (voids reach slot) slot) (first.at key)
+      ∙ both_ways (is_in key a) (is_in key b) reach (get old key)
+      ∙ ap (λ (x : Bool). cond x (voids reach (get old key)) (get old key)) (sym (is_in_append key a b));
+}
+
+pub voids_one : (reach : FunctionReach) (key : ℕ) (old new : Slab Frame) → get new key ≡ voids reach (get old key)
+    → ((other : ℕ) → other ≢ key → get new other ≡ get old other) → Voids reach (key ∷ []) old new
+voids_one reach key old new here others = record {
+  at = λ k. elim (cases_eq key k) [
+    | inl same ↦ rw (eq-eqb key k same) (ap (get new) (sym same) ∙ here ∙ ap (λ (n : ℕ). voids reach (get old n)) same)
+    | inr differs ↦ rw (ne_eqb key k differs) (others k (λ e. differs (sym e)))
+  ];
+}
+
+-- ---- one key more
+
+pub take_more : {A : Type 0} (l : List A) (i : ℕ) (d : A) → i < length l → take (suc i) l ≡ take i l ++ get_or l i d ∷ []
+take_more [] i d lt = absurd (omega arith)
+take_more (x ∷ l) zero d lt = refl
+take_more {A} (x ∷ l) (suc i) d lt = ap (λ (rest : List A). x ∷ rest) (take_more l i d (omega arith))
+
+pub keys_more : (l : List (Option ℕ)) (i : ℕ) → i < length l → keys_in (take (suc i) l) ≡ keys_in (take i l) ++ keys_in (get_or l i None ∷ [])
+keys_more l i lt = ap keys_in (take_more l i None lt) ∙ filter_map-append (λ (k : Option ℕ). k) (take i l) (get_or l i None ∷ [])
+
+-- ---- the lines
+
+slot_by : (b : Bool) (reach : FunctionReach) (slot : Option Frame) → is_some (cond b (voids reach slot) slot) ≡ is_some slot
+slot_by true reach None = refl
+slot_by true reach (Some frame) = refl
+slot_by false reach slot = refl
+
+holds_same : (reach : FunctionReach) (keys : List ℕ) (old new : Slab Frame) (key : ℕ) → Voids reach keys old new → holds new key ≡ holds old key
+holds_same reach keys old new key voided =
+    ap (λ (b : Bool). cond b 1 0) (ap is_some (voided.at key) ∙ slot_by (is_in key keys) reach (get old key))
+
+line_voids : (reach : FunctionReach) (all : List ℕ) (old new : Slab Frame) (keys : List ℕ) → Voids reach all old new → All (λ k. is_in k all ≡ true) keys
+    → requests_at new keys ≡ map (void_if reach) (requests_at old keys)
+line_voids reach all old new [] voided there = refl
+line_voids reach all old new (k ∷ keys) voided there =
+    by_slot (get old k) refl (line_voids reach all old new keys voided (λ i d lt. there (suc i) d (omega arith)))
+  where
+    here : get new k ≡ voids reach (get old k)
+    here = voided.at k ∙ ap (λ (b : Bool). cond b (voids reach (get old k)) (get old k)) (there 0 k (omega arith))
+
+    by_slot : (slot : Option Frame) → get old k ≡ slot → requests_at new keys ≡ map (void_if reach) (requests_at old keys)
+        → requests_at new (k ∷ keys) ≡ map (void_if reach) (requests_at old (k ∷ keys))
+    by_slot None e rest = let now : get new k ≡ None = here ∙ ap (voids reach) e in rw (now, e) rest
+    by_slot (Some frame) e rest =
+        let now : get new k ≡ Some (void_if reach frame) = here ∙ ap (voids reach) e in
+        rw (now, e) (ap (λ (l : List Frame). void_if reach frame ∷ l) rest)
+
+line_same : (reach : FunctionReach) (all : List ℕ) (old new : Slab Frame) (keys : List ℕ) → Voids reach all old new → All (λ k. is_in k all ≡ false) keys
+    → requests_at new keys ≡ requests_at old keys
+line_same reach all old new [] voided apart = refl
+line_same reach all old new (k ∷ keys) voided apart =
+    let here : get new k ≡ get old k = voided.at k ∙ ap (λ (b : Bool). cond b (voids reach (get old k)) (get old k)) (apart 0 k (omega arith)) in
+    rw (here, line_same reach all old new keys voided (λ i d lt. apart (suc i) d (omega arith))) refl
+
+held_voids : (reach : FunctionReach) (all : List ℕ) (old new : Slab Frame) (keys : List (Option ℕ)) → Voids reach all old new
+    → All (λ k. is_in k all ≡ true) (keys_in keys)
+    → map (held_at new) keys ≡ map (option_map (void_if reach)) (map (held_at old) keys)
+held_voids reach all old new [] voided there = refl
+held_voids reach all old new (None ∷ keys) voided there =
+    ap (λ (l : List (Option Frame)). None ∷ l) (held_voids reach all old new keys voided there)
+held_voids reach all old new (Some k ∷ keys) voided there =
+    let here : get new k ≡ voids reach (get old k) = voided.at k
+    ∙ ap (λ (b : Bool). cond b (voids reach (get old k)) (get old k)) (there 0 k (omega arith)) in
+    rw (here, held_voids reach all old new keys voided (λ i d lt. there (suc i) d (omega arith))) refl
+
+times_in : (k : ℕ) (keys : List ℕ) → times k keys ≡ 0 → is_in k keys ≡ false
+times_in k [] none = refl
+times_in k (a ∷ keys) none = elim (cases_eq a k) [
+  | inl same ↦ absurd (omega (arith, sum_by-cons (λ i. cond (eqb i k) 1 0) a keys, one same))
+  | inr differs ↦ rw (ne_eqb a k differs) (times_in k keys (omega (arith, sum_by-cons (λ i. cond (eqb i k) 1 0) a keys)))
+]
+  where
+    one : a ≡ k → cond {A = ℕ} (eqb a k) 1 0 ≡ 1
+    one same = rw (eq-eqb a k same) refl
+
+pub in_times : (k : ℕ) (keys : List ℕ) → is_in k keys ≡ true → 0 < times k keys
+in_times k keys e = by_case (times k keys) refl
+  where
+    by_case : (n : ℕ) → times k keys ≡ n → 0 < times k keys
+    by_case zero none = absurd (let no = sym e ∙ times_in k keys none in cc)
+    by_case (suc n) some = omega arith
+
+holds_one : (requests : Slab Frame) (key : ℕ) → holds requests key ≤ 1
+holds_one requests key = by_case (is_some (get requests key)) refl
+  where
+    by_case : (b : Bool) → is_some (get requests key) ≡ b → holds requests key ≤ 1
+    by_case true e = rw e (omega arith)
+    by_case false e = rw e (omega arith)
+
+pub record VoidedLines (reach : FunctionReach) (old new : Slab Frame) (w : WindowKeys) (due queue : List ℕ) : Type 0 where
+  pub lists : lists_of new w due queue ≡ record (lists_of old w due queue) {
+    held = map (option_map (void_if reach)) (lists_of old w due queue).held;
+    due = map (void_if reach) (lists_of old w due queue).due;
+  }
+  pub lines : AreLines new (keys_in w.keys) due queue
+
+pub voided_lines : (reach : FunctionReach) (old new : Slab Frame) (w : WindowKeys) (due queue : List ℕ) → AreLines old (keys_in w.keys) due queue
+    → Voids reach (keys_in w.keys ++ due) old new → VoidedLines reach old new w due queue
+voided_lines reach old new w due queue lines voided =
+    let held = keys_in w.keys in
+    let in_held : All (λ k. is_in k (held ++ due) ≡ true) held = λ i d lt. is_in_append _ held due ∙ rw (in_at held i d lt) refl in
+    let in_due : All (λ k. is_in k (held ++ due) ≡ true) due = λ i d lt. is_in_append _ held due
+    ∙ or_known (is_in (get_or due i d) held) (is_in (get_or due i d) due) (in_at due i d lt) in
+    let apart : All (λ k. is_in k (held ++ due) ≡ false) queue = λ i d lt.
+    (let k = get_or queue i d in
+    let some = in_times k queue (in_at queue i d lt) in
+    let once = lines.once k in
+    let few = holds_one old k in
+    is_in_append k held due ∙ rw (times_in k held (omega arith), times_in k due (omega arith)) refl) in
+    record {
+      lists = rw (
+        held_voids reach (held ++ due) old new w.keys voided in_held,
+        line_voids reach (held ++ due) old new due voided in_due,
+        line_same reach (held ++ due) old new queue voided apart,
+      ) refl;
+      lines = record { once = λ key. lines.once key ∙ sym (holds_same reach (held ++ due) old new key voided) };
+    }

@@ -1,0 +1,169 @@
+-- How many acts can follow at most.
+use Rattle.std.proofs.Common.{◌≡◌, ℕ, zero, suc, ◌+◌, ◌*◌, ◌<◌, ◌≤◌, List, [], ◌∷◌, ◌++◌, length, map, set, take, drop, Bool, true, false, cond, Option, Some, None, refl, sym, ap, ◌∙◌, arith, append-nil}
+use Rattle.std.specs.Prelude.{filter, filter_map, option_map, is_some}
+use Rattle.std.specs.List.{range_with_len, prefix_len}
+use Rattle.std.proofs.lemmas.List.{length-map}
+use Rattle.std.proofs.lemmas.List.Elements.{filter_map-append}
+use Rattle.iscsi_pdu.specs.Header.{is_immediate}
+use Rattle.iscsi_pdu.specs.Frames.{Frame}
+use Rattle.iscsi_order.specs.Window as order
+use Rattle.iscsi_order.specs.Window.{window}
+use Rattle.iscsi_order.specs.Serial.{distance}
+use Rattle.iscsi_session.specs.Requests.{Past, is_command, is_function, frame_of, frames_of, numbered, numbers, held, due, place_of}
+use Rattle.iscsi_session.specs.Functions.{FunctionReach, plug, reaches}
+use Rattle.iscsi_session.specs.State.{TaskLists, standing, frame_numbered, tasks_of, one_fewer, holding, takes_next, takes, takes_all, void, void_if, reaches_frame, plugged_behind, without, weight, weigh, waiting}
+use Rattle.iscsi_session.specs.Steps.{waiting_in}
+use Rattle.iscsi_session.proofs.Left.{and_true_both}
+use Rattle.iscsi_session.proofs.Kept.{command_no_function}
+use Rattle.iscsi_session.proofs.Standing.{numbered_standing}
+use Rattle.iscsi_session.proofs.Fronts.{frame_marked}
+use Rattle.iscsi_session.proofs.Over.{one_fewer_by}
+
+weight_by : (b : Bool) (frame : Frame) → is_function frame ≡ b → weight frame ≡ cond b 2 1
+weight_by true frame e = rw e refl
+weight_by false frame e = rw e refl
+
+pub weight_some : (frame : Frame) → 1 ≤ weight frame
+weight_some frame = by_case (is_function frame) refl
+  where
+    by_case : (b : Bool) → is_function frame ≡ b → 1 ≤ weight frame
+    by_case true e = let w = weight_by true frame e in omega arith
+    by_case false e = let w = weight_by false frame e in omega arith
+
+weight_few : (frame : Frame) → weight frame ≤ 2
+weight_few frame = by_case (is_function frame) refl
+  where
+    by_case : (b : Bool) → is_function frame ≡ b → weight frame ≤ 2
+    by_case true e = let w = weight_by true frame e in omega arith
+    by_case false e = let w = weight_by false frame e in omega arith
+
+weigh_append : (a b : List Frame) → weigh (a ++ b) ≡ weigh a + weigh b
+weigh_append [] b = omega arith
+weigh_append (frame ∷ a) b = omega (arith, weigh_append a b)
+
+weigh_few : (l : List Frame) → weigh l ≤ length l * 2
+weigh_few [] = omega arith
+weigh_few (frame ∷ l) = omega (arith, weight_few frame, weigh_few l)
+
+abbrev there : List (Option Frame) → List Frame
+there l = filter_map (λ o. o) l
+
+-- ---- numbers are taken
+
+there_push : (l : List (Option Frame)) → there (l ++ None ∷ []) ≡ there l
+there_push l = filter_map-append (λ (o : Option Frame). o) l (None ∷ []) ∙ append-nil (there l)
+
+turned_by : (l : List (Option Frame)) (line : List Frame) → weigh (there (drop 1 l ++ None ∷ [])) + weigh (line ++ there (take 1 l)) ≡ weigh (there l) + weigh line
+turned_by [] line = omega (arith, weigh_append line [])
+turned_by (None ∷ l) line = omega (arith, weigh_append line [], ap weigh (there_push l))
+turned_by (Some frame ∷ l) line = omega (arith, weigh_append line (frame ∷ []), ap weigh (there_push l))
+
+pub waiting_takes : (n : ℕ) (tasks : TaskLists) → waiting (takes n tasks) ≡ waiting tasks
+waiting_takes zero tasks = refl
+waiting_takes (suc n) tasks = waiting_takes n (takes_next tasks) ∙ turned_by tasks.held tasks.due
+
+held_more : (l : List (Option Frame)) (i : ℕ) (frame : Frame) → weigh (there (set l i (Some frame))) ≤ weigh (there l) + weight frame
+held_more [] i frame = omega arith
+held_more (None ∷ l) zero frame = omega arith
+held_more (Some other ∷ l) zero frame = omega arith
+held_more (None ∷ l) (suc i) frame = held_more l i frame
+held_more (Some other ∷ l) (suc i) frame = omega (arith, held_more l i frame)
+
+pub waiting_held : (n : ℕ) (frame : Frame) (tasks : TaskLists) → waiting (takes_all (holding n frame tasks)) ≤ waiting tasks + weight frame
+waiting_held n frame tasks =
+    let t = holding n frame tasks in
+    omega (arith, waiting_takes (prefix_len (λ o. is_some o) t.held) t, held_more tasks.held (distance tasks.next n) frame)
+
+-- ---- one that is due is finished
+
+pub waiting_fewer : (frame : Frame) (tasks : TaskLists) → waiting (one_fewer frame tasks) ≡ waiting tasks
+waiting_fewer frame tasks = ap waiting (one_fewer_by _ frame tasks refl)
+
+pub waiting_first : (frame : Frame) (others : List Frame) (tasks : TaskLists) → tasks.due ≡ frame ∷ others
+    → waiting tasks ≡ weight frame + waiting (record tasks { due = others })
+waiting_first frame others tasks is = omega (arith, ap weigh is)
+
+pub finishes_one : (frame : Frame) (old new : TaskLists) → old.due ≡ frame ∷ drop 1 old.due
+    → new ≡ one_fewer frame (record old { due = drop 1 old.due }) → waiting new < waiting old
+finishes_one frame old new is same =
+    omega (arith, ap waiting same, waiting_fewer frame (record old { due = drop 1 old.due }), waiting_first frame (drop 1 old.due) old is, weight_some frame)
+
+pub queues_one : (frame : Frame) (others queue : List Frame) (old new : TaskLists) → old.due ≡ frame ∷ others
+    → new ≡ record old { due = others; queue = queue } → waiting new < waiting old
+queues_one frame others queue old new is same = omega (arith, ap waiting same, waiting_first frame others old is, weight_some frame)
+
+pub waiting_some : (tasks : TaskLists) → 0 < length tasks.due → 0 < waiting tasks
+waiting_some tasks some = by_line tasks.due refl
+  where
+    by_line : (l : List Frame) → tasks.due ≡ l → 0 < waiting tasks
+    by_line [] e = absurd (omega (arith, ap (λ (l : List Frame). length l) e))
+    by_line (frame ∷ others) e = omega (arith, waiting_first frame others tasks e, weight_some frame)
+
+-- ---- a number is plugged
+
+pub waiting_plugged : (n : ℕ) (frame : Frame) (others : List Frame) (tasks : TaskLists) → tasks.due ≡ frame ∷ others → is_function frame ≡ true
+    → waiting (plugged_behind n tasks (frame ∷ others)) < waiting tasks
+waiting_plugged n frame others tasks is function =
+    omega (
+      arith,
+      waiting_held n plug (one_fewer frame (record tasks { due = others })),
+      waiting_fewer frame (record tasks { due = others }),
+      waiting_first frame others tasks is,
+      weight_by true frame function,
+      weight_by false plug refl,
+    )
+
+-- ---- SCSI Commands are removed
+
+void_weight : (b : Bool) → weight (void b) ≡ 1
+void_weight true = refl
+void_weight false = refl
+
+same_weight : (reach : FunctionReach) (frame : Frame) → weight (void_if reach frame) ≡ weight frame
+same_weight reach frame = by_case (reaches_frame reach frame) refl
+  where
+    by_case : (b : Bool) → reaches_frame reach frame ≡ b → weight (void_if reach frame) ≡ weight frame
+    by_case true e =
+        rw e (void_weight (is_immediate frame.header)
+        ∙ sym (weight_by false frame (command_no_function frame (and_true_both (is_command frame) (reaches reach frame.header) e).0)))
+    by_case false e = rw e refl
+
+weigh_voids : (reach : FunctionReach) (l : List Frame) → weigh (map (void_if reach) l) ≡ weigh l
+weigh_voids reach [] = refl
+weigh_voids reach (frame ∷ l) = omega (arith, same_weight reach frame, weigh_voids reach l)
+
+weigh_held_voids : (reach : FunctionReach) (l : List (Option Frame)) → weigh (there (map (option_map (void_if reach)) l)) ≡ weigh (there l)
+weigh_held_voids reach [] = refl
+weigh_held_voids reach (None ∷ l) = weigh_held_voids reach l
+weigh_held_voids reach (Some frame ∷ l) = omega (arith, same_weight reach frame, weigh_held_voids reach l)
+
+pub waiting_without : (reach : FunctionReach) (tasks : TaskLists) → waiting (without reach tasks) ≡ waiting tasks
+waiting_without reach tasks = omega (arith, weigh_held_voids reach tasks.held, weigh_voids reach tasks.due)
+
+-- ---- what the past has of it
+
+length_there : (f : ℕ → Option Frame) (q : ℕ → Bool) (l : List ℕ) → ((k : ℕ) → is_some (f k) ≡ q k) → length (there (map f l)) ≡ length (filter q l)
+length_there f q [] same = refl
+length_there f q (k ∷ l) same = by_case (f k) refl (length_there f q l same)
+  where
+    by_case : (o : Option Frame) → f k ≡ o → length (there (map f l)) ≡ length (filter q l) → length (there (map f (k ∷ l))) ≡ length (filter q (k ∷ l))
+    by_case None e rest = let no : q k ≡ false = sym (same k) ∙ ap is_some e in rw (e, no) rest
+    by_case (Some frame) e rest = let yes : q k ≡ true = sym (same k) ∙ ap is_some e in rw (e, yes) (ap suc rest)
+
+held_length : (past : Past) → length (there (map (frame_numbered (standing past)) (range_with_len (numbers past).handed window))) ≡ length (held past)
+unfolding held
+held_length past =
+    length_there (frame_numbered (standing past)) (order.has_come (numbered past.came)) (range_with_len (numbers past).handed window)
+    (λ k. frame_marked (standing past) k ∙ ap (λ (l : List ℕ). order.has_come l k) (numbered_standing past))
+    ∙ sym (length-map (filter (order.has_come (numbered past.came)) (range_with_len (numbers past).handed window)) (place_of past.came))
+
+pub waiting_fits : (past : Past) → waiting (tasks_of past) ≤ waiting_in past
+unfolding tasks_of
+waiting_fits past =
+    omega (
+      arith,
+      weigh_few (there (map (frame_numbered (standing past)) (range_with_len (numbers past).handed window))),
+      held_length past,
+      weigh_few (frames_of (standing past) (due past)),
+      length-map (due past) (frame_of (standing past)),
+    )

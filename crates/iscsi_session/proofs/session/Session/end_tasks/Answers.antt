@@ -1,0 +1,93 @@
+use Rattle.std.proofs.Common.{◌≡◌, ◌<◌, List, [], ◌∷◌, length, drop, true, false, Option, Some, None, refl, sym, ap, subst, ◌∙◌, arith}
+use Rattle.std.specs.Prelude.{IfSome, IfNone}
+use Rattle.iscsi_pdu.specs.Frames.{Frame}
+use Rattle.iscsi_pdu.specs.Header.{initiator_task_tag}
+use Rattle.iscsi_pdu.specs.TaskManagement.{ref_cmd_sn}
+use Rattle.iscsi_session.specs.Requests.{frame_of, numbers}
+use Rattle.iscsi_session.specs.Functions.{FunctionReach, plug, plugs}
+use Rattle.iscsi_session.specs.Acts.{reach_of, ended}
+use Rattle.iscsi_session.specs.State.{SessionState, TaskLists, Stands, one_fewer, plugged_behind, holding, takes_all, without, transfers_without, is_vacant, waiting}
+use Rattle.iscsi_session.proofs.Kept.{function_no_command}
+use Rattle.iscsi_session.proofs.Parts.{window_stands}
+use Rattle.iscsi_session.proofs.Answered.{first_drops, function_here}
+use Rattle.iscsi_session.proofs.Weights.{waiting_plugged, waiting_without, finishes_one}
+use Rattle.iscsi_session.proofs.Ending.{vacant_still, stands_ended, stands_behind, stands_unreached, stands_plugged_behind}
+use Rattle.iscsi_session.proofs.session.Session.end_tasks.Goals as goal
+
+given_frame : (r : Option Frame) (line : List Frame) {P Q : Frame → Type 0} → IfSome r P → IfSome r Q → IfNone r (line ≡ []) → 0 < length line
+    → (frame : Frame) × P frame × Q frame
+given_frame None line p q none some = absurd (omega (arith, some, ap (λ (l : List Frame). length l) none))
+given_frame (Some frame) line p q none some = (frame, p, q)
+
+-- ---- a number is plugged
+
+pub returns-then-plugs-clause-stands : goal.returns-then-plugs-clause-stands
+returns-then-plugs-clause-stands c luns past k rest s is e same =
+    let known = subst (λ (x : SessionState). Stands past x) (sym c.self.view_is) s in
+    let tasks = c.self.inside.tasks in
+    let n = c.ref_cmd_sn.result in
+    let frame = frame_of past.came k in
+    let some : tasks.due ≡ frame ∷ drop 1 tasks.due = first_drops past _ k rest known is (function_no_command frame e) in
+    let left : TaskLists = one_fewer frame (record tasks { due = drop 1 tasks.due }) in
+    let reach = reach_of luns k past in
+    let header : c.reach.inside.function ≡ frame.header = ap (λ (r : FunctionReach). r.function) (c.reach.view_is ∙ same) in
+    let tag = c.initiator_task_tag-tag.ensures ∙ ap initiator_task_tag header in
+    let middle = (function_here past _ k rest frame left c.initiator_task_tag-tag.result c.finish.new.self known is e some refl tag c.finish.ensures).1 in
+    let does : plugs past reach ≡ true = ap (plugs past) (sym same) ∙ sym (c.plugs.ensures.past past s) ∙ c.if-plugs.true in
+    let ends = stands_unreached luns past _ k e does middle in
+    let number : n ≡ ref_cmd_sn frame.header = c.ref_cmd_sn.ensures ∙ ap ref_cmd_sn header in
+    let free : is_vacant left n ≡ true = vacant_still frame (drop 1 tasks.due) tasks n
+    (ap (is_vacant tasks) (c.ref_cmd_sn.ensures ∙ ap (λ (r : FunctionReach). ref_cmd_sn r.function) c.reach.view_is)
+    ∙ ap (λ (x : SessionState). is_vacant x.tasks (ref_cmd_sn c.args.reach.now.function)) c.self.view_is
+    ∙ c.plugs.ensures.vacant c.if-plugs.true) in
+    let after = stands_plugged_behind luns past _ k n e does number free ends in
+    let now : c.plug_behind_first.new.self ≡ takes_all (holding n plug left) = c.in_ok-numbers.ensures.ok ∙ ap (plugged_behind n tasks) some in
+    (c.in_ok-numbers.ensures.numbers (numbers (ended luns k past)) frame (drop 1 tasks.due) some (window_stands (ended luns k past) _ ends), rw now after)
+
+pub returns-then-plugs-clause-fewer : goal.returns-then-plugs-clause-fewer
+returns-then-plugs-clause-fewer c frame others is function =
+    let tasks = c.self.inside.tasks in
+    let there : tasks.due ≡ frame ∷ others = ap (λ (x : SessionState). x.tasks.due) c.self.view_is ∙ is in
+    let less = waiting_plugged c.ref_cmd_sn.result frame others tasks there function in
+    let now = ap waiting (c.in_ok-numbers.ensures.ok ∙ ap (plugged_behind c.ref_cmd_sn.result tasks) there) in
+    omega (arith, less, now, ap (λ (x : SessionState). waiting x.tasks) c.self.view_is)
+
+-- ---- commands are removed
+
+pub returns-clause-stands : goal.returns-clause-stands
+returns-clause-stands c luns past k rest s is e same =
+    let known = subst (λ (x : SessionState). Stands past x) (sym c.self.view_is) s in
+    let reach = reach_of luns k past in
+    let header : c.reach.inside.function ≡ (frame_of past.came k).header = ap (λ (r : FunctionReach). r.function) (c.reach.view_is ∙ same) in
+    let some : 0 < length c.self.inside.tasks.due = omega (arith, c.requires, ap (λ (x : SessionState). length x.tasks.due) c.self.view_is) in
+    let g = given_frame c.finish_due.result c.self.inside.tasks.due c.finish_due.ensures.some c.finish_due.ensures.same c.finish_due.ensures.none some in
+    let tag = c.initiator_task_tag-tag.ensures ∙ ap initiator_task_tag header in
+    let middle = (function_here past _ k rest g.0 c.finish_due.new.self c.initiator_task_tag-tag.result c.finish-2.new.self known is e g.1 g.2 tag
+    c.finish-2.ensures).1 in
+    let ends = stands_ended luns past _ k e middle in
+    let tasks : c.remove-2.new.self ≡ without reach c.finish_due.new.self = c.remove-2.ensures
+    ∙ ap (λ (r : FunctionReach). without r c.finish_due.new.self) same in
+    let transfers : c.remove.new.self ≡ record c.self.inside.transfers { list = transfers_without reach c.self.inside.transfers.list } = c.remove.ensures
+    ∙ ap (λ (r : FunctionReach). record c.self.inside.transfers { list = transfers_without r c.self.inside.transfers.list }) same in
+    let none : plugs past reach ≡ false = ap (plugs past) (sym same) ∙ sym (c.plugs.ensures.past past s) ∙ c.if-plugs.false in
+    let there : Stands (ended luns k past) (record {
+      params = c.self.inside.params;
+      stat = c.self.inside.stat;
+      tasks = c.remove-2.new.self;
+      transfers = c.remove.new.self;
+      functions = c.finish-2.new.self;
+      exchange = c.self.inside.exchange;
+    }) = rw (tasks, transfers) ends in
+    (c.numbers.ensures (numbers (ended luns k past)) (window_stands (ended luns k past) _ there), stands_behind luns past _ k none there)
+
+pub returns-clause-fewer : goal.returns-clause-fewer
+returns-clause-fewer c frame others is function =
+    let before = ap (λ (x : SessionState). waiting x.tasks) c.self.view_is in
+    let some : 0 < length c.self.inside.tasks.due = omega (
+      arith,
+      ap (λ (l : List Frame). length l) is,
+      ap (λ (x : SessionState). length x.tasks.due) c.self.view_is,
+    ) in
+    let g = given_frame c.finish_due.result c.self.inside.tasks.due c.finish_due.ensures.some c.finish_due.ensures.same c.finish_due.ensures.none some in
+    let less = finishes_one g.0 c.self.inside.tasks c.finish_due.new.self g.1 g.2 in
+    omega (arith, less, before, ap waiting c.remove-2.ensures, waiting_without c.args.reach.now c.finish_due.new.self)

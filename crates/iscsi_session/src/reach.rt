@@ -1,0 +1,124 @@
+//! What a Task Management Function Request reaches.
+
+ghost use Rattle.std.specs.Prelude.{◌≡◌};
+ghost use Rattle.scsi_unit.specs.Lun.{lun_number};
+ghost use Rattle.iscsi_session.specs.Functions.{reaches as reaches_in, has_unit, unit_named, is_earlier, is_in_set, set_result};
+ghost use Rattle.iscsi_session.specs.State.{reaches_frame};
+
+use crate::acting::is_command;
+use iscsi_order::is_before;
+use iscsi_pdu::{Frame, Header, TaskFunction, TaskResult};
+use std::marker::Model;
+
+/// A Task Management Function Request, as it looks at the commands of one session of its target.
+#[derive(Drop)]
+pub struct Reach<'a> {
+    /// Its header.
+    pub function: Header,
+    /// The numbers of the target's units.
+    pub luns: &'a [u8],
+    /// The session is the one that it came from.
+    pub is_own: bool,
+}
+
+impl<'a> Model for Reach<'a> {
+    ghost use Rattle.iscsi_session.specs.Functions.{FunctionReach};
+
+    ghost Value = { FunctionReach };
+
+    ghost view = { λ r. record { function = r.function; luns = r.luns.now; is_own = r.is_own } };
+}
+
+/// The number in a LUN: byte 1, where all other bytes are zero (SAM-5 "Single level LUN structure").
+#[tactic(auto, unfolding(scsi_unit::specs::Lun::lun_number))]
+fn number_in(lun: [u8; 8]) -> Option<u8>
+    ensures { result ≡ lun_number lun }
+{
+    match lun {
+        [0, number, 0, 0, 0, 0, 0, 0] => Some(number),
+        _ => None,
+    }
+}
+
+impl Reach<'_> {
+    /// The function removes the SCSI Command with this header (RFC 7143 §11.5.1).
+    #[tactic(auto, unfolding(crate::specs::Functions::reaches))]
+    pub(crate) fn has(&self, command: &Header) -> bool
+        ensures { result ≡ reaches_in self.now command.now }
+    {
+        match self.function.task_function() {
+            TaskFunction::AbortTask => {
+                self.is_own && command.initiator_task_tag() == self.function.referenced_task_tag()
+            }
+            TaskFunction::AbortTaskSet => self.is_own && self.is_in_set(command),
+            TaskFunction::ClearTaskSet | TaskFunction::LogicalUnitReset => self.is_in_set(command),
+            TaskFunction::TargetWarmReset => {
+                self.unit_named(command).is_some() && self.is_earlier(command)
+            }
+            TaskFunction::ClearAca
+            | TaskFunction::TargetColdReset
+            | TaskFunction::TaskReassign
+            | TaskFunction::Other(_) => false,
+        }
+    }
+
+    /// The command is of the task set (SAM-5) of the unit that the request names.
+    fn is_in_set(&self, command: &Header) -> bool
+        ensures { result ≡ is_in_set self.now command.now }
+    {
+        let Some(unit) = self.unit_named(&self.function) else {
+            return false;
+        };
+        match self.unit_named(command) {
+            Some(other) => other == unit && self.is_earlier(command),
+            None => false,
+        }
+    }
+
+    /// Of the session that the request came from: the command is for immediate delivery, or is numbered before the
+    /// request.
+    fn is_earlier(&self, command: &Header) -> bool
+        ensures { result ≡ is_earlier self.now command.now }
+    {
+        !self.is_own
+            || command.is_immediate()
+            || is_before(command.cmd_sn(), self.function.cmd_sn())
+    }
+
+    /// The number of the unit that the LUN of a header names, where the target has it.
+    fn unit_named(&self, header: &Header) -> Option<u8>
+        ensures { result ≡ unit_named self.now.luns header.now }
+    {
+        let number = number_in(header.lun())?;
+        if self.has_unit(number) {
+            Some(number)
+        } else {
+            None
+        }
+    }
+
+    /// The target has a unit of this number.
+    fn has_unit(&self, number: u8) -> bool
+        ensures { result ≡ has_unit self.now.luns number }
+    {
+        self.luns.iter().any(|lun| *lun == number)
+    }
+
+    /// What the request is answered, where it is for all commands of a unit (RFC 7143 §11.6.1).
+    pub(crate) fn set_result(&self) -> TaskResult
+        ensures { result ≡ set_result self.now }
+    {
+        if self.unit_named(&self.function).is_some() {
+            TaskResult::Complete
+        } else {
+            TaskResult::NoUnit
+        }
+    }
+
+    /// The function removes this request, a SCSI Command.
+    pub(crate) fn has_frame(&self, frame: &Frame) -> bool
+        ensures { result ≡ reaches_frame self.now frame.now }
+    {
+        is_command(frame) && self.has(&frame.header)
+    }
+}

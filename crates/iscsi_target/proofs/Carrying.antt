@@ -1,0 +1,279 @@
+-- What the Task Management Functions of one session do to the rest of its target, as calls of the target.
+use Rattle.std.proofs.Common.{◌≡◌, ℕ, ◌+◌, ◌<◌, List, [], ◌∷◌, ◌++◌, ◌≤◌, length, take, get_or, Bool, true, false, not, eqb, Option, Some, None, refl, sym, ap, ◌∙◌, subst, inl}
+use Rattle.std.specs.Prelude.{◌==◌}
+use Rattle.std.specs.List.{fold, range_with_len}
+use Rattle.std.proofs.lemmas.Bool.{eq-eqb}
+use Rattle.std.proofs.lemmas.List.{append-nil, get_or-set_other, take_all, take_more}
+use Rattle.std.proofs.lemmas.List.Sums.{fold-append}
+use Rattle.iscsi_pdu.specs.Header.{lun_field}
+use Rattle.iscsi_login.specs.Session.{is_same_target}
+use Rattle.iscsi_login.specs.Directory.{KnownTargets}
+use Rattle.scsi_unit.specs.Units.{UnitStates}
+use Rattle.iscsi_session.specs.Requests.{Past, removing}
+use Rattle.iscsi_session.specs.State.{SessionState, Stands, remembered}
+use Rattle.iscsi_session.specs.Steps.{Work}
+use Rattle.iscsi_session.specs.Runs.{output, Starts, Leaves, Runs}
+use Rattle.iscsi_target.specs.History.{connection_limit, connections}
+use Rattle.iscsi_target.specs.Life.{Life, Phase, LoggingIn, FullFeature, Closing, Over, past_in}
+use Rattle.iscsi_target.specs.World.{Setting, World, present, past_of, units_at, changed_units, work_of, worked, worked_on, function_of, reaches_others, lost, told_by, told_loss, losing, lost_by, lose_one, reset_by, reset, carry_out}
+use Rattle.iscsi_target.specs.Machine.{LinkState, Machine, KeepsApart, link_at}
+use Rattle.iscsi_target.specs.Stands.{phase_for, link_of, machine_with}
+use Rattle.iscsi_target.specs.Serving.{Serves, Moves, CarriesOut, kept, is_of_none}
+use Rattle.iscsi_target.specs.declared.phase.Phase.{Phase as CodePhase}
+use Rattle.iscsi_target.specs.declared.phase.Phase.TheVariants as phases
+use Rattle.iscsi_target.proofs.Choices.{cond_true, cond_false}
+use Rattle.iscsi_target.proofs.Lists.{range_next}
+use Rattle.iscsi_target.proofs.Lives.{present-lives}
+use Rattle.iscsi_target.proofs.Linked.{link_is, serves_world, units_with}
+use Rattle.iscsi_target.proofs.Keeping.{Goes, on-lose_one, on-reset, on-carry_out}
+use Rattle.iscsi_target.proofs.Doing.{does_nothing, does_as, does_on, does_then}
+use Rattle.iscsi_target.proofs.AtWork.{call_does}
+use Rattle.iscsi_target.proofs.Held.{viewed, IsOther, not_same, target_is, session_calls, called, called_at}
+use Rattle.iscsi_target.proofs.Moving.{moves_none}
+use Rattle.iscsi_target.proofs.Sound.{reset_sound, reset_sure, reset_units}
+
+-- ---- one session loses commands
+
+-- where its call left it
+pub losing_leaves : (header : List ℕ) (work : Work) (state then_ : SessionState) (waiting : List ℕ) (units units_then : UnitStates) → Starts work state units
+    → Stands (removing (lost header units work.past) work.past) then_ → units_then ≡ told_loss header work.past units
+    → Leaves work (losing header work) then_ (output waiting []) (output waiting []) units_then
+losing_leaves header work state then_ waiting units units_then begin stands told =
+    let now : Stands (losing header work).past then_ =
+    subst (λ (us : UnitStates). Stands (removing (lost header us work.past) work.past) then_) (sym begin.units) stands in
+    record {
+      lawful = now.lawful;
+      remembered = now.remembered;
+      units = ap (told_loss header work.past) begin.units ∙ sym told;
+      params = refl;
+      more = [];
+      answers = sym (append-nil work.past.answers);
+      spelled = sym (append-nil waiting);
+      functions = [];
+      acted = sym (append-nil work.orders);
+      ordered = refl;
+    }
+
+pub losing_runs : (header : List ℕ) (state then_ : SessionState) (waiting : List ℕ) (units units_then : UnitStates)
+    → ((past : Past) → Stands past state → Stands (removing (lost header units past) past) then_)
+    → ((past : Past) → Stands past state → units_then ≡ told_loss header past units)
+    → Runs (λ fails place work. losing header work) None true state then_ (output waiting []) (output waiting []) units units_then
+losing_runs header state then_ waiting units units_then stands told = record {
+  leads = λ place fails work agree begin.
+      (let s : Stands work.past state = record { lawful = begin.lawful; remembered = begin.remembered } in
+      losing_leaves header work state then_ waiting units units_then begin (stands work.past s) (told work.past s));
+  ends = λ place fails work agree begin. begin.goes_on;
+  reached = λ place fails work agree begin. tt;
+}
+
+-- ---- the session of connection c itself, and what is no session of the target
+
+own_same : (header : List ℕ) (target c d : ℕ) (w : World) → d ≡ c → lose_one header target c w d ≡ w
+unfolding lose_one
+own_same header target c d w e = cond_true (eqb d c) w (lost_by (past_of (present d w)) header target d w) (eq-eqb d c e)
+
+pub loses_own : (machine : Machine) (header : List ℕ) (target c d : ℕ) → d ≡ c → CarriesOut (λ w. lose_one header target c w d) machine machine
+loses_own machine header target c d e = does_nothing is_of_none (λ s marks place w. lose_one header target c w d) kept machine machine
+    (λ sound s sent half w place marks agree h. serves_world s sent half w _ machine (own_same header target c d w e) h)
+
+other_in : (directory : KnownTargets) (header : List ℕ) (target d : ℕ) (w : World) (life : Life) (phase : Phase)
+    → IsOther target (phase_for directory life phase) → lost_by (past_in phase) header target d w ≡ w
+other_in directory header target d w life LoggingIn other = refl
+other_in directory header target d w life (FullFeature past) other =
+    cond_false (is_same_target past.params.target (Some target)) _ w
+    (not_same past.params.target target (λ same. other (remembered past) refl (target_is past ∙ same)))
+other_in directory header target d w life Closing other = refl
+other_in directory header target d w life Over other = refl
+
+other_of : (directory : KnownTargets) (sent : ℕ) (half : List ℕ) (header : List ℕ) (target d : ℕ) (w : World) (o : Option Life)
+    → IsOther target (link_of directory sent half o).phase → lost_by (past_of o) header target d w ≡ w
+other_of directory sent half header target d w None other = refl
+other_of directory sent half header target d w (Some life) other = other_in directory header target d w life life.phase other
+
+other_by : (b : Bool) (header : List ℕ) (target c d : ℕ) (w : World) → eqb d c ≡ b → lost_by (past_of (present d w)) header target d w ≡ w
+    → lose_one header target c w d ≡ w
+unfolding lose_one
+other_by true header target c d w e same = cond_true (eqb d c) w (lost_by (past_of (present d w)) header target d w) e
+other_by false header target c d w e same = cond_false (eqb d c) w (lost_by (past_of (present d w)) header target d w) e ∙ same
+
+other_same : (s : Setting) (sent : ℕ → ℕ) (half : ℕ → List ℕ) (w : World) (machine : Machine) (header : List ℕ) (target c d : ℕ)
+    → d < connection_limit → Serves s sent half w machine → IsOther target (link_at machine d).phase → lose_one header target c w d ≡ w
+other_same s sent half w machine header target c d lt h other =
+    let P : LinkState → Type 0 = λ l. IsOther target l.phase in
+    other_by (eqb d c) header target c d w refl
+    (other_of s.directory (sent d) (half d) header target d w (present d w) (subst P (link_is s sent half w machine d lt h) other))
+
+pub loses_none : (machine : Machine) (header : List ℕ) (target c d : ℕ) → d < connection_limit → IsOther target (link_at machine d).phase
+    → CarriesOut (λ w. lose_one header target c w d) machine machine
+loses_none machine header target c d lt other = does_nothing is_of_none (λ s marks place w. lose_one header target c w d) kept machine machine
+    (λ sound s sent half w place marks agree h. serves_world s sent half w _ machine (other_same s sent half w machine header target c d lt h other) h)
+
+-- ---- another session of the target
+
+lose_acts : (header : List ℕ) (target c d : ℕ) (w : World) (past : Past) → eqb d c ≡ false → past_of (present d w) ≡ Some past
+    → past.params.target ≡ Some target → lose_one header target c w d ≡ worked d (losing header (work_of past w)) w
+unfolding lose_one worked
+lose_acts header target c d w past other at same =
+    cond_false (eqb d c) w (lost_by (past_of (present d w)) header target d w) other
+    ∙ ap (λ (o : Option Past). lost_by o header target d w) at
+    ∙ cond_true (is_same_target past.params.target (Some target)) (worked_on d (losing header (work_of past w)) w) w
+    (ap (λ (t : Option ℕ). is_same_target t (Some target)) same ∙ eq-eqb target target refl)
+
+pub loses_does : (header : List ℕ) (target c d : ℕ) (machine after : Machine) (framer : List ℕ) (phase : CodePhase) (waiting : List ℕ)
+    (state then_ : SessionState) (units units_then : UnitStates) → d < connection_limit → eqb d c ≡ false → viewed framer phase waiting ≡ link_at machine d
+    → phase ≡ phases.FullFeature state → state.params.target ≡ Some target → units_at state.params.target machine.units ≡ units
+    → Runs (λ fails place work. losing header work) None true state then_ (output waiting []) (output waiting []) units units_then
+    → after ≡ called machine d (Some target) units_then (viewed framer (phases.FullFeature then_) waiting)
+    → CarriesOut (λ w. lose_one header target c w d) machine after
+unfolding session_calls
+loses_does header target c d machine after framer phase waiting state then_ units units_then lt other link is same at runs e =
+    call_does is_of_none (λ s marks place w. lose_one header target c w d) (λ fails place work. losing header work) None true d machine after
+    (session_calls (λ fails place work. losing header work) None true d machine after framer phase waiting waiting [] state then_ units units_then lt link is at
+    (λ sound. runs) (e ∙ called_at machine d (Some target) state.params.target units_then (viewed framer (phases.FullFeature then_) waiting) (sym same)))
+    (λ s marks place w past there params. lose_acts header target c d w past other there (ap (λ p. p.target) params ∙ same))
+    (λ place marks work agree. refl) (λ place. refl)
+
+-- ---- one after the other
+
+pub carried_then : (f g : World → World) (given middle after : Machine) → ((w : World) → Goes w (g w)) → Moves 0 None middle after
+    → CarriesOut f given middle → CarriesOut g middle after → CarriesOut (λ w. g (f w)) given after
+carried_then f g given middle after goes moves first second =
+    does_then is_of_none is_of_none is_of_none (λ s marks place w. f w) (λ s marks place w. g w) kept kept None None given middle after
+    (λ place mark e. refl) (λ place mark e. refl) (λ place mark e. e) (λ place mark e. e) moves.back (λ s marks place w. goes w) first second
+
+pub carried_as : (f g : World → World) (given after : Machine) → ((w : World) → g w ≡ f w) → CarriesOut f given after → CarriesOut g given after
+carried_as f g given after same d =
+    does_as is_of_none (λ s marks place w. f w) (λ s marks place w. g w) kept None given after (λ s sent half w place marks h. same w) d
+
+pub carried_on : (f : World → World) (a b given after : Machine) → a ≡ given → b ≡ after → CarriesOut f a b → CarriesOut f given after
+carried_on f a b given after e u d = does_on is_of_none (λ s marks place w. f w) kept None a b given after e u d
+
+pub carried_none : (machine : Machine) → CarriesOut (λ w. w) machine machine
+carried_none machine = does_nothing is_of_none (λ s marks place w. w) kept machine machine (λ sound s sent half w place marks agree h. h)
+
+-- the sessions of the connections below one
+abbrev pub lost_below : List ℕ → ℕ → ℕ → ℕ → World → World
+lost_below header target c n w = fold (lose_one header target c) w (range_with_len 0 n)
+
+pub none_lost : (header : List ℕ) (target c : ℕ) (machine : Machine) → CarriesOut (lost_below header target c 0) machine machine
+none_lost header target c machine = carried_none machine
+
+pub lost_next : (header : List ℕ) (target c d : ℕ) (given middle after : Machine) → Moves 0 None middle after
+    → CarriesOut (lost_below header target c d) given middle → CarriesOut (λ w. lose_one header target c w d) middle after
+    → CarriesOut (lost_below header target c (d + 1)) given after
+lost_next header target c d given middle after moves so_far one =
+    carried_as (λ w. lose_one header target c (lost_below header target c d w) d) (lost_below header target c (d + 1)) given after
+    (λ w. ap (fold (lose_one header target c) w) (range_next d) ∙ fold-append (lose_one header target c) w (range_with_len 0 d) (d ∷ []))
+    (carried_then (lost_below header target c d) (λ w. lose_one header target c w d) given middle after
+    (λ w. on-lose_one header target c w d) moves so_far one)
+
+-- ---- a reset is told
+
+machine_reset : (s : Setting) (sent : ℕ → ℕ) (half : ℕ → List ℕ) (w : World) (units : List UnitStates)
+    → machine_with s sent half (record w { units = units }) ≡ record (machine_with s sent half w) { units = units }
+unfolding machine_with present
+machine_reset s sent half w units = refl
+
+-- the target with the units that were told
+abbrev pub reset_machine : List ℕ → ℕ → Machine → Machine
+reset_machine header target machine =
+    record machine { units = changed_units (reset_by (function_of header) (lun_field header)) (Some target) machine.units }
+
+reset_serves : (s : Setting) (sent : ℕ → ℕ) (half : ℕ → List ℕ) (w : World) (machine : Machine) (header : List ℕ) (target : ℕ)
+    → Serves s sent half w machine → Serves s sent half (reset header target w) (reset_machine header target machine)
+unfolding reset
+reset_serves s sent half w machine header target h =
+    let f = changed_units (reset_by (function_of header) (lun_field header)) (Some target) in
+    record {
+      is = ap (reset_machine header target) h.is
+          ∙ ap (λ (us : List UnitStates). let m : Machine = record (machine_with s sent half w) { units = f us } in m) (units_with s sent half w)
+          ∙ sym (machine_reset s sent half w (f w.units));
+      answered = λ d lt. rw (present-lives d (record w { units = f w.units }) w refl) (h.answered d lt);
+      quiet = λ d lt. rw (present-lives d (record w { units = f w.units }) w refl) (h.quiet d lt);
+    }
+
+pub reset_does : (machine : Machine) (header : List ℕ) (target : ℕ) → CarriesOut (reset header target) machine (reset_machine header target machine)
+reset_does machine header target = does_nothing is_of_none (λ s marks place w. reset header target w) kept machine (reset_machine header target machine)
+    (λ sound s sent half w place marks agree h. reset_serves s sent half w machine header target h)
+
+pub reset_moves : (b : ℕ) (machine : Machine) (header : List ℕ) (target : ℕ) → Moves b None machine (reset_machine header target machine)
+reset_moves b machine header target = record {
+  back = reset_sound header target machine;
+  sure = reset_sure header target machine;
+  feeds = record {
+    opens = λ d. refl;
+    waits = λ d. ([], sym (append-nil (link_at machine d).waiting));
+    still = λ d idle. refl;
+    others = λ d other logs. refl;
+  };
+  closing = tt;
+  units = reset_units header target machine;
+  keeps = λ d reads. (moves_none b machine).keeps d reads;
+}
+
+pub reset_apart : (machine : Machine) (header : List ℕ) (target : ℕ) → KeepsApart target machine (reset_machine header target machine)
+unfolding changed_units
+reset_apart machine header target = record {
+  links = λ d e. refl;
+  units = λ at differ. get_or-set_other machine.units target at _ [] differ;
+  same = λ d e. inl e;
+}
+
+-- ---- a function
+
+pub carried_reset : (header : List ℕ) (c target : ℕ) (given middle after : Machine) → reaches_others (function_of header) ≡ true → Moves 0 None middle after
+    → CarriesOut (λ w. fold (lose_one header target c) w connections) given middle → CarriesOut (reset header target) middle after
+    → CarriesOut (λ w. carry_out c target w header) given after
+unfolding carry_out
+carried_reset header c target given middle after reaches moves lose told =
+    carried_as (λ w. reset header target (fold (lose_one header target c) w connections)) (λ w. carry_out c target w header) given after
+    (λ w. cond_true (reaches_others (function_of header)) _ w reaches)
+    (carried_then (λ w. fold (lose_one header target c) w connections) (reset header target) given middle after
+    (λ w. on-reset header target w) moves lose told)
+
+pub not_carried : (header : List ℕ) (c target : ℕ) (machine : Machine) → reaches_others (function_of header) ≡ false
+    → CarriesOut (λ w. carry_out c target w header) machine machine
+unfolding carry_out
+not_carried header c target machine other =
+    carried_as (λ w. w) (λ w. carry_out c target w header) machine machine
+    (λ w. cond_false (reaches_others (function_of header)) _ w other) (carried_none machine)
+
+-- ---- one after the other
+
+pub carried_next : (c target : ℕ) (headers : List (List ℕ)) (i : ℕ) (header : List ℕ) (given middle after : Machine) → i < length headers
+    → header ≡ get_or headers i header → Moves 0 None middle after → CarriesOut (λ w. fold (carry_out c target) w (take i headers)) given middle
+    → CarriesOut (λ w. carry_out c target w header) middle after
+    → CarriesOut (λ w. fold (carry_out c target) w (take (i + 1) headers)) given after
+carried_next c target headers i header given middle after lt is moves so_far one =
+    carried_as (λ w. carry_out c target (fold (carry_out c target) w (take i headers)) header)
+    (λ w. fold (carry_out c target) w (take (i + 1) headers)) given after
+    (λ w. ap (fold (carry_out c target) w) (take_more headers i header lt
+    ∙ ap (λ (h : List ℕ). take i headers ++ h ∷ []) (sym is)) ∙ fold-append (carry_out c target) w (take i headers) (header ∷ []))
+    (carried_then (λ w. fold (carry_out c target) w (take i headers)) (λ w. carry_out c target w header) given middle after
+    (λ w. on-carry_out c target header w) moves so_far one)
+
+pub carried_all : (c target : ℕ) (headers : List (List ℕ)) (i : ℕ) (given after : Machine) → length headers ≤ i
+    → CarriesOut (λ w. fold (carry_out c target) w (take i headers)) given after → CarriesOut (λ w. fold (carry_out c target) w headers) given after
+carried_all c target headers i given after whole d =
+    carried_as (λ w. fold (carry_out c target) w (take i headers)) (λ w. fold (carry_out c target) w headers) given after
+    (λ w. ap (fold (carry_out c target) w) (sym (take_all i headers whole))) d
+
+-- ---- what a session that lost commands is told
+
+lost_by_count : (b : Bool) (count : Bool) → b ≡ not count → b ≡ true → count ≡ false
+lost_by_count b true e is = absurd (cc (e, is))
+lost_by_count b false e is = refl
+
+kept_by_count : (b : Bool) (count : Bool) → b ≡ not count → b ≡ false → count ≡ true
+kept_by_count b true e is = refl
+kept_by_count b false e is = absurd (cc (e, is))
+
+pub told_some : (header : List ℕ) (past : Past) (units units_then : UnitStates) (b : Bool) → b ≡ not (length (lost header units past) == 0) → b ≡ true
+    → units_then ≡ told_by (function_of header) (lun_field header) past.params.nexus units → units_then ≡ told_loss header past units
+told_some header past units units_then b e is told =
+    told ∙ sym (cond_false (length (lost header units past) == 0) units _ (lost_by_count b (length (lost header units past) == 0) e is))
+
+pub told_none : (header : List ℕ) (past : Past) (units : UnitStates) (b : Bool) → b ≡ not (length (lost header units past) == 0) → b ≡ false
+    → units ≡ told_loss header past units
+told_none header past units b e is =
+    sym (cond_true (length (lost header units past) == 0) units _ (kept_by_count b (length (lost header units past) == 0) e is))

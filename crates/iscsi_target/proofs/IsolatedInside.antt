@@ -1,0 +1,178 @@
+-- What happens on a connection whose last life is kept is the same where the other lives are left out.
+use Rattle.std.proofs.Common.{◌≡◌, ℕ, List, [], ◌∷◌, Bool, true, false, cond, Option, Some, None, refl, sym, ap, ◌∙◌, subst}
+use Rattle.std.specs.List.{fold}
+use Rattle.iscsi_pdu.specs.Frames.{Frame}
+use Rattle.iscsi_pdu.specs.declared.answer.Answer.{Answer}
+use Rattle.iscsi_pdu.specs.declared.answer.Answer.TheVariants as answers
+use Rattle.scsi_unit.specs.Units.{UnitStates, join, leave}
+use Rattle.iscsi_login.specs.Session.{older, is_same_target}
+use Rattle.iscsi_login.specs.declared.params.Params.{Params}
+use Rattle.iscsi_login.specs.declared.reply.Reply.{Reply}
+use Rattle.iscsi_login.specs.declared.reply.Reply.TheVariants.{GoOn, Full, Refused}
+use Rattle.iscsi_session.specs.Requests.{Past}
+use Rattle.iscsi_session.specs.Steps.{Work, begun_work, served, settled}
+use Rattle.iscsi_session.proofs.Steps.{served_extends, settled_extends}
+use Rattle.iscsi_target.specs.History.{Mark, connections}
+use Rattle.iscsi_target.specs.Life.{Life, Closing, ended_in}
+use Rattle.iscsi_target.specs.World.{World, is_present, present, changed_first, changed, session_of, past_of, live, units_at, with_units, changed_units, left, close, answered, begun, begins, end_older, replied, fails, work_of, with_past, worked_on, worked, served_by, take_in, settled_by, settle_one, settle, settle_for, serve}
+use Rattle.iscsi_target.proofs.IsolatedLives.{Selection, HasTarget, changed_in}
+use Rattle.iscsi_target.proofs.IsolatedWorlds.{UnitsAgree, units_own, with_own, Agree, present_in, present_out, session_target, past_target, session_of_past, older_same, older_on, one_target}
+use Rattle.iscsi_target.proofs.IsolatedFits.{Keeps, keeps_ended, keeps_answered, keeps_begun, keeps_worked, fits_changed}
+
+-- ---- what a connection's end does
+
+pub in_changed : (g : Selection) (f : Life → Life) (c : ℕ) (w v : World) → g.keeps_on c ≡ true → Keeps g f c w → Agree g w v
+    → Agree g (changed f c w) (changed f c v)
+unfolding changed
+in_changed g f c w v on keeps agree = record {
+  lives = ap (changed_first (is_present c) f) agree.lives ∙ sym (changed_in g f c 0 w.lives agree.fits on);
+  units = agree.units;
+  fits = fits_changed g f c w keeps agree.fits;
+}
+
+pub own_changed : (g : Selection) (f : UnitStates → UnitStates) (o : Option ℕ) (all some : List UnitStates) → HasTarget g true o → UnitsAgree g all some
+    → UnitsAgree g (changed_units f o all) (changed_units f o some)
+unfolding changed_units
+own_changed g f o all some own agree =
+    subst (λ (units : UnitStates). UnitsAgree g (with_units o (f (units_at o all)) all) (with_units o (f units) some)) (sym (units_own g o all some own agree))
+    (with_own g o (f (units_at o all)) all some own agree)
+
+pub own_left : (g : Selection) (o : Option Params) (all some : List UnitStates) → ((p : Params) → o ≡ Some p → HasTarget g true p.target)
+    → UnitsAgree g all some
+    → UnitsAgree g (left o all) (left o some)
+own_left g None all some own agree = agree
+own_left g (Some p) all some own agree = own_changed g (leave p.nexus) p.target all some (own p refl) agree
+
+pub own_session : (g : Selection) (c : ℕ) (w v : World) → g.keeps_on c ≡ true → Agree g w v → (p : Params) → session_of (present c w) ≡ Some p
+    → HasTarget g true p.target
+own_session g c w v on agree p e = subst (λ (b : Bool). HasTarget g b p.target) on (session_target g c w v p agree e)
+
+pub in_close : (g : Selection) (c : ℕ) (w v : World) → g.keeps_on c ≡ true → Agree g w v → Agree g (close c w) (close c v)
+unfolding close
+in_close g c w v on agree =
+    let next = in_changed g (ended_in Closing) c w v on (keeps_ended g c w) agree in
+    let units : UnitsAgree g (left (session_of (present c w)) w.units) (left (session_of (present c v)) v.units) =
+    subst (λ (o : Option Life). UnitsAgree g (left (session_of (present c w)) w.units) (left (session_of o) v.units)) (sym (present_in g c w v on agree))
+    (own_left g (session_of (present c w)) w.units v.units (own_session g c w v on agree) agree.units) in
+    record { lives = next.lives; units = units; fits = next.fits }
+
+pub in_cond : (g : Selection) (b : Bool) (w u v x : World) → Agree g w v → Agree g u x → Agree g (cond b w u) (cond b v x)
+in_cond g true w u v x a b = a
+in_cond g false w u v x a b = b
+
+-- ---- a login
+
+in_end_older : (g : Selection) (o : Option ℕ) (w v : World) → ((d : ℕ) → o ≡ Some d → g.keeps_on d ≡ true) → Agree g w v
+    → Agree g (end_older o w) (end_older o v)
+in_end_older g None w v on agree = agree
+in_end_older g (Some d) w v on agree = in_changed g (ended_in Closing) d w v (on d refl) (keeps_ended g d w) agree
+
+in_begins : (g : Selection) (session : Params) (answer : Answer) (c : ℕ) (w v : World) → g.keeps_on c ≡ true → HasTarget g true session.target → Agree g w v
+    → Agree g (begins session answer c w) (begins session answer c v)
+in_begins g session answer c w v on own agree =
+    let next = in_changed g (begun session answer) c w v on
+    (keeps_begun g session answer c w v agree (subst (λ (b : Bool). HasTarget g b session.target) (sym on) own)) agree in
+    record { lives = next.lives; units = own_changed g (join session.nexus) session.target w.units v.units own agree.units; fits = next.fits }
+
+pub in_replied : (g : Selection) (reply : Reply) (c : ℕ) (w v : World) → g.keeps_on c ≡ true
+    → ((r : _) (session : Params) → reply ≡ Full r session → HasTarget g true session.target) → Agree g w v
+    → Agree g (replied reply c w) (replied reply c v)
+in_replied g (GoOn response) c w v on own agree =
+    in_changed g (answered (answers.LoginResponse response)) c w v on (keeps_answered g (answers.LoginResponse response) c w) agree
+in_replied g (Refused response) c w v on own agree =
+    in_close g c (changed (answered (answers.LoginResponse response)) c w) (changed (answered (answers.LoginResponse response)) c v) on
+    (in_changed g (answered (answers.LoginResponse response)) c w v on (keeps_answered g (answers.LoginResponse response) c w) agree)
+in_replied g (Full response session) c w v on own agree =
+    let mine = own response session refl in
+    let u = begins session (answers.LoginResponse response) c w in
+    let x = begins session (answers.LoginResponse response) c v in
+    subst (λ (o : Option ℕ). Agree g (end_older (older session (live w)) u) (end_older o x)) (sym (older_same g session w v mine agree))
+    (in_end_older g (older session (live w)) u x (λ d e. older_on g true session w v d mine agree e)
+    (in_begins g session (answers.LoginResponse response) c w v on mine agree))
+
+-- ---- a session
+
+pub in_worked_on : (g : Selection) (c : ℕ) (past : Past) (work : Work) (w v : World) → g.keeps_on c ≡ true → past_of (present c w) ≡ Some past
+    → work.past.params ≡ past.params → Agree g w v → Agree g (worked_on c work w) (worked_on c work v)
+in_worked_on g c past work w v on at same agree =
+    let own : HasTarget g true work.past.params.target =
+    subst (λ (p : Params). HasTarget g true p.target) (sym same) (own_session g c w v on agree past.params (session_of_past (present c w) past at)) in
+    let next = in_changed g (with_past work.past) c w v on (keeps_worked g c past work.past w at same) agree in
+    record { lives = next.lives; units = with_own g work.past.params.target work.units w.units v.units own agree.units; fits = next.fits }
+
+in_worked : (g : Selection) (c : ℕ) (past : Past) (work : Work) (w v : World) → g.keeps_on c ≡ true → past_of (present c w) ≡ Some past
+    → work.past.params ≡ past.params → Agree g w v → Agree g (worked c work w) (worked c work v)
+unfolding worked
+in_worked g c past work w v on at same agree =
+    let here = in_worked_on g c past work w v on at same agree in
+    in_cond g work.goes_on (worked_on c work w) (close c (worked_on c work w)) (worked_on c work v) (close c (worked_on c work v)) here
+    (in_close g c (worked_on c work w) (worked_on c work v) on here)
+
+-- its target's units are the same
+pub same_work : (g : Selection) (c : ℕ) (past : Past) (w v : World) → g.keeps_on c ≡ true → past_of (present c w) ≡ Some past → Agree g w v
+    → work_of past v ≡ work_of past w
+same_work g c past w v on at agree = ap (begun_work past) (units_own g past.params.target w.units v.units
+    (own_session g c w v on agree past.params (session_of_past (present c w) past at)) agree.units)
+
+in_served_by : (g : Selection) (o : Option Past) (marks : List Mark) (c place : ℕ) (frame : Frame) (w v : World) → g.keeps_on c ≡ true
+    → past_of (present c w) ≡ o → Agree g w v → Agree g (served_by o marks c place frame w) (served_by o marks c place frame v)
+in_served_by g None marks c place frame w v on at agree = agree
+in_served_by g (Some past) marks c place frame w v on at agree =
+    let work = served (fails marks c) place frame (work_of past w) in
+    subst (λ (begun_ : Work). Agree g (worked c work w) (worked c (served (fails marks c) place frame begun_) v)) (sym (same_work g c past w v on at agree))
+    (in_worked g c past work w v on at (served_extends (fails marks c) place frame (work_of past w)).params agree)
+
+pub in_take_in : (g : Selection) (marks : List Mark) (c place : ℕ) (frame : Frame) (w v : World) → g.keeps_on c ≡ true → Agree g w v
+    → Agree g (take_in marks c place frame w) (take_in marks c place frame v)
+unfolding take_in
+in_take_in g marks c place frame w v on agree =
+    subst (λ (o : Option Life). Agree g (served_by (past_of (present c w)) marks c place frame w) (served_by (past_of o) marks c place frame v))
+    (sym (present_in g c w v on agree)) (in_served_by g (past_of (present c w)) marks c place frame w v on refl agree)
+
+-- a session whose life is kept
+in_settled : (g : Selection) (o : Option Past) (marks : List Mark) (place t c : ℕ) (w v : World) → g.keeps_on c ≡ true → past_of (present c w) ≡ o
+    → Agree g w v → Agree g (settled_by o marks place t c w) (settled_by o marks place t c v)
+in_settled g None marks place t c w v on at agree = agree
+in_settled g (Some past) marks place t c w v on at agree =
+    let work = settled (fails marks c) place (work_of past w) in
+    in_cond g (is_same_target past.params.target (Some t)) (worked c work w) w (worked c (settled (fails marks c) place (work_of past v)) v) v
+    (subst (λ (begun_ : Work). Agree g (worked c work w) (worked c (settled (fails marks c) place begun_) v)) (sym (same_work g c past w v on at agree))
+    (in_worked g c past work w v on at (settled_extends (fails marks c) place (work_of past w)).params agree)) agree
+
+-- .. is not kept, which is of another target
+passed_over : (g : Selection) (past : Past) (marks : List Mark) (place t c : ℕ) (w v : World) (here : Bool) → HasTarget g true (Some t) → g.keeps_on c ≡ false
+    → is_same_target past.params.target (Some t) ≡ here → past_of (present c w) ≡ Some past → Agree g w v
+    → Agree g (cond here (worked c (settled (fails marks c) place (work_of past w)) w) w) v
+passed_over g past marks place t c w v false own on e at agree = agree
+passed_over g past marks place t c w v true own on e at agree =
+    let never : g.keeps_on c ≡ true = one_target g (g.keeps_on c) true past.params.target (Some t) (past_target g c w v past agree at) own e in
+    absurd cc
+
+in_passed : (g : Selection) (o : Option Past) (marks : List Mark) (place t c : ℕ) (w v : World) → HasTarget g true (Some t) → g.keeps_on c ≡ false
+    → past_of (present c w) ≡ o → Agree g w v → Agree g (settled_by o marks place t c w) v
+in_passed g None marks place t c w v own on at agree = agree
+in_passed g (Some past) marks place t c w v own on at agree =
+    passed_over g past marks place t c w v (is_same_target past.params.target (Some t)) own on refl at agree
+
+settle_by : (b : Bool) (g : Selection) (marks : List Mark) (place t c : ℕ) (w v : World) → g.keeps_on c ≡ b → HasTarget g true (Some t) → Agree g w v
+    → Agree g (settle_one marks place t w c) (settle_one marks place t v c)
+unfolding settle_one
+settle_by true g marks place t c w v on own agree =
+    subst (λ (o : Option Life). Agree g (settled_by (past_of (present c w)) marks place t c w) (settled_by (past_of o) marks place t c v))
+    (sym (present_in g c w v on agree)) (in_settled g (past_of (present c w)) marks place t c w v on refl agree)
+settle_by false g marks place t c w v on own agree =
+    subst (λ (o : Option Life). Agree g (settled_by (past_of (present c w)) marks place t c w) (settled_by (past_of o) marks place t c v))
+    (sym (present_out g c w v on agree)) (in_passed g (past_of (present c w)) marks place t c w v own on refl agree)
+
+in_settle_all : (g : Selection) (marks : List Mark) (place t : ℕ) (w v : World) (cs : List ℕ) → HasTarget g true (Some t) → Agree g w v
+    → Agree g (fold (settle_one marks place t) w cs) (fold (settle_one marks place t) v cs)
+in_settle_all g marks place t w v [] own agree = agree
+in_settle_all g marks place t w v (c ∷ cs) own agree =
+    in_settle_all g marks place t (settle_one marks place t w c) (settle_one marks place t v c) cs own
+    (settle_by (g.keeps_on c) g marks place t c w v refl own agree)
+
+pub in_settle_for : (g : Selection) (marks : List Mark) (place : ℕ) (o : Option ℕ) (w v : World) → HasTarget g true o → Agree g w v
+    → Agree g (settle_for marks place o w) (settle_for marks place o v)
+unfolding settle
+in_settle_for g marks place None w v own agree = agree
+in_settle_for g marks place (Some t) w v own agree = in_settle_all g marks place t w v connections own agree

@@ -1,0 +1,141 @@
+-- What happens on a connection whose last life is not kept leaves the kept lives and the target's units as they are.
+use Rattle.std.proofs.Common.{◌≡◌, ℕ, ◌+◌, List, [], ◌∷◌, Bool, true, false, cond, Option, Some, None, refl, sym, ◌∙◌, subst}
+use Rattle.std.specs.List.{fold}
+use Rattle.iscsi_pdu.specs.Frames.{Frame}
+use Rattle.iscsi_pdu.specs.declared.answer.Answer.{Answer}
+use Rattle.iscsi_pdu.specs.declared.answer.Answer.TheVariants as answers
+use Rattle.scsi_unit.specs.Units.{UnitStates}
+use Rattle.iscsi_login.specs.Session.{older, is_same_target}
+use Rattle.iscsi_login.specs.Login.{login}
+use Rattle.iscsi_login.specs.declared.params.Params.{Params}
+use Rattle.iscsi_login.specs.declared.reply.Reply.{Reply}
+use Rattle.iscsi_login.specs.declared.reply.Reply.TheVariants.{GoOn, Full, Refused}
+use Rattle.iscsi_session.specs.Requests.{Past}
+use Rattle.iscsi_session.specs.Steps.{Work, served, settled}
+use Rattle.iscsi_session.proofs.Steps.{served_extends, settled_extends}
+use Rattle.iscsi_target.specs.History.{Mark, connections}
+use Rattle.iscsi_target.specs.Life.{Life, Closing, ended_in}
+use Rattle.iscsi_target.specs.World.{Setting, World, present, changed, session_of, past_of, live, changed_units, left, close, answered, asked, begun, begins, requests_of, lookup_for, end_older, replied, log_in, fails, work_of, with_past, worked_on, worked, served_by, take_in, settled_by, settle_one, settle, settle_for, serve}
+use Rattle.iscsi_target.proofs.IsolatedLives.{Selection, HasTarget, changed_out}
+use Rattle.iscsi_target.proofs.IsolatedWorlds.{UnitsAgree, with_other, Agree, session_target, past_target, session_of_past, older_on, one_target}
+use Rattle.iscsi_target.proofs.IsolatedFits.{Keeps, keeps_ended, keeps_answered, keeps_asked, keeps_begun, keeps_worked, fits_changed}
+
+-- ---- what a connection's end does
+
+pub out_changed : (g : Selection) (f : Life → Life) (c : ℕ) (w v : World) → g.keeps_on c ≡ false → Keeps g f c w → Agree g w v → Agree g (changed f c w) v
+unfolding changed
+out_changed g f c w v on keeps agree = record {
+  lives = agree.lives ∙ sym (changed_out g f c 0 w.lives agree.fits on);
+  units = agree.units;
+  fits = fits_changed g f c w keeps agree.fits;
+}
+
+pub out_left : (g : Selection) (o : Option Params) (all some : List UnitStates) → ((p : Params) → o ≡ Some p → HasTarget g false p.target)
+    → UnitsAgree g all some
+    → UnitsAgree g (left o all) some
+unfolding changed_units
+out_left g None all some other agree = agree
+out_left g (Some p) all some other agree = with_other g p.target _ all some (other p refl) agree
+
+pub other_session : (g : Selection) (c : ℕ) (w v : World) → g.keeps_on c ≡ false → Agree g w v → (p : Params) → session_of (present c w) ≡ Some p
+    → HasTarget g false p.target
+other_session g c w v on agree p e = subst (λ (b : Bool). HasTarget g b p.target) on (session_target g c w v p agree e)
+
+pub out_close : (g : Selection) (c : ℕ) (w v : World) → g.keeps_on c ≡ false → Agree g w v → Agree g (close c w) v
+unfolding close
+out_close g c w v on agree =
+    let next = out_changed g (ended_in Closing) c w v on (keeps_ended g c w) agree in
+    record { lives = next.lives; units = out_left g (session_of (present c w)) w.units v.units (other_session g c w v on agree) agree.units; fits = next.fits }
+
+pub out_cond : (g : Selection) (b : Bool) (w u v : World) → Agree g w v → Agree g u v → Agree g (cond b w u) v
+out_cond g true w u v a b = a
+out_cond g false w u v a b = b
+
+-- ---- a login
+
+out_end_older : (g : Selection) (o : Option ℕ) (w v : World) → ((d : ℕ) → o ≡ Some d → g.keeps_on d ≡ false) → Agree g w v → Agree g (end_older o w) v
+out_end_older g None w v on agree = agree
+out_end_older g (Some d) w v on agree = out_changed g (ended_in Closing) d w v (on d refl) (keeps_ended g d w) agree
+
+out_begins : (g : Selection) (session : Params) (answer : Answer) (c : ℕ) (w v : World) → g.keeps_on c ≡ false → HasTarget g false session.target → Agree g w v
+    → Agree g (begins session answer c w) v
+unfolding changed_units
+out_begins g session answer c w v on other agree =
+    let next = out_changed g (begun session answer) c w v on
+    (keeps_begun g session answer c w v agree (subst (λ (b : Bool). HasTarget g b session.target) (sym on) other)) agree in
+    record { lives = next.lives; units = with_other g session.target _ w.units v.units other agree.units; fits = next.fits }
+
+out_replied : (g : Selection) (reply : Reply) (c : ℕ) (w v : World) → g.keeps_on c ≡ false
+    → ((r : _) (session : Params) → reply ≡ Full r session → HasTarget g false session.target) → Agree g w v → Agree g (replied reply c w) v
+out_replied g (GoOn response) c w v on other agree =
+    out_changed g (answered (answers.LoginResponse response)) c w v on (keeps_answered g (answers.LoginResponse response) c w) agree
+out_replied g (Refused response) c w v on other agree =
+    out_close g c (changed (answered (answers.LoginResponse response)) c w) v on
+    (out_changed g (answered (answers.LoginResponse response)) c w v on (keeps_answered g (answers.LoginResponse response) c w) agree)
+out_replied g (Full response session) c w v on other agree =
+    let own = other response session refl in
+    out_end_older g (older session (live w)) (begins session (answers.LoginResponse response) c w) v
+    (λ d e. older_on g false session w v d own agree e) (out_begins g session (answers.LoginResponse response) c w v on own agree)
+
+pub out_log_in : (g : Selection) (s : Setting) (c : ℕ) (request : Frame) (w v : World) → g.keeps_on c ≡ false
+    → ((r : _) (session : Params) → login (c + 1) (requests_of (present c w)) (lookup_for s.directory (live w) request) request ≡ Full r session
+    → HasTarget g false session.target)
+    → Agree g w v → Agree g (log_in s c request w) v
+unfolding log_in
+out_log_in g s c request w v on other agree =
+    out_replied g (login (c + 1) (requests_of (present c w)) (lookup_for s.directory (live w) request) request) c (changed (asked request) c w) v on other
+    (out_changed g (asked request) c w v on (keeps_asked g request c w) agree)
+
+-- ---- a session
+
+pub out_worked_on : (g : Selection) (c : ℕ) (past : Past) (work : Work) (w v : World) → g.keeps_on c ≡ false → past_of (present c w) ≡ Some past
+    → work.past.params ≡ past.params → Agree g w v → Agree g (worked_on c work w) v
+out_worked_on g c past work w v on at same agree =
+    let other : HasTarget g false work.past.params.target =
+    subst (λ (p : Params). HasTarget g false p.target) (sym same) (other_session g c w v on agree past.params (session_of_past (present c w) past at)) in
+    let next = out_changed g (with_past work.past) c w v on (keeps_worked g c past work.past w at same) agree in
+    record { lives = next.lives; units = with_other g work.past.params.target work.units w.units v.units other agree.units; fits = next.fits }
+
+out_worked : (g : Selection) (c : ℕ) (past : Past) (work : Work) (w v : World) → g.keeps_on c ≡ false → past_of (present c w) ≡ Some past
+    → work.past.params ≡ past.params → Agree g w v → Agree g (worked c work w) v
+unfolding worked
+out_worked g c past work w v on at same agree =
+    let here = out_worked_on g c past work w v on at same agree in
+    out_cond g work.goes_on (worked_on c work w) (close c (worked_on c work w)) v here (out_close g c (worked_on c work w) v on here)
+
+pub out_served_by : (g : Selection) (o : Option Past) (marks : List Mark) (c place : ℕ) (frame : Frame) (w v : World) → g.keeps_on c ≡ false
+    → past_of (present c w) ≡ o → Agree g w v → Agree g (served_by o marks c place frame w) v
+out_served_by g None marks c place frame w v on at agree = agree
+out_served_by g (Some past) marks c place frame w v on at agree =
+    out_worked g c past (served (fails marks c) place frame (work_of past w)) w v on at
+    (served_extends (fails marks c) place frame (work_of past w)).params agree
+
+out_settled : (g : Selection) (past : Past) (marks : List Mark) (place t c : ℕ) (w v : World) (here kept : Bool) → HasTarget g false (Some t)
+    → is_same_target past.params.target (Some t) ≡ here → g.keeps_on c ≡ kept
+    → past_of (present c w) ≡ Some past → Agree g w v
+    → Agree g (cond here (worked c (settled (fails marks c) place (work_of past w)) w) w) v
+out_settled g past marks place t c w v false kept other e on at agree = agree
+out_settled g past marks place t c w v true true other e on at agree =
+    let never : g.keeps_on c ≡ false = one_target g (g.keeps_on c) false past.params.target (Some t) (past_target g c w v past agree at) other e in
+    absurd cc
+out_settled g past marks place t c w v true false other e on at agree =
+    out_worked g c past (settled (fails marks c) place (work_of past w)) w v on at (settled_extends (fails marks c) place (work_of past w)).params agree
+
+out_settled_by : (g : Selection) (o : Option Past) (marks : List Mark) (place t c : ℕ) (w v : World) → HasTarget g false (Some t) → past_of (present c w) ≡ o
+    → Agree g w v → Agree g (settled_by o marks place t c w) v
+out_settled_by g None marks place t c w v other at agree = agree
+out_settled_by g (Some past) marks place t c w v other at agree =
+    out_settled g past marks place t c w v (is_same_target past.params.target (Some t)) (g.keeps_on c) other refl refl at agree
+
+out_settle_all : (g : Selection) (marks : List Mark) (place t : ℕ) (w v : World) (cs : List ℕ) → HasTarget g false (Some t) → Agree g w v
+    → Agree g (fold (settle_one marks place t) w cs) v
+unfolding settle_one
+out_settle_all g marks place t w v [] other agree = agree
+out_settle_all g marks place t w v (c ∷ cs) other agree =
+    out_settle_all g marks place t (settle_one marks place t w c) v cs other (out_settled_by g (past_of (present c w)) marks place t c w v other refl agree)
+
+pub out_settle_for : (g : Selection) (marks : List Mark) (place : ℕ) (o : Option ℕ) (w v : World) → HasTarget g false o → Agree g w v
+    → Agree g (settle_for marks place o w) v
+unfolding settle
+out_settle_for g marks place None w v other agree = agree
+out_settle_for g marks place (Some t) w v other agree = out_settle_all g marks place t w v connections other agree

@@ -1,0 +1,165 @@
+-- A frame of a session, and what the Task Management Functions that acted in it do to the other sessions of its target, stay within the target.
+use Rattle.std.proofs.Common.{◌≡◌, ℕ, List, [], ◌∷◌, Bool, true, false, cond, eqb, Option, Some, None, refl, sym, ap, ◌∙◌, subst}
+use Rattle.std.specs.List.{fold}
+use Rattle.iscsi_pdu.specs.Header.{lun_field}
+use Rattle.iscsi_pdu.specs.Frames.{Frame}
+use Rattle.iscsi_login.specs.Session.{is_same_target}
+use Rattle.iscsi_login.specs.declared.params.Params.{Params}
+use Rattle.iscsi_session.specs.Requests.{Past, removing}
+use Rattle.iscsi_session.specs.Steps.{Work, begun_work, served}
+use Rattle.iscsi_target.specs.History.{Mark, connections}
+use Rattle.iscsi_target.specs.Life.{Life}
+use Rattle.iscsi_target.specs.World.{World, present, changed, past_of, changed_units, fails, work_of, with_past, worked_on, take_in, orders_by, orders_in, function_of, reaches_others, lost, losing, lost_by, lose_one, reset_by, reset, carry_out, carry_out_for, settle_for, serve}
+use Rattle.iscsi_target.proofs.IsolatedLives.{Selection, HasTarget}
+use Rattle.iscsi_target.proofs.IsolatedWorlds.{Agree, with_other, present_in, present_out, past_target, one_target}
+use Rattle.iscsi_target.proofs.IsolatedOutside.{out_cond, out_worked_on, out_served_by, out_settle_for}
+use Rattle.iscsi_target.proofs.IsolatedInside.{in_cond, in_worked_on, own_changed, same_work, in_take_in, in_settle_for}
+
+-- ---- of another target
+
+out_lost : (here kept : Bool) (g : Selection) (past : Past) (header : List ℕ) (t d : ℕ) (w v : World) → is_same_target past.params.target (Some t) ≡ here
+    → g.keeps_on d ≡ kept → HasTarget g false (Some t) → past_of (present d w) ≡ Some past → Agree g w v
+    → Agree g (cond here (worked_on d (losing header (work_of past w)) w) w) v
+out_lost false kept g past header t d w v e on other at agree = agree
+out_lost true true g past header t d w v e on other at agree =
+    let never : g.keeps_on d ≡ false = one_target g (g.keeps_on d) false past.params.target (Some t) (past_target g d w v past agree at) other e in
+    absurd cc
+out_lost true false g past header t d w v e on other at agree = out_worked_on g d past (losing header (work_of past w)) w v on at refl agree
+
+out_lost_by : (g : Selection) (o : Option Past) (header : List ℕ) (t d : ℕ) (w v : World) → HasTarget g false (Some t) → past_of (present d w) ≡ o
+    → Agree g w v → Agree g (lost_by o header t d w) v
+out_lost_by g None header t d w v other at agree = agree
+out_lost_by g (Some past) header t d w v other at agree =
+    out_lost (is_same_target past.params.target (Some t)) (g.keeps_on d) g past header t d w v refl refl other at agree
+
+out_lose_all : (g : Selection) (header : List ℕ) (t c : ℕ) (w v : World) (ds : List ℕ) → HasTarget g false (Some t) → Agree g w v
+    → Agree g (fold (lose_one header t c) w ds) v
+unfolding lose_one
+out_lose_all g header t c w v [] other agree = agree
+out_lose_all g header t c w v (d ∷ ds) other agree =
+    out_lose_all g header t c (lose_one header t c w d) v ds other
+    (out_cond g (eqb d c) w (lost_by (past_of (present d w)) header t d w) v agree (out_lost_by g (past_of (present d w)) header t d w v other refl agree))
+
+out_reset : (g : Selection) (header : List ℕ) (t : ℕ) (w v : World) → HasTarget g false (Some t) → Agree g w v → Agree g (reset header t w) v
+unfolding reset changed_units
+out_reset g header t w v other agree = record { lives = agree.lives; units = with_other g (Some t) _ w.units v.units other agree.units; fits = agree.fits }
+
+out_carry_out_all : (g : Selection) (c t : ℕ) (w v : World) (headers : List (List ℕ)) → HasTarget g false (Some t) → Agree g w v
+    → Agree g (fold (carry_out c t) w headers) v
+unfolding carry_out
+out_carry_out_all g c t w v [] other agree = agree
+out_carry_out_all g c t w v (header ∷ headers) other agree =
+    let u = fold (lose_one header t c) w connections in
+    out_carry_out_all g c t (carry_out c t w header) v headers other
+    (out_cond g (reaches_others (function_of header)) (reset header t u) w v
+    (out_reset g header t u v other (out_lose_all g header t c w v connections other agree)) agree)
+
+pub out_carry_out_for : (g : Selection) (c : ℕ) (o : Option ℕ) (headers : List (List ℕ)) (w v : World) → HasTarget g false o → Agree g w v
+    → Agree g (carry_out_for c o headers w) v
+out_carry_out_for g c None headers w v other agree = agree
+out_carry_out_for g c (Some t) headers w v other agree = out_carry_out_all g c t w v headers other agree
+
+-- ---- of this target
+
+in_lost_by : (g : Selection) (o : Option Past) (header : List ℕ) (t d : ℕ) (w v : World) → g.keeps_on d ≡ true → past_of (present d w) ≡ o → Agree g w v
+    → Agree g (lost_by o header t d w) (lost_by o header t d v)
+in_lost_by g None header t d w v on at agree = agree
+in_lost_by g (Some past) header t d w v on at agree =
+    let work = losing header (work_of past w) in
+    in_cond g (is_same_target past.params.target (Some t)) (worked_on d work w) w (worked_on d (losing header (work_of past v)) v) v
+    (subst (λ (begun_ : Work). Agree g (worked_on d work w) (worked_on d (losing header begun_) v)) (sym (same_work g d past w v on at agree))
+    (in_worked_on g d past work w v on at refl agree)) agree
+
+-- a session of another target loses nothing
+unlost : (here : Bool) (g : Selection) (past : Past) (header : List ℕ) (t d : ℕ) (w v : World) → is_same_target past.params.target (Some t) ≡ here
+    → g.keeps_on d ≡ false → HasTarget g true (Some t) → past_of (present d w) ≡ Some past → Agree g w v
+    → Agree g (cond here (worked_on d (losing header (work_of past w)) w) w) v
+unlost false g past header t d w v e on own at agree = agree
+unlost true g past header t d w v e on own at agree =
+    let never : g.keeps_on d ≡ true = one_target g (g.keeps_on d) true past.params.target (Some t) (past_target g d w v past agree at) own e in
+    absurd cc
+
+unlost_by : (g : Selection) (o : Option Past) (header : List ℕ) (t d : ℕ) (w v : World) → g.keeps_on d ≡ false → HasTarget g true (Some t)
+    → past_of (present d w) ≡ o → Agree g w v → Agree g (lost_by o header t d w) v
+unlost_by g None header t d w v on own at agree = agree
+unlost_by g (Some past) header t d w v on own at agree =
+    unlost (is_same_target past.params.target (Some t)) g past header t d w v refl on own at agree
+
+lost_in : (b : Bool) (g : Selection) (header : List ℕ) (t d : ℕ) (w v : World) → g.keeps_on d ≡ b → HasTarget g true (Some t) → Agree g w v
+    → Agree g (lost_by (past_of (present d w)) header t d w) (lost_by (past_of (present d v)) header t d v)
+lost_in true g header t d w v on own agree =
+    subst (λ (o : Option Life). Agree g (lost_by (past_of (present d w)) header t d w) (lost_by (past_of o) header t d v)) (sym (present_in g d w v on agree))
+    (in_lost_by g (past_of (present d w)) header t d w v on refl agree)
+lost_in false g header t d w v on own agree =
+    subst (λ (o : Option Life). Agree g (lost_by (past_of (present d w)) header t d w) (lost_by (past_of o) header t d v)) (sym (present_out g d w v on agree))
+    (unlost_by g (past_of (present d w)) header t d w v on own refl agree)
+
+in_lose_all : (g : Selection) (header : List ℕ) (t c : ℕ) (w v : World) (ds : List ℕ) → HasTarget g true (Some t) → Agree g w v
+    → Agree g (fold (lose_one header t c) w ds) (fold (lose_one header t c) v ds)
+unfolding lose_one
+in_lose_all g header t c w v [] own agree = agree
+in_lose_all g header t c w v (d ∷ ds) own agree =
+    in_lose_all g header t c (lose_one header t c w d) (lose_one header t c v d) ds own
+    (in_cond g (eqb d c) w (lost_by (past_of (present d w)) header t d w) v (lost_by (past_of (present d v)) header t d v) agree
+    (lost_in (g.keeps_on d) g header t d w v refl own agree))
+
+in_reset : (g : Selection) (header : List ℕ) (t : ℕ) (w v : World) → HasTarget g true (Some t) → Agree g w v → Agree g (reset header t w) (reset header t v)
+unfolding reset
+in_reset g header t w v own agree = record {
+  lives = agree.lives;
+  units = own_changed g (reset_by (function_of header) (lun_field header)) (Some t) w.units v.units own agree.units;
+  fits = agree.fits;
+}
+
+in_carry_out_all : (g : Selection) (c t : ℕ) (w v : World) (headers : List (List ℕ)) → HasTarget g true (Some t) → Agree g w v
+    → Agree g (fold (carry_out c t) w headers) (fold (carry_out c t) v headers)
+unfolding carry_out
+in_carry_out_all g c t w v [] own agree = agree
+in_carry_out_all g c t w v (header ∷ headers) own agree =
+    let u = fold (lose_one header t c) w connections in
+    let x = fold (lose_one header t c) v connections in
+    in_carry_out_all g c t (carry_out c t w header) (carry_out c t v header) headers own
+    (in_cond g (reaches_others (function_of header)) (reset header t u) w (reset header t x) v
+    (in_reset g header t u x own (in_lose_all g header t c w v connections own agree)) agree)
+
+pub in_carry_out_for : (g : Selection) (c : ℕ) (o : Option ℕ) (headers : List (List ℕ)) (w v : World) → HasTarget g true o → Agree g w v
+    → Agree g (carry_out_for c o headers w) (carry_out_for c o headers v)
+in_carry_out_for g c None headers w v own agree = agree
+in_carry_out_for g c (Some t) headers w v own agree = in_carry_out_all g c t w v headers own agree
+
+-- the functions that acted in a frame are the same
+orders_same : (g : Selection) (o : Option Past) (marks : List Mark) (c place : ℕ) (frame : Frame) (w v : World) → g.keeps_on c ≡ true
+    → past_of (present c w) ≡ o → Agree g w v → orders_by o marks c place frame v ≡ orders_by o marks c place frame w
+orders_same g None marks c place frame w v on at agree = refl
+orders_same g (Some past) marks c place frame w v on at agree =
+    ap (λ (work : Work). (served (fails marks c) place frame work).orders) (same_work g c past w v on at agree)
+
+pub in_orders : (g : Selection) (marks : List Mark) (c place : ℕ) (frame : Frame) (w v : World) → g.keeps_on c ≡ true → Agree g w v
+    → orders_in marks c place frame v ≡ orders_in marks c place frame w
+unfolding orders_in
+in_orders g marks c place frame w v on agree =
+    ap (λ (o : Option Life). orders_by (past_of o) marks c place frame v) (present_in g c w v on agree)
+    ∙ orders_same g (past_of (present c w)) marks c place frame w v on refl agree
+
+-- ---- a frame of a session, and what it makes of its target's sessions
+
+pub out_serve : (g : Selection) (marks : List Mark) (c place : ℕ) (o : Option ℕ) (frame : Frame) (w v : World) → g.keeps_on c ≡ false → HasTarget g false o
+    → Agree g w v → Agree g (serve marks c place o frame w) v
+unfolding serve take_in
+out_serve g marks c place o frame w v on other agree =
+    let taken = take_in marks c place frame w in
+    let orders = orders_in marks c place frame w in
+    out_settle_for g marks place o (carry_out_for c o orders taken) v other
+    (out_carry_out_for g c o orders taken v other (out_served_by g (past_of (present c w)) marks c place frame w v on refl agree))
+
+pub in_serve : (g : Selection) (marks : List Mark) (c place : ℕ) (o : Option ℕ) (frame : Frame) (w v : World) → g.keeps_on c ≡ true → HasTarget g true o
+    → Agree g w v → Agree g (serve marks c place o frame w) (serve marks c place o frame v)
+unfolding serve
+in_serve g marks c place o frame w v on own agree =
+    let orders = orders_in marks c place frame w in
+    let u = carry_out_for c o orders (take_in marks c place frame w) in
+    let x = carry_out_for c o orders (take_in marks c place frame v) in
+    subst (λ (hs : List (List ℕ)). Agree g (settle_for marks place o u) (settle_for marks place o (carry_out_for c o hs (take_in marks c place frame v))))
+    (sym (in_orders g marks c place frame w v on agree))
+    (in_settle_for g marks place o u x own
+    (in_carry_out_for g c o orders (take_in marks c place frame w) (take_in marks c place frame v) own (in_take_in g marks c place frame w v on agree)))

@@ -1,0 +1,338 @@
+-- Of every history: the kept lives and the target's units are those of the kept lives' events alone.
+use Rattle.std.proofs.Common.{◌≡◌, ◌≢◌, ℕ, suc, ◌+◌, List, [], ◌∷◌, ◌++◌, length, map, Bool, true, false, not, ◌||◌, eqb, Option, Some, None, refl, sym, ap, ◌∙◌, subst, arith}
+use Rattle.std.specs.Prelude.{filter, ◌==◌, slice_get, slice_index_or, nat_lt}
+use Rattle.std.specs.List.{fold}
+use Rattle.std.specs.Option.{option_and_then}
+use Rattle.std.proofs.lemmas.Bool.{eqb-true, ne_eqb}
+use Rattle.std.proofs.lemmas.List.{length-map, length-append, append-nil}
+use Rattle.scsi_unit.specs.Medium.{kept_of}
+use Rattle.iscsi_login.specs.Session.{is_same_target}
+use Rattle.iscsi_target.specs.History.{Event, Open, Bytes, Gone, connection_limit, is_among, open_after, may_come, may_follow, well_formed, plain}
+use Rattle.iscsi_target.specs.Life.{Life, Over, is_over, born, ended_in, out_of}
+use Rattle.iscsi_target.specs.World.{Setting, World, is_present, present, session_of, left, over, end, bring, happened, new_world, world}
+use Rattle.iscsi_target.specs.Output.{outputs}
+use Rattle.iscsi_target.specs.Isolation.{kept_from, connection_of, next_after, last_after, only_from, only, named_in, Selects, names, plain_world, TargetsAreIsolated, TargetsSeeTheirOwn, StrangersAreAlone}
+use Rattle.iscsi_target.proofs.Choices.{cond_true, cond_false, and_true, not_true, eqb_self}
+use Rattle.iscsi_target.proofs.IsolatedLives.{AllFrom, Selection, HasTarget, Fits, kept_in, kept_out, kept_append, kept_map, over_out, all_map, all_as, all_push, all_places}
+use Rattle.iscsi_target.proofs.IsolatedNames.{is_configured}
+use Rattle.iscsi_target.proofs.IsolatedAsking.{Named, AreNamed, adds-bring, same_count, named_first}
+use Rattle.iscsi_target.proofs.IsolatedWorlds.{UnitsAgree, Agree, present_in}
+use Rattle.iscsi_target.proofs.IsolatedOutside.{out_left, other_session}
+use Rattle.iscsi_target.proofs.IsolatedInside.{own_left, own_session}
+use Rattle.iscsi_target.proofs.IsolatedEvents.{in_bring, out_bring}
+
+-- ---- between two events
+
+abbrev selection : ℕ → (ℕ → Bool) → List ℕ → (ℕ → ℕ) → Selection
+selection target keeps opened last = record { target = target; keeps = keeps; opened = opened; keeps_on = λ c. keeps (last c) }
+
+record Follow (target : ℕ) (keeps : ℕ → Bool) (opened : List ℕ) (last : ℕ → ℕ) (next : ℕ) (w v : World) : Type 0 where
+  agree : Agree (selection target keeps opened last) w v
+  count : next ≡ length w.lives
+
+-- ---- an Open
+
+or_right : (a b : Bool) → b ≡ true → (a || b) ≡ true
+or_right true b e = refl
+or_right false b e = e
+
+placed_later : (keeps : ℕ → Bool) (opened : List ℕ) (last : ℕ → ℕ) (next c d k : ℕ) → is_among c opened ≡ false
+    → (is_among d opened ≡ true) × (keeps k ≡ keeps (last d))
+    → (is_among d (c ∷ opened) ≡ true) × (keeps k ≡ keeps (last_after next last (Open c) d))
+placed_later keeps opened last next c d k free placed =
+    let differ : d ≢ c = λ same. (let both = ap (λ (e : ℕ). is_among e opened) same in absurd (cc (both, free, placed.0))) in
+    (or_right (eqb c d) (is_among d opened) placed.0, placed.1 ∙ ap keeps (sym (cond_false (eqb d c) next (last d) (ne_eqb d c differ))))
+
+fits_later : (target : ℕ) (keeps : ℕ → Bool) (opened : List ℕ) (last : ℕ → ℕ) (next c : ℕ) → is_among c opened ≡ false → (k : ℕ) (x : Life)
+    → Fits (selection target keeps opened last) k x → Fits (selection target keeps (c ∷ opened) (last_after next last (Open c))) k x
+unfolding HasTarget
+fits_later target keeps opened last next c free k x fit = record {
+  placed = λ e. placed_later keeps opened last next c x.connection k free (fit.placed e);
+  session = fit.session;
+}
+
+born_fits : (target : ℕ) (keeps : ℕ → Bool) (opened : List ℕ) (last : ℕ → ℕ) (next c k : ℕ) → k ≡ next
+    → Fits (selection target keeps (c ∷ opened) (last_after next last (Open c))) k (born c)
+born_fits target keeps opened last next c k e = record {
+  placed = λ open_. (
+    ap (λ (b : Bool). b || is_among c opened) (eqb_self c),
+    ap keeps (e ∙ sym (cond_true (eqb c c) next (last c) (eqb_self c))),
+  );
+  session = λ p never. absurd cc;
+}
+
+free_of : (opened : List ℕ) (c : ℕ) → may_come opened (Open c) ≡ true → is_among c opened ≡ false
+free_of opened c e = not_true (is_among c opened) (and_true (nat_lt c connection_limit) (not (is_among c opened)) e).1
+
+open_fits : (target : ℕ) (keeps : ℕ → Bool) (opened : List ℕ) (last : ℕ → ℕ) (next c : ℕ) (w v : World) → may_come opened (Open c) ≡ true
+    → Follow target keeps opened last next w v → AllFrom (Fits (selection target keeps (c ∷ opened) (last_after next last (Open c)))) 0
+    (w.lives ++ born c ∷ [])
+open_fits target keeps opened last next c w v may follow =
+    let g = selection target keeps opened last in
+    let h = selection target keeps (c ∷ opened) (last_after next last (Open c)) in
+    let here : 0 + length w.lives ≡ next = omega (arith, follow.count) in
+    all_push (Fits h) 0 w.lives (born c)
+    (all_as (Fits g) (Fits h) 0 w.lives (fits_later target keeps opened last next c (free_of opened c may)) follow.agree.fits)
+    (born_fits target keeps opened last next c (0 + length w.lives) here)
+
+open_count : (next c : ℕ) (lives : List Life) → next ≡ length lives → suc next ≡ length (lives ++ born c ∷ [])
+open_count next c lives e = omega (arith, length-append lives (born c ∷ []))
+
+-- the lives that are kept, and the one that begins where it is
+kept_push : (keeps : ℕ → Bool) (next : ℕ) (x : Life) (lives : List Life) → next ≡ length lives
+    → kept_from keeps 0 (lives ++ x ∷ []) ≡ kept_from keeps 0 lives ++ kept_from keeps next (x ∷ [])
+kept_push keeps next x lives e =
+    let here : 0 + length lives ≡ next = omega arith in
+    kept_append keeps 0 lives (x ∷ []) ∙ ap (λ (n : ℕ). kept_from keeps 0 lives ++ kept_from keeps n (x ∷ [])) here
+
+in_open : (target : ℕ) (keeps : ℕ → Bool) (opened : List ℕ) (last : ℕ → ℕ) (next c : ℕ) (w v : World) → may_come opened (Open c) ≡ true → keeps next ≡ true
+    → Follow target keeps opened last next w v
+    → Follow target keeps (c ∷ opened) (last_after next last (Open c)) (suc next) (record w { lives = w.lives ++ born c ∷ [] })
+    (record v { lives = v.lives ++ born c ∷ [] })
+in_open target keeps opened last next c w v may keep follow = record {
+  agree = record {
+    lives = ap (λ (l : List Life). l ++ born c ∷ []) follow.agree.lives
+        ∙ ap (λ (l : List Life). kept_from keeps 0 w.lives ++ l) (sym (kept_in keeps next (born c) [] keep))
+        ∙ sym (kept_push keeps next (born c) w.lives follow.count);
+    units = record { units = follow.agree.units.units; count = follow.agree.units.count };
+    fits = open_fits target keeps opened last next c w v may follow;
+  };
+  count = open_count next c w.lives follow.count;
+}
+
+out_open : (target : ℕ) (keeps : ℕ → Bool) (opened : List ℕ) (last : ℕ → ℕ) (next c : ℕ) (w v : World) → may_come opened (Open c) ≡ true → keeps next ≡ false
+    → Follow target keeps opened last next w v
+    → Follow target keeps (c ∷ opened) (last_after next last (Open c)) (suc next) (record w { lives = w.lives ++ born c ∷ [] }) v
+out_open target keeps opened last next c w v may keep follow = record {
+  agree = record {
+    lives = follow.agree.lives ∙ sym (kept_push keeps next (born c) w.lives follow.count
+        ∙ ap (λ (l : List Life). kept_from keeps 0 w.lives ++ l) (kept_out keeps next (born c) [] keep) ∙ append-nil (kept_from keeps 0 w.lives));
+    units = record { units = follow.agree.units.units; count = follow.agree.units.count };
+    fits = open_fits target keeps opened last next c w v may follow;
+  };
+  count = open_count next c w.lives follow.count;
+}
+
+-- ---- a Gone
+
+among_by : (b k : Bool) (c d e : ℕ) (opened : List ℕ) → eqb e c ≡ b → eqb e d ≡ k → d ≢ c → is_among d (e ∷ opened) ≡ true
+    → (is_among d opened ≡ true → is_among d (filter (λ x. not (x == c)) opened) ≡ true)
+    → is_among d (filter (λ x. not (x == c)) (e ∷ opened)) ≡ true
+among_by true true c d e opened at here differ is further = absurd (differ (sym (eqb-true e d here) ∙ eqb-true e c at))
+among_by true false c d e opened at here differ is further = rw at (further (sym (ap (λ (b : Bool). b || is_among d opened) here) ∙ is))
+among_by false true c d e opened at here differ is further = rw at (ap (λ (b : Bool). b || is_among d (filter (λ x. not (x == c)) opened)) here)
+among_by false false c d e opened at here differ is further =
+    rw at (or_right (eqb e d) _ (further (sym (ap (λ (b : Bool). b || is_among d opened) here) ∙ is)))
+
+among_left : (c d : ℕ) (opened : List ℕ) → d ≢ c → is_among d opened ≡ true → is_among d (filter (λ x. not (x == c)) opened) ≡ true
+among_left c d [] differ is = absurd cc
+among_left c d (e ∷ opened) differ is = among_by (eqb e c) (eqb e d) c d e opened refl refl differ is (λ further. among_left c d opened differ further)
+
+gone_by : (b : Bool) (target : ℕ) (keeps : ℕ → Bool) (opened : List ℕ) (last : ℕ → ℕ) (c k : ℕ) (x : Life) → is_present c x ≡ b
+    → Fits (selection target keeps opened last) k x → Fits (selection target keeps (filter (λ d. not (d == c)) opened) last) k (over c x)
+unfolding HasTarget
+gone_by true target keeps opened last c k x e fit =
+    subst (Fits (selection target keeps (filter (λ d. not (d == c)) opened) last) k) (sym (cond_true (is_present c x) (ended_in Over x) x e))
+    (record { placed = λ open_. absurd cc; session = λ p never. absurd cc })
+gone_by false target keeps opened last c k x e fit =
+    let differ : is_over x.phase ≡ false → x.connection ≢ c = λ open_ same.
+    (let here : is_present c x ≡ true = rw (same, open_, eqb_self c) refl in absurd (cc (here, e))) in
+    subst (Fits (selection target keeps (filter (λ d. not (d == c)) opened) last) k) (sym (cond_false (is_present c x) (ended_in Over x) x e))
+    (record {
+      placed = λ open_. (let was = fit.placed open_ in (among_left c x.connection opened (differ open_) was.0, was.1));
+      session = fit.session;
+    })
+
+end_fits : (target : ℕ) (keeps : ℕ → Bool) (opened : List ℕ) (last : ℕ → ℕ) (c : ℕ) (lives : List Life)
+    → AllFrom (Fits (selection target keeps opened last)) 0 lives
+    → AllFrom (Fits (selection target keeps (filter (λ d. not (d == c)) opened) last)) 0 (map (over c) lives)
+end_fits target keeps opened last c lives fits =
+    all_map (Fits (selection target keeps opened last)) (Fits (selection target keeps (filter (λ d. not (d == c)) opened) last)) (over c) 0 lives
+    (λ k x fit. gone_by (is_present c x) target keeps opened last c k x refl fit) fits
+
+in_end : (target : ℕ) (keeps : ℕ → Bool) (opened : List ℕ) (last : ℕ → ℕ) (next c : ℕ) (w v : World) → keeps (last c) ≡ true
+    → Follow target keeps opened last next w v
+    → Follow target keeps (filter (λ d. not (d == c)) opened) last next (end c w) (end c v)
+unfolding end
+in_end target keeps opened last next c w v keep follow =
+    let g = selection target keeps opened last in
+    let units : UnitsAgree g (left (session_of (present c w)) w.units) (left (session_of (present c v)) v.units) =
+    subst (λ (o : Option Life). UnitsAgree g (left (session_of (present c w)) w.units) (left (session_of o) v.units)) (sym
+    (present_in g c w v keep follow.agree))
+    (own_left g (session_of (present c w)) w.units v.units (own_session g c w v keep follow.agree) follow.agree.units) in
+    record {
+      agree = record {
+        lives = ap (map (over c)) follow.agree.lives ∙ sym (kept_map keeps (over c) 0 w.lives);
+        units = record { units = units.units; count = units.count };
+        fits = end_fits target keeps opened last c w.lives follow.agree.fits;
+      };
+      count = follow.count ∙ sym (length-map w.lives (over c));
+    }
+
+out_end : (target : ℕ) (keeps : ℕ → Bool) (opened : List ℕ) (last : ℕ → ℕ) (next c : ℕ) (w v : World) → keeps (last c) ≡ false
+    → Follow target keeps opened last next w v
+    → Follow target keeps (filter (λ d. not (d == c)) opened) last next (end c w) v
+unfolding end
+out_end target keeps opened last next c w v keep follow =
+    let g = selection target keeps opened last in
+    let units : UnitsAgree g (left (session_of (present c w)) w.units) v.units =
+    out_left g (session_of (present c w)) w.units v.units (other_session g c w v keep follow.agree) follow.agree.units in
+    record {
+      agree = record {
+        lives = follow.agree.lives ∙ sym (over_out g c 0 w.lives follow.agree.fits keep);
+        units = record { units = units.units; count = units.count };
+        fits = end_fits target keeps opened last c w.lives follow.agree.fits;
+      };
+      count = follow.count ∙ sym (length-map w.lives (over c));
+    }
+
+-- ---- one event
+
+keeps_new : (keeps : ℕ → Bool) (last : ℕ → ℕ) (next c : ℕ) (b : Bool) → keeps (last_after next last (Open c) c) ≡ b → keeps next ≡ b
+keeps_new keeps last next c b e = ap keeps (sym (cond_true (eqb c c) next (last c) (eqb_self c))) ∙ e
+
+fresh_both : (g : Selection) (w v : World) → Agree g w v → Agree g (record w { reached = [] }) (record v { reached = [] })
+fresh_both g w v agree = record { lives = agree.lives; units = agree.units; fits = agree.fits }
+
+fresh_here : (g : Selection) (w v : World) → Agree g w v → Agree g (record w { reached = [] }) v
+fresh_here g w v agree = record { lives = agree.lives; units = agree.units; fits = agree.fits }
+
+bring_count : (s : Setting) (c : ℕ) (piece : List ℕ) (w : World) → length (bring s [] c piece w).lives ≡ length w.lives
+bring_count s c piece w = same_count w (bring s [] c piece w) (adds-bring s [] c piece w)
+
+-- an event of a life that is kept
+follow_in : (s : Setting) (target : ℕ) (keeps : ℕ → Bool) (event : Event) (opened : List ℕ) (last : ℕ → ℕ) (next : ℕ) (w v : World)
+    → may_come opened event ≡ true → keeps (last_after next last event (connection_of event)) ≡ true
+    → AreNamed (selection target keeps opened last) s.directory (happened s w (plain event)) → Follow target keeps opened last next w v
+    → Follow target keeps (open_after opened event) (last_after next last event) (next_after next event) (happened s w (plain event)) (happened s v
+    (plain event))
+follow_in s target keeps (Open c) opened last next w v may keep named follow =
+    in_open target keeps opened last next c (record w { reached = [] }) (record v { reached = [] }) may (keeps_new keeps last next c true keep)
+    (record { agree = fresh_both (selection target keeps opened last) w v follow.agree; count = follow.count })
+follow_in s target keeps (Bytes c piece) opened last next w v may keep named follow = record {
+  agree = in_bring (selection target keeps opened last) s c piece (record w { reached = [] }) (record v { reached = [] }) keep named
+      (fresh_both (selection target keeps opened last) w v follow.agree);
+  count = follow.count ∙ sym (bring_count s c piece (record w { reached = [] }));
+}
+follow_in s target keeps (Gone c) opened last next w v may keep named follow =
+    in_end target keeps opened last next c (record w { reached = [] }) (record v { reached = [] }) keep
+    (record { agree = fresh_both (selection target keeps opened last) w v follow.agree; count = follow.count })
+
+-- of another life
+follow_out : (s : Setting) (target : ℕ) (keeps : ℕ → Bool) (event : Event) (opened : List ℕ) (last : ℕ → ℕ) (next : ℕ) (w v : World)
+    → may_come opened event ≡ true → keeps (last_after next last event (connection_of event)) ≡ false
+    → AreNamed (selection target keeps opened last) s.directory (happened s w (plain event)) → Follow target keeps opened last next w v
+    → Follow target keeps (open_after opened event) (last_after next last event) (next_after next event) (happened s w (plain event)) v
+follow_out s target keeps (Open c) opened last next w v may keep named follow =
+    out_open target keeps opened last next c (record w { reached = [] }) v may (keeps_new keeps last next c false keep)
+    (record { agree = fresh_here (selection target keeps opened last) w v follow.agree; count = follow.count })
+follow_out s target keeps (Bytes c piece) opened last next w v may keep named follow = record {
+  agree = out_bring (selection target keeps opened last) s c piece (record w { reached = [] }) v keep named
+      (fresh_here (selection target keeps opened last) w v follow.agree);
+  count = follow.count ∙ sym (bring_count s c piece (record w { reached = [] }));
+}
+follow_out s target keeps (Gone c) opened last next w v may keep named follow =
+    out_end target keeps opened last next c (record w { reached = [] }) v keep
+    (record { agree = fresh_here (selection target keeps opened last) w v follow.agree; count = follow.count })
+
+-- ---- one event after the other
+
+-- the kept lives, and the target's units
+record Parts (target : ℕ) (keeps : ℕ → Bool) (w v : World) : Type 0 where
+  lives : v.lives ≡ kept_from keeps 0 w.lives
+  units : slice_index_or v.units target [] ≡ slice_index_or w.units target []
+
+after : Setting → World → List Event → World
+after s w events = fold (happened s) w (map plain events)
+
+renamed : (s : Setting) (target : ℕ) (keeps : ℕ → Bool) (opened later : List ℕ) (last then_ : ℕ → ℕ) (w : World)
+    → AreNamed (selection target keeps opened last) s.directory w → AreNamed (selection target keeps later then_) s.directory w
+unfolding Named HasTarget
+renamed s target keeps opened later last then_ w named = named
+
+along_by : (b : Bool) (s : Setting) (target : ℕ) (keeps : ℕ → Bool) (event : Event) (events : List Event) (opened : List ℕ) (last : ℕ
+    → ℕ) (next : ℕ) (w v : World)
+    → keeps (last_after next last event (connection_of event)) ≡ b → may_come opened event ≡ true
+    → AreNamed (selection target keeps opened last) s.directory (after s w (event ∷ events)) → Follow target keeps opened last next w v
+    → ((x : World) → Follow target keeps (open_after opened event) (last_after next last event) (next_after next event) (happened s w (plain event)) x
+    → Parts target keeps (after s w (event ∷ events)) (after s x (only_from keeps (next_after next event) (last_after next last event) events)))
+    → Parts target keeps (after s w (event ∷ events)) (after s v (only_from keeps next last (event ∷ events)))
+unfolding after
+along_by true s target keeps event events opened last next w v keep may named follow further =
+    let others = only_from keeps (next_after next event) (last_after next last event) events in
+    subst (λ (l : List Event). Parts target keeps (after s w (event ∷ events)) (after s v l))
+    (sym (cond_true (keeps (last_after next last event (connection_of event))) (event ∷ others) others keep))
+    (further (happened s v (plain event)) (follow_in s target keeps event opened last next w v may keep
+    (named_first (selection target keeps opened last) s (happened s w (plain event)) (map plain events) named) follow))
+along_by false s target keeps event events opened last next w v keep may named follow further =
+    let others = only_from keeps (next_after next event) (last_after next last event) events in
+    subst (λ (l : List Event). Parts target keeps (after s w (event ∷ events)) (after s v l))
+    (sym (cond_false (keeps (last_after next last event (connection_of event))) (event ∷ others) others keep))
+    (further v (follow_out s target keeps event opened last next w v may keep
+    (named_first (selection target keeps opened last) s (happened s w (plain event)) (map plain events) named) follow))
+
+along : (s : Setting) (target : ℕ) (keeps : ℕ → Bool) (events : List Event) (opened : List ℕ) (last : ℕ → ℕ) (next : ℕ) (w v : World)
+    → may_follow opened events ≡ true → AreNamed (selection target keeps opened last) s.directory (after s w events) → Follow target keeps opened last next w v
+    → Parts target keeps (after s w events) (after s v (only_from keeps next last events))
+unfolding after
+along s target keeps [] opened last next w v may named follow = record { lives = follow.agree.lives; units = follow.agree.units.units }
+along s target keeps (event ∷ events) opened last next w v may named follow =
+    let both = and_true (may_come opened event) (may_follow (open_after opened event) events) may in
+    along_by (keeps (last_after next last event (connection_of event))) s target keeps event events opened last next w v refl both.0 named follow
+    (λ x then_. along s target keeps events (open_after opened event) (last_after next last event) (next_after next event) (happened s w
+    (plain event)) x both.1
+    (renamed s target keeps opened (open_after opened event) last (last_after next last event) (after s w (event ∷ events)) named) then_)
+
+-- ---- the laws
+
+none_yet : (s : Setting) (target : ℕ) (keeps : ℕ → Bool) → Follow target keeps [] (λ c. 0) 0 (new_world s) (new_world s)
+unfolding AllFrom
+none_yet s target keeps = record { agree = record { lives = refl; units = record { units = refl; count = refl }; fits = tt }; count = refl }
+
+selected : (s : Setting) (target : ℕ) (keeps : ℕ → Bool) (w : World) → Selects s.directory target keeps w.lives
+    → AreNamed (selection target keeps [] (λ c. 0)) s.directory w
+unfolding Named HasTarget
+selected s target keeps w selects =
+    all_places (Named (selection target keeps [] (λ c. 0)) s.directory) 0 w.lives (λ k x at t e. (let here : 0 + k ≡ k = omega arith in
+    ap keeps here ∙ selects k x t at e))
+
+parts : (s : Setting) (target : ℕ) (keeps : ℕ → Bool) (events : List Event) → well_formed events ≡ true
+    → Selects s.directory target keeps (plain_world s events).lives → Parts target keeps (plain_world s events) (plain_world s (only keeps events))
+unfolding world only after
+parts s target keeps events formed selects =
+    along s target keeps events [] (λ c. 0) 0 (new_world s) (new_world s) formed (selected s target keeps (after s (new_world s) events) selects)
+    (none_yet s target keeps)
+
+pub targets_are_isolated : TargetsAreIsolated
+unfolding outputs
+targets_are_isolated s target keeps events formed selects =
+    let both = parts s target keeps events formed selects in
+    record {
+      lives = sym both.lives;
+      units = sym both.units;
+      answers = kept_map keeps out_of 0 (plain_world s events).lives ∙ ap (map out_of) (sym both.lives);
+      media = ap (map kept_of) (sym both.units);
+    }
+
+pub targets_see_their_own : TargetsSeeTheirOwn
+targets_see_their_own s target events formed =
+    let lives = (plain_world s events).lives in
+    targets_are_isolated s target (names s.directory target lives) events formed (λ k life named at e.
+    ap (λ (o : Option Life). is_same_target (option_and_then (named_in s.directory) o) (Some target)) at
+    ∙ ap (λ (o : Option ℕ). is_same_target o (Some target)) e)
+
+one_by : (b : Bool) (s : Setting) (lives : List Life) (j k named : ℕ) (life other : Life) → eqb j k ≡ b → slice_get lives k ≡ Some life
+    → named_in s.directory life ≡ None → slice_get lives j ≡ Some other → named_in s.directory other ≡ Some named
+    → eqb j k ≡ eqb named (length s.directory.names)
+one_by true s lives j k named life other same at none there e =
+    let here : slice_get lives j ≡ slice_get lives k = ap (slice_get lives) (eqb-true j k same) in
+    let one : other ≡ life = cc in
+    let both = ap (named_in s.directory) one in absurd (cc (both, none, e))
+one_by false s lives j k named life other same at none there e =
+    let below = is_configured s.directory other named e in
+    same ∙ sym (ne_eqb named (length s.directory.names) (λ equal. omega arith))
+
+pub strangers_are_alone : StrangersAreAlone
+strangers_are_alone s events k life formed at none =
+    (targets_are_isolated s (length s.directory.names) (λ j. eqb j k) events formed
+    (λ j other named there e. one_by (eqb j k) s (plain_world s events).lives j k named life other refl at none there e)).answers

@@ -1,0 +1,172 @@
+//! What the Task Management Functions of one session do to the rest of its target (RFC 7143 §11.5.1): the other
+//! sessions lose the commands that they reach, and the units tell of it. It takes no memory.
+
+ghost use Rattle.std.specs.Prelude.{◌≡◌, ℕ, ◌<◌, List, [], Some, None, true, length};
+ghost use Rattle.std.specs.List.{fold};
+ghost use Rattle.iscsi_pdu.specs.Header.{lun_field};
+ghost use Rattle.scsi_unit.specs.Units.{AreSound, AreSure, numbers_of};
+ghost use Rattle.iscsi_login.specs.LoginState.{IsTargetBelow};
+ghost use Rattle.iscsi_login.specs.Session.{is_same_target as is_same};
+ghost use Rattle.iscsi_session.specs.Runs.{output, Runs};
+ghost use Rattle.iscsi_target.specs.World.{units_at, function_of, reaches_others as reaches_others_by, told_by, losing, lose_one, reset_by, reset as reset_in, carry_out, carry_out_for};
+ghost use Rattle.iscsi_target.specs.History.{connections};
+ghost use Rattle.iscsi_target.specs.Machine.{Machine, KeepsApart};
+ghost use Rattle.iscsi_target.specs.Serving.{Moves, CarriesOut};
+
+use crate::phase::Phase;
+use crate::target::{CONNECTIONS, Target};
+use iscsi_login::is_same_target;
+use iscsi_pdu::{Header, TaskFunction};
+use iscsi_session::{Reach, Session};
+use media_store::Store;
+use scsi_sense::{Attention, Nexus};
+use scsi_unit::Units;
+
+/// The numbers of the units of a session's target, where it has one.
+pub(crate) fn luns_of<S: Store>(all: &[Units<S>], target: Option<usize>) -> &[u8]
+    ensures { result.now ≡ numbers_of (units_at target all.now) }
+{
+    let Some(target) = target else {
+        return &[];
+    };
+    match all.get(target) {
+        Some(units) => units.luns(),
+        None => &[],
+    }
+}
+
+/// The function reaches the commands of all sessions of the target.
+fn reaches_others(function: &Header) -> bool
+    ensures { result ≡ reaches_others_by (function_of function.now) }
+{
+    matches!(
+        function.task_function(),
+        TaskFunction::ClearTaskSet | TaskFunction::LogicalUnitReset | TaskFunction::TargetWarmReset
+    )
+}
+
+/// A nexus that lost commands by CLEAR TASK SET is to be told.
+fn tell<S: Store>(units: &mut Units<S>, nexus: &Nexus, function: &Header)
+    ensures { units.new ≡ told_by (function_of function.now) (lun_field function.now) nexus.now units.old }
+{
+    if let TaskFunction::ClearTaskSet = function.task_function() {
+        let attention = Attention::CommandsClearedByAnotherInitiator;
+        units.raise(nexus, function.lun(), attention);
+    }
+}
+
+/// Every nexus is to be told of a reset.
+fn reset<S: Store>(units: &mut Units<S>, function: &Header)
+    ensures { units.new ≡ reset_by (function_of function.now) (lun_field function.now) units.old }
+{
+    let attention = Attention::BusDeviceResetFunctionOccurred;
+    match function.task_function() {
+        TaskFunction::LogicalUnitReset => units.raise_for_all(function.lun(), attention),
+        TaskFunction::TargetWarmReset => units.raise_everywhere(attention),
+        _ => {}
+    }
+}
+
+/// A session loses the commands that the function of another one reaches.
+fn lose<S: Store>(session: &mut Session, units: &mut Units<S>, function: &Header)
+    ensures runs { (waiting : List ℕ) → Runs (λ fails place. losing function.now) None true session.old session.new
+        (output waiting []) (output waiting []) units.old units.new }
+    ensures back { AreSound units.new → AreSound units.old }
+    ensures sure { AreSure units.old → AreSure units.new }
+    ensures params { session.new.params ≡ session.old.params }
+{
+    let has_lost = session.remove(&Reach {
+        function: *function,
+        luns: units.luns(),
+        is_own: false,
+    });
+    if has_lost {
+        tell(units, &session.params().nexus, function);
+    }
+}
+
+impl<S: Store> Target<S> {
+    /// The functions that acted in the session of connection c are carried out for the rest of its target, where it
+    /// has one.
+    pub(crate) fn carry_out_for(&mut self, c: usize, target: Option<usize>, functions: &[Header])
+        requires { IsTargetBelow (length self.old.units) target }
+        ensures carries { CarriesOut (carry_out_for c target functions.now) self.old self.new }
+        ensures apart { (t : ℕ) → is_same target (Some t) ≡ true → KeepsApart t self.old self.new }
+        ensures moves { (b : ℕ) → Moves b None self.old self.new }
+    {
+        match target {
+            Some(target) => self.carry_out_all(c, target, functions),
+            None => {}
+        }
+    }
+
+    /// One after the other.
+    fn carry_out_all(&mut self, c: usize, target: usize, functions: &[Header])
+        requires { target < length self.old.units }
+        ensures carries { CarriesOut (λ w. fold (carry_out c target) w functions.now) self.old self.new }
+        ensures apart { KeepsApart target self.old self.new }
+        ensures moves { (b : ℕ) → Moves b None self.old self.new }
+    {
+        for function in functions {
+            self.carry_out(c, target, function);
+        }
+    }
+
+    /// A function: the other sessions of the target lose what it reaches, and a reset is told.
+    #[tactic(auto, unfolding(crate::specs::World::carry_out))]
+    fn carry_out(&mut self, c: usize, target: usize, function: &Header)
+        requires { target < length self.old.units }
+        ensures carries { CarriesOut (λ w. carry_out c target w function.now) self.old self.new }
+        ensures apart { KeepsApart target self.old self.new }
+        ensures moves { (b : ℕ) → Moves b None self.old self.new }
+    {
+        if reaches_others(function) {
+            self.lose_all(c, target, function);
+            self.reset(target, function);
+        }
+    }
+
+    /// The sessions of the target but that of connection c lose what the function reaches.
+    fn lose_all(&mut self, c: usize, target: usize, function: &Header)
+        requires { target < length self.old.units }
+        ensures carries { CarriesOut (λ w. fold (lose_one function.now target c) w connections) self.old self.new }
+        ensures apart { KeepsApart target self.old self.new }
+        ensures moves { (b : ℕ) → Moves b None self.old self.new }
+    {
+        for d in 0..CONNECTIONS {
+            self.lose_one(c, d, target, function);
+        }
+    }
+
+    /// The session of connection d loses what the function reaches, where it is one of this target and not that of c.
+    fn lose_one(&mut self, c: usize, d: usize, target: usize, function: &Header)
+        requires in_range { d < 64 }
+        requires target { target < length self.old.units }
+        ensures carries { CarriesOut (λ w. lose_one function.now target c w d) self.old self.new }
+        ensures apart { KeepsApart target self.old self.new }
+        ensures moves { (b : ℕ) → Moves b None self.old self.new }
+    {
+        if d == c {
+            return;
+        }
+        let link = &mut self.links[d];
+        let Phase::FullFeature(session) = &mut link.phase else {
+            return;
+        };
+        if is_same_target(session.params().target, Some(target)) {
+            let units = &mut self.units[target];
+            lose(session, units, function);
+        }
+    }
+
+    /// Every nexus is to be told of a reset.
+    fn reset(&mut self, target: usize, function: &Header)
+        requires { target < length self.old.units }
+        ensures carries { CarriesOut (reset_in function.now target) self.old self.new }
+        ensures apart { KeepsApart target self.old self.new }
+        ensures moves { (b : ℕ) → Moves b None self.old self.new }
+    {
+        let units = &mut self.units[target];
+        reset(units, function);
+    }
+}
