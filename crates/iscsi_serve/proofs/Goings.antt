@@ -19,7 +19,7 @@ where_due : (b : Bool) (A B : Type 0) → b ≡ true → A → IfElse b A B
 where_due true A B e a = a
 where_due false A B e a = absurd cc
 
-where_not : (b : Bool) (A B : Type 0) → b ≡ false → B → IfElse b A B
+pub where_not : (b : Bool) (A B : Type 0) → b ≡ false → B → IfElse b A B
 where_not true A B e a = absurd cc
 where_not false A B e a = a
 

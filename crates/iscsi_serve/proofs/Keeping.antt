@@ -1,6 +1,7 @@
 -- What each step keeps: a sound target stays served.
-use Rattle.std.proofs.Common.{◌≡◌, ℕ, ◌+◌, ◌<◌, ◌≤◌, List, [], ◌∷◌, ◌++◌, length, take, drop, Bool, true, false, refl, sym, ◌∙◌, subst, inl, arith, append_assoc, append-nil}
+use Rattle.std.proofs.Common.{◌≡◌, ℕ, ◌+◌, ◌<◌, ◌≤◌, List, [], ◌∷◌, ◌++◌, length, take, drop, Bool, true, false, refl, sym, ◌∙◌, subst, inl, inr, arith, append_assoc, append-nil}
 use Rattle.std.proofs.lemmas.Bool.{lt-ltb}
+use Rattle.std.proofs.lemmas.Bool.Decides.{eqb_tells}
 use Rattle.std.proofs.lemmas.List.{length-take-le, take-append-drop}
 use Rattle.std.specs.List.{range_with_len}
 use Rattle.iscsi_target.specs.History as history
@@ -8,7 +9,7 @@ use Rattle.iscsi_target.specs.History.{Happening, History, plain, marked, connec
 use Rattle.iscsi_target.specs.World.{Setting, world}
 use Rattle.iscsi_target.specs.Machine.{Machine, link_at, is_open_at}
 use Rattle.iscsi_target.specs.Stands.{Stands, with_sent}
-use Rattle.iscsi_target.proofs.Standing.{is_open_there, is_free_there}
+use Rattle.iscsi_target.proofs.Standing.{is_open_there, is_free_there, stands_sent, sent_here, sent_there}
 use Rattle.iscsi_serve.specs.Log.{Bytes, Entry, Open, Read, Wrote, Close, event_of, Written, written_after}
 use Rattle.iscsi_serve.specs.Served.{IsServed, MayFollow, StaysServed}
 use Rattle.iscsi_serve.specs.Turn.{Moment, Along}
@@ -124,6 +125,23 @@ write_stays log log_then target after c n offered lt is_open_ waiting le e stand
     wrote_served s h log target after c (length offered) piece (drop n offered) there.0 lt there.1 (waiting ∙ sym (take-append-drop n offered)) v
     (subst (λ (n : ℕ). Stands s (with_sent (sent_by log) c (sent_by log c + n)) after h) count (stands s (sent_by log) h v.stands)) in
     nothing_more s h log_then after (subst (λ (log : List Entry). IsServed s h log after) (sym e) now))
+
+-- the write would have waited
+pub nothing_stays : (log log_then : List Entry) (target : Machine) (c : ℕ) (offered : List ℕ) → c < connection_limit
+    → is_open_at target c ≡ true → (link_at target c).waiting ≡ offered → log_then ≡ log ++ Wrote c (length offered) (Bytes []) ∷ []
+    → StaysServed log log_then target target
+nothing_stays log log_then target c offered lt is_open_ waiting e =
+    write_stays log log_then target target c 0 offered lt is_open_ waiting (omega arith) e
+    (λ s sent h stands. stands_sent s sent (with_sent sent c (sent c + 0)) target h (λ d below. same sent d) stands)
+  where
+    none : (sent : ℕ → ℕ) → sent c + 0 ≡ sent c
+    none sent = omega arith
+
+    same : (sent : ℕ → ℕ) (d : ℕ) → sent d ≡ with_sent sent c (sent c + 0) d
+    same sent d = elim (eqb_tells d c) [
+      | inl e ↦ rw e.1 (sym (sent_here sent c (sent c + 0) ∙ none sent))
+      | inr differ ↦ sym (sent_there sent c (sent c + 0) d differ.1)
+    ]
 
 -- a connection ended
 pub close_stays : (log log_then : List Entry) (target after : Machine) (c : ℕ) → c < connection_limit → log_then ≡ log ++ Close c ∷ []

@@ -4,3 +4,6 @@ pub mod Moments
 pub mod Goings
 pub mod Keeping
 pub mod Turning
+pub mod Accounts
+pub mod Buffers
+pub mod Closing

@@ -9,6 +9,7 @@ use Rattle.std.specs.Net.Addr.{ipv4_octets, ipv6_octets}
 use Rattle.call_record.specs.Noted.{Noted}
 use Rattle.iscsi_serve.specs.Log as log
 use Rattle.iscsi_serve.specs.Log.{Entry, Carried, Bytes, End, Fault, Polled, Open, NobodyCame, AcceptFailed, Read, Wrote, Close}
+use Rattle.iscsi_serve.specs.declared.mio_sockets.TheConstants.{LISTENING, POLLING, NAMING, ACCEPTING, READING, HANDING, WRITING, PUTTING_OFF, CLOSING}
 use Rattle.iscsi_serve.specs.declared.told.Named.{Named}
 use Rattle.iscsi_serve.specs.declared.socket_failure.SocketFailure.{SocketFailure}
 use Rattle.iscsi_serve.specs.declared.socket_failure.SocketFailure.TheVariants.{WouldWait, Interrupted, Passing, Refused, Broken}
@@ -37,12 +38,18 @@ pub data Call : Type 0 where
   Listening : (text : List ℕ) → Call
   -- a poll, and who may be ready behind it
   Polling : (answer : Result Named SocketFailure) → Call
+  -- none was made of the system: this is who is known to be ready
+  Naming : (named : Named) → Call
   -- an accept under this number, and whether the system watches the connection
   Accepting : (c : ℕ) (answer : Result Bool SocketFailure) → Call
-  -- a read with so much room, and the bytes that came
+  -- a read, for one who has so much room, and the bytes that came: those that have no room are ahead
   Reading : (c room : ℕ) (answer : Result (List ℕ) SocketFailure) → Call
+  -- none was made: these bytes were ahead, and are handed on to one who has so much room
+  Handing : (c room : ℕ) (piece : List ℕ) → Call
   -- a write of so many bytes, and those that were taken
   Writing : (c offered : ℕ) (answer : Result (List ℕ) SocketFailure) → Call
+  -- none was made: a write of so many bytes is put off
+  PuttingOff : (c offered : ℕ) → Call
   Closing : (c : ℕ) → Call
   -- the address that is listened on was asked for, and this is what the system told
   Located : (octets : List ℕ) (port : ℕ) → Call
@@ -62,6 +69,11 @@ ip_octets (ip.V4 a) = ipv4_octets a
 ip_octets (ip.V6 a) = ipv6_octets a
 
 -- ---- what it tells
+
+-- the bytes that have room
+abbrev pub in_room : ℕ → Result (List ℕ) SocketFailure → Result (List ℕ) SocketFailure
+in_room room (Ok piece) = Ok (take room piece)
+in_room room (Err failure) = Err failure
 
 -- a read of no bytes is the end; one that would wait, or that a signal ended, gave none
 abbrev pub read_carried : Result (List ℕ) SocketFailure → Carried
@@ -91,9 +103,12 @@ accepted c (Err _) = NobodyCame
 abbrev pub told_by : Call → List Entry
 told_by (Listening text) = log.Listened text ∷ []
 told_by (Polling answer) = Polled (polled answer) ∷ []
+told_by (Naming named) = Polled (Some named) ∷ []
 told_by (Accepting c answer) = accepted c answer ∷ []
-told_by (Reading c room answer) = Read c room (read_carried answer) ∷ []
+told_by (Reading c room answer) = Read c room (read_carried (in_room room answer)) ∷ []
+told_by (Handing c room piece) = Read c room (Bytes piece) ∷ []
 told_by (Writing c offered answer) = Wrote c offered (write_carried answer) ∷ []
+told_by (PuttingOff c offered) = Wrote c offered (Bytes []) ∷ []
 told_by (Closing c) = Close c ∷ []
 told_by (Located octets port) = log.Located octets port ∷ []
 
@@ -120,19 +135,25 @@ answered (suc (suc (suc zero))) x = Err Passing
 answered (suc (suc (suc (suc zero)))) x = Err Refused
 answered _ x = Err Broken
 
--- by the number of the call
-abbrev pub call_by : ℕ → List ℕ → List ℕ → List Bool → Call
-call_by zero numbers bytes flags = Listening bytes
-call_by (suc zero) numbers bytes flags =
-    Polling (answered (slice_index numbers 1) (record { listener = slice_index numbers 2 == 1; connections = flags }))
-call_by (suc (suc zero)) numbers bytes flags =
-    Accepting (slice_index numbers 2) (answered (slice_index numbers 1) (slice_index_or flags 0 false))
-call_by (suc (suc (suc zero))) numbers bytes flags =
-    Reading (slice_index numbers 2) (slice_index numbers 3) (answered (slice_index numbers 1) bytes)
-call_by (suc (suc (suc (suc zero)))) numbers bytes flags =
-    Writing (slice_index numbers 2) (slice_index numbers 3) (answered (slice_index numbers 1) bytes)
-call_by (suc (suc (suc (suc (suc zero))))) numbers bytes flags = Closing (slice_index numbers 2)
-call_by _ numbers bytes flags = Located bytes (slice_index numbers 2)
+-- the listener's flag stands among the numbers
+abbrev pub named_in : List ℕ → List Bool → Named
+named_in numbers flags = record { listener = slice_index numbers 2 == 1; connections = flags }
+
+-- by its kind, and the number of a connection where it is of one
+abbrev pub call_by : ℕ → ℕ → List ℕ → List ℕ → List Bool → Call
+call_by kind c numbers bytes flags =
+    let failure = slice_index numbers 1 in
+    let count = slice_index numbers 3 in
+    if kind == LISTENING then Listening bytes
+    else if kind == POLLING then Polling (answered failure (named_in numbers flags))
+    else if kind == NAMING then Naming (named_in numbers flags)
+    else if kind == ACCEPTING then Accepting c (answered failure (slice_index_or flags 0 false))
+    else if kind == READING then Reading c count (answered failure bytes)
+    else if kind == HANDING then Handing c count bytes
+    else if kind == WRITING then Writing c count (answered failure bytes)
+    else if kind == PUTTING_OFF then PuttingOff c count
+    else if kind == CLOSING then Closing c
+    else Located bytes c
 
 abbrev pub calls_of : List Noted → List Call
-calls_of noted = map (λ n. call_by (slice_index n.numbers 0) n.numbers n.bytes n.flags) noted
+calls_of noted = map (λ n. call_by (slice_index n.numbers 0) (slice_index n.numbers 2) n.numbers n.bytes n.flags) noted

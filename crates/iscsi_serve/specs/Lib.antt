@@ -9,7 +9,9 @@ pub mod Log
 pub mod Told
 pub mod Entries
 pub mod Calls
+pub mod Ahead
 pub mod Served
 pub mod Turn
 pub mod Progress
 pub mod ExamplesLog
+pub mod ExamplesAhead

@@ -1,14 +1,14 @@
 -- How far the loop has come in a turn, and what each of its steps keeps.
-use Rattle.std.specs.Prelude.{◌≡◌, ◌⊎◌, ◌<◌, ℕ, List, [], ◌∷◌, ◌++◌, Bool, true, false, replicate, slice_index_or}
+use Rattle.std.specs.Prelude.{◌≡◌, ◌≢◌, ◌⊎◌, ◌<◌, ℕ, List, [], ◌∷◌, ◌++◌, Bool, true, false, ◌&&◌, ◌||◌, ◌==◌, length, replicate, slice_index_or}
 use Rattle.std.specs.List.{list_any}
 use Rattle.iscsi_target.specs.History as history
 use Rattle.iscsi_target.specs.History.{History, Mark, marked, connection_limit}
 use Rattle.iscsi_target.specs.World.{Setting, world}
 use Rattle.iscsi_target.specs.Stands.{Stands, IsStarved}
-use Rattle.iscsi_target.specs.Machine.{Machine, IsSound, IsSure, link_at, is_open_at}
+use Rattle.iscsi_target.specs.Machine.{Machine, LinkState, IsSound, IsSure, link_at, is_open_at, is_closing}
 use Rattle.iscsi_serve.specs.Log.{Entry}
 use Rattle.iscsi_serve.specs.Served.{StaysServed}
-use Rattle.iscsi_serve.specs.Turn.{Moment, moment, is_read, room_for, ends}
+use Rattle.iscsi_serve.specs.Turn.{Moment, moment, is_open, is_read, room_for, ends}
 use Rattle.iscsi_serve.specs.declared.told.Named.{Named}
 
 -- the test at each number is whether the connection ended in this turn
@@ -18,6 +18,23 @@ AreEnded ended turn = (c : ℕ) → c < connection_limit → slice_index_or ende
 -- none did
 abbrev pub none_ended : List Bool
 none_ended = replicate connection_limit false
+
+-- own: a connection is open, and it has ended, or the target has closed it and nothing waits on it
+abbrev pub is_over : Bool → LinkState → Bool
+is_over has_ended link = is_open link && (has_ended || is_closing link.phase && length link.waiting == 0)
+
+-- a close of it is due, where these have ended
+abbrev pub is_to_close : List Bool → Machine → ℕ → Bool
+is_to_close ended target c = is_over (slice_index_or ended c false) (link_at target c)
+
+-- no close is due on a connection below this number
+abbrev pub NoneToClose : ℕ → List Bool → Machine → Type 0
+NoneToClose limit ended target = (c : ℕ) → c < limit → is_to_close ended target c ≡ false
+
+-- of every other connection nothing has changed
+abbrev pub KeepsOthers : ℕ → Machine → Machine → List Bool → List Bool → Type 0
+KeepsOthers c target target_then ended ended_then =
+    (d : ℕ) → d ≢ c → (link_at target_then d ≡ link_at target d) × (slice_index_or ended_then d false ≡ slice_index_or ended d false)
 
 -- a read is due, with so much room
 pub record IsDue (named : Named) (c room : ℕ) (target : Machine) : Type 0 where

@@ -10,9 +10,11 @@
 //! only clauses read; [`MemPorts`] follow a script and keep a log, for tests.
 #![tactic(auto)]
 
+mod ahead;
 mod bind_fault;
 mod entry;
 mod fault;
+mod known;
 mod leaving;
 mod mem_ports;
 mod mio_sockets;
@@ -24,10 +26,12 @@ mod socket_calls;
 mod socket_failure;
 mod socket_ports;
 mod told;
+mod watching;
 
 pub use bind_fault::BindFault;
 pub use entry::{Carried, Entry};
 pub use fault::ServeFault;
+pub use known::Known;
 pub use mem_ports::{MemPorts, Script, Step};
 pub use mio_sockets::MioSockets;
 pub use ports::Ports;

@@ -1,34 +1,37 @@
 //! The system's sockets: each method makes its call of `mio`, and notes what was answered.
 //!
-//! No contract says what a socket gives and takes, so whether each note is true is seen here by eye.
+//! No contract says what a socket gives and takes, so whether each note is true is seen here by eye. A
+//! read fills a whole buffer where it can; what the reader has no room for is handed on at the next reads,
+//! which are noted without a call.
 
-ghost use Rattle.std.specs.Prelude.{◌≡◌, ◌<◌, ◌∷◌, [], ◌==◌, length, IfOk, OnErr};
+ghost use Rattle.std.specs.Prelude.{◌≡◌, ◌<◌, ◌++◌, ◌∷◌, [], ◌==◌, length, IfOk, OnErr};
 ghost use Rattle.std.specs.Io.{WritesAtMost};
 ghost use Rattle.std.specs.Net.Socket.{socket_ip, socket_port};
 ghost use Rattle.std.specs.Result.{IsErrOf};
 ghost use Rattle.std.specs.Net.Grammar.{IsSocketText};
 ghost use Rattle.std.specs.declared.net.socket_addr.SocketAddr.{SocketAddr};
-ghost use Rattle.iscsi_serve.specs.Calls.{Listening, Located, ip_octets, calls_of};
+ghost use Rattle.iscsi_serve.specs.Log.{Read};
+ghost use Rattle.iscsi_serve.specs.Calls.{Listening, Located, ip_octets, calls_of, log_by, moved, read_carried};
+ghost use Rattle.iscsi_serve.specs.Ahead.{IsAccounted, ahead_on};
 
+use crate::ahead::{Ahead, MOST_AHEAD, count_ahead, give_back, hand_from, take_spare};
 use crate::bind_fault::{BindFault, bind_fault};
+use crate::known::{Known, Seen};
 use crate::leaving::Leavers;
-use crate::peer_watch::watch_peer;
 use crate::places::free_places;
 use crate::socket_calls::SocketCalls;
 use crate::socket_failure::{SocketFailure, socket_failure};
 use crate::told::{CONNECTIONS, Named};
+use crate::watching::{LISTENER, keep, watched};
 use call_record::Record;
 use mio::event::Event;
 use mio::net::{TcpListener, TcpStream};
-use mio::{Events, Interest, Poll, Registry, Token};
+use mio::{Events, Poll, Token};
 use std::alloc::Global;
 use std::io;
 use std::io::{Read, Write};
 use std::net::{IpAddr, Net, SocketAddr};
 use std::time::Duration;
-
-/// The listener's token. A connection's token is its number.
-const LISTENER: usize = CONNECTIONS;
 
 /// How many events one poll takes from the system.
 const EVENTS: usize = 128;
@@ -38,15 +41,21 @@ const LISTENING: u64 = 0;
 
 const POLLING: u64 = 1;
 
-const ACCEPTING: u64 = 2;
+const NAMING: u64 = 2;
 
-const READING: u64 = 3;
+const ACCEPTING: u64 = 3;
 
-const WRITING: u64 = 4;
+const READING: u64 = 4;
 
-const CLOSING: u64 = 5;
+const HANDING: u64 = 5;
 
-const LOCATED: u64 = 6;
+const WRITING: u64 = 6;
+
+const PUTTING_OFF: u64 = 7;
+
+const CLOSING: u64 = 8;
+
+const LOCATED: u64 = 9;
 
 const DONE: u64 = 0;
 
@@ -58,10 +67,17 @@ pub struct MioSockets {
     listener: TcpListener,
     /// By their numbers. The last place is for one for which no number is free.
     streams: Vec<Option<TcpStream>>,
+    /// What is ahead of each.
+    ahead: Vec<Option<Ahead>>,
+    /// A buffer for the next read.
+    spare: Option<Ahead>,
+    alloc: Global,
     /// Those that were closed, and whose peers may still send.
     leavers: Leavers,
     noted: Record,
     ghost places: { length streams.items ≡ 65 },
+    ghost ahead_places: { length ahead.items ≡ 65 },
+    ghost accounted: { IsAccounted (calls_of noted.calls) ahead.items },
 }
 
 impl MioSockets {
@@ -83,6 +99,9 @@ impl MioSockets {
             events: Events::with_capacity(alloc, EVENTS)?,
             listener,
             streams: free_places(alloc)?,
+            ahead: free_places(alloc)?,
+            spare: None,
+            alloc,
             leavers: Leavers::new(alloc)?,
             noted: record,
         })
@@ -104,45 +123,36 @@ impl MioSockets {
     }
 }
 
-/// A listening socket whose connections a poll names.
-fn watched(net: &impl Net, poll: &Poll, address: SocketAddr) -> io::Result<TcpListener> {
-    let mut listener = TcpListener::bind(net, address)?;
-    poll.registry()
-        .register(&mut listener, Token(LISTENER), Interest::READABLE)?;
-    Ok(listener)
-}
-
-/// Adds the one whom an event names.
-fn add(ready: &mut Named, event: &Event) {
+/// Takes note of an event.
+fn see(known: &mut Known, event: &Event) {
     let Token(token) = event.token();
     if token == LISTENER {
-        ready.listener = true;
+        known.named.listener = true;
     } else if token < CONNECTIONS {
-        ready.connections[token] = true;
+        let seen = Seen {
+            is_readable: event.is_readable(),
+            is_writable: event.is_writable(),
+            has_ended: event.is_read_closed() || event.is_error(),
+        };
+        known.see(token, seen);
     }
 }
 
-/// Keeps a connection under its number, and says whether the system watches it: one that it does not
-/// watch is dropped, since no poll would ever name it.
-fn keep(
-    registry: &Registry,
+/// Reads of a connection into a buffer of the ports, if it is there.
+fn fill_from(
     streams: &mut [Option<TcpStream>],
     c: usize,
-    mut stream: TcpStream,
-) -> bool
-    requires { c < length streams.old }
+    ahead: &mut Ahead,
+) -> Result<usize, SocketFailure>
+    ensures { IfOk result (λ count. count ≡ length ahead.new) }
 {
-    // A connection that its peer has reset cannot be set; its next read tells so.
-    let _ = stream.set_nodelay(true);
-    watch_peer(&stream);
-    if c < CONNECTIONS {
-        let both = Interest::READABLE | Interest::WRITABLE;
-        if registry.register(&mut stream, Token(c), both).is_err() {
-            return false;
-        }
+    match streams.get_mut(c) {
+        Some(Some(stream)) => match ahead.fill(stream) {
+            Ok(count) => Ok(count),
+            Err(error) => Err(socket_failure(&error)),
+        },
+        _ => Err(SocketFailure::Broken),
     }
-    streams[c] = Some(stream);
-    true
 }
 
 /// Reads of a connection, if it is there.
@@ -186,10 +196,98 @@ fn bit(flag: bool) -> u64
     if flag { 1 } else { 0 }
 }
 
+/// What the answer to a read says of what the system still has: it gave all, or perhaps not.
+fn took_all(answer: Result<usize, SocketFailure>, room: usize) -> bool {
+    match answer {
+        Ok(count) => count < room,
+        Err(failure) => failure == SocketFailure::WouldWait,
+    }
+}
+
+impl MioSockets {
+    /// Hands on what is ahead, with no call. Where nothing is, or there is no room for it, the read would wait.
+    fn hand_on(&mut self, c: usize, buffer: &mut [u8]) -> Result<usize, SocketFailure>
+        requires { c < 64 }
+        ensures count { WritesAtMost result buffer.new }
+        ensures told { log_by (⟦<MioSockets as SocketCalls>⟧.calls self.new) ≡ log_by (⟦<MioSockets as SocketCalls>⟧.calls self.old)
+            ++ Read c (length buffer.new) (read_carried (moved result buffer.new)) ∷ [] }
+    {
+        let room = buffer.len() as u64;
+        let place = &mut self.ahead[c];
+        let count = hand_from(place, buffer);
+        give_back(place, &mut self.spare);
+        self.noted
+            .note(&[HANDING, DONE, c as u64, room], &buffer[..count], &[]);
+        if count == 0 {
+            return Err(SocketFailure::WouldWait);
+        }
+        Ok(count)
+    }
+
+    /// Reads into the reader's buffer.
+    fn read_at_once(
+        &mut self,
+        known: &mut Known,
+        c: usize,
+        buffer: &mut [u8],
+    ) -> Result<usize, SocketFailure>
+        requires in_range { c < 64 }
+        requires nothing_ahead { ahead_on c self.old.ahead.items ≡ [] }
+        ensures count { WritesAtMost result buffer.new }
+        ensures told { log_by (⟦<MioSockets as SocketCalls>⟧.calls self.new) ≡ log_by (⟦<MioSockets as SocketCalls>⟧.calls self.old)
+            ++ Read c (length buffer.new) (read_carried (moved result buffer.new)) ∷ [] }
+    {
+        let record = &mut self.noted;
+        let room = buffer.len() as u64;
+        let answer = read_from(self.streams.as_mut_slice(), c, buffer);
+        known.took(c, took_all(answer, buffer.len()));
+        match answer {
+            Ok(count) => record.note(&[READING, DONE, c as u64, room], &buffer[..count], &[]),
+            Err(failure) => record.note(&[READING, failure.number(), c as u64, room], &[], &[]),
+        }
+        answer
+    }
+
+    /// Reads into a buffer of the ports, and hands on as much as there is room for.
+    fn read_ahead(
+        &mut self,
+        known: &mut Known,
+        mut ahead: Ahead,
+        c: usize,
+        buffer: &mut [u8],
+    ) -> Result<usize, SocketFailure>
+        requires in_range { c < 64 }
+        requires nothing_ahead { ahead_on c self.old.ahead.items ≡ [] }
+        requires room { 0 < length buffer.old }
+        ensures count { WritesAtMost result buffer.new }
+        ensures told { log_by (⟦<MioSockets as SocketCalls>⟧.calls self.new) ≡ log_by (⟦<MioSockets as SocketCalls>⟧.calls self.old)
+            ++ Read c (length buffer.new) (read_carried (moved result buffer.new)) ∷ [] }
+    {
+        let room = buffer.len() as u64;
+        let answer = fill_from(self.streams.as_mut_slice(), c, &mut ahead);
+        known.took(c, took_all(answer, MOST_AHEAD));
+        if let Err(failure) = answer {
+            self.noted
+                .note(&[READING, failure.number(), c as u64, room], &[], &[]);
+            self.spare = Some(ahead);
+            return Err(failure);
+        }
+        self.noted
+            .note(&[READING, DONE, c as u64, room], ahead.as_slice(), &[]);
+        let count = ahead.hand(buffer);
+        let place = &mut self.ahead[c];
+        *place = Some(ahead);
+        give_back(place, &mut self.spare);
+        Ok(count)
+    }
+}
+
 impl SocketCalls for MioSockets {
     ghost calls = { λ sockets. calls_of sockets.noted.calls };
 
-    fn poll(&mut self, ready: &mut Named, wait: Option<Duration>) -> Result<(), SocketFailure> {
+    ghost ahead = { λ sockets c. ahead_on c sockets.ahead.items };
+
+    fn poll(&mut self, known: &mut Known, wait: Option<Duration>) -> Result<(), SocketFailure> {
         let wait = self.leavers.drain(wait);
         let record = &mut self.noted;
         if let Err(error) = self.poll.poll(&mut self.events, wait) {
@@ -198,12 +296,19 @@ impl SocketCalls for MioSockets {
             return Err(failure);
         }
         for event in &self.events {
-            add(ready, event);
+            see(known, event);
         }
         self.leavers.count_turn(wait, !self.events.is_empty());
-        let listener = bit(ready.listener);
-        record.note(&[POLLING, DONE, listener], &[], &ready.connections);
+        let named = &known.named;
+        let listener = bit(named.listener);
+        record.note(&[POLLING, DONE, listener], &[], &named.connections);
         Ok(())
+    }
+
+    fn note_named(&mut self, named: &Named) {
+        let listener = bit(named.listener);
+        self.noted
+            .note(&[NAMING, DONE, listener], &[], &named.connections);
     }
 
     fn accept(&mut self, c: usize) -> Result<bool, SocketFailure> {
@@ -213,6 +318,8 @@ impl SocketCalls for MioSockets {
                 let streams = self.streams.as_mut_slice();
                 let is_watched = keep(self.poll.registry(), streams, c, stream);
                 record.note(&[ACCEPTING, DONE, c as u64], &[], &[is_watched]);
+                let place = &mut self.ahead[c];
+                *place = None;
                 Ok(is_watched)
             }
             Err(error) => {
@@ -223,22 +330,31 @@ impl SocketCalls for MioSockets {
         }
     }
 
-    fn read(&mut self, c: usize, buffer: &mut [u8]) -> Result<usize, SocketFailure> {
-        let record = &mut self.noted;
-        let room = buffer.len() as u64;
-        match read_from(self.streams.as_mut_slice(), c, buffer) {
-            Ok(count) => {
-                record.note(&[READING, DONE, c as u64, room], &buffer[..count], &[]);
-                Ok(count)
-            }
-            Err(failure) => {
-                record.note(&[READING, failure.number(), c as u64, room], &[], &[]);
-                Err(failure)
-            }
-        }
+    fn count_ahead(&self, c: usize) -> usize {
+        count_ahead(&self.ahead[c])
     }
 
-    fn write(&mut self, c: usize, bytes: &[u8]) -> Result<usize, SocketFailure> {
+    fn read(
+        &mut self,
+        known: &mut Known,
+        c: usize,
+        buffer: &mut [u8],
+    ) -> Result<usize, SocketFailure> {
+        let answer = if buffer.is_empty() || self.count_ahead(c) > 0 {
+            self.hand_on(c, buffer)
+        } else if buffer.len() >= MOST_AHEAD {
+            self.read_at_once(known, c, buffer)
+        } else {
+            match take_spare(self.alloc, &mut self.spare) {
+                Some(ahead) => self.read_ahead(known, ahead, c, buffer),
+                None => self.read_at_once(known, c, buffer),
+            }
+        };
+        known.name(c, self.count_ahead(c) > 0);
+        answer
+    }
+
+    fn write(&mut self, known: &mut Known, c: usize, bytes: &[u8]) -> Result<usize, SocketFailure> {
         let record = &mut self.noted;
         let offered = bytes.len() as u64;
         match write_to(self.streams.as_mut_slice(), c, bytes) {
@@ -248,15 +364,26 @@ impl SocketCalls for MioSockets {
             }
             Err(failure) => {
                 record.note(&[WRITING, failure.number(), c as u64, offered], &[], &[]);
+                if failure == SocketFailure::WouldWait {
+                    known.fill(c);
+                }
                 Err(failure)
             }
         }
+    }
+
+    fn note_put_off(&mut self, c: usize, offered: usize) {
+        self.noted
+            .note(&[PUTTING_OFF, DONE, c as u64, offered as u64], &[], &[]);
     }
 
     fn close(&mut self, c: usize) {
         if let Some(stream) = self.streams[c].take() {
             self.leavers.begin(self.poll.registry(), stream);
         }
+        self.ahead[c] = None;
         self.noted.note(&[CLOSING, DONE, c as u64], &[], &[]);
     }
+
+    ghost accounted = { λ sockets c lt. sockets.accounted c lt };
 }

@@ -6,7 +6,7 @@ ghost use Rattle.iscsi_target.specs.Machine.{Feeds, IsSound, IsSure, link_at, is
 ghost use Rattle.iscsi_serve.specs.Log.{Entry, AcceptFailed};
 ghost use Rattle.iscsi_serve.specs.Served.{StaysServed};
 ghost use Rattle.iscsi_serve.specs.Turn.{Moment, moment, log_of, beginning, free_number as lowest_free, HasAccepted, is_read, Accepts, Reads, Writes, Closes, Along, Carries, EndsTurn, EndsTurns};
-ghost use Rattle.iscsi_serve.specs.Progress.{AreEnded, none_ended, IsDue, StandsFed, Goes, Keeps, Does};
+ghost use Rattle.iscsi_serve.specs.Progress.{AreEnded, none_ended, is_to_close, NoneToClose, KeepsOthers, IsDue, StandsFed, Goes, Keeps, Does};
 ghost use Rattle.iscsi_serve.specs.declared.told.Named.{Named};
 
 use crate::fault::ServeFault;
@@ -123,24 +123,25 @@ fn read_one<P: Ports, S: Store>(
     }
 }
 
-/// Writes what waits on a connection, as far as it is taken.
-fn write_one<P: Ports, S: Store>(
+/// Writes what waits on a connection that is open, as far as it is taken.
+fn write_open<P: Ports, S: Store>(
     ports: &mut P,
     target: &mut Target<S>,
     ended: &mut [bool; CONNECTIONS],
     c: usize,
 )
-    requires { c < 64 }
-    ensures { Does (Writes c) (P.tells ports.old) (P.tells ports.new) (P.log ports.old) (P.log ports.new) target.old target.new ended.old ended.new }
+    requires in_range { c < 64 }
+    requires open { is_open_at target.old c ≡ true }
+    ensures does { Does (Writes c) (P.tells ports.old) (P.tells ports.new) (P.log ports.old) (P.log ports.new) target.old target.new ended.old ended.new }
+    ensures open { is_open_at target.new c ≡ true }
+    ensures others { KeepsOthers c target.old target.new ended.old ended.new }
 {
-    if !target.is_open(c) {
-        return;
-    }
     let offered = target.out(c);
     if offered.is_empty() {
         return;
     }
     match ports.write(c, offered) {
+        Told::Bytes(0) => {}
         Told::Bytes(count) => target.sent(c, count),
         Told::End | Told::Fault => ended[c] = true,
     }
@@ -153,6 +154,25 @@ fn is_done<S: Store>(target: &Target<S>, ended: &[bool; CONNECTIONS], c: usize) 
     ensures { result ≡ (slice_index_or ended.now c false || is_closing (link_at target.now c).phase && length (link_at target.now c).waiting == 0) }
 {
     ended[c] || target.closing(c) && target.out(c).is_empty()
+}
+
+/// Writes what waits on a connection, as far as it is taken. Whether a close of it is due then.
+fn write_one<P: Ports, S: Store>(
+    ports: &mut P,
+    target: &mut Target<S>,
+    ended: &mut [bool; CONNECTIONS],
+    c: usize,
+) -> bool
+    requires { c < 64 }
+    ensures does { Does (Writes c) (P.tells ports.old) (P.tells ports.new) (P.log ports.old) (P.log ports.new) target.old target.new ended.old ended.new }
+    ensures others { KeepsOthers c target.old target.new ended.old ended.new }
+    ensures due { result ≡ is_to_close ended.new target.new c }
+{
+    if !target.is_open(c) {
+        return false;
+    }
+    write_open(ports, target, ended, c);
+    is_done(target, ended, c)
 }
 
 /// Closes a connection that has ended, or that the target has closed and on which nothing waits.
@@ -190,27 +210,57 @@ fn read_all<P: Ports, S: Store>(
     }
 }
 
-/// All writes that are due.
+fn either(one: bool, other: bool) -> bool
+    ensures { result ≡ (one || other) }
+{
+    one || other
+}
+
+/// All writes that are due. Whether a close is due then.
 fn write_all<P: Ports, S: Store>(
     ports: &mut P,
     target: &mut Target<S>,
     ended: &mut [bool; CONNECTIONS],
-)
-    ensures { Does (Along Writes connections) (P.tells ports.old) (P.tells ports.new)
+) -> bool
+    ensures does { Does (Along Writes connections) (P.tells ports.old) (P.tells ports.new)
         (P.log ports.old) (P.log ports.new) target.old target.new ended.old ended.new }
+    ensures due { result ≡ false → NoneToClose 64 ended.new target.new }
 {
+    let mut has_closes = false;
     for c in 0..CONNECTIONS {
-        write_one(ports, target, ended, c);
+        let closes = write_one(ports, target, ended, c);
+        has_closes = either(has_closes, closes);
     }
+    has_closes
 }
 
-/// All closes that are due.
-fn close_all<P: Ports, S: Store>(ports: &mut P, target: &mut Target<S>, ended: &[bool; CONNECTIONS])
+/// All closes that are due, of each connection.
+fn close_each<P: Ports, S: Store>(
+    ports: &mut P,
+    target: &mut Target<S>,
+    ended: &[bool; CONNECTIONS],
+)
     ensures { Does (Along Closes connections) (P.tells ports.old) (P.tells ports.new)
         (P.log ports.old) (P.log ports.new) target.old target.new ended.now ended.now }
 {
     for c in 0..CONNECTIONS {
         close_one(ports, target, ended, c);
+    }
+}
+
+/// All closes that are due, where any is.
+fn close_all<P: Ports, S: Store>(
+    ports: &mut P,
+    target: &mut Target<S>,
+    ended: &[bool; CONNECTIONS],
+    has_closes: bool,
+)
+    requires { has_closes ≡ false → NoneToClose 64 ended.now target.old }
+    ensures { Does (Along Closes connections) (P.tells ports.old) (P.tells ports.new)
+        (P.log ports.old) (P.log ports.new) target.old target.new ended.now ended.now }
+{
+    if has_closes {
+        close_each(ports, target, ended);
     }
 }
 
@@ -245,8 +295,8 @@ fn carry<P: Ports, S: Store>(
 {
     let mut ended = [false; CONNECTIONS];
     read_all(ports, target, named, buffer, &mut ended);
-    write_all(ports, target, &mut ended);
-    close_all(ports, target, &ended);
+    let has_closes = write_all(ports, target, &mut ended);
+    close_all(ports, target, &ended, has_closes);
 }
 
 /// A turn that reads into this buffer.

@@ -1,23 +1,34 @@
 //! The calls of the system on a listener and its connections.
 
-ghost use Rattle.std.specs.Prelude.{◌≡◌, ◌<◌, ◌≤◌, ◌∷◌, List, length};
+ghost use Rattle.std.specs.Prelude.{◌≡◌, ◌<◌, ◌≤◌, ◌++◌, ◌∷◌, ℕ, List, [], length};
 ghost use Rattle.std.specs.Io.{WritesAtMost};
-ghost use Rattle.iscsi_serve.specs.Calls.{Call, Polling, Accepting, Reading, Writing, Closing, named_by, moved};
+ghost use Rattle.iscsi_serve.specs.Log.{Read};
+ghost use Rattle.iscsi_serve.specs.Calls.{Call, Polling, Naming, Accepting, Writing, PuttingOff, Closing, named_by, moved, read_carried, log_by};
+ghost use Rattle.iscsi_serve.specs.Ahead.{given, handed};
 
+use crate::known::Known;
 use crate::socket_failure::SocketFailure;
 use crate::told::Named;
 use std::time::Duration;
 
-/// The plain calls on sockets, and what each answered: `calls` has them all, the newest first.
+/// The plain calls on sockets, and what each answered: `calls` has them all, the newest first. What the
+/// ports tell without a call is noted among them.
 ///
-/// A connection is kept under the number under which it was accepted, 64 among them.
+/// A connection is kept under the number under which it was accepted, 64 among them. A read may take more
+/// from the system than there is room for: the rest is `ahead`, and later reads get it first, with no call.
 pub trait SocketCalls {
     ghost calls: { Self → List Call };
 
-    /// Waits for an event, no longer than this where a time is given, and adds those whom the system
-    /// names to those who may be ready.
-    fn poll(&mut self, ready: &mut Named, wait: Option<Duration>) -> Result<(), SocketFailure>
-        ensures { calls self.new ≡ Polling (named_by result ready.new) ∷ calls self.old };
+    ghost ahead: { Self → ℕ → List ℕ };
+
+    /// Waits for an event, no longer than this where a time is given, and makes known whom the system
+    /// names.
+    fn poll(&mut self, known: &mut Known, wait: Option<Duration>) -> Result<(), SocketFailure>
+        ensures { calls self.new ≡ Polling (named_by result known.new.named) ∷ calls self.old };
+
+    /// Notes that a poll tells who is known to be ready.
+    fn note_named(&mut self, named: &Named)
+        ensures { calls self.new ≡ Naming named.now ∷ calls self.old };
 
     /// Accepts a connection under this number. Whether the system watches it: one that it does not
     /// watch is dropped at once.
@@ -25,20 +36,39 @@ pub trait SocketCalls {
         requires { c ≤ 64 }
         ensures { calls self.new ≡ Accepting c result ∷ calls self.old };
 
-    /// Reads into the front of the buffer.
-    fn read(&mut self, c: usize, buffer: &mut [u8]) -> Result<usize, SocketFailure>
+    /// How many bytes are ahead of a connection.
+    fn count_ahead(&self, c: usize) -> usize
+        requires { c < 64 }
+        ensures { result ≡ length (ahead self.now c) };
+
+    /// Reads into the front of the buffer: what is ahead, or else what the system gives.
+    fn read(
+        &mut self,
+        known: &mut Known,
+        c: usize,
+        buffer: &mut [u8],
+    ) -> Result<usize, SocketFailure>
         requires { c < 64 }
         ensures count { WritesAtMost result buffer.new }
-        ensures call { calls self.new ≡ Reading c (length buffer.new) (moved result buffer.new) ∷ calls self.old };
+        ensures told { log_by (calls self.new) ≡ log_by (calls self.old)
+            ++ Read c (length buffer.new) (read_carried (moved result buffer.new)) ∷ [] };
 
     /// Writes a front of these bytes.
-    fn write(&mut self, c: usize, bytes: &[u8]) -> Result<usize, SocketFailure>
+    fn write(&mut self, known: &mut Known, c: usize, bytes: &[u8]) -> Result<usize, SocketFailure>
         requires { c < 64 }
         ensures count { WritesAtMost result bytes.now }
         ensures call { calls self.new ≡ Writing c (length bytes.now) (moved result bytes.now) ∷ calls self.old };
 
-    /// Closes a connection, if there is one under this number.
+    /// Notes that a write of so many bytes is put off.
+    fn note_put_off(&mut self, c: usize, offered: usize)
+        requires { c < 64 }
+        ensures { calls self.new ≡ PuttingOff c offered ∷ calls self.old };
+
+    /// Closes a connection, if there is one under this number. What is ahead of it is thrown away.
     fn close(&mut self, c: usize)
         requires { c ≤ 64 }
         ensures { calls self.new ≡ Closing c ∷ calls self.old };
+
+    /// Each byte that the system gave was handed on or is ahead, in the order in which they were given.
+    ghost accounted: { (sockets : Self) (c : ℕ) → c < 64 → given c (calls sockets) ≡ handed c (calls sockets) ++ ahead sockets c };
 }

@@ -1,6 +1,6 @@
 //! Ports over sockets.
 
-ghost use Rattle.std.specs.Prelude.{◌≡◌, ◌≤◌, ◌∷◌, ◌++◌, ℕ, List, [], true, false, length, IfOk, IfSome};
+ghost use Rattle.std.specs.Prelude.{◌≡◌, ◌<◌, ◌≤◌, ◌∷◌, ◌++◌, ◌&&◌, ◌||◌, ◌+◌, ◌*◌, not, nat_lt, nat_le, min, ℕ, List, [], true, false, length, IfOk, IfSome};
 ghost use Rattle.std.specs.Duration.{as_nanos};
 ghost use Rattle.std.specs.Io.{WritesAtMost};
 ghost use Rattle.std.specs.Net.Socket.{socket_ip, socket_port};
@@ -12,6 +12,7 @@ ghost use Rattle.iscsi_serve.specs.Log.{Listened, Located};
 ghost use Rattle.iscsi_serve.specs.Calls.{ip_octets, moved, accepted, read_carried, write_carried, log_by};
 
 use crate::bind_fault::BindFault;
+use crate::known::Known;
 use crate::mio_sockets::MioSockets;
 use crate::ports::Ports;
 use crate::socket_calls::SocketCalls;
@@ -25,16 +26,40 @@ use std::time::Duration;
 /// For how many seconds a poll waits at most where an accept is to be tried again.
 const SHORTLY: u64 = 1;
 
+/// So many polls in a row at most are answered without asking the system.
+const MOST_UNASKED: u32 = 63;
+
+/// The bytes of a header (RFC 7143 §11.2.1).
+const HEADER: usize = 48;
+
+/// A write of fewer bytes may be put off.
+const MOST_PUT_OFF: usize = 262_144;
+
 /// Ports over the calls of the system, whose record they tell.
 ///
-/// A port is named from an event of the system on until a read or an accept of it would wait.
+/// A read takes as many bytes from the system as it gives, and those that the reader has no room for are
+/// told by the next reads. While such bytes are ahead the system is asked for events at each 64th poll
+/// alone, and what is to be written waits for the answers to the commands that are ahead. Behind a write that
+/// would have waited the next poll asks, then every other one, every fourth and so on, so that the connection is
+/// offered the rest soon.
+///
+/// A port is named from an event of the system on until a read or an accept of it would wait, and as long as
+/// bytes of it are ahead.
 #[derive(Drop)]
 pub struct SocketPorts<K: SocketCalls + Drop> {
     sockets: K,
-    /// Those whose last read or accept did not wait, or that had an event since.
-    ready: Named,
+    /// Which ports may be ready.
+    known: Known,
     /// Something was read, written or accepted since the last poll, so that there may be more.
     busy: bool,
+    /// Bytes were read since the last poll of a connection of which more are ahead.
+    holding: bool,
+    /// The connections of which bytes were read since the last poll.
+    has_read: [bool; CONNECTIONS],
+    /// So many polls in a row were answered without asking the system.
+    unasked: u32,
+    /// So many in a row may be.
+    most_unasked: u32,
     /// The last accept was refused: those who wait are still there, and no event will tell of them.
     refused: bool,
     /// For how long a poll waits. `None`: until there is an event.
@@ -63,11 +88,12 @@ impl SocketPorts<MioSockets> {
         let sockets = MioSockets::listen(net, alloc, address)?;
         Ok(SocketPorts {
             sockets,
-            ready: Named {
-                listener: false,
-                connections: [false; CONNECTIONS],
-            },
+            known: Known::new(),
             busy: false,
+            holding: false,
+            has_read: [false; CONNECTIONS],
+            unasked: 0,
+            most_unasked: MOST_UNASKED,
             refused: false,
             wait: wait.map(Duration::from_millis),
         })
@@ -81,6 +107,33 @@ impl SocketPorts<MioSockets> {
     {
         self.sockets.address()
     }
+}
+
+/// Whether a poll asks the system: not where bytes that are ahead were just read, nor at once after
+/// something was done, but whatever happens where so many polls were answered without asking.
+fn is_to_ask(holding: bool, busy: bool, unasked: u32, most_unasked: u32) -> bool
+    ensures { result ≡ not (nat_lt unasked most_unasked && (holding || (busy && nat_lt unasked 1))) }
+{
+    unasked >= most_unasked || !holding && !(busy && unasked == 0)
+}
+
+/// How many polls in a row may be answered without asking, once the system was asked: twice as many and one,
+/// up to 63.
+fn longer(most_unasked: u32) -> u32
+    ensures { result ≡ min (2 * most_unasked + 1) 63 }
+{
+    if most_unasked >= MOST_UNASKED / 2 {
+        return MOST_UNASKED;
+    }
+    2 * most_unasked + 1
+}
+
+/// Whether a write of so many bytes is put off, on a connection of which bytes were just read and so many are
+/// ahead: as long as these may hold a whole header, whose answer can go with it.
+fn is_put_off(has_read: bool, ahead: usize, offered: usize) -> bool
+    ensures { result ≡ (has_read && nat_le 48 ahead && nat_lt offered 262144) }
+{
+    has_read && ahead >= HEADER && offered < MOST_PUT_OFF
 }
 
 /// For how long the next poll waits: not at all where there may be more, and no longer than
@@ -147,37 +200,45 @@ fn write_told(answer: Result<usize, SocketFailure>) -> Told
     }
 }
 
-/// A connection is not ready.
-fn forget(ready: &mut Named, c: usize) {
-    if c < CONNECTIONS {
-        ready.connections[c] = false;
-    }
-}
-
-/// After an accept: the listener is not ready where it would wait, and nor is a connection that has
-/// just come.
-fn after_accept(ready: &mut Named, busy: &mut bool, c: usize, answer: Result<bool, SocketFailure>) {
+/// After an accept: the listener is not ready where it would wait, and of a connection that has just come
+/// nothing is known.
+fn after_accept(known: &mut Known, busy: &mut bool, c: usize, answer: Result<bool, SocketFailure>) {
     match answer {
         Ok(is_watched) => {
             *busy = true;
             if is_watched {
-                forget(ready, c);
+                known.forget(c);
             }
         }
-        Err(SocketFailure::WouldWait) => ready.listener = false,
+        Err(SocketFailure::WouldWait) => known.named.listener = false,
         Err(SocketFailure::Interrupted | SocketFailure::Passing) => *busy = true,
         Err(SocketFailure::Refused | SocketFailure::Broken) => {}
     }
 }
 
-/// After a read: the connection is not ready where it would wait.
-fn after_read(ready: &mut Named, busy: &mut bool, c: usize, answer: Result<usize, SocketFailure>) {
-    match answer {
-        Ok(0) => {}
-        Ok(_) => *busy = true,
-        Err(SocketFailure::WouldWait) => forget(ready, c),
-        Err(SocketFailure::Interrupted) => *busy = true,
-        Err(_) => {}
+/// Something was done, or is to be tried again at once.
+fn did_something(answer: Result<usize, SocketFailure>) -> bool {
+    matches!(answer, Ok(_) | Err(SocketFailure::Interrupted))
+}
+
+impl<K: SocketCalls + Drop> SocketPorts<K> {
+    /// After a read.
+    fn after_read(&mut self, c: usize, answer: Result<usize, SocketFailure>)
+        requires { c < 64 }
+        ensures { self.new.sockets ≡ self.old.sockets }
+    {
+        self.busy = self.busy || did_something(answer);
+        if matches!(answer, Ok(count) if count > 0) {
+            self.has_read[c] = true;
+            self.holding = self.holding || self.sockets.count_ahead(c) > 0;
+        }
+    }
+
+    /// Whether a write of so many bytes has to wait: the connection takes none now, or its answers are put off.
+    fn has_to_wait(&self, c: usize, offered: usize) -> bool
+        requires { c < 64 }
+    {
+        self.known.is_full(c) || is_put_off(self.has_read[c], self.sockets.count_ahead(c), offered)
     }
 }
 
@@ -187,36 +248,53 @@ impl<K: SocketCalls + Drop> Ports for SocketPorts<K> {
     ghost tells = { λ _. true };
 
     fn poll(&mut self) -> Result<Named, PortFault> {
+        let asks = is_to_ask(self.holding, self.busy, self.unasked, self.most_unasked);
         let wait = to_wait(self.busy, self.refused, self.wait);
         self.busy = false;
+        self.holding = false;
+        self.has_read = [false; CONNECTIONS];
+        if !asks {
+            self.unasked += 1;
+            self.sockets.note_named(&self.known.named);
+            return Ok(self.known.named);
+        }
+        self.unasked = 0;
+        self.most_unasked = longer(self.most_unasked);
         self.refused = false;
-        match self.sockets.poll(&mut self.ready, wait) {
-            Ok(()) => Ok(self.ready),
+        match self.sockets.poll(&mut self.known, wait) {
+            Ok(()) => Ok(self.known.named),
             Err(_) => Err(PortFault),
         }
     }
 
     fn accept(&mut self, c: usize) -> Result<Accepted, PortFault> {
         let answer = self.sockets.accept(c);
-        after_accept(&mut self.ready, &mut self.busy, c, answer);
+        after_accept(&mut self.known, &mut self.busy, c, answer);
         self.refused = matches!(answer, Err(SocketFailure::Refused));
         accept_told(answer)
     }
 
     fn read(&mut self, c: usize, buffer: &mut [u8]) -> Told {
-        let answer = self.sockets.read(c, buffer);
-        after_read(&mut self.ready, &mut self.busy, c, answer);
+        let answer = self.sockets.read(&mut self.known, c, buffer);
+        self.after_read(c, answer);
         read_told(answer)
     }
 
     fn write(&mut self, c: usize, bytes: &[u8]) -> Told {
-        let answer = self.sockets.write(c, bytes);
-        self.busy = self.busy || matches!(answer, Ok(_) | Err(SocketFailure::Interrupted));
+        if self.has_to_wait(c, bytes.len()) {
+            self.sockets.note_put_off(c, bytes.len());
+            return Told::Bytes(0);
+        }
+        let answer = self.sockets.write(&mut self.known, c, bytes);
+        self.busy = self.busy || did_something(answer);
+        if matches!(answer, Err(SocketFailure::WouldWait)) {
+            self.most_unasked = 0;
+        }
         write_told(answer)
     }
 
     fn close(&mut self, c: usize) {
         self.sockets.close(c);
-        forget(&mut self.ready, c);
+        self.known.forget(c);
     }
 }

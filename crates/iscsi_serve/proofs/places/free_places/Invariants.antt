@@ -1,5 +1,5 @@
-use Rattle.std.proofs.Common.{◌≡◌, length}
+use Rattle.std.proofs.Common.{◌≡◌, replicate, None}
 use Rattle.iscsi_serve.proofs.places.free_places.Given as goal
 
 abbrev pub invariant-loop : goal.invariant-loop
-invariant-loop g l = length l.places.items ≡ l.counter
+invariant-loop g l = l.places.items ≡ replicate l.counter None

@@ -1,6 +1,7 @@
+use Rattle.std.proofs.Common.{◌≡◌, false}
 use Rattle.std.specs.List.{range_with_len}
 use Rattle.iscsi_serve.specs.Turn.{Writes, Along}
-use Rattle.iscsi_serve.specs.Progress.{Does}
+use Rattle.iscsi_serve.specs.Progress.{Does, NoneToClose}
 use Rattle.iscsi_serve.proofs.serving.write_all.Given as goal
 
 -- those of the connections so far
@@ -8,4 +9,8 @@ abbrev pub invariant-loop-c : goal.invariant-loop-c
 invariant-loop-c g l =
     let log = g.P.Ports.log in
     let tells = g.P.Ports.tells in
-    Does (Along Writes (range_with_len 0 l.c)) (tells l.fn.ports) (tells l.ports) (log l.fn.ports) (log l.ports) l.fn.target l.target l.fn.ended l.ended
+    record {
+      does : Does (Along Writes (range_with_len 0 l.c)) (tells l.fn.ports) (tells l.ports) (log l.fn.ports) (log l.ports) l.fn.target l.target
+          l.fn.ended l.ended;
+      due : l.has_closes ≡ false → NoneToClose l.c l.ended l.target;
+    }

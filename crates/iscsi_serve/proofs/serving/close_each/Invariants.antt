@@ -1,7 +1,7 @@
 use Rattle.std.specs.List.{range_with_len}
 use Rattle.iscsi_serve.specs.Turn.{Closes, Along}
 use Rattle.iscsi_serve.specs.Progress.{Does}
-use Rattle.iscsi_serve.proofs.serving.close_all.Given as goal
+use Rattle.iscsi_serve.proofs.serving.close_each.Given as goal
 
 -- those of the connections so far
 abbrev pub invariant-loop-c : goal.invariant-loop-c
