@@ -1,5 +1,5 @@
 # Pitsagul: each target works from a fresh clone on a machine with the Rattle kit (the command rt).
-.PHONY: demo demo-unproved demo-proved build install uninstall test clients bench clean
+.PHONY: demo demo-unproved demo-proved build install uninstall test clients linux bench clean
 
 # Which demo `make demo` is: unproved takes one to three minutes, proved proves every crate first.
 DEMO = unproved
@@ -16,8 +16,8 @@ demo-proved: build
 
 # Proves every crate, builds targetd and leaves it at crates/targetd/out/targetd.
 build:
-	@echo "== proving the crates side by side and building targetd. The first time took 46 minutes on four"
-	@echo "== processors with other work to do, when the crates were proved one after the other"
+	@echo "== proving the crates side by side and building targetd. It took 76 minutes on four processors"
+	@echo "== that proved much else meanwhile"
 	@./tools/build
 
 # Puts the program, its pages, an example and a systemd unit below DESTDIR and PREFIX. Nothing outside them is touched.
@@ -36,10 +36,16 @@ uninstall:
 test:
 	@./tools/test
 
-# Real initiators (libiscsi, QEMU) read and write disks of up to 1 GiB. Installs their packages where missing.
+# Real initiators (libiscsi, QEMU) read and write disks of up to 1 GiB and tapes. Installs their packages where missing.
 clients:
 	@test -x crates/targetd/out/targetd || ./tools/build
 	@./tools/clients
+
+# Linux's own initiator attaches a disk and a tape, in a guest of QEMU by software emulation, which is slow. Installs
+# qemu-system-x86 where it is missing, and downloads a kernel and programs by Debian packages, below tools/out.
+linux:
+	@test -x crates/targetd/out/targetd || ./tools/build
+	@./tools/linux
 
 # Requests each second and processor time, beside a plain C program and beside tgt, on this machine.
 # Installs the Debian packages libiscsi-bin, qemu-utils, qemu-block-extra and tgt where missing.

@@ -5,9 +5,10 @@
        bench ask PORT KIND COUNT WINDOW LENGTH   an initiator: it logs in, sends COUNT commands with so many
                                                  in flight, and prints the seconds that these took
 
-   KIND is read or write: READs or WRITEs of so many bytes; TEST UNIT READYs where they are 0. Of a WRITE
-   the first 65536 bytes come with the command, as the defaults of a login have it, and an R2T asks for
-   the others. */
+   KIND is read or write: READs or WRITEs of so many bytes at the front of the disk LUN 0; TEST UNIT READYs
+   where they are 0. Of a WRITE the first 65536 bytes come with the command, as the defaults of a login have
+   it, and an R2T asks for the others. Of ask it is also read-on or write-on, from the front of that disk on,
+   and read-tape or write-tape: records of the tape LUN 1, from its front on. */
 
 #include <arpa/inet.h>
 #include <netinet/in.h>
@@ -21,10 +22,10 @@
 
 enum { HEADER = 48, LOGIN = 112, ACCEPTED = 104, ATTENTION = 68, BLOCK = 512, MOST = 262144 };
 enum { FIRST_BURST = 65536, WINDOW = 64 };
-enum { COMMAND = 0x01, DATA_OUT = 0x05, RESPONSE = 0x21, R2T = 0x31 };
+enum { IMMEDIATE = 0x40, COMMAND = 0x01, DATA_OUT = 0x05, RESPONSE = 0x21, R2T = 0x31 };
 
 struct load {
-    int writes;
+    int writes, goes_on, is_tape;
     size_t length;
 };
 
@@ -161,12 +162,12 @@ static void answer(struct load load)
 
 static const unsigned char ready[HEADER] = {COMMAND, 0x81};
 
-/* A connection to the port, logged in, whose unit attention was told. */
-static int session(int port)
+/* A connection to the port, logged in, whose unit attention was told. A tape is rewound. */
+static int session(int port, struct load load)
 {
     static const char text[] = "InitiatorName=a\0TargetName=t1\0MaxRecvDataSegmentLength=262144";
     unsigned char login[LOGIN] = {0x43, 0x87, [7] = sizeof text, [8] = 0x80, [13] = 1, [19] = 1, [21] = 1};
-    unsigned char in[ACCEPTED];
+    unsigned char in[ACCEPTED], first[HEADER], rewind_tape[HEADER] = {IMMEDIATE | COMMAND, 0x81, [9] = 1, [32] = 0x01};
     struct sockaddr_in address = {.sin_family = AF_INET, .sin_addr.s_addr = htonl(INADDR_LOOPBACK),
                                   .sin_port = htons((unsigned short)port)};
     int fd = socket(AF_INET, SOCK_STREAM, 0);
@@ -176,33 +177,48 @@ static int session(int port)
     memcpy(login + HEADER, text, sizeof text);
     put(fd, login, LOGIN);
     get(fd, in, ACCEPTED);
-    put(fd, ready, HEADER);
+    memcpy(first, ready, HEADER);
+    first[9] = (unsigned char)load.is_tape;
+    put(fd, first, HEADER);
     get(fd, in, ATTENTION);
+    if (load.is_tape) {
+        number(rewind_tape, 24, 1);
+        put(fd, rewind_tape, HEADER);
+        get(fd, in, HEADER);
+    }
     return fd;
 }
 
-/* The header of each command, but for its tag and its number. */
-static void command_of(unsigned char *command, struct load load)
+/* The header of each command, but for its tag and its number; so many came before it. */
+static void command_of(unsigned char *command, struct load load, unsigned before)
 {
     memcpy(command, ready, HEADER);
     if (load.length == 0)
         return;
     command[1] = load.writes ? 0xa1 : 0xc1;
-    command[32] = load.writes ? 0x2a : 0x28;
     number(command, 4, (unsigned)immediate(load));
     number(command, 20, (unsigned)load.length);
+    if (load.is_tape) {
+        command[9] = 1;
+        number(command, 33, (unsigned)load.length); /* of it the last three bytes, behind byte 1 of the CDB */
+        command[32] = load.writes ? 0x0a : 0x08;
+        return;
+    }
+    command[32] = load.writes ? 0x2a : 0x28;
+    if (load.goes_on)
+        number(command, 34, before * (unsigned)(load.length / BLOCK));
     command[39] = (unsigned char)(load.length / BLOCK >> 8);
     command[40] = (unsigned char)(load.length / BLOCK);
 }
 
-/* Sends so many commands, the first of them with this number. */
+/* Sends so many commands, the first of them with this CmdSN. */
 static void send_commands(int fd, struct load load, unsigned next, long count)
 {
     static unsigned char batch[WINDOW * (HEADER + FIRST_BURST)];
     size_t each = HEADER + immediate(load);
     for (long k = 0; k < count; k++, next++) {
         unsigned char *command = batch + (size_t)k * each;
-        command_of(command, load);
+        command_of(command, load, next - 1);
         number(command, 16, next + 1);
         number(command, 24, next);
     }
@@ -240,7 +256,7 @@ static int ask(int port, struct load load, long count, long window)
 {
     static unsigned char in[1 << 20];
     size_t each = load.writes ? HEADER : answer_length(load), held = 0;
-    int fd = session(port);
+    int fd = session(port, load);
     struct timespec start, end;
     clock_gettime(CLOCK_MONOTONIC, &start);
     long sent = 0, answered = 0;
@@ -265,15 +281,24 @@ static int ask(int port, struct load load, long count, long window)
     return 0;
 }
 
+/* The load of this kind, with a length where it has one. */
+static int load_of(const char *kind, long length, struct load *load)
+{
+    static const char *const kinds[] = {"read", "write", "read-on", "write-on", "read-tape", "write-tape"};
+    for (int at = 0; at < 6; at++)
+        if (strcmp(kind, kinds[at]) == 0) {
+            *load = (struct load){at % 2, at / 2 == 1, at / 2 == 2, (size_t)length};
+            return length >= (at > 0) && length <= MOST && length % BLOCK == 0;
+        }
+    return 0;
+}
+
 int main(int count, char **words)
 {
     const char *kind = count == 4 ? words[2] : count == 7 ? words[3] : "";
-    struct load load = {strcmp(kind, "write") == 0, 0};
-    long length = *kind ? atol(words[count - 1]) : -1;
-    int is_load = (load.writes || strcmp(kind, "read") == 0) && length >= load.writes && length <= MOST
-        && length % BLOCK == 0;
-    load.length = is_load ? (size_t)length : 0;
-    if (is_load && count == 4 && strcmp(words[1], "answer") == 0)
+    struct load load = {0};
+    int is_load = *kind && load_of(kind, atol(words[count - 1]), &load);
+    if (is_load && count == 4 && strcmp(words[1], "answer") == 0 && !load.goes_on && !load.is_tape)
         answer(load);
     if (is_load && count == 7 && strcmp(words[1], "ask") == 0 && atol(words[5]) <= WINDOW)
         return ask(atoi(words[2]), load, atol(words[4]), atol(words[5]));

@@ -9,13 +9,13 @@ from typing import NamedTuple
 
 from toml_lines import NotToml, read
 
-MOST_BYTES, BLOCK = 1_048_576, 512
+MOST_BYTES, BLOCK, MOST_RECORD = 1_048_576, 512, 1_048_576
 MOST_TARGETS, MOST_UNITS, MOST_LUN = 8, 16, 255
 MOST_LISTEN, MOST_NAME, MOST_SERIAL = 253, 223, 32
 MOST_BLOCKS, MOST_CAPACITY = 1_048_576, 34_359_738_360
 KEYS = {"the configuration": ["listen", "target"], "target": ["name", "unit"],
         "disk": ["lun", "kind", "serial", "blocks", "file"],
-        "tape": ["lun", "kind", "serial", "capacity", "early"]}
+        "tape": ["lun", "kind", "serial", "capacity", "early", "file"]}
 ADDRESS = re.compile(r"(?:([0-9.]+)|\[([0-9A-Fa-f:.]+)(?:%[0-9]+)?\]):([0-9]+)")
 
 
@@ -172,35 +172,60 @@ class Configuration:
                        f'the serial "{serial}" comes twice, and hosts may take the two for one disk', None)
         keys = KEYS["disk"]
         if "file" in place.table.held:
-            path = self.field(place, "file", "text")
-            if path is not None:
-                self.twice(self.files, path, place, "file", f'the file "{path}" comes twice')
-                self.file(place, path)
+            self.file(place, disk_fault)
             keys = [key for key in keys if key != "blocks"]
         else:
             self.number(place, "blocks", 1, MOST_BLOCKS)
         self.unread(place, keys)
 
     def tape(self, place):
-        """A tape in memory."""
-        if "file" in place.table.held:
-            self.tell(place.table.lines["file"], 3, f'{place.name}: a tape in a "file" is not taken yet')
+        """A tape, in a file or in memory."""
         capacity = self.number(place, "capacity", 1, MOST_CAPACITY)
-        self.number(place, "early", 0, MOST_CAPACITY if capacity is None else capacity)
-        self.unread(place, [*KEYS["tape"], "file"])
+        most = MOST_CAPACITY if capacity is None else capacity
+        self.number(place, "early", 0, most)
+        if "file" in place.table.held:
+            self.file(place, lambda file: tape_fault(file, most))
+        self.unread(place, KEYS["tape"])
 
-    def file(self, place, path):
-        """The file of a disk, as the program would open it."""
-        line, words = place.table.lines["file"], f'{place.name}: the file "{path}"'
+    def file(self, place, fault_in):
+        """The file of a unit, as the program would open it, and what `fault_in` it is told of its content."""
+        path = self.field(place, "file", "text")
+        if path is None:
+            return
+        self.twice(self.files, path, place, "file", f'the file "{path}" comes twice')
         try:
             with open(Path(self.folder, path), "r+b", buffering=0) as file:
-                size = file.seek(0, os.SEEK_END)
+                fault = fault_in(file)
         except (OSError, ValueError) as error:
-            self.tell(line, "device", f"{words} cannot be opened for reading and writing: "
-                      f"{getattr(error, 'strerror', None) or error}")
-            return
-        if size == 0 or size % BLOCK:
-            self.tell(line, "device", f"{words} has {size} bytes, and not a positive multiple of {BLOCK}")
+            fault = f"cannot be opened for reading and writing: {getattr(error, 'strerror', None) or error}"
+        if fault:
+            self.tell(place.table.lines["file"], "device", f'{place.name}: the file "{path}" {fault}')
+
+
+def disk_fault(file):
+    """Why a file is no disk, or nothing."""
+    size = file.seek(0, os.SEEK_END)
+    return f"has {size} bytes, and not a positive multiple of {BLOCK}" if size == 0 or size % BLOCK else None
+
+
+def number_at(file, at):
+    """The number in four bytes of a file."""
+    file.seek(at)
+    return int.from_bytes(file.read(4), "big")
+
+
+def tape_fault(file, capacity):
+    """Why a file is no tape of this capacity, or nothing: item after item has its length in four bytes, its data,
+    and its length again."""
+    size = file.seek(0, os.SEEK_END)
+    at = 0
+    while at < size:
+        length = number_at(file, at)
+        behind = at + length + 8
+        if length > MOST_RECORD or behind > size or number_at(file, behind - 4) != length:
+            return f"has no whole record or filemark at byte {at}, and {size} bytes"
+        at = behind
+    return f"has {size} bytes, and more than the capacity of {capacity}" if size > capacity else None
 
 
 def article(kind):

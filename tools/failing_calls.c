@@ -1,7 +1,7 @@
 /* Makes calls of the C library fail in the program that this is loaded into (LD_PRELOAD).
  *
- *   FAIL_CALL    allocation, input (read of descriptor 0), file (read of another), output (write to 1), or
- *                store (a read or write at a place of a file, or a sync of it)
+ *   FAIL_CALL    allocation, input (read of descriptor 0), file (read of another), output (write to 1),
+ *                store (a read or write at a place of a file, or a sync of it), or accept
  *   FAIL_NUMBER  which call of these fails, counted from 1 since the program's own start
  *   FAIL_ON      1: all calls behind it fail too
  *   FAIL_ERROR   errno of the failed call; 0: it reads or writes no byte and is no error
@@ -12,6 +12,7 @@
 #include <stddef.h>
 #include <stdlib.h>
 #include <string.h>
+#include <sys/socket.h>
 #include <sys/syscall.h>
 #include <sys/types.h>
 #include <unistd.h>
@@ -140,4 +141,9 @@ int fsync(int descriptor)
 int fdatasync(int descriptor)
 {
     return fails("store") ? -1 : (int)syscall(SYS_fdatasync, descriptor);
+}
+
+int accept4(int listener, struct sockaddr *address, socklen_t *length, int flags)
+{
+    return fails("accept") ? -1 : (int)syscall(SYS_accept4, listener, address, length, flags);
 }

@@ -1,4 +1,5 @@
-"""A relay between an initiator and a target, which keeps the PDUs that pass and their order."""
+"""A relay between an initiator and a target, which keeps the PDUs that pass and their order. It can stall, cut a
+connection, and lose PDUs."""
 
 import socket
 import threading
@@ -47,13 +48,18 @@ def cut(data):
 
 
 class Relay:
-    """Listens on a free port, and passes what comes there to the target and back."""
+    """Listens on a free port, and passes what comes there to the target and back. Where it may lose PDUs it passes
+    whole ones only."""
 
-    def __init__(self, target, tell=lambda event: None):
+    def __init__(self, target, tell=lambda event: None, loses=None):
         self.target = target
         self.tell = tell
+        self.loses = loses
         self.events = []
         self.lock = threading.Lock()
+        self.ends = []  # the two sockets of each connection
+        self.stalled = set()
+        self.changed = threading.Condition()
         self.listener = socket.create_server(("127.0.0.1", 0))
         self.port = self.listener.getsockname()[1]
 
@@ -70,6 +76,7 @@ class Relay:
             except OSError:
                 initiator.close()
                 continue
+            self.ends.append((initiator, target))
             for ends in ((SENT, initiator, target), (ANSWERED, target, initiator)):
                 threading.Thread(target=self.pass_on, args=(number, *ends), daemon=True).start()
             number += 1
@@ -79,7 +86,12 @@ class Relay:
         rest = b""
         while piece := received(source):
             pdus, rest = cut(rest + piece)
-            self.keep(Event(connection, side, data) for data in pdus)
+            events = [Event(connection, side, data) for data in pdus]
+            self.keep(events)
+            if self.loses:
+                piece = b"".join(event.data for event in events if not self.loses(event))
+            with self.changed:
+                self.changed.wait_for(lambda: connection not in self.stalled)
             if not is_sent(sink, piece):
                 return
         self.keep([Event(connection, side, b"")])
@@ -91,6 +103,22 @@ class Relay:
             for event in events:
                 self.events.append(event)
                 self.tell(event)
+
+    def stall(self):
+        """Passes nothing more on the connections that there are."""
+        with self.changed:
+            self.stalled.update(range(len(self.ends)))
+
+    def go_on(self):
+        """Passes again what was stalled."""
+        with self.changed:
+            self.stalled.clear()
+            self.changed.notify_all()
+
+    def cut(self):
+        """Ends each connection for both sides, wherever it is in a PDU."""
+        for end in (end for ends in self.ends for end in ends):
+            shut_down(end, socket.SHUT_RDWR)
 
 
 def received(source):
@@ -119,13 +147,14 @@ def shut_down(end, how):
 
 
 @contextmanager
-def relaying(target, tell=lambda event: None):
+def relaying(target, tell=lambda event: None, loses=None):
     """A relay to this address, until it is no longer needed."""
-    relay = Relay(target, tell)
+    relay = Relay(target, tell, loses)
     thread = threading.Thread(target=relay.accept, daemon=True)
     thread.start()
     try:
         yield relay
     finally:
+        relay.go_on()
         shut_down(relay.listener, socket.SHUT_RDWR)
         thread.join()

@@ -6,6 +6,7 @@ import struct
 import subprocess
 import sys
 import tempfile
+import time
 from contextlib import contextmanager
 from pathlib import Path
 
@@ -14,9 +15,9 @@ import pdu
 
 TOP = Path(__file__).resolve().parent.parent
 PROGRAM = Path(sys.argv[1] if len(sys.argv) > 1 else TOP / "crates/targetd/out/targetd").resolve()
-LIMIT = 20  # seconds that anything here may take
-PATIENCE = 1.5  # seconds after which one who is not answered waits: the program looks again after one
+LIMIT = 60  # seconds that anything here may take, on a machine that has much else to do
 
+CONNECTIONS = 64  # as many are served at once
 UNITS = '[[target]]\nname = "t1"\n[[target.unit]]\nlun = 0\nkind = "disk"\nserial = "D0"\nblocks = 8\n'
 
 # A login of the initiator "a00" to "t1" with CmdSN 123 and two TEST UNIT READYs, and what they are
@@ -112,10 +113,34 @@ def is_closed(client):
         return True
 
 
-def is_answered(client, number, connection):
-    """A client on this connection is answered as ever."""
+def connection_in(data):
+    """The connection on which these are the answers as ever. None where they are not."""
+    return next((c for c in range(CONNECTIONS) if data == answers(c)), None)
+
+
+def connection_of(client):
+    """The connection of a client whose requests wait, once it is answered. None where it is not answered as ever."""
+    return connection_in(read(client, len(answers(0))))
+
+
+def is_answered(client, number, connection=None):
+    """A client is answered as ever, on this connection where one is given. Those who connect one behind the other
+    may be accepted in any order, so only one who is alone, or follows those who were answered, knows its own."""
     client.sendall(requests(number))
-    return read(client, len(answers(connection))) == answers(connection)
+    found = connection_of(client)
+    return found is not None and connection in (None, found)
+
+
+def is_answered_at_last(address, number, connection):
+    """A client is answered on this connection, once the program has seen that the one who had it is gone."""
+    until = time.monotonic() + LIMIT
+    while time.monotonic() < until:
+        with connect(address) as client:
+            client.sendall(requests(number))
+            if connection_of(client) == connection:
+                return True
+        time.sleep(0.05)
+    return False
 
 
 def reset(client):
@@ -170,11 +195,16 @@ def writing(client, number, address, content):
 
 
 def held_clients(address, count):
-    """So many clients that are connected, the first on connection 0."""
+    """So many clients that are connected."""
     return [connect(address) for _ in range(count)]
 
 
 def processor_time(process):
-    """For how many seconds it has worked (proc(5))."""
+    """For how many seconds a process has worked (proc(5))."""
     fields = Path(f"/proc/{process.pid}/stat").read_text(encoding="ascii").rpartition(")")[2].split()
     return (int(fields[11]) + int(fields[12])) / os.sysconf("SC_CLK_TCK")
+
+
+def descriptors_of(process):
+    """How many descriptors a process has open (proc(5))."""
+    return len(os.listdir(f"/proc/{process.pid}/fd"))
