@@ -5,13 +5,13 @@ use Rattle.std.specs.List.{fold}
 use Rattle.std.specs.Option.{option_and_then}
 use Rattle.std.proofs.lemmas.Bool.{eqb-true, ne_eqb}
 use Rattle.std.proofs.lemmas.List.{length-map, length-append, append-nil}
-use Rattle.scsi_unit.specs.Medium.{kept_of}
+use Rattle.scsi_unit.specs.Medium.{KeptState, kept_of}
 use Rattle.iscsi_login.specs.Session.{is_same_target}
 use Rattle.iscsi_target.specs.History.{Event, Open, Bytes, Gone, connection_limit, is_among, open_after, may_come, may_follow, well_formed, plain}
 use Rattle.iscsi_target.specs.Life.{Life, Over, is_over, born, ended_in, out_of}
 use Rattle.iscsi_target.specs.World.{Setting, World, is_present, present, session_of, left, over, end, bring, happened, new_world, world}
-use Rattle.iscsi_target.specs.Output.{outputs}
-use Rattle.iscsi_target.specs.Isolation.{kept_from, connection_of, next_after, last_after, only_from, only, named_in, Selects, names, plain_world, TargetsAreIsolated, TargetsSeeTheirOwn, StrangersAreAlone}
+use Rattle.iscsi_target.specs.Output.{outputs, media}
+use Rattle.iscsi_target.specs.Isolation.{kept_from, connection_of, next_after, last_after, only_from, only, named_in, Selects, names, plain_world, kept, TargetsAreIsolated, TargetsSeeTheirOwn, StrangersAreAlone, GivesItsOwn}
 use Rattle.iscsi_target.proofs.Choices.{cond_true, cond_false, and_true, not_true, eqb_self}
 use Rattle.iscsi_target.proofs.IsolatedLives.{AllFrom, Selection, HasTarget, Fits, kept_in, kept_out, kept_append, kept_map, over_out, all_map, all_as, all_push, all_places}
 use Rattle.iscsi_target.proofs.IsolatedNames.{is_configured}
@@ -336,3 +336,15 @@ pub strangers_are_alone : StrangersAreAlone
 strangers_are_alone s events k life formed at none =
     (targets_are_isolated s (length s.directory.names) (λ j. eqb j k) events formed
     (λ j other named there e. one_by (eqb j k) s (plain_world s events).lives j k named life other refl at none there e)).answers
+
+-- ---- what a run gives
+
+pub gives_its_own : (s : Setting) (target : ℕ) (events : List Event) (answered : List (List ℕ)) (keep : List KeptState) → well_formed events ≡ true
+    → answered ≡ outputs s (map plain events) → keep ≡ media s (map plain events) target → GivesItsOwn s target events answered keep
+gives_its_own s target events answered keep formed answers_are keep_is =
+    let alone = targets_see_their_own s target events formed in
+    record {
+      answers = ap (kept (names s.directory target (plain_world s events).lives)) answers_are ∙ alone.answers;
+      media = keep_is ∙ alone.media;
+      strangers = λ k life at none. ap (kept (λ j. eqb j k)) answers_are ∙ strangers_are_alone s events k life formed at none;
+    }

@@ -8,6 +8,7 @@ use Rattle.iscsi_target.specs.History.{Event, Open, Bytes, Gone, plain, well_for
 use Rattle.iscsi_target.specs.Life.{Life}
 use Rattle.iscsi_target.specs.World.{Setting, World, world, units_at}
 use Rattle.iscsi_target.specs.Output.{outputs, media}
+use Rattle.scsi_unit.specs.Medium.{KeptState}
 
 -- ---- some of the lives
 
@@ -90,3 +91,14 @@ abbrev pub StrangersAreAlone : Type 0
 StrangersAreAlone = (s : Setting) (events : List Event) (k : ℕ) (life : Life) → well_formed events ≡ true
     → slice_get (plain_world s events).lives k ≡ Some life → named_in s.directory life ≡ None
     → kept (λ j. j == k) (outputs s (map plain events)) ≡ outputs s (map plain (only (λ j. j == k) events))
+
+-- ---- what a run gives
+
+-- These answers, one text for each life, and what a target's units keep: those of the lives that name the target, and its units,
+-- are what their own events alone give; so is that of each life that names no target.
+pub record GivesItsOwn (s : Setting) (target : ℕ) (events : List Event) (answered : List (List ℕ)) (keep : List KeptState) : Type 0 where
+  pub answers : kept (names s.directory target (plain_world s events).lives) answered
+      ≡ outputs s (map plain (only (names s.directory target (plain_world s events).lives) events))
+  pub media : keep ≡ media s (map plain (only (names s.directory target (plain_world s events).lives) events)) target
+  pub strangers : (k : ℕ) (life : Life) → slice_get (plain_world s events).lives k ≡ Some life → named_in s.directory life ≡ None
+      → kept (λ j. j == k) answered ≡ outputs s (map plain (only (λ j. j == k) events))

@@ -6,6 +6,7 @@ ghost use Rattle.iscsi_target.specs.History.{History, well_formed as is_well_for
 ghost use Rattle.iscsi_target.specs.Events.{event_view, events_view, plain_history};
 ghost use Rattle.iscsi_target.specs.World.{Setting};
 ghost use Rattle.iscsi_target.specs.Output.{outputs as outputs_of, media_in, media};
+ghost use Rattle.iscsi_target.specs.Isolation.{GivesItsOwn};
 ghost use Rattle.iscsi_target.specs.Stands.{Stands};
 ghost use Rattle.iscsi_target.specs.Runs.{Runs, MayCome, AreOpen, seen, finished, ended};
 ghost use Rattle.iscsi_target.specs.Machine.{WhereSound, IsSure};
@@ -133,7 +134,9 @@ fn take_event<S: Store>(
 impl<S: Store + Drop> Target<S> {
     /// Puts a new target through events that are [`well_formed`](crate::well_formed). Gives what was
     /// answered in each life of a connection, and the target as it is then, of which nothing was
-    /// sent: its media are those of the World. `Memory`: an allocation failed, also where that would close a connection.
+    /// sent: its media are those of the World. The answers of the connections that name a target of these, and what its
+    /// units keep, are those that their own events alone give (`isolated`). `Memory`: an allocation failed, also where
+    /// that would close a connection.
     pub fn run(
         alloc: Global,
         config: Config,
@@ -150,6 +153,9 @@ impl<S: Store + Drop> Target<S> {
         ensures media { IfOk result (λ r. WhereSound r.1 ((number : ℕ)
             → media_in r.1.units number ≡ media (record { directory = known_in config; units = units.items })
             (plain_history events.now) number)) }
+        ensures isolated { IfOk result (λ r. WhereSound r.1 ((number : ℕ)
+            → GivesItsOwn (record { directory = known_in config; units = units.items }) number (events_view events.now)
+            (map (λ output. output.items) r.0.items) (media_in r.1.units number))) }
     {
         let mut target = Target::new(alloc, config, units)?;
         let mut rows = Vec::new(alloc);

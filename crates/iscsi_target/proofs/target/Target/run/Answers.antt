@@ -2,7 +2,7 @@ use Rattle.std.proofs.Common.{◌≡◌, ◌<◌, List, [], length, take, sym, a
 use Rattle.std.proofs.lemmas.List.{take_all}
 use Rattle.iscsi_target.specs.Known.{known_in}
 use Rattle.iscsi_target.specs.History.{open_after}
-use Rattle.iscsi_target.specs.Events.{event_view, plain_history}
+use Rattle.iscsi_target.specs.Events.{event_view, events_view, plain_history}
 use Rattle.scsi_unit.specs.Units.{UnitStates}
 use Rattle.iscsi_target.specs.Output.{outputs, media, media_in}
 use Rattle.iscsi_target.specs.Stands.{Stands}
@@ -14,6 +14,7 @@ use Rattle.iscsi_target.proofs.Sound.{sure_as}
 use Rattle.iscsi_target.proofs.Standing.{units_stand}
 use Rattle.iscsi_target.proofs.Running.{new_runs, finished_outputs}
 use Rattle.iscsi_target.proofs.Tracking.{comes, none_open}
+use Rattle.iscsi_target.proofs.Isolation.{gives_its_own}
 use Rattle.iscsi_target.proofs.target.Target.run.Goals as goal
 
 pub loop-event-init : goal.loop-event-init
@@ -71,3 +72,8 @@ returns-clause-media g c = λ sound number.
     let P : List Event → Type 0 = λ l. media_in c.loop-event.target.units number
     ≡ media (record { directory = known_in c.args.config; units = c.args.units.items }) (plain_history l) number in
     subst P all (ap (λ (units : List UnitStates). media_in units number) (units_stand _ (λ k. 0) _ _ (c.loop-event.invariant.1 sound).stands)))
+
+pub returns-clause-isolated : goal.returns-clause-isolated
+returns-clause-isolated g c = λ sound number.
+    gives_its_own (record { directory = known_in c.args.config; units = c.args.units.items }) number (events_view c.args.events.now) _ _
+    c.requires.well_formed (returns-clause-outputs g c sound) (returns-clause-media g c sound number)
