@@ -6,30 +6,12 @@ blocks are changed whole or not at all, and where they are changed the command w
 """
 
 import errno
-import os
-import socket
-import subprocess
-import tempfile
-from concurrent.futures import ThreadPoolExecutor
-from contextlib import contextmanager
-from pathlib import Path
 from typing import NamedTuple
 
 import notation
 import pdu
+from failing_serve import LENGTH, Failed, Script, each_call, run
 
-LIMIT = 20  # seconds that anything here may take
-AT_ONCE = 4  # runs beside each other
-LENGTH = 4096 * 512
-CONFIG = """listen = "127.0.0.1:0"
-[[target]]
-name = "t1"
-[[target.unit]]
-lun = 0
-kind = "disk"
-serial = "D0"
-file = "{}"
-"""
 LOGIN = '[Login-Request I T CSG=1 NSG=3 ITT=16 CmdSN=1 | "InitiatorName={}" 00 "TargetName=t1" 00 "InitialR2T=No" 00]'
 READY = "[TEST-UNIT-READY F ITT=1 CmdSN=1]"
 WRITE = "[SCSI-Command {} ITT={} CmdSN={} ExpectedDataTransferLength={} CDB={} | {}]"
@@ -49,7 +31,6 @@ PARTS = [
     (1, DATA.format(4, 0, 256, 77, 256)),
     (0, DATA.format(2, 3, 851968, 66, 196608)),
 ]
-SENT = [(c, notation.data(text, {})) for c, text in PARTS]
 
 
 class Command(NamedTuple):
@@ -68,18 +49,6 @@ MISCOMPARED = 5  # the part whose command finds a difference
 READ_ERROR, WRITE_ERROR, NOT_READY = ((3, 0x1100), (3, 0x0C00), (4, 0x4400))
 
 
-class Failed(Exception):
-    """A run did not end as it must."""
-
-
-class Ended(NamedTuple):
-    """The answer to each part, or None; the disk; the status, where the program ended by itself; how many calls failed."""
-    answers: list
-    disk: bytes
-    status: int | None
-    failures: int
-
-
 def received(client, count):
     """So many bytes, or None where the connection has ended before."""
     data = b""
@@ -91,72 +60,21 @@ def received(client, count):
     return data
 
 
-def answer_of(client, sent):
+def exchange(client, sent):
     """Sends a part, and gives the PDU that it is answered by, or None where the connection has ended."""
     try:
         client.sendall(sent)
         header = received(client, pdu.HEADER)
         length = header and int.from_bytes(header[5:8], "big")
         segment = header and received(client, length + pdu.padding(length))
-        return None if segment is None else header + segment
+        return (None, False) if segment is None else (header + segment, True)
     except TimeoutError:
         raise Failed("a part is not answered, and the connection is open") from None
     except OSError:
-        return None
+        return None, False
 
 
-@contextmanager
-def started(program, shim, folder, report, settings):
-    """The program on a disk of zeros, and the port that it listens on, or None where it has ended."""
-    (folder / "disk").write_bytes(bytes(LENGTH))
-    (folder / "config.toml").write_text(CONFIG.format(folder / "disk"), encoding="ascii")
-    chosen = {f"FAIL_{name.upper()}": str(value) for name, value in settings.items()}
-    inherited = {**os.environ, "LD_PRELOAD": str(shim), **chosen, "FAIL_REPORT": str(report.fileno())}
-    with subprocess.Popen([program, "serve", "--config", folder / "config.toml"], env=inherited,
-                          pass_fds=[report.fileno()], stdin=subprocess.DEVNULL, stdout=subprocess.PIPE,
-                          stderr=subprocess.DEVNULL) as process:
-        try:
-            port = process.stdout.readline().decode().strip().rpartition(":")[2]
-            yield process, int(port) if port else None
-        finally:
-            process.kill()
-
-
-def connected(port):
-    """Two initiators, in the order in which they are accepted."""
-    clients = [socket.create_connection(("127.0.0.1", port), LIMIT) for _ in range(2)]
-    for client in clients:
-        client.setsockopt(socket.IPPROTO_TCP, socket.TCP_NODELAY, 1)
-    return clients
-
-
-def run(program, shim, **settings):
-    """One run, in which the calls fail that the settings name."""
-    with tempfile.TemporaryDirectory() as folder, tempfile.TemporaryFile() as report:
-        folder, answers = Path(folder), [None] * len(SENT)
-        with started(program, shim, folder, report, settings) as (process, port):
-            try:
-                clients = connected(port) if port else []
-            except OSError:
-                clients = []
-            alive = set(range(len(clients)))
-            for n, (c, sent) in enumerate(SENT):
-                if c in alive:
-                    answers[n] = answer_of(clients[c], sent)
-                    alive -= {c} if answers[n] is None else set()
-            for client in clients:
-                client.close()
-            status = ended_by_itself(process, answers)
-        failures = os.fstat(report.fileno()).st_size // len("failed\n")
-        return Ended(answers, (folder / "disk").read_bytes(), status, failures)
-
-
-def ended_by_itself(process, answers):
-    """The status of a program that has ended; where an initiator has no last answer it may be about to end."""
-    try:
-        return process.wait(0 if all(answers[-2:]) else 0.2)
-    except subprocess.TimeoutExpired:
-        return None
+SCRIPT = Script(2, [(c, notation.data(text, {})) for c, text in PARTS], exchange)
 
 
 def sense_of(answer):
@@ -188,8 +106,7 @@ def check_starved(plain, ended):
     """Each initiator's answers are the first of those of the plain run. A program that ends has run out of memory."""
     if ended.status not in (None, 3):
         raise Failed(f"the program ended with status {ended.status}")
-    starved = {c for (c, _), answer in zip(SENT, ended.answers) if answer is None}
-    if ended.status is None and len(starved) > 1:
+    if ended.status is None and len(ended.closed) > 1:
         raise Failed("one call failed, and both connections were closed")
     for answer, wanted in zip(ended.answers, plain.answers):
         if answer not in (None, wanted):
@@ -217,32 +134,20 @@ class Writes:
 
     def each(self, check, **settings):
         """Lets each call fail, and gives how many there are."""
-        plain = run(self.program, self.shim)
+        plain = run(SCRIPT, self.program, self.shim)
         check_disk(plain)
         if None in plain.answers or sense_of(plain.answers[MISCOMPARED]) != (0x0E, 0x1D00):
             raise Failed("the plain run is not answered as it must be")
         if any(plain.answers[command.part][3] for command in COMMANDS):
             raise Failed("a command of the plain run is not GOOD")
 
-        def one(number):
-            ended = run(self.program, self.shim, number=number, **settings)
-            try:
-                check_disk(ended)
-                check(plain, ended)
-            except Failed as fault:
-                raise Failed(f"call {number}: {fault}") from None
+        def checked(number):
+            ended = run(SCRIPT, self.program, self.shim, number=number, **settings)
+            check_disk(ended)
+            check(plain, ended)
             return ended.failures
 
-        calls = 0
-        with ThreadPoolExecutor(AT_ONCE) as pool:
-            while True:
-                failures = list(pool.map(one, range(calls + 1, calls + 1 + AT_ONCE)))
-                calls += sum(map(bool, failures))
-                if not all(failures):
-                    break
-        if not calls:
-            raise Failed("no call failed at all")
-        return f"{calls} calls"
+        return each_call(checked)
 
 
 SWEEPS = [
