@@ -1,13 +1,14 @@
 """Three initiators of one target, over `targetd serve`, one of which resets a unit, while an allocation fails.
 
-A has a WRITE (10) of LUN 1 in flight. B has one of LUN 0 in flight, and behind it a READ of LUN 1 and TEST UNIT READYs of
-LUN 0, the last of them held. C reads. A resets LUN 0, which removes B's commands of LUN 0, and its READ is done in
-the same event. Then B's data comes and is dropped, all are told of the reset, and A and B write. Whatever fails, one
-initiator is closed at the most. It was answered the first PDUs of the plain run, and all others, and the disk, are
-as in a run in which that one leaves before the part at which it was closed, or behind it.
+A has a WRITE (10) of LUN 1 in flight. B has one of LUN 0 in flight, and behind it a READ of LUN 1 and TEST UNIT
+READYs of LUN 0, the last of them held. C reads. A resets LUN 0, which removes B's commands of LUN 0, and its READ is
+done in the same event. Then B's data comes and is dropped, all are told of the reset, and A and B write. Whatever
+fails, one initiator is closed at the most. It was answered the first PDUs of the plain run, and all others, and the
+disk, are as in a run in which that one leaves before the part at which it was closed, or behind it.
 """
 
 import errno
+import socket
 from functools import cache
 
 import notation
@@ -24,7 +25,7 @@ READ = "[SCSI-Command F R LUN={} ITT=3 CmdSN={} ExpectedDataTransferLength=2048 
 READY = "[TEST-UNIT-READY F LUN=0 ITT={} CmdSN={}]"
 RESET = "[Task-Management-Request I Function=5 LUN=0 ITT=3 CmdSN=2 ReferencedTaskTag=0xffffffff]"
 
-# What is sent, in this order, each part with a ping behind it: what comes up to the answer of that is the part's answer.
+# What is sent, in this order, each part with a ping behind it: its answer is what comes up to that of the ping.
 PARTS = [
     (A, LOGIN.format("a")), (B, LOGIN.format("b")), (C, LOGIN.format("c")),
     (A, WRITE.format(1, 1, 0, 11, 256)),
@@ -51,7 +52,7 @@ def exchange(client, sent):
             if not piece:
                 break
             answer += piece
-    except TimeoutError:
+    except socket.timeout:
         raise Failed("a ping is not answered, and the connection is open") from None
     except OSError:
         pass

@@ -42,8 +42,8 @@ class Script(NamedTuple):
 
 
 class Ended(NamedTuple):
-    """The answer to each part, None where it was not sent; the initiators whose connection had ended, each with the part
-    at which; the disk; the status, where the program ended by itself; how many calls failed."""
+    """The answer to each part, None where it was not sent; the initiators whose connection had ended, each with the
+    part at which; the disk; the status, where the program ended by itself; how many calls failed."""
     answers: list
     closed: dict
     disk: bytes

@@ -6,6 +6,7 @@ blocks are changed whole or not at all, and where they are changed the command w
 """
 
 import errno
+import socket
 from typing import NamedTuple
 
 import notation
@@ -68,7 +69,7 @@ def exchange(client, sent):
         length = header and int.from_bytes(header[5:8], "big")
         segment = header and received(client, length + pdu.padding(length))
         return (None, False) if segment is None else (header + segment, True)
-    except TimeoutError:
+    except socket.timeout:
         raise Failed("a part is not answered, and the connection is open") from None
     except OSError:
         return None, False
