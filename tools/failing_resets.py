@@ -69,8 +69,10 @@ SCRIPT = Script(3, [(c, notation.data(text + PING, {})) for c, text in PARTS], e
 
 
 def answered(ended, c):
-    """All that an initiator was answered."""
-    return b"".join(answer or b"" for (sender, _), answer in zip(PARTS, ended.answers) if sender == c)
+    """All that an initiator was answered, but for the TSIH of its login: where a connection is closed before the next
+    is accepted, that one gets its number."""
+    told = b"".join(answer or b"" for (sender, _), answer in zip(PARTS, ended.answers) if sender == c)
+    return told and told[:14] + bytes(2) + told[16:]
 
 
 def seen(ended, others):
