@@ -11,8 +11,8 @@ from pathlib import Path
 
 import notation
 import pdu
-from sockets import (LIMIT, READY_AGAIN, answers, connect, disk_file, held_clients, is_answered, read, requests, reset,
-                     serving)
+from sockets import (LIMIT, READY_AGAIN, UNITS, answer_of, answers, connect, disk_file, held_clients, is_answered, read,
+                     read_10, requests, reset, serving)
 
 MEBIBYTE = 1 << 20
 PING = 262144  # bytes of data, as many as a PDU may bear
@@ -115,6 +115,24 @@ def answers_one_beside_63_who_ping_and_read_nothing():
         assert gives_back(process, before), resident(process) - before
         goes_on(clients[0], 188)
         clients[0].close()
+
+
+def keeps_no_room_of_large_answers_for_those_who_are_idle():
+    with serving(units=UNITS.replace("blocks = 8", "blocks = 2048")) as (process, address):
+        clients = held_clients(address, 64)
+        for n, client in enumerate(clients):
+            assert is_answered(client, n, n), n
+        before = resident(process)
+        for client in clients[1:]:
+            client.sendall(read_10(125, 0, 2048))
+            data, status, _ = answer_of(client)
+            assert (len(data), status) == (MEBIBYTE, 0), (len(data), status)
+        # What is sent to the one that is not idle is the time by which the others give back what they do not need.
+        for number in range(64):
+            goes_on(clients[0], 125 + number)
+        assert gives_back(process, before), resident(process) - before
+        for client in clients:
+            client.close()
 
 
 def holds_no_more_than_a_frame_of_those_who_send_half_a_pdu():
@@ -244,6 +262,7 @@ def writes_all_or_nothing_of_one_who_is_reset_at_any_byte():
 CHECKS = [
     stops_reading_pings_whose_answers_nobody_reads,
     answers_one_beside_63_who_ping_and_read_nothing,
+    keeps_no_room_of_large_answers_for_those_who_are_idle,
     holds_no_more_than_a_frame_of_those_who_send_half_a_pdu,
     answers_the_others_beside_floods_of_headers,
     ends_no_other_session_by_random_pdus,

@@ -23,6 +23,9 @@ use scsi_unit::Units;
 use std::alloc::Global;
 use std::marker::Model;
 
+/// So many bytes of room a connection keeps for its answers while nothing waits on it.
+const MOST_ROOM_KEPT: usize = 65_536;
+
 /// A connection.
 #[derive(Drop)]
 pub(crate) struct Link {
@@ -202,6 +205,20 @@ impl Link {
         ensures { self.new ≡ sent_link self.old n }
     {
         self.waiting.advance(n);
+    }
+
+    /// Where nothing waits, the room of large answers goes back to the system.
+    pub(crate) fn rest(&mut self, alloc: Global)
+        ensures { self.new ≡ self.old }
+    {
+        if !self.waiting.is_empty() {
+            return;
+        }
+        // What was sent counts as room from here on.
+        self.waiting.clear();
+        if self.waiting.capacity() > MOST_ROOM_KEPT {
+            self.waiting = BytesMut::new(alloc);
+        }
     }
 
     /// How many bytes are missing of the header, or of its frame.

@@ -46,6 +46,8 @@ pub struct Target<S: Store> {
     directory: Directory,
     pub(crate) units: Vec<Units<S>>,
     pub(crate) links: Vec<Link>,
+    /// The connection that is looked at next for room that it does not need.
+    resting: usize,
 }
 
 impl<S: Store> Model for Target<S> {
@@ -89,6 +91,7 @@ impl<S: Store + Drop> Target<S> {
             },
             units,
             links,
+            resting: 0,
         })
     }
 }
@@ -191,6 +194,18 @@ impl<S: Store> Target<S> {
     {
         let link = &mut self.links[c];
         link.sent(n);
+        self.rest();
+    }
+
+    /// One connection after the other gives back room that it does not need, so that one that is idle does not keep what
+    /// its largest answer took.
+    fn rest(&mut self)
+        ensures { self.new ≡ self.old }
+    {
+        let c = self.resting % CONNECTIONS;
+        self.resting = c + 1;
+        let link = &mut self.links[c];
+        link.rest(self.alloc);
     }
 
     /// What waits is still sent, and nothing more is read.

@@ -16,6 +16,6 @@ returns-clause-stands g c = λ s sent h at sound.
     let old = c.index_mut-link.ensures.value ∙ get_or_any c.self.inside.links.items c.args.c _ free_link lt in
     let is = ap (λ (l : LinkState). let m : Machine = with_link machine c.args.c l in m) (c.sent.ensures ∙ ap (λ (l : LinkState). sent_link l c.args.n) old)
     ∙ ap (λ (m : Machine). with_link m c.args.c (sent_link (link_at m c.args.c) c.args.n)) c.self.view_is in
-    stands_machine s _ h _ _ (sym is)
+    stands_machine s _ h _ _ (sym (c.rest.ensures ∙ is))
     (sent_stands s sent c.args.self.now h c.args.c c.args.n c.requires.in_range c.requires.waits
-    (at (sound_units _ c.args.self.now (ap (λ (m : Machine). m.units) c.self.view_is) sound))))
+    (at (sound_units _ c.args.self.now (ap (λ (m : Machine). m.units) c.rest.ensures ∙ ap (λ (m : Machine). m.units) c.self.view_is) sound))))
