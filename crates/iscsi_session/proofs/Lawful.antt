@@ -70,7 +70,7 @@ done_in_order past k rest lawful is = queue_after past lawful k rest is
 
 -- ---- each step
 
-moved_by : (b : Bool) (past : Past) (k : ℕ) (rest : List ℕ) → is_command (frame_of past.came k) ≡ b → IsLawful past → due past ≡ k ∷ rest
+pub moved_by : (b : Bool) (past : Past) (k : ℕ) (rest : List ℕ) → is_command (frame_of past.came k) ≡ b → IsLawful past → due past ≡ k ∷ rest
     → IsLawful (moved k past)
 moved_by true past k rest e lawful is = rw e (commands_by (is_in k past.removed) refl)
   where
@@ -113,7 +113,7 @@ unfolding judge
 judge_lawful frame work fits lawful = judged_by _ work.past frame refl fits lawful
 
 -- what a function removes
-ended_lawful : (luns : List ℕ) (b : Bool) (past : Past) (k : ℕ) (rest : List ℕ) → is_function (frame_of past.came k) ≡ b → IsLawful past → due past ≡ k ∷ rest
+pub ended_lawful : (luns : List ℕ) (b : Bool) (past : Past) (k : ℕ) (rest : List ℕ) → is_function (frame_of past.came k) ≡ b → IsLawful past → due past ≡ k ∷ rest
     → IsLawful (moved k past) → IsLawful (ended luns k past)
 ended_lawful luns false past k rest f lawful is moves = rw f moves
 ended_lawful luns true past k rest f lawful is moves =
@@ -121,7 +121,7 @@ ended_lawful luns true past k rest f lawful is moves =
     (lawful_removing (reach_of luns k past) (moved k past) moves))
 
 -- and the number that it plugs
-more_over : (luns : List ℕ) (past : Past) (k : ℕ) (rest : List ℕ) → is_function (frame_of past.came k) ≡ true → IsLawful past → due past ≡ k ∷ rest
+pub more_over : (luns : List ℕ) (past : Past) (k : ℕ) (rest : List ℕ) → is_function (frame_of past.came k) ≡ true → IsLawful past → due past ≡ k ∷ rest
     → IsLawful (moved k past) → ((numbers past).finished ≤ (numbers (ended luns k past)).finished)
     × ((ended luns k past).came ≡ past.came) × ((ended luns k past).params ≡ past.params)
 more_over luns past k rest f lawful is moves =
@@ -148,7 +148,7 @@ behind_lawful luns true past k rest e is lawful ends =
     rw e (plugged_lawful (ref_cmd_sn (frame_of past.came k).header) past (ended luns k past) m.1 m.2 lawful ends m.0
     (plugs_new past (reach_of luns k past) both.1))
 
-act_lawful : (work : Work) (k : ℕ) (rest : List ℕ) → due work.past ≡ k ∷ rest → IsLawful work.past → IsLawful (act k work).past
+pub act_lawful : (work : Work) (k : ℕ) (rest : List ℕ) → due work.past ≡ k ∷ rest → IsLawful work.past → IsLawful (act k work).past
 unfolding act
 act_lawful work k rest is lawful =
     let luns = numbers_of work.units in
@@ -156,7 +156,7 @@ act_lawful work k rest is lawful =
     lawful_answering (act_answers luns k work.past) (behind luns k work.past (ended luns k work.past))
     (behind_lawful luns _ work.past k rest refl is lawful (ended_lawful luns _ work.past k rest refl lawful is moves))
 
-finish_lawful : (work : Work) (k : ℕ) (rest : List ℕ) → ready work.past ≡ k ∷ rest → IsLawful work.past → IsLawful (finish k work).past
+pub finish_lawful : (work : Work) (k : ℕ) (rest : List ℕ) → ready work.past ≡ k ∷ rest → IsLawful work.past → IsLawful (finish k work).past
 unfolding finish
 finish_lawful work k rest is lawful = lawful_answering _ (finished k work.past) (lawful_finished work.past lawful k rest (ready_queue work.past k rest is))
 
@@ -194,7 +194,7 @@ act_all_lawful : (fails : Step → Bool) (place : ℕ) (work : Work) → IsLawfu
 unfolding act_all
 act_all_lawful fails place work lawful = all_lawful fails (Taking place) due act 0 (waiting_in work.past) work act_lawful lawful
 
-ask_lawful : (work : Work) (k : ℕ) (rest : List ℕ) → asking work.past ≡ k ∷ rest → IsLawful work.past → IsLawful (ask k work).past
+pub ask_lawful : (work : Work) (k : ℕ) (rest : List ℕ) → asking work.past ≡ k ∷ rest → IsLawful work.past → IsLawful (ask k work).past
 unfolding ask
 ask_lawful work k rest is lawful = lawful_asked work.past k (asking_came work.past k rest is) lawful
 

@@ -14,6 +14,11 @@ mod Replacing
 pub mod Exchanging
 pub mod Parts
 mod Weights
+mod Pending
+mod Lengths
+mod Limits
+mod Added
+pub mod AtRest
 pub mod Removing
 mod Voiding
 mod Sweeping

@@ -11,7 +11,7 @@ use Rattle.iscsi_order.proofs.Standing.{window_is}
 use Rattle.iscsi_session.specs.Requests.{Past, numbers}
 use Rattle.iscsi_session.specs.declared.transfers.Transfer.{Transfer}
 use Rattle.iscsi_session.specs.Functions.{plug, plugged}
-use Rattle.iscsi_session.specs.State.{SessionState, TaskLists, IsLawful, Stands, transfers_of, functions_of, is_vacant, holding, takes_all}
+use Rattle.iscsi_session.specs.State.{SessionState, TaskLists, IsLawful, Stands, tasks_of, transfers_of, functions_of, is_vacant, holding, takes_all}
 use Rattle.iscsi_session.proofs.Left.{and_true_both}
 use Rattle.iscsi_session.proofs.Kept.{joined}
 use Rattle.iscsi_session.proofs.Exchanging.{exchange_joined}
@@ -70,7 +70,7 @@ wrapped x m n p r le a b = elim (at_most_cases x n a) [
   ]
 ]
 
-near_window : (past : order.Past) (n : ℕ) → windows.IsLawful past → order.in_window past n ≡ true
+pub near_window : (past : order.Past) (n : ℕ) → windows.IsLawful past → order.in_window past n ≡ true
     → distance (order.exp_cmd_sn past) n < past.finished + window - length (taken_numbers past)
 unfolding taken_numbers
 near_window past n lawful inside = elim (leb_tells (2 ^ 32) n) [
@@ -106,6 +106,10 @@ module _ (n : ℕ) (past after : Past) (came : after.came ≡ past.came) (params
   unfolding taken_numbers
   missing_now e = rw (came, params) e
 
+  place_now : distance (order.exp_cmd_sn (numbers after)) n ≡ distance (tasks_of after).next n
+  unfolding tasks_of taken_numbers
+  place_now = refl
+
   pub plugged_lawful : IsLawful past → IsLawful after → (numbers past).finished ≤ (numbers after).finished → order.is_new (numbers past) n ≡ true
       → IsLawful (plugged n after)
   plugged_lawful lawful lawful_after more new =
@@ -116,3 +120,15 @@ module _ (n : ℕ) (past after : Past) (came : after.came ≡ past.came) (params
       omega (arith, near, same_distance, same_handed, same_length, more, few) in
       lawful_with after lawful_after _ (distance (order.exp_cmd_sn (numbers after)) n) plug refl
       (record { number = handed_at; near = near_now; missing = missing_now both.1 }) (free_plug after)
+
+  -- what is remembered then
+  pub plugged_tasks : IsLawful past → IsLawful after → (numbers past).finished ≤ (numbers after).finished → order.is_new (numbers past) n ≡ true
+      → takes_all (holding n plug (tasks_of after)) ≡ tasks_of (plugged n after)
+  plugged_tasks lawful lawful_after more new =
+      let both = both_true (order.in_window (numbers past) n) (order.has_come (numbers past).came (order.index_of (numbers past) n)) new in
+      let near = near_window (numbers past) n lawful.window both.0 in
+      let few = lawful_after.window.finished in
+      let near_now : distance (order.exp_cmd_sn (numbers after)) n + ((numbers after).handed - (numbers after).finished) < window =
+      omega (arith, near, same_distance, same_handed, same_length, more, few) in
+      held_now after lawful_after _ (distance (order.exp_cmd_sn (numbers after)) n) n plug
+      (record { number = handed_at; near = near_now; missing = missing_now both.1 }) place_now

@@ -33,7 +33,7 @@ use Rattle.iscsi_session.specs.Room.{most_sent, most_pieces, room_for}
 header_long : (fields : DataInFields) → length (data_in_header fields) ≡ 48
 header_long fields = refl
 
-segment_long : (bytes : List ℕ) → length (segment bytes) ≤ length bytes + 3
+pub segment_long : (bytes : List ℕ) → length (segment bytes) ≤ length bytes + 3
 segment_long bytes =
     let n = padded (length bytes) - length bytes in
     let zeros : List ℕ = replicate n 0 in

@@ -109,6 +109,7 @@ verdict_served past frame e = rw e refl
 pub record IsFree (past : Past) (frame : Frame) : Type 0 where
   pub fresh : is_fresh past frame ≡ true
   pub tag : (is_command frame || is_function frame) ≡ true → is_live past (initiator_task_tag frame.header) ≡ false
+  pub room : (is_command frame || is_function frame) ≡ true → is_immediate frame.header ≡ true → is_full past ≡ false
 
 data_not_accepted : (past : Past) (frame : Frame) (at : Option ℕ) → data_verdict past frame at ≡ Accepted → ⊥
 data_not_accepted past frame None e = cc
@@ -118,11 +119,11 @@ data_not_accepted past frame (Some k) e = by_fault (is_some (data_fault_of past 
     by_fault true e = cc
     by_fault false e = cc
 
-tests_passed : (fresh over taken faulty : Bool) → by_tests fresh over taken faulty ≡ Accepted → (fresh ≡ true) × (taken ≡ false)
+tests_passed : (fresh over taken faulty : Bool) → by_tests fresh over taken faulty ≡ Accepted → (fresh ≡ true) × (taken ≡ false) × (over ≡ false)
 tests_passed false over taken faulty e = absurd cc
 tests_passed true true taken faulty e = absurd cc
 tests_passed true false true faulty e = absurd cc
-tests_passed true false false faulty e = (refl, refl)
+tests_passed true false false faulty e = (refl, refl, refl)
 
 or_back : (a b : Bool) → (a || b) ≡ false → b ≡ false
 or_back true b e = absurd cc
@@ -147,7 +148,11 @@ tests_free : (past : Past) (frame : Frame) → task_verdict past frame ≡ Accep
 unfolding task_verdict
 tests_free past frame e =
     let t = tests_passed (is_fresh past frame) _ (is_taken past (initiator_task_tag frame.header)) _ e in
-    record { fresh = t.0; tag = λ h. or_back _ _ t.1 }
+    record {
+      fresh = t.0;
+      tag = λ h. or_back _ _ t.1;
+      room = λ h immediate. ap (λ (b : Bool). b && is_full past) (sym immediate) ∙ t.2;
+    }
 
 accepted_by : (opcode : Opcode) (past : Past) (frame : Frame) → opcode_of (opcode_number frame.header) ≡ opcode → verdict_by opcode past frame ≡ Accepted
     → IsFree past frame
@@ -155,14 +160,17 @@ unfolding verdict_by
 accepted_by opcodes.ScsiCommand past frame is e = tests_free past frame e
 accepted_by opcodes.TaskManagement past frame is e = tests_free past frame e
 accepted_by opcodes.NopOut past frame is e =
-    record { fresh = fresh_passed (is_fresh past frame) e; tag = λ h. absurd (no_task frame opcodes.NopOut is (λ x. absurd cc) (λ x. absurd cc) h) }
+    record { fresh = fresh_passed (is_fresh past frame) e; tag = λ h. absurd (no_task frame opcodes.NopOut is (λ x. absurd cc) (λ x. absurd cc) h);
+      room = λ h immediate. absurd (no_task frame opcodes.NopOut is (λ x. absurd cc) (λ x. absurd cc) h) }
 accepted_by opcodes.Logout past frame is e =
-    record { fresh = fresh_passed (is_fresh past frame) e; tag = λ h. absurd (no_task frame opcodes.Logout is (λ x. absurd cc) (λ x. absurd cc) h) }
+    record { fresh = fresh_passed (is_fresh past frame) e; tag = λ h. absurd (no_task frame opcodes.Logout is (λ x. absurd cc) (λ x. absurd cc) h);
+      room = λ h immediate. absurd (no_task frame opcodes.Logout is (λ x. absurd cc) (λ x. absurd cc) h) }
 accepted_by opcodes.Login past frame is e = absurd cc
 accepted_by opcodes.DataOut past frame is e = absurd (data_not_accepted past frame (command_with past (initiator_task_tag frame.header)) e)
 accepted_by opcodes.Snack past frame is e = absurd cc
 accepted_by opcodes.Text past frame is e =
-    record { fresh = fresh_passed (is_fresh past frame) e; tag = λ h. absurd (no_task frame opcodes.Text is (λ x. absurd cc) (λ x. absurd cc) h) }
+    record { fresh = fresh_passed (is_fresh past frame) e; tag = λ h. absurd (no_task frame opcodes.Text is (λ x. absurd cc) (λ x. absurd cc) h);
+      room = λ h immediate. absurd (no_task frame opcodes.Text is (λ x. absurd cc) (λ x. absurd cc) h) }
 accepted_by (opcodes.Other n) past frame is e = absurd cc
 
 pub accepted_free : (past : Past) (frame : Frame) → verdict past frame ≡ Accepted → IsFree past frame

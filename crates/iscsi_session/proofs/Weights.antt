@@ -150,7 +150,7 @@ length_there f q (k ∷ l) same = by_case (f k) refl (length_there f q l same)
     by_case None e rest = let no : q k ≡ false = sym (same k) ∙ ap is_some e in rw (e, no) rest
     by_case (Some frame) e rest = let yes : q k ≡ true = sym (same k) ∙ ap is_some e in rw (e, yes) (ap suc rest)
 
-held_length : (past : Past) → length (there (map (frame_numbered (standing past)) (range_with_len (numbers past).handed window))) ≡ length (held past)
+pub held_length : (past : Past) → length (there (map (frame_numbered (standing past)) (range_with_len (numbers past).handed window))) ≡ length (held past)
 unfolding held
 held_length past =
     length_there (frame_numbered (standing past)) (order.has_come (numbered past.came)) (range_with_len (numbers past).handed window)

@@ -24,5 +24,6 @@ pub mod Room
 pub mod State
 pub mod Runs
 pub mod Tasks
+pub mod Weight
 pub mod Laws
 pub mod Examples

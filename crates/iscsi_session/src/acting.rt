@@ -50,6 +50,7 @@ impl Session {
         ensures err { OnErr result ((turn : ℕ) × ((units : UnitStates) → luns.now ≡ numbers_of units
             → Runs act_all (Some (λ place. Taking place turn)) false self.old self.new
             (output out.old.items orders.old.items) (output out.new.items orders.new.items) units units)) }
+        ensures idle { IfOk result (λ goes_on. goes_on ≡ true → self.new.tasks.due ≡ []) }
         ensures grows { (more : List ℕ) × (out.new.items ≡ out.old.items ++ more) }
         ensures params { self.new.params ≡ self.old.params }
     {
@@ -78,6 +79,7 @@ impl Session {
         ensures orders { OnOk result ((past : Past) → Stands past self.old → orders.new.items ≡ orders.old.items ++ orders_by (due past) past) }
         ensures grows { (more : List ℕ) × (out.new.items ≡ out.old.items ++ more) }
         ensures fewer { IfOk result (λ a. a ≡ Act.Taken → waiting self.new.tasks < waiting self.old.tasks) }
+        ensures idle { IfOk result (λ a. a ≡ Act.Idle → self.new.tasks.due ≡ []) }
         ensures params { self.new.params ≡ self.old.params }
         ensures due { OnErr result (0 < length self.old.tasks.due) }
         ensures err { OnErr result (self.new ≡ self.old) }
@@ -113,6 +115,7 @@ impl Session {
             → out.new.items ≡ out.old.items ++ flat_map spelling (act_answers luns k past) }
         ensures grows { (more : List ℕ) × (out.new.items ≡ out.old.items ++ more) }
         ensures fewer { result ≡ Act.Taken → waiting self.new.tasks < waiting self.old.tasks }
+        ensures idle { result ≡ Act.Idle → self.new.tasks.due ≡ [] }
         ensures params { self.new.params ≡ self.old.params }
     {
         let Some(frame) = self.tasks.finish_due() else {

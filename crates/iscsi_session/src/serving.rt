@@ -10,6 +10,7 @@ ghost use Rattle.iscsi_session.specs.Transfers.{asking, asked_by, r2ts_by};
 ghost use Rattle.iscsi_session.specs.State.{Stands, asking_place, is_waiting};
 ghost use Rattle.iscsi_session.specs.Commands.{carried_out};
 ghost use Rattle.iscsi_session.specs.Steps.{Work, is_doing, is_serving, ready, finish, taken_in, served, settled};
+ghost use Rattle.iscsi_session.specs.Weight.{IsAtRest, Eases};
 ghost use Rattle.iscsi_session.specs.Runs.{output, Starts, Runs, Stops, StepsFirst};
 
 use crate::answers::{make_room, put_r2t};
@@ -73,6 +74,7 @@ impl Session {
             → Runs (λ fails place. served fails place frame) failed false self.old self.new
             (output out.old.items orders.old.items) (output out.new.items orders.new.items) units units)) }
         ensures grows { (more : List ℕ) × (out.new.items ≡ out.old.items ++ more) }
+        ensures idle { IfOk result (λ goes_on. goes_on ≡ true → self.new.tasks.due ≡ []) }
         ensures params { self.new.params ≡ self.old.params }
     {
         if !self.take_in(frame, luns, out, orders)? {
@@ -99,6 +101,7 @@ impl Session {
             → Runs (λ fails place. taken_in fails place frame) failed false self.old self.new
             (output out.old.items orders.old.items) (output out.new.items orders.new.items) units units)) }
         ensures grows { (more : List ℕ) × (out.new.items ≡ out.old.items ++ more) }
+        ensures idle { IfOk result (λ goes_on. goes_on ≡ true → self.new.tasks.due ≡ []) }
         ensures params { self.new.params ≡ self.old.params }
     {
         if let Verdict::Violating = self.take(frame, out)? {
@@ -112,6 +115,7 @@ impl Session {
         ensures stands { OnOk result ((past : Past) → Stands past self.old → Stands (asked_by (asking past) past) self.new) }
         ensures out { OnOk result ((past : Past) → Stands past self.old → out.new.items ≡ out.old.items ++ flat_map spelling (r2ts_by (asking past) past)) }
         ensures grows { (more : List ℕ) × (out.new.items ≡ out.old.items ++ more) }
+        ensures tasks { self.new.tasks ≡ self.old.tasks }
         ensures params { self.new.params ≡ self.old.params }
         ensures due { OnErr result (is_some (asking_place self.old.transfers.list) ≡ true) }
         ensures err { OnErr result (self.new ≡ self.old) }
@@ -144,6 +148,7 @@ impl Session {
         ensures back { AreSound units.new → AreSound units.old }
         ensures sure { AreSure units.old → AreSure units.new }
         ensures grows { (more : List ℕ) × (out.new.items ≡ out.old.items ++ more) }
+        ensures eases { IsAtRest self.old → Eases self.old self.new out.old.items out.new.items }
         ensures params { self.new.params ≡ self.old.params }
     {
         while self.finish(alloc, out, units)? {}
@@ -166,6 +171,7 @@ impl Session {
         ensures back { AreSound units.new → AreSound units.old }
         ensures sure { AreSure units.old → AreSure units.new }
         ensures grows { (more : List ℕ) × (out.new.items ≡ out.old.items ++ more) }
+        ensures eases { IsAtRest self.old → Eases self.old self.new out.old.items out.new.items }
         ensures params { self.new.params ≡ self.old.params }
         ensures waits { OnErr result (is_waiting self.old ≡ false) }
         ensures err { OnErr result (self.new ≡ self.old) }

@@ -9,6 +9,7 @@ use Rattle.iscsi_pdu.specs.Header.{initiator_task_tag}
 use Rattle.iscsi_session.specs.Commands.{carried_out}
 use Rattle.iscsi_session.specs.Steps.{finish}
 use Rattle.iscsi_session.proofs.Settled.{none_steps, none_ready, finish_steps}
+use Rattle.iscsi_session.proofs.AtRest.{done_eases}
 use Rattle.iscsi_session.proofs.session.Session.finish.Goals as goal
 
 pub returns-in_default-clause-steps : goal.returns-in_default-clause-steps
@@ -45,3 +46,11 @@ returns-in_err-done-clause-grows g c = ([], c.make_room.ensures.same ∙ sym (ap
 
 pub returns-clause-sure : goal.returns-clause-sure
 returns-clause-sure g c = rw c.give_back.ensures c.carry_out.ensures.sure
+
+pub returns-clause-eases : goal.returns-clause-eases
+returns-clause-eases g c r =
+    done_eases c.args.self.now c.done-buffer.new.self c.in-Some.frame.now _ c.in_ok-done.done c.args.out.now.items c.done-buffer.new.out.items
+    c.in-Some.ensures.some c.requires c.in_ok-done.ensures.given c.done-buffer.ensures.stands
+    (λ past k others st is. c.done-buffer.ensures.out past k others st is
+    ∙ ap (λ (bytes : List ℕ). bytes ++ flat_map spelling
+    (command_answers (stamp (finished k past)) past.params.values (frame_of past.came k) c.in_ok-done.done)) c.make_room.ensures.same) r

@@ -6,6 +6,7 @@ use Rattle.iscsi_session.proofs.Parts.{on_err_known}
 use Rattle.iscsi_session.proofs.Runs.{none_ran, grows_none, grows_then, queue_count}
 use Rattle.iscsi_session.proofs.Settled.{settled_more, all_settled, settling_stops, settle_stops}
 use Rattle.iscsi_session.proofs.Settled.{queued_in, queue_fits}
+use Rattle.iscsi_session.proofs.AtRest.{eases_none, eases_then}
 use Rattle.iscsi_session.proofs.session.Session.settle.Goals as goal
 
 pub loop-init : goal.loop-init
@@ -15,6 +16,7 @@ loop-init g c = record {
   back = λ sound. sound;
   sure = λ sure. sure;
   grows = grows_none _;
+  eases = λ r. eases_none _ _ r;
   params = refl;
 }
 
@@ -33,9 +35,24 @@ loop-preserved g c = record {
   back = λ sound. c.loop.invariant.back (c.in_ok-finish.ensures.back sound);
   sure = λ sure. c.in_ok-finish.ensures.sure (c.loop.invariant.sure sure);
   grows = grows_then _ _ _ c.loop.invariant.grows c.in_ok-finish.ensures.grows;
+  eases = λ r. (let first = c.loop.invariant.eases r in eases_then _ _ _ _ _ _ first (c.in_ok-finish.ensures.eases first.rests));
   params = c.in_ok-finish.ensures.params ∙ c.loop.invariant.params;
 }
 
 pub returns-clause-ok : goal.returns-clause-ok
 returns-clause-ok g c sound = all_settled _ _ _ _ _ _ _ _ _ _ _ (c.loop.invariant.ran (c.in_ok-finish.ensures.back sound))
     (c.in_ok-finish.ensures.steps sound) c.if-branch.false
+
+pub returns-in_err-finish-clause-eases : goal.returns-in_err-finish-clause-eases
+returns-in_err-finish-clause-eases g c r =
+    let first = c.loop.invariant.eases r in eases_then _ _ _ _ _ _ first (c.in_err-finish.ensures.eases first.rests)
+
+pub returns-clause-eases : goal.returns-clause-eases
+returns-clause-eases g c r =
+    let first = c.loop.invariant.eases r in eases_then _ _ _ _ _ _ first (c.in_ok-finish.ensures.eases first.rests)
+
+pub returns-clause-back : goal.returns-clause-back
+returns-clause-back g c = λ sound. c.loop.invariant.back (c.in_ok-finish.ensures.back sound)
+
+pub returns-clause-sure : goal.returns-clause-sure
+returns-clause-sure g c = λ sure. c.in_ok-finish.ensures.sure (c.loop.invariant.sure sure)

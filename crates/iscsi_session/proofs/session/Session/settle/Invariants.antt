@@ -1,6 +1,7 @@
 use Rattle.std.proofs.Common.{◌≡◌, ◌++◌, ℕ, List, [], length}
 use Rattle.scsi_unit.specs.Units.{AreSound, AreSure}
 use Rattle.iscsi_session.specs.Runs.{output}
+use Rattle.iscsi_session.specs.Weight.{IsAtRest, Eases}
 use Rattle.iscsi_session.specs.Steps.{Doing, ready, finish}
 use Rattle.iscsi_session.proofs.Runs.{Ran, queue_count}
 use Rattle.iscsi_session.proofs.Settled.{queued_in, queue_fits}
@@ -16,6 +17,7 @@ invariant-loop g l = record {
   back : AreSound l.units → AreSound l.initial.units;
   sure : AreSure l.initial.units → AreSure l.units;
   grows : (more : List ℕ) × (l.out.items ≡ l.initial.out.items ++ more);
+  eases : IsAtRest l.initial.self → Eases l.initial.self l.self l.initial.out.items l.out.items;
   params : l.self.params ≡ l.initial.self.params;
 }
 

@@ -1,0 +1,343 @@
+-- Sessions between two frames: how many requests they hold, and what the calls on them add.
+use Rattle.std.proofs.Common.{◌≡◌, ℕ, zero, suc, ◌+◌, ◌-◌, ◌*◌, ◌<◌, ◌≤◌, ◌==◌, ◌||◌, List, [], ◌∷◌, ◌++◌, length, map, get_or, Bool, true, false, cond, not, Option, Some, None, Result, Ok, Err, refl, sym, ap, subst, ◌∙◌, arith, inl, inr}
+use Rattle.std.specs.Prelude.{All, filter, flat_map, is_some, ◌⊎◌, IfOk, OnErr}
+use Rattle.std.specs.List.{range_with_len}
+use Rattle.std.proofs.lemmas.Bool.{eq-eqb, eqb-true, ne_eqb, cases_eq}
+use Rattle.std.proofs.lemmas.List.{length-append, length-map, nil_from_length}
+use Rattle.std.proofs.lemmas.List.Filters.{length-filter_both}
+use Rattle.std.proofs.lemmas.Grind.{flat_map-append}
+use Rattle.iscsi_pdu.specs.Header.{header_length, is_immediate}
+use Rattle.iscsi_pdu.specs.Frames.{Frame}
+use Rattle.iscsi_pdu.specs.Answer.{spelling}
+use Rattle.iscsi_pdu.specs.declared.answer.Answer.{Answer}
+use Rattle.iscsi_order.specs.Window as order
+use Rattle.iscsi_order.specs.Window.{window, taken as taken_numbers}
+use Rattle.scsi_sense.specs.Done.{Outcome}
+use Rattle.scsi_unit.specs.DiskCommands.{most_given}
+use Rattle.scsi_unit.specs.Units.{UnitStates, numbers_of}
+use Rattle.iscsi_login.specs.Values.{AreInRange}
+use Rattle.iscsi_login.specs.declared.params.Params.{Params}
+use Rattle.iscsi_session.specs.Requests.{Request, Past, begun, no_request, frame_of, frames_of, request_at, is_command, is_in, left, commands, others, numbers, numbered, held, due, queue, unfinished, functions, finished, removing, answering, stamp, counted, over, taken, place_of}
+use Rattle.iscsi_session.specs.Functions.{FunctionReach, reached}
+use Rattle.iscsi_session.specs.Answers.{command_answers}
+use Rattle.iscsi_session.specs.State.{SessionState, AreDistinct, IsLawful, Stands, IsDelivered, TaskLists, standing, tasks_of, remembered}
+use Rattle.iscsi_session.specs.Steps.{Step, Work, begun_work, answered_command, is_serving, served}
+use Rattle.iscsi_session.specs.Runs.{Output, output, Starts, Leaves, FailsAs, is_failed, Runs, Stops}
+use Rattle.iscsi_session.specs.Weight.{request_weight, pending, weight_with, IsWithinLimits, IsAtRest, Eases, Loads, most_added}
+use Rattle.iscsi_session.proofs.Left.{filter_cong, in_at, in_left, in_left_back, distinct_filter, distinct_left, passes_in, below_of, in_filter, in_filter_back}
+use Rattle.iscsi_session.proofs.Unfinished.{unfinished_without, queue_unfinished}
+use Rattle.iscsi_session.proofs.Moved.{functions_without, lawful_finished}
+use Rattle.iscsi_order.proofs.Standing.{front_within}
+use Rattle.iscsi_session.proofs.Accepted.{begun_lawful, handed_is, counted_append}
+use Rattle.iscsi_session.proofs.Over.{split, acted_counted}
+use Rattle.iscsi_session.proofs.Parts.{parts, due_is, queue_is}
+use Rattle.iscsi_session.proofs.Runs.{lawful_answering}
+use Rattle.iscsi_session.proofs.Taken.{distinct_taken}
+use Rattle.iscsi_session.proofs.Left.{distinct_front}
+use Rattle.iscsi_session.proofs.Pending.{filter_fewer, pending_in, pending_is, pending_finished, pending_removing}
+use Rattle.iscsi_session.proofs.Limits.{immediate_of, immediate_less}
+use Rattle.iscsi_session.proofs.Lengths.{command_long}
+use Rattle.iscsi_session.proofs.Added.{heaviness, Adds, adds_none, pending_answering, immediate_answering, spelled_more, removed_immediate, served_adds}
+
+-- ---- how many are pending
+
+-- of numbers below a limit
+few_below : (p : ℕ → Bool) (limit a n : ℕ) → ((k : ℕ) → p k ≡ true → k < limit) → length (filter p (range_with_len a n)) ≤ limit - a
+few_below p limit a zero below = omega arith
+few_below p limit a (suc n) below = by_case (p a) refl (few_below p limit (a + 1) n below)
+  where
+    by_case : (b : Bool) → p a ≡ b → length (filter p (range_with_len (a + 1) n)) ≤ limit - (a + 1) → length (filter p (range_with_len a (suc n))) ≤ limit - a
+    by_case true e le = let lt = below a e in rw e (omega (arith, le, lt))
+    by_case false e le = rw e (omega (arith, le))
+
+held_few : (past : Past) → IsLawful past → length (held past) ≤ (numbers past).finished + window - (numbers past).handed
+unfolding held
+held_few past lawful =
+    let come : ℕ → Bool = order.has_come (numbered past.came) in
+    omega (
+      arith,
+      length-map (filter come (range_with_len (numbers past).handed window)) (place_of past.came),
+      few_below come ((numbers past).finished + window) (numbers past).handed window (λ k h. lawful.window.within k h),
+    )
+
+-- with those that are over, the queue has all that are taken, where none is due
+queue_counted : (past : Past) → IsLawful past → due past ≡ [] → counted past.came (over past) + counted past.came (queue past) ≡ (numbers past).handed
+queue_counted past lawful idle =
+    let came = past.came in
+    let a = split (λ k. is_command (frame_of came k)) came past.finished in
+    let b = acted_counted past lawful.removed_commands in
+    let c : counted came (commands came past.finished) + counted came (queue past) ≡ counted came (left past.removed (commands came past.acted)) = sym
+    (counted_append came (commands came past.finished) (queue past)) ∙ ap (counted came) lawful.queued in
+    let d : counted came (others came past.finished) ≡ counted came (others came past.acted) = ap (counted came) lawful.at_once in
+    let e : counted came (taken came) ≡ counted came past.acted + counted came (due past) = ap (counted came) lawful.in_order
+    ∙ counted_append came past.acted (due past) in
+    let none : counted came (due past) ≡ 0 = ap (counted came) idle in
+    let f = counted_append came past.finished (filter (λ k. is_in k past.removed) past.acted) in
+    let handed = lawful.handed in
+    omega arith
+
+one_out : (k : ℕ) (names : List ℕ) → is_in k names ≡ true → length (left (k ∷ []) names) + 1 ≤ length names
+unfolding left
+one_out k [] e = absurd cc
+one_out k (x ∷ names) e = by_case (cases_eq x k) e (one_out k names) (filter_fewer _ names)
+  where
+    by_case : (x ≡ k) ⊎ ((x ≡ k) → ⊥) → is_in k (x ∷ names) ≡ true → (is_in k names ≡ true → length (left (k ∷ []) names) + 1 ≤ length names)
+        → length (left (k ∷ []) names) ≤ length names → length (left (k ∷ []) (x ∷ names)) + 1 ≤ length (x ∷ names)
+    by_case (inl same) e further few =
+        let there : is_in x (k ∷ []) ≡ true = rw (eq-eqb k x (sym same)) refl in
+        rw there (omega (arith, few))
+    by_case (inr differs) e further few =
+        let apart : is_in x (k ∷ []) ≡ false = rw (ne_eqb k x (λ h. differs (sym h))) refl in
+        let there : is_in k names ≡ true = rw (ne_eqb x k differs) at e in
+        rw apart (omega (arith, further there))
+
+few_distinct : (some all : List ℕ) → AreDistinct some → ((k : ℕ) → is_in k some ≡ true → is_in k all ≡ true) → length some ≤ length all
+few_distinct [] all distinct within = omega arith
+few_distinct (k ∷ some) all distinct within =
+    let there = within k (rw (eq-eqb k k refl) refl) in
+    let fewer = few_distinct some (left (k ∷ []) all) distinct.1 (λ j h. in_left_back j (k ∷ []) all (within j (behind j h)) (apart j h)) in
+    omega (arith, fewer, one_out k all there)
+  where
+    or_true : (b : Bool) → (b || true) ≡ true
+    or_true true = refl
+    or_true false = refl
+    behind : (j : ℕ) → is_in j some ≡ true → is_in j (k ∷ some) ≡ true
+    behind j h = rw h (or_true (k == j))
+    apart : (j : ℕ) → is_in j some ≡ true → is_in j (k ∷ []) ≡ false
+    apart j h = elim (cases_eq k j) [
+      | inl same ↦ absurd (let no = ap (λ (n : ℕ). is_in n some) same ∙ h in let yes = distinct.0 in cc)
+      | inr differs ↦ rw (ne_eqb k j differs) refl
+    ]
+
+queue_came : (past : Past) → IsLawful past → (k : ℕ) → is_in k (queue past) ≡ true → k < length past.came
+unfolding queue
+queue_came past lawful k e =
+    below_of (length past.came) k past.acted lawful.below
+    (in_filter k (λ a. is_command (frame_of past.came a)) past.acted
+    (in_left k past.finished (commands past.came past.acted) (in_left k past.removed (left past.finished (commands past.came past.acted)) e)))
+
+queue_distinct : (past : Past) → IsLawful past → AreDistinct (queue past)
+unfolding queue
+queue_distinct past lawful =
+    distinct_left past.removed _ (distinct_left past.finished _ (distinct_filter (λ a. is_command (frame_of past.came a)) past.acted
+    (distinct_front past.acted (due past) (subst AreDistinct lawful.in_order (distinct_taken past.came)))))
+
+-- those of the queue that are for immediate delivery are among all that are not finished
+queue_immediate : (past : Past) (q : ℕ → Bool) → IsLawful past → length (filter q (queue past)) ≤ length (filter q (unfinished past))
+queue_immediate past q lawful =
+    few_distinct (filter q (queue past)) (filter q (unfinished past)) (distinct_filter q (queue past) (queue_distinct past lawful))
+    (λ k h. in_filter_back k q (unfinished past) (queue_unfinished past k lawful.below (in_filter k q (queue past) h)) (passes_in k q (queue past) h))
+
+queue_length : (past : Past) → IsLawful past
+    → length (queue past) ≡ counted past.came (queue past) + length (filter (λ k. is_immediate (frame_of past.came k).header) (queue past))
+queue_length past lawful =
+    let p : ℕ → Bool = λ k. is_some (request_at past.came k).number in
+    let q : ℕ → Bool = λ k. not (p k) in
+    let both : length (filter p (queue past)) + length (filter q (queue past)) ≡ length (queue past) = length-filter_both p q (λ k. refl) (queue past) in
+    let same : filter q (queue past) ≡ filter (λ k. is_immediate (frame_of past.came k).header) (queue past) =
+    filter_cong q (λ k. is_immediate (frame_of past.came k).header) (queue past)
+    (λ i d lt. flipped (is_some (request_at past.came (get_or (queue past) i d)).number) (is_immediate (frame_of past.came (get_or (queue past) i d)).header)
+    (lawful.delivered (get_or (queue past) i d) no_request (queue_came past lawful (get_or (queue past) i d) (in_at (queue past) i d lt)))) in
+    omega (arith, both, ap (λ (l : List ℕ). length l) same)
+  where
+    flipped : (a b : Bool) → a ≡ not b → not a ≡ b
+    flipped a true e = rw e refl
+    flipped a false e = rw e refl
+
+pub rest_few : (past : Past) → IsWithinLimits past → due past ≡ [] → pending_in past ≤ 40
+rest_few past w idle =
+    let imm : ℕ → Bool = λ k. is_immediate (frame_of past.came k).header in
+    let few = w.few in
+    let none : length (due past) ≡ 0 = ap (λ (l : List ℕ). length l) idle in
+    omega (
+      arith,
+      held_few past w.lawful,
+      queue_counted past w.lawful idle,
+      queue_length past w.lawful,
+      queue_immediate past imm w.lawful,
+      front_within (numbers past) w.lawful.window,
+      handed_is past,
+      none,
+      few,
+    )
+
+-- ---- the state
+
+rest_pending : (past : Past) (state : SessionState) → state ≡ remembered past → pending state.tasks ≡ pending_in past
+rest_pending past state is = ap (λ (s : SessionState). pending s.tasks) is ∙ pending_is past
+
+pub few_pending : (state : SessionState) → IsAtRest state → pending state.tasks ≤ 40
+few_pending state r = omega (arith, rest_few r.past r.within r.idle, rest_pending r.past state r.remembered)
+
+-- a session at its beginning
+pub begun_rests : (params : Params) → IsAtRest (remembered (begun params))
+unfolding due left taken unfinished functions
+begun_rests params = record {
+  past = begun params;
+  within = record { lawful = begun_lawful params; headers = λ i d lt. absurd (omega (arith, lt)); few = omega arith };
+  idle = refl;
+  remembered = refl;
+}
+
+-- nothing is due where the state says so
+idle_of : (past : Past) (state : SessionState) → Stands past state → state.tasks.due ≡ [] → due past ≡ []
+idle_of past state s none =
+    nil_from_length (due past) (omega (
+      arith,
+      length-map (due past) (frame_of (standing past)),
+      ap (λ (l : List Frame). length l) (sym (due_is past state s) ∙ none),
+    ))
+
+-- ---- a command is done
+
+same_due : (past : Past) (k : ℕ) (more : List Answer) → due (answering more (finished k past)) ≡ due past
+unfolding due
+same_due past k more = refl
+
+finished_immediate : (past : Past) (k : ℕ) → immediate_of (finished k past) ≤ immediate_of past
+finished_immediate past k = immediate_less past (finished k past) (k ∷ []) refl (unfinished_without past k) (functions_without past k)
+
+done_within : (past : Past) (k : ℕ) (others : List ℕ) (done : Outcome) → queue past ≡ k ∷ others → IsWithinLimits past
+    → IsWithinLimits (answered_command done k past)
+done_within past k others done is w =
+    let more = command_answers (stamp (finished k past)) past.params.values (frame_of past.came k) done in
+    let few = w.few in
+    record {
+      lawful = lawful_answering more (finished k past) (lawful_finished past w.lawful k others is);
+      headers = w.headers;
+      few = omega (arith, few, immediate_answering more (finished k past), finished_immediate past k);
+    }
+
+first_of : (past : Past) (state : SessionState) (frame : Frame) (rest : List Frame) → Stands past state → state.tasks.queue ≡ frame ∷ rest
+    → (k : ℕ) × (others : List ℕ) × (queue past ≡ k ∷ others)
+first_of past state frame rest s is = by_line (queue past) refl
+  where
+    by_line : (l : List ℕ) → queue past ≡ l → (k : ℕ) × (others : List ℕ) × (queue past ≡ k ∷ others)
+    by_line [] e = absurd (omega (arith, ap (λ (l : List Frame). length l) (sym is ∙ queue_is past state s ∙ ap (frames_of past.came) e)))
+    by_line (k ∷ others) e = (k, others, e)
+
+pub done_eases : (old new : SessionState) (frame : Frame) (rest : List Frame) (done : Outcome) (before waiting : List ℕ) → old.tasks.queue ≡ frame ∷ rest
+    → AreInRange old.params.values → length done.given ≤ most_given
+    → ((past : Past) (k : ℕ) (others : List ℕ) → Stands past old → queue past ≡ k ∷ others → Stands (answered_command done k past) new)
+    → ((past : Past) (k : ℕ) (others : List ℕ) → Stands past old → queue past ≡ k ∷ others
+    → waiting ≡ before ++ flat_map spelling (command_answers (stamp (finished k past)) past.params.values (frame_of past.came k) done))
+    → IsAtRest old → Eases old new before waiting
+done_eases old new frame rest done before waiting is range given stands out r =
+    let past = r.past in
+    let s : Stands past old = record { lawful = r.within.lawful; remembered = r.remembered } in
+    let found = first_of past old frame rest s is in
+    let k = found.0 in
+    let more = command_answers (stamp (finished k past)) past.params.values (frame_of past.came k) done in
+    let after = stands past k found.1 s found.2 in
+    let in_range : AreInRange past.params.values = subst (λ (x : SessionState). AreInRange x.params.values) r.remembered range in
+    record {
+      rests = record {
+        past = answered_command done k past;
+        within = done_within past k found.1 done found.2 r.within;
+        idle = same_due past k more ∙ r.idle;
+        remembered = after.remembered;
+      };
+      lighter = omega (
+        arith,
+        ap (λ (l : List ℕ). length l) (out past k found.1 s found.2),
+        length-append before (flat_map spelling more),
+        command_long (stamp (finished k past)) past.params.values (frame_of past.came k) done in_range given,
+        rest_pending past old r.remembered,
+        rest_pending (answered_command done k past) new after.remembered,
+        pending_answering more (finished k past),
+        pending_finished past k found.1 r.within.lawful found.2,
+      );
+    }
+
+pub eases_none : (old : SessionState) (before : List ℕ) → IsAtRest old → Eases old old before before
+eases_none old before r = record { rests = r; lighter = omega arith }
+
+pub eases_then : (old middle new : SessionState) (before waiting items : List ℕ) → Eases old middle before waiting → Eases middle new waiting items
+    → Eases old new before items
+eases_then old middle new before waiting items a b =
+    let first = a.lighter in
+    let second = b.lighter in
+    record { rests = b.rests; lighter = omega (arith, first, second) }
+
+-- ---- commands are removed
+
+removed_due : (past : Past) (names : List ℕ) → due (removing names past) ≡ due past
+unfolding due
+removed_due past names = refl
+
+pub removing_eases : (reach : FunctionReach) (old new : SessionState) (waiting : List ℕ)
+    → ((past : Past) → Stands past old → Stands (removing (reached reach past) past) new) → IsAtRest old → Eases old new waiting waiting
+removing_eases reach old new waiting stands r =
+    let past = r.past in
+    let names = reached reach past in
+    let after = stands past (record { lawful = r.within.lawful; remembered = r.remembered }) in
+    let few = r.within.few in
+    record {
+      rests = record {
+        past = removing names past;
+        within = record {
+          lawful = after.lawful;
+          headers = r.within.headers;
+          few = omega (arith, few, removed_immediate past names);
+        };
+        idle = removed_due past names ∙ r.idle;
+        remembered = after.remembered;
+      };
+      lighter = omega (
+        arith,
+        rest_pending past old r.remembered,
+        rest_pending (removing names past) new after.remembered,
+        pending_removing past names,
+      );
+    }
+
+-- ---- a frame
+
+run_loads : (frame : Frame) (failed : Option (ℕ → Step)) (goes_on : Bool) (old new : SessionState) (before waiting : Output) (units : UnitStates)
+    → Runs (λ fails place. served fails place frame) failed goes_on old new before waiting units units → length frame.header ≡ header_length
+    → (goes_on ≡ true → new.tasks.due ≡ []) → IsAtRest old → Loads goes_on old new before.bytes waiting.bytes
+run_loads frame failed goes_on old new before waiting units runs whole idle r =
+    let past = r.past in
+    let work = begun_work past units in
+    let fails : Step → Bool = is_failed failed 0 in
+    let starts : Starts work old units = record { lawful = r.within.lawful; remembered = r.remembered; units = refl; goes_on = refl } in
+    let leaves = runs.leads 0 fails work (λ step of. refl) starts in
+    let few = rest_few past r.within r.idle in
+    let after = (served fails 0 frame work).past in
+    let adds = served_adds fails 0 frame work whole r.within few in
+    let added = adds.added in
+    record {
+      rests = λ on. record {
+        past = after;
+        within = adds.within;
+        idle = idle_of after new (record { lawful = leaves.lawful; remembered = leaves.remembered }) (idle on);
+        remembered = leaves.remembered;
+      };
+      heavier = omega (
+        arith,
+        added,
+        ap (λ (l : List Answer). length (flat_map spelling l)) leaves.answers,
+        spelled_more past.answers leaves.more,
+        ap (λ (l : List ℕ). length l) leaves.spelled,
+        length-append before.bytes (flat_map spelling leaves.more),
+        rest_pending past old r.remembered,
+        rest_pending after new leaves.remembered,
+      );
+    }
+
+abbrev pub goes_on_by : {E : Type 0} → Result Bool E → Bool
+goes_on_by (Ok goes_on) = goes_on
+goes_on_by (Err e) = false
+
+pub serve_loads : {E : Type 0} (result : Result Bool E) (frame : Frame) (luns : List ℕ) (old new : SessionState) (before waiting : Output) (units : UnitStates)
+    → luns ≡ numbers_of units
+    → IfOk result (λ goes_on. (units : UnitStates) → luns ≡ numbers_of units
+    → Runs (λ fails place. served fails place frame) None goes_on old new before waiting units units)
+    → OnErr result (Stops is_serving (λ failed. (units : UnitStates) → luns ≡ numbers_of units
+    → Runs (λ fails place. served fails place frame) failed false old new before waiting units units))
+    → IfOk result (λ goes_on. goes_on ≡ true → new.tasks.due ≡ []) → length frame.header ≡ header_length → IsAtRest old
+    → Loads (goes_on_by result) old new before.bytes waiting.bytes
+serve_loads (Ok goes_on) frame luns old new before waiting units numbers ok err idle whole r =
+    run_loads frame None goes_on old new before waiting units (ok units numbers) whole idle r
+serve_loads (Err e) frame luns old new before waiting units numbers ok err idle whole r =
+    run_loads frame (Some err.step) false old new before waiting units (err.leads units numbers) whole (λ on. absurd cc) r

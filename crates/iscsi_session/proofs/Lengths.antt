@@ -1,0 +1,206 @@
+-- How many bytes the answers of a session take at most.
+use Rattle.std.proofs.Common.{◌≡◌, ℕ, zero, suc, ◌+◌, ◌*◌, ◌/◌, ◌%◌, ◌<◌, ◌≤◌, ◌==◌, ◌&&◌, min, List, [], ◌∷◌, ◌++◌, length, take, drop, Bool, true, false, cond, not, ltb, Option, Some, None, Result, Ok, Err, refl, sym, ap, ◌∙◌, arith, append-nil}
+use Rattle.std.specs.Prelude.{flat_map, option_map}
+use Rattle.std.specs.Int.{div_ceil}
+use Rattle.std.proofs.lemmas.Bool.{ltb-false}
+use Rattle.std.proofs.lemmas.Grind.{div_ceil_times, flat_map-append}
+use Rattle.std.proofs.lemmas.Nat.{div-add-mod'}
+use Rattle.std.proofs.Math.Nat.{suc-mul, mul-le-mul_left}
+use Rattle.std.proofs.lemmas.List.{length-append, length-take}
+use Rattle.iscsi_pdu.specs.Header.{header_length, initiator_task_tag, lun_field}
+use Rattle.iscsi_pdu.specs.Frames.{Frame}
+use Rattle.iscsi_pdu.specs.Segment.{segment, most_data}
+use Rattle.iscsi_pdu.specs.Answer.{spelling}
+use Rattle.iscsi_pdu.specs.declared.answer.Answer.{Answer}
+use Rattle.iscsi_pdu.specs.declared.answer.Answer.TheVariants as answers
+use Rattle.iscsi_pdu.specs.declared.header.Opcode.{Opcode}
+use Rattle.iscsi_pdu.specs.declared.header.Opcode.TheVariants as opcodes
+use Rattle.iscsi_pdu.specs.declared.reject.RejectReason.{RejectReason}
+use Rattle.iscsi_pdu.specs.declared.reject.RejectReason.TheVariants as reasons
+use Rattle.iscsi_pdu.specs.declared.r2t.R2t.{R2t}
+use Rattle.iscsi_pdu.specs.declared.stamp.Stamp.{Stamp}
+use Rattle.iscsi_pdu.specs.declared.task_management_response.TaskResult.{TaskResult}
+use Rattle.iscsi_pdu.specs.declared.text_response.TextStep.{TextStep}
+use Rattle.iscsi_pdu.specs.LogoutRequest.{logout_reason}
+use Rattle.iscsi_login.specs.declared.params.Params.{Params}
+use Rattle.iscsi_login.specs.declared.values.Values.{Values}
+use Rattle.iscsi_login.specs.Values.{AreInRange}
+use Rattle.iscsi_transfer.specs.DataIn.{piece_count}
+use Rattle.iscsi_transfer.specs.declared.task.Ask.{Ask}
+use Rattle.iscsi_pdu.specs.ScsiCommand.{is_read, is_write}
+use Rattle.scsi_sense.specs.Done.{Outcome}
+use Rattle.scsi_sense.specs.declared.sense.Sense.{Sense}
+use Rattle.scsi_unit.specs.DiskCommands.{most_given}
+use Rattle.iscsi_exchange.specs.ExchangeState.{ExchangeState}
+use Rattle.iscsi_exchange.specs.Exchange.{TextPiece, IsShort, hears}
+use Rattle.iscsi_exchange.proofs.Short.{hears_short}
+use Rattle.iscsi_session.specs.Judging.{reserved_tag, reject}
+use Rattle.iscsi_session.specs.Texts.{text_answer}
+use Rattle.iscsi_session.specs.Acts.{ping_answers, closes, logout_answer, act_answers_by}
+use Rattle.iscsi_session.specs.Requests.{Past, frame_of, stamp}
+use Rattle.iscsi_session.specs.Transfers.{ask_of, next_transfer_tag, r2t_for, r2t_answers, r2t_of}
+use Rattle.iscsi_session.specs.Answers.{data_sent, sent_pieces, data_answers, scsi_answer, command_answers}
+use Rattle.iscsi_session.specs.Room.{most_sent}
+use Rattle.iscsi_session.specs.Weight.{request_weight}
+use Rattle.iscsi_session.proofs.Room.{segment_long, data_fits}
+
+-- ---- each answer
+
+pub one_spelled : (a : Answer) → length (flat_map spelling (a ∷ [])) ≡ length (spelling a)
+one_spelled a = ap (λ (l : List ℕ). length l) (append-nil (spelling a))
+
+pub reject_long : (reason : RejectReason) (numbers : Stamp) (frame : Frame) → length frame.header ≡ header_length
+    → length (spelling (reject reason numbers frame)) ≤ 99
+reject_long reason numbers frame whole = omega (arith, whole, segment_long frame.header)
+
+text_long : (numbers : Stamp) (piece : Option TextPiece) (frame : Frame) → length frame.header ≡ header_length → IsShort piece
+    → length (spelling (text_answer numbers piece frame)) ≤ 262240
+text_long numbers None frame whole short = omega (arith, reject_long reasons.InvalidField numbers frame whole)
+text_long numbers (Some piece) frame whole short = omega (arith, short, segment_long piece.text)
+
+logout_long : (numbers : Stamp) (params : Params) (frame : Frame) → length frame.header ≡ header_length
+    → length (spelling (logout_answer numbers params frame)) ≤ 99
+logout_long numbers params frame whole =
+    by_case (closes params frame) (logout_reason frame.header == 1) (logout_reason frame.header == 2) refl refl refl
+  where
+    by_case : (a b c : Bool) → closes params frame ≡ a → (logout_reason frame.header == 1) ≡ b → (logout_reason frame.header == 2) ≡ c
+        → length (spelling (logout_answer numbers params frame)) ≤ 99
+    by_case true b c e f g = rw e (omega arith)
+    by_case false true c e f g = rw (e, f) (omega arith)
+    by_case false false true e f g = rw (e, f, g) (omega arith)
+    by_case false false false e f g = rw (e, f, g) (reject_long reasons.InvalidField numbers frame whole)
+
+ping_long : (numbers : Stamp) (values : Values) (frame : Frame) → length (flat_map spelling (ping_answers numbers values frame)) ≤ 262240
+ping_long numbers values frame = by_tag (initiator_task_tag frame.header == reserved_tag) refl
+  where
+    by_tag : (b : Bool) → (initiator_task_tag frame.header == reserved_tag) ≡ b → length (flat_map spelling (ping_answers numbers values frame)) ≤ 262240
+    by_tag true e = rw e (omega arith)
+    by_tag false e =
+        let limit = min values.max_recv_data_segment_length most_data in
+        let answer : Answer = answers.NopIn (record { initiator_task_tag = initiator_task_tag frame.header; stamp = numbers; body = take limit frame.body }) in
+        let long : length (spelling answer) ≤ 262240 = omega (arith, segment_long (take limit frame.body), length-take limit frame.body) in
+        rw e (omega (arith, one_spelled answer, long))
+
+-- a request that is no SCSI Command is answered no more than this
+pub most_answered : (o : Opcode) (result : TaskResult) (exchange : ExchangeState) (numbers : Stamp) (params : Params) (frame : Frame)
+    → length frame.header ≡ header_length → length (flat_map spelling (act_answers_by o result exchange numbers params frame)) ≤ 262240
+most_answered opcodes.ScsiCommand result exchange numbers params frame whole = omega arith
+most_answered opcodes.NopOut result exchange numbers params frame whole = ping_long numbers params.values frame
+most_answered opcodes.Logout result exchange numbers params frame whole =
+    omega (arith, one_spelled (logout_answer numbers params frame), logout_long numbers params frame whole)
+most_answered opcodes.TaskManagement result exchange numbers params frame whole = omega arith
+most_answered opcodes.Login result exchange numbers params frame whole = omega arith
+most_answered opcodes.Text result exchange numbers params frame whole =
+    omega (
+      arith,
+      one_spelled (text_answer numbers (hears exchange frame params).piece frame),
+      text_long numbers (hears exchange frame params).piece frame whole (hears_short exchange frame params),
+    )
+most_answered opcodes.DataOut result exchange numbers params frame whole = omega arith
+most_answered opcodes.Snack result exchange numbers params frame whole = omega arith
+most_answered (opcodes.Other n) result exchange numbers params frame whole = omega arith
+
+-- ---- a SCSI Command
+
+response_long : (numbers : Stamp) (frame : Frame) (done : Outcome) (data_ins : ℕ) → length (spelling (scsi_answer numbers frame done data_ins)) ≤ 68
+unfolding scsi_answer
+response_long numbers frame done data_ins = by_sense done.sense refl
+  where
+    by_sense : (o : Option Sense) → done.sense ≡ o → length (spelling (scsi_answer numbers frame done data_ins)) ≤ 68
+    by_sense None e = rw e (omega arith)
+    by_sense (Some sense) e = rw e (omega arith)
+
+-- a burst is cut into pieces of which only the last is short
+pieces_of_burst : (burst segment : ℕ) → 512 ≤ burst → 512 ≤ segment → 512 * div_ceil burst segment ≤ 2 * burst
+pieces_of_burst burst segment long some = by_count (div_ceil burst segment) refl
+  where
+    by_count : (d : ℕ) → div_ceil burst segment ≡ d → 512 * d ≤ 2 * burst
+    by_count zero e = omega arith
+    by_count (suc d) e =
+        let above : div_ceil burst segment * segment < burst + segment = (div_ceil_times burst segment (omega arith)).1 in
+        let is : div_ceil burst segment * segment ≡ suc d * segment = ap (λ (n : ℕ). n * segment) e in
+        let next : suc d * segment ≡ d * segment + segment = suc-mul d segment in
+        let wide : d * 512 ≤ d * segment = mul-le-mul_left d some in
+        omega (arith, above, is, next, wide)
+
+few_pieces : (n burst segment : ℕ) → 512 ≤ burst → 512 ≤ segment → 512 * piece_count n burst segment ≤ 2 * n + 1024
+few_pieces n burst segment long some =
+    let q = n / burst in
+    let r = n % burst in
+    let d = div_ceil burst segment in
+    let parts : q * burst + r ≡ n = div-add-mod' n burst in
+    let each : d * 512 ≤ 2 * burst = omega (arith, pieces_of_burst burst segment long some) in
+    let whole : q * (d * 512) ≤ q * (2 * burst) = mul-le-mul_left q each in
+    let first : q * (d * 512) ≡ 512 * (q * d) = grind arith in
+    let second : q * (2 * burst) ≡ 2 * (q * burst) = grind arith in
+    let above : div_ceil r segment * segment < r + segment = (div_ceil_times r segment (omega arith)).1 in
+    let below : r < burst = omega arith in
+    let left : 512 * div_ceil r segment ≤ r + 1024 = last_part (div_ceil r segment) refl in
+    omega (arith, parts, whole, first, second, left)
+  where
+    last_part : (d : ℕ) → div_ceil (n % burst) segment ≡ d → 512 * div_ceil (n % burst) segment ≤ n % burst + 1024
+    last_part zero e = omega (arith, e)
+    last_part (suc d) e =
+        let r = n % burst in
+        let above : div_ceil r segment * segment < r + segment = (div_ceil_times r segment (omega arith)).1 in
+        let is : div_ceil r segment * segment ≡ suc d * segment = ap (λ (m : ℕ). m * segment) e in
+        let next : suc d * segment ≡ d * segment + segment = suc-mul d segment in
+        let wide : d * 512 ≤ d * segment = mul-le-mul_left d some in
+        omega (arith, above, is, next, wide, e)
+
+most_sent_fits : (frame : Frame) → most_sent frame ≤ most_given
+most_sent_fits frame = by_kind (is_read frame.header && not (is_write frame.header)) refl
+  where
+    by_kind : (b : Bool) → (is_read frame.header && not (is_write frame.header)) ≡ b → most_sent frame ≤ most_given
+    by_kind true e = rw e (omega arith)
+    by_kind false e = rw e (omega arith)
+
+-- all that a command is answered is less than it counts for
+pub command_long : (numbers : Stamp) (values : Values) (frame : Frame) (done : Outcome) → AreInRange values → length done.given ≤ most_given
+    → length (flat_map spelling (command_answers numbers values frame done)) ≤ request_weight
+command_long numbers values frame done range given =
+    let sent = data_sent frame done in
+    let pieces_of_it = data_answers numbers values frame sent in
+    let response = scsi_answer numbers frame done (length (sent_pieces values sent)) in
+    let joined : length (flat_map spelling (pieces_of_it ++ response ∷ [])) ≡ length (flat_map spelling pieces_of_it ++ flat_map spelling (response ∷ [])) =
+    ap (λ (l : List ℕ). length l) (flat_map-append spelling pieces_of_it (response ∷ [])) in
+    let pieces = few_pieces (most_sent frame) values.max_burst_length values.max_recv_data_segment_length range.burst range.segment in
+    omega (
+      arith,
+      joined,
+      length-append (flat_map spelling pieces_of_it) (flat_map spelling (response ∷ [])),
+      one_spelled response,
+      response_long numbers frame done (length (sent_pieces values sent)),
+      data_fits numbers values frame done range given,
+      pieces,
+      most_sent_fits frame,
+    )
+
+-- ---- an R2T
+
+r2t_long : (lun : List ℕ) (r : R2t) → r.lun ≡ lun → length lun ≤ 8 → length (spelling (answers.R2t r)) ≤ 48
+r2t_long lun r is short = by_lun lun is short
+  where
+    by_lun : (lun : List ℕ) → r.lun ≡ lun → length lun ≤ 8 → length (spelling (answers.R2t r)) ≤ 48
+    by_lun [] e le = rw e (omega arith)
+    by_lun (a ∷ []) e le = rw e (omega arith)
+    by_lun (a ∷ b ∷ []) e le = rw e (omega arith)
+    by_lun (a ∷ b ∷ c ∷ []) e le = rw e (omega arith)
+    by_lun (a ∷ b ∷ c ∷ d ∷ []) e le = rw e (omega arith)
+    by_lun (a ∷ b ∷ c ∷ d ∷ f ∷ []) e le = rw e (omega arith)
+    by_lun (a ∷ b ∷ c ∷ d ∷ f ∷ g ∷ []) e le = rw e (omega arith)
+    by_lun (a ∷ b ∷ c ∷ d ∷ f ∷ g ∷ h ∷ []) e le = rw e (omega arith)
+    by_lun (a ∷ b ∷ c ∷ d ∷ f ∷ g ∷ h ∷ i ∷ []) e le = rw e (omega arith)
+    by_lun (a ∷ b ∷ c ∷ d ∷ f ∷ g ∷ h ∷ i ∷ j ∷ more) e le = absurd (omega (arith, le))
+
+pub ask_long : (past : Past) (k : ℕ) → length (flat_map spelling (r2t_of past k)) ≤ 48
+unfolding r2t_of
+ask_long past k = by_ask (ask_of past k)
+  where
+    by_ask : (o : Option Ask) → length (flat_map spelling (r2t_answers (option_map (r2t_for (frame_of past.came k).header (next_transfer_tag past) (stamp past)) o)))
+        ≤ 48
+    by_ask None = omega arith
+    by_ask (Some ask) =
+        let header = (frame_of past.came k).header in
+        let r = r2t_for header (next_transfer_tag past) (stamp past) ask in
+        omega (arith, one_spelled (answers.R2t r), r2t_long (lun_field header) r refl (omega (arith, length-take 8 (drop 8 header))))

@@ -1,0 +1,208 @@
+-- What a session may hold stays small: each step keeps its past within limits, and adds little.
+use Rattle.std.proofs.Common.{◌≡◌, ℕ, zero, suc, ◌+◌, ◌-◌, ◌*◌, ◌<◌, ◌≤◌, ◌&&◌, ◌||◌, List, [], ◌∷◌, ◌++◌, length, map, Bool, true, false, cond, not, ltb, Option, Some, None, refl, sym, ap, subst, ◌∙◌, arith, append-nil}
+use Rattle.std.specs.Prelude.{All, filter, flat_map, is_some}
+use Rattle.std.specs.List.{range_with_len}
+use Rattle.std.proofs.lemmas.Bool.{ltb-true}
+use Rattle.std.proofs.lemmas.List.{length-append, length-map}
+use Rattle.std.proofs.lemmas.List.Elements.{All-push, filter-append}
+use Rattle.std.proofs.lemmas.Grind.{flat_map-append}
+use Rattle.iscsi_pdu.specs.Header.{header_length, is_immediate, cmd_sn, initiator_task_tag, opcode_of, opcode_number}
+use Rattle.iscsi_pdu.specs.Frames.{Frame}
+use Rattle.iscsi_pdu.specs.Answer.{spelling}
+use Rattle.iscsi_pdu.specs.TaskManagement.{ref_cmd_sn}
+use Rattle.iscsi_pdu.specs.declared.answer.Answer.{Answer}
+use Rattle.iscsi_order.specs.Window as order
+use Rattle.iscsi_order.specs.Window.{taken as taken_numbers}
+use Rattle.iscsi_order.specs.Serial.{distance}
+use Rattle.scsi_sense.specs.Done.{Outcome}
+use Rattle.scsi_unit.specs.DiskCommands.{most_given}
+use Rattle.scsi_unit.specs.Units.{numbers_of}
+use Rattle.iscsi_login.specs.Values.{AreInRange}
+use Rattle.iscsi_login.specs.declared.params.Params.{Params}
+use Rattle.iscsi_session.specs.declared.verdict.Verdict.{Verdict}
+use Rattle.iscsi_session.specs.declared.verdict.Verdict.TheVariants.{Ignored, Dropped, Rejected, Violating, Accepted, Feeding}
+use Rattle.iscsi_session.specs.Requests.{Request, Past, DataOut, SentR2t, begun, request_at, frame_of, is_command, is_function, is_in, left, numbers, held, due, queue, unfinished, functions, accepted, moved, finished, removing, answering, stamp}
+use Rattle.iscsi_session.specs.Functions.{immediate_in, plug, plugged, reached, plugs, function_result}
+use Rattle.iscsi_session.specs.Judging.{is_full, verdict, judged, reject}
+use Rattle.iscsi_session.specs.Transfers.{command_with, fed, asking, asked, r2t_of}
+use Rattle.iscsi_session.specs.Texts.{exchange_of}
+use Rattle.iscsi_session.specs.Acts.{reach_of, act_answers, ended, behind, acted}
+use Rattle.iscsi_session.specs.Answers.{command_answers}
+use Rattle.iscsi_session.specs.State.{IsLawful, TaskLists, tasks_of, kept}
+use Rattle.iscsi_session.specs.Steps.{Step, Judging, Taking, Asking, Work, reaches, take_step, judge, act, ask, answered_command, first_steps, one_by_one, waiting_in, act_all, ask_due, taken_in, served}
+use Rattle.iscsi_session.specs.Weight.{request_weight, pending, IsWithinLimits}
+use Rattle.iscsi_session.proofs.Left.{filter_cong, left_more, left_none, and_true_both}
+use Rattle.iscsi_session.proofs.Taken.{request_before, request_new}
+use Rattle.iscsi_session.proofs.Kept.{joined, Below, of_kind, kept_of, kept_joined, kept_in, all_came, below_kept, kind_same, command_no_function, function_no_command}
+use Rattle.iscsi_session.proofs.Unfinished.{unfinished_without}
+use Rattle.iscsi_session.proofs.Moved.{functions_without, lawful_finished}
+use Rattle.iscsi_session.proofs.Accepted.{begun_lawful, HasFreeTag, finished_below, removed_below, now, with, IsAhead, lawful_now, admitted, lawful_with, held_now}
+use Rattle.iscsi_session.proofs.Parts.{both_true, fresh_is, accepted_now, accepted_with}
+use Rattle.iscsi_session.proofs.Verdicts.{IsFree, accepted_free}
+use Rattle.iscsi_session.proofs.Feeding.{free_by_past, lawful_fed}
+use Rattle.iscsi_session.proofs.Runs.{lawful_answering}
+use Rattle.iscsi_session.proofs.Plugging.{near_window, plugged_tasks}
+use Rattle.iscsi_session.proofs.Ending.{ended_function, plugs_new}
+use Rattle.iscsi_session.proofs.Removing.{lawful_removing}
+use Rattle.iscsi_session.proofs.Answered.{acted_same, command_answers_none, function_is}
+use Rattle.iscsi_session.proofs.Lawful.{moved_by, more_over, act_lawful, ask_lawful}
+use Rattle.iscsi_session.proofs.Pending.{pending_in, pending_is, pending_held, filter_fewer, pending_command, pending_other, pending_finished, pending_removing}
+use Rattle.iscsi_session.proofs.Lengths.{one_spelled, reject_long, most_answered, command_long, ask_long}
+
+-- ---- the requests for immediate delivery that are not finished
+
+abbrev pub immediate_of : Past → ℕ
+immediate_of past = immediate_in past (unfinished past) + immediate_in past (functions past)
+
+fewer_still : (p q : ℕ → Bool) (names : List ℕ) → length (filter q (filter p names)) ≤ length (filter q names)
+fewer_still p q [] = omega arith
+fewer_still p q (k ∷ names) = by_case (p k) (q k) refl refl (fewer_still p q names)
+  where
+    by_case : (a b : Bool) → p k ≡ a → q k ≡ b → length (filter q (filter p names)) ≤ length (filter q names)
+        → length (filter q (filter p (k ∷ names))) ≤ length (filter q (k ∷ names))
+    by_case true true e f le = rw (e, f) (omega (arith, le))
+    by_case true false e f le = rw (e, f) le
+    by_case false true e f le = rw (e, f) (omega (arith, le))
+    by_case false false e f le = rw (e, f) le
+
+left_few : (q : ℕ → Bool) (gone names : List ℕ) → length (filter q (left gone names)) ≤ length (filter q names)
+unfolding left
+left_few q gone names = fewer_still _ q names
+
+-- some are over, and the same came
+pub immediate_less : (past after : Past) (gone : List ℕ) → after.came ≡ past.came → unfinished after ≡ left gone (unfinished past)
+    → functions after ≡ left gone (functions past) → immediate_of after ≤ immediate_of past
+immediate_less past after gone came a b =
+    let q : ℕ → Bool = λ k. is_immediate (frame_of past.came k).header in
+    let same : immediate_of after ≡ length (filter q (unfinished after)) + length (filter q (functions after)) =
+    ap (λ (l : List Request). length (filter (λ k. is_immediate (frame_of l k).header) (unfinished after))
+    + length (filter (λ k. is_immediate (frame_of l k).header) (functions after))) came in
+    omega (
+      arith,
+      same,
+      ap (λ (l : List ℕ). length (filter q l)) a,
+      ap (λ (l : List ℕ). length (filter q l)) b,
+      left_few q gone (unfinished past),
+      left_few q gone (functions past),
+    )
+
+-- one more came
+one_more : (c i : Bool) (kind : Frame → Bool) (past : Past) (x : Request) → kind x.frame ≡ c → is_immediate x.frame.header ≡ i
+    → Below past past.finished → Below past past.removed
+    → length (of_kind (λ f. is_immediate f.header) (past.came ++ x ∷ []) (kept_of kind (joined x past)))
+    ≡ length (of_kind (λ f. is_immediate f.header) past.came (kept_of kind past)) + cond (c && i) 1 0
+one_more c i kind past x e h below gone =
+    let q : Frame → Bool = λ f. is_immediate f.header in
+    let came = past.came ++ x ∷ [] in
+    let n = length past.came in
+    let a : of_kind q came (kept_of kind (joined x past)) ≡ of_kind q came (kept_of kind past ++ cond c (n ∷ []) []) =
+    ap (of_kind q came) (kept_joined c kind past x e below gone) in
+    let b : of_kind q came (kept_of kind past ++ cond c (n ∷ []) []) ≡ of_kind q came (kept_of kind past) ++ of_kind q came (cond c (n ∷ []) []) =
+    filter-append (λ k. q (frame_of came k)) (kept_of kind past) (cond c (n ∷ []) []) in
+    let d : of_kind q came (kept_of kind past) ≡ of_kind q past.came (kept_of kind past) = kind_same q past x (kept_of kind past) (below_kept kind past) in
+    let f : length (of_kind q came (cond c (n ∷ []) [])) ≡ cond (c && i) 1 0 = by_kind c i h in
+    omega (
+      arith,
+      ap (λ (l : List ℕ). length l) (a ∙ b),
+      length-append (of_kind q came (kept_of kind past)) (of_kind q came (cond c (n ∷ []) [])),
+      ap (λ (l : List ℕ). length l) d,
+      f,
+    )
+  where
+    by_kind : (c i : Bool) → is_immediate x.frame.header ≡ i
+        → length (of_kind (λ f. is_immediate f.header) (past.came ++ x ∷ []) (cond c (length past.came ∷ []) [])) ≡ cond (c && i) 1 0
+    by_kind false i h = refl
+    by_kind true true h =
+        let at : is_immediate (frame_of (past.came ++ x ∷ []) (length past.came)).header ≡ true =
+        ap (λ (r : Request). is_immediate r.frame.header) (request_new past.came x) ∙ h in rw at refl
+    by_kind true false h =
+        let at : is_immediate (frame_of (past.came ++ x ∷ []) (length past.came)).header ≡ false =
+        ap (λ (r : Request). is_immediate r.frame.header) (request_new past.came x) ∙ h in rw at refl
+
+pub immediate_joined : (c f i : Bool) (past : Past) (x : Request) → IsLawful past → is_command x.frame ≡ c → is_function x.frame ≡ f
+    → is_immediate x.frame.header ≡ i → immediate_of (joined x past) ≡ immediate_of past + (cond (c && i) 1 0 + cond (f && i) 1 0)
+unfolding unfinished functions
+immediate_joined c f i past x lawful a b h =
+    omega (
+      arith,
+      one_more c i is_command past x a h (finished_below past lawful) (removed_below past lawful),
+      one_more f i is_function past x b h (finished_below past lawful) (removed_below past lawful),
+    )
+
+-- ---- a request is accepted
+
+new_ahead : (past : Past) (lawful : IsLawful past) (n : ℕ) → order.is_new (numbers past) n ≡ true
+    → IsAhead past lawful (order.index_of (numbers past) n) (distance (order.exp_cmd_sn (numbers past)) n)
+unfolding taken_numbers
+new_ahead past lawful n new =
+    let both = both_true (order.in_window (numbers past) n) (order.has_come (numbers past).came (order.index_of (numbers past) n)) new in
+    let near = near_window (numbers past) n lawful.window both.0 in
+    let few = lawful.window.finished in
+    record { number = refl; near = omega arith; missing = both.1 }
+
+next_there : (past : Past) (n : ℕ) → distance (order.exp_cmd_sn (numbers past)) n ≡ distance (tasks_of past).next n
+unfolding tasks_of taken_numbers
+next_there past n = refl
+
+pub record Comes (past after : Past) : Type 0 where
+  pub lawful : IsLawful after
+  pub pending : pending_in after ≤ pending_in past + 1
+  pub immediate : immediate_of after ≤ 8
+
+or_true : (b : Bool) → (b || true) ≡ true
+or_true true = refl
+or_true false = refl
+
+was_not : (b : Bool) → not b ≡ false → b ≡ true
+was_not true e = refl
+was_not false e = absurd cc
+
+none_more : (b : Bool) → cond {A = ℕ} (b && false) 1 0 ≡ 0
+none_more true = refl
+none_more false = refl
+
+came_now : (past : Past) (frame : Frame) → is_immediate frame.header ≡ true → IsFree past frame → IsLawful past → immediate_of past ≤ 8
+    → Comes past (accepted frame past)
+came_now past frame h free lawful few =
+    let tag = free_by_past past frame free.tag in
+    let more : pending (tasks_of past) + 1 ≡ pending (tasks_of (joined (now frame) past)) =
+    omega (arith, length-append (tasks_of past).due (frame ∷ []), ap pending (admitted past lawful frame)) in
+    let joins = immediate_joined _ _ true past (now frame) lawful refl refl h in
+    subst (Comes past) (accepted_now past frame h) (record {
+      lawful = lawful_now past lawful frame h tag;
+      pending = omega (arith, more, pending_is past, pending_is (joined (now frame) past));
+      immediate = by_kind (is_command frame) (is_function frame) refl refl joins;
+    })
+  where
+    by_kind : (c f : Bool) → is_command frame ≡ c → is_function frame ≡ f
+        → immediate_of (joined (now frame) past) ≡ immediate_of past + (cond (is_command frame && true) 1 0 + cond (is_function frame && true) 1 0)
+        → immediate_of (joined (now frame) past) ≤ 8
+    by_kind false false a b is = let at = rw (a, b) at is in omega (arith, at)
+    by_kind true f a b is =
+        let no = command_no_function frame a in
+        let room = ltb-true (immediate_of past) 8 (was_not _ (free.room (ap (λ (x : Bool). x || is_function frame) a) h)) in
+        let at = rw (a, no) at is in omega (arith, at, room)
+    by_kind false true a b is =
+        let room = ltb-true (immediate_of past) 8 (was_not _ (free.room (ap (λ (x : Bool). is_command frame || x) b ∙ or_true (is_command frame)) h)) in
+        let at = rw (a, b) at is in omega (arith, at, room)
+
+came_with : (past : Past) (frame : Frame) → is_immediate frame.header ≡ false → IsFree past frame → IsLawful past → immediate_of past ≤ 8
+    → Comes past (accepted frame past)
+came_with past frame h free lawful few =
+    let n = cmd_sn frame.header in
+    let tag = free_by_past past frame free.tag in
+    let k = order.index_of (numbers past) n in
+    let at = new_ahead past lawful n (sym (fresh_is past frame h) ∙ free.fresh) in
+    let after = joined (with k frame) past in
+    let joins = immediate_joined _ _ false past (with k frame) lawful refl refl h in
+    let tasks = held_now past lawful k (distance (order.exp_cmd_sn (numbers past)) n) n frame at (next_there past n) in
+    subst (Comes past) (accepted_with past frame h) (record {
+      lawful = lawful_with past lawful k _ frame h at tag;
+      pending = omega (arith, ap pending tasks, pending_held n frame (tasks_of past), pending_is past, pending_is after);
+      immediate = omega (arith, joins, none_more (is_command frame), none_more (is_function frame), few);
+    })
+
+pub came_by : (b : Bool) (past : Past) (frame : Frame) → is_immediate frame.header ≡ b → IsFree past frame → IsLawful past → immediate_of past ≤ 8
+    → Comes past (accepted frame past)
+came_by true past frame h free lawful few = came_now past frame h free lawful few
+came_by false past frame h free lawful few = came_with past frame h free lawful few
