@@ -341,3 +341,11 @@ serve_loads (Ok goes_on) frame luns old new before waiting units numbers ok err 
     run_loads frame None goes_on old new before waiting units (ok units numbers) whole idle r
 serve_loads (Err e) frame luns old new before waiting units numbers ok err idle whole r =
     run_loads frame (Some err.step) false old new before waiting units (err.leads units numbers) whole (λ on. absurd cc) r
+
+-- a session that begins has no requests
+begun_none : (params : Params) → pending_in (begun params) ≡ 0
+unfolding held due queue left taken taken_numbers
+begun_none params = refl
+
+pub begun_pending : (params : Params) → pending (remembered (begun params)).tasks ≡ 0
+begun_pending params = pending_is (begun params) ∙ begun_none params

@@ -209,6 +209,7 @@ reset_moves b machine header target = record {
   closing = tt;
   units = reset_units header target machine;
   keeps = λ d reads. (moves_none b machine).keeps d reads;
+  eases = (moves_none b machine).eases;
 }
 
 pub reset_apart : (machine : Machine) (header : List ℕ) (target : ℕ) → KeepsApart target machine (reset_machine header target machine)

@@ -18,6 +18,7 @@ use Rattle.iscsi_target.specs.Life.{Life, Phase, LoggingIn, FullFeature, Closing
 use Rattle.iscsi_target.specs.World.{Setting, World, present, past_of, units_at, with_units, settled_by, settle_one, settle_for}
 use Rattle.iscsi_target.specs.Machine.{LinkState, Machine, IsSound, IsWithin, link_at, with_link, free_link, is_reading, is_logging_in, closed}
 use Rattle.iscsi_target.specs.Stands.{phase_for, link_of}
+use Rattle.iscsi_target.specs.Bounded.{Adds}
 use Rattle.iscsi_target.specs.Serving.{Serves, Moves, kept, is_done_at, is_done_by, is_taken_at, SettlesOne, SettlesFor, Takes, first_of, starved_by, ended_unless}
 use Rattle.iscsi_target.specs.declared.phase.Phase.{Phase as CodePhase}
 use Rattle.iscsi_target.specs.declared.phase.Phase.TheVariants as phases
@@ -132,12 +133,13 @@ pub session_moves : (b c : ℕ) (machine : Machine) (framer : List ℕ) (phase :
     (units units_then : UnitStates) → c < length machine.links
     → viewed framer phase before ≡ link_at machine c → phase ≡ phases.FullFeature state → IsTargetBelow (length machine.units) state.params.target
     → units_at state.params.target machine.units ≡ units
-    → (more : List ℕ) × (waiting ≡ before ++ more) → (AreSound units_then → AreSound units) → (AreSure units → AreSure units_then)
+    → (more : List ℕ) × (waiting ≡ before ++ more) → (c ≢ b → Adds 0 (link_at machine c) (viewed framer (phases.FullFeature then_) waiting))
+    → (AreSound units_then → AreSound units) → (AreSure units → AreSure units_then)
     → Moves b None machine (record machine {
       units = with_units state.params.target units_then machine.units;
       links = slice_set machine.links c (viewed framer (phases.FullFeature then_) waiting);
     })
-session_moves b c machine framer phase before waiting state then_ units units_then lt link is below target grows back sure =
+session_moves b c machine framer phase before waiting state then_ units units_then lt link is below target grows light back sure =
     let new = viewed framer (phases.FullFeature then_) waiting in
     let all = with_units state.params.target units_then machine.units in
     let old_half : framer ≡ (link_at machine c).half = sym (cond_true (is_reading phase) framer [] (reads_in phase state is))
@@ -146,7 +148,7 @@ session_moves b c machine framer phase before waiting state then_ units units_th
     changes_moves b machine all c new lt
     (session_changes (link_at machine c) new (ap (λ (l : LinkState). is_reading l.phase) (sym link) ∙ reads_in phase state is) refl
     (grows.0, grows.1 ∙ ap (λ (l : LinkState). l.waiting ++ grows.0) link)) own (session_half (link_at machine c) new refl old_half)
-    (length_with state.params.target units_then machine.units)
+    (length_with state.params.target units_then machine.units) light
     (units_back machine (slice_set machine.links c new) state.params.target units_then below (λ sound. subst AreSound (sym target) (back sound)))
     (units_sure machine (slice_set machine.links c new) state.params.target units_then (λ s. sure (subst AreSure target s)))
 
@@ -170,18 +172,19 @@ pub settle_moves : (b c target : ℕ) (machine : Machine) (framer : List ℕ) (p
     (units units_then : UnitStates) → c < length machine.links
     → viewed framer phase before ≡ link_at machine c → phase ≡ phases.FullFeature state → state.params.target ≡ Some target
     → target < length machine.units → units_at state.params.target machine.units ≡ units
-    → (more : List ℕ) × (waiting ≡ before ++ more) → (AreSound units_then → AreSound units) → (AreSure units → AreSure units_then)
+    → (more : List ℕ) × (waiting ≡ before ++ more) → (c ≢ b → Adds 0 (link_at machine c) (viewed framer (phases.FullFeature then_) waiting))
+    → (AreSound units_then → AreSound units) → (AreSure units → AreSure units_then)
     → Moves b None machine (record machine {
       units = slice_set machine.units target units_then;
       links = slice_set machine.links c (viewed framer (phases.FullFeature then_) waiting);
     })
-settle_moves b c target machine framer phase before waiting state then_ units units_then lt link is same below at grows back sure =
+settle_moves b c target machine framer phase before waiting state then_ units units_then lt link is same below at grows light back sure =
     let P : Option ℕ → Type 0 = λ t. Moves b None machine (record machine {
       units = with_units t units_then machine.units;
       links = slice_set machine.links c (viewed framer (phases.FullFeature then_) waiting);
     }) in
     subst P same (session_moves b c machine framer phase before waiting state then_ units units_then lt link is
-    (subst (IsTargetBelow (length machine.units)) (sym same) below) at grows back sure)
+    (subst (IsTargetBelow (length machine.units)) (sym same) below) at grows light back sure)
 
 -- the target as a session's call left it
 abbrev pub called : Machine → ℕ → Option ℕ → UnitStates → LinkState → Machine
@@ -273,7 +276,7 @@ pub serve_moves : {E : Type 0} (r : Result Bool E) (c : ℕ) (machine middle : M
 serve_moves r c machine middle framer phase before waiting state then_ lt link is below grows e =
     let new = viewed framer (phases.FullFeature then_) waiting in
     let units = units_at state.params.target machine.units in
-    let first = session_moves c c machine framer phase before waiting state then_ units units lt link is below refl grows (λ sound. sound) (λ sure. sure) in
+    let first = session_moves c c machine framer phase before waiting state then_ units units lt link is below refl grows (λ other. absurd (other refl)) (λ sound. sound) (λ sure. sure) in
     let now : Moves c None machine (with_link machine c new) = subst (Moves c None machine) (same_units machine c state.params.target new) first in
     moves_as c (starved_by c r) machine (ended_unless r c (with_link machine c new)) middle e
     (left_moves r c machine (with_link machine c new) (omega (arith, lt, length-set machine.links c new))

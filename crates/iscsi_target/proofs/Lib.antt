@@ -22,14 +22,17 @@ mod Isolation
 mod Doing
 mod AtWork
 mod Sound
+mod Bounding
 mod Moving
 mod Apart
 mod Asking
 mod Frames
 mod Held
+mod Heavier
 mod Carrying
 pub mod Standing
 mod Taking
+mod Wanting
 mod Feeding
 mod Tables
 mod Rows

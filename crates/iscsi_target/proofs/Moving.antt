@@ -16,10 +16,12 @@ use Rattle.iscsi_login.specs.declared.reply.Reply.TheVariants.{GoOn, Full, Refus
 use Rattle.iscsi_login.specs.LoginState.{IsTargetBelow}
 use Rattle.iscsi_target.specs.World.{left, units_at, with_units, changed_units, lookup_for}
 use Rattle.iscsi_target.specs.Machine.{LinkState, Machine, IsSound, IsSure, Feeds, link_at, with_link, is_free, is_reading, is_closing, free_link, shut_link, closed, session_in_phase, sessions, is_logging_in, gone_on_link, refused_link, begun_link, shut_older, replied, logged_in}
+use Rattle.iscsi_target.specs.Bounded.{Adds}
 use Rattle.iscsi_target.specs.Serving.{KeepsHalf, Moves, IsClosed, first_of, first_starved}
 use Rattle.iscsi_target.specs.declared.fault.Starved.{Starved}
 use Rattle.iscsi_target.specs.declared.phase.Phase.{Phase}
 use Rattle.iscsi_target.specs.declared.phase.Phase.TheVariants as phases
+use Rattle.iscsi_target.proofs.Bounding.{adds_none, adds_then, adds_shut}
 use Rattle.iscsi_target.proofs.Sound.{sound_set, sure_set, closed_sound, closed_sure, logged_in_sound, logged_in_sure, closed_units, logged_in_units}
 
 -- ---- one call after the other
@@ -40,6 +42,7 @@ moves_none b machine = record {
   closing = tt;
   units = refl;
   keeps = λ c reads. keeps_same (link_at machine c) reads;
+  eases = λ d other. adds_none 0 (link_at machine d);
 }
 
 keeps_by : (b : Bool) (half : List ℕ) (now after : LinkState) → is_reading now.phase ≡ b → KeepsHalf half now
@@ -83,6 +86,7 @@ moves_then k x y given now after a b = record {
   units = b.units ∙ a.units;
   keeps = λ c reads. keeps_by (is_reading (link_at now c).phase) (link_at given c).half (link_at now c) (link_at after c) refl (a.keeps c reads)
       (b.keeps c) (b.feeds.still c);
+  eases = λ d other. adds_then 0 0 (link_at given d) (link_at now d) (link_at after d) (a.eases d other) (b.eases d other);
 }
 
 pub moves_as : (b : ℕ) (x : Option ℕ) (given now after : Machine) → after ≡ now → Moves b x given now → Moves b x given after
@@ -152,10 +156,10 @@ changes_feeds b machine units c link lt ch own =
 
 pub changes_moves : (b : ℕ) (machine : Machine) (units : List UnitStates) (c : ℕ) (link : LinkState) → c < length machine.links
     → Changes (link_at machine c) link → IsOwn b machine c
-    → KeepsHalf (link_at machine c).half link → length units ≡ length machine.units
+    → KeepsHalf (link_at machine c).half link → length units ≡ length machine.units → (c ≢ b → Adds 0 (link_at machine c) link)
     → let after : Machine = record (with_link machine c link) { units = units } in (IsSound after → IsSound machine)
     → (IsSure machine → IsSure after) → Moves b None machine after
-changes_moves b machine units c link lt ch own half count back sure = record {
+changes_moves b machine units c link lt ch own half count light back sure = record {
   back = back;
   sure = sure;
   units = count;
@@ -164,6 +168,10 @@ changes_moves b machine units c link lt ch own half count back sure = record {
   keeps = λ d reads. elim (eqb_tells d c) [
     | inl same ↦ rw same.1 (subst (KeepsHalf (link_at machine c).half) (sym (link_set machine units c link lt)) half)
     | inr differ ↦ subst (KeepsHalf (link_at machine d).half) (sym (link_other machine units c d link differ.1)) (keeps_same (link_at machine d) reads)
+  ];
+  eases = λ d other. elim (eqb_tells d c) [
+    | inl same ↦ rw same.1 (subst (Adds 0 (link_at machine c)) (sym (link_set machine units c link lt)) (light (λ here. other (same.1 ∙ here))))
+    | inr differ ↦ subst (Adds 0 (link_at machine d)) (sym (link_other machine units c d link differ.1)) (adds_none 0 (link_at machine d))
   ];
 }
 
@@ -179,7 +187,7 @@ shut_moves : (b : ℕ) (machine : Machine) (c : ℕ) → c < length machine.link
     → Moves b None machine (with_link machine c (shut_link (link_at machine c)))
 shut_moves b machine c lt r own =
     changes_moves b machine machine.units c (shut_link (link_at machine c)) lt (shuts (link_at machine c) r) own
-    (shut_half (link_at machine c).half (link_at machine c)) refl (λ sound. sound) (λ sure. sure)
+    (shut_half (link_at machine c).half (link_at machine c)) refl (λ other. adds_shut 0 (link_at machine c)) (λ sound. sound) (λ sure. sure)
 
 closed_feeds : (b : ℕ) (machine : Machine) (c : ℕ) → c < length machine.links → is_reading (link_at machine c).phase ≡ true → IsOwn b machine c
     → Feeds b machine (closed machine c)
@@ -192,6 +200,11 @@ closed_keeps : (machine : Machine) (c : ℕ) → c < length machine.links → is
     → KeepsHalf (link_at machine d).half (link_at (closed machine c) d)
 unfolding closed
 closed_keeps machine c lt r d reads = (shut_moves c machine c lt r (own_self c machine)).keeps d reads
+
+closed_eases : (b : ℕ) (machine : Machine) (c : ℕ) → c < length machine.links → is_reading (link_at machine c).phase ≡ true → IsOwn b machine c → (d : ℕ) → d ≢ b
+    → Adds 0 (link_at machine d) (link_at (closed machine c) d)
+unfolding closed
+closed_eases b machine c lt r own d other = (shut_moves b machine c lt r own).eases d other
 
 pub closed_closing : (machine : Machine) (c : ℕ) → c < length machine.links → is_closing (link_at (closed machine c) c).phase ≡ true
 unfolding closed
@@ -207,6 +220,7 @@ closed_when x b machine c lt r own closing = record {
   closing = closing;
   units = closed_units machine c;
   keeps = closed_keeps machine c lt r;
+  eases = closed_eases b machine c lt r own;
 }
 
 pub closed_moves : (b : ℕ) (machine : Machine) (c : ℕ) → c < length machine.links → is_reading (link_at machine c).phase ≡ true → IsOwn b machine c
@@ -263,18 +277,26 @@ plain_moves : (machine : Machine) (units : List UnitStates) (c : ℕ) (link : Li
     (link_at (record (with_link machine c link) { units = units }) d)
 plain_moves machine units c link lt ch half d reads =
     (changes_moves c (record machine { units = units }) units c link lt ch (own_self c (record machine { units = units })) half refl
-    (λ sound. sound) (λ sure. sure)).keeps d reads
+    (λ other. absurd (other refl)) (λ sound. sound) (λ sure. sure)).keeps d reads
+
+plain_eases : (machine : Machine) (units : List UnitStates) (c : ℕ) (link : LinkState) → c < length machine.links → Changes (link_at machine c) link
+    → KeepsHalf (link_at machine c).half link → (d : ℕ) → d ≢ c → Adds 0 (link_at machine d) (link_at (record (with_link machine c link) { units = units }) d)
+plain_eases machine units c link lt ch half d other =
+    (changes_moves c (record machine { units = units }) units c link lt ch (own_self c (record machine { units = units })) half refl
+    (λ differs. absurd (differs refl)) (λ sound. sound) (λ sure. sure)).eases d other
 
 -- what is done for a connection, but for what it makes of units
 pub record Alters (b : ℕ) (given after : Machine) : Type 0 where
   pub feeds : Feeds b given after
   pub keeps : (c : ℕ) → is_reading (link_at given c).phase ≡ true → KeepsHalf (link_at given c).half (link_at after c)
+  pub eases : (d : ℕ) → d ≢ b → Adds 0 (link_at given d) (link_at after d)
 
 alters_then : (b : ℕ) (given now after : Machine) → Alters b given now → Alters b now after → Alters b given after
 alters_then k given now after a b = record {
   feeds = feeds_then k given now after a.feeds b.feeds;
   keeps = λ c reads. keeps_by (is_reading (link_at now c).phase) (link_at given c).half (link_at now c) (link_at after c) refl (a.keeps c reads)
       (b.keeps c) (b.feeds.still c);
+  eases = λ d other. adds_then 0 0 (link_at given d) (link_at now d) (link_at after d) (a.eases d other) (b.eases d other);
 }
 
 alters : (machine : Machine) (units : List UnitStates) (c : ℕ) (link : LinkState) → c < length machine.links → Changes (link_at machine c) link
@@ -283,10 +305,11 @@ alters : (machine : Machine) (units : List UnitStates) (c : ℕ) (link : LinkSta
 alters machine units c link lt ch half = record {
   feeds = changes_feeds c machine units c link lt ch (own_self c machine);
   keeps = plain_moves machine units c link lt ch half;
+  eases = plain_eases machine units c link lt ch half;
 }
 
 alters_none : (b : ℕ) (machine : Machine) → Alters b machine machine
-alters_none b machine = record { feeds = (moves_none b machine).feeds; keeps = (moves_none b machine).keeps }
+alters_none b machine = record { feeds = (moves_none b machine).feeds; keeps = (moves_none b machine).keeps; eases = (moves_none b machine).eases }
 
 is_of_none : (session : Params) (o : Option Params) → is_of session.nexus session.target o ≡ true → o ≡ None → ⊥
 is_of_none session None e n = absurd cc
@@ -330,7 +353,7 @@ older_alters (Some d) given machine session c link units lt reads is e =
     (ap (λ (m : Machine). is_logging_in (link_at m d).phase) is ∙ ap (λ (l : LinkState). is_logging_in l.phase)
     (link_other given units c d link other) ∙ session_past_login session (link_at given d).phase p.1) in
     let m = shut_moves c machine d below there own in
-    record { feeds = m.feeds; keeps = m.keeps }
+    record { feeds = m.feeds; keeps = m.keeps; eases = m.eases }
 
 replied_alters : (reply : Reply) (login : LoginState) (c : ℕ) (machine : Machine) → c < length machine.links
     → is_reading (link_at machine c).phase ≡ true → Alters c machine (replied reply login c machine)
@@ -367,4 +390,5 @@ logged_in_moves machine c login request lt reads =
       closing = tt;
       units = logged_in_units machine c login request;
       keeps = a.keeps;
+      eases = a.eases;
     }

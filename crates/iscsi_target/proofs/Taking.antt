@@ -15,6 +15,7 @@ use Rattle.iscsi_target.specs.History.{Point, Arriving, Before, AtEnd, Mark, Arr
 use Rattle.iscsi_target.specs.Life.{Life, reads}
 use Rattle.iscsi_target.specs.World.{Setting, World, present, reads_life, close, reaching, arrive}
 use Rattle.iscsi_target.specs.Machine.{LinkState, Machine, IsSound, IsSure, Feeds, KeepsPart, link_at, with_link, is_reading, closed, free_link, shut_link, GivesFrame}
+use Rattle.iscsi_target.specs.Bounded.{Adds}
 use Rattle.iscsi_target.specs.Stands.{link_of}
 use Rattle.iscsi_target.specs.Serving.{Serves, IsClosed, Does, is_of_frame, has_place, place_of, is_among, first_of, with_half, KeepsHalf, Moves, Takes, TakesOne, TakesSome, TakesAll}
 use Rattle.iscsi_target.proofs.Arrivals.{long_end, fold-places}
@@ -26,7 +27,9 @@ use Rattle.iscsi_target.proofs.Keeping.{on-arrive}
 use Rattle.iscsi_target.proofs.Doing.{Act, Halves, does_nothing, does_then}
 use Rattle.iscsi_target.proofs.Frames.{idle, arrived, starves}
 use Rattle.iscsi_target.proofs.Apart.{part_none, part_closed, part_halved, part_as, part_then}
-use Rattle.iscsi_target.proofs.Moving.{Changes, reading_open, own_self, feeds_then, closed_then, changes_feeds, closed_moves, starved_moves, moves_as, moves_none}
+use Rattle.iscsi_target.proofs.Bounding.{adds_none, adds_then, adds_more}
+use Rattle.iscsi_target.proofs.Heavier.{closed_loads, halved_adds}
+use Rattle.iscsi_target.proofs.Moving.{link_other, Changes, reading_open, own_self, feeds_then, closed_then, changes_feeds, closed_moves, starved_moves, moves_as, moves_none}
 
 -- ---- the bytes that are kept
 
@@ -84,10 +87,10 @@ some_whole half more frame first behind =
     ap (λ (l : List Frame). map Whole l ++ long_end (is_long (rest half))) first
     ∙ ap (λ (r : List ℕ). Whole frame ∷ (map Whole (frames more) ++ long_end (is_long r))) (sym behind)
 
-no_bytes : arrivals [] ≡ []
+pub no_bytes : arrivals [] ≡ []
 no_bytes = none_whole [] no_frame nothing_long
 
-long_whole : (half : List ℕ) → is_long half ≡ true → arrivals half ≡ TooLong ∷ arrivals []
+pub long_whole : (half : List ℕ) → is_long half ≡ true → arrivals half ≡ TooLong ∷ arrivals []
 unfolding arrivals
 long_whole half long =
     let none = long_is_no_frame half long in
@@ -121,8 +124,9 @@ closed_idle machine c lt = ap (λ (l : LinkState). is_reading l.phase) (get_or-s
 pub takes_frame : (old given new : Machine) (c : ℕ) (frame : Frame) (starved : Option ℕ) → c < connection_limit
     → length old.links ≡ connection_limit → is_reading (link_at old c).phase ≡ true
     → GivesFrame frame (link_at old c).half (link_at given c).half → given ≡ with_link old c (record (link_at old c) { half = (link_at given c).half })
-    → Takes c frame starved given new → Moves c starved given new → KeepsPart c given new → TakesOne c starved old new
-takes_frame old given new c frame starved lt count r gives is takes moves part =
+    → Takes c frame starved given new → Moves c starved given new → KeepsPart c given new → Adds 1 (link_at given c) (link_at new c)
+    → TakesOne c starved old new
+takes_frame old given new c frame starved lt count r gives is takes moves part loads =
     let more = (link_at given c).half in
     let link : link_at given c ≡ record (link_at old c) { half = more } = ap (λ (m : Machine). link_at m c) is
     ∙ get_or-set_same old.links c (record (link_at old c) { half = more }) free_link (omega (arith, count)) in
@@ -151,6 +155,9 @@ takes_frame old given new c frame starved lt count r gives is takes moves part =
       closing = moves.closing;
       part = part_then c old given new reads_given (part_as c old (with_link old c (record (link_at old c) { half = more })) given is
           (part_halved old c more (omega (arith, count)))) part;
+      eases = λ d other. subst (λ (l : LinkState). Adds 0 l (link_at new d)) (ap (λ (m : Machine). link_at m d) is
+          ∙ link_other old old.units c d (record (link_at old c) { half = more }) other) (moves.eases d other);
+      loads = halved_adds 1 (link_at old c) (link_at new c) more (subst (λ (l : LinkState). Adds 1 l (link_at new c)) link loads);
     }
 
 -- a header that names too much data
@@ -181,6 +188,8 @@ takes_long old new c lt count r long is =
       feeds = moves.feeds;
       closing = moves.closing;
       part = part_as c old (closed old c) new is (part_closed old c below);
+      eases = moves.eases;
+      loads = closed_loads 1 old new c below is;
     }
 
 -- an allocation failed before a frame was given
@@ -214,6 +223,8 @@ takes_none old new c lt count r whole is =
       feeds = moves.feeds;
       closing = moves.closing;
       part = part_as c old (closed old c) new is (part_closed old c below);
+      eases = moves.eases;
+      loads = closed_loads 1 old new c below is;
     }
 
 -- ---- so many
@@ -231,6 +242,8 @@ pub record Progress (c : ℕ) (starved : Option ℕ) (first machine : Machine) :
   pub feeds : Feeds c first machine
   pub closing : IsClosed starved machine
   pub part : KeepsPart c first machine
+  pub eases : (d : ℕ) → d ≢ c → Adds 0 (link_at first d) (link_at machine d)
+  pub loads : Adds (length done) (link_at first c) (link_at machine c)
 
 keeps_own : (link : LinkState) → is_reading link.phase ≡ true → KeepsHalf link.half link
 keeps_own link r = record { reading = λ e. refl; idle = λ e. absurd (cc (r, e)) }
@@ -259,6 +272,8 @@ begins machine c lt r = record {
   feeds = (moves_none c machine).feeds;
   closing = tt;
   part = part_none c machine;
+  eases = (moves_none c machine).eases;
+  loads = adds_none 0 (link_at machine c);
 }
 
 -- ---- one more
@@ -393,6 +408,9 @@ goes_on c a b first machine new r p one =
       feeds = feeds_then c first machine new p.feeds one.feeds;
       closing = closed_then a b c machine new p.closing one.feeds one.closing;
       part = part_then c first machine new r p.part one.part;
+      eases = λ d other. adds_then 0 0 (link_at first d) (link_at machine d) (link_at new d) (p.eases d other) (one.eases d other);
+      loads = subst (λ (n : ℕ). Adds n (link_at first c) (link_at new c)) (sym (length-append p.done (one.arrival ∷ [])))
+          (adds_then (length p.done) 1 (link_at first c) (link_at machine c) (link_at new c) p.loads one.loads);
     }
 
 -- ---- all
@@ -437,6 +455,8 @@ ends_idle c starved first machine lt r p =
       feeds = p.feeds;
       closing = p.closing;
       part = p.part;
+      eases = p.eases;
+      loads = adds_more (length p.done) (length (arrivals half0)) (link_at first c) (link_at machine c) count p.loads;
     }
 
 -- nothing whole is left
@@ -471,6 +491,8 @@ ends_whole c starved first machine r none p =
       feeds = p.feeds;
       closing = p.closing;
       part = p.part;
+      eases = p.eases;
+      loads = subst (λ (l : List Arrival). Adds (length l) (link_at first c) (link_at machine c)) (sym all) p.loads;
     }
 
 -- however the first starved is written

@@ -17,6 +17,7 @@ pub use Rattle.iscsi_session.specs.Acts as SessionActs
 pub use Rattle.iscsi_session.specs.Answers
 pub use Rattle.iscsi_session.specs.State
 pub use Rattle.iscsi_session.specs.Steps
+pub use Rattle.iscsi_session.specs.Weight
 pub use Rattle.media_block.specs.Blocks
 pub use Rattle.scsi_unit.specs.Device
 pub use Rattle.scsi_unit.specs.State as UnitState
@@ -30,6 +31,7 @@ pub mod World
 pub mod Output
 pub mod Events
 pub mod Machine
+pub mod Bounded
 pub mod Stands
 pub mod Serving
 pub mod Runs

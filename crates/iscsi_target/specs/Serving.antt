@@ -1,11 +1,12 @@
 -- While frames are taken, the code stands where the World does: what each call makes of both.
-use Rattle.std.specs.Prelude.{◌≡◌, ℕ, ◌+◌, ◌<◌, List, [], ◌∷◌, length, Bool, true, false, if◌then◌else◌, ◌&&◌, not, ◌==◌, nat_lt, Option, Some, None, Result, Ok, Err, ⊤}
+use Rattle.std.specs.Prelude.{◌≡◌, ◌≢◌, ℕ, ◌+◌, ◌<◌, List, [], ◌∷◌, length, Bool, true, false, if◌then◌else◌, ◌&&◌, not, ◌==◌, nat_lt, Option, Some, None, Result, Ok, Err, ⊤}
 use Rattle.std.specs.List.{list_all, fold, enumerate_from}
 use Rattle.iscsi_pdu.specs.Frames.{Frame, rest, is_long}
 use Rattle.iscsi_session.specs.Steps.{Step, Judging, Taking, Asking, Doing, is_doing, is_serving}
 use Rattle.iscsi_target.specs.History.{Point, Arriving, Before, AtEnd, Mark, is_within, Arrival, Whole, arrivals, connection_limit}
 use Rattle.iscsi_target.specs.World.{Setting, World, present, is_marked, arrive, settle_one, settle, settle_for}
 use Rattle.iscsi_target.specs.Machine.{LinkState, Machine, IsSound, IsSure, Feeds, KeepsPart, link_at, is_reading, is_closing, closed}
+use Rattle.iscsi_target.specs.Bounded.{Adds}
 use Rattle.iscsi_target.specs.Stands.{IsQuiet, IsSent, IsFirst, machine_with, are_reached}
 use Rattle.iscsi_target.specs.declared.fault.Starved.{Starved}
 
@@ -82,6 +83,8 @@ pub record Moves (c : ℕ) (starved : Option ℕ) (given after : Machine) : Type
   -- as many targets as before
   pub units : length after.units ≡ length given.units
   pub keeps : (d : ℕ) → is_reading (link_at given d).phase ≡ true → KeepsHalf (link_at given d).half (link_at after d)
+  -- no other connection is heavier than before
+  pub eases : (d : ℕ) → d ≢ c → Adds 0 (link_at given d) (link_at after d)
 
 -- own: a call that takes no memory sets no step off
 abbrev pub is_of_none : ℕ → Mark → Bool
@@ -140,6 +143,8 @@ pub record TakesOne (c : ℕ) (starved : Option ℕ) (old new : Machine) : Type 
   pub feeds : Feeds c old new
   pub closing : IsClosed starved new
   pub part : KeepsPart c old new
+  pub eases : (d : ℕ) → d ≢ c → Adds 0 (link_at old d) (link_at new d)
+  pub loads : Adds 1 (link_at old c) (link_at new c)
 
 abbrev pub place_of : Step → ℕ
 place_of (Judging place) = place
@@ -171,6 +176,8 @@ pub record TakesAll (c : ℕ) (starved : Option ℕ) (old new : Machine) : Type 
   pub feeds : Feeds c old new
   pub closing : IsClosed starved new
   pub part : KeepsPart c old new
+  pub eases : (d : ℕ) → d ≢ c → Adds 0 (link_at old d) (link_at new d)
+  pub loads : Adds (length (arrivals (link_at old c).half)) (link_at old c) (link_at new c)
 
 -- the commands of the sessions of a target are done, or those of one connection
 abbrev pub Settles : ℕ → Option ℕ → Machine → Machine → Type 0

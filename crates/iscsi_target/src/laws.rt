@@ -2,6 +2,7 @@
 
 ghost use Rattle.iscsi_target.specs.History.{ArrivalsInPieces};
 ghost use Rattle.iscsi_target.specs.Isolation.{TargetsAreIsolated, TargetsSeeTheirOwn, StrangersAreAlone};
+ghost use Rattle.iscsi_target.specs.Bounded.{CallsKeepBounded};
 ghost use Rattle.iscsi_target.specs.Laws.{AnswersStay, SureIsSound, SessionsFinishAsTaken, OthersStay};
 
 /// However the bytes of a connection are cut into pieces, the frames that become whole are those of
@@ -43,4 +44,11 @@ pub fn targets_are_isolated()
     ensures selected { TargetsAreIsolated }
     ensures named { TargetsSeeTheirOwn }
     ensures strangers { StrangersAreAlone }
+{}
+
+/// No connection of a new target makes it hold more than it may, and none does where connections open and end, and
+/// where what waits is sent. (What `feed` makes of it is among its clauses.)
+#[tactic(auto, using(crate::proofs::Wanting::calls_keep_bounded))]
+pub fn calls_keep_bounded()
+    ensures { CallsKeepBounded }
 {}

@@ -8,6 +8,7 @@ ghost use Rattle.scsi_unit.specs.Units.{AreSound, AreSure, numbers_of};
 ghost use Rattle.iscsi_login.specs.LoginState.{IsTargetBelow};
 ghost use Rattle.iscsi_login.specs.Session.{is_same_target as is_same};
 ghost use Rattle.iscsi_session.specs.Runs.{output, Runs};
+ghost use Rattle.iscsi_session.specs.Weight.{IsAtRest, Eases};
 ghost use Rattle.iscsi_target.specs.World.{units_at, function_of, reaches_others as reaches_others_by, told_by, losing, lose_one, reset_by, reset as reset_in, carry_out, carry_out_for};
 ghost use Rattle.iscsi_target.specs.History.{connections};
 ghost use Rattle.iscsi_target.specs.Machine.{Machine, KeepsApart};
@@ -73,6 +74,7 @@ fn lose<S: Store>(session: &mut Session, units: &mut Units<S>, function: &Header
         (output waiting []) (output waiting []) units.old units.new }
     ensures back { AreSound units.new → AreSound units.old }
     ensures sure { AreSure units.old → AreSure units.new }
+    ensures eases { (waiting : List ℕ) → IsAtRest session.old → Eases session.old session.new waiting waiting }
     ensures params { session.new.params ≡ session.old.params }
 {
     let has_lost = session.remove(&Reach {

@@ -3,6 +3,8 @@
 ghost use Rattle.std.specs.Prelude.{◌≡◌, ◌<◌, ◌≤◌, ◌+◌, ◌++◌, ◌∷◌, ℕ, List, [], true, false, length, replicate, IsOk, IfOk, IfErr, IfSome, IfNone, OnOk, OnErr};
 ghost use Rattle.std.specs.Result.{IsErrOf};
 ghost use Rattle.iscsi_pdu.specs.Frames.{has_frame, is_long};
+ghost use Rattle.iscsi_pdu.specs.Header.{header_length};
+ghost use Rattle.iscsi_target.specs.Bounded.{Adds, Bounded};
 ghost use Rattle.iscsi_target.specs.History.{Open, Bytes, Gone, Mark, History, arrivals, plain, marked};
 ghost use Rattle.iscsi_target.specs.World.{Setting, present, world};
 ghost use Rattle.iscsi_target.specs.Machine.{LinkState, IsSound, WhereSound, IsSure, Feeds, KeepsPart, free_link, opened_link, sent_link, new_machine, link_at, with_link, closed, joined_session, shut_older, begun, logged_in, is_logging_in, GivesFrame, is_reading, is_open_at, is_closing, want_of};
@@ -132,6 +134,10 @@ impl<S: Store> Target<S> {
         ensures part { KeepsPart c self.old self.new }
         ensures closing { IfErr result (λ starved. is_closing (link_at self.new starved.connection).phase ≡ true) }
         ensures open { (d : ℕ) → is_open_at self.new d ≡ is_open_at self.old d }
+
+        // Where no more comes than is wanted, no connection makes the target hold more than it may.
+        ensures bounded { (s : Setting) (sent : ℕ → ℕ) (h : History) → WhereSound self.old (Stands s sent self.old h)
+            → length piece.now ≤ want_of (link_at self.old c) → Bounded self.old → WhereSound self.new (Bounded self.new) }
         ensures empty { piece.now ≡ [] → IsOk result }
         ensures idle { is_closing (link_at self.old c).phase ≡ true → IsOk result }
     {
@@ -349,6 +355,7 @@ impl<S: Store> Target<S> {
         ensures takes { Takes c frame (first_starved result) self.old self.new }
         ensures moves { Moves c (first_starved result) self.old self.new }
         ensures part { KeepsPart c self.old self.new }
+        ensures loads { length frame.header ≡ header_length → Adds 1 (link_at self.old c) (link_at self.new c) }
     {
         let link = &mut self.links[c];
         match &mut link.phase {
@@ -376,6 +383,7 @@ impl<S: Store> Target<S> {
         ensures takes { Takes c frame.now (first_starved result) self.old self.new }
         ensures moves { Moves c (first_starved result) self.old self.new }
         ensures part { KeepsPart c self.old self.new }
+        ensures loads { Adds 1 (link_at self.old c) (link_at self.new c) }
     {
         if frame.header.opcode() == Opcode::Login {
             return match self.log_in(c, frame) {

@@ -6,6 +6,7 @@ use Rattle.scsi_unit.specs.Units.{AreSound, AreSure}
 use Rattle.iscsi_session.specs.State.{SessionState}
 use Rattle.iscsi_target.specs.World.{function_of, told_by}
 use Rattle.iscsi_target.proofs.Carrying.{losing_runs, told_some, told_none}
+use Rattle.iscsi_session.proofs.AtRest.{removing_eases}
 use Rattle.iscsi_target.proofs.Sound.{told_sound, told_sure}
 use Rattle.iscsi_target.proofs.orders.lose.Goals as goal
 
@@ -22,6 +23,7 @@ returns-then-has_lost g c =
           (told ∙ ap (λ (nexus : NexusName). told_by (function_of function) (lun_field function) nexus c.args.units.now)
           (ap (λ (p : Params). p.nexus) (c.params.ensures ∙ c.remove-has_lost.ensures.params ∙ ap (λ (x : SessionState). x.params) s.remembered))));
       back = λ sound. told_sound function c.params.result.now.nexus c.args.units.now (subst AreSound told sound);
+      eases = λ waiting r. removing_eases _ c.args.session.now c.remove-has_lost.new.self waiting c.remove-has_lost.ensures.stands r;
       sure = λ sure. subst AreSure (sym told) (told_sure function c.params.result.now.nexus c.args.units.now sure);
       params = c.remove-has_lost.ensures.params;
     }
@@ -33,3 +35,7 @@ returns-else-has_lost-clause-runs g c = λ waiting.
     losing_runs c.args.function.now c.args.session.now c.remove-has_lost.new.self waiting c.args.units.now c.args.units.now
     (rw c.luns.ensures at c.remove-has_lost.ensures.stands)
     (λ past s. told_none c.args.function.now past c.args.units.now c.remove-has_lost.result (some past s) c.if-has_lost.false))
+
+pub returns-else-has_lost-clause-eases : goal.returns-else-has_lost-clause-eases
+returns-else-has_lost-clause-eases g c = λ waiting r.
+    removing_eases _ c.args.session.now c.remove-has_lost.new.self waiting c.remove-has_lost.ensures.stands r

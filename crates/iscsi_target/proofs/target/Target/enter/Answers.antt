@@ -5,6 +5,7 @@ use Rattle.iscsi_target.proofs.Apart.{part_login}
 use Rattle.iscsi_target.proofs.Asking.{login_there, still_reading}
 use Rattle.iscsi_target.proofs.Doing.{does_starved}
 use Rattle.iscsi_target.proofs.Frames.{takes_closed, takes_login, takes_starved}
+use Rattle.iscsi_target.proofs.Heavier.{closed_loads, logged_in_loads}
 use Rattle.iscsi_target.proofs.Moving.{own_self, closed_moves, starved_moves, logged_in_moves, moves_as, moves_starved}
 use Rattle.iscsi_target.proofs.target.Target.enter.Goals as goal
 
@@ -56,3 +57,18 @@ returns-in-Ok-clause-part g c = part_login c.args.c c.args.self.now c.log_in.new
 
 pub returns-in-Err-clause-part : goal.returns-in-Err-clause-part
 returns-in-Err-clause-part g c = part_login c.args.c c.args.self.now c.starve.new.self c.requires.logs_in
+
+pub returns-clause-loads : goal.returns-clause-loads
+returns-clause-loads g c =
+    closed_loads 1 c.args.self.now c.close.new.self c.args.c (let lt = c.requires.in_range in omega (arith, c.close.ensures.count)) c.close.ensures.closed
+
+pub returns-in-Ok-clause-loads : goal.returns-in-Ok-clause-loads
+returns-in-Ok-clause-loads g c =
+    let there = login_there (link_at c.args.self.now c.args.c).phase c.requires.logs_in in
+    let lt : c.args.c < length c.args.self.now.links = (let below = c.requires.in_range in omega (arith, c.log_in.ensures.count)) in
+    logged_in_loads c.args.self.now c.log_in.new.self c.args.c there.0 c.args.frame.now lt (c.in-Ok.ensures.ok there.0 there.1)
+
+pub returns-in-Err-clause-loads : goal.returns-in-Err-clause-loads
+returns-in-Err-clause-loads g c =
+    let lt : c.args.c < length c.args.self.now.links = (let below = c.requires.in_range in omega (arith, c.log_in.ensures.count)) in
+    closed_loads 1 c.args.self.now c.starve.new.self c.args.c lt (c.starve.ensures.closed ∙ c.in-Err.ensures.err)

@@ -5,6 +5,7 @@ use Rattle.iscsi_session.specs.State.{SessionState}
 use Rattle.iscsi_target.specs.Machine.{LinkState, Machine, link_at, is_with}
 use Rattle.iscsi_target.specs.declared.phase.Phase.{Phase}
 use Rattle.iscsi_target.specs.declared.phase.Phase.TheVariants as phases
+use Rattle.iscsi_target.proofs.Bounding.{session_adds}
 use Rattle.iscsi_target.proofs.Apart.{apart_none, apart_as, apart_from, session_apart, with_session}
 use Rattle.iscsi_target.proofs.Held.{viewed, held_here, held_same, called, settle_moves, same_session, same_target, other_target, units_here}
 use Rattle.iscsi_target.proofs.Moving.{moves_none, moves_as, moves_from}
@@ -102,7 +103,9 @@ returns-then-is_same_target g c =
       moves = λ b. moves_from b None c.args.self.now machine _ (sym c.self.view_is)
           (settle_moves b c.args.d c.args.target machine c.link.inside.framer c.link.inside.phase c.link.inside.waiting.items c.link.inside.waiting.items
           c.in-FullFeature.session c.lose.new.session _ c.lose.new.units lt link c.in-FullFeature.is target below at
-          ([], sym (append-nil c.link.inside.waiting.items)) c.lose.ensures.back c.lose.ensures.sure);
+          ([], sym (append-nil c.link.inside.waiting.items))
+          (λ other. session_adds (link_at machine c.args.d) c.link.inside.framer c.link.inside.phase c.link.inside.waiting.items c.link.inside.waiting.items c.in-FullFeature.session c.lose.new.session link c.in-FullFeature.is (c.lose.ensures.eases c.link.inside.waiting.items))
+          c.lose.ensures.back c.lose.ensures.sure);
       apart = apart_from c.args.target c.args.self.now machine _ (sym c.self.view_is)
           (session_apart c.args.target machine c.lose.new.units c.args.d then_ lt own then_own);
     }

@@ -4,6 +4,7 @@ use Rattle.iscsi_session.specs.State.{SessionState}
 use Rattle.iscsi_target.specs.Machine.{LinkState, Machine, link_at, closed, is_with, is_reading, is_logging_in, free_link}
 use Rattle.iscsi_target.specs.declared.phase.Phase.{Phase}
 use Rattle.iscsi_target.specs.declared.phase.Phase.TheVariants as phases
+use Rattle.iscsi_target.proofs.Bounding.{session_adds}
 use Rattle.iscsi_target.proofs.Apart.{apart_none, apart_then, apart_as, apart_from, session_apart, closed_apart, with_session}
 use Rattle.iscsi_target.proofs.AtWork.{settle_kind}
 use Rattle.iscsi_target.proofs.Doing.{does_on, does_starved}
@@ -98,7 +99,9 @@ returns-in-Ok-clause-moves g c = λ b.
     c.in-FullFeature.session c.settle.new.self _ c.settle.new.units
     (let count = c.self.invariant.0 in let lt = c.requires.in_range in omega arith) link c.in-FullFeature.is target below
     (units_here machine.units c.args.target _ _ _ below target c.index_mut-units.ensures.value)
-    c.settle.ensures.grows c.settle.ensures.back c.settle.ensures.sure))
+    c.settle.ensures.grows
+    (λ other. session_adds (link_at machine c.args.c) c.link.inside.framer c.link.inside.phase c.link.inside.waiting.items c.settle.new.out.items c.in-FullFeature.session c.settle.new.self link c.in-FullFeature.is c.settle.ensures.eases)
+    c.settle.ensures.back c.settle.ensures.sure))
 
 pub returns-in-Ok-clause-apart : goal.returns-in-Ok-clause-apart
 returns-in-Ok-clause-apart g c =
@@ -172,7 +175,9 @@ returns-in-Err-clause-moves g c = λ b.
     (settle_moves b c.args.c c.args.target machine c.link.inside.framer c.link.inside.phase c.link.inside.waiting.items c.settle.new.out.items
     c.in-FullFeature.session c.settle.new.self _ c.settle.new.units
     at link c.in-FullFeature.is target below (units_here machine.units c.args.target _ _ _ below target c.index_mut-units.ensures.value)
-    c.settle.ensures.grows c.settle.ensures.back c.settle.ensures.sure)
+    c.settle.ensures.grows
+    (λ other. session_adds (link_at machine c.args.c) c.link.inside.framer c.link.inside.phase c.link.inside.waiting.items c.settle.new.out.items c.in-FullFeature.session c.settle.new.self link c.in-FullFeature.is c.settle.ensures.eases)
+    c.settle.ensures.back c.settle.ensures.sure)
     (moves_as b (Some c.args.c) middle (closed middle c.args.c) c.starve.new.self c.starve.ensures.closed
     (starved_moves b middle c.args.c (omega (arith, at, length-set machine.links c.args.c then_)) (ap (λ (l : LinkState). is_reading l.phase) there)
     (λ other. ap (λ (l : LinkState). is_logging_in l.phase) there))))))

@@ -1,4 +1,4 @@
-use Rattle.std.proofs.Common.{◌≡◌, ℕ, ◌<◌, List, length, true, Option, Some, None, refl, sym, ap, ◌∙◌, subst, arith}
+use Rattle.std.proofs.Common.{◌≡◌, ℕ, suc, ◌<◌, List, length, true, Option, Some, None, refl, sym, ap, ◌∙◌, subst, arith}
 use Rattle.iscsi_login.specs.Session.{is_same_target}
 use Rattle.iscsi_login.specs.LoginState.{IsTargetBelow}
 use Rattle.iscsi_login.specs.declared.params.Params.{Params}
@@ -12,6 +12,11 @@ use Rattle.iscsi_target.proofs.Apart.{apart_from, apart_then, part_as, part_none
 use Rattle.iscsi_target.proofs.Doing.{does_on, does_starved}
 use Rattle.iscsi_target.proofs.Frames.{takes_idle, finishes}
 use Rattle.iscsi_target.proofs.Held.{viewed, held_here, held_same, same_target, serve_takes, serve_moves, within_there}
+use Rattle.iscsi_session.specs.Runs.{output}
+use Rattle.iscsi_session.proofs.AtRest.{serve_loads}
+use Rattle.iscsi_target.specs.Bounded.{Adds}
+use Rattle.iscsi_target.proofs.Bounding.{adds_none, adds_then}
+use Rattle.iscsi_target.proofs.Heavier.{serve_heavier, apart_next}
 use Rattle.iscsi_target.proofs.Moving.{moves_none, moves_as, moves_from, moves_then, moves_starved}
 use Rattle.iscsi_target.proofs.target.Target.take_frame.Goals as goal
 
@@ -205,3 +210,53 @@ returns-in-Closing-clause-moves g c =
     let same = ap (λ (links : List LinkState). let m : Machine = record machine { links = links } in m)
     (held_same c.self.inside.links.items c.args.c _ link) ∙ c.self.view_is in
     moves_as c.args.c None c.args.self.now c.args.self.now _ same (moves_none c.args.c c.args.self.now)
+
+pub returns-in-Free-clause-loads : goal.returns-in-Free-clause-loads
+returns-in-Free-clause-loads g c whole =
+    let machine : Machine = record {
+      directory = c.self.inside.directory;
+      units = c.self.inside.units.items;
+      links = c.self.inside.links.items;
+    } in
+    let link : viewed c.link.inside.framer c.link.inside.phase c.link.inside.waiting.items ≡ link_at machine c.args.c =
+    held_here c.self.inside.links.items c.args.c _ c.index_mut-link.result.now _ c.self.invariant.0 c.requires c.index_mut-link.ensures.value c.link.view_is in
+    let same = ap (λ (links : List LinkState). let m : Machine = record machine { links = links } in m)
+    (held_same c.self.inside.links.items c.args.c _ link) ∙ c.self.view_is in
+    subst (λ (m : Machine). Adds 1 (link_at c.args.self.now c.args.c) (link_at m c.args.c)) (sym same) (adds_none 1 (link_at c.args.self.now c.args.c))
+
+pub returns-in-Closing-clause-loads : goal.returns-in-Closing-clause-loads
+returns-in-Closing-clause-loads g c whole =
+    let machine : Machine = record {
+      directory = c.self.inside.directory;
+      units = c.self.inside.units.items;
+      links = c.self.inside.links.items;
+    } in
+    let link : viewed c.link.inside.framer c.link.inside.phase c.link.inside.waiting.items ≡ link_at machine c.args.c =
+    held_here c.self.inside.links.items c.args.c _ c.index_mut-link.result.now _ c.self.invariant.0 c.requires c.index_mut-link.ensures.value c.link.view_is in
+    let same = ap (λ (links : List LinkState). let m : Machine = record machine { links = links } in m)
+    (held_same c.self.inside.links.items c.args.c _ link) ∙ c.self.view_is in
+    subst (λ (m : Machine). Adds 1 (link_at c.args.self.now c.args.c) (link_at m c.args.c)) (sym same) (adds_none 1 (link_at c.args.self.now c.args.c))
+
+pub returns-in-FullFeature-clause-loads : goal.returns-in-FullFeature-clause-loads
+returns-in-FullFeature-clause-loads g c whole =
+    let machine : Machine = record {
+      directory = c.self.inside.directory;
+      units = c.self.inside.units.items;
+      links = c.self.inside.links.items;
+    } in
+    let link : viewed c.link.inside.framer c.link.inside.phase c.link.inside.waiting.items ≡ link_at machine c.args.c =
+    held_here c.self.inside.links.items c.args.c _ c.index_mut-link.result.now _ c.self.invariant.0 c.requires c.index_mut-link.ensures.value c.link.view_is in
+    let lt : c.args.c < length machine.links = (let count = c.self.invariant.0 in let below = c.requires in omega arith) in
+    let known : c.luns_of-luns.result.now ≡ numbers_of (units_at c.params.result.now.target machine.units) =
+    c.luns_of-luns.ensures ∙ ap (λ (all : List UnitStates). numbers_of (units_at c.params.result.now.target all)) c.as_slice.ensures.value in
+    let first = serve_heavier c.serve-goes_on.result c.args.c machine c.end_unless-served.new.self c.link.inside.framer c.link.inside.phase
+    c.link.inside.waiting.items c.serve-goes_on.new.out.items c.in-FullFeature.session c.serve-goes_on.new.self lt link c.in-FullFeature.is
+    (serve_loads c.serve-goes_on.result c.args.frame c.luns_of-luns.result.now c.in-FullFeature.session c.serve-goes_on.new.self
+    (output c.link.inside.waiting.items c.new-orders.result.items) (output c.serve-goes_on.new.out.items c.serve-goes_on.new.orders.items)
+    (units_at c.params.result.now.target machine.units) known c.serve-goes_on.ensures.ok c.serve-goes_on.ensures.err c.serve-goes_on.ensures.idle whole)
+    c.end_unless-served.ensures.same in
+    let apart = apart_next c.args.c in
+    subst (λ (m : Machine). Adds 1 (link_at m c.args.c) (link_at c.settle_for-settled.new.self c.args.c)) c.self.view_is
+    (adds_then 1 0 (link_at machine c.args.c) (link_at c.end_unless-served.new.self c.args.c) (link_at c.settle_for-settled.new.self c.args.c) first
+    (adds_then 0 0 (link_at c.end_unless-served.new.self c.args.c) (link_at c.carry_out_for.new.self c.args.c) (link_at c.settle_for-settled.new.self c.args.c)
+    ((c.carry_out_for.ensures.moves (suc c.args.c)).eases c.args.c apart) ((c.settle_for-settled.ensures.moves (suc c.args.c)).eases c.args.c apart)))

@@ -1,0 +1,236 @@
+-- A piece of no more bytes than are wanted brings one frame at most, and each connection stays as light as it may be.
+use Rattle.std.proofs.Common.{◌≡◌, ◌≢◌, ℕ, zero, suc, ◌+◌, ◌-◌, ◌*◌, ◌<◌, ◌≤◌, max, ◌||◌, List, [], ◌∷◌, ◌++◌, length, drop, replicate, get_or, Bool, true, false, cond, ltb, Option, Some, None, refl, sym, ap, ◌∙◌, subst, arith, inl, inr, append-nil}
+use Rattle.std.proofs.lemmas.Bool.{ltb-true, ltb-false, le-leb, leb-true, leb-false, lt-leb}
+use Rattle.std.proofs.lemmas.Bool.Decides.{eqb_tells, leb_tells}
+use Rattle.std.proofs.lemmas.List.{length-append, length-drop, length-set, get_or_append_left, nil_from_length}
+use Rattle.iscsi_pdu.specs.Header.{header_length, additional_length, data_length}
+use Rattle.iscsi_pdu.specs.Frames.{Frame, frames, rest, has_header, has_frame, is_long, first_frame, frame_length, missing, wanted}
+use Rattle.iscsi_pdu.proofs.Frames.{no_frame, has_frame-true, has_frame-from, is_long-from, frame_length-header, frames_none, frames_step, rest_none, rest_step}
+use Rattle.iscsi_pdu.proofs.Cuts.{frames_in_pieces}
+use Rattle.iscsi_login.specs.Directory.{KnownTargets}
+use Rattle.scsi_unit.specs.Units.{UnitStates}
+use Rattle.iscsi_session.specs.Weight.{request_weight, most_added}
+use Rattle.iscsi_session.proofs.AtRest.{few_pending}
+use Rattle.iscsi_target.specs.History.{History, Whole, TooLong, arrivals, connection_limit}
+use Rattle.iscsi_target.specs.Life.{Life, reads}
+use Rattle.iscsi_target.specs.World.{Setting, World, present, world}
+use Rattle.iscsi_target.specs.Machine.{LinkState, Machine, link_at, with_link, free_link, shut_link, opened_link, sent_link, closed, new_machine, is_reading, is_closing, most_waiting, want_of}
+use Rattle.iscsi_target.specs.Stands.{Stands, StandsAt, IsShort, link_of, half_of}
+use Rattle.iscsi_target.specs.Serving.{Serves, TakesAll}
+use Rattle.iscsi_target.specs.Bounded.{most_weight, weight_in, weight, Rests, Weighs, Bounded, Adds, CallsKeepBounded}
+use Rattle.iscsi_target.specs.declared.phase.Phase.{Phase}
+use Rattle.iscsi_target.specs.declared.phase.Phase.TheVariants as phases
+use Rattle.iscsi_target.proofs.Linked.{link_is}
+use Rattle.iscsi_target.proofs.Standing.{nothing_long}
+use Rattle.iscsi_target.proofs.Moving.{link_set, link_other, closed_count}
+use Rattle.iscsi_target.proofs.Taking.{none_whole, some_whole, long_whole, no_bytes}
+use Rattle.iscsi_target.proofs.Bounding.{adds_none, adds_shut}
+use Rattle.iscsi_target.proofs.Heavier.{closed_loads}
+
+-- ---- frames
+
+frame_length-append : (a b : List ℕ) → header_length ≤ length a → frame_length (a ++ b) ≡ frame_length a
+unfolding frame_length
+frame_length-append a b h =
+    let additional : additional_length (a ++ b) ≡ additional_length a = ap (λ (n : ℕ). 4 * n) (get_or_append_left a b 0 4 (omega arith)) in
+    let body : data_length (a ++ b) ≡ data_length a =
+    rw (get_or_append_left a b 0 5 (omega arith), get_or_append_left a b 0 6 (omega arith), get_or_append_left a b 0 7 (omega arith)) refl in
+    omega arith
+
+-- no more bytes than their first frame has
+few_whole : (bytes : List ℕ) → length bytes ≤ frame_length bytes → length (arrivals bytes) ≤ 1
+few_whole bytes le = by_frame (has_frame bytes) (is_long bytes) refl refl
+  where
+    by_frame : (a b : Bool) → has_frame bytes ≡ a → is_long bytes ≡ b → length (arrivals bytes) ≤ 1
+    by_frame true b e f =
+        let more = drop (frame_length bytes) bytes in
+        let none : more ≡ [] = nil_from_length more (omega (arith, le, length-drop (frame_length bytes) bytes)) in
+        let is = some_whole bytes more (first_frame bytes) (frames_step bytes e) (sym (rest_step bytes e)) in
+        omega (arith, ap (λ l. length l) is, ap (λ (l : List ℕ). length (arrivals l)) none, ap (λ l. length l) no_bytes)
+    by_frame false true e f = omega (arith, ap (λ l. length l) (long_whole bytes f), ap (λ l. length l) no_bytes)
+    by_frame false false e f = omega (arith, ap (λ l. length l) (none_whole bytes e f))
+
+unfinished_frame : (half : List ℕ) → header_length ≤ length half → has_frame half ≡ false → is_long half ≡ false → length half < frame_length half
+unfinished_frame half whole none short = elim (leb_tells (frame_length half) (length half)) [
+  | inl there ↦ elim (leb_tells (data_length half) 262144) [
+    | inl taken ↦ absurd (let yes = has_frame-from half (record { header = whole; taken = taken.1; whole = there.1 }) in cc)
+    | inr much ↦ absurd (let yes = is_long-from half (record { header = whole; longer = much.1 }) in cc)
+  ]
+  | inr less ↦ less.1
+]
+
+pub wanted_few : (half piece : List ℕ) → has_frame half ≡ false → is_long half ≡ false → length piece ≤ wanted half → length (arrivals (half ++ piece)) ≤ 1
+unfolding missing
+wanted_few half piece none short le = elim (leb_tells header_length (length half)) [
+  | inl whole ↦ (
+      let less = unfinished_frame half whole.1 none short in
+      let there : has_header half ≡ true = le-leb _ _ whole.1 in
+      let is : wanted half ≡ max 1 (frame_length half - length half) = rw there refl in
+      few_whole (half ++ piece) (omega (arith, less, is, le, length-append half piece, frame_length-append half piece whole.1)))
+  | inr early ↦ (
+      let no : has_header half ≡ false = no_header half early.1 in
+      let is : wanted half ≡ max 1 (header_length - length half) = rw no refl in
+      let least = frame_length-header (half ++ piece) in
+      few_whole (half ++ piece) (omega (arith, early.1, is, le, length-append half piece, least)))
+]
+  where
+    no_header : (half : List ℕ) → length half < header_length → has_header half ≡ false
+    no_header half lt = lt-leb _ _ lt
+
+-- what is left behind frames begins with none
+rest_no_frame : (bytes : List ℕ) → has_frame (rest bytes) ≡ false
+rest_no_frame bytes = by_frame (has_frame (rest bytes)) refl
+  where
+    cut : frames bytes ≡ frames bytes ++ frames (rest bytes)
+    cut = ap frames (sym (append-nil bytes)) ∙ frames_in_pieces bytes [] ∙ ap (λ (l : List ℕ). frames bytes ++ frames l) (append-nil (rest bytes))
+    by_frame : (b : Bool) → has_frame (rest bytes) ≡ b → has_frame (rest bytes) ≡ false
+    by_frame true e =
+        absurd (omega (
+          arith,
+          ap (λ (l : List Frame). length l) cut,
+          length-append (frames bytes) (frames (rest bytes)),
+          ap (λ (l : List Frame). length l) (frames_step (rest bytes) e),
+        ))
+    by_frame false e = e
+
+-- ---- what a connection keeps between two events
+
+pub record IsHalf (link : LinkState) : Type 0 where
+  frame : has_frame link.half ≡ false
+  short : is_long link.half ≡ false
+
+half_by : (directory : KnownTargets) (sent : ℕ) (o : Option Life) → IsShort o → is_reading (link_of directory sent (half_of o) o).phase ≡ true
+    → IsHalf (link_of directory sent (half_of o) o)
+half_by directory sent None short reads_ = absurd cc
+half_by directory sent (Some life) short reads_ = by_phase (reads life.phase) refl
+  where
+    by_phase : (b : Bool) → reads life.phase ≡ b → IsHalf (link_of directory sent (half_of (Some life)) (Some life))
+    by_phase true e =
+        let half : (link_of directory sent (half_of (Some life)) (Some life)).half ≡ rest life.bytes = rw e refl in
+        record { frame = ap has_frame half ∙ rest_no_frame life.bytes; short = ap is_long half ∙ short e }
+    by_phase false e =
+        let half : (link_of directory sent (half_of (Some life)) (Some life)).half ≡ [] = rw e refl in
+        record { frame = ap has_frame half ∙ no_frame; short = ap is_long half ∙ nothing_long }
+
+pub half_there : (s : Setting) (sent : ℕ → ℕ) (h : History) (machine : Machine) (c : ℕ) → c < connection_limit → Stands s sent machine h
+    → is_reading (link_at machine c).phase ≡ true → IsHalf (link_at machine c)
+half_there s sent h machine c lt at reads_ =
+    let w = world s h in
+    let serves : Serves s sent (λ d. half_of (present d w)) w machine = record { is = at.is; answered = at.answered; quiet = at.quiet } in
+    let is = link_is s sent (λ d. half_of (present d w)) w machine c lt serves in
+    subst IsHalf (sym is)
+    (half_by s.directory (sent c) (present c w) (at.short c lt) (ap (λ (l : LinkState). is_reading l.phase) (sym is) ∙ reads_))
+
+-- ---- as heavy as it may be
+
+least_of : (waiting : ℕ) (phase : Phase) → Rests phase → weight_in waiting phase ≤ waiting + 40 * request_weight
+least_of waiting phases.Free r = omega arith
+least_of waiting (phases.Login login) r = omega arith
+least_of waiting (phases.FullFeature session) r = omega (arith, few_pending session r)
+least_of waiting phases.Closing r = omega arith
+
+weighs_by : (b : Bool) (old new : LinkState) (piece : List ℕ) → ltb most_waiting (length old.waiting) ≡ b → IsHalf old → is_closing old.phase ≡ false
+    → length piece ≤ want_of old → Adds (length (arrivals (old.half ++ piece))) old new → Weighs most_weight old → Weighs most_weight new
+weighs_by true old new piece much half open_ le adds w =
+    let none : want_of old ≡ 0 = rw (open_, much) refl in
+    let empty : piece ≡ [] = nil_from_length piece (omega (arith, le, none)) in
+    let all : arrivals (old.half ++ piece) ≡ [] = ap (λ (l : List ℕ). arrivals (old.half ++ l)) empty ∙ ap arrivals (append-nil old.half)
+    ∙ none_whole old.half half.frame half.short in
+    let a = adds w.rests in
+    let fits = a.fits in
+    let was = w.fits in
+    record { fits = omega (arith, fits, was, ap (λ l. length l * most_added) all); rests = a.rests }
+weighs_by false old new piece few half open_ le adds w =
+    let is : want_of old ≡ wanted old.half = rw (open_, few) refl in
+    let one = wanted_few old.half piece half.frame half.short (omega (arith, le, is)) in
+    let a = adds w.rests in
+    let fits = a.fits in
+    record {
+      fits = omega (arith, fits, one, ltb-false most_waiting (length old.waiting) few, least_of (length old.waiting) old.phase w.rests);
+      rests = a.rests;
+    }
+
+reading_no_closing : (phase : Phase) → is_reading phase ≡ true → is_closing phase ≡ false
+reading_no_closing phases.Free e = refl
+reading_no_closing (phases.Login login) e = refl
+reading_no_closing (phases.FullFeature session) e = refl
+reading_no_closing phases.Closing e = absurd cc
+
+pub eased : (old new : LinkState) → Adds 0 old new → Weighs most_weight old → Weighs most_weight new
+eased old new adds w = let a = adds w.rests in let fits = a.fits in let was = w.fits in record { fits = omega (arith, fits, was); rests = a.rests }
+
+-- a piece that is no longer than what is wanted, and what is whole is taken
+pub fed_bounded : (old kept new : Machine) (c : ℕ) (piece : List ℕ) (starved : Option ℕ) → c < length old.links
+    → is_reading (link_at old c).phase ≡ true → IsHalf (link_at old c)
+    → kept ≡ with_link old c (record (link_at old c) { half = (link_at old c).half ++ piece }) → TakesAll c starved kept new
+    → length piece ≤ want_of (link_at old c) → Bounded old → Bounded new
+fed_bounded old kept new c piece starved lt reads_ half is takes le bounded d = elim (eqb_tells d c) [
+  | inl same ↦
+      let link = record (link_at old c) { half = (link_at old c).half ++ piece } in
+      let there : link_at kept c ≡ link = ap (λ (m : Machine). link_at m c) is ∙ link_set old old.units c link lt in
+      let P : LinkState → Type 0 = λ l. Adds (length (arrivals l.half)) l (link_at new c) in
+      subst (λ (k : ℕ). Weighs most_weight (link_at new k)) (sym same.1)
+      (weighs_by (ltb most_waiting (length (link_at old c).waiting)) (link_at old c) (link_at new c) piece refl half
+      (reading_no_closing (link_at old c).phase reads_) le (subst P there takes.loads) (bounded c))
+  | inr differ ↦
+      let link = record (link_at old c) { half = (link_at old c).half ++ piece } in
+      let there : link_at kept d ≡ link_at old d = ap (λ (m : Machine). link_at m d) is ∙ link_other old old.units c d link differ.1 in
+      eased (link_at old d) (link_at new d) (subst (λ (l : LinkState). Adds 0 l (link_at new d)) there (takes.eases d differ.1)) (bounded d)
+]
+
+-- ---- the other calls
+
+pub with_bounded : (machine : Machine) (c : ℕ) (link : LinkState) → c < length machine.links → Bounded machine → Weighs most_weight link
+    → Bounded (with_link machine c link)
+with_bounded machine c link lt bounded w d = elim (eqb_tells d c) [
+  | inl same ↦ subst (λ (k : ℕ). Weighs most_weight (link_at (with_link machine c link) k)) (sym same.1)
+      (subst (Weighs most_weight) (sym (link_set machine machine.units c link lt)) w)
+  | inr differ ↦ subst (Weighs most_weight) (sym (link_other machine machine.units c d link differ.1)) (bounded d)
+]
+
+closed_links : (machine : Machine) (c d : ℕ) → link_at (closed machine c) d ≡ link_at (with_link machine c (shut_link (link_at machine c))) d
+unfolding closed
+closed_links machine c d = refl
+
+pub closed_bounded : (machine : Machine) (c : ℕ) → c < length machine.links → Bounded machine → Bounded (closed machine c)
+closed_bounded machine c lt bounded d =
+    subst (Weighs most_weight) (sym (closed_links machine c d))
+    (with_bounded machine c (shut_link (link_at machine c)) lt bounded (eased (link_at machine c) _ (adds_shut 0 (link_at machine c)) (bounded c)) d)
+
+pub opened_bounded : (machine : Machine) (c : ℕ) → c < length machine.links → Bounded machine → Bounded (with_link machine c (opened_link c))
+opened_bounded machine c lt bounded = with_bounded machine c (opened_link c) lt bounded (record { fits = omega arith; rests = tt })
+
+pub gone_bounded : (machine : Machine) (c : ℕ) → c < length machine.links → Bounded machine → Bounded (with_link (closed machine c) c free_link)
+gone_bounded machine c lt bounded =
+    with_bounded (closed machine c) c free_link (omega (arith, lt, closed_count machine c)) (closed_bounded machine c lt bounded)
+    (record { fits = omega arith; rests = tt })
+
+sent_weight : (waiting less : ℕ) (phase : Phase) → less ≤ waiting → weight_in less phase ≤ weight_in waiting phase
+sent_weight waiting less phases.Free le = le
+sent_weight waiting less (phases.Login login) le = le
+sent_weight waiting less (phases.FullFeature session) le = omega (arith, le)
+sent_weight waiting less phases.Closing le = le
+
+pub sent_bounded : (machine : Machine) (c n : ℕ) → c < length machine.links → Bounded machine → Bounded (with_link machine c (sent_link (link_at machine c) n))
+sent_bounded machine c n lt bounded =
+    let link = link_at machine c in
+    let w = bounded c in
+    let fits = w.fits in
+    with_bounded machine c (sent_link link n) lt bounded (record {
+      fits = omega (arith, fits, sent_weight (length link.waiting) (length (drop n link.waiting)) link.phase (omega (arith, length-drop n link.waiting)));
+      rests = w.rests;
+    })
+
+all_free : (n c : ℕ) → get_or (replicate n free_link) c free_link ≡ free_link
+all_free zero c = refl
+all_free (suc n) zero = refl
+all_free (suc n) (suc c) = all_free n c
+
+pub new_bounded : (directory : KnownTargets) (units : List UnitStates) → Bounded (new_machine directory units)
+new_bounded directory units c = subst (Weighs most_weight) (sym (all_free connection_limit c)) (record { fits = omega arith; rests = tt })
+
+pub bounded_as : (a b : Machine) → b ≡ a → Bounded a → Bounded b
+bounded_as a b e bounded = subst Bounded (sym e) bounded
+
+pub calls_keep_bounded : CallsKeepBounded
+calls_keep_bounded = record { made = new_bounded; opened = opened_bounded; gone = gone_bounded; sent = sent_bounded }
