@@ -234,3 +234,8 @@ bounded_as a b e bounded = subst Bounded (sym e) bounded
 
 pub calls_keep_bounded : CallsKeepBounded
 calls_keep_bounded = record { made = new_bounded; opened = opened_bounded; gone = gone_bounded; sent = sent_bounded }
+
+-- a machine with the connections of this one
+pub bounded_links : (machine : Machine) (links : List LinkState) → machine.links ≡ links → Bounded machine → (c : ℕ)
+    → Weighs most_weight (get_or links c free_link)
+bounded_links machine links e bounded c = subst (λ (l : List LinkState). Weighs most_weight (get_or l c free_link)) e (bounded c)

@@ -83,6 +83,7 @@ impl<S: Store + Drop> Target<S> {
         requires { length units.items ≡ length config.targets.items }
         ensures made { IfOk result (λ target. target ≡ new_machine (known_in config) units.items) }
         ensures stands { IfOk result (λ target. Stands (record { directory = known_in config; units = units.items }) (λ _. 0) target []) }
+        ensures bounded { IfOk result (λ target. Bounded target) }
     {
         let links = free_links(alloc)?;
         Ok(Target {
@@ -110,6 +111,7 @@ impl<S: Store> Target<S> {
         ensures sure { IsSure self.old → IsSure self.new }
         ensures stands { (s : Setting) (sent : ℕ → ℕ) (h : History) → WhereSound self.old (Stands s sent self.old h)
             → WhereSound self.new (Stands s (with_sent sent c 0) self.new (h ++ plain (Open c) ∷ [])) }
+        ensures bounded { Bounded self.old → Bounded self.new }
     {
         self.links[c] = Link::opened(self.alloc, c);
         Ok(())
@@ -163,6 +165,7 @@ impl<S: Store> Target<S> {
         ensures sure { IsSure self.old → IsSure self.new }
         ensures stands { (s : Setting) (sent : ℕ → ℕ) (h : History) → WhereSound self.old (Stands s sent self.old h)
             → WhereSound self.new (Stands s (with_sent sent c 0) self.new (h ++ plain (Gone c) ∷ [])) }
+        ensures bounded { Bounded self.old → Bounded self.new }
     {
         self.close(c);
         self.links[c] = Link::free(self.alloc);
@@ -197,6 +200,7 @@ impl<S: Store> Target<S> {
         ensures sure { IsSure self.old → IsSure self.new }
         ensures stands { (s : Setting) (sent : ℕ → ℕ) (h : History) → WhereSound self.old (Stands s sent self.old h)
             → WhereSound self.new (Stands s (with_sent sent c (sent c + n)) self.new h) }
+        ensures bounded { Bounded self.old → Bounded self.new }
     {
         let link = &mut self.links[c];
         link.sent(n);

@@ -1,10 +1,11 @@
-use Rattle.std.proofs.Common.{rules, length, subst, sym, ap, ◌∙◌}
+use Rattle.std.proofs.Common.{rules, length, subst, sym, ap, ◌∙◌, arith}
 use Rattle.std.proofs.lemmas.List.{length-set}
 use Rattle.std.proofs.lemmas.List.Elements.{All-set}
-use Rattle.iscsi_target.specs.Machine.{LinkState, Machine, IsWithin}
+use Rattle.iscsi_target.specs.Machine.{LinkState, Machine, IsWithin, with_link, closed, free_link}
 use Rattle.iscsi_target.proofs.Moving.{closed_count}
 use Rattle.iscsi_target.proofs.Sound.{closed_sound, closed_sure, sound_as, sure_as, sound_units}
 use Rattle.iscsi_target.proofs.Standing.{gone_stands, stands_machine}
+use Rattle.iscsi_target.proofs.Wanting.{bounded_links, gone_bounded}
 use Rattle.iscsi_target.proofs.target.Target.gone.Goals as goal
 
 pub invariant_of-self : goal.invariant_of-self
@@ -33,3 +34,7 @@ returns-clause-stands g c = λ s sent h at sound.
 pub returns-clause-count : goal.returns-clause-count
 returns-clause-count g c =
     sym (closed_count c.args.self.now c.args.c) ∙ ap (λ (m : Machine). length m.links) (sym c.close.ensures.closed ∙ sym c.self.view_is) ∙ c.self.invariant.0
+
+pub returns-clause-bounded : goal.returns-clause-bounded
+returns-clause-bounded g c = λ bounded. bounded_links (with_link (closed c.args.self.now c.args.c) c.args.c free_link) _ (search rules)
+    (gone_bounded c.args.self.now c.args.c (let below = c.requires.in_range in omega (arith, returns-clause-count g c, below)) bounded)

@@ -3,8 +3,9 @@ use Rattle.std.specs.Prelude.{string_bytes}
 use Rattle.std.proofs.lemmas.List.{length-map, length-replicate}
 use Rattle.std.proofs.lemmas.List.Elements.{All-replicate}
 use Rattle.iscsi_target.specs.Known.{known_in}
-use Rattle.iscsi_target.specs.Machine.{LinkState, IsWithin, free_link}
+use Rattle.iscsi_target.specs.Machine.{LinkState, IsWithin, free_link, new_machine}
 use Rattle.iscsi_target.proofs.Standing.{new_stands, stands_machine}
+use Rattle.iscsi_target.proofs.Wanting.{bounded_links, new_bounded}
 use Rattle.iscsi_target.proofs.target.Target.new.Goals as goal
 
 pub invariant_of-result : goal.invariant_of-result
@@ -22,3 +23,7 @@ returns-clause-stands g c =
       links = links;
     }) (sym c.in_ok-links.ensures))
     (new_stands (record { directory = known_in c.args.config; units = c.args.units.items }))
+
+pub returns-clause-bounded : goal.returns-clause-bounded
+returns-clause-bounded g c =
+    bounded_links (new_machine (known_in c.args.config) c.args.units.items) _ (sym c.in_ok-links.ensures) (new_bounded (known_in c.args.config) c.args.units.items)

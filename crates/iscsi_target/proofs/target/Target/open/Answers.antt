@@ -1,7 +1,8 @@
-use Rattle.std.proofs.Common.{rules, sym, ap}
-use Rattle.iscsi_target.specs.Machine.{Machine}
+use Rattle.std.proofs.Common.{rules, length, sym, ap, arith}
+use Rattle.iscsi_target.specs.Machine.{Machine, with_link, opened_link}
 use Rattle.iscsi_target.proofs.Sound.{sound_units, sure_as}
 use Rattle.iscsi_target.proofs.Standing.{open_stands, stands_machine}
+use Rattle.iscsi_target.proofs.Wanting.{bounded_links, opened_bounded}
 use Rattle.iscsi_target.proofs.target.Target.open.Goals as goal
 
 pub returns-clause-stands : goal.returns-clause-stands
@@ -11,3 +12,8 @@ returns-clause-stands g c = λ s sent h at sound. stands_machine _ _ _ _ _ (sear
 
 pub returns-clause-sure : goal.returns-clause-sure
 returns-clause-sure g c = λ sure. sure_as c.args.self.now _ (sym c.self.view_is) sure
+
+pub returns-clause-bounded : goal.returns-clause-bounded
+returns-clause-bounded g c = λ bounded. bounded_links (with_link c.args.self.now c.args.c (opened_link c.args.c)) _ (search rules)
+    (opened_bounded c.args.self.now c.args.c (let count = c.self.invariant.0 in let below = c.requires.in_range in
+    omega (arith, ap (λ (m : Machine). length m.links) c.self.view_is, count, below)) bounded)
