@@ -6,6 +6,7 @@ use Rattle.iscsi_target.specs.Life.{Life, is_over, out_of}
 use Rattle.iscsi_target.specs.World.{Setting, World, present, world}
 use Rattle.iscsi_target.specs.Output.{out_now}
 use Rattle.iscsi_target.specs.Machine.{Machine, link_at}
+use Rattle.iscsi_target.specs.Bounded.{Bounded}
 use Rattle.iscsi_target.specs.Stands.{Stands, IsStarved}
 use Rattle.iscsi_serve.specs.Log.{Entry, Written, events, written, written_on}
 
@@ -44,3 +45,7 @@ abbrev pub StaysServed : List Entry → List Entry → Machine → Machine → T
 StaysServed log log_then target target_then =
     (s : Setting) (h : History) → IsServed s h log target
     → (more : History) × MayFollow s h more × IsServed s (h ++ more) log_then target_then
+
+-- and where no connection makes a target that is served hold more than it may, none does after
+abbrev pub StaysBounded : List Entry → Machine → Machine → Type 0
+StaysBounded log target target_then = (s : Setting) (h : History) → IsServed s h log target → Bounded target → Bounded target_then

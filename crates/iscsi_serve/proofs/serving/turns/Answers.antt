@@ -36,6 +36,7 @@ returns-in_err-turn_with g c =
                 c.loop-test.true so_far.3 turn.3,
           ));
       served = keeps.served;
+      bounded = keeps.bounded;
       back = keeps.back;
       sound = keeps.sound;
       sure = keeps.sure;
