@@ -18,6 +18,7 @@ sends_short params request text = by_length (ltb (piece_limit params) (length te
     whole : (b : Bool) → is_final request ≡ b → ltb (piece_limit params) (length text) ≡ false → IsShort (sends params request text).piece
     whole true f e = rw (e, f) (omega (arith, ltb-false _ _ e))
     whole false f e = rw (e, f) (omega (arith, ltb-false _ _ e))
+
     by_length : (b : Bool) → ltb (piece_limit params) (length text) ≡ b → IsShort (sends params request text).piece
     by_length true e = rw e (omega (arith, length-take (piece_limit params) text))
     by_length false e = whole (is_final request) refl e

@@ -101,8 +101,10 @@ few_distinct (k ∷ some) all distinct within =
     or_true : (b : Bool) → (b || true) ≡ true
     or_true true = refl
     or_true false = refl
+
     behind : (j : ℕ) → is_in j some ≡ true → is_in j (k ∷ some) ≡ true
     behind j h = rw h (or_true (k == j))
+
     apart : (j : ℕ) → is_in j some ≡ true → is_in j (k ∷ []) ≡ false
     apart j h = elim (cases_eq k j) [
       | inl same ↦ absurd (let no = ap (λ (n : ℕ). is_in n some) same ∙ h in let yes = distinct.0 in cc)

@@ -160,17 +160,26 @@ unfolding verdict_by
 accepted_by opcodes.ScsiCommand past frame is e = tests_free past frame e
 accepted_by opcodes.TaskManagement past frame is e = tests_free past frame e
 accepted_by opcodes.NopOut past frame is e =
-    record { fresh = fresh_passed (is_fresh past frame) e; tag = λ h. absurd (no_task frame opcodes.NopOut is (λ x. absurd cc) (λ x. absurd cc) h);
-      room = λ h immediate. absurd (no_task frame opcodes.NopOut is (λ x. absurd cc) (λ x. absurd cc) h) }
+    record {
+      fresh = fresh_passed (is_fresh past frame) e;
+      tag = λ h. absurd (no_task frame opcodes.NopOut is (λ x. absurd cc) (λ x. absurd cc) h);
+      room = λ h immediate. absurd (no_task frame opcodes.NopOut is (λ x. absurd cc) (λ x. absurd cc) h);
+    }
 accepted_by opcodes.Logout past frame is e =
-    record { fresh = fresh_passed (is_fresh past frame) e; tag = λ h. absurd (no_task frame opcodes.Logout is (λ x. absurd cc) (λ x. absurd cc) h);
-      room = λ h immediate. absurd (no_task frame opcodes.Logout is (λ x. absurd cc) (λ x. absurd cc) h) }
+    record {
+      fresh = fresh_passed (is_fresh past frame) e;
+      tag = λ h. absurd (no_task frame opcodes.Logout is (λ x. absurd cc) (λ x. absurd cc) h);
+      room = λ h immediate. absurd (no_task frame opcodes.Logout is (λ x. absurd cc) (λ x. absurd cc) h);
+    }
 accepted_by opcodes.Login past frame is e = absurd cc
 accepted_by opcodes.DataOut past frame is e = absurd (data_not_accepted past frame (command_with past (initiator_task_tag frame.header)) e)
 accepted_by opcodes.Snack past frame is e = absurd cc
 accepted_by opcodes.Text past frame is e =
-    record { fresh = fresh_passed (is_fresh past frame) e; tag = λ h. absurd (no_task frame opcodes.Text is (λ x. absurd cc) (λ x. absurd cc) h);
-      room = λ h immediate. absurd (no_task frame opcodes.Text is (λ x. absurd cc) (λ x. absurd cc) h) }
+    record {
+      fresh = fresh_passed (is_fresh past frame) e;
+      tag = λ h. absurd (no_task frame opcodes.Text is (λ x. absurd cc) (λ x. absurd cc) h);
+      room = λ h immediate. absurd (no_task frame opcodes.Text is (λ x. absurd cc) (λ x. absurd cc) h);
+    }
 accepted_by (opcodes.Other n) past frame is e = absurd cc
 
 pub accepted_free : (past : Past) (frame : Frame) → verdict past frame ≡ Accepted → IsFree past frame

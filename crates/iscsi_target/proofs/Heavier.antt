@@ -92,6 +92,7 @@ header_whole bytes frame others e = by_case (has_frame bytes) refl
   where
     first_is : (a b : Frame) (x y : List Frame) → a ∷ x ≡ b ∷ y → a ≡ b
     first_is a b x y e = cc
+
     by_case : (b : Bool) → has_frame bytes ≡ b → length frame.header ≡ header_length
     by_case true h = subst (λ (f : Frame). length f.header ≡ header_length) (first_is _ _ _ _ (sym (frames_step bytes h) ∙ e)) (whole_first bytes h)
     by_case false h = absurd (let none = sym (frames_none bytes h) ∙ e in cc)
@@ -128,6 +129,7 @@ reply_short login lookup request = by_refusal (refusal_of login lookup request)
   where
     isid_short : length (take 6 (drop 8 request.header)) ≤ 6
     isid_short = omega (arith, length-take 6 (drop 8 request.header))
+
     by_refusal : (o : Option LoginRefusal) → IsShortReply (reply_unless o lookup login request)
     by_refusal (Some refusal) =
         response_long (take 6 (drop 8 request.header)) (login_response login request (tsih request.header) (replies.Refused refusal)) refl isid_short (omega arith)

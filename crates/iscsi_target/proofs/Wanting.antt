@@ -83,6 +83,7 @@ rest_no_frame bytes = by_frame (has_frame (rest bytes)) refl
   where
     cut : frames bytes ≡ frames bytes ++ frames (rest bytes)
     cut = ap frames (sym (append-nil bytes)) ∙ frames_in_pieces bytes [] ∙ ap (λ (l : List ℕ). frames bytes ++ frames l) (append-nil (rest bytes))
+
     by_frame : (b : Bool) → has_frame (rest bytes) ≡ b → has_frame (rest bytes) ≡ false
     by_frame true e =
         absurd (omega (
