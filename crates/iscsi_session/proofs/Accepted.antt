@@ -16,10 +16,11 @@ use Rattle.iscsi_order.specs.Serial.{distance}
 use Rattle.iscsi_order.proofs.Front.{front, front_come, front_missing}
 use Rattle.iscsi_order.proofs.Held.{prefix_range}
 use Rattle.iscsi_order.proofs.Standing.{front_more, front_within, lawful_with as window_with}
-use Rattle.iscsi_session.specs.Requests.{Request, DataOut, SentR2t, unfinished, is_function, functions, Past, request_at, frame_of, is_in, left, is_command, commands, others, counted, over, numbered, place_of, taken, taken_at, numbers, due, queue, frames_of, begun}
+use Rattle.iscsi_session.specs.Requests.{Request, DataOut, SentR2t, Drain, pending, unfinished, is_function, functions, Past, request_at, frame_of, is_in, left, is_command, commands, others, counted, over, numbered, place_of, taken, taken_at, numbers, due, queue, frames_of, begun}
 use Rattle.iscsi_session.specs.State.{TaskLists, functions_of, standing, frame_numbered, tasks_with, tasks_of, AreDistinct, IsDelivered, IsLawful, holding, takes_next, takes, takes_all}
 use Rattle.iscsi_session.proofs.Left.{filter_cong, map_cong, left_append, left_all, in_at, in_front, in_left, in_filter, not_by, below_of, apart_behind, distinct_push}
-use Rattle.iscsi_session.proofs.Kept.{joined, Below, kept_joined, tags_with, below_kept}
+use Rattle.iscsi_session.proofs.Kept.{joined, Below, tags_with}
+use Rattle.iscsi_session.proofs.Pending.{functions_below, functions_joined as functions_with, settled_below, drained_joined}
 use Rattle.iscsi_session.proofs.Unfinished.{commands_same, tags_joined}
 use Rattle.iscsi_session.specs.Transfers.{tag_of}
 use Rattle.iscsi_session.proofs.Taken.{request_before, request_new, taken_more, taken_below, distinct_taken}
@@ -47,6 +48,13 @@ begun_lawful params = record {
   removed_below = All-nil (λ k. k < 0);
   removed_commands = All-nil (λ k. is_command (frame_of [] k) ≡ true);
   apart = All-nil (λ k. is_in k [] ≡ false);
+  drained = record {
+    functions = All-nil (λ (d : Drain). is_function (frame_of [] d.function) ≡ true);
+    acted = All-nil (λ (d : Drain). is_in d.function [] ≡ true);
+    answered = All-nil (λ k. is_in k [] ≡ true);
+    removed = All-nil (λ (d : Drain). is_in d.command [] ≡ true);
+    once = tt;
+  };
 }
 
 pub handed_is : (past : Past) → (numbers past).handed ≡ first_of past.came
@@ -160,7 +168,7 @@ module _ (past : Past) (lawful : IsLawful past) where
   removed_below = lawful.removed_below
 
   over_below : Below past (over past)
-  over_below = All-append (λ k. k < length past.came) past.finished _ finished_below
+  over_below = All-append (λ k. k < length past.came) (left (pending past) past.finished) _ (settled_below past finished_below)
       (All-filter (λ k. is_in k past.removed) (λ k. k < length past.came) past.acted lawful.below)
 
   pub due_is : due past ≡ left past.acted (taken past.came)
@@ -203,18 +211,13 @@ module _ (past : Past) (lawful : IsLawful past) where
   due_below = λ i d lt. below_of (length past.came) _ (taken past.came) (taken_below past.came)
       (in_left _ past.acted (taken past.came) (ap (λ (l : List ℕ). is_in (get_or (due past) i d) l) (sym due_is) ∙ in_at (due past) i d lt))
 
-  pub functions_joined : (x : Request) → functions (joined x past) ≡ functions past ++ cond (is_function x.frame) (length past.came ∷ []) []
-  unfolding functions
-  functions_joined x = kept_joined _ is_function past x refl finished_below removed_below
-
-  functions_below : Below past (functions past)
-  unfolding functions
-  functions_below = below_kept is_function past
+  functions_joined : (x : Request) → functions (joined x past) ≡ functions past ++ cond (is_function x.frame) (length past.came ∷ []) []
+  functions_joined x = functions_with _ past x refl finished_below removed_below
 
   function_tags_joined : (x : Request) → HasFreeTag past x.frame → AreDistinct (map (tag_of (past.came ++ x ∷ [])) (functions (joined x past)))
   function_tags_joined x free =
       subst (λ (l : List ℕ). AreDistinct (map (tag_of (past.came ++ x ∷ [])) l)) (sym (functions_joined x))
-      (tags_with _ past x (functions past) functions_below lawful.function_tags free.function)
+      (tags_with _ past x (functions past) (functions_below past) lawful.function_tags free.function)
 
   -- what is remembered of them
   pub functions_of_joined : (x : Request) → functions_of (joined x past) ≡ functions_of past ++ cond (is_function x.frame) (x.frame.header ∷ []) []
@@ -223,7 +226,7 @@ module _ (past : Past) (lawful : IsLawful past) where
       ap (map (λ k. (frame_of (past.came ++ x ∷ []) k).header)) (functions_joined x)
       ∙ map-append (λ k. (frame_of (past.came ++ x ∷ []) k).header) (functions past) (cond (is_function x.frame) (length past.came ∷ []) [])
       ∙ ap (λ (l : List (List ℕ)). l ++ map (λ k. (frame_of (past.came ++ x ∷ []) k).header) (cond (is_function x.frame) (length past.came ∷ []) []))
-      (map_cong _ _ (functions past) (λ i d lt. ap (λ (r : Request). r.frame.header) (request_before past.came x _ (functions_below i d lt))))
+      (map_cong _ _ (functions past) (λ i d lt. ap (λ (r : Request). r.frame.header) (request_before past.came x _ (functions_below past i d lt))))
       ∙ ap (λ (l : List (List ℕ)). functions_of past ++ l) (new_header (is_function x.frame))
     where
       new_header : (c : Bool) → map (λ k. (frame_of (past.came ++ x ∷ []) k).header) (cond c (length past.came ∷ []) []) ≡ cond c (x.frame.header ∷ []) []
@@ -260,6 +263,7 @@ module _ (past : Past) (lawful : IsLawful past) where
         removed_commands = λ i d lt. ap (λ (r : Request). is_command r.frame) (request_before past.came x _ (lawful.removed_below i d lt))
             ∙ lawful.removed_commands i d lt;
         apart = lawful.apart;
+        drained = drained_joined past x lawful.drained finished_below;
       }
 
   -- ---- what is remembered, where so many numbers are taken

@@ -1,10 +1,8 @@
 -- What the steps of a session add to what it may hold: a request, and answers that are short.
-use Rattle.std.proofs.Common.{◌≡◌, ℕ, zero, suc, ◌+◌, ◌-◌, ◌*◌, ◌<◌, ◌≤◌, ◌&&◌, List, [], ◌∷◌, ◌++◌, length, Bool, true, false, cond, not, eqb, Option, Some, None, refl, sym, ap, subst, ◌∙◌, arith, inl, inr}
-use Rattle.std.specs.Prelude.{All, filter, flat_map, is_some, ◌⊎◌}
-use Rattle.std.specs.List.{range_with_len}
-use Rattle.std.proofs.lemmas.Bool.{eq-eqb, eqb-true, ne_eqb, cases_eq}
-use Rattle.std.proofs.lemmas.List.{length-append, length-map}
-use Rattle.std.proofs.lemmas.List.Filters.{length-filter_both}
+use Rattle.std.proofs.Common.{◌≡◌, ℕ, ◌+◌, ◌*◌, ◌<◌, ◌≤◌, List, [], ◌∷◌, ◌++◌, length, Bool, true, false, not, Option, Some, None, refl, sym, ap, subst, ◌∙◌, arith}
+use Rattle.std.specs.Prelude.{All, filter, flat_map}
+use Rattle.std.proofs.lemmas.Bool.{eq-eqb}
+use Rattle.std.proofs.lemmas.List.{length-append}
 use Rattle.std.proofs.lemmas.List.Elements.{All-push}
 use Rattle.std.proofs.lemmas.Grind.{flat_map-append}
 use Rattle.iscsi_pdu.specs.Header.{header_length, is_immediate, initiator_task_tag, opcode_of, opcode_number}
@@ -17,31 +15,33 @@ use Rattle.iscsi_order.specs.Window.{taken as taken_numbers}
 use Rattle.scsi_unit.specs.Units.{numbers_of}
 use Rattle.iscsi_session.specs.declared.verdict.Verdict.{Verdict}
 use Rattle.iscsi_session.specs.declared.verdict.Verdict.TheVariants.{Ignored, Dropped, Rejected, Violating, Accepted, Feeding}
-use Rattle.iscsi_session.specs.Requests.{Request, Past, frame_of, request_at, is_command, is_function, is_in, left, commands, numbers, numbered, held, due, queue, unfinished, functions, accepted, moved, finished, removing, answering, stamp, taken, counted, over, number_for, place_of}
-use Rattle.iscsi_session.specs.Functions.{plug, plugged, reached, plugs, function_result}
+use Rattle.iscsi_session.specs.Requests.{Request, Past, frame_of, is_command, is_function, is_in, left, numbers, held, due, queue, unfinished, pending as awaiting, functions, moved, removing, draining, answering, stamp, taken, number_for}
+use Rattle.iscsi_session.specs.Functions.{plug, plugged, reached, plugs, awaited, lacks, drained_functions, told, told_answers, function_result}
 use Rattle.iscsi_session.specs.Judging.{verdict, judged, reject}
-use Rattle.iscsi_session.specs.Transfers.{command_with, fed, asking, asked, r2t_of, next_transfer_tag}
+use Rattle.iscsi_session.specs.Transfers.{command_with, fed, asking, r2t_of, next_transfer_tag}
 use Rattle.iscsi_session.specs.Texts.{exchange_of}
 use Rattle.iscsi_session.specs.Acts.{reach_of, act_answers, ended, behind, acted}
-use Rattle.iscsi_session.specs.State.{AreDistinct, IsLawful, tasks_of, holding, takes_all}
-use Rattle.iscsi_session.specs.Steps.{Step, Judging, Taking, Asking, Work, reaches, take_step, judge, act, ask, first_steps, one_by_one, waiting_in, act_all, ask_due, taken_in, served}
+use Rattle.iscsi_session.specs.State.{IsLawful, tasks_of, holding, takes_all}
+use Rattle.iscsi_session.specs.Steps.{Work, judge, act, ask, tell}
 use Rattle.iscsi_session.specs.Weight.{request_weight, pending, IsWithinLimits}
-use Rattle.iscsi_session.proofs.Left.{filter_cong, left_more, left_none, left_passes, in_at, in_left, in_left_back, distinct_left, distinct_filter, passes_in, below_of, in_filter, in_filter_back, and_true_both}
+use Rattle.iscsi_session.proofs.Left.{left_more, in_at, in_left, below_of, in_filter}
 use Rattle.iscsi_session.proofs.Taken.{taken_below}
-use Rattle.iscsi_session.proofs.Kept.{joined, command_no_function, function_no_command}
-use Rattle.iscsi_session.proofs.Unfinished.{unfinished_without, queue_unfinished, unfinished_distinct}
-use Rattle.iscsi_session.proofs.Moved.{functions_without}
-use Rattle.iscsi_session.proofs.Accepted.{with, counted_append}
-use Rattle.iscsi_session.proofs.Over.{split, acted_counted}
+use Rattle.iscsi_session.proofs.Kept.{command_no_function, function_no_command}
+use Rattle.iscsi_session.proofs.Unfinished.{unfinished_without}
+use Rattle.iscsi_session.proofs.Moved.{not_pending}
+use Rattle.iscsi_session.proofs.Pending.{functions_without}
+use Rattle.iscsi_session.proofs.Accepted.{with}
 use Rattle.iscsi_session.proofs.Verdicts.{accepted_free}
 use Rattle.iscsi_session.proofs.Feeding.{lawful_fed}
 use Rattle.iscsi_session.proofs.Runs.{lawful_answering}
 use Rattle.iscsi_session.proofs.Plugging.{plugged_tasks}
-use Rattle.iscsi_session.proofs.Ending.{ended_function, plugs_new}
-use Rattle.iscsi_session.proofs.Answered.{acted_same, command_answers_none, function_is}
-use Rattle.iscsi_session.proofs.Lawful.{moved_by, ended_lawful, more_over, act_lawful, ask_lawful}
-use Rattle.iscsi_session.proofs.Pending.{pending_in, pending_is, pending_held, pending_command, pending_other, pending_removing}
-use Rattle.iscsi_session.proofs.Limits.{immediate_of, immediate_less, immediate_joined, came_by}
+use Rattle.iscsi_session.proofs.Ending.{ended_function, ended_now, plugs_unasked, plugs_new}
+use Rattle.iscsi_session.proofs.Waits.{functions_waits, unfinished_waits, came_waits}
+use Rattle.iscsi_session.proofs.Telling.{functions_told}
+use Rattle.iscsi_session.proofs.Answered.{acted_same, command_answers_none, function_is, function_waits}
+use Rattle.iscsi_session.proofs.Lawful.{moved_by, ended_lawful, more_over, act_lawful, ask_lawful, tell_lawful}
+use Rattle.iscsi_session.proofs.Holding.{pending_in, pending_is, pending_held, pending_command, pending_other, pending_removing}
+use Rattle.iscsi_session.proofs.Limits.{immediate_of, left_few, immediate_less, immediate_joined, came_by}
 use Rattle.iscsi_session.proofs.Lengths.{one_spelled, reject_long, most_answered, ask_long}
 
 -- what waits of its answers, and its requests
@@ -103,7 +103,7 @@ fed_within (Some k) frame past lawful w = record {
   more = omega arith;
 }
 
-adds_less : (n m i j : ℕ) (past after : Past) → n ≤ m → i ≤ j → Adds n i past after → Adds m j past after
+pub adds_less : (n m i j : ℕ) (past after : Past) → n ≤ m → i ≤ j → Adds n i past after → Adds m j past after
 adds_less n m i j past after le few a =
     let first = a.added in
     let one = a.more in
@@ -135,7 +135,7 @@ judged_adds Ignored past frame e whole w = adds_none (request_weight + 99) 1 pas
 judged_adds Dropped past frame e whole w = adds_none (request_weight + 99) 1 past w
 judged_adds Violating past frame e whole w = adds_none (request_weight + 99) 1 past w
 
-judge_adds : (frame : Frame) (work : Work) → length frame.header ≡ header_length → IsWithinLimits work.past
+pub judge_adds : (frame : Frame) (work : Work) → length frame.header ≡ header_length → IsWithinLimits work.past
     → Adds (request_weight + 99) 1 work.past (judge frame work).past
 unfolding judge
 judge_adds frame work whole w = judged_adds _ work.past frame refl whole w
@@ -152,11 +152,12 @@ acted_immediate : (past : Past) (k : ℕ) → immediate_of (record past { acted 
 unfolding unfinished functions
 acted_immediate past k = omega arith
 
-other_immediate : (past : Past) (k : ℕ) → immediate_of (record past { acted = past.acted ++ k ∷ []; finished = past.finished ++ k ∷ [] }) ≤ immediate_of past
+other_immediate : (past : Past) (k : ℕ) → is_in k (awaiting past) ≡ false
+    → immediate_of (record past { acted = past.acted ++ k ∷ []; finished = past.finished ++ k ∷ [] }) ≤ immediate_of past
 unfolding unfinished functions
-other_immediate past k =
+other_immediate past k free =
     immediate_less past (record past { acted = past.acted ++ k ∷ []; finished = past.finished ++ k ∷ [] }) (k ∷ []) refl (unfinished_without past k)
-    (functions_without past k)
+    (functions_without past k free)
 
 command_turns : (past : Past) (k : ℕ) (rest : List ℕ) → is_command (frame_of past.came k) ≡ true → IsWithinLimits past → due past ≡ k ∷ rest
     → Turns 0 past (moved k past)
@@ -176,7 +177,7 @@ other_turns past k rest e w is =
     record {
       headers = subst (λ (p : Past). All (λ (request : Request). length request.frame.header ≡ header_length) p.came) same w.headers;
       pending = pending_other past k rest e w.lawful is;
-      immediate = subst (λ (p : Past). immediate_of p ≤ immediate_of past) same (other_immediate past k);
+      immediate = subst (λ (p : Past). immediate_of p ≤ immediate_of past) same (other_immediate past k (not_pending past w.lawful k rest is));
     }
 
 pub removed_immediate : (past : Past) (names : List ℕ) → immediate_of (removing names past) ≤ immediate_of past
@@ -210,14 +211,55 @@ plug_turns past after n lawful tasks t =
 behind_plain : (luns : List ℕ) (past : Past) (k : ℕ) → is_function (frame_of past.came k) ≡ false → behind luns k past (ended luns k past) ≡ moved k past
 behind_plain luns past k f = rw f refl
 
+unfinished_removing : (past : Past) (gone : List ℕ) → unfinished (removing gone past) ≡ left gone (unfinished past)
+unfolding unfinished
+unfinished_removing past gone = left_more past.removed gone _
+
+functions_removing : (past : Past) (gone : List ℕ) → functions (removing gone past) ≡ left gone (functions past)
+unfolding functions
+functions_removing past gone = left_more past.removed gone _
+
+-- one that waits for data is not finished
+waits_immediate : (luns : List ℕ) (past : Past) (k : ℕ) (rest : List ℕ) (first : ℕ) (others : List ℕ) → is_function (frame_of past.came k) ≡ true
+    → awaited past (reach_of luns k past) ≡ first ∷ others → IsWithinLimits past → due past ≡ k ∷ rest → immediate_of (ended luns k past) ≤ immediate_of past
+waits_immediate luns past k rest first others f e w is =
+    let gone = reached (reach_of luns k past) past in
+    immediate_less past (ended luns k past) gone (came_waits luns past w.lawful k rest is f first others e)
+    (unfinished_waits luns past w.lawful k rest is f first others e ∙ unfinished_removing past gone)
+    (functions_waits luns past w.lawful k rest is f first others e ∙ functions_removing past gone)
+
+pending_draining : (past : Past) (k : ℕ) (names : List ℕ) → pending_in (draining k names past) ≡ pending_in past
+unfolding held due queue taken_numbers
+pending_draining past k names = refl
+
+ended_turns : (luns : List ℕ) (past : Past) (k : ℕ) (rest : List ℕ) → is_function (frame_of past.came k) ≡ true → IsWithinLimits past → due past ≡ k ∷ rest
+    → Turns 1 past (ended luns k past)
+ended_turns luns past k rest f w is = by_case (awaited past (reach_of luns k past)) refl
+  where
+    removes : Turns 1 past (removing (reached (reach_of luns k past) past) (moved k past))
+    removes =
+        removing_turns 1 past (moved k past) (reached (reach_of luns k past) past)
+        (other_turns past k rest (function_no_command (frame_of past.came k) f) w is)
+
+    by_case : (names : List ℕ) → awaited past (reach_of luns k past) ≡ names → Turns 1 past (ended luns k past)
+    by_case [] e = subst (Turns 1 past) (ended_now luns past k f e) removes
+    by_case (first ∷ others) e =
+        let few = removes.pending in
+        record {
+          headers = subst (λ (l : List Request). All (λ (request : Request). length request.frame.header ≡ header_length) l)
+              (sym (came_waits luns past w.lawful k rest is f first others e)) w.headers;
+          pending = omega (
+            arith,
+            few,
+            ap pending_in (ended_function luns past k f),
+            pending_draining (removing (reached (reach_of luns k past) past) (moved k past)) k (awaited past (reach_of luns k past)),
+          );
+          immediate = waits_immediate luns past k rest first others f e w is;
+        }
+
 function_turns : (luns : List ℕ) (b : Bool) (past : Past) (k : ℕ) (rest : List ℕ) → plugs past (reach_of luns k past) ≡ b
     → is_function (frame_of past.came k) ≡ true → IsWithinLimits past → due past ≡ k ∷ rest → Turns 0 past (behind luns k past (ended luns k past))
-function_turns luns b past k rest e f w is =
-    let no = function_no_command (frame_of past.came k) f in
-    let ends : Turns 1 past (ended luns k past) =
-    subst (Turns 1 past) (sym (ended_function luns past k f))
-    (removing_turns 1 past (moved k past) (reached (reach_of luns k past) past) (other_turns past k rest no w is)) in
-    by_plug b e ends
+function_turns luns b past k rest e f w is = by_plug b e (ended_turns luns past k rest f w is)
   where
     by_plug : (b : Bool) → plugs past (reach_of luns k past) ≡ b → Turns 1 past (ended luns k past) → Turns 0 past (behind luns k past (ended luns k past))
     by_plug false e ends =
@@ -228,7 +270,7 @@ function_turns luns b past k rest e f w is =
         let n = ref_cmd_sn (frame_of past.came k).header in
         let same : plugged n (ended luns k past) ≡ behind luns k past (ended luns k past) = rw (f, e) refl in
         let moves = moved_by _ past k rest refl w.lawful is in
-        let m = more_over luns past k rest f w.lawful is moves in
+        let m = more_over luns past k rest f (plugs_unasked past (reach_of luns k past) e) w.lawful is moves in
         let lawful = ended_lawful luns _ past k rest refl w.lawful is moves in
         subst (Turns 0 past) same
         (plug_turns past (ended luns k past) n lawful
@@ -257,6 +299,15 @@ acted_adds luns n past k w lawful t short =
 header_whole : (past : Past) (k : ℕ) → IsWithinLimits past → k < length past.came → length (frame_of past.came k).header ≡ header_length
 header_whole past k w lt = w.headers k _ lt
 
+-- one answer at most, and none where it waits
+function_short : (luns : List ℕ) (past : Past) (k : ℕ) → is_function (frame_of past.came k) ≡ true
+    → length (flat_map spelling (act_answers luns k past)) ≤ 48
+function_short luns past k f = by_case (awaited past (reach_of luns k past)) refl
+  where
+    by_case : (names : List ℕ) → awaited past (reach_of luns k past) ≡ names → length (flat_map spelling (act_answers luns k past)) ≤ 48
+    by_case [] e = omega (arith, ap (λ (l : List Answer). length (flat_map spelling l)) (function_is luns k past f e))
+    by_case (first ∷ others) e = omega (arith, ap (λ (l : List Answer). length (flat_map spelling l)) (function_waits luns k past first others f e))
+
 act_adds_by : (c f : Bool) (luns : List ℕ) (past : Past) (k : ℕ) (rest : List ℕ) → is_command (frame_of past.came k) ≡ c → is_function (frame_of past.came k) ≡ f
     → due past ≡ k ∷ rest → k < length past.came → IsWithinLimits past → IsLawful (acted luns k past) → Adds 48 0 past (acted luns k past)
 unfolding act_answers
@@ -265,11 +316,11 @@ act_adds_by true f luns past k rest e g is lt w lawful =
     let none = ap (λ (l : List Answer). length (flat_map spelling l)) (command_answers_none luns k past e) in
     acted_adds luns 0 past k w lawful (subst (Turns 0 past) (sym (behind_plain luns past k no)) (command_turns past k rest e w is)) (omega (arith, none))
 act_adds_by false true luns past k rest e g is lt w lawful =
-    let one = ap (λ (l : List Answer). length (flat_map spelling l)) (function_is luns k past g) in
+    let one = function_short luns past k g in
     acted_adds luns 0 past k w lawful (function_turns luns _ past k rest refl g w is) (omega (arith, one))
 act_adds_by false false luns past k rest e g is lt w lawful =
     let frame = frame_of past.came k in
-    let long = most_answered (opcode_of (opcode_number frame.header)) (function_result past (reach_of luns k past)) (exchange_of past)
+    let long = most_answered (opcode_of (opcode_number frame.header)) (awaited past (reach_of luns k past)) (function_result past (reach_of luns k past)) (exchange_of past)
     (stamp (ended luns k past)) past.params frame (header_whole past k w lt) in
     acted_adds luns 1 past k w lawful (subst (Turns 1 past) (sym (behind_plain luns past k g)) (other_turns past k rest e w is)) (omega (arith, long))
 
@@ -283,7 +334,7 @@ due_came past k rest is =
     below_of (length past.came) k (taken past.came) (taken_below past.came)
     (in_left k past.acted (taken past.came) (subst (λ (l : List ℕ). is_in k l ≡ true) (sym is) (is_first k rest)))
 
-act_adds : (work : Work) (k : ℕ) (rest : List ℕ) → due work.past ≡ k ∷ rest → IsWithinLimits work.past → Adds 48 0 work.past (act k work).past
+pub act_adds : (work : Work) (k : ℕ) (rest : List ℕ) → due work.past ≡ k ∷ rest → IsWithinLimits work.past → Adds 48 0 work.past (act k work).past
 unfolding act
 act_adds work k rest is w =
     act_adds_by _ _ (numbers_of work.units) work.past k rest refl refl is (due_came work.past k rest is) w (act_lawful work k rest is w.lawful)
@@ -298,7 +349,7 @@ asked_immediate : (past : Past) (k tag : ℕ) → immediate_of (record past { r2
 unfolding unfinished functions
 asked_immediate past k tag = refl
 
-ask_adds : (work : Work) (k : ℕ) (rest : List ℕ) → asking work.past ≡ k ∷ rest → IsWithinLimits work.past → Adds 48 0 work.past (ask k work).past
+pub ask_adds : (work : Work) (k : ℕ) (rest : List ℕ) → asking work.past ≡ k ∷ rest → IsWithinLimits work.past → Adds 48 0 work.past (ask k work).past
 unfolding ask
 ask_adds work k rest is w =
     let past = work.past in
@@ -315,49 +366,47 @@ ask_adds work k rest is w =
       more = omega (arith, pending_answering (r2t_of past k) sent, asked_pending past k tag);
     }
 
--- ---- one after the other
+-- ---- a function is answered whose data has come
 
-step_by : (on fail : Bool) (n i : ℕ) (step : Step) (does : Work → Work) (work : Work) → IsWithinLimits work.past
-    → Adds n i work.past (does (reaches step work)).past
-    → Adds n i work.past (cond (not on) work (cond fail (record (reaches step work) { goes_on = false }) (does (reaches step work)))).past
-step_by false fail n i step does work w next = adds_none n i work.past w
-step_by true true n i step does work w next = adds_none n i work.past w
-step_by true false n i step does work w next = next
+told_pending : (past : Past) (k : ℕ) → pending_in (told k past) ≡ pending_in past
+unfolding held due queue taken_numbers
+told_pending past k = refl
 
-step_adds : (n i : ℕ) (fails : Step → Bool) (step : Step) (does : Work → Work) (work : Work) → IsWithinLimits work.past
-    → Adds n i work.past (does (reaches step work)).past → Adds n i work.past (take_step fails step does work).past
-unfolding take_step
-step_adds n i fails step does work w next = step_by work.goes_on (fails step) n i step does work w next
+told_unfinished : (past : Past) (k : ℕ) → unfinished (told k past) ≡ unfinished past
+unfolding unfinished
+told_unfinished past k = refl
 
-abbrev AddsLittle : (Past → List ℕ) → (ℕ → Work → Work) → Type 0
-AddsLittle line does = (work : Work) (k : ℕ) (rest : List ℕ) → line work.past ≡ k ∷ rest → IsWithinLimits work.past → Adds 48 0 work.past (does k work).past
+told_immediate : (past : Past) (k : ℕ) → IsLawful past → is_in k (awaiting past) ≡ true → immediate_of (told k past) ≤ immediate_of past
+told_immediate past k lawful waits =
+    let q : ℕ → Bool = λ a. is_immediate (frame_of past.came a).header in
+    omega (
+      arith,
+      ap (λ (l : List ℕ). length (filter q l)) (told_unfinished past k),
+      ap (λ (l : List ℕ). length (filter q l)) (functions_told past lawful k waits),
+      left_few q (k ∷ []) (functions past),
+    )
 
-first_adds : (fails : Step → Bool) (step : Step) (line : Past → List ℕ) (does : ℕ → Work → Work) (l : List ℕ) (work : Work) → line work.past ≡ l
-    → AddsLittle line does → IsWithinLimits work.past → Adds 48 0 work.past (first_steps fails step does l work).past
-first_adds fails step line does [] work is little w = adds_none 48 0 work.past w
-first_adds fails step line does (k ∷ rest) work is little w = step_adds 48 0 fails step (does k) work w (little (reaches step work) k rest is w)
+told_short : (past : Past) (k : ℕ) → length (flat_map spelling (told_answers past k)) ≤ 48
+unfolding told_answers
+told_short past k = omega arith
 
-all_add : (fails : Step → Bool) (step : ℕ → Step) (line : Past → List ℕ) (does : ℕ → Work → Work) (turn most : ℕ) (work : Work) → AddsLittle line does
-    → IsWithinLimits work.past → Adds (most * 48) 0 work.past (one_by_one fails step line does turn most work).past
-all_add fails step line does turn zero work little w = adds_none (0 * 48) 0 work.past w
-all_add fails step line does turn (suc most) work little w =
-    let next = first_steps fails (step turn) does (line work.past) work in
-    let one = first_adds fails (step turn) line does (line work.past) work refl little w in
-    let others = all_add fails step line does (suc turn) most next little one.within in
-    adds_less (48 + most * 48) (suc most * 48) (0 + 0) 0 work.past _ (omega arith) (omega arith)
-    (adds_then 48 (most * 48) 0 0 work.past next.past _ one others)
+first_waits : (past : Past) (k : ℕ) (rest : List ℕ) → drained_functions past ≡ k ∷ rest → is_in k (awaiting past) ≡ true
+unfolding drained_functions
+first_waits past k rest is =
+    in_filter k (λ a. not (lacks past a)) (awaiting past) (ap (λ (l : List ℕ). is_in k l) is ∙ in_at (k ∷ rest) 0 0 (omega arith))
 
-pub served_adds : (fails : Step → Bool) (place : ℕ) (frame : Frame) (work : Work) → length frame.header ≡ header_length → IsWithinLimits work.past
-    → pending_in work.past ≤ 40 → Adds (2 * request_weight) 1 work.past (served fails place frame work).past
-unfolding served taken_in act_all ask_due
-served_adds fails place frame work whole w few =
-    let judging = take_step fails (Judging place) (judge frame) work in
-    let first = step_adds (request_weight + 99) 1 fails (Judging place) (judge frame) work w (judge_adds frame (reaches (Judging place) work) whole w) in
-    let fuel = waiting_in judging.past in
-    let acts = one_by_one fails (Taking place) due act 0 fuel judging in
-    let second = all_add fails (Taking place) due act 0 fuel judging act_adds first.within in
-    let third = first_adds fails (Asking place) asking ask (asking acts.past) acts refl ask_adds second.within in
-    let more = first.more in
-    adds_less (request_weight + 99 + fuel * 48 + 48) (2 * request_weight) (1 + 0 + 0) 1 work.past _ (omega (arith, more, few)) (omega arith)
-    (adds_then (request_weight + 99 + fuel * 48) 48 (1 + 0) 0 work.past acts.past _
-    (adds_then (request_weight + 99) (fuel * 48) 1 0 work.past judging.past acts.past first second) third)
+pub tell_adds : (work : Work) (k : ℕ) (rest : List ℕ) → drained_functions work.past ≡ k ∷ rest → IsWithinLimits work.past → Adds 48 0 work.past (tell k work).past
+unfolding tell
+tell_adds work k rest is w =
+    let past = work.past in
+    let more = told_answers past k in
+    let few = w.few in
+    record {
+      within = record {
+        lawful = tell_lawful work k rest is w.lawful;
+        headers = w.headers;
+        few = omega (arith, few, immediate_answering more (told k past), told_immediate past k w.lawful (first_waits past k rest is));
+      };
+      added = omega (arith, spelled_more past.answers more, told_short past k, pending_answering more (told k past), told_pending past k);
+      more = omega (arith, pending_answering more (told k past), told_pending past k);
+    }

@@ -21,14 +21,14 @@ use Rattle.iscsi_order.specs.declared.window.CommandNumbers.{CommandNumbers}
 use Rattle.iscsi_order.specs.Stat.{stat_sn}
 use Rattle.iscsi_login.specs.declared.values.Values.{Values}
 use Rattle.iscsi_session.specs.Judging.{reserved_tag, reject}
-use Rattle.iscsi_session.specs.Requests.{Request, Past, frame_of, frames_of, is_in, left, is_command, is_function, functions, due, queue, finished, moved, numbers, bears_status, bearing, statuses, stamp, answering}
+use Rattle.iscsi_session.specs.Requests.{pending, Request, Past, frame_of, frames_of, is_in, left, is_command, is_function, functions, due, queue, finished, moved, numbers, bears_status, bearing, statuses, stamp, answering}
 use Rattle.iscsi_session.specs.State.{SessionState, standing, TaskLists, TransferList, IsLawful, Stands, functions_of, one_fewer, removed_at, place_for, function_place, function_removed}
 use Rattle.iscsi_session.specs.Transfers.{tag_of}
 use Rattle.iscsi_pdu.specs.declared.task_management_response.TaskResult.{TaskResult}
-use Rattle.iscsi_session.specs.Functions.{own_reach, plugs, function_result, function_answer}
+use Rattle.iscsi_session.specs.Functions.{own_reach, awaited, plugs, function_result, function_answer}
 use Rattle.iscsi_session.specs.declared.act.Act.{Act}
 use Rattle.iscsi_session.specs.declared.act.Act.TheVariants.{Idle, Taken, Ended}
-use Rattle.iscsi_session.specs.Acts.{acted, reach_of, ended, behind, act_answers, act_by, acted_by, answers_by, ordered, orders_by, act_answers_by, ends, ends_by, closes, logout_response, logout_answer, ping_answers}
+use Rattle.iscsi_session.specs.Acts.{acted, reach_of, ended, behind, act_answers, act_by, acted_by, answers_by, ordered, orders_by, act_answers_by, acted_answers, ends, ends_by, closes, logout_response, logout_answer, ping_answers}
 use Rattle.iscsi_exchange.specs.ExchangeState.{ExchangeState}
 use Rattle.iscsi_exchange.specs.Exchange.{TextPiece, ToldState, hears}
 use Rattle.iscsi_session.specs.Texts.{is_text, exchange_behind, exchange_of, text_answer}
@@ -39,7 +39,8 @@ use Rattle.iscsi_session.proofs.Standing.{standing_kept, stands_as, stands_void}
 use Rattle.iscsi_session.proofs.Over.{removed_command}
 use Rattle.iscsi_session.proofs.Places.{Located, found_self, remove_map}
 use Rattle.iscsi_session.proofs.Feeding.{removed_is, headers_are, function_located}
-use Rattle.iscsi_session.proofs.Moved.{due_came, stays_other, lawful_command, lawful_gone, tasks_command, tasks_gone, transfers_command, functions_command, lawful_other, tasks_other, transfers_other, functions_acted, functions_kept, functions_left, functions_distinct, functions_of_finished, due_function, lawful_finished, tasks_finished}
+use Rattle.iscsi_session.proofs.Moved.{not_pending, due_came, stays_other, lawful_command, lawful_gone, tasks_command, tasks_gone, transfers_command, functions_command, lawful_other, tasks_other, transfers_other, functions_acted, functions_kept, functions_left, functions_of_finished, due_function, lawful_finished, tasks_finished}
+use Rattle.iscsi_session.proofs.Pending.{functions_distinct, other_not_pending}
 
 -- ---- a request is counted as acted
 
@@ -111,7 +112,7 @@ acted_same luns k past =
 pub command_answers_none : (luns : List ℕ) (k : ℕ) (past : Past) → is_command (frame_of past.came k) ≡ true → act_answers luns k past ≡ []
 unfolding act_answers
 command_answers_none luns k past e =
-    ap (λ (n : ℕ). act_answers_by (opcode_of n) (function_result past (reach_of luns k past)) (exchange_of past)
+    ap (λ (n : ℕ). act_answers_by (opcode_of n) (awaited past (reach_of luns k past)) (function_result past (reach_of luns k past)) (exchange_of past)
     (stamp (ended luns k past)) past.params (frame_of past.came k))
     (eqb-true (opcode_number (frame_of past.came k).header) 0x01 e)
 
@@ -123,7 +124,7 @@ pub ping_is : (luns : List ℕ) (k : ℕ) (past : Past) → kind_of (frame_of pa
     → act_answers luns k past ≡ ping_answers (stamp (moved k past)) (moved k past).params.values (frame_of past.came k)
 unfolding act_answers
 ping_is luns k past is =
-    ap (λ (o : Opcode). act_answers_by o (function_result past (reach_of luns k past)) (exchange_of past) (stamp (ended luns k past)) past.params
+    ap (λ (o : Opcode). act_answers_by o (awaited past (reach_of luns k past)) (function_result past (reach_of luns k past)) (exchange_of past) (stamp (ended luns k past)) past.params
     (frame_of past.came k)) is
     ∙ ap (λ (p : Past). ping_answers (stamp p) past.params.values (frame_of past.came k))
     (ended_plain luns k past (no_function_kind (frame_of past.came k) is (λ x. absurd cc)))
@@ -137,7 +138,7 @@ pub logout_is : (luns : List ℕ) (k : ℕ) (past : Past) → kind_of (frame_of 
     → act_answers luns k past ≡ logout_answer (stamp (moved k past)) (moved k past).params (frame_of past.came k) ∷ []
 unfolding act_answers
 logout_is luns k past is =
-    ap (λ (o : Opcode). act_answers_by o (function_result past (reach_of luns k past)) (exchange_of past) (stamp (ended luns k past)) past.params
+    ap (λ (o : Opcode). act_answers_by o (awaited past (reach_of luns k past)) (function_result past (reach_of luns k past)) (exchange_of past) (stamp (ended luns k past)) past.params
     (frame_of past.came k)) is
     ∙ ap (λ (p : Past). logout_answer (stamp p) past.params (frame_of past.came k) ∷ [])
     (ended_plain luns k past (no_function_kind (frame_of past.came k) is (λ x. absurd cc)))
@@ -187,15 +188,15 @@ IsOther o =
     (o ≡ opcodes.ScsiCommand) ⊎ ((o ≡ opcodes.TaskManagement) ⊎ ((o ≡ opcodes.Text) ⊎ ((o ≡ opcodes.Login)
     ⊎ ((o ≡ opcodes.DataOut) ⊎ ((o ≡ opcodes.Snack) ⊎ ((n : ℕ) × (o ≡ opcodes.Other n)))))))
 
-other_answers : (o : Opcode) (result : TaskResult) (exchange : ExchangeState) (numbers_now : Stamp) (params : Params) (frame : Frame) → IsOther o → o ≢ opcodes.Text
-    → o ≢ opcodes.TaskManagement → act_answers_by o result exchange numbers_now params frame ≡ []
-other_answers o result exchange numbers_now params frame (inl e) no_text no_function = rw e refl
-other_answers o result exchange numbers_now params frame (inr (inl e)) no_text no_function = absurd (no_function e)
-other_answers o result exchange numbers_now params frame (inr (inr (inl e))) no_text no_function = absurd (no_text e)
-other_answers o result exchange numbers_now params frame (inr (inr (inr (inl e)))) no_text no_function = rw e refl
-other_answers o result exchange numbers_now params frame (inr (inr (inr (inr (inl e))))) no_text no_function = rw e refl
-other_answers o result exchange numbers_now params frame (inr (inr (inr (inr (inr (inl e)))))) no_text no_function = rw e refl
-other_answers o result exchange numbers_now params frame (inr (inr (inr (inr (inr (inr (n, e))))))) no_text no_function = rw e refl
+other_answers : (o : Opcode) (waited : List ℕ) (result : TaskResult) (exchange : ExchangeState) (numbers_now : Stamp) (params : Params) (frame : Frame) → IsOther o → o ≢ opcodes.Text
+    → o ≢ opcodes.TaskManagement → act_answers_by o waited result exchange numbers_now params frame ≡ []
+other_answers o waited result exchange numbers_now params frame (inl e) no_text no_function = rw e refl
+other_answers o waited result exchange numbers_now params frame (inr (inl e)) no_text no_function = absurd (no_function e)
+other_answers o waited result exchange numbers_now params frame (inr (inr (inl e))) no_text no_function = absurd (no_text e)
+other_answers o waited result exchange numbers_now params frame (inr (inr (inr (inl e)))) no_text no_function = rw e refl
+other_answers o waited result exchange numbers_now params frame (inr (inr (inr (inr (inl e))))) no_text no_function = rw e refl
+other_answers o waited result exchange numbers_now params frame (inr (inr (inr (inr (inr (inl e)))))) no_text no_function = rw e refl
+other_answers o waited result exchange numbers_now params frame (inr (inr (inr (inr (inr (inr (n, e))))))) no_text no_function = rw e refl
 
 other_ends : (o : Opcode) (params : Params) (frame : Frame) → IsOther o → ends_by o params frame ≡ false
 other_ends o params frame (inl e) = rw e refl
@@ -210,17 +211,28 @@ pub other_is : (luns : List ℕ) (k : ℕ) (past : Past) → IsOther (kind_of (f
     → is_function (frame_of past.came k) ≡ false → act_answers luns k past ≡ []
 unfolding act_answers
 other_is luns k past is no_text no_function =
-    other_answers (kind_of (frame_of past.came k)) (function_result past (reach_of luns k past)) (exchange_of past)
+    other_answers (kind_of (frame_of past.came k)) (awaited past (reach_of luns k past)) (function_result past (reach_of luns k past)) (exchange_of past)
     (stamp (ended luns k past)) past.params (frame_of past.came k) is
     (λ e. is_no_text (frame_of past.came k) no_text e) (λ e. is_no_function (frame_of past.came k) no_function e)
 
-pub function_is : (luns : List ℕ) (k : ℕ) (past : Past) → is_function (frame_of past.came k) ≡ true
+pub function_is : (luns : List ℕ) (k : ℕ) (past : Past) → is_function (frame_of past.came k) ≡ true → awaited past (reach_of luns k past) ≡ []
     → act_answers luns k past ≡ function_answer (stamp (ended luns k past)) (function_result past (reach_of luns k past)) (frame_of past.came k).header ∷ []
 unfolding act_answers
-function_is luns k past e =
-    ap (λ (o : Opcode). act_answers_by o (function_result past (reach_of luns k past)) (exchange_of past) (stamp (ended luns k past)) past.params
+function_is luns k past e none =
+    ap (λ (o : Opcode). act_answers_by o (awaited past (reach_of luns k past)) (function_result past (reach_of luns k past)) (exchange_of past) (stamp (ended luns k past)) past.params
     (frame_of past.came k))
     (function_kind (frame_of past.came k) e)
+    ∙ ap (λ (l : List ℕ). acted_answers l (stamp (ended luns k past)) (function_result past (reach_of luns k past)) (frame_of past.came k).header) none
+
+-- one that waits for data is not answered
+pub function_waits : (luns : List ℕ) (k : ℕ) (past : Past) (first : ℕ) (others : List ℕ) → is_function (frame_of past.came k) ≡ true
+    → awaited past (reach_of luns k past) ≡ first ∷ others → act_answers luns k past ≡ []
+unfolding act_answers
+function_waits luns k past first others e some =
+    ap (λ (o : Opcode). act_answers_by o (awaited past (reach_of luns k past)) (function_result past (reach_of luns k past)) (exchange_of past)
+    (stamp (ended luns k past)) past.params (frame_of past.came k))
+    (function_kind (frame_of past.came k) e)
+    ∙ ap (λ (l : List ℕ). acted_answers l (stamp (ended luns k past)) (function_result past (reach_of luns k past)) (frame_of past.came k).header) some
 
 pub function_act : (k : ℕ) (past : Past) → is_function (frame_of past.came k) ≡ true → Taken ≡ cond (ends past.params (frame_of past.came k)) Ended Taken
 unfolding ends
@@ -231,7 +243,7 @@ pub text_is : (luns : List ℕ) (k : ℕ) (past : Past) → is_text (frame_of pa
     (frame_of past.came k) ∷ []
 unfolding act_answers
 text_is luns k past e =
-    ap (λ (o : Opcode). act_answers_by o (function_result past (reach_of luns k past)) (exchange_of past) (stamp (ended luns k past)) past.params
+    ap (λ (o : Opcode). act_answers_by o (awaited past (reach_of luns k past)) (function_result past (reach_of luns k past)) (exchange_of past) (stamp (ended luns k past)) past.params
     (frame_of past.came k)) (text_kind (frame_of past.came k) e)
     ∙ ap (λ (p : Past). text_answer (stamp p) (hears (exchange_of past) (frame_of past.came k) past.params).piece (frame_of past.came k) ∷ [])
     (ended_plain luns k past (no_function_kind (frame_of past.came k) (text_kind (frame_of past.came k) e) (λ x. absurd cc)))
@@ -303,7 +315,7 @@ ping_data length_is n most body e =
 
 -- ---- what is left of the session
 
-answering_none : (past : Past) (more : List Answer) → more ≡ [] → past ≡ answering more past
+pub answering_none : (past : Past) (more : List Answer) → more ≡ [] → past ≡ answering more past
 answering_none past more e = ap (λ (l : List Answer). record past { answers = l }) (sym (append-nil past.answers))
     ∙ ap (λ (l : List Answer). answering l past) (sym e)
 
@@ -333,7 +345,7 @@ first_drops past state k rest s is e =
     d ∙ ap (λ (f : Frame). f ∷ frames_of (standing past) rest) (stands_other_kind past state k rest s is e)
     ∙ ap (λ (l : List Frame). frame_of past.came k ∷ l) (sym (ap (drop 1) d))
 
-function_no_text : (frame : Frame) → is_function frame ≡ true → is_text frame ≡ false
+pub function_no_text : (frame : Frame) → is_function frame ≡ true → is_text frame ≡ false
 function_no_text frame e = not_text frame opcodes.TaskManagement (function_kind frame e) (λ x. absurd cc)
 
 command_no_text : (frame : Frame) → is_command frame ≡ true → is_text frame ≡ false
@@ -466,7 +478,8 @@ stands_other past state k rest headers s is e left_over =
 -- of another kind
 same_functions : (past : Past) (state : SessionState) (k : ℕ) → Stands past state → is_function (frame_of past.came k) ≡ false
     → state.functions ≡ functions_of (finished k past)
-same_functions past state k s e = (parts past state s).functions_is ∙ sym (functions_kept past k e)
+same_functions past state k s e =
+    (parts past state s).functions_is ∙ sym (functions_kept past k (other_not_pending past k s.lawful.drained e) e)
 
 pub same_head : (a b : Frame) (x y l : List Frame) → l ≡ a ∷ x → l ≡ b ∷ y → a ≡ b
 same_head a b x y l p q = let both : a ∷ x ≡ b ∷ y = sym p ∙ q in cc
@@ -503,7 +516,7 @@ finished_here past state k rest frame tasks s is e no_text no_function some same
         })) (sym kept) (stands_other past state k rest state.functions s is no_command (same_functions past state k s no_function)))
 
 -- where it stands among the functions
-function_at : (past : Past) (k : ℕ) (at : Option ℕ) → IsLawful past → is_in k (functions past) ≡ true
+pub function_at : (past : Past) (k : ℕ) (at : Option ℕ) → IsLawful past → is_in k (functions past) ≡ true
     → Located (λ header. initiator_task_tag header == tag_of past.came k) (λ a. (frame_of past.came a).header) (functions past) at
     → function_removed (map (λ a. (frame_of past.came a).header) (functions past)) at
     ≡ map (λ a. (frame_of past.came a).header) (left (k ∷ []) (functions past))
@@ -514,11 +527,11 @@ function_at past k (Some i) lawful there found =
     let same : found.0 ≡ k = cc in
     remove_map (λ a. (frame_of past.came a).header) (functions past) i k (functions_distinct past) (found.2 ∙ ap (λ (n : ℕ). Some n) same)
 
-function_gone : (past : Past) (state : SessionState) (k : ℕ) → Stands past state → is_in k (functions past) ≡ true
+function_gone : (past : Past) (state : SessionState) (k : ℕ) → Stands past state → is_in k (functions past) ≡ true → is_in k (pending past) ≡ false
     → function_removed state.functions (function_place (tag_of past.came k) state.functions) ≡ functions_of (finished k past)
-function_gone past state k s there =
+function_gone past state k s there free =
     ap (λ (l : List (List ℕ)). function_removed l (function_place (tag_of past.came k) l)) (headers_are past state s)
-    ∙ function_at past k _ s.lawful there (function_located past (tag_of past.came k)) ∙ functions_left past k
+    ∙ function_at past k _ s.lawful there (function_located past (tag_of past.came k)) ∙ functions_left past k free
 
 -- a Task Management Function Request is finished, in the code
 pub function_here : (past : Past) (state : SessionState) (k : ℕ) (rest : List ℕ) (frame : Frame) (tasks : TaskLists) (tag : ℕ) (headers : List (List ℕ))
@@ -534,7 +547,7 @@ function_here past state k rest frame tasks tag headers s is e some same tag_is 
     ∙ sym (exchange_other past.params (exchange_of past) f (function_no_text f e)) in
     let left_over : headers ≡ functions_of (finished k past) = gone
     ∙ ap (λ (t : ℕ). function_removed state.functions (function_place t state.functions)) tag_is
-    ∙ function_gone past state k s (due_function past s.lawful k rest is e) in (
+    ∙ function_gone past state k s (due_function past s.lawful k rest is e) (not_pending past s.lawful k rest is) in (
       here,
       rw (same, here) (subst (λ (x : ExchangeState). Stands (moved k past) (record state {
         tasks = one_fewer f (record state.tasks { due = drop 1 state.tasks.due });
@@ -585,17 +598,18 @@ pub logout_same : (luns : List ℕ) (k : ℕ) (past : Past) (frame : Frame) → 
 logout_same luns k past frame same kind = ap (λ (f : Frame). logout_answer (stamp (moved k past)) (moved k past).params f ∷ []) same
     ∙ sym (logout_is luns k past kind)
 
-pub function_bears : (luns : List ℕ) (k : ℕ) (past : Past) → is_function (frame_of past.came k) ≡ true → bearing (act_answers luns k past) ≡ 1
-function_bears luns k past e =
-    ap bearing (function_is luns k past e)
+pub function_bears : (luns : List ℕ) (k : ℕ) (past : Past) → is_function (frame_of past.came k) ≡ true → awaited past (reach_of luns k past) ≡ []
+    → bearing (act_answers luns k past) ≡ 1
+function_bears luns k past e none =
+    ap bearing (function_is luns k past e none)
     ∙ one_bearing (function_answer (stamp (ended luns k past)) (function_result past (reach_of luns k past)) (frame_of past.came k).header) refl
 
 pub function_same : (luns : List ℕ) (k : ℕ) (past : Past) (header : List ℕ) (result : TaskResult) → header ≡ (frame_of past.came k).header
-    → result ≡ function_result past (own_reach luns header) → is_function (frame_of past.came k) ≡ true
+    → result ≡ function_result past (own_reach luns header) → is_function (frame_of past.came k) ≡ true → awaited past (reach_of luns k past) ≡ []
     → function_answer (stamp (ended luns k past)) result header ∷ [] ≡ act_answers luns k past
-function_same luns k past header result same is e =
+function_same luns k past header result same is e none =
     ap (λ (r : TaskResult). function_answer (stamp (ended luns k past)) r header ∷ []) is
-    ∙ ap (λ (h : List ℕ). function_answer (stamp (ended luns k past)) (function_result past (own_reach luns h)) h ∷ []) same ∙ sym (function_is luns k past e)
+    ∙ ap (λ (h : List ℕ). function_answer (stamp (ended luns k past)) (function_result past (own_reach luns h)) h ∷ []) same ∙ sym (function_is luns k past e none)
 
 pub text_same : (luns : List ℕ) (k : ℕ) (past : Past) (frame : Frame) (told : ToldState) → frame ≡ frame_of past.came k
     → told ≡ hears (exchange_of past) (frame_of past.came k) past.params → is_text (frame_of past.came k) ≡ true

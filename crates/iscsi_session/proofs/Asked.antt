@@ -1,4 +1,4 @@
--- A frame is served: it is taken, and then the R2T that it made due is sent.
+-- Behind a frame that is taken the R2T that it made due is sent.
 use Rattle.std.proofs.Common.{◌≡◌, ℕ, List, [], ◌∷◌, ◌++◌, Bool, true, false, Option, Some, None, refl, sym, ap, ◌∙◌, subst, append-nil}
 use Rattle.std.specs.Prelude.{flat_map, is_some}
 use Rattle.std.proofs.lemmas.Bool.{eq-eqb}
@@ -8,7 +8,7 @@ use Rattle.iscsi_pdu.specs.Answer.{spelling}
 use Rattle.iscsi_session.specs.Requests.{Past}
 use Rattle.iscsi_session.specs.Transfers.{asking, asked_by, r2t_of, r2ts_by}
 use Rattle.iscsi_session.specs.State.{SessionState, Stands, asking_place}
-use Rattle.iscsi_session.specs.Steps.{Step, Judging, Taking, Asking, is_serving, Work, reaches, ask, first_steps, ask_due, taken_in, served}
+use Rattle.iscsi_session.specs.Steps.{Step, Judging, Taking, Asking, is_serving, Work, reaches, ask, first_steps, ask_due, taken_in, asked_in}
 use Rattle.iscsi_session.specs.Runs.{Output, Starts, Leaves, FailsAs, IsReached, Runs, Stops}
 use Rattle.iscsi_session.proofs.Asking.{asking_there}
 use Rattle.iscsi_session.proofs.Steps.{taken_agrees}
@@ -27,11 +27,11 @@ asks_nothing : (fails : Step → Bool) (place : ℕ) (work : Work) → work.goes
 unfolding ask_due
 asks_nothing fails place work off = first_stopped fails (Asking place) ask (asking work.past) work off
 
-pub served_ended : (frame : Frame) (failed : Option (ℕ → Step)) (old new : SessionState) (before waiting : Output) (units : UnitStates)
+pub asked_ended : (frame : Frame) (failed : Option (ℕ → Step)) (old new : SessionState) (before waiting : Output) (units : UnitStates)
     → Runs (λ fails place. taken_in fails place frame) failed false old new before waiting units units
-    → Runs (λ fails place. served fails place frame) failed false old new before waiting units units
-unfolding served
-served_ended frame failed old new before waiting units r =
+    → Runs (λ fails place. asked_in fails place frame) failed false old new before waiting units units
+unfolding asked_in
+asked_ended frame failed old new before waiting units r =
     let same : (place : ℕ) (fails : Step → Bool) (work : Work) → FailsAs failed place fails → Starts work old units
     → ask_due fails place (taken_in fails place frame work) ≡ taken_in fails place frame work = λ place fails work told s.
     asks_nothing fails place (taken_in fails place frame work) (r.ends place fails work told s) in
@@ -43,16 +43,16 @@ served_ended frame failed old new before waiting units r =
           (r.reached place fails work told s);
     }
 
-pub stops_served : (luns : List ℕ) (frame : Frame) (old new : SessionState) (before waiting : Output)
+pub stops_asked : (luns : List ℕ) (frame : Frame) (old new : SessionState) (before waiting : Output)
     → Stops is_serving (λ failed. (units : UnitStates) → luns ≡ numbers_of units
     → Runs (λ fails place. taken_in fails place frame) failed false old new before waiting units units)
     → Stops is_serving (λ failed. (units : UnitStates) → luns ≡ numbers_of units
-    → Runs (λ fails place. served fails place frame) failed false old new before waiting units units)
-stops_served luns frame old new before waiting stops = record {
+    → Runs (λ fails place. asked_in fails place frame) failed false old new before waiting units units)
+stops_asked luns frame old new before waiting stops = record {
   step = stops.step;
   of_frame = stops.of_frame;
   of_kind = stops.of_kind;
-  leads = λ units numbers. served_ended frame (Some stops.step) old new before waiting units (stops.leads units numbers);
+  leads = λ units numbers. asked_ended frame (Some stops.step) old new before waiting units (stops.leads units numbers);
 }
 
 -- ---- the R2T is sent
@@ -98,11 +98,11 @@ asked_here fails place work old new before waiting units un s asks =
     asked_leaves (asking work.past) fails place work new before waiting units un s.goes_on s.units (asks.stands work.past st) (asks.out work.past st)
     asks.orders
 
-pub served_on : (frame : Frame) (old middle new : SessionState) (before waiting items : Output) (units : UnitStates)
+pub asked_on : (frame : Frame) (old middle new : SessionState) (before waiting items : Output) (units : UnitStates)
     → Runs (λ fails place. taken_in fails place frame) None true old middle before waiting units units → Asks middle new waiting items
-    → Runs (λ fails place. served fails place frame) None true old new before items units units
-unfolding served ask_due
-served_on frame old middle new before waiting items units r asks =
+    → Runs (λ fails place. asked_in fails place frame) None true old new before items units units
+unfolding asked_in ask_due
+asked_on frame old middle new before waiting items units r asks =
     let there : (place : ℕ) (fails : Step → Bool) (work : Work) → FailsAs None place fails → Starts work old units
     → Leaves work (taken_in fails place frame work) middle before waiting units
     × Asked fails place (asking (taken_in fails place frame work).past) (taken_in fails place frame work) new waiting items units =
@@ -135,13 +135,13 @@ record StopsAt (place : ℕ) (fails : Step → Bool) (frame : Frame) (work : Wor
     (units : UnitStates) : Type 0 where
   pub taken : Work
   pub leaves : Leaves work taken middle before waiting units
-  pub is : served fails place frame work ≡ record (reaches (Asking place) taken) { goes_on = false }
+  pub is : asked_in fails place frame work ≡ record (reaches (Asking place) taken) { goes_on = false }
 
 stops_at : (frame : Frame) (old middle : SessionState) (before waiting : Output) (units : UnitStates)
     → Runs (λ fails place. taken_in fails place frame) None true old middle before waiting units units
     → is_some (asking_place middle.transfers.list) ≡ true → (place : ℕ) (fails : Step → Bool) (work : Work)
     → FailsAs (Some (λ place. Asking place)) place fails → Starts work old units → StopsAt place fails frame work middle before waiting units
-unfolding served ask_due no_failure
+unfolding asked_in ask_due no_failure
 stops_at frame old middle before waiting units r due place fails work told s =
     let none : FailsAs None place no_failure = λ step of. refl in
     let t = taken_in no_failure place frame work in
@@ -158,11 +158,11 @@ stops_at frame old middle before waiting units r due place fails work told s =
       is = ap (ask_due fails place) same ∙ stopped_before (asking t.past) fails place found.0 found.1 t found.2 on fail;
     }
 
-pub served_stops : (frame : Frame) (old middle : SessionState) (before waiting : Output) (units : UnitStates)
+pub asked_stops : (frame : Frame) (old middle : SessionState) (before waiting : Output) (units : UnitStates)
     → Runs (λ fails place. taken_in fails place frame) None true old middle before waiting units units
     → is_some (asking_place middle.transfers.list) ≡ true
-    → Runs (λ fails place. served fails place frame) (Some (λ place. Asking place)) false old middle before waiting units units
-served_stops frame old middle before waiting units r due = record {
+    → Runs (λ fails place. asked_in fails place frame) (Some (λ place. Asking place)) false old middle before waiting units units
+asked_stops frame old middle before waiting units r due = record {
   leads = λ place fails work told s.
       (let t = stops_at frame old middle before waiting units r due place fails work told s in
       subst (λ (v : Work). Leaves work v middle before waiting units) (sym t.is)
@@ -171,17 +171,17 @@ served_stops frame old middle before waiting units r due = record {
       (let t = stops_at frame old middle before waiting units r due place fails work told s in ap (λ (v : Work). v.goes_on) t.is);
   reached = λ place fails work told s.
       (let t = stops_at frame old middle before waiting units r due place fails work told s in
-      reached_last (Asking place) t.taken (served fails place frame work) t.is);
+      reached_last (Asking place) t.taken (asked_in fails place frame work) t.is);
 }
 
 pub asking_stops : (luns : List ℕ) (frame : Frame) (old middle new : SessionState) (before waiting items : Output) → new ≡ middle → items ≡ waiting
     → ((units : UnitStates) → luns ≡ numbers_of units → Runs (λ fails place. taken_in fails place frame) None true old middle before waiting units units)
     → is_some (asking_place middle.transfers.list) ≡ true
     → Stops is_serving (λ failed. (units : UnitStates) → luns ≡ numbers_of units
-    → Runs (λ fails place. served fails place frame) failed false old new before items units units)
+    → Runs (λ fails place. asked_in fails place frame) failed false old new before items units units)
 asking_stops luns frame old middle new before waiting items same is r due = record {
   step = λ place. Asking place;
   of_frame = λ place. eq-eqb place place refl;
   of_kind = λ place. refl;
-  leads = λ units numbers. rw (same, is) (served_stops frame old middle before waiting units (r units numbers) due);
+  leads = λ units numbers. rw (same, is) (asked_stops frame old middle before waiting units (r units numbers) due);
 }

@@ -1,6 +1,6 @@
 -- An R2T is sent, and a command of the queue is done where its data is whole.
 use Rattle.std.proofs.Common.{◌≡◌, ◌≢◌, ◌==◌, ℕ, ◌+◌, ◌%◌, ◌<◌, List, [], ◌∷◌, ◌++◌, length, map, set, Bool, true, false, Option, Some, None, refl, sym, ap, subst, ◌∙◌, arith, append-nil}
-use Rattle.std.specs.Prelude.{filter, fold, find, is_some, option_map, slice_get}
+use Rattle.std.specs.Prelude.{filter, fold, find, is_some, option_map, slice_get, slice_index_or}
 use Rattle.std.proofs.lemmas.Bool.{eq-eqb, ne_eqb}
 use Rattle.std.proofs.lemmas.List.{length-append}
 use Rattle.std.proofs.lemmas.List.Elements.{All-push}
@@ -10,14 +10,17 @@ use Rattle.iscsi_pdu.specs.declared.stamp.Stamp.{Stamp}
 use Rattle.iscsi_transfer.specs.Task.{TaskState, remembered as task_of}
 use Rattle.iscsi_transfer.proofs.Standing.{remembered-asked}
 use Rattle.iscsi_session.specs.declared.transfers.Transfer.{Transfer}
+use Rattle.iscsi_session.specs.declared.transfers.Drained.{Drained}
 use Rattle.iscsi_session.specs.Requests.{Past, SentR2t, frame_of, is_in, due, queue, unfinished, stamp, statuses, bearing, functions}
-use Rattle.iscsi_session.specs.Transfers.{outs_of, tags_of, last_tag, data_past, task_at, is_whole_of, ask_of, asking, next_transfer_tag, r2t_for, r2t_answers, r2t_of, asked, asked_by, r2ts_by}
-use Rattle.iscsi_session.specs.State.{SessionState, TransferList, IsLawful, Stands, tasks_of, transfers_of, transfer_of, transfer_at, no_transfer, due_of, asking_place, r2t_at, asked_at, sent_to, functions_of, standing}
+use Rattle.iscsi_session.specs.Transfers.{outs_of, tags_of, last_tag, data_past, task_at, is_whole_of, ask_of, asking, next_transfer_tag, drains_of, r2t_for, r2t_answers, r2t_of, asked, asked_by, r2ts_by}
+use Rattle.iscsi_session.specs.State.{SessionState, TransferList, AreDrained, drained_of, IsLawful, Stands, tasks_of, transfers_of, transfer_of, transfer_at, no_transfer, due_of, asking_place, r2t_at, asked_at, sent_to, functions_of, standing}
 use Rattle.iscsi_session.specs.Steps.{ready, ready_in}
 use Rattle.iscsi_order.specs.Stat.{stat_sn}
 use Rattle.iscsi_session.proofs.Left.{in_at, in_filter}
-use Rattle.iscsi_session.proofs.Places.{Located, located, index_map, set_map, first_passes, none_passes, one_more}
-use Rattle.iscsi_session.proofs.Unfinished.{unfinished_came, unfinished_distinct}
+use Rattle.iscsi_session.proofs.Places.{in_get, Located, located, index_map, set_map, first_passes, none_passes, one_more}
+use Rattle.iscsi_session.proofs.Unfinished.{drained_with, unfinished_came, unfinished_distinct}
+use Rattle.iscsi_session.proofs.Pending.{drains_all, drains_apart}
+use Rattle.iscsi_session.proofs.Drains.{same_drains}
 use Rattle.iscsi_session.proofs.Exchanging.{exchange_asked}
 use Rattle.iscsi_session.proofs.Parts.{parts}
 use Rattle.iscsi_session.proofs.Feeding.{list_is}
@@ -95,14 +98,22 @@ asked_list past k i at =
     ∙ set_map (transfer_of past) (transfer_of (asked k past)) (unfinished past) i k (unfinished_distinct past) at
     (λ j differ. asked_elsewhere past k j differ)
 
-asked_transfers : (past : Past) (k i : ℕ) → slice_get (unfinished past) i ≡ Some k → asked_at (transfers_of past) (Some i) ≡ transfers_of (asked k past)
+asked_drains : (past : Past) (k i : ℕ) → AreDrained past → slice_get (unfinished past) i ≡ Some k
+    → map (drained_of past) (drains_of past) ≡ map (drained_of (asked k past)) (drains_of (asked k past))
+asked_drains past k i drained at = same_drains (drained_of past) (drained_of (asked k past)) (drains_of past)
+    (drains_all (λ d. drained_of (asked k past) d ≡ drained_of past d) past (λ n none lt.
+    ap (drained_with (frame_of past.came (slice_index_or past.drains n none).function).header)
+    (asked_elsewhere past k _ (drains_apart past k drained (in_get (unfinished past) i k at) n none lt))))
+
+asked_transfers : (past : Past) (k i : ℕ) → AreDrained past → slice_get (unfinished past) i ≡ Some k → asked_at (transfers_of past) (Some i) ≡ transfers_of (asked k past)
 unfolding transfers_of
-asked_transfers past k i at =
+asked_transfers past k i drained at =
     let next : (length past.r2ts % 0xFFFFFFFF + 1) % 0xFFFFFFFF ≡ length (past.r2ts ++ record { command = k; tag = next_transfer_tag past } ∷ []) % 0xFFFFFFFF =
     omega (arith, length-append past.r2ts (record { command = k; tag = next_transfer_tag past } ∷ [])) in
     let list = asked_list past k i at ∙ ap (map (transfer_of (asked k past))) (sym (unfinished_asked past k)) in
     ap (λ (n : ℕ). record (asked_at (transfers_of past) (Some i)) { next_tag = n }) next
-    ∙ ap (λ (l : List Transfer). record (transfers_of (asked k past)) { list = l }) list
+    ∙ ap (λ (l : List Transfer). record (transfers_of (asked k past)) { list = l; drains = (transfers_of past).drains }) list
+    ∙ ap (λ (l : List Drained). record (transfers_of (asked k past)) { drains = l }) (asked_drains past k i drained at)
 
 none_bears_by : (r : Option R2t) → bearing (r2t_answers r) ≡ 0
 none_bears_by None = refl
@@ -136,7 +147,7 @@ stands_one past state k i others s is at =
     let stat_is : state.stat ≡ stat_sn (statuses (asked k past)) = p.stat_is ∙ ap stat_sn (sym (statuses_asked past k)) in
     let tasks_is = p.tasks_is ∙ sym (tasks_asked past k) in
     let transfers_is : asked_at state.transfers (Some i) ≡ transfers_of (asked k past) =
-    ap (λ (t : TransferList). asked_at t (Some i)) p.transfers_is ∙ asked_transfers past k i at in
+    ap (λ (t : TransferList). asked_at t (Some i)) p.transfers_is ∙ asked_transfers past k i s.lawful.drained at in
     let exchange_is = p.exchange_is ∙ sym (exchange_asked k past) in
     let functions_is = p.functions_is ∙ functions_asked past k in
     record {

@@ -1,11 +1,10 @@
 -- Sessions between two frames: how many requests they hold, and what the calls on them add.
-use Rattle.std.proofs.Common.{◌≡◌, ℕ, zero, suc, ◌+◌, ◌-◌, ◌*◌, ◌<◌, ◌≤◌, ◌==◌, ◌||◌, List, [], ◌∷◌, ◌++◌, length, map, get_or, Bool, true, false, cond, not, Option, Some, None, Result, Ok, Err, refl, sym, ap, subst, ◌∙◌, arith, inl, inr}
-use Rattle.std.specs.Prelude.{All, filter, flat_map, is_some, ◌⊎◌, IfOk, OnErr}
+use Rattle.std.proofs.Common.{◌≡◌, ℕ, zero, suc, ◌+◌, ◌-◌, ◌<◌, ◌≤◌, ◌==◌, ◌||◌, List, [], ◌∷◌, ◌++◌, length, get_or, Bool, true, false, not, Option, Some, None, Result, Ok, Err, refl, sym, ap, subst, ◌∙◌, arith, inl, inr}
+use Rattle.std.specs.Prelude.{filter, flat_map, is_some, ◌⊎◌, IfOk, OnErr}
 use Rattle.std.specs.List.{range_with_len}
-use Rattle.std.proofs.lemmas.Bool.{eq-eqb, eqb-true, ne_eqb, cases_eq}
+use Rattle.std.proofs.lemmas.Bool.{eq-eqb, ne_eqb, cases_eq}
 use Rattle.std.proofs.lemmas.List.{length-append, length-map, nil_from_length}
 use Rattle.std.proofs.lemmas.List.Filters.{length-filter_both}
-use Rattle.std.proofs.lemmas.Grind.{flat_map-append}
 use Rattle.iscsi_pdu.specs.Header.{header_length, is_immediate}
 use Rattle.iscsi_pdu.specs.Frames.{Frame}
 use Rattle.iscsi_pdu.specs.Answer.{spelling}
@@ -17,27 +16,29 @@ use Rattle.scsi_unit.specs.DiskCommands.{most_given}
 use Rattle.scsi_unit.specs.Units.{UnitStates, numbers_of}
 use Rattle.iscsi_login.specs.Values.{AreInRange}
 use Rattle.iscsi_login.specs.declared.params.Params.{Params}
-use Rattle.iscsi_session.specs.Requests.{Request, Past, begun, no_request, frame_of, frames_of, request_at, is_command, is_in, left, commands, others, numbers, numbered, held, due, queue, unfinished, functions, finished, removing, answering, stamp, counted, over, taken, place_of}
+use Rattle.iscsi_session.specs.Requests.{Past, begun, no_request, frame_of, frames_of, request_at, is_command, is_in, left, commands, others, numbers, numbered, held, due, queue, unfinished, pending as awaiting, functions, finished, removing, answering, stamp, counted, over, taken, place_of}
 use Rattle.iscsi_session.specs.Functions.{FunctionReach, reached}
 use Rattle.iscsi_session.specs.Answers.{command_answers}
-use Rattle.iscsi_session.specs.State.{SessionState, AreDistinct, IsLawful, Stands, IsDelivered, TaskLists, standing, tasks_of, remembered}
-use Rattle.iscsi_session.specs.Steps.{Step, Work, begun_work, answered_command, is_serving, served}
-use Rattle.iscsi_session.specs.Runs.{Output, output, Starts, Leaves, FailsAs, is_failed, Runs, Stops}
-use Rattle.iscsi_session.specs.Weight.{request_weight, pending, weight_with, IsWithinLimits, IsAtRest, Eases, Loads, most_added}
+use Rattle.iscsi_session.specs.State.{SessionState, AreDistinct, IsLawful, Stands, standing, remembered}
+use Rattle.iscsi_session.specs.Steps.{Step, begun_work, answered_command, is_serving, served}
+use Rattle.iscsi_session.specs.Runs.{Output, Starts, is_failed, Runs, Stops}
+use Rattle.iscsi_session.specs.Weight.{pending, IsWithinLimits, IsAtRest, Eases, Loads}
 use Rattle.iscsi_session.proofs.Left.{filter_cong, in_at, in_left, in_left_back, distinct_filter, distinct_left, passes_in, below_of, in_filter, in_filter_back}
 use Rattle.iscsi_session.proofs.Unfinished.{unfinished_without, queue_unfinished}
-use Rattle.iscsi_session.proofs.Moved.{functions_without, lawful_finished}
+use Rattle.iscsi_session.proofs.Moved.{lawful_finished}
+use Rattle.iscsi_session.proofs.Pending.{functions_without, command_not_pending}
 use Rattle.iscsi_order.proofs.Standing.{front_within}
 use Rattle.iscsi_session.proofs.Accepted.{begun_lawful, handed_is, counted_append}
 use Rattle.iscsi_session.proofs.Over.{split, acted_counted}
-use Rattle.iscsi_session.proofs.Parts.{parts, due_is, queue_is}
+use Rattle.iscsi_session.proofs.Parts.{due_is, queue_is}
 use Rattle.iscsi_session.proofs.Runs.{lawful_answering}
 use Rattle.iscsi_session.proofs.Taken.{distinct_taken}
 use Rattle.iscsi_session.proofs.Left.{distinct_front}
-use Rattle.iscsi_session.proofs.Pending.{filter_fewer, pending_in, pending_is, pending_finished, pending_removing}
+use Rattle.iscsi_session.proofs.Holding.{filter_fewer, pending_in, pending_is, pending_finished, pending_removing}
 use Rattle.iscsi_session.proofs.Limits.{immediate_of, immediate_less}
 use Rattle.iscsi_session.proofs.Lengths.{command_long}
-use Rattle.iscsi_session.proofs.Added.{heaviness, Adds, adds_none, pending_answering, immediate_answering, spelled_more, removed_immediate, served_adds}
+use Rattle.iscsi_session.proofs.Added.{pending_answering, immediate_answering, spelled_more, removed_immediate}
+use Rattle.iscsi_session.proofs.Adding.{served_adds}
 
 -- ---- how many are pending
 
@@ -60,8 +61,13 @@ held_few past lawful =
       few_below come ((numbers past).finished + window) (numbers past).handed window (λ k h. lawful.window.within k h),
     )
 
+-- those that wait are not over
+done_counted : (past : Past) → counted past.came (left (awaiting past) past.finished) ≤ counted past.came past.finished
+unfolding left
+done_counted past = omega (arith, split (λ k. not (is_in k (awaiting past))) past.came past.finished)
+
 -- with those that are over, the queue has all that are taken, where none is due
-queue_counted : (past : Past) → IsLawful past → due past ≡ [] → counted past.came (over past) + counted past.came (queue past) ≡ (numbers past).handed
+queue_counted : (past : Past) → IsLawful past → due past ≡ [] → counted past.came (over past) + counted past.came (queue past) ≤ (numbers past).handed
 queue_counted past lawful idle =
     let came = past.came in
     let a = split (λ k. is_command (frame_of came k)) came past.finished in
@@ -72,7 +78,8 @@ queue_counted past lawful idle =
     let e : counted came (taken came) ≡ counted came past.acted + counted came (due past) = ap (counted came) lawful.in_order
     ∙ counted_append came past.acted (due past) in
     let none : counted came (due past) ≡ 0 = ap (counted came) idle in
-    let f = counted_append came past.finished (filter (λ k. is_in k past.removed) past.acted) in
+    let f = counted_append came (left (awaiting past) past.finished) (filter (λ k. is_in k past.removed) past.acted) in
+    let g = done_counted past in
     let handed = lawful.handed in
     omega arith
 
@@ -196,8 +203,17 @@ same_due : (past : Past) (k : ℕ) (more : List Answer) → due (answering more 
 unfolding due
 same_due past k more = refl
 
-finished_immediate : (past : Past) (k : ℕ) → immediate_of (finished k past) ≤ immediate_of past
-finished_immediate past k = immediate_less past (finished k past) (k ∷ []) refl (unfinished_without past k) (functions_without past k)
+queue_command : (past : Past) (k : ℕ) → is_in k (queue past) ≡ true → is_command (frame_of past.came k) ≡ true
+unfolding queue
+queue_command past k e =
+    passes_in k (λ a. is_command (frame_of past.came a)) past.acted
+    (in_left k past.finished (commands past.came past.acted) (in_left k past.removed (left past.finished (commands past.came past.acted)) e))
+
+finished_immediate : (past : Past) (k : ℕ) (others : List ℕ) → queue past ≡ k ∷ others → IsLawful past → immediate_of (finished k past) ≤ immediate_of past
+finished_immediate past k others is lawful =
+    let there : is_in k (queue past) ≡ true = ap (λ (l : List ℕ). is_in k l) is ∙ in_at (k ∷ others) 0 0 (omega arith) in
+    immediate_less past (finished k past) (k ∷ []) refl (unfinished_without past k)
+    (functions_without past k (command_not_pending past k lawful.drained (queue_command past k there)))
 
 done_within : (past : Past) (k : ℕ) (others : List ℕ) (done : Outcome) → queue past ≡ k ∷ others → IsWithinLimits past
     → IsWithinLimits (answered_command done k past)
@@ -207,7 +223,7 @@ done_within past k others done is w =
     record {
       lawful = lawful_answering more (finished k past) (lawful_finished past w.lawful k others is);
       headers = w.headers;
-      few = omega (arith, few, immediate_answering more (finished k past), finished_immediate past k);
+      few = omega (arith, few, immediate_answering more (finished k past), finished_immediate past k others is w.lawful);
     }
 
 first_of : (past : Past) (state : SessionState) (frame : Frame) (rest : List Frame) → Stands past state → state.tasks.queue ≡ frame ∷ rest

@@ -15,9 +15,10 @@ use Rattle.iscsi_pdu.specs.Frames.{Frame}
 use Rattle.iscsi_order.specs.Window as order
 use Rattle.iscsi_order.specs.Window.{window, taken as taken_numbers}
 use Rattle.iscsi_order.specs.Serial.{distance}
-use Rattle.iscsi_session.specs.Requests.{Request, Past, request_at, frame_of, is_in, is_command, is_function, numbered, place_of, unfinished, finished, moved, removing, numbers}
+use Rattle.iscsi_session.specs.Requests.{Request, Past, Drain, draining, request_at, frame_of, is_in, is_command, is_function, numbered, place_of, unfinished, finished, moved, removing, numbers}
 use Rattle.iscsi_session.specs.declared.transfers.Transfer.{Transfer}
-use Rattle.iscsi_session.specs.Functions.{FunctionReach, reaches, reached, plug, is_plug, plugged, is_plugged, refers_back, aborts_unseen, plugs, plugs_by, abort_result}
+use Rattle.iscsi_session.specs.Functions.{FunctionReach, waits, awaited, reaches, reached, plug, is_plug, plugged, is_plugged, refers_back, aborts_unseen, plugs, plugs_by, abort_result}
+use Rattle.iscsi_session.specs.Transfers.{is_asked_of}
 use Rattle.iscsi_session.specs.Acts.{reach_of, ended, behind}
 use Rattle.iscsi_session.specs.State.{SessionState, TaskLists, IsLawful, Stands, void, voided, standing, frame_numbered, tasks_of, transfer_of, is_vacant, one_fewer, without, transfers_without, reaches_some, holding, takes_all, held_numbered, is_some_plug}
 use Rattle.iscsi_session.proofs.Left.{and_true_both}
@@ -56,8 +57,26 @@ reached_moved luns past k f =
     (unfinished_moved past k ∙ unfinished_other past k no_command)
 
 pub ended_function : (luns : List ℕ) (past : Past) (k : ℕ) → is_function (frame_of past.came k) ≡ true
-    → ended luns k past ≡ removing (reached (reach_of luns k past) past) (moved k past)
+    → ended luns k past ≡ draining k (awaited past (reach_of luns k past)) (removing (reached (reach_of luns k past) past) (moved k past))
 ended_function luns past k f = rw f refl
+
+-- where it does not wait
+pub ended_now : (luns : List ℕ) (past : Past) (k : ℕ) → is_function (frame_of past.came k) ≡ true → awaited past (reach_of luns k past) ≡ []
+    → removing (reached (reach_of luns k past) past) (moved k past) ≡ ended luns k past
+ended_now luns past k f none =
+    let p = removing (reached (reach_of luns k past) past) (moved k past) in
+    ap (λ (l : List Drain). record p { drains = l }) (sym (append-nil p.drains)) ∙ ap (λ (l : List ℕ). draining k l p) (sym none)
+    ∙ sym (ended_function luns past k f)
+
+-- what it waits for is of what it reaches
+pub awaited_some : (past : Past) (reach : FunctionReach) (first : ℕ) (others : List ℕ) → awaited past reach ≡ first ∷ others
+    → awaited past reach ≡ filter (is_asked_of past) (reached reach past)
+unfolding awaited
+awaited_some past reach first others e = by_case (waits reach) refl
+  where
+    by_case : (b : Bool) → waits reach ≡ b → awaited past reach ≡ filter (is_asked_of past) (reached reach past)
+    by_case true is = rw is refl
+    by_case false is = absurd (let none : [] ≡ first ∷ others = rw is at e in cc)
 
 -- ---- what it plugs
 
@@ -83,6 +102,20 @@ plugs_new past reach e = (plugs_parts (task_function (function_code reach.functi
 pub plugs_none : (past : Past) (reach : FunctionReach) → plugs past reach ≡ true → reached reach past ≡ []
 unfolding plugs
 plugs_none past reach e = (plugs_parts (task_function (function_code reach.function)) past reach e).0
+
+pub plugs_unasked : (past : Past) (reach : FunctionReach) → plugs past reach ≡ true → awaited past reach ≡ []
+unfolding awaited
+plugs_unasked past reach e = by_case (waits reach) refl
+  where
+    by_case : (b : Bool) → waits reach ≡ b → awaited past reach ≡ []
+    by_case true is = rw is (ap (filter (is_asked_of past)) (plugs_none past reach e))
+    by_case false is = rw is refl
+
+-- so it plugs no number
+pub awaited_no_plug : (past : Past) (reach : FunctionReach) (first : ℕ) (others : List ℕ) → awaited past reach ≡ first ∷ others → plugs past reach ≡ false
+awaited_no_plug past reach first others e = false_from_ne_true (plugs past reach) (λ h.
+    let none = plugs_none past reach h in
+    let both = sym (awaited_some past reach first others e ∙ ap (filter (is_asked_of past)) none) ∙ e in absurd cc)
 
 -- ---- a number that was plugged
 
@@ -153,7 +186,7 @@ plugged_is past state n s = ap (λ (t : TaskLists). is_some_plug (held_numbered 
 
 -- ---- in the code
 
-any_counts : (p : Transfer → Bool) (f : ℕ → Transfer) (l : List ℕ) → list_any p (map f l) ≡ not (length (filter (λ k. p (f k)) l) == 0)
+pub any_counts : (p : Transfer → Bool) (f : ℕ → Transfer) (l : List ℕ) → list_any p (map f l) ≡ not (length (filter (λ k. p (f k)) l) == 0)
 any_counts p f [] = refl
 any_counts p f (k ∷ l) = by_case (p (f k)) refl (any_counts p f l)
   where
@@ -228,7 +261,7 @@ vacant_still frame others tasks n e =
     ap (λ (t : TaskLists). is_vacant t n) (one_fewer_by _ frame (record tasks { due = others }) refl)
     ∙ vacant_by (distance tasks.next n) tasks.unfinished (not (is_some (get_or tasks.held (distance tasks.next n) None))) (is_immediate frame.header) e
 
-behind_plain : (luns : List ℕ) (past after : Past) (k : ℕ) → plugs past (reach_of luns k past) ≡ false → behind luns k past after ≡ after
+pub behind_plain : (luns : List ℕ) (past after : Past) (k : ℕ) → plugs past (reach_of luns k past) ≡ false → behind luns k past after ≡ after
 behind_plain luns past after k e = by_case (is_function (frame_of past.came k)) refl
   where
     by_case : (b : Bool) → is_function (frame_of past.came k) ≡ b → behind luns k past after ≡ after
@@ -241,18 +274,18 @@ behind_plugs luns past after k f e = rw (f, e) refl
 
 -- it removes what it reaches
 pub stands_ended : (luns : List ℕ) (past : Past) (state : SessionState) (k : ℕ) → is_function (frame_of past.came k) ≡ true
-    → Stands (moved k past) state → Stands (ended luns k past) (record state {
+    → awaited past (reach_of luns k past) ≡ [] → Stands (moved k past) state → Stands (ended luns k past) (record state {
       tasks = without (reach_of luns k past) state.tasks;
       transfers = record state.transfers { list = transfers_without (reach_of luns k past) state.transfers.list };
     })
-stands_ended luns past state k f s =
+stands_ended luns past state k f none s =
     let reach = reach_of luns k past in
     let after : SessionState = record state {
       tasks = without reach state.tasks;
       transfers = record state.transfers { list = transfers_without reach state.transfers.list };
     } in
     subst (λ (p : Past). Stands p after)
-    (ap (λ (l : List ℕ). removing l (moved k past)) (reached_moved luns past k f) ∙ sym (ended_function luns past k f))
+    (ap (λ (l : List ℕ). removing l (moved k past)) (reached_moved luns past k f) ∙ ended_now luns past k f none)
     (stands_removing reach (moved k past) state s)
 
 pub stands_behind : (luns : List ℕ) (past : Past) (state : SessionState) (k : ℕ) → plugs past (reach_of luns k past) ≡ false
@@ -261,11 +294,11 @@ stands_behind luns past state k e s = subst (λ (p : Past). Stands p state) (sym
 
 -- and where it plugs it reaches none
 pub stands_unreached : (luns : List ℕ) (past : Past) (state : SessionState) (k : ℕ) → is_function (frame_of past.came k) ≡ true
-    → plugs past (reach_of luns k past) ≡ true → Stands (moved k past) state → Stands (ended luns k past) state
-stands_unreached luns past state k f e s =
+    → awaited past (reach_of luns k past) ≡ [] → plugs past (reach_of luns k past) ≡ true → Stands (moved k past) state → Stands (ended luns k past) state
+stands_unreached luns past state k f unasked e s =
     let none : removing [] (moved k past) ≡ moved k past = ap (λ (l : List ℕ). record (moved k past) { removed = l }) (append-nil (moved k past).removed) in
     subst (λ (p : Past). Stands p state)
-    (sym none ∙ ap (λ (l : List ℕ). removing l (moved k past)) (sym (plugs_none past (reach_of luns k past) e)) ∙ sym (ended_function luns past k f)) s
+    (sym none ∙ ap (λ (l : List ℕ). removing l (moved k past)) (sym (plugs_none past (reach_of luns k past) e)) ∙ ended_now luns past k f unasked) s
 
 pub stands_plugged_behind : (luns : List ℕ) (past : Past) (state : SessionState) (k n : ℕ) → is_function (frame_of past.came k) ≡ true
     → plugs past (reach_of luns k past) ≡ true → n ≡ ref_cmd_sn (frame_of past.came k).header → is_vacant state.tasks n ≡ true

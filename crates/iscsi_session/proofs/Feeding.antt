@@ -1,25 +1,29 @@
 -- The data of the commands: where each stands, what a Data-Out and an R2T make of it.
-use Rattle.std.proofs.Common.{◌≡◌, ◌≢◌, ◌==◌, ◌+◌, ◌||◌, ℕ, ◌<◌, List, [], ◌∷◌, ◌++◌, length, map, set, ltb, Bool, true, false, not, Option, Some, None, eqb, refl, sym, ap, ◌∙◌, arith, append-nil}
-use Rattle.std.specs.Prelude.{filter, find, is_some, slice_get, if◌then◌else◌}
-use Rattle.std.proofs.lemmas.Bool.{eq-eqb, ne_eqb}
-use Rattle.std.proofs.lemmas.List.Elements.{All-push}
+use Rattle.std.proofs.Common.{◌≡◌, ◌≢◌, ◌==◌, ◌+◌, ◌||◌, ℕ, ◌<◌, List, [], ◌∷◌, ◌++◌, length, map, set, ltb, Bool, ◌&&◌, true, false, not, Option, Some, None, eqb, refl, sym, ap, ◌∙◌, arith, append-nil}
+use Rattle.std.specs.Prelude.{All, filter, find, is_some, slice_get, if◌then◌else◌}
+use Rattle.std.proofs.lemmas.Bool.{eq-eqb, ne_eqb, false_from_ne_true}
+use Rattle.std.proofs.lemmas.List.Elements.{All-push, All-nil, All-cons, All-head, All-tail}
 use Rattle.iscsi_pdu.specs.Header.{is_immediate, initiator_task_tag}
 use Rattle.iscsi_pdu.specs.Frames.{Frame}
 use Rattle.iscsi_transfer.specs.Task.{TaskState, remembered as task_of, fault_of, is_whole, with_data}
 use Rattle.iscsi_transfer.proofs.Standing.{remembered-accepted}
 use Rattle.iscsi_session.specs.declared.transfers.Transfer.{Transfer}
+use Rattle.iscsi_session.specs.declared.transfers.Drained.{Drained}
 use Rattle.iscsi_session.specs.declared.verdict.Verdict.TheVariants.{Violating, Feeding}
 use Rattle.iscsi_session.specs.Functions.{function_with, immediate_in}
-use Rattle.iscsi_session.specs.Requests.{Past, DataOut, is_command, is_function, functions, frame_of, is_in, due, queue, unfinished, finished}
+use Rattle.iscsi_session.specs.Requests.{Past, Drain, DataOut, is_command, is_function, functions, frame_of, is_in, due, queue, unfinished, finished}
 use Rattle.iscsi_session.specs.Judging.{is_live, is_full, data_verdict}
-use Rattle.iscsi_session.specs.Transfers.{tag_of, command_with, outs_of, tags_of, last_tag, data_past, task_at, payload_of, is_whole_of, fed}
-use Rattle.iscsi_session.specs.State.{SessionState, TransferList, IsLawful, Stands, tasks_of, transfers_of, transfer_of, no_transfer, bears, place_with, place_for, immediate_transfers, functions_of, function_place, immediate_functions, judged_at, fed_at, whole_at, payload_at, removed_at, standing}
-use Rattle.iscsi_session.proofs.Left.{in_at}
-use Rattle.iscsi_session.proofs.Places.{Located, located, index_map, set_map, remove_map, missing, found_or_not, found_self, count_map, or_known, one_more}
-use Rattle.iscsi_session.proofs.Unfinished.{unfinished_came, unfinished_distinct, queue_unfinished}
+use Rattle.iscsi_session.specs.Transfers.{tag_of, command_with, command_among, drains_of, drained, is_asked_of, outs_of, tags_of, last_tag, data_past, task_at, payload_of, is_whole_of, fed}
+use Rattle.iscsi_session.specs.Draining.{is_draining, drain_with, drain_for, no_drained, judged_drain, fed_drain, judged_in, fed_in, is_live_in}
+use Rattle.iscsi_session.specs.State.{SessionState, TransferList, AreDrained, drained_of, IsLawful, Stands, tasks_of, transfers_of, transfer_of, no_transfer, bears, place_with, place_for, immediate_transfers, functions_of, function_place, immediate_functions, judged_at, fed_at, whole_at, payload_at, removed_at, standing}
+use Rattle.iscsi_session.proofs.Left.{in_at, in_filter, below_of}
+use Rattle.iscsi_session.proofs.Places.{Located, located, in_get, same_all, index_map, set_map, remove_map, missing, found_or_not, found_self, count_map, or_known, one_more}
+use Rattle.iscsi_session.proofs.Unfinished.{drained_with, unfinished_came, unfinished_distinct, queue_unfinished}
+use Rattle.iscsi_session.proofs.Pending.{drains_all, drains_once, drains_apart, drain_commands_below}
+use Rattle.iscsi_session.proofs.Drains.{drain_at, LocatedAmong, located_among, index_drains, same_drains, set_drains}
 use Rattle.iscsi_session.proofs.Moved.{transfers_finished}
 use Rattle.iscsi_session.proofs.Exchanging.{exchange_fed}
-use Rattle.iscsi_session.proofs.Accepted.{HasFreeTag}
+use Rattle.iscsi_session.proofs.Accepted.{HasFreeTag, removed_below}
 use Rattle.iscsi_session.proofs.Parts.{parts, stands_parts}
 use Rattle.iscsi_session.proofs.Runs.{lawful_data}
 
@@ -34,11 +38,43 @@ located_with past tag = located (bears tag) (transfer_of past) (unfinished past)
 
 -- ---- tags
 
-commands_live : (past : Past) (state : SessionState) (tag : ℕ) → Stands past state
-    → is_some (place_with tag state.transfers.list) ≡ is_some (command_with past tag)
-commands_live past state tag s =
+-- where that with a tag is drained
+drain_located : (past : Past) (tag : ℕ)
+    → LocatedAmong (is_asked_of past) (λ k. tag_of past.came k == tag) (drains_of past) (drain_with tag (map (drained_of past) (drains_of past)))
+drain_located past tag =
+    located_among (λ (x : Drained). is_draining x && bears tag x.transfer) (drained_of past) (is_asked_of past) (λ k. tag_of past.came k == tag) (drains_of past)
+    (λ d. refl)
+
+pub drains_are : (past : Past) (state : SessionState) → Stands past state → state.transfers.drains ≡ map (drained_of past) (drains_of past)
+unfolding transfers_of
+drains_are past state s = ap (λ (t : TransferList). t.drains) (parts past state s).transfers_is
+
+some_among : (a q : ℕ → Bool) (drains : List Drain) (at : Option ℕ) → LocatedAmong a q drains at
+    → is_some at ≡ is_some (find q (filter a (map (λ d. d.command) drains)))
+some_among a q drains None found = ap is_some (sym found)
+some_among a q drains (Some i) found = ap is_some (sym found.1)
+
+drained_live : (past : Past) (state : SessionState) (tag : ℕ) → Stands past state
+    → is_some (drain_with tag state.transfers.drains) ≡ is_some (command_among past tag (drained past))
+unfolding drained
+drained_live past state tag s =
+    ap (λ (l : List Drained). is_some (drain_with tag l)) (drains_are past state s)
+    ∙ some_among (is_asked_of past) (λ k. tag_of past.came k == tag) (drains_of past) _ (drain_located past tag)
+
+unfinished_live : (past : Past) (state : SessionState) (tag : ℕ) → Stands past state
+    → is_some (place_with tag state.transfers.list) ≡ is_some (command_among past tag (unfinished past))
+unfinished_live past state tag s =
     ap (λ (l : List Transfer). is_some (place_with tag l)) (list_is past state s)
     ∙ found_or_not (bears tag) (transfer_of past) (unfinished past) _ (located_with past tag)
+
+either_some : (a b : Option ℕ) → (is_some a || is_some b) ≡ is_some (if is_some a then a else b)
+either_some None b = refl
+either_some (Some k) b = refl
+
+commands_live : (past : Past) (state : SessionState) (tag : ℕ) → Stands past state → is_live_in tag state.transfers ≡ is_some (command_with past tag)
+commands_live past state tag s =
+    rw (unfinished_live past state tag s, drained_live past state tag s)
+    (either_some (command_among past tag (unfinished past)) (command_among past tag (drained past)))
 
 header_of : Past → ℕ → List ℕ
 header_of past k = (frame_of past.came k).header
@@ -60,7 +96,7 @@ functions_live past state tag s =
     ∙ found_or_not (λ header. initiator_task_tag header == tag) (λ k. (frame_of past.came k).header) (functions past) _ (function_located past tag)
 
 pub live_is : (past : Past) (state : SessionState) (tag : ℕ) → Stands past state
-    → (is_some (place_with tag state.transfers.list) || is_some (function_place tag state.functions)) ≡ is_live past tag
+    → (is_live_in tag state.transfers || is_some (function_place tag state.functions)) ≡ is_live past tag
 live_is past state tag s = rw (commands_live past state tag s, functions_live past state tag s) refl
 
 pub live_first : (a b c : Bool) → a ≡ true → (r : Bool) → r ≡ true → (a || b) ≡ c → r ≡ c
@@ -90,13 +126,18 @@ pub or_behind : (a b : Bool) → (a || b) ≡ false → b ≡ false
 or_behind true b e = absurd cc
 or_behind false b e = e
 
+first_none : (a b : Option ℕ) → is_some (if is_some a then a else b) ≡ false → a ≡ None
+first_none None b e = refl
+first_none (Some k) b e = absurd cc
+
 pub free_by_past : (past : Past) (frame : Frame) → ((is_command frame || is_function frame) ≡ true → is_live past (initiator_task_tag frame.header) ≡ false)
     → HasFreeTag past frame
 free_by_past past frame free =
     let tag = initiator_task_tag frame.header in
     record {
       command = λ h. missing (tag_of past.came) tag (unfinished past)
-          (none_by (command_with past tag) (or_front _ (is_some (function_with past tag)) (free (ap (λ (b : Bool). b || is_function frame) h))));
+          (first_none (command_among past tag (unfinished past)) (command_among past tag (drained past))
+          (or_front _ (is_some (function_with past tag)) (free (ap (λ (b : Bool). b || is_function frame) h))));
       function = λ h. missing (tag_of past.came) tag (functions past)
           (none_by (function_with past tag) (or_behind (is_some (command_with past tag)) _ (free (or_known (is_command frame) (is_function frame) h))));
     }
@@ -106,23 +147,47 @@ pub free_tag : (past : Past) (state : SessionState) (frame : Frame) → Stands p
     → function_place (initiator_task_tag frame.header) state.functions ≡ None → HasFreeTag past frame
 free_tag past state frame s e f =
     let tag = initiator_task_tag frame.header in
-    free_by_past past frame (λ h. sym (live_is past state tag s) ∙ rw (e, f) refl)
+    record {
+      command = λ h. missing (tag_of past.came) tag (unfinished past) (none_by _ (sym (unfinished_live past state tag s) ∙ ap is_some e));
+      function = λ h. missing (tag_of past.came) tag (functions past) (none_by _ (sym (functions_live past state tag s) ∙ ap is_some f));
+    }
 
 -- ---- a Data-Out is judged
 
-judged_place : (past : Past) (frame : Frame) (at : Option ℕ) → Located (bears (initiator_task_tag frame.header)) (transfer_of past) (unfinished past) at
-    → judged_at (map (transfer_of past) (unfinished past)) frame at ≡ data_verdict past frame (command_with past (initiator_task_tag frame.header))
+abbrev tag_in : Frame → ℕ
+tag_in frame = initiator_task_tag frame.header
+
+judged_place : (past : Past) (frame : Frame) (at : Option ℕ) → Located (bears (tag_in frame)) (transfer_of past) (unfinished past) at
+    → judged_at (map (transfer_of past) (unfinished past)) frame at ≡ data_verdict past frame (command_among past (tag_in frame) (unfinished past))
 judged_place past frame None found = ap (data_verdict past frame) (sym found)
 judged_place past frame (Some i) found =
     ap (λ (t : Transfer). if is_some (fault_of t.task frame) then Violating else Feeding) (index_map (transfer_of past) no_transfer (unfinished past) i found.0
     found.2) ∙ ap (data_verdict past frame) (sym found.1)
 
+judged_drained : (past : Past) (frame : Frame) (at : Option ℕ)
+    → LocatedAmong (is_asked_of past) (λ k. tag_of past.came k == tag_in frame) (drains_of past) at
+    → judged_drain (map (drained_of past) (drains_of past)) frame at ≡ data_verdict past frame (command_among past (tag_in frame) (drained past))
+unfolding drained
+judged_drained past frame None found = ap (data_verdict past frame) (sym found)
+judged_drained past frame (Some i) found =
+    ap (λ (x : Drained). if is_some (fault_of x.transfer.task frame) then Violating else Feeding)
+    (index_drains (drained_of past) no_drained (drains_of past) i found.0 found.2) ∙ ap (data_verdict past frame) (sym found.1)
+
+-- by the first of two where there is one, else by the second
+by_either : {Y : Type 0} (f : Option ℕ → Y) (c : Bool) (a b : Option ℕ) (x y : Y) → c ≡ is_some a → x ≡ f a → y ≡ f b
+    → (if c then x else y) ≡ f (if is_some a then a else b)
+by_either f c None b x y e p q = rw e q
+by_either f c (Some k) b x y e p q = rw e p
+
 pub judged_is : (past : Past) (state : SessionState) (frame : Frame) → Stands past state
-    → judged_at state.transfers.list frame (place_for frame state.transfers.list)
-    ≡ data_verdict past frame (command_with past (initiator_task_tag frame.header))
+    → judged_in state.transfers frame ≡ data_verdict past frame (command_with past (tag_in frame))
 judged_is past state frame s =
-    ap (λ (l : List Transfer). judged_at l frame (place_for frame l)) (list_is past state s)
-    ∙ judged_place past frame _ (located_with past (initiator_task_tag frame.header))
+    by_either (data_verdict past frame) _ (command_among past (tag_in frame) (unfinished past)) (command_among past (tag_in frame) (drained past)) _ _
+    (unfinished_live past state (tag_in frame) s)
+    (ap (λ (l : List Transfer). judged_at l frame (place_for frame l)) (list_is past state s)
+    ∙ judged_place past frame _ (located_with past (tag_in frame)))
+    (ap (λ (l : List Drained). judged_drain l frame (drain_for frame l)) (drains_are past state s)
+    ∙ judged_drained past frame _ (drain_located past (tag_in frame)))
 
 -- ---- a Data-Out is accepted
 
@@ -166,23 +231,71 @@ fed_list past k i frame at =
     ∙ set_map (transfer_of past) (transfer_of (feeding k frame past)) (unfinished past) i k (unfinished_distinct past) at
     (λ j differ. fed_elsewhere past k j frame differ)
 
-fed_place : (past : Past) (frame : Frame) (at : Option ℕ) → Located (bears (initiator_task_tag frame.header)) (transfer_of past) (unfinished past) at
+-- the others are as they were
+fed_others : (past : Past) (k : ℕ) (frame : Frame) → is_in k (unfinished past) ≡ false
+    → map (transfer_of past) (unfinished past) ≡ map (transfer_of (feeding k frame past)) (unfinished past)
+fed_others past k frame none =
+    same_all (transfer_of past) (transfer_of (feeding k frame past)) k (unfinished past) none (λ j differ. fed_elsewhere past k j frame differ)
+
+drain_elsewhere : (past : Past) (k : ℕ) (frame : Frame) (d : Drain) → d.command ≢ k → drained_of (feeding k frame past) d ≡ drained_of past d
+drain_elsewhere past k frame d differ = ap (drained_with (frame_of past.came d.function).header) (fed_elsewhere past k d.command frame differ)
+
+fed_drains : (past : Past) (k : ℕ) (frame : Frame) → AreDrained past → is_in k (unfinished past) ≡ true
+    → map (drained_of past) (drains_of past) ≡ map (drained_of (feeding k frame past)) (drains_of past)
+fed_drains past k frame drained there = same_drains (drained_of past) (drained_of (feeding k frame past)) (drains_of past)
+    (drains_all (λ d. drained_of (feeding k frame past) d ≡ drained_of past d) past
+    (λ i none lt. drain_elsewhere past k frame _ (drains_apart past k drained there i none lt)))
+
+-- it is of a command that is not finished
+fed_place : (past : Past) (frame : Frame) (at : Option ℕ) → AreDrained past → Located (bears (tag_in frame)) (transfer_of past) (unfinished past) at
     → record (transfers_of past) { list = fed_at (map (transfer_of past) (unfinished past)) frame at }
-    ≡ transfers_of (fed (command_with past (initiator_task_tag frame.header)) frame past)
+    ≡ transfers_of (fed (command_among past (tag_in frame) (unfinished past)) frame past)
 unfolding transfers_of
-fed_place past frame None found = ap (λ (c : Option ℕ). transfers_of (fed c frame past)) (sym found)
-fed_place past frame (Some i) found =
-    ap (λ (l : List Transfer). record (transfers_of past) { list = l }) (fed_list past found.0 i frame found.2
-    ∙ ap (map (transfer_of (feeding found.0 frame past))) (sym (unfinished_fed past found.0 frame)))
+fed_place past frame None drained found = ap (λ (c : Option ℕ). transfers_of (fed c frame past)) (sym found)
+fed_place past frame (Some i) drained found =
+    let k = found.0 in
+    ap (λ (l : List Transfer). record (transfers_of past) { list = l }) (fed_list past k i frame found.2
+    ∙ ap (map (transfer_of (feeding k frame past))) (sym (unfinished_fed past k frame)))
+    ∙ ap (λ (l : List Drained). record (transfers_of (feeding k frame past)) { drains = l })
+    (fed_drains past k frame drained (in_get (unfinished past) i k found.2))
+    ∙ ap (λ (c : Option ℕ). transfers_of (fed c frame past)) (sym found.1)
+
+-- or of one whose data is drained
+drain_there : (past : Past) (i : ℕ) (d : Drain) → AreDrained past → slice_get (drains_of past) i ≡ Some d → is_in d.command (unfinished past) ≡ false
+drain_there past i d drained at = false_from_ne_true (is_in d.command (unfinished past)) (λ there.
+    drain_at (λ e. e.command ≢ d.command) (drains_of past) i d (drains_all (λ e. e.command ≢ d.command) past (drains_apart past d.command drained there)) at refl)
+
+fed_drained : (past : Past) (frame : Frame) (at : Option ℕ) → AreDrained past
+    → LocatedAmong (is_asked_of past) (λ k. tag_of past.came k == tag_in frame) (drains_of past) at
+    → record (transfers_of past) { drains = fed_drain (map (drained_of past) (drains_of past)) frame at }
+    ≡ transfers_of (fed (command_among past (tag_in frame) (drained past)) frame past)
+unfolding transfers_of drained
+fed_drained past frame None drained found = ap (λ (c : Option ℕ). transfers_of (fed c frame past)) (sym found)
+fed_drained past frame (Some i) drained found =
+    let d = found.0 in
+    let k = d.command in
+    let set_there : fed_drain (map (drained_of past) (drains_of past)) frame (Some i) ≡ map (drained_of (feeding k frame past)) (drains_of past) =
+    ap (λ (x : Drained). set (map (drained_of past) (drains_of past)) i (record x { transfer = record x.transfer { task = with_data x.transfer.task frame } }))
+    (index_drains (drained_of past) no_drained (drains_of past) i d found.2)
+    ∙ ap (λ (t : Transfer). set (map (drained_of past) (drains_of past)) i (drained_with (frame_of past.came d.function).header t))
+    (sym (fed_there past k frame))
+    ∙ set_drains (drained_of past) (drained_of (feeding k frame past)) (drains_of past) i d (drains_once past drained) found.2
+    (λ e differ. drain_elsewhere past k frame e differ) in
+    ap (λ (l : List Drained). record (transfers_of past) { drains = l }) set_there
+    ∙ ap (λ (l : List Transfer). record (transfers_of (feeding k frame past)) { list = l })
+    (fed_others past k frame (drain_there past i d drained found.2) ∙ ap (map (transfer_of (feeding k frame past))) (sym (unfinished_fed past k frame)))
     ∙ ap (λ (c : Option ℕ). transfers_of (fed c frame past)) (sym found.1)
 
 pub fed_is : (past : Past) (state : SessionState) (frame : Frame) → Stands past state
-    → record state.transfers { list = fed_at state.transfers.list frame (place_for frame state.transfers.list) }
-    ≡ transfers_of (fed (command_with past (initiator_task_tag frame.header)) frame past)
+    → fed_in state.transfers frame ≡ transfers_of (fed (command_with past (tag_in frame)) frame past)
 unfolding transfers_of
 fed_is past state frame s =
-    ap (λ (t : TransferList). record t { list = fed_at t.list frame (place_for frame t.list) }) (parts past state s).transfers_is
-    ∙ fed_place past frame _ (located_with past (initiator_task_tag frame.header))
+    ap (λ (t : TransferList). fed_in t frame) (parts past state s).transfers_is
+    ∙ by_either (λ (c : Option ℕ). transfers_of (fed c frame past)) _ (command_among past (tag_in frame) (unfinished past))
+    (command_among past (tag_in frame) (drained past)) _ _
+    (found_or_not (bears (tag_in frame)) (transfer_of past) (unfinished past) _ (located_with past (tag_in frame)))
+    (fed_place past frame _ s.lawful.drained (located_with past (tag_in frame)))
+    (fed_drained past frame _ s.lawful.drained (drain_located past (tag_in frame)))
 
 lawful_fed_at : (past : Past) (k : ℕ) (frame : Frame) → k < length past.came → IsLawful past → IsLawful (feeding k frame past)
 lawful_fed_at past k frame lt lawful =
@@ -197,10 +310,33 @@ found_in q k (a ∷ names) e = found_in_with (q a) refl (λ h. found_in q k name
     found_in_with true is rest = let same : Some a ≡ Some k = rw is at e in let here : a ≡ k = cc in rw (eq-eqb a k here) refl
     found_in_with false is rest = let h = rw is at e in or_known (eqb a k) (is_in k names) (rest h)
 
+drained_came : (past : Past) (k : ℕ) → IsLawful past → is_in k (drained past) ≡ true → k < length past.came
+unfolding drained
+drained_came past k lawful e =
+    below_of (length past.came) k (map (λ d. d.command) (drains_of past))
+    (map_all (λ d. d.command) (drains_of past) (drains_all (λ d. d.command < length past.came) past
+    (drain_commands_below past lawful.drained (removed_below past lawful))))
+    (in_filter k (is_asked_of past) (map (λ d. d.command) (drains_of past)) e)
+  where
+    map_all : (f : Drain → ℕ) (l : List Drain) → All (λ d. f d < length past.came) l → All (λ a. a < length past.came) (map f l)
+    map_all f [] all = All-nil (λ a. a < length past.came)
+    map_all f (d ∷ l) all = All-cons (λ a. a < length past.came) (f d) (map f l) (All-head (λ (x : Drain). f x < length past.came) d l all)
+        (map_all f l (All-tail (λ (x : Drain). f x < length past.came) d l all))
+
+found_came : (past : Past) (tag k : ℕ) → IsLawful past → (a b : Option ℕ) → command_among past tag (unfinished past) ≡ a
+    → command_among past tag (drained past) ≡ b → command_with past tag ≡ Some k → k < length past.came
+found_came past tag k lawful None b p q e =
+    let h : command_among past tag (drained past) ≡ Some k = rw p at e in
+    drained_came past k lawful (found_in (λ c. tag_of past.came c == tag) k (drained past) h)
+found_came past tag k lawful (Some c) b p q e =
+    let h : Some c ≡ Some k = rw p at e in
+    unfinished_came past k (found_in (λ c. tag_of past.came c == tag) k (unfinished past) (p ∙ h))
+
 lawful_fed_by : (past : Past) (frame : Frame) (c : Option ℕ) → command_with past (initiator_task_tag frame.header) ≡ c → IsLawful past
     → IsLawful (fed c frame past)
 lawful_fed_by past frame None e lawful = lawful
-lawful_fed_by past frame (Some k) e lawful = lawful_fed_at past k frame (unfinished_came past k (found_in _ k (unfinished past) e)) lawful
+lawful_fed_by past frame (Some k) e lawful =
+    lawful_fed_at past k frame (found_came past (tag_in frame) k lawful _ _ refl refl e) lawful
 
 pub lawful_fed : (past : Past) (frame : Frame) → IsLawful past → IsLawful (fed (command_with past (initiator_task_tag frame.header)) frame past)
 lawful_fed past frame lawful = lawful_fed_by past frame _ refl lawful
@@ -221,7 +357,7 @@ fed_functions past frame (Some k) = refl
 
 pub stands_fed : (past : Past) (state : SessionState) (frame : Frame) → Stands past state
     → Stands (fed (command_with past (initiator_task_tag frame.header)) frame past)
-    (record state { transfers = record state.transfers { list = fed_at state.transfers.list frame (place_for frame state.transfers.list) } })
+    (record state { transfers = fed_in state.transfers frame })
 stands_fed past state frame s =
     let c = command_with past (initiator_task_tag frame.header) in
     let same = fed_same past frame c in

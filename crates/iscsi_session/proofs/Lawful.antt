@@ -12,20 +12,22 @@ use Rattle.iscsi_order.proofs.Standing.{window_is}
 use Rattle.scsi_unit.specs.Units.{numbers_of}
 use Rattle.iscsi_session.specs.declared.verdict.Verdict.{Verdict}
 use Rattle.iscsi_session.specs.declared.verdict.Verdict.TheVariants.{Ignored, Dropped, Rejected, Violating, Accepted, Feeding}
-use Rattle.iscsi_session.specs.Requests.{Past, frame_of, is_function, removing, is_in, left, is_command, commands, others, taken, numbers, due, queue, moved, finished, accepted}
+use Rattle.iscsi_session.specs.Requests.{Past, pending, frame_of, is_function, removing, is_in, left, is_command, commands, others, taken, numbers, due, queue, moved, finished, accepted}
 use Rattle.iscsi_session.specs.Judging.{verdict, judged}
 use Rattle.iscsi_pdu.specs.TaskManagement.{ref_cmd_sn}
-use Rattle.iscsi_session.specs.Functions.{reached, plugs}
+use Rattle.iscsi_session.specs.Functions.{reached, awaited, plugs, lacks, drained_functions, told, told_answers}
 use Rattle.iscsi_session.specs.Acts.{reach_of, act_answers, ended, behind}
 use Rattle.iscsi_session.specs.State.{IsLawful}
-use Rattle.iscsi_session.specs.Steps.{Step, Judging, Taking, Asking, Doing, Work, reaches, take_step, judge, act, ask, finish, first_steps, one_by_one, waiting_in, act_all, ask_due, taken_in, served, ready, settled}
+use Rattle.iscsi_session.proofs.Telling.{lawful_told}
+use Rattle.iscsi_session.proofs.Waits.{lawful_waits}
+use Rattle.iscsi_session.specs.Steps.{Step, Judging, Taking, Asking, Answering, Doing, Work, reaches, take_step, judge, act, ask, finish, first_steps, one_by_one, waiting_in, act_all, ask_due, tell, tell_due, taken_in, asked_in, served, ready, settled}
 use Rattle.iscsi_session.specs.Transfers.{asking}
 use Rattle.iscsi_session.proofs.Asking.{lawful_asked, asking_came, ready_queue}
 use Rattle.iscsi_session.specs.Laws.{TakenOnce, FinishedAsTaken, DueInOrder, DoneInOrder, StepsAreLawful}
-use Rattle.iscsi_session.proofs.Left.{left_append}
+use Rattle.iscsi_session.proofs.Left.{left_append, in_filter, in_at}
 use Rattle.iscsi_session.proofs.Taken.{distinct_taken}
 use Rattle.iscsi_session.proofs.Accepted.{begun_lawful, HasFreeTag, IsAhead, lawful_now, lawful_with}
-use Rattle.iscsi_session.proofs.Moved.{due_after, due_other, stays_other, lawful_command, lawful_gone, lawful_other, lawful_finished, queue_after}
+use Rattle.iscsi_session.proofs.Moved.{due_after, due_other, stays_other, not_pending, lawful_command, lawful_gone, lawful_other, lawful_finished, queue_after}
 use Rattle.iscsi_session.proofs.Parts.{both_true, fresh_is, accepted_now, accepted_with}
 use Rattle.iscsi_session.proofs.Verdicts.{IsFree, accepted_free}
 use Rattle.iscsi_session.proofs.Feeding.{free_by_past, lawful_fed}
@@ -36,7 +38,7 @@ use Rattle.iscsi_session.proofs.Over.{over_other}
 use Rattle.iscsi_session.proofs.Answered.{moved_other}
 use Rattle.iscsi_session.proofs.Removing.{lawful_removing, removing_over}
 use Rattle.iscsi_session.proofs.Plugging.{plugged_lawful}
-use Rattle.iscsi_session.proofs.Ending.{reached_moved, ended_function, plugs_new}
+use Rattle.iscsi_session.proofs.Ending.{reached_moved, ended_now, plugs_unasked, plugs_new}
 
 -- ---- the order
 
@@ -116,21 +118,26 @@ judge_lawful frame work fits lawful = judged_by _ work.past frame refl fits lawf
 pub ended_lawful : (luns : List ℕ) (b : Bool) (past : Past) (k : ℕ) (rest : List ℕ) → is_function (frame_of past.came k) ≡ b → IsLawful past → due past ≡ k ∷ rest
     → IsLawful (moved k past) → IsLawful (ended luns k past)
 ended_lawful luns false past k rest f lawful is moves = rw f moves
-ended_lawful luns true past k rest f lawful is moves =
-    rw f (subst (λ (l : List ℕ). IsLawful (removing l (moved k past))) (reached_moved luns past k f)
-    (lawful_removing (reach_of luns k past) (moved k past) moves))
+ended_lawful luns true past k rest f lawful is moves = by_case (awaited past (reach_of luns k past)) refl
+  where
+    by_case : (names : List ℕ) → awaited past (reach_of luns k past) ≡ names → IsLawful (ended luns k past)
+    by_case [] e =
+        subst IsLawful (ended_now luns past k f e) (subst (λ (l : List ℕ). IsLawful (removing l (moved k past))) (reached_moved luns past k f)
+        (lawful_removing (reach_of luns k past) (moved k past) moves))
+    by_case (first ∷ others) e = lawful_waits luns past lawful k rest is f first others e
 
 -- and the number that it plugs
-pub more_over : (luns : List ℕ) (past : Past) (k : ℕ) (rest : List ℕ) → is_function (frame_of past.came k) ≡ true → IsLawful past → due past ≡ k ∷ rest
+pub more_over : (luns : List ℕ) (past : Past) (k : ℕ) (rest : List ℕ) → is_function (frame_of past.came k) ≡ true → awaited past (reach_of luns k past) ≡ []
+    → IsLawful past → due past ≡ k ∷ rest
     → IsLawful (moved k past) → ((numbers past).finished ≤ (numbers (ended luns k past)).finished)
     × ((ended luns k past).came ≡ past.came) × ((ended luns k past).params ≡ past.params)
-more_over luns past k rest f lawful is moves =
+more_over luns past k rest f none lawful is moves =
     let reach = reach_of luns k past in
     let no_command = function_no_command (frame_of past.came k) f in
     let same : record past { acted = past.acted ++ k ∷ []; finished = past.finished ++ k ∷ [] } ≡ moved k past = moved_other k past no_command in
     let removes : removing (reached reach (moved k past)) (moved k past) ≡ ended luns k past =
-    ap (λ (l : List ℕ). removing l (moved k past)) (reached_moved luns past k f) ∙ sym (ended_function luns past k f) in
-    let a = over_other past k (stays_other past lawful k rest is no_command) in
+    ap (λ (l : List ℕ). removing l (moved k past)) (reached_moved luns past k f) ∙ ended_now luns past k f none in
+    let a = over_other past k (stays_other past lawful k rest is no_command) (not_pending past lawful k rest is) in
     let b = removing_over reach (moved k past) moves in
     let c = ap (λ (p : Past). (numbers p).finished) same in
     let d = ap (λ (p : Past). (numbers p).finished) removes in (
@@ -144,7 +151,8 @@ behind_lawful : (luns : List ℕ) (b : Bool) (past : Past) (k : ℕ) (rest : Lis
 behind_lawful luns false past k rest e is lawful ends = rw e ends
 behind_lawful luns true past k rest e is lawful ends =
     let both = and_true_both (is_function (frame_of past.came k)) (plugs past (reach_of luns k past)) e in
-    let m = more_over luns past k rest both.0 lawful is (moved_by _ past k rest refl lawful is) in
+    let unasked = plugs_unasked past (reach_of luns k past) both.1 in
+    let m = more_over luns past k rest both.0 unasked lawful is (moved_by _ past k rest refl lawful is) in
     rw e (plugged_lawful (ref_cmd_sn (frame_of past.came k).header) past (ended luns k past) m.1 m.2 lawful ends m.0
     (plugs_new past (reach_of luns k past) both.1))
 
@@ -198,14 +206,29 @@ pub ask_lawful : (work : Work) (k : ℕ) (rest : List ℕ) → asking work.past 
 unfolding ask
 ask_lawful work k rest is lawful = lawful_asked work.past k (asking_came work.past k rest is) lawful
 
-served_lawful : (fails : Step → Bool) (place : ℕ) (frame : Frame) (work : Work) → cmd_sn frame.header < 2 ^ 32 → IsLawful work.past
-    → IsLawful (served fails place frame work).past
-unfolding served taken_in ask_due
-served_lawful fails place frame work fits lawful =
+pub tell_lawful : (work : Work) (k : ℕ) (rest : List ℕ) → drained_functions work.past ≡ k ∷ rest → IsLawful work.past → IsLawful (tell k work).past
+unfolding tell drained_functions
+tell_lawful work k rest is lawful =
+    let there = in_filter k (λ a. not (lacks work.past a)) (pending work.past)
+    (ap (λ (l : List ℕ). is_in k l) is ∙ in_at (k ∷ rest) 0 0 (omega arith)) in
+    lawful_answering (told_answers work.past k) (told k work.past) (lawful_told work.past lawful k there)
+
+asked_lawful : (fails : Step → Bool) (place : ℕ) (frame : Frame) (work : Work) → cmd_sn frame.header < 2 ^ 32 → IsLawful work.past
+    → IsLawful (asked_in fails place frame work).past
+unfolding asked_in taken_in ask_due
+asked_lawful fails place frame work fits lawful =
     let next = taken_in fails place frame work in
     first_lawful fails (Asking place) asking ask (asking next.past) next refl ask_lawful
     (act_all_lawful fails place (take_step fails (Judging place) (judge frame) work)
     (step_lawful fails (Judging place) (judge frame) work lawful (judge_lawful frame (reaches (Judging place) work) fits lawful)))
+
+served_lawful : (fails : Step → Bool) (place : ℕ) (frame : Frame) (work : Work) → cmd_sn frame.header < 2 ^ 32 → IsLawful work.past
+    → IsLawful (served fails place frame work).past
+unfolding served tell_due
+served_lawful fails place frame work fits lawful =
+    let next = asked_in fails place frame work in
+    first_lawful fails (Answering place) drained_functions tell (drained_functions next.past) next refl tell_lawful
+    (asked_lawful fails place frame work fits lawful)
 
 settled_lawful : (fails : Step → Bool) (place : ℕ) (work : Work) → IsLawful work.past → IsLawful (settled fails place work).past
 unfolding settled

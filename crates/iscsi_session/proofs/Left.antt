@@ -244,22 +244,22 @@ filter_every q a (suc n) all = rw (all a (omega arith) (omega arith))
 
 -- ---- distinct values of names
 
-in_map_filter_with : (b : Bool) (f : ℕ → ℕ) (q : ℕ → Bool) (n a : ℕ) (names : List ℕ) → q a ≡ b → eqb (f a) n ≡ false
+in_map_filter_with : (b : Bool) {A : Type 0} (f : A → ℕ) (q : A → Bool) (n : ℕ) (a : A) (names : List A) → q a ≡ b → eqb (f a) n ≡ false
     → is_in n (map f (filter q names)) ≡ false → is_in n (map f (filter q (a ∷ names))) ≡ false
 in_map_filter_with true f q n a names e here rest = rw (e, here) rest
 in_map_filter_with false f q n a names e here rest = rw e rest
 
-in_map_filter : (f : ℕ → ℕ) (q : ℕ → Bool) (n : ℕ) (names : List ℕ) → is_in n (map f names) ≡ false → is_in n (map f (filter q names)) ≡ false
+in_map_filter : {A : Type 0} (f : A → ℕ) (q : A → Bool) (n : ℕ) (names : List A) → is_in n (map f names) ≡ false → is_in n (map f (filter q names)) ≡ false
 in_map_filter f q n [] none = refl
 in_map_filter f q n (a ∷ names) none =
     in_map_filter_with (q a) f q n a names refl (or_front _ _ none) (in_map_filter f q n names (or_back _ _ none))
 
-distinct_map_filter_with : (b : Bool) (f : ℕ → ℕ) (q : ℕ → Bool) (a : ℕ) (names : List ℕ) → q a ≡ b → is_in (f a) (map f (filter q names)) ≡ false
+distinct_map_filter_with : (b : Bool) {A : Type 0} (f : A → ℕ) (q : A → Bool) (a : A) (names : List A) → q a ≡ b → is_in (f a) (map f (filter q names)) ≡ false
     → AreDistinct (map f (filter q names)) → AreDistinct (map f (filter q (a ∷ names)))
 distinct_map_filter_with true f q a names e here rest = rw e (here, rest)
 distinct_map_filter_with false f q a names e here rest = rw e rest
 
-pub distinct_map_filter : (f : ℕ → ℕ) (q : ℕ → Bool) (names : List ℕ) → AreDistinct (map f names) → AreDistinct (map f (filter q names))
+pub distinct_map_filter : {A : Type 0} (f : A → ℕ) (q : A → Bool) (names : List A) → AreDistinct (map f names) → AreDistinct (map f (filter q names))
 distinct_map_filter f q [] distinct = tt
 distinct_map_filter f q (a ∷ names) distinct =
     distinct_map_filter_with (q a) f q a names refl (in_map_filter f q (f a) names distinct.0) (distinct_map_filter f q names distinct.1)

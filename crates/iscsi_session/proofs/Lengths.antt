@@ -1,8 +1,7 @@
 -- How many bytes the answers of a session take at most.
-use Rattle.std.proofs.Common.{◌≡◌, ℕ, zero, suc, ◌+◌, ◌*◌, ◌/◌, ◌%◌, ◌<◌, ◌≤◌, ◌==◌, ◌&&◌, min, List, [], ◌∷◌, ◌++◌, length, take, drop, Bool, true, false, cond, not, ltb, Option, Some, None, Result, Ok, Err, refl, sym, ap, ◌∙◌, arith, append-nil}
+use Rattle.std.proofs.Common.{◌≡◌, ℕ, zero, suc, ◌+◌, ◌*◌, ◌/◌, ◌%◌, ◌<◌, ◌≤◌, ◌==◌, ◌&&◌, min, List, [], ◌∷◌, ◌++◌, length, take, drop, Bool, true, false, not, Option, Some, None, refl, ap, arith, append-nil}
 use Rattle.std.specs.Prelude.{flat_map, option_map}
 use Rattle.std.specs.Int.{div_ceil}
-use Rattle.std.proofs.lemmas.Bool.{ltb-false}
 use Rattle.std.proofs.lemmas.Grind.{div_ceil_times, flat_map-append}
 use Rattle.std.proofs.lemmas.Nat.{div-add-mod'}
 use Rattle.std.proofs.Math.Nat.{suc-mul, mul-le-mul_left}
@@ -20,7 +19,6 @@ use Rattle.iscsi_pdu.specs.declared.reject.RejectReason.TheVariants as reasons
 use Rattle.iscsi_pdu.specs.declared.r2t.R2t.{R2t}
 use Rattle.iscsi_pdu.specs.declared.stamp.Stamp.{Stamp}
 use Rattle.iscsi_pdu.specs.declared.task_management_response.TaskResult.{TaskResult}
-use Rattle.iscsi_pdu.specs.declared.text_response.TextStep.{TextStep}
 use Rattle.iscsi_pdu.specs.LogoutRequest.{logout_reason}
 use Rattle.iscsi_login.specs.declared.params.Params.{Params}
 use Rattle.iscsi_login.specs.declared.values.Values.{Values}
@@ -82,23 +80,24 @@ ping_long numbers values frame = by_tag (initiator_task_tag frame.header == rese
         rw e (omega (arith, one_spelled answer, long))
 
 -- a request that is no SCSI Command is answered no more than this
-pub most_answered : (o : Opcode) (result : TaskResult) (exchange : ExchangeState) (numbers : Stamp) (params : Params) (frame : Frame)
-    → length frame.header ≡ header_length → length (flat_map spelling (act_answers_by o result exchange numbers params frame)) ≤ 262240
-most_answered opcodes.ScsiCommand result exchange numbers params frame whole = omega arith
-most_answered opcodes.NopOut result exchange numbers params frame whole = ping_long numbers params.values frame
-most_answered opcodes.Logout result exchange numbers params frame whole =
+pub most_answered : (o : Opcode) (waited : List ℕ) (result : TaskResult) (exchange : ExchangeState) (numbers : Stamp) (params : Params) (frame : Frame)
+    → length frame.header ≡ header_length → length (flat_map spelling (act_answers_by o waited result exchange numbers params frame)) ≤ 262240
+most_answered opcodes.ScsiCommand waited result exchange numbers params frame whole = omega arith
+most_answered opcodes.NopOut waited result exchange numbers params frame whole = ping_long numbers params.values frame
+most_answered opcodes.Logout waited result exchange numbers params frame whole =
     omega (arith, one_spelled (logout_answer numbers params frame), logout_long numbers params frame whole)
-most_answered opcodes.TaskManagement result exchange numbers params frame whole = omega arith
-most_answered opcodes.Login result exchange numbers params frame whole = omega arith
-most_answered opcodes.Text result exchange numbers params frame whole =
+most_answered opcodes.TaskManagement [] result exchange numbers params frame whole = omega arith
+most_answered opcodes.TaskManagement (k ∷ others) result exchange numbers params frame whole = omega arith
+most_answered opcodes.Login waited result exchange numbers params frame whole = omega arith
+most_answered opcodes.Text waited result exchange numbers params frame whole =
     omega (
       arith,
       one_spelled (text_answer numbers (hears exchange frame params).piece frame),
       text_long numbers (hears exchange frame params).piece frame whole (hears_short exchange frame params),
     )
-most_answered opcodes.DataOut result exchange numbers params frame whole = omega arith
-most_answered opcodes.Snack result exchange numbers params frame whole = omega arith
-most_answered (opcodes.Other n) result exchange numbers params frame whole = omega arith
+most_answered opcodes.DataOut waited result exchange numbers params frame whole = omega arith
+most_answered opcodes.Snack waited result exchange numbers params frame whole = omega arith
+most_answered (opcodes.Other n) waited result exchange numbers params frame whole = omega arith
 
 -- ---- a SCSI Command
 

@@ -3,6 +3,7 @@ pub mod Left
 pub mod Taken
 mod Places
 pub mod Kept
+pub mod Pending
 pub mod Unfinished
 pub mod Standing
 pub mod Fronts
@@ -14,20 +15,25 @@ mod Replacing
 pub mod Exchanging
 pub mod Parts
 mod Weights
-mod Pending
+mod Holding
 mod Lengths
 mod Limits
 mod Added
+mod Adding
 pub mod AtRest
 pub mod Removing
 mod Voiding
 mod Sweeping
 mod Plugging
+mod Drains
+pub mod Telling
 mod Feeding
 mod Asking
 mod Verdicts
 mod Answered
 mod Ending
+pub mod Waiting
+pub mod Waits
 mod Settled
 mod Served
 pub mod Steps
@@ -35,3 +41,5 @@ pub mod Lawful
 pub mod Runs
 mod InPlace
 mod Asked
+mod Drained
+mod Told

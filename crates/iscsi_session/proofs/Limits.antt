@@ -1,53 +1,27 @@
 -- What a session may hold stays small: each step keeps its past within limits, and adds little.
-use Rattle.std.proofs.Common.{◌≡◌, ℕ, zero, suc, ◌+◌, ◌-◌, ◌*◌, ◌<◌, ◌≤◌, ◌&&◌, ◌||◌, List, [], ◌∷◌, ◌++◌, length, map, Bool, true, false, cond, not, ltb, Option, Some, None, refl, sym, ap, subst, ◌∙◌, arith, append-nil}
-use Rattle.std.specs.Prelude.{All, filter, flat_map, is_some}
-use Rattle.std.specs.List.{range_with_len}
+use Rattle.std.proofs.Common.{◌≡◌, ℕ, ◌+◌, ◌≤◌, ◌&&◌, ◌||◌, List, [], ◌∷◌, ◌++◌, length, Bool, true, false, cond, not, refl, sym, ap, subst, ◌∙◌, arith}
+use Rattle.std.specs.Prelude.{filter}
 use Rattle.std.proofs.lemmas.Bool.{ltb-true}
-use Rattle.std.proofs.lemmas.List.{length-append, length-map}
-use Rattle.std.proofs.lemmas.List.Elements.{All-push, filter-append}
-use Rattle.std.proofs.lemmas.Grind.{flat_map-append}
-use Rattle.iscsi_pdu.specs.Header.{header_length, is_immediate, cmd_sn, initiator_task_tag, opcode_of, opcode_number}
+use Rattle.std.proofs.lemmas.List.{length-append}
+use Rattle.std.proofs.lemmas.List.Elements.{filter-append}
+use Rattle.iscsi_pdu.specs.Header.{is_immediate, cmd_sn}
 use Rattle.iscsi_pdu.specs.Frames.{Frame}
-use Rattle.iscsi_pdu.specs.Answer.{spelling}
-use Rattle.iscsi_pdu.specs.TaskManagement.{ref_cmd_sn}
-use Rattle.iscsi_pdu.specs.declared.answer.Answer.{Answer}
 use Rattle.iscsi_order.specs.Window as order
 use Rattle.iscsi_order.specs.Window.{taken as taken_numbers}
 use Rattle.iscsi_order.specs.Serial.{distance}
-use Rattle.scsi_sense.specs.Done.{Outcome}
-use Rattle.scsi_unit.specs.DiskCommands.{most_given}
-use Rattle.scsi_unit.specs.Units.{numbers_of}
-use Rattle.iscsi_login.specs.Values.{AreInRange}
-use Rattle.iscsi_login.specs.declared.params.Params.{Params}
-use Rattle.iscsi_session.specs.declared.verdict.Verdict.{Verdict}
-use Rattle.iscsi_session.specs.declared.verdict.Verdict.TheVariants.{Ignored, Dropped, Rejected, Violating, Accepted, Feeding}
-use Rattle.iscsi_session.specs.Requests.{Request, Past, DataOut, SentR2t, begun, request_at, frame_of, is_command, is_function, is_in, left, numbers, held, due, queue, unfinished, functions, accepted, moved, finished, removing, answering, stamp}
-use Rattle.iscsi_session.specs.Functions.{immediate_in, plug, plugged, reached, plugs, function_result}
-use Rattle.iscsi_session.specs.Judging.{is_full, verdict, judged, reject}
-use Rattle.iscsi_session.specs.Transfers.{command_with, fed, asking, asked, r2t_of}
-use Rattle.iscsi_session.specs.Texts.{exchange_of}
-use Rattle.iscsi_session.specs.Acts.{reach_of, act_answers, ended, behind, acted}
-use Rattle.iscsi_session.specs.Answers.{command_answers}
-use Rattle.iscsi_session.specs.State.{IsLawful, TaskLists, tasks_of, kept}
-use Rattle.iscsi_session.specs.Steps.{Step, Judging, Taking, Asking, Work, reaches, take_step, judge, act, ask, answered_command, first_steps, one_by_one, waiting_in, act_all, ask_due, taken_in, served}
-use Rattle.iscsi_session.specs.Weight.{request_weight, pending, IsWithinLimits}
-use Rattle.iscsi_session.proofs.Left.{filter_cong, left_more, left_none, and_true_both}
-use Rattle.iscsi_session.proofs.Taken.{request_before, request_new}
-use Rattle.iscsi_session.proofs.Kept.{joined, Below, of_kind, kept_of, kept_joined, kept_in, all_came, below_kept, kind_same, command_no_function, function_no_command}
-use Rattle.iscsi_session.proofs.Unfinished.{unfinished_without}
-use Rattle.iscsi_session.proofs.Moved.{functions_without, lawful_finished}
-use Rattle.iscsi_session.proofs.Accepted.{begun_lawful, HasFreeTag, finished_below, removed_below, now, with, IsAhead, lawful_now, admitted, lawful_with, held_now}
+use Rattle.iscsi_session.specs.Requests.{Request, Past, frame_of, is_command, is_function, left, numbers, unfinished, functions, accepted}
+use Rattle.iscsi_session.specs.Functions.{immediate_in}
+use Rattle.iscsi_session.specs.State.{IsLawful, tasks_of}
+use Rattle.iscsi_session.specs.Weight.{pending}
+use Rattle.iscsi_session.proofs.Taken.{request_new}
+use Rattle.iscsi_session.proofs.Kept.{joined, Below, of_kind, kept_of, kept_joined, below_kept, kind_same, command_no_function}
+use Rattle.iscsi_session.proofs.Pending.{settled, settled_below}
+use Rattle.iscsi_session.proofs.Accepted.{finished_below, removed_below, now, with, IsAhead, lawful_now, admitted, lawful_with, held_now}
 use Rattle.iscsi_session.proofs.Parts.{both_true, fresh_is, accepted_now, accepted_with}
-use Rattle.iscsi_session.proofs.Verdicts.{IsFree, accepted_free}
-use Rattle.iscsi_session.proofs.Feeding.{free_by_past, lawful_fed}
-use Rattle.iscsi_session.proofs.Runs.{lawful_answering}
-use Rattle.iscsi_session.proofs.Plugging.{near_window, plugged_tasks}
-use Rattle.iscsi_session.proofs.Ending.{ended_function, plugs_new}
-use Rattle.iscsi_session.proofs.Removing.{lawful_removing}
-use Rattle.iscsi_session.proofs.Answered.{acted_same, command_answers_none, function_is}
-use Rattle.iscsi_session.proofs.Lawful.{moved_by, more_over, act_lawful, ask_lawful}
-use Rattle.iscsi_session.proofs.Pending.{pending_in, pending_is, pending_held, filter_fewer, pending_command, pending_other, pending_finished, pending_removing}
-use Rattle.iscsi_session.proofs.Lengths.{one_spelled, reject_long, most_answered, command_long, ask_long}
+use Rattle.iscsi_session.proofs.Verdicts.{IsFree}
+use Rattle.iscsi_session.proofs.Feeding.{free_by_past}
+use Rattle.iscsi_session.proofs.Plugging.{near_window}
+use Rattle.iscsi_session.proofs.Holding.{pending_in, pending_is, pending_held}
 
 -- ---- the requests for immediate delivery that are not finished
 
@@ -65,7 +39,7 @@ fewer_still p q (k ∷ names) = by_case (p k) (q k) refl refl (fewer_still p q n
     by_case false true e f le = rw (e, f) (omega (arith, le))
     by_case false false e f le = rw (e, f) le
 
-left_few : (q : ℕ → Bool) (gone names : List ℕ) → length (filter q (left gone names)) ≤ length (filter q names)
+pub left_few : (q : ℕ → Bool) (gone names : List ℕ) → length (filter q (left gone names)) ≤ length (filter q names)
 unfolding left
 left_few q gone names = fewer_still _ q names
 
@@ -126,7 +100,7 @@ immediate_joined c f i past x lawful a b h =
     omega (
       arith,
       one_more c i is_command past x a h (finished_below past lawful) (removed_below past lawful),
-      one_more f i is_function past x b h (finished_below past lawful) (removed_below past lawful),
+      one_more f i is_function (settled past) x b h (settled_below past (finished_below past lawful)) (removed_below past lawful),
     )
 
 -- ---- a request is accepted

@@ -5,12 +5,13 @@ use Rattle.std.proofs.lemmas.List.{append-nil, map-append}
 use Rattle.std.proofs.lemmas.List.Elements.{filter-append, All-push, All-nil, All-cons}
 use Rattle.iscsi_order.specs.WindowState as windows
 use Rattle.iscsi_order.specs.Window.{taken as taken_numbers}
-use Rattle.iscsi_session.specs.Requests.{Past, frame_of, is_in, left, is_command, commands, others, counted, over, taken, numbers, due, queue, unfinished, is_function, functions, frames_of, finished}
+use Rattle.iscsi_session.specs.Requests.{Past, pending, frame_of, is_in, left, is_command, commands, others, counted, over, taken, numbers, due, queue, unfinished, is_function, functions, frames_of, finished}
 use Rattle.iscsi_session.specs.Transfers.{tag_of, task_at, outs_of, tags_of}
 use Rattle.iscsi_session.specs.State.{standing, tasks_of, transfer_of, transfers_of, functions_of, AreDistinct, IsLawful, one_fewer}
 use Rattle.iscsi_session.proofs.Left.{left_append, left_all, left_more, left_swap, left_first, left_one, left_passes, in_at, in_front, in_back, in_left, passes_in, not_gone, not_by, not_in, below_of, distinct_left, distinct_filter, distinct_front}
 use Rattle.iscsi_session.proofs.Taken.{taken_below, distinct_taken}
-use Rattle.iscsi_session.proofs.Kept.{kept_without, kept_other, kept_distinct, in_kept, tags_left, command_no_function, function_no_command}
+use Rattle.iscsi_session.proofs.Kept.{tags_left, command_no_function, function_no_command}
+use Rattle.iscsi_session.proofs.Pending.{functions_without, functions_other, in_functions, open_not_pending, command_not_pending, drained_finished}
 use Rattle.iscsi_session.proofs.Unfinished.{unfinished_without, unfinished_other}
 use Rattle.iscsi_session.proofs.Standing.{standing_immediate}
 use Rattle.iscsi_session.proofs.Accepted.{handed_le, counted_append, due_is, queue_is, in_queue}
@@ -18,29 +19,19 @@ use Rattle.iscsi_session.proofs.Over.{not_removed, few_over, one_fewer_by, unfin
 
 -- ---- Task Management Function Requests
 
-pub functions_without : (past : Past) (k : ℕ) → functions (finished k past) ≡ left (k ∷ []) (functions past)
-unfolding functions
-functions_without past k = kept_without is_function past k
-
-pub functions_other : (past : Past) (k : ℕ) → is_function (frame_of past.came k) ≡ false → functions (finished k past) ≡ functions past
-unfolding functions
-functions_other past k e = kept_other is_function past k e
-
-pub functions_distinct : (past : Past) → AreDistinct (functions past)
-unfolding functions
-functions_distinct past = kept_distinct is_function past
-
 -- what is remembered of those that are left
-pub functions_left : (past : Past) (k : ℕ) → map (λ a. (frame_of past.came a).header) (left (k ∷ []) (functions past)) ≡ functions_of (finished k past)
+pub functions_left : (past : Past) (k : ℕ) → is_in k (pending past) ≡ false
+    → map (λ a. (frame_of past.came a).header) (left (k ∷ []) (functions past)) ≡ functions_of (finished k past)
 unfolding functions_of
-functions_left past k = ap (map (λ a. (frame_of past.came a).header)) (sym (functions_without past k))
+functions_left past k free = ap (map (λ a. (frame_of past.came a).header)) (sym (functions_without past k free))
 
-pub functions_kept : (past : Past) (k : ℕ) → is_function (frame_of past.came k) ≡ false → functions_of (finished k past) ≡ functions_of past
+pub functions_kept : (past : Past) (k : ℕ) → is_in k (pending past) ≡ false → is_function (frame_of past.came k) ≡ false
+    → functions_of (finished k past) ≡ functions_of past
 unfolding functions_of
-functions_kept past k e = ap (map (λ a. (frame_of past.came a).header)) (functions_other past k e)
+functions_kept past k free e = ap (map (λ a. (frame_of past.came a).header)) (functions_other past k free e)
 
 module _ (past : Past) (lawful : IsLawful past) where
-  distinct_acted : AreDistinct past.acted
+  pub distinct_acted : AreDistinct past.acted
   distinct_acted = distinct_front past.acted (due past) (subst AreDistinct lawful.in_order (distinct_taken past.came))
 
   -- ---- the numbers that are taken are the same
@@ -77,7 +68,7 @@ module _ (past : Past) (lawful : IsLawful past) where
         (omega (arith, ap (λ (l : List ℕ). length l) (sym (due_is past lawful) ∙ is))) in
         ap (λ (n : ℕ). is_in n past.acted) (ap (λ (l : List ℕ). get_or l 0 k) (sym (sym (due_is past lawful) ∙ is))) ∙ none
 
-    not_finished : is_in k past.finished ≡ false
+    pub not_finished : is_in k past.finished ≡ false
     not_finished = not_in k past.finished past.acted lawful.acted not_acted
 
     distinct_here : AreDistinct (k ∷ rest)
@@ -160,6 +151,13 @@ module _ (past : Past) (lawful : IsLawful past) where
       removed_below = lawful.removed_below;
       removed_commands = lawful.removed_commands;
       apart = lawful.apart;
+      drained = record {
+        functions = lawful.drained.functions;
+        acted = lawful.drained.acted;
+        answered = lawful.drained.answered;
+        removed = lawful.drained.removed;
+        once = lawful.drained.once;
+      };
     }
 
     -- one that is not removed
@@ -242,6 +240,9 @@ module _ (past : Past) (lawful : IsLawful past) where
         ∙ left_swap past.removed (k ∷ []) (left past.finished (commands past.came past.acted))
         ∙ ap (left (k ∷ [])) (sym (queue_is past lawful)) ∙ left_one k (queue past) apart
 
+    pub not_pending : is_in k (pending past) ≡ false
+    not_pending = open_not_pending past k lawful.drained not_finished
+
     acted_too : unfinished with_other ≡ unfinished (finished k past)
     unfolding unfinished
     acted_too = refl
@@ -254,7 +255,7 @@ module _ (past : Past) (lawful : IsLawful past) where
     functions_too = refl
 
     pub functions_with_other : functions with_other ≡ left (k ∷ []) (functions past)
-    functions_with_other = functions_too ∙ functions_without past k
+    functions_with_other = functions_too ∙ functions_without past k not_pending
 
     pub functions_acted : functions_of (finished k past) ≡ functions_of with_other
     unfolding functions_of functions
@@ -262,8 +263,7 @@ module _ (past : Past) (lawful : IsLawful past) where
 
     -- a function that is due is not finished
     pub due_function : is_function (frame_of past.came k) ≡ true → is_in k (functions past) ≡ true
-    unfolding functions
-    due_function e = in_kept is_function past k due_came e not_finished
+    due_function e = in_functions past k due_came e (not_by k _ past.finished (in_left k (pending past) past.finished) not_finished)
         (not_removed past k lawful.removed_commands (function_no_command (frame_of past.came k) e))
 
     pub transfers_other : is_command (frame_of past.came k) ≡ false → transfers_of with_other ≡ transfers_of past
@@ -285,7 +285,7 @@ module _ (past : Past) (lawful : IsLawful past) where
         ∙ sym (handed_with (past.acted ++ k ∷ []) (past.finished ++ k ∷ [])) in
         let few = few_over with_other in_order queued at_once lawful.removed_commands handed in
         record {
-          window = window_with (past.acted ++ k ∷ []) (past.finished ++ k ∷ []) (omega (arith, over_other past k (stays_other e)))
+          window = window_with (past.acted ++ k ∷ []) (past.finished ++ k ∷ []) (omega (arith, over_other past k (stays_other e) not_pending))
               (let same = handed_with (past.acted ++ k ∷ []) (past.finished ++ k ∷ []) in omega arith);
           distinct = lawful.distinct;
           delivered = lawful.delivered;
@@ -304,6 +304,7 @@ module _ (past : Past) (lawful : IsLawful past) where
           removed_below = lawful.removed_below;
           removed_commands = lawful.removed_commands;
           apart = All-push (λ a. is_in a past.removed ≡ false) past.finished k lawful.apart (stays_other e);
+          drained = drained_finished past (past.acted ++ k ∷ []) k lawful.drained;
         }
 
     pub tasks_other : is_command (frame_of past.came k) ≡ false
@@ -311,7 +312,7 @@ module _ (past : Past) (lawful : IsLawful past) where
     unfolding tasks_of standing taken_numbers
     tasks_other e =
         one_fewer_by _ (frame_of past.came k) (record (tasks_of past) { due = frames_of (standing past) rest }) refl
-        ∙ rw (unfinished_less past (numbers past).handed _ _ k lawful due_came (over_other past k (stays_other e)), due_other, queue_other e) refl
+        ∙ rw (unfinished_less past (numbers past).handed _ _ k lawful due_came (over_other past k (stays_other e) not_pending), due_other, queue_other e) refl
 
   -- ---- the first of the queue is finished
 
@@ -333,6 +334,9 @@ module _ (past : Past) (lawful : IsLawful past) where
     is_done = passes_in k (λ a. is_command (frame_of past.came a)) past.acted
         (in_left k past.finished _ (in_left k past.removed _ (ap (λ (l : List ℕ). is_in k l) (sym (queue_is past lawful)) ∙ queued_here)))
 
+    is_not_pending : is_in k (pending past) ≡ false
+    is_not_pending = command_not_pending past k lawful.drained is_done
+
     distinct_queue : AreDistinct (k ∷ rest)
     distinct_queue = subst AreDistinct (sym (queue_is past lawful)
         ∙ is) (distinct_left past.removed _ (distinct_left past.finished (commands past.came past.acted)
@@ -351,7 +355,7 @@ module _ (past : Past) (lawful : IsLawful past) where
     due_finished = refl
 
     functions_finished : functions (finished k past) ≡ functions past
-    functions_finished = functions_other past k (command_no_function (frame_of past.came k) is_done)
+    functions_finished = functions_other past k is_not_pending (command_no_function (frame_of past.came k) is_done)
 
     pub functions_of_finished : functions_of (finished k past) ≡ functions_of past
     unfolding functions_of
@@ -372,7 +376,7 @@ module _ (past : Past) (lawful : IsLawful past) where
         ∙ sym (handed_with past.acted (past.finished ++ k ∷ [])) in
         let few = few_over (finished k past) in_order queued at_once lawful.removed_commands handed in
         record {
-          window = window_with past.acted (past.finished ++ k ∷ []) (omega (arith, over_finished past k))
+          window = window_with past.acted (past.finished ++ k ∷ []) (omega (arith, over_finished past k is_not_pending))
               (let same = handed_with past.acted (past.finished ++ k ∷ []) in omega arith);
           distinct = lawful.distinct;
           delivered = lawful.delivered;
@@ -390,6 +394,7 @@ module _ (past : Past) (lawful : IsLawful past) where
           removed_below = lawful.removed_below;
           removed_commands = lawful.removed_commands;
           apart = All-push (λ a. is_in a past.removed ≡ false) past.finished k lawful.apart queue_stays;
+          drained = drained_finished past past.acted k lawful.drained;
         }
 
     pub transfers_finished : transfers_of (finished k past) ≡ record (transfers_of past) { list = map (transfer_of past) (left (k ∷ []) (unfinished past)) }
@@ -400,4 +405,4 @@ module _ (past : Past) (lawful : IsLawful past) where
     unfolding tasks_of standing taken_numbers
     tasks_finished =
         one_fewer_by _ (frame_of past.came k) (record (tasks_of past) { queue = frames_of past.came rest }) refl
-        ∙ rw (unfinished_less past (numbers past).handed _ _ k lawful queue_came (over_finished past k), due_finished, queue_after) refl
+        ∙ rw (unfinished_less past (numbers past).handed _ _ k lawful queue_came (over_finished past k is_not_pending), due_finished, queue_after) refl

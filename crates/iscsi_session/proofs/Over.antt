@@ -6,9 +6,10 @@ use Rattle.std.proofs.lemmas.List.{append-nil}
 use Rattle.std.proofs.lemmas.List.Elements.{filter-append, filter_passes, All-head, All-tail}
 use Rattle.iscsi_pdu.specs.Header.{is_immediate}
 use Rattle.iscsi_pdu.specs.Frames.{Frame}
-use Rattle.iscsi_session.specs.Requests.{Request, Past, request_at, frame_of, is_in, left, is_command, commands, others, counted, over, taken, numbers, due, queue}
+use Rattle.iscsi_session.specs.Requests.{Request, Past, request_at, frame_of, is_in, left, is_command, commands, others, counted, over, pending, taken, numbers, due, queue}
 use Rattle.iscsi_session.specs.State.{TaskLists, IsDelivered, IsLawful, one_fewer}
 use Rattle.iscsi_session.proofs.Left.{filter_filter, filter_cong, and_swap, left_all}
+use Rattle.iscsi_session.proofs.Pending.{left_push}
 use Rattle.iscsi_session.proofs.Accepted.{counted_append}
 
 filter_swap : (p q : ℕ → Bool) (names : List ℕ) → filter p (filter q names) ≡ filter q (filter p names)
@@ -78,8 +79,10 @@ pub few_over : (past : Past) → taken past.came ≡ past.acted ++ due past
     → commands past.came past.finished ++ queue past ≡ left past.removed (commands past.came past.acted)
     → others past.came past.finished ≡ others past.came past.acted → All (λ a. is_command (frame_of past.came a) ≡ true) past.removed
     → counted past.came (taken past.came) ≡ (numbers past).handed → counted past.came (over past) ≤ (numbers past).handed
+unfolding left
 few_over past in_order queued at_once all handed =
     let came = past.came in
+    let w = split (λ k. is_in k (pending past)) came past.finished in
     let a = split (λ k. is_command (frame_of came k)) came past.finished in
     let b = acted_counted past all in
     let c : counted came (commands came past.finished) + counted came (queue past) ≡ counted came (left past.removed (commands came past.acted)) = sym
@@ -87,7 +90,7 @@ few_over past in_order queued at_once all handed =
     let d : counted came (others came past.finished) ≡ counted came (others came past.acted) = ap (counted came) at_once in
     let e : counted came (taken came) ≡ counted came past.acted + counted came (due past) = ap (counted came) in_order
     ∙ counted_append came past.acted (due past) in
-    let f = counted_append came past.finished (filter (λ k. is_in k past.removed) past.acted) in
+    let f = counted_append came (left (pending past) past.finished) (filter (λ k. is_in k past.removed) past.acted) in
     omega arith
 
 -- ---- one more is over
@@ -130,32 +133,36 @@ over_by false past k finished e =
 
 -- one that is not removed
 pub over_same : (past : Past) (k : ℕ) → is_in k past.removed ≡ false → over (record past { acted = past.acted ++ k ∷ [] }) ≡ over past
-over_same past k e = over_by false past k past.finished e ∙ append-nil (over past)
+over_same past k e = over_by false past k (left (pending past) past.finished) e ∙ append-nil (over past)
 
 -- one that was removed
 pub over_gone : (past : Past) (k : ℕ) → is_in k past.removed ≡ true → over (record past { acted = past.acted ++ k ∷ [] }) ≡ over past ++ k ∷ []
-over_gone past k e = over_by true past k past.finished e
+over_gone past k e = over_by true past k (left (pending past) past.finished) e
 
 -- one that is finished at once
-pub over_other : (past : Past) (k : ℕ) → is_in k past.removed ≡ false
+pub over_other : (past : Past) (k : ℕ) → is_in k past.removed ≡ false → is_in k (pending past) ≡ false
     → counted past.came (over (record past { acted = past.acted ++ k ∷ []; finished = past.finished ++ k ∷ [] }))
     ≡ counted past.came (over past) + counted past.came (k ∷ [])
-over_other past k e =
+over_other past k e free =
     let came = past.came in
+    let done = left (pending past) past.finished in
     let gone = filter (λ a. is_in a past.removed) past.acted in
-    let a = ap (counted came) (over_by false past k (past.finished ++ k ∷ []) e ∙ append-nil ((past.finished ++ k ∷ []) ++ gone)) in
-    let b = counted_append came (past.finished ++ k ∷ []) gone in
-    let c = counted_append came past.finished (k ∷ []) in
-    let d = counted_append came past.finished gone in
+    let a = ap (counted came) (ap (λ (l : List ℕ). l ++ filter (λ a. is_in a past.removed) (past.acted ++ k ∷ [])) (left_push (pending past) past.finished k free)
+    ∙ over_by false past k (done ++ k ∷ []) e ∙ append-nil ((done ++ k ∷ []) ++ gone)) in
+    let b = counted_append came (done ++ k ∷ []) gone in
+    let c = counted_append came done (k ∷ []) in
+    let d = counted_append came done gone in
     omega arith
 
 -- one of the queue is finished
-pub over_finished : (past : Past) (k : ℕ) → counted past.came (over (record past { finished = past.finished ++ k ∷ [] }))
+pub over_finished : (past : Past) (k : ℕ) → is_in k (pending past) ≡ false → counted past.came (over (record past { finished = past.finished ++ k ∷ [] }))
     ≡ counted past.came (over past) + counted past.came (k ∷ [])
-over_finished past k =
+over_finished past k free =
     let came = past.came in
+    let done = left (pending past) past.finished in
     let gone = filter (λ a. is_in a past.removed) past.acted in
-    let b = counted_append came (past.finished ++ k ∷ []) gone in
-    let c = counted_append came past.finished (k ∷ []) in
-    let d = counted_append came past.finished gone in
+    let a = ap (λ (l : List ℕ). counted came (l ++ gone)) (left_push (pending past) past.finished k free) in
+    let b = counted_append came (done ++ k ∷ []) gone in
+    let c = counted_append came done (k ∷ []) in
+    let d = counted_append came done gone in
     omega arith

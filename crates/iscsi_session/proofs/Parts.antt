@@ -187,7 +187,7 @@ one_more_header past lawful frame e =
 
 same_transfers : (past : Past) (frame : Frame) → IsLawful past → is_command frame ≡ false → transfers_of (accepted frame past) ≡ transfers_of past
 same_transfers past frame lawful e =
-    transfers_joined false past _ e (finished_below past lawful) (removed_below past lawful) lawful.fed lawful.asked
+    transfers_joined false past _ e (finished_below past lawful) (removed_below past lawful) lawful.fed lawful.asked lawful.drained
     ∙ ap (λ (l : List Transfer). record (transfers_of past) { list = l }) (append-nil (transfers_of past).list)
 
 -- a request that is neither a SCSI Command nor a Task Management Function Request
@@ -228,7 +228,7 @@ stands_begun past state frame task s free e tag is =
     stands_parts past (accepted frame past) state (kept frame state.tasks) _ state.functions state.exchange s k.0 refl refl k.1
     (ap (λ (t : TransferList). record t { list = t.list ++ begun_transfer frame.header task ∷ [] }) p.transfers_is
     ∙ ap (λ (t : TaskState). record (transfers_of past) { list = (transfers_of past).list ++ begun_transfer frame.header t ∷ [] }) same
-    ∙ sym (transfers_joined true past _ e (finished_below past s.lawful) (removed_below past s.lawful) s.lawful.fed s.lawful.asked))
+    ∙ sym (transfers_joined true past _ e (finished_below past s.lawful) (removed_below past s.lawful) s.lawful.fed s.lawful.asked s.lawful.drained))
     (p.functions_is ∙ sym (same_headers past s.lawful frame (command_no_function frame e)))
     (p.exchange_is ∙ sym (exchange_joined past _ s.lawful.below))
 

@@ -1,174 +1,144 @@
--- How many requests are held, due and in the queue, as requests come and go.
-use Rattle.std.proofs.Common.{◌≡◌, ℕ, zero, suc, ◌+◌, ◌<◌, ◌≤◌, List, [], ◌∷◌, ◌++◌, length, map, set, take, drop, Bool, true, false, cond, not, Option, Some, None, refl, sym, ap, ◌∙◌, arith, append-nil}
-use Rattle.std.specs.Prelude.{filter, filter_map, option_map, is_some}
-use Rattle.std.specs.List.{range_with_len, prefix_len}
-use Rattle.std.proofs.lemmas.List.{length-map, length-append}
-use Rattle.std.proofs.lemmas.List.Elements.{filter_map-append, filter-append}
-use Rattle.iscsi_pdu.specs.Header.{is_immediate}
-use Rattle.iscsi_pdu.specs.Frames.{Frame}
-use Rattle.iscsi_order.specs.Window.{window, taken as taken_numbers}
-use Rattle.iscsi_order.specs.Serial.{distance}
-use Rattle.iscsi_session.specs.Requests.{Past, is_command, is_in, left, commands, frame_of, frames_of, numbers, held, due, queue, moved, finished, removing, answering}
-use Rattle.iscsi_session.specs.Functions.{FunctionReach}
-use Rattle.iscsi_session.specs.State.{TaskLists, IsLawful, standing, frame_numbered, tasks_of, holding, kept, takes_next, takes, takes_all, void_if, stays, without}
-use Rattle.iscsi_session.specs.Weight.{pending}
-use Rattle.iscsi_session.proofs.Left.{left_append, left_more, left_swap}
-use Rattle.iscsi_session.proofs.Weights.{held_length}
-use Rattle.iscsi_session.proofs.Lawful.{due_in_order, done_in_order}
+-- The Task Management Function Requests that wait for data, and the data that they wait for.
+use Rattle.std.proofs.Common.{◌≡◌, ◌≢◌, ℕ, ◌<◌, List, [], ◌∷◌, ◌++◌, length, map, Bool, true, false, not, cond, sym, ap, ◌∙◌, inl, inr}
+use Rattle.std.specs.Prelude.{All}
+use Rattle.std.proofs.lemmas.Bool.{cases_eq, ne_eqb, false_from_ne_true}
+use Rattle.std.proofs.lemmas.List.Elements.{All-head, All-tail, All-nil, All-cons, All-filter}
+use Rattle.iscsi_session.specs.Requests.{Request, Past, Drain, frame_of, is_in, left, is_command, is_function, pending, functions, unfinished, finished, removing}
+use Rattle.iscsi_session.specs.Transfers.{drains_of}
+use Rattle.iscsi_session.specs.State.{AreDistinct, AreDrained}
+use Rattle.iscsi_session.proofs.Left.{left_append, left_all, in_left, in_front, below_of, not_gone, distinct_map_filter}
+use Rattle.iscsi_session.proofs.Kept.{joined, Below, command_no_function, kept_of, kept_in, all_of_kind, kept_joined, kept_without, kept_other, kept_distinct, in_kept, below_kept}
+use Rattle.iscsi_session.proofs.Taken.{request_before}
 
-abbrev there : List (Option Frame) → List Frame
-there l = filter_map (λ o. o) l
+pub left_push : (gone names : List ℕ) (k : ℕ) → is_in k gone ≡ false → left gone (names ++ k ∷ []) ≡ left gone names ++ k ∷ []
+left_push gone names k e =
+    left_append gone names (k ∷ [])
+    ∙ ap (λ (l : List ℕ). left gone names ++ l)
+    (left_all gone (k ∷ []) (All-cons (λ a. is_in a gone ≡ false) k [] e (All-nil (λ a. is_in a gone ≡ false))))
 
--- ---- what the code does to its lists
+-- what holds of the function of each
+holds_named : (q : ℕ → Bool) (k : ℕ) (drains : List Drain) → All (λ d. q d.function ≡ true) drains → is_in k (map (λ d. d.function) drains) ≡ true → q k ≡ true
+holds_named q k [] every h = absurd cc
+holds_named q k (d ∷ rest) every h = elim (cases_eq d.function k) [
+  | inl same ↦ ap q (sym same) ∙ All-head (λ (x : Drain). q x.function ≡ true) d rest every
+  | inr differs ↦ let there = rw (ne_eqb d.function k differs) at h in holds_named q k rest (All-tail (λ (x : Drain). q x.function ≡ true) d rest every) there
+]
 
-there_push : (l : List (Option Frame)) → there (l ++ None ∷ []) ≡ there l
-there_push l = filter_map-append (λ (o : Option Frame). o) l (None ∷ []) ∙ append-nil (there l)
+pub pending_holds : (q : ℕ → Bool) (past : Past) (k : ℕ) → All (λ d. q d.function ≡ true) past.drains → is_in k (pending past) ≡ true → q k ≡ true
+pending_holds q past k all e = holds_named q k past.drains all (in_left k past.answered (map (λ d. d.function) past.drains) e)
 
-turned_by : (l : List (Option Frame)) (line : List Frame)
-    → length (there (drop 1 l ++ None ∷ [])) + length (line ++ there (take 1 l)) ≡ length (there l) + length line
-turned_by [] line = omega (arith, length-append line [])
-turned_by (None ∷ l) line = omega (arith, length-append line [], ap (λ (x : List Frame). length x) (there_push l))
-turned_by (Some frame ∷ l) line = omega (arith, length-append line (frame ∷ []), ap (λ (x : List Frame). length x) (there_push l))
+-- a SCSI Command is none of them
+pub command_not_pending : (past : Past) (k : ℕ) → AreDrained past → is_command (frame_of past.came k) ≡ true → is_in k (pending past) ≡ false
+command_not_pending past k drained c = false_from_ne_true (is_in k (pending past)) (λ h.
+    let yes = pending_holds (λ a. is_function (frame_of past.came a)) past k drained.functions h in
+    let no = command_no_function (frame_of past.came k) c in absurd (let both = sym yes ∙ no in cc))
 
-pending_takes : (n : ℕ) (tasks : TaskLists) → pending (takes n tasks) ≡ pending tasks
-pending_takes zero tasks = refl
-pending_takes (suc n) tasks = omega (arith, pending_takes n (takes_next tasks), turned_by tasks.held tasks.due)
+-- nor is one that is no Task Management Function Request
+pub other_not_pending : (past : Past) (k : ℕ) → AreDrained past → is_function (frame_of past.came k) ≡ false → is_in k (pending past) ≡ false
+other_not_pending past k drained c = false_from_ne_true (is_in k (pending past)) (λ h.
+    let yes = pending_holds (λ a. is_function (frame_of past.came a)) past k drained.functions h in absurd (let both = sym yes ∙ c in cc))
 
-held_more : (l : List (Option Frame)) (i : ℕ) (frame : Frame) → length (there (set l i (Some frame))) ≤ length (there l) + 1
-held_more [] i frame = omega arith
-held_more (None ∷ l) zero frame = omega arith
-held_more (Some other ∷ l) zero frame = omega arith
-held_more (None ∷ l) (suc i) frame = held_more l i frame
-held_more (Some other ∷ l) (suc i) frame = omega (arith, held_more l i frame)
+-- nor one that has not acted
+pub open_not_pending : (past : Past) (k : ℕ) → AreDrained past → is_in k past.finished ≡ false → is_in k (pending past) ≡ false
+open_not_pending past k drained none = false_from_ne_true (is_in k (pending past)) (λ h.
+    let yes = pending_holds (λ a. is_in a past.finished) past k drained.acted h in absurd (let both = sym yes ∙ none in cc))
 
-pub pending_held : (n : ℕ) (frame : Frame) (tasks : TaskLists) → pending (takes_all (holding n frame tasks)) ≤ pending tasks + 1
-pending_held n frame tasks =
-    let t = holding n frame tasks in
-    omega (arith, pending_takes (prefix_len (λ o. is_some o) t.held) t, held_more tasks.held (distance tasks.next n) frame)
+-- ---- the functions that are not finished
 
-held_voids : (reach : FunctionReach) (l : List (Option Frame)) → length (there (map (option_map (void_if reach)) l)) ≡ length (there l)
-held_voids reach [] = refl
-held_voids reach (None ∷ l) = held_voids reach l
-held_voids reach (Some frame ∷ l) = ap suc (held_voids reach l)
+-- those that wait are not
+abbrev pub settled : Past → Past
+settled past = record past { finished = left (pending past) past.finished }
 
-pub filter_fewer : {A : Type 0} (q : A → Bool) (l : List A) → length (filter q l) ≤ length l
-filter_fewer q [] = omega arith
-filter_fewer q (x ∷ l) = by_case (q x) refl (filter_fewer q l)
-  where
-    by_case : (b : Bool) → q x ≡ b → length (filter q l) ≤ length l → length (filter q (x ∷ l)) ≤ length (x ∷ l)
-    by_case true e le = rw e (omega (arith, le))
-    by_case false e le = rw e (omega (arith, le))
+pub functions_without : (past : Past) (k : ℕ) → is_in k (pending past) ≡ false → functions (finished k past) ≡ left (k ∷ []) (functions past)
+unfolding functions
+functions_without past k e =
+    ap (λ (l : List ℕ). kept_of is_function (record past { finished = l })) (left_push (pending past) past.finished k e)
+    ∙ kept_without is_function (settled past) k
 
-pub pending_without : (reach : FunctionReach) (tasks : TaskLists) → pending (without reach tasks) ≤ pending tasks
-pending_without reach tasks =
-    omega (arith, held_voids reach tasks.held, length-map tasks.due (void_if reach), filter_fewer (stays reach) tasks.queue)
+pub functions_other : (past : Past) (k : ℕ) → is_in k (pending past) ≡ false → is_function (frame_of past.came k) ≡ false
+    → functions (finished k past) ≡ functions past
+unfolding functions
+functions_other past k free e =
+    ap (λ (l : List ℕ). kept_of is_function (record past { finished = l })) (left_push (pending past) past.finished k free)
+    ∙ kept_other is_function (settled past) k e
 
--- ---- what the past has of it
+pub functions_distinct : (past : Past) → AreDistinct (functions past)
+unfolding functions
+functions_distinct past = kept_distinct is_function (settled past)
 
-abbrev pub pending_in : Past → ℕ
-pending_in past = length (held past) + length (due past) + length (queue past)
+pub functions_below : (past : Past) → Below past (functions past)
+unfolding functions
+functions_below past = below_kept is_function (settled past)
 
-pub pending_is : (past : Past) → pending (tasks_of past) ≡ pending_in past
-unfolding tasks_of
-pending_is past =
-    omega (arith, held_length past, length-map (due past) (frame_of (standing past)), length-map (queue past) (frame_of past.came))
+pub in_functions : (past : Past) (k : ℕ) → k < length past.came → is_function (frame_of past.came k) ≡ true
+    → is_in k (left (pending past) past.finished) ≡ false → is_in k past.removed ≡ false → is_in k (functions past) ≡ true
+unfolding functions
+in_functions past k lt f open_still there_still = in_kept is_function (settled past) k lt f open_still there_still
 
--- the same requests came, so the same are held
-held_same : (past : Past) (acted finished removed : List ℕ) → held (record past { acted = acted; finished = finished; removed = removed }) ≡ held past
-unfolding held taken_numbers
-held_same past acted finished removed = refl
+pub function_in : (past : Past) (k : ℕ) → is_in k (functions past) ≡ true → is_function (frame_of past.came k) ≡ true
+unfolding functions
+function_in past k e = all_of_kind is_function past k (kept_in is_function (settled past) k e)
 
-left_fewer : (gone names : List ℕ) → length (left gone names) ≤ length names
+pub settled_below : (past : Past) → Below past past.finished → Below past (left (pending past) past.finished)
 unfolding left
-left_fewer gone names = filter_fewer _ names
+settled_below past below = All-filter (λ k. not (is_in k (pending past))) (λ k. k < length past.came) past.finished below
 
-queue_acted : (past : Past) (k : ℕ) → length (queue (record past { acted = past.acted ++ k ∷ [] })) ≤ length (queue past) + 1
-unfolding queue
-queue_acted past k =
-    let came = past.came in
-    let one = commands came (k ∷ []) in
-    let a : commands came (past.acted ++ k ∷ []) ≡ commands came past.acted ++ one = filter-append (λ a. is_command (frame_of came a)) past.acted (k ∷ []) in
-    let b : left past.removed (left past.finished (commands came (past.acted ++ k ∷ []))) ≡ queue past ++ left past.removed (left past.finished one) =
-    ap (λ (l : List ℕ). left past.removed (left past.finished l)) a
-    ∙ ap (left past.removed) (left_append past.finished (commands came past.acted) one)
-    ∙ left_append past.removed (left past.finished (commands came past.acted)) (left past.finished one) in
-    omega (
-      arith,
-      ap (λ (l : List ℕ). length l) b,
-      length-append (queue past) (left past.removed (left past.finished one)),
-      left_fewer past.removed (left past.finished one),
-      left_fewer past.finished one,
-      filter_fewer (λ a. is_command (frame_of came a)) (k ∷ []),
-    )
+pub functions_joined : (c : Bool) (past : Past) (x : Request) → is_function x.frame ≡ c → Below past past.finished → Below past past.removed
+    → functions (joined x past) ≡ functions past ++ cond c (length past.came ∷ []) []
+unfolding functions
+functions_joined c past x e below gone = kept_joined c is_function (settled past) x e (settled_below past below) gone
 
-queue_other : (past : Past) (k : ℕ) → is_command (frame_of past.came k) ≡ false
-    → length (queue (record past { acted = past.acted ++ k ∷ []; finished = past.finished ++ k ∷ [] })) ≤ length (queue past)
-unfolding queue
-queue_other past k e =
-    let came = past.came in
-    let none : commands came (k ∷ []) ≡ [] = rw e refl in
-    let a : commands came (past.acted ++ k ∷ []) ≡ commands came past.acted =
-    filter-append (λ a. is_command (frame_of came a)) past.acted (k ∷ []) ∙ ap (λ (l : List ℕ). commands came past.acted ++ l) none
-    ∙ append-nil (commands came past.acted) in
-    let b : left past.removed (left (past.finished ++ k ∷ []) (commands came (past.acted ++ k ∷ []))) ≡ left (k ∷ []) (queue past) =
-    ap (λ (l : List ℕ). left past.removed (left (past.finished ++ k ∷ []) l)) a
-    ∙ ap (left past.removed) (left_more past.finished (k ∷ []) (commands came past.acted))
-    ∙ left_swap past.removed (k ∷ []) (left past.finished (commands came past.acted)) in
-    omega (arith, ap (λ (l : List ℕ). length l) b, left_fewer (k ∷ []) (queue past))
+-- ---- the data that is drained
 
--- one that acts is due no longer: a SCSI Command may join the queue
-pub pending_command : (past : Past) (k : ℕ) (rest : List ℕ) → is_command (frame_of past.came k) ≡ true → IsLawful past → due past ≡ k ∷ rest
-    → pending_in (moved k past) ≤ pending_in past
-pending_command past k rest e lawful is =
-    let same : moved k past ≡ record past { acted = past.acted ++ k ∷ [] } = rw e refl in
-    omega (
-      arith,
-      ap (λ (l : List ℕ). length l) (held_same past (past.acted ++ k ∷ []) past.finished past.removed),
-      ap (λ (l : List ℕ). length l) (due_in_order past k rest lawful is),
-      ap (λ (l : List ℕ). length l) is,
-      ap pending_in same,
-      ap (λ (p : Past). length (due p)) same,
-      queue_acted past k,
-    )
+-- those that functions still wait for
+pub drains_all : (P : Drain → Type 0) (past : Past) → All P past.drains → All P (drains_of past)
+drains_all P past all = All-filter (λ d. not (is_in d.function past.answered)) P past.drains all
 
--- and every other request is finished
-pub pending_other : (past : Past) (k : ℕ) (rest : List ℕ) → is_command (frame_of past.came k) ≡ false → IsLawful past → due past ≡ k ∷ rest
-    → pending_in (moved k past) + 1 ≤ pending_in past
-pending_other past k rest e lawful is =
-    let same : moved k past ≡ record past { acted = past.acted ++ k ∷ []; finished = past.finished ++ k ∷ [] } = rw e refl in
-    omega (
-      arith,
-      ap (λ (l : List ℕ). length l) (held_same past (past.acted ++ k ∷ []) (past.finished ++ k ∷ []) past.removed),
-      ap (λ (l : List ℕ). length l) (due_in_order past k rest lawful is),
-      ap (λ (l : List ℕ). length l) is,
-      ap pending_in same,
-      ap (λ (p : Past). length (due p)) same,
-      queue_other past k e,
-    )
+pub drains_once : (past : Past) → AreDrained past → AreDistinct (map (λ d. d.command) (drains_of past))
+drains_once past drained = distinct_map_filter (λ (d : Drain). d.command) (λ d. not (is_in d.function past.answered)) past.drains drained.once
 
-due_same : (past : Past) (k : ℕ) → due (finished k past) ≡ due past
-unfolding due
-due_same past k = refl
+-- it is of none that is not finished
+pub drains_apart : (past : Past) (k : ℕ) → AreDrained past → is_in k (unfinished past) ≡ true → All (λ d. d.command ≢ k) past.drains
+unfolding unfinished
+drains_apart past k drained there = λ i d lt same.
+    let yes = drained.removed i d lt in
+    let no = not_gone k past.removed _ there in
+    absurd (let both = sym yes ∙ ap (λ (n : ℕ). is_in n past.removed) same ∙ no in cc)
 
--- one of the queue is finished
-pub pending_finished : (past : Past) (k : ℕ) (rest : List ℕ) → IsLawful past → queue past ≡ k ∷ rest → pending_in (finished k past) + 1 ≡ pending_in past
-pending_finished past k rest lawful is =
-    omega (
-      arith,
-      ap (λ (l : List ℕ). length l) (held_same past past.acted (past.finished ++ k ∷ []) past.removed),
-      ap (λ (l : List ℕ). length l) (due_same past k),
-      ap (λ (l : List ℕ). length l) (done_in_order past k rest lawful is),
-      ap (λ (l : List ℕ). length l) is,
-    )
+pub drain_functions_below : (past : Past) → AreDrained past → Below past past.finished → All (λ d. d.function < length past.came) past.drains
+drain_functions_below past drained below = λ i d lt. below_of (length past.came) _ past.finished below (drained.acted i d lt)
 
--- some are removed
-pub pending_removing : (past : Past) (names : List ℕ) → pending_in (removing names past) ≤ pending_in past
-unfolding queue due
-pending_removing past names =
-    let line = left past.finished (commands past.came past.acted) in
-    omega (
-      arith,
-      ap (λ (l : List ℕ). length l) (held_same past past.acted past.finished (past.removed ++ names)),
-      ap (λ (l : List ℕ). length l) (left_more past.removed names line),
-      left_fewer names (left past.removed line),
-    )
+pub drain_commands_below : (past : Past) → AreDrained past → Below past past.removed → All (λ d. d.command < length past.came) past.drains
+drain_commands_below past drained below = λ i d lt. below_of (length past.came) _ past.removed below (drained.removed i d lt)
+
+-- ---- it stays so
+
+-- where a request comes
+pub drained_joined : (past : Past) (x : Request) → AreDrained past → Below past past.finished → AreDrained (joined x past)
+drained_joined past x drained below = record {
+  functions = λ i d lt. ap (λ (r : Request). is_function r.frame) (request_before past.came x _ (drain_functions_below past drained below i d lt))
+      ∙ drained.functions i d lt;
+  acted = drained.acted;
+  answered = drained.answered;
+  removed = drained.removed;
+  once = drained.once;
+}
+
+-- where more is removed, or finished
+pub drained_removing : (past : Past) (gone : List ℕ) → AreDrained past → AreDrained (removing gone past)
+drained_removing past gone drained = record {
+  functions = drained.functions;
+  acted = drained.acted;
+  answered = drained.answered;
+  removed = λ i d lt. in_front _ past.removed gone (drained.removed i d lt);
+  once = drained.once;
+}
+
+pub drained_finished : (past : Past) (acted : List ℕ) (k : ℕ) → AreDrained past → AreDrained (finished k (record past { acted = acted }))
+drained_finished past acted k drained = record {
+  functions = drained.functions;
+  acted = λ i d lt. in_front _ past.finished (k ∷ []) (drained.acted i d lt);
+  answered = λ i d lt. in_front _ past.finished (k ∷ []) (drained.answered i d lt);
+  removed = drained.removed;
+  once = drained.once;
+}

@@ -22,7 +22,7 @@ later false n = refl
 position_later : {Y : Type 0} (p : Y → Bool) (y : Y) (ys : List Y) → p y ≡ false → position_or_len p (y ∷ ys) ≡ suc (position_or_len p ys)
 position_later p y ys e = rw e (omega arith)
 
-position_with : {Y : Type 0} (b : Bool) (p : Y → Bool) (y : Y) (ys : List Y) → p y ≡ b
+pub position_with : {Y : Type 0} (b : Bool) (p : Y → Bool) (y : Y) (ys : List Y) → p y ≡ b
     → position p (y ∷ ys) ≡ cond b (Some 0) (option_map suc (position p ys))
 position_with true p y ys e =
     let first : position_or_len p (y ∷ ys) ≡ 0 = rw e refl in
@@ -72,7 +72,7 @@ differs a k names none there same = let h = sym there ∙ ap (λ (n : ℕ). is_i
 
 -- ---- one is changed
 
-same_all : {Y : Type 0} (f g : ℕ → Y) (k : ℕ) (names : List ℕ) → is_in k names ≡ false → ((j : ℕ) → j ≢ k → g j ≡ f j) → map f names ≡ map g names
+pub same_all : {Y : Type 0} (f g : ℕ → Y) (k : ℕ) (names : List ℕ) → is_in k names ≡ false → ((j : ℕ) → j ≢ k → g j ≡ f j) → map f names ≡ map g names
 same_all f g k [] none same = refl
 same_all f g k (a ∷ names) none same = elim (cases_eq a k) [
   | inl here ↦ absurd (let h = rw (eq-eqb a k here) at none in cc)

@@ -32,7 +32,7 @@ stands_plugged n past state s free =
     let at = ahead_of past s.lawful n (ap (λ (t : TaskLists). is_vacant t n) (sym is) ∙ free) in
     stands_tasks past (joined x past) state _ s (lawful_with past s.lawful _ _ plug refl at (free_plug past)) refl refl
     (ap (λ (t : TaskLists). takes_all (holding n plug t)) is ∙ held_now past s.lawful _ _ n plug at refl)
-    (transfers_joined false past x refl (finished_below past s.lawful) (removed_below past s.lawful) s.lawful.fed s.lawful.asked
+    (transfers_joined false past x refl (finished_below past s.lawful) (removed_below past s.lawful) s.lawful.fed s.lawful.asked s.lawful.drained
     ∙ ap (λ (l : List Transfer). record (transfers_of past) { list = l }) (append-nil (transfers_of past).list))
     (functions_of_joined past s.lawful x ∙ append-nil (functions_of past))
     (exchange_joined past x s.lawful.below)

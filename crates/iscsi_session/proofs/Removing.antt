@@ -10,7 +10,7 @@ use Rattle.iscsi_pdu.specs.Frames.{Frame}
 use Rattle.iscsi_order.specs.Window as order
 use Rattle.iscsi_order.specs.Window.{taken as taken_numbers, window}
 use Rattle.iscsi_order.proofs.Front.{front_missing}
-use Rattle.iscsi_session.specs.Requests.{Request, Past, request_at, frame_of, frames_of, is_in, left, is_command, is_function, commands, counted, over, numbered, place_of, taken, numbers, due, queue, unfinished, functions, removing}
+use Rattle.iscsi_session.specs.Requests.{Request, Past, request_at, frame_of, frames_of, is_in, left, is_command, is_function, commands, counted, over, numbered, place_of, taken, numbers, due, queue, unfinished, pending, functions, removing}
 use Rattle.iscsi_session.specs.Transfers.{tag_of, task_at, outs_of, tags_of}
 use Rattle.iscsi_session.specs.Functions.{FunctionReach, reaches, reached}
 use Rattle.iscsi_session.specs.declared.transfers.Transfer.{Transfer}
@@ -18,7 +18,8 @@ use Rattle.iscsi_session.specs.Texts.{exchange_of}
 use Rattle.iscsi_session.specs.State.{SessionState, TransferList, Stands, AreDistinct, IsDelivered, IsLawful, void, voided, standing, frame_numbered, tasks_of, transfer_of, transfers_of, functions_of, void_if, stays, counts_out, reaches_frame, without, transfers_without}
 use Rattle.iscsi_session.proofs.Left.{filter_cong, filter_filter, map_cong, left_more, left_append, left_all, in_at, in_filter, in_filter_back, in_left, passes_in, not_gone, not_in, is_in_append, below_of, distinct_map_filter}
 use Rattle.iscsi_session.proofs.Places.{count_map}
-use Rattle.iscsi_session.proofs.Kept.{function_no_command, in_kept, all_of_kind, kept_in}
+use Rattle.iscsi_session.proofs.Kept.{function_no_command, in_kept}
+use Rattle.iscsi_session.proofs.Pending.{function_in, drained_removing}
 use Rattle.iscsi_session.proofs.Unfinished.{unfinished_came, unfinished_command, queue_unfinished}
 use Rattle.iscsi_session.proofs.Standing.{numbered_standing, place_standing, length_standing, standing_at}
 use Rattle.iscsi_session.proofs.Taken.{beyond_not_taken, taken_below}
@@ -27,7 +28,7 @@ use Rattle.iscsi_session.proofs.Accepted.{handed_is, handed_le, counted_append, 
 use Rattle.iscsi_session.proofs.Over.{split, acted_counted, few_over}
 use Rattle.iscsi_session.proofs.Parts.{parts, stands_parts}
 
-filter_map_names : {Y : Type 0} (p : Y → Bool) (f : ℕ → Y) (names : List ℕ) → filter p (map f names) ≡ map f (filter (λ k. p (f k)) names)
+pub filter_map_names : {X Y : Type 0} (p : Y → Bool) (f : X → Y) (names : List X) → filter p (map f names) ≡ map f (filter (λ k. p (f k)) names)
 filter_map_names p f [] = refl
 filter_map_names {Y = Y} p f (k ∷ names) = by_case (p (f k)) refl (filter_map_names p f names)
   where
@@ -36,7 +37,7 @@ filter_map_names {Y = Y} p f (k ∷ names) = by_case (p (f k)) refl (filter_map_
     by_case true e rest = rw e (ap (λ (l : List Y). f k ∷ l) rest)
     by_case false e rest = rw e rest
 
-map_map_names : {Y Z : Type 0} (g : Y → Z) (f : ℕ → Y) (names : List ℕ) → map g (map f names) ≡ map (λ k. g (f k)) names
+pub map_map_names : {Y Z : Type 0} (g : Y → Z) (f : ℕ → Y) (names : List ℕ) → map g (map f names) ≡ map (λ k. g (f k)) names
 map_map_names g f [] = refl
 map_map_names {Z = Z} g f (k ∷ names) = ap (λ (l : List Z). g (f k) ∷ l) (map_map_names g f names)
 
@@ -119,14 +120,10 @@ module _ (reach : FunctionReach) (past : Past) (lawful : IsLawful past) where
 
   functions_gone : functions after ≡ left gone (functions past)
   unfolding functions
-  functions_gone = left_again (left past.finished (filter (λ k. is_function (frame_of past.came k)) (range_with_len 0 (length past.came))))
-
-  function_in : (k : ℕ) → is_in k (functions past) ≡ true → is_function (frame_of past.came k) ≡ true
-  unfolding functions
-  function_in k e = all_of_kind is_function past k (kept_in is_function past k e)
+  functions_gone = left_again (left (left (pending past) past.finished) (filter (λ k. is_function (frame_of past.came k)) (range_with_len 0 (length past.came))))
 
   pub functions_same : functions after ≡ functions past
-  functions_same = functions_gone ∙ left_all gone (functions past) (λ i d lt. no_function _ (function_in _ (in_at (functions past) i d lt)))
+  functions_same = functions_gone ∙ left_all gone (functions past) (λ i d lt. no_function _ (function_in past _ (in_at (functions past) i d lt)))
 
   pub due_same : due after ≡ due past
   unfolding due
@@ -174,8 +171,8 @@ module _ (reach : FunctionReach) (past : Past) (lawful : IsLawful past) where
       let d = ap (counted came) commands_left ∙ counted_append came (commands came past.finished) (queue after) in
       let e = split hit came (queue past) in
       let f = ap (counted came) queue_hit in
-      let g = counted_append came past.finished (filter (λ k. is_in k past.removed) past.acted) in
-      let h = counted_append came past.finished (filter (λ k. is_in k (past.removed ++ gone)) past.acted) in
+      let g = counted_append came (left (pending past) past.finished) (filter (λ k. is_in k past.removed) past.acted) in
+      let h = counted_append came (left (pending past) past.finished) (filter (λ k. is_in k (past.removed ++ gone)) past.acted) in
       omega arith
 
   pub lawful_removing : IsLawful after
@@ -206,6 +203,7 @@ module _ (reach : FunctionReach) (past : Past) (lawful : IsLawful past) where
         removed_commands = all_commands;
         apart = λ i d lt. is_in_append _ past.removed gone
             ∙ rw (lawful.apart i d lt, finished_apart _ (in_at past.finished i d lt)) refl;
+        drained = drained_removing past gone lawful.drained;
       }
 
   -- ---- as they stand
@@ -344,7 +342,7 @@ module _ (reach : FunctionReach) (past : Past) (lawful : IsLawful past) where
   transfer_same k = refl
 
   pub transfers_removing : record (transfers_of past) { list = transfers_without reach (transfers_of past).list } ≡ transfers_of after
-  unfolding transfers_of
+  unfolding transfers_of task_at outs_of tags_of
   transfers_removing =
       ap (λ (l : List Transfer). record (transfers_of past) { list = l })
       (filter_map_names (λ transfer. not (reaches reach transfer.header)) (transfer_of past) (unfinished past)

@@ -37,6 +37,7 @@ lawful_data past data_outs r2ts answers lawful fed asked = record {
   removed_below = lawful.removed_below;
   removed_commands = lawful.removed_commands;
   apart = lawful.apart;
+  drained = record { functions = lawful.drained.functions; acted = lawful.drained.acted; answered = lawful.drained.answered; removed = lawful.drained.removed; once = lawful.drained.once };
 }
 
 pub lawful_answering : (more : List Answer) (past : Past) → IsLawful past → IsLawful (answering more past)

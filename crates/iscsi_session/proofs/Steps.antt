@@ -6,7 +6,8 @@ use Rattle.iscsi_pdu.specs.declared.answer.Answer.{Answer}
 use Rattle.iscsi_session.specs.Requests.{Past, queue, due}
 use Rattle.iscsi_session.specs.Judging.{verdict, judged_answers}
 use Rattle.iscsi_session.specs.Acts.{act_answers}
-use Rattle.iscsi_session.specs.Steps.{Step, Judging, Taking, Asking, Doing, Work, reaches, take_step, judge, act, ask, finish, first_steps, one_by_one, waiting_in, act_all, ask_due, taken_in, served, ready, settled}
+use Rattle.iscsi_session.specs.Functions.{drained_functions, told_answers}
+use Rattle.iscsi_session.specs.Steps.{Step, Judging, Taking, Asking, Answering, Doing, Work, reaches, take_step, judge, act, ask, finish, first_steps, one_by_one, waiting_in, act_all, ask_due, tell, tell_due, taken_in, asked_in, served, ready, settled}
 use Rattle.iscsi_session.specs.Transfers.{asking, r2t_of}
 use Rattle.iscsi_session.proofs.Served.{judged_same}
 use Rattle.iscsi_session.proofs.Answered.{acted_same}
@@ -43,13 +44,21 @@ taken_agrees f g place frame work judges acts =
     act_all_agrees f g place (take_step f (Judging place) (judge frame) work) acts
     ∙ ap (act_all g place) (step_agrees f g (Judging place) (judge frame) work judges)
 
-pub served_agrees : (f g : Step → Bool) (place : ℕ) (frame : Frame) (work : Work) → f (Judging place) ≡ g (Judging place)
+pub asked_agrees : (f g : Step → Bool) (place : ℕ) (frame : Frame) (work : Work) → f (Judging place) ≡ g (Judging place)
     → ((k : ℕ) → f (Taking place k) ≡ g (Taking place k)) → f (Asking place) ≡ g (Asking place)
-    → served f place frame work ≡ served g place frame work
-unfolding served ask_due
-served_agrees f g place frame work judges acts asks =
+    → asked_in f place frame work ≡ asked_in g place frame work
+unfolding asked_in ask_due
+asked_agrees f g place frame work judges acts asks =
     ap (ask_due f place) (taken_agrees f g place frame work judges acts)
     ∙ first_agrees f g (Asking place) ask (asking (taken_in g place frame work).past) (taken_in g place frame work) asks
+
+pub served_agrees : (f g : Step → Bool) (place : ℕ) (frame : Frame) (work : Work) → f (Judging place) ≡ g (Judging place)
+    → ((k : ℕ) → f (Taking place k) ≡ g (Taking place k)) → f (Asking place) ≡ g (Asking place) → f (Answering place) ≡ g (Answering place)
+    → served f place frame work ≡ served g place frame work
+unfolding served tell_due
+served_agrees f g place frame work judges acts asks tells =
+    ap (tell_due f place) (asked_agrees f g place frame work judges acts asks)
+    ∙ first_agrees f g (Answering place) tell (drained_functions (asked_in g place frame work).past) (asked_in g place frame work) tells
 
 pub settled_agrees : (f g : Step → Bool) (place : ℕ) (work : Work) → ((k : ℕ) → f (Doing place k) ≡ g (Doing place k))
     → settled f place work ≡ settled g place work
@@ -130,12 +139,23 @@ taken_extends fails place frame work =
     extends_then work next (act_all fails place next)
     (step_extends fails (Judging place) (judge frame) work (judge_extends frame (reaches (Judging place) work))) (act_all_extends fails place next)
 
-pub served_extends : (fails : Step → Bool) (place : ℕ) (frame : Frame) (work : Work) → Extends work (served fails place frame work)
-unfolding served ask_due
-served_extends fails place frame work =
+tell_extends : (k : ℕ) (work : Work) → Extends work (tell k work)
+unfolding tell
+tell_extends k work = record { params = refl; more = told_answers work.past k; answers = refl }
+
+asked_extends : (fails : Step → Bool) (place : ℕ) (frame : Frame) (work : Work) → Extends work (asked_in fails place frame work)
+unfolding asked_in ask_due
+asked_extends fails place frame work =
     let next = taken_in fails place frame work in
     extends_then work next (ask_due fails place next) (taken_extends fails place frame work)
     (first_extends fails (Asking place) ask (asking next.past) next ask_extends)
+
+pub served_extends : (fails : Step → Bool) (place : ℕ) (frame : Frame) (work : Work) → Extends work (served fails place frame work)
+unfolding served tell_due
+served_extends fails place frame work =
+    let next = asked_in fails place frame work in
+    extends_then work next (tell_due fails place next) (asked_extends fails place frame work)
+    (first_extends fails (Answering place) tell (drained_functions next.past) next tell_extends)
 
 pub settled_extends : (fails : Step → Bool) (place : ℕ) (work : Work) → Extends work (settled fails place work)
 unfolding settled

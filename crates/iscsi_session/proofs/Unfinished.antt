@@ -8,11 +8,13 @@ use Rattle.iscsi_pdu.specs.Header.{initiator_task_tag}
 use Rattle.iscsi_transfer.specs.Task.{remembered as task_of}
 use Rattle.iscsi_transfer.specs.Payload.{begun}
 use Rattle.iscsi_session.specs.declared.transfers.Transfer.{Transfer}
-use Rattle.iscsi_session.specs.Requests.{Request, Past, frame_of, is_in, left, is_command, commands, queue, unfinished, finished}
-use Rattle.iscsi_session.specs.Transfers.{tag_of, outs_of, tags_of, task_at, last_tag}
-use Rattle.iscsi_session.specs.State.{AreDistinct, transfer_of, transfers_of, begun_transfer}
+use Rattle.iscsi_session.specs.declared.transfers.Drained.{Drained}
+use Rattle.iscsi_session.specs.Requests.{Request, Past, Drain, frame_of, is_in, left, is_command, commands, queue, unfinished, finished}
+use Rattle.iscsi_session.specs.Transfers.{tag_of, outs_of, tags_of, task_at, last_tag, drains_of}
+use Rattle.iscsi_session.specs.State.{AreDistinct, AreDrained, transfer_of, drained_of, transfers_of, begun_transfer}
 use Rattle.iscsi_session.proofs.Left.{map_cong, in_at, in_left, in_left_back, in_filter, in_filter_back, in_range, passes_in, not_gone, below_of}
 use Rattle.iscsi_session.proofs.Kept.{joined, Below, kind_same, all_came, all_of_kind, kept_in, kept_distinct, kept_joined, kept_without, kept_other, tags_with}
+use Rattle.iscsi_session.proofs.Pending.{drains_all, drain_functions_below, drain_commands_below}
 use Rattle.iscsi_session.proofs.Places.{none_named}
 use Rattle.iscsi_session.proofs.Taken.{request_before, request_new}
 
@@ -77,25 +79,40 @@ transfer_new past x fed asked = ap (λ (r : Request). with_frame past (length pa
 transfers_before : (past : Past) (x : Request) → map (transfer_of (joined x past)) (unfinished past) ≡ map (transfer_of past) (unfinished past)
 transfers_before past x = map_cong _ _ (unfinished past) (λ i d lt. transfer_joined past x _ (unfinished_came past _ (in_at (unfinished past) i d lt)))
 
-pub transfers_joined : (c : Bool) (past : Past) (x : Request) → is_command x.frame ≡ c → Below past past.finished → Below past past.removed
+abbrev pub drained_with : List ℕ → Transfer → Drained
+drained_with header transfer = record { function = header; transfer = transfer }
+
+drained_before : (past : Past) (x : Request) → AreDrained past → Below past past.finished → Below past past.removed
+    → map (drained_of (joined x past)) (drains_of past) ≡ map (drained_of past) (drains_of past)
+drained_before past x drained below gone = map_cong _ _ (drains_of past) (drains_all (λ d. drained_of (joined x past) d ≡ drained_of past d) past
+    (λ i d lt. each _ (drain_functions_below past drained below i d lt) (drain_commands_below past drained gone i d lt)))
+  where
+    each : (d : Drain) → d.function < length past.came → d.command < length past.came → drained_of (joined x past) d ≡ drained_of past d
+    each d f c =
+        ap (λ (r : Request). drained_with r.frame.header (transfer_of (joined x past) d.command)) (request_before past.came x d.function f)
+        ∙ ap (drained_with (frame_of past.came d.function).header) (transfer_joined past x d.command c)
+
+list_joined : (c : Bool) (past : Past) (x : Request) → is_command x.frame ≡ c → Below past past.finished → Below past past.removed
     → All (λ d. d.command < length past.came) past.data_outs → All (λ r. r.command < length past.came) past.r2ts
-    → transfers_of (joined x past) ≡ record (transfers_of past)
-    { list = (transfers_of past).list ++ cond c (begun_transfer x.frame.header (task_of (begun past.params.values x.frame)) ∷ []) [] }
-unfolding transfers_of
-transfers_joined true past x e below gone fed asked =
+    → map (transfer_of (joined x past)) (unfinished (joined x past)) ≡ map (transfer_of past) (unfinished past)
+    ++ cond c (begun_transfer x.frame.header (task_of (begun past.params.values x.frame)) ∷ []) []
+list_joined true past x e below gone fed asked =
     let n = length past.came in
-    let list : map (transfer_of (joined x past)) (unfinished (joined x past)) ≡ map (transfer_of past) (unfinished past)
-    ++ begun_transfer x.frame.header (task_of (begun past.params.values x.frame)) ∷ [] =
     ap (map (transfer_of (joined x past))) (unfinished_joined true past x e below gone)
     ∙ map-append (transfer_of (joined x past)) (unfinished past) (n ∷ [])
     ∙ ap (λ (l : List Transfer). l ++ transfer_of (joined x past) n ∷ []) (transfers_before past x)
-    ∙ ap (λ (t : Transfer). map (transfer_of past) (unfinished past) ++ t ∷ []) (transfer_new past x fed asked) in
-    ap (λ (l : List Transfer). record (transfers_of past) { list = l }) list
-transfers_joined false past x e below gone fed asked =
-    let list : map (transfer_of (joined x past)) (unfinished (joined x past)) ≡ map (transfer_of past) (unfinished past) ++ [] =
+    ∙ ap (λ (t : Transfer). map (transfer_of past) (unfinished past) ++ t ∷ []) (transfer_new past x fed asked)
+list_joined false past x e below gone fed asked =
     ap (map (transfer_of (joined x past))) (unfinished_joined false past x e below gone ∙ append-nil (unfinished past))
-    ∙ transfers_before past x ∙ sym (append-nil (map (transfer_of past) (unfinished past))) in
-    ap (λ (l : List Transfer). record (transfers_of past) { list = l }) list
+    ∙ transfers_before past x ∙ sym (append-nil (map (transfer_of past) (unfinished past)))
+
+pub transfers_joined : (c : Bool) (past : Past) (x : Request) → is_command x.frame ≡ c → Below past past.finished → Below past past.removed
+    → All (λ d. d.command < length past.came) past.data_outs → All (λ r. r.command < length past.came) past.r2ts → AreDrained past
+    → transfers_of (joined x past) ≡ record (transfers_of past)
+    { list = (transfers_of past).list ++ cond c (begun_transfer x.frame.header (task_of (begun past.params.values x.frame)) ∷ []) [] }
+unfolding transfers_of
+transfers_joined c past x e below gone fed asked drained =
+    rw (list_joined c past x e below gone fed asked, drained_before past x drained below gone) refl
 
 -- their tags, where a request comes whose tag is not among them
 pub tags_joined : (c : Bool) (past : Past) (x : Request) → is_command x.frame ≡ c → Below past past.finished → Below past past.removed

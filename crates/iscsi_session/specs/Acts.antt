@@ -17,10 +17,10 @@ use Rattle.iscsi_pdu.specs.declared.answer.Answer.TheVariants as answers
 use Rattle.iscsi_pdu.specs.declared.stamp.Stamp.{Stamp}
 use Rattle.iscsi_login.specs.declared.params.Params.{Params}
 use Rattle.iscsi_login.specs.declared.values.Values.{Values}
-use Rattle.iscsi_session.specs.Requests.{Past, frame_of, is_function, moved, removing, answering, stamp}
+use Rattle.iscsi_session.specs.Requests.{Past, frame_of, is_function, moved, removing, draining, answering, stamp}
 use Rattle.iscsi_session.specs.Judging.{reserved_tag, reject}
 use Rattle.iscsi_session.specs.Texts.{exchange_of, text_answer_in}
-use Rattle.iscsi_session.specs.Functions.{FunctionReach, own_reach, reached, plugs, plugged, function_result, function_answer}
+use Rattle.iscsi_session.specs.Functions.{FunctionReach, own_reach, reached, awaited, plugs, plugged, function_result, function_answer}
 use Rattle.iscsi_exchange.specs.ExchangeState.{ExchangeState}
 use Rattle.iscsi_session.specs.declared.act.Act.{Act}
 use Rattle.iscsi_session.specs.declared.act.Act.TheVariants.{Idle, Taken, Ended}
@@ -52,25 +52,32 @@ logout_answer numbers_now params frame =
     else if logout_reason frame.header == 2 then logout_response results.NoRecovery numbers_now frame
     else reject reasons.InvalidField numbers_now frame
 
+-- a function that waits for data is not answered as it acts
+abbrev pub acted_answers : List ℕ → Stamp → TaskResult → List ℕ → List Answer
+acted_answers [] numbers_now result function = function_answer numbers_now result function ∷ []
+acted_answers (k ∷ others) numbers_now result function = []
+
 -- by the opcode: a request of any other kind is not accepted
-abbrev pub act_answers_by : Opcode → TaskResult → ExchangeState → Stamp → Params → Frame → List Answer
-act_answers_by opcodes.ScsiCommand result exchange numbers_now params frame = []
-act_answers_by opcodes.NopOut result exchange numbers_now params frame = ping_answers numbers_now params.values frame
-act_answers_by opcodes.Logout result exchange numbers_now params frame = logout_answer numbers_now params frame ∷ []
-act_answers_by opcodes.TaskManagement result exchange numbers_now params frame = function_answer numbers_now result frame.header ∷ []
-act_answers_by opcodes.Login result exchange numbers_now params frame = []
-act_answers_by opcodes.Text result exchange numbers_now params frame = text_answer_in exchange numbers_now params frame ∷ []
-act_answers_by opcodes.DataOut result exchange numbers_now params frame = []
-act_answers_by opcodes.Snack result exchange numbers_now params frame = []
-act_answers_by (opcodes.Other n) result exchange numbers_now params frame = []
+abbrev pub act_answers_by : Opcode → List ℕ → TaskResult → ExchangeState → Stamp → Params → Frame → List Answer
+act_answers_by opcodes.ScsiCommand waited result exchange numbers_now params frame = []
+act_answers_by opcodes.NopOut waited result exchange numbers_now params frame = ping_answers numbers_now params.values frame
+act_answers_by opcodes.Logout waited result exchange numbers_now params frame = logout_answer numbers_now params frame ∷ []
+act_answers_by opcodes.TaskManagement waited result exchange numbers_now params frame = acted_answers waited numbers_now result frame.header
+act_answers_by opcodes.Login waited result exchange numbers_now params frame = []
+act_answers_by opcodes.Text waited result exchange numbers_now params frame = text_answer_in exchange numbers_now params frame ∷ []
+act_answers_by opcodes.DataOut waited result exchange numbers_now params frame = []
+act_answers_by opcodes.Snack waited result exchange numbers_now params frame = []
+act_answers_by (opcodes.Other n) waited result exchange numbers_now params frame = []
 
 -- the commands of its own session that a request is to look at, where these are the numbers of the target's units
 abbrev pub reach_of : List ℕ → ℕ → Past → FunctionReach
 reach_of luns k past = own_reach luns (frame_of past.came k).header
 
--- a Task Management Function Request removes the SCSI Commands that it reaches
+-- a Task Management Function Request removes the SCSI Commands that it reaches, and may wait for their data
 abbrev pub ended : List ℕ → ℕ → Past → Past
-ended luns k past = if is_function (frame_of past.came k) then removing (reached (reach_of luns k past) past) (moved k past) else moved k past
+ended luns k past =
+    let reach = reach_of luns k past in
+    if is_function (frame_of past.came k) then draining k (awaited past reach) (removing (reached reach past) (moved k past)) else moved k past
 
 -- and an ABORT TASK may plug a number; its answer is stamped before
 abbrev pub behind : List ℕ → ℕ → Past → Past → Past
@@ -82,7 +89,7 @@ unfoldable pub act_answers : List ℕ → ℕ → Past → List Answer
 act_answers luns k past =
     let frame = frame_of past.came k in
     let result = function_result past (reach_of luns k past) in
-    act_answers_by (opcode_of (opcode_number frame.header)) result (exchange_of past) (stamp (ended luns k past)) past.params frame
+    act_answers_by (opcode_of (opcode_number frame.header)) (awaited past (reach_of luns k past)) result (exchange_of past) (stamp (ended luns k past)) past.params frame
 
 -- a request that was taken acts
 abbrev pub acted : List ℕ → ℕ → Past → Past

@@ -14,18 +14,18 @@ use Rattle.iscsi_order.specs.Window as order
 use Rattle.iscsi_session.specs.declared.verdict.Verdict.TheVariants.{Ignored, Dropped, Rejected, Violating, Accepted}
 use Rattle.iscsi_transfer.specs.Task.{remembered as task_of, fault_of}
 use Rattle.iscsi_session.specs.Requests.{functions, Past, begun, left, taken, taken_at, held, due, queue, unfinished, stamp, numbers}
-use Rattle.iscsi_session.specs.Transfers.{outs_of, tags_of, task_at, asking, asked_by, r2t_of}
+use Rattle.iscsi_session.specs.Transfers.{outs_of, tags_of, task_at, drained, asking, asked_by, r2t_of}
 use Rattle.iscsi_session.specs.Judging.{is_refused, verdict, verdict_by, task_verdict, judged, reject}
 use Rattle.scsi_sense.specs.Done.{good}
 use Rattle.iscsi_session.specs.Answers.{data_answers, scsi_answer}
 use Rattle.iscsi_session.specs.Steps.{answered_command, ready}
-use Rattle.iscsi_session.specs.Functions.{own_reach, reaches, reached, plugs, function_result, function_answer}
+use Rattle.iscsi_session.specs.Functions.{own_reach, reaches, reached, plugs, awaited, function_result, function_answer, drained_functions, told_answers}
 use Rattle.iscsi_session.specs.Acts.{acted, act_answers, ends, logout_response}
 
 -- what an example unfolds
 unfoldable pub computed : Bool
 unfolding order.taken left taken taken_at held due queue unfinished stamp task_verdict functions is_refused verdict_by act_answers ends data_answers scsi_answer
-    outs_of tags_of task_at task_of fault_of asking r2t_of ready reaches reached plugs function_result lun_number
+    outs_of tags_of task_at drained task_of fault_of asking r2t_of ready reaches reached plugs awaited function_result drained_functions told_answers lun_number
 computed = true
 
 -- ---- requests

@@ -14,8 +14,8 @@ use Rattle.iscsi_pdu.specs.declared.answer.Answer.TheVariants as answers
 use Rattle.iscsi_pdu.specs.declared.stamp.Stamp.{Stamp}
 use Rattle.iscsi_order.specs.Window as order
 use Rattle.iscsi_order.specs.Serial.{is_before}
-use Rattle.iscsi_session.specs.Requests.{Past, frame_of, place_of, numbers, unfinished, functions as unfinished_functions}
-use Rattle.iscsi_session.specs.Transfers.{tag_of}
+use Rattle.iscsi_session.specs.Requests.{Past, frame_of, place_of, numbers, unfinished, pending, functions as unfinished_functions, stamp, answering}
+use Rattle.iscsi_session.specs.Transfers.{tag_of, is_asked_of, drains_of}
 
 -- RFC 7143 §11.2.1.8: the Task Management Function Request with this tag that is not finished
 abbrev pub function_with : Past → ℕ → Option ℕ
@@ -152,3 +152,52 @@ function_result past reach = result_by (task_function (function_code reach.funct
 abbrev pub function_answer : Stamp → TaskResult → List ℕ → Answer
 function_answer numbers_now result function = answers.TaskManagementResponse
     (record { initiator_task_tag = initiator_task_tag function; stamp = numbers_now; response = result })
+
+-- ---- a function that waits for data (RFC 7143 §4.2.3.3)
+
+-- own: ABORT TASK does not wait
+abbrev pub waits_by : TaskFunction → Bool
+waits_by functions.AbortTask = false
+waits_by functions.AbortTaskSet = true
+waits_by functions.ClearAca = false
+waits_by functions.ClearTaskSet = true
+waits_by functions.LogicalUnitReset = true
+waits_by functions.TargetWarmReset = true
+waits_by functions.TargetColdReset = false
+waits_by functions.TaskReassign = false
+waits_by (functions.Other n) = false
+
+abbrev pub waits : FunctionReach → Bool
+waits reach = waits_by (task_function (function_code reach.function))
+
+-- the commands whose data a function is to wait for: of those that it removes the ones for which an R2T is open
+unfoldable pub awaited : Past → FunctionReach → List ℕ
+awaited past reach = if waits reach then filter (is_asked_of past) (reached reach past) else []
+
+-- not all has come that it waits for
+abbrev pub lacks : Past → ℕ → Bool
+lacks past k = list_any (λ d. d.function == k && is_asked_of past d.command) (drains_of past)
+
+-- those that need wait no more, in the order in which they acted
+unfoldable pub drained_functions : Past → List ℕ
+drained_functions past = filter (λ k. not (lacks past k)) (pending past)
+
+-- it is finished before its answer is stamped
+abbrev pub told : ℕ → Past → Past
+told k past = record past { answered = past.answered ++ k ∷ [] }
+
+-- it removed a command, so it is complete
+unfoldable pub told_answers : Past → ℕ → List Answer
+told_answers past k = function_answer (stamp (told k past)) results.Complete (frame_of past.came k).header ∷ []
+
+abbrev pub answered_function : ℕ → Past → Past
+answered_function k past = answering (told_answers past k) (told k past)
+
+-- the first of these is answered
+abbrev pub answered_by : List ℕ → Past → Past
+answered_by [] past = past
+answered_by (k ∷ others) past = answered_function k past
+
+abbrev pub told_by : List ℕ → Past → List Answer
+told_by [] past = []
+told_by (k ∷ others) past = told_answers past k

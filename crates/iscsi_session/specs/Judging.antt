@@ -29,7 +29,7 @@ reserved_tag = 0xFFFFFFFF
 abbrev pub is_fresh : Past → Frame → Bool
 is_fresh past frame = is_immediate frame.header || order.is_new (numbers past) (cmd_sn frame.header)
 
--- RFC 7143 §11.2.1.8: a tag is live while its SCSI Command or its Task Management Function Request is held or unfinished
+-- RFC 7143 §11.2.1.8: a tag is live while its SCSI Command or its Task Management Function Request is held or unfinished, or its data is drained
 abbrev pub is_live : Past → ℕ → Bool
 is_live past tag = is_some (command_with past tag) || is_some (function_with past tag)
 

@@ -22,6 +22,7 @@ pub mod Commands
 pub mod Steps
 pub mod Room
 pub mod State
+pub mod Draining
 pub mod Runs
 pub mod Tasks
 pub mod Weight

@@ -28,6 +28,12 @@ pub record SentR2t : Type 0 where
   -- its Target Transfer Tag
   pub tag : ℕ
 
+-- data that is drained (RFC 7143 §4.2.3.3): of a SCSI Command that was removed while an R2T was open for it; the Task Management
+-- Function Request of its session that removed it is answered when that data has come
+pub record Drain : Type 0 where
+  pub function : ℕ
+  pub command : ℕ
+
 -- A request is named by its place among those that came.
 pub record Past : Type 0 where
   pub params : Params
@@ -40,11 +46,14 @@ pub record Past : Type 0 where
   pub acted : List ℕ
   pub finished : List ℕ
   pub removed : List ℕ
+  -- the data that functions were to wait for as they acted, and those of these functions that were answered since
+  pub drains : List Drain
+  pub answered : List ℕ
   -- what was answered in full feature phase, in order
   pub answers : List Answer
 
 abbrev pub begun : Params → Past
-begun params = record { params = params; came = []; data_outs = []; r2ts = []; acted = []; finished = []; removed = []; answers = [] }
+begun params = record { params = params; came = []; data_outs = []; r2ts = []; acted = []; finished = []; removed = []; drains = []; answered = []; answers = [] }
 
 -- ---- names
 
@@ -78,9 +87,13 @@ commands came names = filter (λ k. is_command (frame_of came k)) names
 abbrev pub others : List Request → List ℕ → List ℕ
 others came names = filter (λ k. not (is_command (frame_of came k))) names
 
--- the requests that are over: those that are finished, and those that were removed and whose turn has come
+-- the Task Management Function Requests that acted and wait for data
+abbrev pub pending : Past → List ℕ
+pending past = left past.answered (map (λ d. d.function) past.drains)
+
+-- the requests that are over: those that are finished and do not wait, and those that were removed and whose turn has come
 abbrev pub over : Past → List ℕ
-over past = past.finished ++ filter (λ k. is_in k past.removed) past.acted
+over past = left (pending past) past.finished ++ filter (λ k. is_in k past.removed) past.acted
 
 -- how many of these have a number
 abbrev pub counted : List Request → List ℕ → ℕ
@@ -141,7 +154,7 @@ unfinished past = left past.removed (left past.finished (commands past.came (ran
 
 -- the Task Management Function Requests that came and are not finished, held or taken, in the order in which they came
 unfoldable pub functions : Past → List ℕ
-functions past = left past.removed (left past.finished (filter (λ k. is_function (frame_of past.came k)) (range_with_len 0 (length past.came))))
+functions past = left past.removed (left (left (pending past) past.finished) (filter (λ k. is_function (frame_of past.came k)) (range_with_len 0 (length past.came))))
 
 abbrev pub frames_of : List Request → List ℕ → List Frame
 frames_of came names = map (frame_of came) names
@@ -195,6 +208,13 @@ moved k past =
 -- own: SCSI Commands are removed before they are finished
 abbrev pub removing : List ℕ → Past → Past
 removing names past = record past { removed = past.removed ++ names }
+
+abbrev pub drain_for : ℕ → ℕ → Drain
+drain_for function command = record { function = function; command = command }
+
+-- a function waits for the data of these commands
+abbrev pub draining : ℕ → List ℕ → Past → Past
+draining k names past = record past { drains = past.drains ++ map (drain_for k) names }
 
 abbrev pub answering : List Answer → Past → Past
 answering more past = record past { answers = past.answers ++ more }

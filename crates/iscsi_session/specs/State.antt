@@ -8,18 +8,19 @@ use Rattle.iscsi_order.specs.Window as order
 use Rattle.iscsi_order.specs.WindowState as windows
 use Rattle.iscsi_order.specs.Serial.{distance}
 use Rattle.iscsi_order.specs.Stat.{stat_sn}
-use Rattle.iscsi_session.specs.Requests.{Request, Past, has_number, numbers, numbered, counted, over, left, is_command, commands, others, is_in, frame_of, taken, due, queue, frames_of, unfinished, is_function, functions, statuses}
+use Rattle.iscsi_session.specs.Requests.{Request, Past, Drain, has_number, numbers, numbered, counted, over, left, is_command, commands, others, is_in, frame_of, taken, due, queue, frames_of, unfinished, is_function, functions, statuses}
 use Rattle.iscsi_pdu.specs.declared.r2t.R2t.{R2t}
 use Rattle.iscsi_pdu.specs.declared.stamp.Stamp.{Stamp}
 use Rattle.iscsi_transfer.specs.Task.{TaskState, fault_of, due_ask, is_whole, with_data, command_fault}
 use Rattle.iscsi_transfer.specs.declared.task.Ask.{Ask}
 use Rattle.iscsi_session.specs.declared.transfers.Transfer.{Transfer}
+use Rattle.iscsi_session.specs.declared.transfers.Drained.{Drained}
 use Rattle.iscsi_session.specs.declared.verdict.Verdict.{Verdict}
 use Rattle.iscsi_session.specs.declared.verdict.Verdict.TheVariants.{Dropped, Violating, Feeding}
 use Rattle.iscsi_session.specs.Texts.{exchange_of}
 use Rattle.iscsi_session.specs.Functions.{FunctionReach, reaches, plug, is_plug}
 use Rattle.iscsi_exchange.specs.ExchangeState.{ExchangeState}
-use Rattle.iscsi_session.specs.Transfers.{tag_of, tags_of, task_at, next_transfer_tag, unsent, r2t_for}
+use Rattle.iscsi_session.specs.Transfers.{tag_of, tags_of, task_at, next_transfer_tag, unsent, drains_of, r2t_for}
 
 -- the requests that are not finished, and the numbers
 pub record TaskLists : Type 0 where
@@ -42,6 +43,8 @@ pub record TransferList : Type 0 where
   pub next_tag : ℕ
   -- of the SCSI Commands that are not finished, in the order in which they came
   pub list : List Transfer
+  -- of those that were removed and whose data Task Management Function Requests wait for
+  pub drains : List Drained
 
 pub record SessionState : Type 0 where
   pub params : Params
@@ -88,8 +91,16 @@ tasks_of past = tasks_with past (numbers past).handed (frames_of (standing past)
 abbrev pub transfer_of : Past → ℕ → Transfer
 transfer_of past k = record { header = (frame_of past.came k).header; task = task_at past k; sent = length (tags_of past k) }
 
+-- the header of the function that waits for it, and the data
+abbrev pub drained_of : Past → Drain → Drained
+drained_of past d = record { function = (frame_of past.came d.function).header; transfer = transfer_of past d.command }
+
 unfoldable pub transfers_of : Past → TransferList
-transfers_of past = record { next_tag = next_transfer_tag past; list = map (transfer_of past) (unfinished past) }
+transfers_of past = record {
+  next_tag = next_transfer_tag past;
+  list = map (transfer_of past) (unfinished past);
+  drains = map (drained_of past) (drains_of past);
+}
 
 unfoldable pub functions_of : Past → List (List ℕ)
 functions_of past = map (λ k. (frame_of past.came k).header) (functions past)
@@ -119,6 +130,14 @@ AreDistinct (k ∷ ks) = (order.has_come ks k ≡ false) × AreDistinct ks
 abbrev pub IsDelivered : Request → Type 0
 IsDelivered request = is_some request.number ≡ not (is_immediate request.frame.header)
 
+-- the functions that were to wait acted, and what they were to wait for was removed, once
+pub record AreDrained (past : Past) : Type 0 where
+  pub functions : All (λ d. is_function (frame_of past.came d.function) ≡ true) past.drains
+  pub acted : All (λ d. is_in d.function past.finished ≡ true) past.drains
+  pub answered : All (λ k. is_in k past.finished ≡ true) past.answered
+  pub removed : All (λ d. is_in d.command past.removed ≡ true) past.drains
+  pub once : AreDistinct (map (λ d. d.command) past.drains)
+
 pub record IsLawful (past : Past) : Type 0 where
   pub window : windows.IsLawful (numbers past)
   pub distinct : AreDistinct (numbered past.came)
@@ -143,6 +162,7 @@ pub record IsLawful (past : Past) : Type 0 where
   pub removed_below : All (λ k. k < length past.came) past.removed
   pub removed_commands : All (λ k. is_command (frame_of past.came k) ≡ true) past.removed
   pub apart : All (λ k. is_in k past.removed ≡ false) past.finished
+  pub drained : AreDrained past
 
 -- the session remembers this past
 pub record Stands (past : Past) (state : SessionState) : Type 0 where
@@ -242,7 +262,7 @@ waiting tasks = weigh (filter_map (λ o. o) tasks.held) + weigh tasks.due
 -- ---- what the code does to the data of its commands
 
 abbrev pub no_transfers : TransferList
-no_transfers = record { next_tag = 0; list = [] }
+no_transfers = record { next_tag = 0; list = []; drains = [] }
 
 abbrev pub no_transfer : Transfer
 no_transfer = record {
@@ -278,6 +298,10 @@ abbrev pub fed_at : List Transfer → Frame → Option ℕ → List Transfer
 fed_at transfers frame None = transfers
 fed_at transfers frame (Some i) = slice_set transfers i (record (transfer_at transfers i) { task = with_data (transfer_at transfers i).task frame })
 
+-- the part of its data that a command is to be asked for
+abbrev pub due_of : Transfer → Option Ask
+due_of transfer = unsent transfer.sent (due_ask transfer.task)
+
 -- of those that a Task Management Function Request does not reach
 abbrev pub transfers_without : FunctionReach → List Transfer → List Transfer
 transfers_without reach transfers = filter (λ transfer. not (reaches reach transfer.header)) transfers
@@ -297,10 +321,6 @@ abbrev pub removed_at : List Transfer → Option ℕ → List Transfer
 removed_at transfers None = transfers
 removed_at transfers (Some i) = remove transfers i
 
--- the part of its data that a command is to be asked for
-abbrev pub due_of : Transfer → Option Ask
-due_of transfer = unsent transfer.sent (due_ask transfer.task)
-
 abbrev pub asking_place : List Transfer → Option ℕ
 asking_place transfers = position (λ transfer. is_some (due_of transfer)) transfers
 
@@ -317,6 +337,7 @@ asked_at transfers None = transfers
 asked_at transfers (Some i) = record {
   next_tag = (transfers.next_tag + 1) % 0xFFFFFFFF;
   list = slice_set transfers.list i (sent_to transfers.next_tag (transfer_at transfers.list i));
+  drains = transfers.drains;
 }
 
 -- the first command of the queue waits for data, or there is none

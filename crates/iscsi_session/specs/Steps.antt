@@ -5,35 +5,47 @@ use Rattle.scsi_unit.specs.Units.{UnitStates, numbers_of}
 use Rattle.iscsi_pdu.specs.Frames.{Frame}
 use Rattle.iscsi_session.specs.Requests.{Past, frame_of, held, due, queue, finished, stamp, answering}
 use Rattle.iscsi_session.specs.Transfers.{payload_of, is_whole_of, asking, asked}
+use Rattle.iscsi_session.specs.Functions.{drained_functions, answered_function}
 use Rattle.iscsi_session.specs.Judging.{verdict, judged, violates}
 use Rattle.iscsi_session.specs.Acts.{acted, ordered, ends}
 use Rattle.iscsi_session.specs.Answers.{command_answers}
 use Rattle.iscsi_session.specs.Commands.{carried_out}
 
 -- The place is that of the frame among those of its connection; the turn counts the requests that this frame
--- lets be taken, and then the commands that are done, each from 0 on. A frame makes one R2T due at most.
+-- lets be taken, and then the commands that are done, each from 0 on. A frame makes one R2T due at most, or brings the last
+-- data that one Task Management Function Request waits for.
 pub data Step : Type 0 where
   Judging : (place : ℕ) → Step
   Taking : (place : ℕ) (turn : ℕ) → Step
   Asking : (place : ℕ) → Step
+  Answering : (place : ℕ) → Step
   Doing : (place : ℕ) (turn : ℕ) → Step
 
 abbrev pub is_step : Step → Step → Bool
 is_step (Judging p) (Judging q) = p == q
 is_step (Judging p) (Taking q j) = false
 is_step (Judging p) (Asking q) = false
+is_step (Judging p) (Answering q) = false
 is_step (Judging p) (Doing q j) = false
 is_step (Taking p i) (Judging q) = false
 is_step (Taking p i) (Taking q j) = p == q && i == j
 is_step (Taking p i) (Asking q) = false
+is_step (Taking p i) (Answering q) = false
 is_step (Taking p i) (Doing q j) = false
 is_step (Asking p) (Judging q) = false
 is_step (Asking p) (Taking q j) = false
 is_step (Asking p) (Asking q) = p == q
+is_step (Asking p) (Answering q) = false
 is_step (Asking p) (Doing q j) = false
+is_step (Answering p) (Judging q) = false
+is_step (Answering p) (Taking q j) = false
+is_step (Answering p) (Asking q) = false
+is_step (Answering p) (Answering q) = p == q
+is_step (Answering p) (Doing q j) = false
 is_step (Doing p i) (Judging q) = false
 is_step (Doing p i) (Taking q j) = false
 is_step (Doing p i) (Asking q) = false
+is_step (Doing p i) (Answering q) = false
 is_step (Doing p i) (Doing q j) = p == q && i == j
 
 -- the frame of this place sets it off
@@ -41,6 +53,7 @@ abbrev pub is_of : ℕ → Step → Bool
 is_of place (Judging p) = p == place
 is_of place (Taking p i) = p == place
 is_of place (Asking p) = p == place
+is_of place (Answering p) = p == place
 is_of place (Doing p i) = p == place
 
 -- a command is done; every other step serves a frame
@@ -48,6 +61,7 @@ abbrev pub is_doing : Step → Bool
 is_doing (Judging p) = false
 is_doing (Taking p i) = false
 is_doing (Asking p) = false
+is_doing (Answering p) = false
 is_doing (Doing p i) = true
 
 abbrev pub is_serving : Step → Bool
@@ -95,6 +109,10 @@ act k work = record work {
 unfoldable pub ask : ℕ → Work → Work
 ask k work = record work { past = asked k work.past }
 
+-- a function is answered whose data has come
+unfoldable pub tell : ℕ → Work → Work
+tell k work = record work { past = answered_function k work.past }
+
 -- a command is done and answered; it counts as finished before its answers are stamped
 abbrev pub answered_command : Outcome → ℕ → Past → Past
 answered_command done k past = answering (command_answers (stamp (finished k past)) past.params.values (frame_of past.came k) done) (finished k past)
@@ -129,13 +147,21 @@ act_all fails place work = one_by_one fails (Taking place) due act 0 (waiting_in
 unfoldable pub ask_due : (Step → Bool) → ℕ → Work → Work
 ask_due fails place work = first_steps fails (Asking place) ask (asking work.past) work
 
+-- the function whose data has come is answered
+unfoldable pub tell_due : (Step → Bool) → ℕ → Work → Work
+tell_due fails place work = first_steps fails (Answering place) tell (drained_functions work.past) work
+
 -- a frame is judged, and the requests that it lets be taken act
 unfoldable pub taken_in : (Step → Bool) → ℕ → Frame → Work → Work
 taken_in fails place frame work = act_all fails place (take_step fails (Judging place) (judge frame) work)
 
 -- and the R2T that it made due is sent
+unfoldable pub asked_in : (Step → Bool) → ℕ → Frame → Work → Work
+asked_in fails place frame work = ask_due fails place (taken_in fails place frame work)
+
+-- and the function that waited for its data is answered
 unfoldable pub served : (Step → Bool) → ℕ → Frame → Work → Work
-served fails place frame work = ask_due fails place (taken_in fails place frame work)
+served fails place frame work = tell_due fails place (asked_in fails place frame work)
 
 -- the first command of the queue can be done where its data is whole
 abbrev pub ready_in : Past → List ℕ → List ℕ

@@ -1,5 +1,5 @@
 -- The data that initiators send for the SCSI Commands of a session, and the R2Ts that ask for it.
-use Rattle.std.specs.Prelude.{ℕ, ◌%◌, List, [], ◌∷◌, ◌++◌, length, map, filter, fold, find, Bool, ◌==◌, Option, Some, None, is_some, option_map, if◌then◌else◌}
+use Rattle.std.specs.Prelude.{ℕ, ◌%◌, List, [], ◌∷◌, ◌++◌, length, map, filter, fold, find, Bool, ◌&&◌, not, ◌==◌, Option, Some, None, is_some, option_map, if◌then◌else◌}
 use Rattle.iscsi_pdu.specs.Header.{initiator_task_tag, lun_field}
 use Rattle.iscsi_pdu.specs.Frames.{Frame}
 use Rattle.iscsi_pdu.specs.declared.answer.Answer.{Answer}
@@ -8,17 +8,13 @@ use Rattle.iscsi_pdu.specs.declared.r2t.R2t.{R2t}
 use Rattle.iscsi_pdu.specs.declared.stamp.Stamp.{Stamp}
 use Rattle.iscsi_pdu.specs.DataOut.{no_transfer_tag}
 use Rattle.iscsi_transfer.specs.Payload as payloads
-use Rattle.iscsi_transfer.specs.Task.{TaskState, remembered as task_of, fault_of, due_ask, is_whole}
+use Rattle.iscsi_transfer.specs.Task.{TaskState, remembered as task_of, fault_of, due_ask, lacks_data, is_whole}
 use Rattle.iscsi_transfer.specs.declared.task.Ask.{Ask}
 use Rattle.iscsi_transfer.specs.declared.fault.DataFault.{DataFault}
-use Rattle.iscsi_session.specs.Requests.{Request, Past, frame_of, unfinished, stamp, answering}
+use Rattle.iscsi_session.specs.Requests.{Request, Past, Drain, frame_of, is_in, unfinished, stamp, answering}
 
 abbrev pub tag_of : List Request → ℕ → ℕ
 tag_of came k = initiator_task_tag (frame_of came k).header
-
--- RFC 7143 §11.2.1.8: the SCSI Command with this tag that is not finished
-abbrev pub command_with : Past → ℕ → Option ℕ
-command_with past tag = find (λ k. tag_of past.came k == tag) (unfinished past)
 
 -- ---- of one command
 
@@ -60,6 +56,28 @@ unsent sent (Some ask) = if ask.number == sent then Some ask else None
 -- the part of its data that it is to be asked for
 abbrev pub ask_of : Past → ℕ → Option Ask
 ask_of past k = unsent (length (tags_of past k)) (due_ask (task_at past k))
+
+-- an R2T is open: not all that it asked for has come
+abbrev pub is_asked_of : Past → ℕ → Bool
+is_asked_of past k = lacks_data (task_at past k) && not (is_some (ask_of past k))
+
+-- ---- of those that were removed
+
+-- the data that functions wait for
+abbrev pub drains_of : Past → List Drain
+drains_of past = filter (λ d. not (is_in d.function past.answered)) past.drains
+
+-- the commands whose data is drained, as long as it has not come
+unfoldable pub drained : Past → List ℕ
+drained past = filter (is_asked_of past) (map (λ d. d.command) (drains_of past))
+
+abbrev pub command_among : Past → ℕ → List ℕ → Option ℕ
+command_among past tag names = find (λ k. tag_of past.came k == tag) names
+
+-- RFC 7143 §11.2.1.8: the SCSI Command with this tag that is not finished, or whose data is drained
+abbrev pub command_with : Past → ℕ → Option ℕ
+command_with past tag =
+    if is_some (command_among past tag (unfinished past)) then command_among past tag (unfinished past) else command_among past tag (drained past)
 
 -- ---- R2T (RFC 7143 §11.8)
 

@@ -1,7 +1,7 @@
 -- What the requests of a session count for, and the pasts that keep it small (own).
 use Rattle.std.specs.Prelude.{◌≡◌, All, ℕ, ◌+◌, ◌*◌, ◌≤◌, List, [], length, filter_map, Bool, true}
 use Rattle.iscsi_pdu.specs.Header.{header_length}
-use Rattle.iscsi_session.specs.Requests.{Request, Past, due, unfinished, functions}
+use Rattle.iscsi_session.specs.Requests.{Past, due, unfinished, functions}
 use Rattle.iscsi_session.specs.Functions.{immediate_in}
 use Rattle.iscsi_session.specs.Judging.{most_immediate}
 use Rattle.iscsi_session.specs.State.{TaskLists, SessionState, IsLawful, remembered}

@@ -6,7 +6,7 @@ ghost use Rattle.iscsi_pdu.specs.Frames as pdu;
 ghost use Rattle.iscsi_pdu.specs.TaskManagement.{ref_cmd_sn};
 ghost use Rattle.iscsi_order.specs.Window as order;
 ghost use Rattle.iscsi_session.specs.Requests.{Past, frame_of, due, numbers as numbers_in, removing, is_function as is_function_in};
-ghost use Rattle.iscsi_session.specs.Functions.{own_reach, reached, is_plug as is_plug_in, refers_back, aborts_unseen, plugs as plugs_in, abort_result, function_result, function_answer};
+ghost use Rattle.iscsi_session.specs.Functions.{own_reach, reached, awaited, is_plug as is_plug_in, refers_back, aborts_unseen, plugs as plugs_in, abort_result, function_result, function_answer};
 ghost use Rattle.iscsi_session.specs.Acts.{acted, ordered, ended, behind, act_answers};
 ghost use Rattle.iscsi_session.specs.State.{Stands, function_place, immediate_functions, function_removed, is_vacant, waiting};
 
@@ -25,7 +25,7 @@ use std::alloc::Global;
 use std::marker::Model;
 
 /// The length of a Task Management Function Response, in bytes.
-const RESPONSE_LENGTH: usize = 48;
+pub(crate) const RESPONSE_LENGTH: usize = 48;
 
 /// It is a Task Management Function Request.
 pub(crate) fn is_function(frame: &Frame) -> bool
@@ -49,7 +49,7 @@ fn refers_back(function: &Header) -> bool
 }
 
 /// What a function is answered.
-fn answer_to(function: &Header, stamp: Stamp, response: TaskResult) -> Answer<'static>
+pub(crate) fn answer_to(function: &Header, stamp: Stamp, response: TaskResult) -> Answer<'static>
     ensures value { result ≡ function_answer stamp response function.now }
     ensures short { length (spelling result) ≤ 48 }
 {
@@ -131,7 +131,7 @@ impl Functions {
     }
 
     /// The function with this tag is finished.
-    fn finish(&mut self, tag: u32)
+    pub(crate) fn finish(&mut self, tag: u32)
         ensures { self.new ≡ function_removed self.old (function_place tag self.old) }
     {
         if let Some(place) = self.place_of(tag) {
@@ -142,7 +142,7 @@ impl Functions {
 
 impl Session {
     /// The first request that is due, a Task Management Function Request, acts. It is answered at the end of the
-    /// buffer, and its header is put behind the orders. Where an allocation fails nothing changes.
+    /// buffer unless it waits for data, and its header is put behind the orders. Where an allocation fails nothing changes.
     pub(crate) fn answer_function(
         &mut self,
         luns: &[u8],
@@ -175,6 +175,11 @@ impl Session {
             luns,
             is_own: true,
         };
+        if self.transfers.awaits(&reach) {
+            self.drain(&reach)?;
+            orders.push_reserved(function);
+            return Ok(Act::Taken);
+        }
         let response = self.function_result(&reach);
         let numbers = self.end_tasks(&reach)?;
         let stamp = Stamp {
@@ -193,7 +198,7 @@ impl Session {
         requires { 0 < length self.old.tasks.due }
         ensures stands { IfOk result (λ numbers. (luns : List ℕ) (past : Past) (k : ℕ) (others : List ℕ) → Stands past self.old
             → due past ≡ k ∷ others → is_function_in (frame_of past.came k) ≡ true → reach.now ≡ own_reach luns (frame_of past.came k).header
-            → (numbers ≡ order.numbers_of (numbers_in (ended luns k past))) × Stands (behind luns k past (ended luns k past)) self.new) }
+            → awaited past reach.now ≡ [] → (numbers ≡ order.numbers_of (numbers_in (ended luns k past))) × Stands (behind luns k past (ended luns k past)) self.new) }
         ensures fewer { OnOk result ((frame : pdu.Frame) (others : List pdu.Frame) → self.old.tasks.due ≡ frame ∷ others → is_function_in frame ≡ true
             → waiting self.new.tasks < waiting self.old.tasks) }
         ensures same { self.new ≡ record self.old { tasks = self.new.tasks; transfers = self.new.transfers; functions = self.new.functions } }

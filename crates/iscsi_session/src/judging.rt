@@ -7,7 +7,8 @@ ghost use Rattle.iscsi_pdu.specs.Header.{initiator_task_tag};
 ghost use Rattle.iscsi_session.specs.Requests.{Past, is_command as is_command_in, is_function as is_function_in, accepted, answering, stamp};
 ghost use Rattle.iscsi_session.specs.Transfers.{command_with, fed};
 ghost use Rattle.iscsi_session.specs.Judging.{verdict, request_verdict, is_refused, is_fresh, is_full, is_live, is_faulty, task_verdict, judged, judged_answers, reject};
-ghost use Rattle.iscsi_session.specs.State.{Stands, is_vacant_for, judged_at, place_for, place_with, function_place, IsAcceptable, IsLawfulTask};
+ghost use Rattle.iscsi_session.specs.Draining.{judged_in, is_live_in};
+ghost use Rattle.iscsi_session.specs.State.{Stands, is_vacant_for, function_place, IsAcceptable, IsLawfulTask};
 
 use crate::acting::is_command;
 use crate::answers::{put, rejected};
@@ -56,7 +57,7 @@ impl Session {
         ensures vacant { result ≡ Verdict.Accepted → is_vacant_for self.now.tasks frame.now ≡ true }
         ensures acceptable { result ≡ Verdict.Accepted → IsAcceptable self.now frame.now }
         ensures lawful { result ≡ Verdict.Feeding
-            → judged_at self.now.transfers.list frame.now (place_for frame.now self.now.transfers.list) ≡ Verdict.Feeding }
+            → judged_in self.now.transfers frame.now ≡ Verdict.Feeding }
     {
         if self.is_refused(frame) {
             return Verdict::Rejected(RejectReason::CommandNotSupported);
@@ -86,7 +87,7 @@ impl Session {
         ensures vacant { result ≡ Verdict.Accepted → is_vacant_for self.now.tasks frame.now ≡ true }
         ensures acceptable { result ≡ Verdict.Accepted → IsAcceptable self.now frame.now }
         ensures lawful { result ≡ Verdict.Feeding
-            → judged_at self.now.transfers.list frame.now (place_for frame.now self.now.transfers.list) ≡ Verdict.Feeding }
+            → judged_in self.now.transfers frame.now ≡ Verdict.Feeding }
     {
         let header = &frame.header;
         match header.opcode() {
@@ -157,7 +158,7 @@ impl Session {
     /// A SCSI Command or a Task Management Function Request with this tag is not finished.
     fn is_live(&self, tag: u32) -> bool
         ensures live { (past : Past) → Stands past self.now → result ≡ is_live past tag }
-        ensures places { result ≡ (is_some (place_with tag self.now.transfers.list) || is_some (function_place tag self.now.functions)) }
+        ensures places { result ≡ (is_live_in tag self.now.transfers || is_some (function_place tag self.now.functions)) }
     {
         self.transfers.is_live(tag) || self.functions.is_live(tag)
     }
@@ -217,7 +218,7 @@ impl Session {
 
     /// The data of a Data-Out that is lawful is taken.
     fn feed(&mut self, frame: &Frame)
-        requires { judged_at self.old.transfers.list frame.now (place_for frame.now self.old.transfers.list) ≡ Verdict.Feeding }
+        requires { judged_in self.old.transfers frame.now ≡ Verdict.Feeding }
         ensures stands { (past : Past) → Stands past self.old → Stands (fed (command_with past (initiator_task_tag frame.now.header)) frame.now past) self.new }
         ensures params { self.new.params ≡ self.old.params }
     {

@@ -23,6 +23,7 @@ mod acting;
 mod answering;
 mod answers;
 mod data_ins;
+mod draining;
 mod fault;
 mod functions;
 mod judging;

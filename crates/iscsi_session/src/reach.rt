@@ -2,7 +2,7 @@
 
 ghost use Rattle.std.specs.Prelude.{◌≡◌};
 ghost use Rattle.scsi_unit.specs.Lun.{lun_number};
-ghost use Rattle.iscsi_session.specs.Functions.{reaches as reaches_in, has_unit, unit_named, is_earlier, is_in_set, set_result};
+ghost use Rattle.iscsi_session.specs.Functions.{reaches as reaches_in, has_unit, unit_named, is_earlier, is_in_set, set_result, waits as waits_in};
 ghost use Rattle.iscsi_session.specs.State.{reaches_frame};
 
 use crate::acting::is_command;
@@ -112,6 +112,23 @@ impl Reach<'_> {
             TaskResult::Complete
         } else {
             TaskResult::NoUnit
+        }
+    }
+
+    /// The function waits for the data that R2Ts have asked for. ABORT TASK does not.
+    pub(crate) fn waits(&self) -> bool
+        ensures { result ≡ waits_in self.now }
+    {
+        match self.function.task_function() {
+            TaskFunction::AbortTaskSet
+            | TaskFunction::ClearTaskSet
+            | TaskFunction::LogicalUnitReset
+            | TaskFunction::TargetWarmReset => true,
+            TaskFunction::AbortTask
+            | TaskFunction::ClearAca
+            | TaskFunction::TargetColdReset
+            | TaskFunction::TaskReassign
+            | TaskFunction::Other(_) => false,
         }
     }
 

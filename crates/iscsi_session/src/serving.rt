@@ -9,7 +9,7 @@ ghost use Rattle.iscsi_session.specs.Requests.{Past};
 ghost use Rattle.iscsi_session.specs.Transfers.{asking, asked_by, r2ts_by};
 ghost use Rattle.iscsi_session.specs.State.{Stands, asking_place, is_waiting};
 ghost use Rattle.iscsi_session.specs.Commands.{carried_out};
-ghost use Rattle.iscsi_session.specs.Steps.{Work, is_doing, is_serving, ready, finish, taken_in, served, settled};
+ghost use Rattle.iscsi_session.specs.Steps.{Work, is_doing, is_serving, ready, finish, taken_in, asked_in, served, settled};
 ghost use Rattle.iscsi_session.specs.Weight.{IsAtRest, Eases};
 ghost use Rattle.iscsi_session.specs.Runs.{output, Starts, Runs, Stops, StepsFirst};
 
@@ -53,8 +53,8 @@ fn carry_out<S: Store>(
 }
 
 impl Session {
-    /// A frame is judged, the requests that it lets be taken act, and the R2T that it makes due is sent; all
-    /// of that is added at the end of the buffer. The header of each Task Management Function Request that acts is
+    /// A frame is judged, the requests that it lets be taken act, the R2T that it makes due is sent, and the function is
+    /// answered that waited for its data; all of that is added at the end of the buffer. The header of each Task Management Function Request that acts is
     /// put behind the orders: the target is to carry it out on its other sessions and on its units, which have these
     /// numbers. It tells whether the session goes on: a violation and a Logout that closes end it.
     /// Where an allocation fails the session is to be closed: the steps before it were done and answered whole, and
@@ -72,6 +72,33 @@ impl Session {
             (output out.old.items orders.old.items) (output out.new.items orders.new.items) units units) }
         ensures err { OnErr result (Stops is_serving (λ failed. (units : UnitStates) → luns.now ≡ numbers_of units
             → Runs (λ fails place. served fails place frame) failed false self.old self.new
+            (output out.old.items orders.old.items) (output out.new.items orders.new.items) units units)) }
+        ensures grows { (more : List ℕ) × (out.new.items ≡ out.old.items ++ more) }
+        ensures idle { IfOk result (λ goes_on. goes_on ≡ true → self.new.tasks.due ≡ []) }
+        ensures params { self.new.params ≡ self.old.params }
+    {
+        if !self.ask_in(frame, luns, out, orders)? {
+            return Ok(false);
+        }
+        self.tell_due(out)?;
+        Ok(true)
+    }
+
+    /// A frame is judged, the requests that it lets be taken act, and the R2T that it makes due is sent. It tells
+    /// whether the session goes on. Where an allocation fails the steps before it were done.
+    fn ask_in(
+        &mut self,
+        frame: Frame,
+        luns: &[u8],
+        out: &mut BytesMut,
+        orders: &mut Vec<Header>,
+    ) -> Result<bool, Memory>
+        requires { AreInRange self.old.params.values }
+        ensures ok { IfOk result (λ goes_on. (units : UnitStates) → luns.now ≡ numbers_of units
+            → Runs (λ fails place. asked_in fails place frame) None goes_on self.old self.new
+            (output out.old.items orders.old.items) (output out.new.items orders.new.items) units units) }
+        ensures err { OnErr result (Stops is_serving (λ failed. (units : UnitStates) → luns.now ≡ numbers_of units
+            → Runs (λ fails place. asked_in fails place frame) failed false self.old self.new
             (output out.old.items orders.old.items) (output out.new.items orders.new.items) units units)) }
         ensures grows { (more : List ℕ) × (out.new.items ≡ out.old.items ++ more) }
         ensures idle { IfOk result (λ goes_on. goes_on ≡ true → self.new.tasks.due ≡ []) }

@@ -13,7 +13,7 @@ use crate::functions::is_plug;
 use crate::reach::Reach;
 use crate::voids::{plug, void_held, void_line};
 use iscsi_order::{CommandNumbers, Window};
-use iscsi_pdu::Frame;
+use iscsi_pdu::{Frame, Header};
 use slab::Slab;
 use std::alloc::Global;
 use std::marker::Model;
@@ -190,6 +190,21 @@ impl Tasks {
         Ok(())
     }
 
+    /// The first that is due acts, and is not finished.
+    pub(crate) fn drop_due(&mut self) -> Option<Frame>
+        ensures some { IfSome result (λ frame. self.old.due ≡ frame ∷ drop 1 self.old.due) }
+        ensures same { IfSome result (λ frame. self.new ≡ record self.old { due = drop 1 self.old.due }) }
+        ensures none { IfNone result (self.old.due ≡ []) }
+        ensures none_same { IfNone result (self.new ≡ self.old) }
+    {
+        if self.due.is_empty() {
+            return None;
+        }
+        let key = self.due.remove(0);
+        let frame = self.requests.remove(key);
+        Some(frame)
+    }
+
     /// The first that is due is finished.
     pub(crate) fn finish_due(&mut self) -> Option<Frame>
         ensures some { IfSome result (λ frame. self.old.due ≡ frame ∷ drop 1 self.old.due) }
@@ -280,6 +295,15 @@ impl Tasks {
         } else {
             let key = self.queue.remove(0);
             self.queue.push_reserved(key);
+        }
+    }
+
+    /// A function is finished that acted before. One for immediate delivery has no number.
+    pub(crate) fn finish_function(&mut self, header: &Header)
+        ensures { self.new ≡ (if is_immediate header.now then self.old else record self.old { unfinished = self.old.unfinished - 1 }) }
+    {
+        if !header.is_immediate() {
+            self.window.finish();
         }
     }
 

@@ -1,12 +1,14 @@
 //! The data that the initiator sends for the SCSI Commands of a session.
 
-ghost use Rattle.std.specs.Prelude.{◌≡◌, ◌≤◌, ◌<◌, ◌+◌, ◌%◌, ◌++◌, ◌∷◌, List, [], None, is_some, IfOk, OnOk, OnErr};
+ghost use Rattle.std.specs.Prelude.{◌≡◌, ◌≤◌, ◌<◌, ◌+◌, ◌%◌, ◌++◌, ◌∷◌, ◌&&◌, ◌==◌, List, [], None, is_some, IfOk, OnOk, OnErr};
+ghost use Rattle.std.specs.List.{list_any};
 ghost use Rattle.iscsi_transfer.specs.Payload.{begun};
 ghost use Rattle.iscsi_transfer.specs.Task.{command_fault, remembered as task_of};
 ghost use Rattle.iscsi_session.specs.Transfers.{r2t_for};
 ghost use Rattle.iscsi_session.specs.declared.transfers.Transfer.{Transfer};
 ghost use Rattle.iscsi_session.specs.declared.verdict.Verdict.TheVariants.{Feeding};
-ghost use Rattle.iscsi_session.specs.State.{no_transfers, place_with, immediate_transfers, judged_at, fed_at, whole_at, payload_at, removed_at, place_for, begun_transfer, due_of, asking_place, r2t_at, asked_at, reaches_some, transfers_without};
+ghost use Rattle.iscsi_session.specs.Draining.{is_asked, is_awaited, awaited_in, awaits_in, is_draining, drain_with, drain_for, judged_drain, fed_drain, judged_in, fed_in, is_live_in, function_tag, lacks_for, telling_place, function_at, drains_without};
+ghost use Rattle.iscsi_session.specs.State.{bears, no_transfers, place_with, immediate_transfers, whole_at, payload_at, removed_at, place_for, begun_transfer, due_of, asking_place, r2t_at, asked_at, reaches_some, transfers_without};
 
 use crate::fault::Memory;
 use crate::reach::Reach;
@@ -27,12 +29,23 @@ pub(crate) struct Transfer {
     sent: usize,
 }
 
-/// The data of the SCSI Commands that are not finished, in the order in which they came.
+/// The data of a SCSI Command that was removed while an R2T was open, for which a function waits.
+#[derive(Drop)]
+pub(crate) struct Drained {
+    /// The header of the function.
+    function: Header,
+    transfer: Transfer,
+}
+
+/// The data of the SCSI Commands of a session.
 #[derive(Drop)]
 pub(crate) struct Transfers {
     /// The Target Transfer Tag of the next R2T.
     next_tag: u32,
+    /// Of those that are not finished, in the order in which they came.
     list: Vec<Transfer>,
+    /// Of those that were removed and whose data functions wait for.
+    drains: Vec<Drained>,
     alloc: Global,
 }
 
@@ -42,7 +55,7 @@ impl Model for Transfers {
 
     ghost Value = { TransferList };
 
-    ghost view = { λ t. record { next_tag = t.next_tag; list = t.list.items } };
+    ghost view = { λ t. record { next_tag = t.next_tag; list = t.list.items; drains = t.drains.items } };
 
     ghost invariant = { λ t. t.next_tag < 0xFFFFFFFF };
 }
@@ -59,6 +72,50 @@ impl Transfer {
             None
         }
     }
+
+    /// An R2T is open: not all that it asked for has come.
+    fn is_asked(&self) -> bool
+        ensures { result ≡ is_asked self.now }
+    {
+        self.task.lacks_data() && self.due().is_none()
+    }
+
+    /// A function reaches it, and an R2T is open.
+    fn is_awaited(&self, reach: &Reach) -> bool
+        ensures { result ≡ is_awaited reach.now self.now }
+    {
+        reach.has(&self.header) && self.is_asked()
+    }
+}
+
+impl Drained {
+    /// An R2T is open: not all that it asked for has come.
+    fn is_draining(&self) -> bool
+        ensures { result ≡ is_draining self.now }
+    {
+        self.transfer.is_asked()
+    }
+
+    /// The command with this tag is drained here.
+    fn drains(&self, tag: u32) -> bool
+        ensures { result ≡ (is_draining self.now && bears tag self.now.transfer) }
+    {
+        self.is_draining() && self.transfer.header.initiator_task_tag() == tag
+    }
+
+    /// The function with this tag waits for it.
+    fn is_for(&self, tag: u32) -> bool
+        ensures { result ≡ (function_tag self.now == tag) }
+    {
+        self.function.initiator_task_tag() == tag
+    }
+
+    /// The function with this tag waits for it, and not all has come.
+    fn holds_up(&self, tag: u32) -> bool
+        ensures { result ≡ (function_tag self.now == tag && is_draining self.now) }
+    {
+        self.is_for(tag) && self.is_draining()
+    }
 }
 
 impl Transfers {
@@ -69,6 +126,7 @@ impl Transfers {
         Transfers {
             next_tag: 0,
             list: Vec::new(alloc),
+            drains: Vec::new(alloc),
             alloc,
         }
     }
@@ -82,11 +140,18 @@ impl Transfers {
             .position(|transfer| transfer.header.initiator_task_tag() == tag)
     }
 
-    /// A SCSI Command with this tag is not finished.
-    pub(crate) fn is_live(&self, tag: u32) -> bool
-        ensures { result ≡ is_some (place_with tag self.now.list) }
+    /// Where the data of the command with this tag is drained.
+    fn drain_of(&self, tag: u32) -> Option<usize>
+        ensures { result ≡ drain_with tag self.now.drains }
     {
-        self.place_of(tag).is_some()
+        self.drains.iter().position(|drained| drained.drains(tag))
+    }
+
+    /// A SCSI Command with this tag is not finished, or its data is drained.
+    pub(crate) fn is_live(&self, tag: u32) -> bool
+        ensures { result ≡ is_live_in tag self.now }
+    {
+        self.place_of(tag).is_some() || self.drain_of(tag).is_some()
     }
 
     /// How many for immediate delivery are not finished.
@@ -104,10 +169,10 @@ impl Transfers {
 
     /// What a Data-Out is judged to be.
     pub(crate) fn judge(&self, frame: &Frame) -> Verdict
-        ensures { result ≡ judged_at self.now.list frame.now (place_for frame.now self.now.list) }
+        ensures { result ≡ judged_in self.now frame.now }
     {
         let Some(place) = self.place_of(frame.header.initiator_task_tag()) else {
-            return Verdict::Dropped;
+            return self.judge_drained(frame);
         };
         match self.list[place].task.fault_of(frame) {
             Some(_) => Verdict::Violating,
@@ -115,16 +180,42 @@ impl Transfers {
         }
     }
 
+    /// What a Data-Out is judged to be whose tag no command bears that is not finished.
+    fn judge_drained(&self, frame: &Frame) -> Verdict
+        ensures { result ≡ judged_drain self.now.drains frame.now (drain_for frame.now self.now.drains) }
+    {
+        let Some(place) = self.drain_of(frame.header.initiator_task_tag()) else {
+            return Verdict::Dropped;
+        };
+        match self.drains[place].transfer.task.fault_of(frame) {
+            Some(_) => Verdict::Violating,
+            None => Verdict::Feeding,
+        }
+    }
+
     /// The data of a Data-Out that is lawful is taken. It takes no memory.
     pub(crate) fn feed(&mut self, frame: &Frame)
-        requires { judged_at self.old.list frame.now (place_for frame.now self.old.list) ≡ Feeding }
-        ensures { self.new ≡ record self.old { list = fed_at self.old.list frame.now (place_for frame.now self.old.list) } }
+        requires { judged_in self.old frame.now ≡ Feeding }
+        ensures { self.new ≡ fed_in self.old frame.now }
     {
         let Some(place) = self.place_of(frame.header.initiator_task_tag()) else {
+            self.feed_drained(frame);
             return;
         };
         // It is lawful, so this does not fail.
         let _ = self.list[place].task.data_out(frame);
+    }
+
+    /// The data of a lawful Data-Out is taken whose tag no command bears that is not finished.
+    fn feed_drained(&mut self, frame: &Frame)
+        requires { judged_drain self.old.drains frame.now (drain_for frame.now self.old.drains) ≡ Feeding }
+        ensures { self.new ≡ record self.old { drains = fed_drain self.old.drains frame.now (drain_for frame.now self.old.drains) } }
+    {
+        let Some(place) = self.drain_of(frame.header.initiator_task_tag()) else {
+            return;
+        };
+        // It is lawful, so this does not fail.
+        let _ = self.drains[place].transfer.task.data_out(frame);
     }
 
     /// A SCSI Command that has just come is kept, with the data that it brings. Where an allocation fails nothing
@@ -197,6 +288,88 @@ impl Transfers {
         while place < self.list.len() {
             if reach.has(&self.list[place].header) {
                 self.list.remove(place);
+            } else {
+                place += 1;
+            }
+        }
+    }
+
+    /// A function is to wait for data of the commands that it reaches.
+    pub(crate) fn awaits(&self, reach: &Reach) -> bool
+        ensures { result ≡ awaits_in reach.now self.now.list }
+    {
+        if !reach.waits() {
+            return false;
+        }
+        self.has_asked(reach)
+    }
+
+    /// An R2T is open for one that a function reaches.
+    fn has_asked(&self, reach: &Reach) -> bool
+        ensures { result ≡ list_any (is_awaited reach.now) self.now.list }
+    {
+        self.list.iter().any(|transfer| transfer.is_awaited(reach))
+    }
+
+    /// The commands that a function reaches are removed, and the function waits for the data that R2Ts have asked
+    /// for of them. Where an allocation fails nothing changes.
+    pub(crate) fn drain(&mut self, reach: &Reach) -> Result<(), Memory>
+        ensures ok { OnOk result (self.new ≡ record self.old
+            { list = transfers_without reach.now self.old.list; drains = self.old.drains ++ awaited_in reach.now self.old.list }) }
+        ensures err { OnErr result (self.new ≡ self.old) }
+    {
+        self.drains.reserve(self.list.len())?;
+        let mut place = 0;
+        while place < self.list.len() {
+            if reach.has(&self.list[place].header) {
+                let transfer = self.list.remove(place);
+                if transfer.is_asked() {
+                    self.drains.push_reserved(Drained {
+                        function: reach.function,
+                        transfer,
+                    });
+                }
+            } else {
+                place += 1;
+            }
+        }
+        Ok(())
+    }
+
+    /// Not all has come that the function with this tag waits for.
+    fn lacks_for(&self, tag: u32) -> bool
+        ensures { result ≡ lacks_for self.now.drains tag }
+    {
+        self.drains.iter().any(|drained| drained.holds_up(tag))
+    }
+
+    /// Where data stands of the first function that need wait no more.
+    fn telling(&self) -> Option<usize>
+        ensures { result ≡ telling_place self.now.drains }
+    {
+        self.drains.iter().position(|drained| !self.lacks_for(
+            drained.function.initiator_task_tag(),
+        ))
+    }
+
+    /// The header of the first function whose data has come.
+    pub(crate) fn drained(&self) -> Option<Header>
+        ensures { result ≡ function_at self.now.drains (telling_place self.now.drains) }
+    {
+        match self.telling() {
+            Some(place) => Some(self.drains[place].function),
+            None => None,
+        }
+    }
+
+    /// The function with this tag waits for nothing any more.
+    pub(crate) fn forget(&mut self, tag: u32)
+        ensures { self.new ≡ record self.old { drains = drains_without tag self.old.drains } }
+    {
+        let mut place = 0;
+        while place < self.drains.len() {
+            if self.drains[place].is_for(tag) {
+                self.drains.remove(place);
             } else {
                 place += 1;
             }

@@ -8,7 +8,7 @@ use Rattle.iscsi_login.specs.declared.params.Params.{Params}
 use Rattle.scsi_unit.specs.Units.{UnitStates}
 use Rattle.iscsi_session.specs.Requests.{Past}
 use Rattle.iscsi_session.specs.State.{SessionState, IsLawful, remembered}
-use Rattle.iscsi_session.specs.Steps.{Step, Judging, Taking, Asking, Doing, is_of, is_doing, is_serving, Work, served, settled}
+use Rattle.iscsi_session.specs.Steps.{Step, Judging, Taking, Asking, Answering, Doing, is_of, is_doing, is_serving, Work, served, settled}
 use Rattle.iscsi_session.specs.Runs.{output, Starts, is_failed, IsReached, Runs}
 use Rattle.iscsi_session.proofs.Steps.{served_agrees, settled_agrees}
 use Rattle.iscsi_login.specs.Session.{is_same_target}
@@ -164,6 +164,7 @@ serve_agrees failed c frame place marks work agree =
     (step_there is_taken_at failed c place marks (Judging place) agree (rw (eqb_self place) refl))
     (λ k. step_there is_taken_at failed c place marks (Taking place k) agree (rw (eqb_self place) refl))
     (step_there is_taken_at failed c place marks (Asking place) agree (rw (eqb_self place) refl))
+    (step_there is_taken_at failed c place marks (Answering place) agree (rw (eqb_self place) refl))
 
 pub settle_agrees : (failed : Option (ℕ → Step)) (c place : ℕ) (marks : List Mark) (work : Work)
     → Agrees (is_done_by c place) marks (marks_of c failed place) → settled (fails marks c) place work ≡ settled (is_failed failed place) place work

@@ -3,7 +3,7 @@ use Rattle.std.proofs.Common.{◌≡◌, ◌≢◌, ℕ, List, [], ◌∷◌, �
 use Rattle.std.specs.List.{list_any, list_all}
 use Rattle.std.proofs.lemmas.Bool.{eqb-true, ne_eqb}
 use Rattle.std.proofs.lemmas.List.Folds.{list_any-append}
-use Rattle.iscsi_session.specs.Steps.{Step, Judging, Taking, Asking, Doing, is_step, is_of, is_doing, is_serving}
+use Rattle.iscsi_session.specs.Steps.{Step, Judging, Taking, Asking, Answering, Doing, is_step, is_of, is_doing, is_serving}
 use Rattle.iscsi_target.specs.History.{Point, Arriving, Before, AtEnd, Mark, is_point, is_same, is_within}
 use Rattle.iscsi_target.specs.World.{is_marked}
 use Rattle.iscsi_target.specs.Serving.{Agrees, is_of_frame, has_step, is_done_at, is_taken_at}
@@ -15,18 +15,27 @@ step_true : (a b : Step) → is_step a b ≡ true → a ≡ b
 step_true (Judging p) (Judging q) e = ap Judging (eqb-true p q e)
 step_true (Judging p) (Taking q j) e = absurd cc
 step_true (Judging p) (Asking q) e = absurd cc
+step_true (Judging p) (Answering q) e = absurd cc
 step_true (Judging p) (Doing q j) e = absurd cc
 step_true (Taking p i) (Judging q) e = absurd cc
 step_true (Taking p i) (Taking q j) e = let both = and_true (eqb p q) (eqb i j) e in cc (eqb-true p q both.0, eqb-true i j both.1)
 step_true (Taking p i) (Asking q) e = absurd cc
+step_true (Taking p i) (Answering q) e = absurd cc
 step_true (Taking p i) (Doing q j) e = absurd cc
 step_true (Asking p) (Judging q) e = absurd cc
 step_true (Asking p) (Taking q j) e = absurd cc
 step_true (Asking p) (Asking q) e = ap Asking (eqb-true p q e)
+step_true (Asking p) (Answering q) e = absurd cc
 step_true (Asking p) (Doing q j) e = absurd cc
+step_true (Answering p) (Judging q) e = absurd cc
+step_true (Answering p) (Taking q j) e = absurd cc
+step_true (Answering p) (Asking q) e = absurd cc
+step_true (Answering p) (Answering q) e = ap Answering (eqb-true p q e)
+step_true (Answering p) (Doing q j) e = absurd cc
 step_true (Doing p i) (Judging q) e = absurd cc
 step_true (Doing p i) (Taking q j) e = absurd cc
 step_true (Doing p i) (Asking q) e = absurd cc
+step_true (Doing p i) (Answering q) e = absurd cc
 step_true (Doing p i) (Doing q j) e = let both = and_true (eqb p q) (eqb i j) e in cc (eqb-true p q both.0, eqb-true i j both.1)
 
 point_true : (a b : Point) → is_point a b ≡ true → a ≡ b
@@ -44,6 +53,7 @@ step_self : (a : Step) → is_step a a ≡ true
 step_self (Judging p) = eqb_self p
 step_self (Taking p i) = rw (eqb_self p, eqb_self i) refl
 step_self (Asking p) = eqb_self p
+step_self (Answering p) = eqb_self p
 step_self (Doing p i) = rw (eqb_self p, eqb_self i) refl
 
 point_self : (a : Point) → is_point a a ≡ true
@@ -149,6 +159,7 @@ apart_steps : (a b : Bool) (point : Point) → (a && has_step is_serving point) 
 apart_steps a b (Before (Judging p)) e = and_false b
 apart_steps a b (Before (Taking p i)) e = and_false b
 apart_steps a b (Before (Asking p)) e = and_false b
+apart_steps a b (Before (Answering p)) e = and_false b
 apart_steps a b (Before (Doing p i)) e = absurd (cc (e, and_false a))
 apart_steps a b (Arriving p) e = absurd (cc (e, and_false a))
 apart_steps a b AtEnd e = absurd (cc (e, and_false a))
@@ -157,6 +168,7 @@ steps_apart : (a b : Bool) (point : Point) → (a && has_step is_doing point) �
 steps_apart a b (Before (Judging p)) e = absurd (cc (e, and_false a))
 steps_apart a b (Before (Taking p i)) e = absurd (cc (e, and_false a))
 steps_apart a b (Before (Asking p)) e = absurd (cc (e, and_false a))
+steps_apart a b (Before (Answering p)) e = absurd (cc (e, and_false a))
 steps_apart a b (Before (Doing p i)) e = and_false b
 steps_apart a b (Arriving p) e = absurd (cc (e, and_false a))
 steps_apart a b AtEnd e = absurd (cc (e, and_false a))
@@ -192,6 +204,7 @@ of_two : (p q : ℕ) (step : Step) → p ≢ q → is_of p step ≡ true → is_
 of_two p q (Judging r) differ e = ne_eqb r q (λ same. differ (sym (eqb-true r p e) ∙ same))
 of_two p q (Taking r i) differ e = ne_eqb r q (λ same. differ (sym (eqb-true r p e) ∙ same))
 of_two p q (Asking r) differ e = ne_eqb r q (λ same. differ (sym (eqb-true r p e) ∙ same))
+of_two p q (Answering r) differ e = ne_eqb r q (λ same. differ (sym (eqb-true r p e) ∙ same))
 of_two p q (Doing r i) differ e = ne_eqb r q (λ same. differ (sym (eqb-true r p e) ∙ same))
 
 -- points of two frames are two points

@@ -9,7 +9,7 @@ use Rattle.std.proofs.lemmas.List.{append-nil, length-append, set-get_or, get_or
 use Rattle.iscsi_pdu.specs.Frames.{Frame, frames, rest, is_long, has_frame, first_frame, frame_length}
 use Rattle.iscsi_pdu.proofs.Frames.{no_frame, frames_none, rest_none, frames_step, rest_step, drop_shorter}
 use Rattle.iscsi_pdu.proofs.Cuts.{long_is_no_frame}
-use Rattle.iscsi_session.specs.Steps.{Step, Judging, Taking, Asking, Doing, is_of}
+use Rattle.iscsi_session.specs.Steps.{Step, Judging, Taking, Asking, Answering, Doing, is_of}
 use Rattle.iscsi_login.specs.Directory.{KnownTargets}
 use Rattle.iscsi_target.specs.History.{Point, Arriving, Before, AtEnd, Mark, Arrival, Whole, TooLong, arrivals, is_within, connection_limit}
 use Rattle.iscsi_target.specs.Life.{Life, reads}
@@ -306,12 +306,14 @@ step_place : (q : ℕ) (step : Step) → is_of q step ≡ true → place_of step
 step_place q (Judging p) e = eqb-true p q e
 step_place q (Taking p i) e = eqb-true p q e
 step_place q (Asking p) e = eqb-true p q e
+step_place q (Answering p) e = eqb-true p q e
 step_place q (Doing p i) e = eqb-true p q e
 
 place_step : (q : ℕ) (step : Step) → place_of step ≢ q → is_of q step ≡ false
 place_step q (Judging p) differ = ne_eqb p q differ
 place_step q (Taking p i) differ = ne_eqb p q differ
 place_step q (Asking p) differ = ne_eqb p q differ
+place_step q (Answering p) differ = ne_eqb p q differ
 place_step q (Doing p i) differ = ne_eqb p q differ
 
 in_range : (n place p : ℕ) → (not (nat_lt p place) && nat_lt p (place + n)) ≡ true → p < place + n

@@ -16,7 +16,7 @@ use Rattle.iscsi_session.specs.Examples.{computed as session_computed}
 use Rattle.iscsi_session.specs.Answers.{data_answers, scsi_answer}
 use Rattle.iscsi_target.specs.Life.{Life, reads, out_of}
 use Rattle.iscsi_session.specs.Commands.{carried_out}
-use Rattle.iscsi_session.specs.Steps.{take_step as session_step, judge, act, ask, finish, act_all, ask_due, taken_in, served, settled}
+use Rattle.iscsi_session.specs.Steps.{take_step as session_step, judge, act, ask, finish, act_all, ask_due, tell, tell_due, taken_in, asked_in, served, settled}
 use Rattle.iscsi_target.specs.World.{Setting, present, changed, live, changed_units, close, end, is_marked, take_step, log_in, worked, take_in, orders_in, lose_one, reset, carry_out, settle_one, settle, serve, is_login, arrive, bring, world}
 use Rattle.iscsi_target.specs.Output.{outputs}
 
@@ -56,8 +56,8 @@ are_read s history = map (λ (life : Life). reads life.phase) (world s history).
 -- what an example unfolds
 unfoldable pub computed : Bool
 unfolding frames rest has_frame is_long first_frame frame_length login_computed arrivals new_arrivals perform performed_as judged unit_done told
-    without_unit lun_number join leave older session_computed data_answers scsi_answer out_of carried_out session_step judge act ask finish act_all ask_due taken_in
-    served settled present changed live changed_units close end is_marked take_step log_in worked take_in orders_in lose_one reset carry_out
+    without_unit lun_number join leave older session_computed data_answers scsi_answer out_of carried_out session_step judge act ask finish act_all ask_due tell tell_due
+    taken_in asked_in served settled present changed live changed_units close end is_marked take_step log_in worked take_in orders_in lose_one reset carry_out
     settle_one settle serve is_login arrive bring world outputs
 computed = true
 

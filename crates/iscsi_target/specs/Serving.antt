@@ -2,7 +2,7 @@
 use Rattle.std.specs.Prelude.{◌≡◌, ◌≢◌, ℕ, ◌+◌, ◌<◌, List, [], ◌∷◌, length, Bool, true, false, if◌then◌else◌, ◌&&◌, not, ◌==◌, nat_lt, Option, Some, None, Result, Ok, Err, ⊤}
 use Rattle.std.specs.List.{list_all, fold, enumerate_from}
 use Rattle.iscsi_pdu.specs.Frames.{Frame, rest, is_long}
-use Rattle.iscsi_session.specs.Steps.{Step, Judging, Taking, Asking, Doing, is_doing, is_serving}
+use Rattle.iscsi_session.specs.Steps.{Step, Judging, Taking, Asking, Answering, Doing, is_doing, is_serving}
 use Rattle.iscsi_target.specs.History.{Point, Arriving, Before, AtEnd, Mark, is_within, Arrival, Whole, arrivals, connection_limit}
 use Rattle.iscsi_target.specs.World.{Setting, World, present, is_marked, arrive, settle_one, settle, settle_for}
 use Rattle.iscsi_target.specs.Machine.{LinkState, Machine, IsSound, IsSure, Feeds, KeepsPart, link_at, is_reading, is_closing, closed}
@@ -150,6 +150,7 @@ abbrev pub place_of : Step → ℕ
 place_of (Judging place) = place
 place_of (Taking place turn) = place
 place_of (Asking place) = place
+place_of (Answering place) = place
 place_of (Doing place turn) = place
 
 abbrev pub has_place : (ℕ → Bool) → Point → Bool

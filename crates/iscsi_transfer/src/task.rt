@@ -160,7 +160,7 @@ impl Task {
     }
 
     /// The unsolicited data has ended, and more is wanted.
-    fn lacks_data(&self) -> bool
+    pub fn lacks_data(&self) -> bool
         ensures { result ≡ lacks_data self.now }
     {
         !self.is_open && self.payload.len() < self.wanted()

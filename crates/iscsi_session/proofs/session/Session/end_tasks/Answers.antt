@@ -4,7 +4,7 @@ use Rattle.iscsi_pdu.specs.Frames.{Frame}
 use Rattle.iscsi_pdu.specs.Header.{initiator_task_tag}
 use Rattle.iscsi_pdu.specs.TaskManagement.{ref_cmd_sn}
 use Rattle.iscsi_session.specs.Requests.{frame_of, numbers}
-use Rattle.iscsi_session.specs.Functions.{FunctionReach, plug, plugs}
+use Rattle.iscsi_session.specs.Functions.{FunctionReach, awaited, plug, plugs}
 use Rattle.iscsi_session.specs.Acts.{reach_of, ended}
 use Rattle.iscsi_session.specs.State.{SessionState, TaskLists, Stands, one_fewer, plugged_behind, holding, takes_all, without, transfers_without, is_vacant, waiting}
 use Rattle.iscsi_session.proofs.Kept.{function_no_command}
@@ -22,7 +22,7 @@ given_frame (Some frame) line p q none some = (frame, p, q)
 -- ---- a number is plugged
 
 pub returns-then-plugs-clause-stands : goal.returns-then-plugs-clause-stands
-returns-then-plugs-clause-stands c luns past k rest s is e same =
+returns-then-plugs-clause-stands c luns past k rest s is e same unasked =
     let known = subst (λ (x : SessionState). Stands past x) (sym c.self.view_is) s in
     let tasks = c.self.inside.tasks in
     let n = c.ref_cmd_sn.result in
@@ -33,8 +33,9 @@ returns-then-plugs-clause-stands c luns past k rest s is e same =
     let header : c.reach.inside.function ≡ frame.header = ap (λ (r : FunctionReach). r.function) (c.reach.view_is ∙ same) in
     let tag = c.initiator_task_tag-tag.ensures ∙ ap initiator_task_tag header in
     let middle = (function_here past _ k rest frame left c.initiator_task_tag-tag.result c.finish.new.self known is e some refl tag c.finish.ensures).1 in
+    let none : awaited past reach ≡ [] = ap (awaited past) (sym same) ∙ unasked in
     let does : plugs past reach ≡ true = ap (plugs past) (sym same) ∙ sym (c.plugs.ensures.past past s) ∙ c.if-plugs.true in
-    let ends = stands_unreached luns past _ k e does middle in
+    let ends = stands_unreached luns past _ k e none does middle in
     let number : n ≡ ref_cmd_sn frame.header = c.ref_cmd_sn.ensures ∙ ap ref_cmd_sn header in
     let free : is_vacant left n ≡ true = vacant_still frame (drop 1 tasks.due) tasks n
     (ap (is_vacant tasks) (c.ref_cmd_sn.ensures ∙ ap (λ (r : FunctionReach). ref_cmd_sn r.function) c.reach.view_is)
@@ -55,7 +56,7 @@ returns-then-plugs-clause-fewer c frame others is function =
 -- ---- commands are removed
 
 pub returns-clause-stands : goal.returns-clause-stands
-returns-clause-stands c luns past k rest s is e same =
+returns-clause-stands c luns past k rest s is e same unasked =
     let known = subst (λ (x : SessionState). Stands past x) (sym c.self.view_is) s in
     let reach = reach_of luns k past in
     let header : c.reach.inside.function ≡ (frame_of past.came k).header = ap (λ (r : FunctionReach). r.function) (c.reach.view_is ∙ same) in
@@ -64,7 +65,8 @@ returns-clause-stands c luns past k rest s is e same =
     let tag = c.initiator_task_tag-tag.ensures ∙ ap initiator_task_tag header in
     let middle = (function_here past _ k rest g.0 c.finish_due.new.self c.initiator_task_tag-tag.result c.finish-2.new.self known is e g.1 g.2 tag
     c.finish-2.ensures).1 in
-    let ends = stands_ended luns past _ k e middle in
+    let unwaited : awaited past reach ≡ [] = ap (awaited past) (sym same) ∙ unasked in
+    let ends = stands_ended luns past _ k e unwaited middle in
     let tasks : c.remove-2.new.self ≡ without reach c.finish_due.new.self = c.remove-2.ensures
     ∙ ap (λ (r : FunctionReach). without r c.finish_due.new.self) same in
     let transfers : c.remove.new.self ≡ record c.self.inside.transfers { list = transfers_without reach c.self.inside.transfers.list } = c.remove.ensures

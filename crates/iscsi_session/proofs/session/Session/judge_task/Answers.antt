@@ -4,7 +4,8 @@ use Rattle.iscsi_pdu.specs.Frames.{Frame}
 use Rattle.iscsi_pdu.specs.Header.{is_immediate, initiator_task_tag}
 use Rattle.iscsi_login.specs.declared.params.Params.{Params}
 use Rattle.iscsi_session.specs.Judging.{is_full, is_faulty}
-use Rattle.iscsi_session.specs.State.{place_with, function_place}
+use Rattle.iscsi_session.specs.Draining.{drain_with, is_live_in}
+use Rattle.iscsi_session.specs.State.{function_place}
 use Rattle.iscsi_session.proofs.Feeding.{none_by, or_front, or_behind}
 use Rattle.iscsi_session.proofs.Parts.{parts}
 use Rattle.iscsi_session.proofs.Verdicts.{is_taken, over_limit, numbered_below, below_limit, tag_reserved, tag_live, tag_free, task_told, faultless_agreed}
@@ -79,12 +80,13 @@ pub returns-clause-acceptable : goal.returns-clause-acceptable
 returns-clause-acceptable c e =
     let tag : c.initiator_task_tag-tag.result ≡ initiator_task_tag c.args.frame.now.header = c.initiator_task_tag-tag.ensures
     ∙ ap (λ (f : Frame). initiator_task_tag f.header) c.frame.view_is in
-    let none : (is_some (place_with (initiator_task_tag c.args.frame.now.header) c.args.self.now.transfers.list)
+    let none : (is_live_in (initiator_task_tag c.args.frame.now.header) c.args.self.now.transfers
     || is_some (function_place (initiator_task_tag c.args.frame.now.header) c.args.self.now.functions)) ≡ false =
-    ap (λ (t : ℕ). is_some (place_with t c.args.self.now.transfers.list) || is_some (function_place t c.args.self.now.functions)) (sym tag)
+    ap (λ (t : ℕ). is_live_in t c.args.self.now.transfers || is_some (function_place t c.args.self.now.functions)) (sym tag)
     ∙ sym c.is_live.ensures.places ∙ c.if-is_live.false in
     record {
-      tag = none_by _ (or_front _ (is_some (function_place (initiator_task_tag c.args.frame.now.header) c.args.self.now.functions)) none);
-      function_tag = none_by _ (or_behind (is_some (place_with (initiator_task_tag c.args.frame.now.header) c.args.self.now.transfers.list)) _ none);
+      tag = none_by _ (or_front _ (is_some (drain_with (initiator_task_tag c.args.frame.now.header) c.args.self.now.transfers.drains))
+          (or_front _ (is_some (function_place (initiator_task_tag c.args.frame.now.header) c.args.self.now.functions)) none));
+      function_tag = none_by _ (or_behind (is_live_in (initiator_task_tag c.args.frame.now.header) c.args.self.now.transfers) _ none);
       agreed = λ h. none_by _ (faultless_agreed c.args.self.now.params.values c.args.frame.now h (sym c.is_faulty.ensures ∙ c.if-is_faulty.false));
     }

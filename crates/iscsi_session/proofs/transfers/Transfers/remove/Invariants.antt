@@ -11,6 +11,7 @@ invariant-loop-place l = record {
       ≡ transfers_without l.reach l.initial.self-inside.list.items;
   within : l.place ≤ length l.self-inside.list.items;
   tag : l.self-inside.next_tag ≡ l.initial.self-inside.next_tag;
+  drains : l.self-inside.drains.items ≡ l.initial.self-inside.drains.items;
 }
 
 abbrev pub decreases-loop-place : goal.decreases-loop-place

@@ -1,0 +1,63 @@
+//! The functions that wait for data are answered.
+
+ghost use Rattle.std.specs.Prelude.{◌≡◌, ◌++◌, ◌∷◌, ◌<◌, ℕ, List, flat_map, is_some, true, OnOk, OnErr};
+ghost use Rattle.iscsi_pdu.specs.Answer.{spelling};
+ghost use Rattle.iscsi_pdu.specs.Frames as pdu;
+ghost use Rattle.iscsi_session.specs.Requests.{Past, frame_of, due, is_function};
+ghost use Rattle.iscsi_session.specs.Acts.{ended};
+ghost use Rattle.iscsi_session.specs.Functions.{own_reach, drained_functions, answered_by, told_by};
+ghost use Rattle.iscsi_session.specs.Draining.{telling_place, awaits_in};
+ghost use Rattle.iscsi_session.specs.State.{Stands, waiting};
+
+use crate::answers::put;
+use crate::fault::Memory;
+use crate::functions::{RESPONSE_LENGTH, answer_to};
+use crate::reach::Reach;
+use crate::session::Session;
+use bytes::BytesMut;
+use iscsi_pdu::TaskResult;
+
+impl Session {
+    /// The first request that is due acts: this function, which waits for data of commands that it removes. Where an
+    /// allocation fails nothing changes.
+    pub(crate) fn drain(&mut self, reach: &Reach) -> Result<(), Memory>
+        ensures stands { OnOk result ((luns : List ℕ) (past : Past) (k : ℕ) (others : List ℕ) → Stands past self.old → due past ≡ k ∷ others
+            → is_function (frame_of past.came k) ≡ true → reach.now ≡ own_reach luns (frame_of past.came k).header
+            → awaits_in reach.now self.old.transfers.list ≡ true → Stands (ended luns k past) self.new) }
+        ensures fewer { OnOk result ((frame : pdu.Frame) (others : List pdu.Frame) → self.old.tasks.due ≡ frame ∷ others
+            → waiting self.new.tasks < waiting self.old.tasks) }
+        ensures params { self.new.params ≡ self.old.params }
+        ensures err { OnErr result (self.new ≡ self.old) }
+    {
+        self.transfers.drain(reach)?;
+        self.tasks.remove(reach);
+        self.tasks.drop_due();
+        Ok(())
+    }
+
+    /// The function whose data has come is finished, and answered at the end of the buffer. Where an allocation fails
+    /// nothing changes.
+    pub(crate) fn tell_due(&mut self, out: &mut BytesMut) -> Result<(), Memory>
+        ensures stands { OnOk result ((past : Past) → Stands past self.old → Stands (answered_by (drained_functions past) past) self.new) }
+        ensures out { OnOk result ((past : Past) → Stands past self.old
+            → out.new.items ≡ out.old.items ++ flat_map spelling (told_by (drained_functions past) past)) }
+        ensures grows { (more : List ℕ) × (out.new.items ≡ out.old.items ++ more) }
+        ensures line { self.new.tasks.due ≡ self.old.tasks.due }
+        ensures params { self.new.params ≡ self.old.params }
+        ensures due { OnErr result (is_some (telling_place self.old.transfers.drains) ≡ true) }
+        ensures err { OnErr result (self.new ≡ self.old) }
+        ensures out_err { OnErr result (out.new.items ≡ out.old.items) }
+    {
+        let Some(function) = self.transfers.drained() else {
+            return Ok(());
+        };
+        out.reserve(RESPONSE_LENGTH)?;
+        let tag = function.initiator_task_tag();
+        self.transfers.forget(tag);
+        self.functions.finish(tag);
+        self.tasks.finish_function(&function);
+        let stamp = self.next_stamp();
+        put(out, &answer_to(&function, stamp, TaskResult::Complete));
+        Ok(())
+    }
+}
