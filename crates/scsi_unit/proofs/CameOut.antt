@@ -59,17 +59,21 @@ sound_back (TapeWriteFailed left) old sound = absurd (omega (arith, sound.unfail
 -- ---- one unit
 
 module _ {touch : Touch} {should : CameOut → UnitState × Outcome} {old new : UnitState} {done : Outcome} where
-  -- it does as defined where its command does nothing to its medium, or its store is still honest and did not fail
+  -- it came out as defined where its command does nothing to its medium, or its store is still honest and did not fail
+  pub unit_as_defined : (performed : IsPerformed touch should old new done)
+      → (touches touch ≡ true → IsTrustedStore (store_of old.device) (store_of new.device))
+      → performed.came ≡ AsDefined
+  unit_as_defined performed trusted = elim (failed_touch performed.came touch old.device performed.possible) [
+    | inl same ↦ same
+    | inr touched ↦ trusted_as_defined performed.came (store_of old.device)
+        (subst (λ (store : StoreState). IsTrustedStore (store_of old.device) store) performed.store (trusted touched))
+  ]
+
+  -- and so it did
   pub unit_exact : IsPerformed touch should old new done
       → (touches touch ≡ true → IsTrustedStore (store_of old.device) (store_of new.device))
       → (new, done) ≡ should AsDefined
-  unit_exact performed trusted =
-      let as_defined : performed.came ≡ AsDefined = elim (failed_touch performed.came touch old.device performed.possible) [
-        | inl same ↦ same
-        | inr touched ↦ trusted_as_defined performed.came (store_of old.device)
-            (subst (λ (store : StoreState). IsTrustedStore (store_of old.device) store) performed.store (trusted touched))
-      ] in
-      performed.answer ∙ ap should as_defined
+  unit_exact performed trusted = performed.answer ∙ ap should (unit_as_defined performed trusted)
 
   -- it was sound before
   pub unit_back : IsPerformed touch should old new done → IsSoundStore (store_of new.device) → IsSoundStore (store_of old.device)

@@ -7,13 +7,14 @@ use Rattle.std.proofs.lemmas.Option.{slice_get-get_or}
 use Rattle.scsi_sense.specs.Done.{Outcome}
 use Rattle.scsi_sense.specs.Nexus.{NexusName}
 use Rattle.scsi_unit.specs.Device.{DeviceState, StoreState, store_of}
-use Rattle.scsi_unit.specs.CameOut.{touches}
+use Rattle.scsi_unit.specs.CameOut.{CameOut, AsDefined, touches}
 use Rattle.scsi_unit.specs.State.{UnitState}
-use Rattle.scsi_unit.specs.Identity.{is_for_target, reported_luns}
+use Rattle.scsi_unit.specs.Identity.{without_unit, is_for_target, reported_luns}
 use Rattle.scsi_unit.specs.Lun.{lun_number}
 use Rattle.scsi_unit.specs.Unit.{touch_at, joined_unit, left_unit}
-use Rattle.scsi_unit.specs.Units.{UnitStates, unit_of, numbers_of, performed_at, perform, join, leave, IsSoundStore, AreSound, IsSureStore, AreSure, IsAnsweredAt, AreAnswered, IsTrustedStore, IsTrusted}
-use Rattle.scsi_unit.proofs.CameOut.{unit_exact, unit_back, unit_sure}
+use Rattle.scsi_unit.specs.Units.{UnitStates, unit_of, numbers_of, performed_at, come_out, perform, join, leave, IsSoundStore, AreSound, IsSureStore, AreSure, IsAnsweredAt, AreAnswered, IsTrustedStore, IsTrusted}
+use Rattle.scsi_unit.proofs.CameOut.{unit_as_defined, unit_exact, unit_back, unit_sure}
+use Rattle.scsi_unit.proofs.Possible.{way_is}
 
 -- ---- the unit at a place
 
@@ -47,7 +48,7 @@ at_sure nexus cdb bytes at old new done lt answered sure =
     subst AreSure (sym answered.units) (All-set (λ (unit : UnitState). IsSureStore (store_of unit.device)) old at answered.unit after sure)
 
 at_exact : (nexus : NexusName) (cdb bytes : List ℕ) (at : ℕ) (old new : UnitStates) (done : Outcome) → at < length old → is_for_target cdb ≡ false
-    → IsAnsweredAt nexus cdb bytes at old new done → IsTrusted nexus cdb bytes (Some at) old new → (new, done) ≡ performed_at old nexus cdb bytes (Some at)
+    → IsAnsweredAt nexus cdb bytes at old new done → IsTrusted nexus cdb bytes (Some at) old new → (new, done) ≡ performed_at AsDefined old nexus cdb bytes (Some at)
 at_exact nexus cdb bytes at old new done lt other answered trusted =
     let u = answered.unit in
     let here : get_or new at u ≡ u = unit_here nexus cdb bytes at old new done answered u lt in
@@ -58,7 +59,7 @@ at_exact nexus cdb bytes at old new done lt other answered trusted =
 
 -- REPORT LUNS
 luns_exact : (units : UnitStates) (nexus : NexusName) (cdb bytes : List ℕ) (at : ℕ) (done : Outcome) → at < length units → is_for_target cdb ≡ true
-    → done ≡ reported_luns (numbers_of units) cdb → (units, done) ≡ performed_at units nexus cdb bytes (Some at)
+    → done ≡ reported_luns (numbers_of units) cdb → (units, done) ≡ performed_at AsDefined units nexus cdb bytes (Some at)
 luns_exact [] nexus cdb bytes at done lt report answer = absurd (omega arith)
 luns_exact (d ∷ units) nexus cdb bytes at done lt report answer = rw (slice_get-get_or (d ∷ units) at d lt, report, answer) refl
 
@@ -71,14 +72,14 @@ IsPlace place units = (at : ℕ) → place ≡ Some at → at < length units
 some_exact : (report : Bool) (nexus : NexusName) (cdb bytes : List ℕ) (at : ℕ) (old new : UnitStates) (done : Outcome) → is_for_target cdb ≡ report
     → at < length old
     → AreAnswered nexus cdb bytes (Some at) old new done → IsTrusted nexus cdb bytes (Some at) old new →
-    (new, done) ≡ performed_at old nexus cdb bytes (Some at)
+    (new, done) ≡ performed_at AsDefined old nexus cdb bytes (Some at)
 some_exact true nexus cdb bytes at old new done report lt answered trusted =
     let both = rw report at answered in rw (both.0) (luns_exact old nexus cdb bytes at done lt report both.1)
 some_exact false nexus cdb bytes at old new done report lt answered trusted = at_exact nexus cdb bytes at old new done lt report (rw report at answered) trusted
 
 exact_at : (place : Option ℕ) (nexus : NexusName) (cdb bytes : List ℕ) (old new : UnitStates) (done : Outcome) → IsPlace place old
     → AreAnswered nexus cdb bytes place old new done
-    → IsTrusted nexus cdb bytes place old new → (new, done) ≡ performed_at old nexus cdb bytes place
+    → IsTrusted nexus cdb bytes place old new → (new, done) ≡ performed_at AsDefined old nexus cdb bytes place
 exact_at None nexus cdb bytes old new done found answered trusted = rw (answered.0, answered.1) refl
 exact_at (Some at) nexus cdb bytes old new done found answered trusted = some_exact
     (is_for_target cdb) nexus cdb bytes at old new done refl (found at refl) answered trusted
@@ -123,7 +124,59 @@ trusted_at None nexus cdb bytes old new was found before sound = tt
 trusted_at (Some at) nexus cdb bytes old new was found before sound =
     λ unit touched. sound_between _ _ (before at unit (was at refl)) (sound at unit (found at refl))
 
+-- ---- how it came out
+
+-- of the unit that stands at a place, where it names one
+abbrev ComesOut : Option ℕ → NexusName → List ℕ → List ℕ → UnitStates → UnitStates → Outcome → Type 0
+ComesOut place nexus cdb bytes old new done =
+    (came : CameOut) × ((new, done) ≡ performed_at came old nexus cdb bytes place) × (AreSound new → came ≡ AsDefined)
+
+at_came : (nexus : NexusName) (cdb bytes : List ℕ) (at : ℕ) (old new : UnitStates) (done : Outcome) → at < length old → is_for_target cdb ≡ false
+    → (answered : IsAnsweredAt nexus cdb bytes at old new done) → (new, done) ≡ performed_at answered.performed.came old nexus cdb bytes (Some at)
+at_came nexus cdb bytes at old new done lt other answered =
+    let unit = answered.unit in
+    let before = get_or old at unit in
+    let way = way_is answered.performed.came (touch_at nexus cdb bytes before) before.device answered.performed.possible in
+    rw (slice_get-get_or old at unit lt, other, way, ← answered.performed.answer, answered.units) refl
+
+at_as_defined : (nexus : NexusName) (cdb bytes : List ℕ) (at : ℕ) (old new : UnitStates) (done : Outcome) → at < length old
+    → (answered : IsAnsweredAt nexus cdb bytes at old new done) → AreSound new → answered.performed.came ≡ AsDefined
+at_as_defined nexus cdb bytes at old new done lt answered sound =
+    let unit = answered.unit in
+    let here : get_or new at unit ≡ unit = unit_here nexus cdb bytes at old new done answered unit lt in
+    let long : at < length new = rw answered.units (simp length-set lt) in
+    let before = at_back nexus cdb bytes at old new done lt answered sound in
+    let after : IsSoundStore (store_of unit.device) = subst (λ (u : UnitState). IsSoundStore (store_of u.device)) here (sound at unit long) in
+    unit_as_defined answered.performed (λ touched. sound_between _ _ (before at unit lt) after)
+
+some_came : (report : Bool) (nexus : NexusName) (cdb bytes : List ℕ) (at : ℕ) (old new : UnitStates) (done : Outcome)
+    → is_for_target cdb ≡ report → at < length old → AreAnswered nexus cdb bytes (Some at) old new done
+    → ComesOut (Some at) nexus cdb bytes old new done
+some_came true nexus cdb bytes at old new done report lt answered =
+    let both = rw report at answered in (AsDefined, rw (both.0) (luns_exact old nexus cdb bytes at done lt report both.1), λ sound. refl)
+some_came false nexus cdb bytes at old new done report lt answered =
+    let there : IsAnsweredAt nexus cdb bytes at old new done = rw report at answered in
+    (there.performed.came, at_came nexus cdb bytes at old new done lt report there, at_as_defined nexus cdb bytes at old new done lt there)
+
+came_at : (place : Option ℕ) (nexus : NexusName) (cdb bytes : List ℕ) (old new : UnitStates) (done : Outcome)
+    → IsPlace place old → AreAnswered nexus cdb bytes place old new done → ComesOut place nexus cdb bytes old new done
+came_at None nexus cdb bytes old new done found answered = (AsDefined, rw (answered.0, answered.1) refl, λ sound. refl)
+came_at (Some at) nexus cdb bytes old new done found answered = some_came
+    (is_for_target cdb) nexus cdb bytes at old new done refl (found at refl) answered
+
 -- ---- the clauses
+
+pub answered_came : (nexus : NexusName) (lun cdb bytes : List ℕ) (old new : UnitStates) (done : Outcome) → IsPlace (unit_of old (lun_number lun)) old
+    → AreAnswered nexus cdb bytes (unit_of old (lun_number lun)) old new done
+    → (came : CameOut) × ((new, done) ≡ come_out came old nexus lun cdb bytes) × (AreSound new → came ≡ AsDefined)
+unfolding come_out
+answered_came nexus lun cdb bytes old new done found answered = came_at (unit_of old (lun_number lun)) nexus cdb bytes old new done found answered
+
+pub none_came : (nexus : NexusName) (lun cdb bytes : List ℕ) (units : UnitStates) (done : Outcome) → unit_of units (lun_number lun) ≡ None
+    → done ≡ without_unit cdb
+    → (came : CameOut) × ((units, done) ≡ come_out came units nexus lun cdb bytes) × (AreSound units → came ≡ AsDefined)
+unfolding come_out
+none_came nexus lun cdb bytes units done named answer = (AsDefined, rw (named, answer) refl, λ sound. refl)
 
 pub answered_exact : (nexus : NexusName) (lun cdb bytes : List ℕ) (old new : UnitStates) (done : Outcome) → IsPlace (unit_of old (lun_number lun)) old
     → AreAnswered nexus cdb bytes (unit_of old (lun_number lun)) old new done → IsTrusted nexus cdb bytes (unit_of old (lun_number lun)) old new

@@ -25,6 +25,7 @@ pub use Rattle.scsi_mode.specs.ParameterList
 pub mod Lun
 pub mod Device
 pub mod CameOut
+pub mod Possible
 pub mod DiskCommands
 pub mod DiskWrites
 pub mod Identity

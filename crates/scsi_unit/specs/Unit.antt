@@ -22,6 +22,7 @@ use Rattle.scsi_mode.specs.declared.parameters.Parameters.{Parameters}
 use Rattle.scsi_tape.specs.CameOut.{tape_touch}
 use Rattle.scsi_unit.specs.Device.{DeviceState, Disk, Tape, kind_of, parameters_of, with_parameters, store_of}
 use Rattle.scsi_unit.specs.CameOut.{CameOut, AsDefined, shown_by, store_after, disk_after, Touch, no_touch, IsPossible}
+use Rattle.scsi_unit.specs.Possible.{way}
 use Rattle.scsi_unit.specs.DiskCommands.{shown, disk_defined, disk_told, touch_of}
 use Rattle.scsi_unit.specs.TapeCommands.{touch_of_tape, tape_performed, takes_room}
 use Rattle.scsi_unit.specs.Joined.{with_nexus, without_nexus, told, raised_for, raised_for_others, raised_for_all}
@@ -178,6 +179,10 @@ pub record IsPerformed (touch : Touch) (should : CameOut → UnitState × Outcom
   pub possible : IsPossible came touch old.device
   pub store : store_of new.device ≡ store_after came (store_of old.device)
   pub answer : (new, done) ≡ should came
+
+-- a command with this data to a unit, by how it came out, as far as it can
+abbrev pub came_out_at : CameOut → NexusName → List ℕ → List ℕ → UnitState → UnitState × Outcome
+came_out_at came nexus cdb bytes unit = performed_as (way came (touch_at nexus cdb bytes unit) unit.device) nexus cdb bytes unit
 
 -- ---- the unit that a LUN names
 

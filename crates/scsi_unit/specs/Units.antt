@@ -5,11 +5,11 @@ use Rattle.scsi_sense.specs.Nexus.{NexusName}
 use Rattle.scsi_sense.specs.declared.condition.Attention.{Attention}
 use Rattle.media_store.specs.Failures.{NoneFailed}
 use Rattle.scsi_unit.specs.Device.{DeviceState, StoreState, store_of}
-use Rattle.scsi_unit.specs.CameOut.{touches}
+use Rattle.scsi_unit.specs.CameOut.{CameOut, AsDefined, touches}
 use Rattle.scsi_unit.specs.State.{UnitState}
 use Rattle.scsi_unit.specs.Identity.{without_unit, is_for_target, reported_luns}
 use Rattle.scsi_unit.specs.Lun.{lun_number}
-use Rattle.scsi_unit.specs.Unit.{joined_unit, left_unit, raised_unit, raised_unit_for_all, where_named, performed_as, perform_at, touch_at, keeps_more_at, IsPerformed}
+use Rattle.scsi_unit.specs.Unit.{joined_unit, left_unit, raised_unit, raised_unit_for_all, where_named, performed_as, came_out_at, touch_at, keeps_more_at, IsPerformed}
 
 abbrev pub UnitStates : Type 0
 UnitStates = List UnitState
@@ -46,21 +46,26 @@ abbrev pub numbers_of : UnitStates → List ℕ
 numbers_of units = map (λ unit. unit.lun) units
 
 -- the unit at a place does the command; REPORT LUNS is of all units
-abbrev pub performed_by : UnitStates → NexusName → List ℕ → List ℕ → ℕ → Option UnitState → UnitStates × Outcome
-performed_by units nexus cdb bytes at None = (units, without_unit cdb)
-performed_by units nexus cdb bytes at (Some unit) =
+abbrev pub performed_by : CameOut → UnitStates → NexusName → List ℕ → List ℕ → ℕ → Option UnitState → UnitStates × Outcome
+performed_by came units nexus cdb bytes at None = (units, without_unit cdb)
+performed_by came units nexus cdb bytes at (Some unit) =
     if is_for_target cdb then (units, reported_luns (numbers_of units) cdb)
-    else let p = perform_at nexus cdb bytes unit in (slice_set units at p.0, p.1)
+    else let p = came_out_at came nexus cdb bytes unit in (slice_set units at p.0, p.1)
 
-abbrev pub performed_at : UnitStates → NexusName → List ℕ → List ℕ → Option ℕ → UnitStates × Outcome
-performed_at units nexus cdb bytes None = (units, without_unit cdb)
-performed_at units nexus cdb bytes (Some at) = performed_by units nexus cdb bytes at (slice_get units at)
+abbrev pub performed_at : CameOut → UnitStates → NexusName → List ℕ → List ℕ → Option ℕ → UnitStates × Outcome
+performed_at came units nexus cdb bytes None = (units, without_unit cdb)
+performed_at came units nexus cdb bytes (Some at) = performed_by came units nexus cdb bytes at (slice_get units at)
 
--- What a command with this data does where no medium fails: the units after it, and what its initiator is told. The
+-- What a command with this data does, by how it came out: the units after it, and what its initiator is told. The
 -- first check that fails answers, in this order (own, after SPC-4): unit, operation code, attention, reservation, ready,
--- fields, range, length of the data, write protection.
+-- fields, range, length of the data, write protection. How it came out counts only where no check refuses it and it does
+-- something to its medium, as far as its medium can be so.
+unfoldable pub come_out : CameOut → UnitStates → NexusName → List ℕ → List ℕ → List ℕ → UnitStates × Outcome
+come_out came units nexus lun cdb bytes = performed_at came units nexus cdb bytes (unit_of units (lun_number lun))
+
+-- the same where no medium fails
 unfoldable pub perform : UnitStates → NexusName → List ℕ → List ℕ → List ℕ → UnitStates × Outcome
-perform units nexus lun cdb bytes = performed_at units nexus cdb bytes (unit_of units (lun_number lun))
+perform units nexus lun cdb bytes = performed_at AsDefined units nexus cdb bytes (unit_of units (lun_number lun))
 
 -- ---- soundness
 

@@ -1,10 +1,11 @@
 //! The logical units of one target.
 
 ghost use Rattle.std.specs.Prelude.{◌≡◌, ◌<◌, ◌≤◌, [], length, map, false, IsTrue, IsOk, IfSome, IfOk, OnOk, OnErr};
+ghost use Rattle.scsi_unit.specs.CameOut.{CameOut, AsDefined};
 ghost use Rattle.scsi_unit.specs.DiskCommands.{most_given};
 ghost use Rattle.scsi_unit.specs.Unit.{joined_unit};
 ghost use Rattle.scsi_unit.specs.Lun.{lun_number as number_of_lun};
-ghost use Rattle.scsi_unit.specs.Units.{join, leave, raised_at, raised_for_all_at, raised_everywhere, numbers_of, perform as performed, unit_of, AreSound, AreSure, AreAnswered, IsTrusted, touches_at, keeps_more_in};
+ghost use Rattle.scsi_unit.specs.Units.{join, leave, raised_at, raised_for_all_at, raised_everywhere, numbers_of, come_out, perform as performed, unit_of, AreSound, AreSure, AreAnswered, IsTrusted, touches_at, keeps_more_in};
 ghost use Rattle.scsi_unit.specs.Identity.{reported_luns, is_row_of_target};
 ghost use Rattle.scsi_cdb.specs.Operation.{row_of};
 
@@ -206,6 +207,8 @@ impl<S: Store> Units<S> {
         data: &[u8],
     ) -> Result<Done, Memory>
         ensures answered { IfOk result (AreAnswered nexus.now cdb «data».now (unit_of self.old (number_of_lun lun)) self.old self.new) }
+        ensures came { IfOk result (λ done. (came : CameOut) × ((self.new, done) ≡ come_out came self.old nexus.now lun cdb «data».now)
+            × (AreSound self.new → came ≡ AsDefined)) }
         ensures exact { IfOk result (λ done. IsTrusted nexus.now cdb «data».now (unit_of self.old (number_of_lun lun)) self.old self.new
             → (self.new, done) ≡ performed self.old nexus.now lun cdb «data».now) }
         ensures sound { IfOk result (λ done. AreSound self.new → (self.new, done) ≡ performed self.old nexus.now lun cdb «data».now) }

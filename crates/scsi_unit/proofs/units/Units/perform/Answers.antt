@@ -7,7 +7,7 @@ use Rattle.scsi_unit.specs.Lun.{lun_number}
 use Rattle.scsi_unit.specs.State.{UnitState}
 use Rattle.scsi_unit.proofs.Numbers.{numbers_set, result_same}
 use Rattle.scsi_unit.proofs.Found.{place_found, luns_answered, luns_given, unit_answered, unit_given}
-use Rattle.scsi_unit.proofs.Sound.{answered_exact, answered_sound, answered_back, answered_sure}
+use Rattle.scsi_unit.proofs.Sound.{none_came, answered_came, answered_exact, answered_sound, answered_back, answered_sure}
 use Rattle.scsi_unit.proofs.units.Units.perform.Goals as goal
 
 -- ---- REPORT LUNS
@@ -20,6 +20,13 @@ returns-then-is_for_target-clause-answered g c =
     (IfOk-weaker c.reported_luns.result _ _
     (λ done answer. luns_answered c.args.self.now c.args.nexus.now c.args.cdb c.args.«data».now c.in-Some.at done report answer)
     (rw known at c.reported_luns.ensures.done))
+
+pub returns-then-is_for_target-clause-came : goal.returns-then-is_for_target-clause-came
+returns-then-is_for_target-clause-came g c =
+    let found = place_found c.args.self.now c.args.lun c.in-Some.at c.in-Some.ensures.value c.in-Some.ensures.bound in
+    IfOk-weaker c.reported_luns.result _ _
+    (λ done answered. answered_came c.args.nexus.now c.args.lun c.args.cdb c.args.«data».now c.args.self.now
+    c.args.self.now done found answered) (returns-then-is_for_target-clause-answered g c)
 
 pub returns-then-is_for_target-clause-exact : goal.returns-then-is_for_target-clause-exact
 returns-then-is_for_target-clause-exact g c =
@@ -59,6 +66,13 @@ returns-clause-err g c =
     on_err_weaker c.perform_with.result
     (λ same. ap (set c.self.inside.units.items c.in-Some.at) (same ∙ c.index_mut-unit.ensures.value)
     ∙ set-get_or c.self.inside.units.items c.in-Some.at _ ∙ c.self.view_is) c.perform_with.ensures.err
+
+pub returns-clause-came : goal.returns-clause-came
+returns-clause-came g c =
+    let found = place_found c.args.self.now c.args.lun c.in-Some.at c.in-Some.ensures.value c.in-Some.ensures.bound in
+    IfOk-weaker c.perform_with.result _ _
+    (λ done answered. answered_came c.args.nexus.now c.args.lun c.args.cdb c.args.«data».now
+    c.args.self.now _ done found answered) (returns-clause-answered g c)
 
 pub returns-clause-exact : goal.returns-clause-exact
 returns-clause-exact g c =
@@ -105,3 +119,11 @@ invariant_of-self g c =
     ∙ sym (numbers_set c.self.inside.units.items c.in-Some.at c.perform_with.new.self _
     (result_same c.perform_with.result c.args.nexus.now c.args.cdb c.args.«data».now _ c.index_mut-unit.result.now c.perform_with.new.self
     c.perform_with.ensures.done c.perform_with.ensures.err ∙ ap (λ (unit : UnitState). unit.lun) c.index_mut-unit.ensures.value))
+
+-- ---- there is no such unit
+
+pub returns-in_default-clause-came : goal.returns-in_default-clause-came
+returns-in_default-clause-came g c =
+    IfOk-weaker c.without_unit.result _ _
+    (λ done answer. none_came c.args.nexus.now c.args.lun c.args.cdb c.args.«data».now c.args.self.now done
+    (sym c.position.ensures.value ∙ c.in_default.is) answer) c.without_unit.ensures.done
