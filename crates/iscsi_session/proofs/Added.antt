@@ -337,7 +337,7 @@ due_came past k rest is =
 pub act_adds : (work : Work) (k : ℕ) (rest : List ℕ) → due work.past ≡ k ∷ rest → IsWithinLimits work.past → Adds 48 0 work.past (act k work).past
 unfolding act
 act_adds work k rest is w =
-    act_adds_by _ _ (numbers_of work.units) work.past k rest refl refl is (due_came work.past k rest is) w (act_lawful work k rest is w.lawful)
+    act_adds_by _ _ (numbers_of work.units.states) work.past k rest refl refl is (due_came work.past k rest is) w (act_lawful work k rest is w.lawful)
 
 -- ---- an R2T is sent
 

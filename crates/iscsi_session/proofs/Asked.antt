@@ -2,7 +2,8 @@
 use Rattle.std.proofs.Common.{◌≡◌, ℕ, List, [], ◌∷◌, ◌++◌, Bool, true, false, Option, Some, None, refl, sym, ap, ◌∙◌, subst, append-nil}
 use Rattle.std.specs.Prelude.{flat_map, is_some}
 use Rattle.std.proofs.lemmas.Bool.{eq-eqb}
-use Rattle.scsi_unit.specs.Units.{UnitStates, numbers_of}
+use Rattle.scsi_unit.specs.Units.{numbers_of}
+use Rattle.iscsi_session.specs.Comings.{TargetUnits}
 use Rattle.iscsi_pdu.specs.Frames.{Frame}
 use Rattle.iscsi_pdu.specs.Answer.{spelling}
 use Rattle.iscsi_session.specs.Requests.{Past}
@@ -27,7 +28,7 @@ asks_nothing : (fails : Step → Bool) (place : ℕ) (work : Work) → work.goes
 unfolding ask_due
 asks_nothing fails place work off = first_stopped fails (Asking place) ask (asking work.past) work off
 
-pub asked_ended : (frame : Frame) (failed : Option (ℕ → Step)) (old new : SessionState) (before waiting : Output) (units : UnitStates)
+pub asked_ended : (frame : Frame) (failed : Option (ℕ → Step)) (old new : SessionState) (before waiting : Output) (units : TargetUnits)
     → Runs (λ fails place. taken_in fails place frame) failed false old new before waiting units units
     → Runs (λ fails place. asked_in fails place frame) failed false old new before waiting units units
 unfolding asked_in
@@ -44,9 +45,9 @@ asked_ended frame failed old new before waiting units r =
     }
 
 pub stops_asked : (luns : List ℕ) (frame : Frame) (old new : SessionState) (before waiting : Output)
-    → Stops is_serving (λ failed. (units : UnitStates) → luns ≡ numbers_of units
+    → Stops is_serving (λ failed. (units : TargetUnits) → luns ≡ numbers_of units.states
     → Runs (λ fails place. taken_in fails place frame) failed false old new before waiting units units)
-    → Stops is_serving (λ failed. (units : UnitStates) → luns ≡ numbers_of units
+    → Stops is_serving (λ failed. (units : TargetUnits) → luns ≡ numbers_of units.states
     → Runs (λ fails place. asked_in fails place frame) failed false old new before waiting units units)
 stops_asked luns frame old new before waiting stops = record {
   step = stops.step;
@@ -61,24 +62,24 @@ asks_goes_on : (k : ℕ) (work : Work) → (ask k work).goes_on ≡ work.goes_on
 unfolding ask
 asks_goes_on k work = refl
 
-ask_leaves : (k : ℕ) (work : Work) (new : SessionState) (before waiting : Output) (units : UnitStates) → Stands (asked_by (k ∷ []) work.past) new
+ask_leaves : (k : ℕ) (work : Work) (new : SessionState) (before waiting : Output) (units : TargetUnits) → Stands (asked_by (k ∷ []) work.past) new
     → waiting.bytes ≡ before.bytes ++ flat_map spelling (r2t_of work.past k) → waiting.orders ≡ before.orders → work.units ≡ units
     → Leaves work (ask k (reaches (Asking 0) work)) new before waiting units
 unfolding ask
 ask_leaves k work new before waiting units s out orders same =
     leaves_answering work (ask k (reaches (Asking 0) work)) new before waiting units (r2t_of work.past k) s refl refl out orders refl same
 
-ask_reaching : (k place : ℕ) (work : Work) (new : SessionState) (before waiting : Output) (units : UnitStates)
+ask_reaching : (k place : ℕ) (work : Work) (new : SessionState) (before waiting : Output) (units : TargetUnits)
     → Leaves work (ask k (reaches (Asking 0) work)) new before waiting units → Leaves work (ask k (reaches (Asking place) work)) new before waiting units
 unfolding ask
 ask_reaching k place work new before waiting units l =
     leaves_as work (ask k (reaches (Asking 0) work)) work (ask k (reaches (Asking place) work)) new before waiting units refl refl refl refl refl l
 
-abbrev Asked : (Step → Bool) → ℕ → List ℕ → Work → SessionState → Output → Output → UnitStates → Type 0
+abbrev Asked : (Step → Bool) → ℕ → List ℕ → Work → SessionState → Output → Output → TargetUnits → Type 0
 Asked fails place l work new before waiting units =
     (v : Work) × (first_steps fails (Asking place) ask l work ≡ v) × (v.goes_on ≡ true) × Leaves work v new before waiting units
 
-asked_leaves : (l : List ℕ) (fails : Step → Bool) (place : ℕ) (work : Work) (new : SessionState) (before waiting : Output) (units : UnitStates)
+asked_leaves : (l : List ℕ) (fails : Step → Bool) (place : ℕ) (work : Work) (new : SessionState) (before waiting : Output) (units : TargetUnits)
     → fails (Asking place) ≡ false → work.goes_on ≡ true → work.units ≡ units → Stands (asked_by l work.past) new
     → waiting.bytes ≡ before.bytes ++ flat_map spelling (r2ts_by l work.past) → waiting.orders ≡ before.orders
     → Asked fails place l work new before waiting units
@@ -91,14 +92,14 @@ asked_leaves (k ∷ others) fails place work new before waiting units un on same
   ask_reaching k place work new before waiting units (ask_leaves k work new before waiting units s out orders same),
 )
 
-asked_here : (fails : Step → Bool) (place : ℕ) (work : Work) (old new : SessionState) (before waiting : Output) (units : UnitStates)
+asked_here : (fails : Step → Bool) (place : ℕ) (work : Work) (old new : SessionState) (before waiting : Output) (units : TargetUnits)
     → fails (Asking place) ≡ false → Starts work old units → Asks old new before waiting → Asked fails place (asking work.past) work new before waiting units
 asked_here fails place work old new before waiting units un s asks =
     let st = stands_of work old units s in
     asked_leaves (asking work.past) fails place work new before waiting units un s.goes_on s.units (asks.stands work.past st) (asks.out work.past st)
     asks.orders
 
-pub asked_on : (frame : Frame) (old middle new : SessionState) (before waiting items : Output) (units : UnitStates)
+pub asked_on : (frame : Frame) (old middle new : SessionState) (before waiting items : Output) (units : TargetUnits)
     → Runs (λ fails place. taken_in fails place frame) None true old middle before waiting units units → Asks middle new waiting items
     → Runs (λ fails place. asked_in fails place frame) None true old new before items units units
 unfolding asked_in ask_due
@@ -132,12 +133,12 @@ no_failure : Step → Bool
 no_failure step = false
 
 record StopsAt (place : ℕ) (fails : Step → Bool) (frame : Frame) (work : Work) (middle : SessionState) (before waiting : Output)
-    (units : UnitStates) : Type 0 where
+    (units : TargetUnits) : Type 0 where
   pub taken : Work
   pub leaves : Leaves work taken middle before waiting units
   pub is : asked_in fails place frame work ≡ record (reaches (Asking place) taken) { goes_on = false }
 
-stops_at : (frame : Frame) (old middle : SessionState) (before waiting : Output) (units : UnitStates)
+stops_at : (frame : Frame) (old middle : SessionState) (before waiting : Output) (units : TargetUnits)
     → Runs (λ fails place. taken_in fails place frame) None true old middle before waiting units units
     → is_some (asking_place middle.transfers.list) ≡ true → (place : ℕ) (fails : Step → Bool) (work : Work)
     → FailsAs (Some (λ place. Asking place)) place fails → Starts work old units → StopsAt place fails frame work middle before waiting units
@@ -158,7 +159,7 @@ stops_at frame old middle before waiting units r due place fails work told s =
       is = ap (ask_due fails place) same ∙ stopped_before (asking t.past) fails place found.0 found.1 t found.2 on fail;
     }
 
-pub asked_stops : (frame : Frame) (old middle : SessionState) (before waiting : Output) (units : UnitStates)
+pub asked_stops : (frame : Frame) (old middle : SessionState) (before waiting : Output) (units : TargetUnits)
     → Runs (λ fails place. taken_in fails place frame) None true old middle before waiting units units
     → is_some (asking_place middle.transfers.list) ≡ true
     → Runs (λ fails place. asked_in fails place frame) (Some (λ place. Asking place)) false old middle before waiting units units
@@ -175,9 +176,9 @@ asked_stops frame old middle before waiting units r due = record {
 }
 
 pub asking_stops : (luns : List ℕ) (frame : Frame) (old middle new : SessionState) (before waiting items : Output) → new ≡ middle → items ≡ waiting
-    → ((units : UnitStates) → luns ≡ numbers_of units → Runs (λ fails place. taken_in fails place frame) None true old middle before waiting units units)
+    → ((units : TargetUnits) → luns ≡ numbers_of units.states → Runs (λ fails place. taken_in fails place frame) None true old middle before waiting units units)
     → is_some (asking_place middle.transfers.list) ≡ true
-    → Stops is_serving (λ failed. (units : UnitStates) → luns ≡ numbers_of units
+    → Stops is_serving (λ failed. (units : TargetUnits) → luns ≡ numbers_of units.states
     → Runs (λ fails place. asked_in fails place frame) failed false old new before items units units)
 asking_stops luns frame old middle new before waiting items same is r due = record {
   step = λ place. Asking place;

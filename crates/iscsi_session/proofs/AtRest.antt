@@ -13,7 +13,8 @@ use Rattle.iscsi_order.specs.Window as order
 use Rattle.iscsi_order.specs.Window.{window, taken as taken_numbers}
 use Rattle.scsi_sense.specs.Done.{Outcome}
 use Rattle.scsi_unit.specs.DiskCommands.{most_given}
-use Rattle.scsi_unit.specs.Units.{UnitStates, numbers_of}
+use Rattle.scsi_unit.specs.Units.{numbers_of}
+use Rattle.iscsi_session.specs.Comings.{TargetUnits}
 use Rattle.iscsi_login.specs.Values.{AreInRange}
 use Rattle.iscsi_login.specs.declared.params.Params.{Params}
 use Rattle.iscsi_session.specs.Requests.{Past, begun, no_request, frame_of, frames_of, request_at, is_command, is_in, left, commands, others, numbers, numbered, held, due, queue, unfinished, pending as awaiting, functions, finished, removing, answering, stamp, counted, over, taken, place_of}
@@ -311,7 +312,7 @@ removing_eases reach old new waiting stands r =
 
 -- ---- a frame
 
-run_loads : (frame : Frame) (failed : Option (ℕ → Step)) (goes_on : Bool) (old new : SessionState) (before waiting : Output) (units : UnitStates)
+run_loads : (frame : Frame) (failed : Option (ℕ → Step)) (goes_on : Bool) (old new : SessionState) (before waiting : Output) (units : TargetUnits)
     → Runs (λ fails place. served fails place frame) failed goes_on old new before waiting units units → length frame.header ≡ header_length
     → (goes_on ≡ true → new.tasks.due ≡ []) → IsAtRest old → Loads goes_on old new before.bytes waiting.bytes
 run_loads frame failed goes_on old new before waiting units runs whole idle r =
@@ -347,11 +348,11 @@ abbrev pub goes_on_by : {E : Type 0} → Result Bool E → Bool
 goes_on_by (Ok goes_on) = goes_on
 goes_on_by (Err e) = false
 
-pub serve_loads : {E : Type 0} (result : Result Bool E) (frame : Frame) (luns : List ℕ) (old new : SessionState) (before waiting : Output) (units : UnitStates)
-    → luns ≡ numbers_of units
-    → IfOk result (λ goes_on. (units : UnitStates) → luns ≡ numbers_of units
+pub serve_loads : {E : Type 0} (result : Result Bool E) (frame : Frame) (luns : List ℕ) (old new : SessionState) (before waiting : Output) (units : TargetUnits)
+    → luns ≡ numbers_of units.states
+    → IfOk result (λ goes_on. (units : TargetUnits) → luns ≡ numbers_of units.states
     → Runs (λ fails place. served fails place frame) None goes_on old new before waiting units units)
-    → OnErr result (Stops is_serving (λ failed. (units : UnitStates) → luns ≡ numbers_of units
+    → OnErr result (Stops is_serving (λ failed. (units : TargetUnits) → luns ≡ numbers_of units.states
     → Runs (λ fails place. served fails place frame) failed false old new before waiting units units))
     → IfOk result (λ goes_on. goes_on ≡ true → new.tasks.due ≡ []) → length frame.header ≡ header_length → IsAtRest old
     → Loads (goes_on_by result) old new before.bytes waiting.bytes

@@ -159,7 +159,7 @@ behind_lawful luns true past k rest e is lawful ends =
 pub act_lawful : (work : Work) (k : ℕ) (rest : List ℕ) → due work.past ≡ k ∷ rest → IsLawful work.past → IsLawful (act k work).past
 unfolding act
 act_lawful work k rest is lawful =
-    let luns = numbers_of work.units in
+    let luns = numbers_of work.units.states in
     let moves = moved_by _ work.past k rest refl lawful is in
     lawful_answering (act_answers luns k work.past) (behind luns k work.past (ended luns k work.past))
     (behind_lawful luns _ work.past k rest refl is lawful (ended_lawful luns _ work.past k rest refl lawful is moves))

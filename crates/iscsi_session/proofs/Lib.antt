@@ -38,6 +38,7 @@ mod Settled
 mod Served
 pub mod Steps
 pub mod Lawful
+pub mod Came
 pub mod Runs
 mod InPlace
 mod Asked

@@ -5,7 +5,7 @@ use Rattle.std.proofs.lemmas.Bool.{eq-eqb, ne_eqb}
 use Rattle.std.proofs.lemmas.List.{length-append}
 use Rattle.std.proofs.lemmas.List.Concat.{flat_map-append}
 use Rattle.std.proofs.lemmas.List.Elements.{filter-append}
-use Rattle.scsi_unit.specs.Units.{UnitStates}
+use Rattle.iscsi_session.specs.Comings.{TargetUnits}
 use Rattle.iscsi_pdu.specs.Answer.{spelling}
 use Rattle.iscsi_pdu.specs.declared.answer.Answer.{Answer}
 use Rattle.iscsi_session.specs.Transfers.{task_at, outs_of, tags_of}
@@ -63,18 +63,18 @@ functions_answering more past = refl
 
 -- ---- where the code stands
 
-pub stands_of : (work : Work) (state : SessionState) (units : UnitStates) → Starts work state units → Stands work.past state
+pub stands_of : (work : Work) (state : SessionState) (units : TargetUnits) → Starts work state units → Stands work.past state
 stands_of work state units s = record { lawful = s.lawful; remembered = s.remembered }
 
-pub starts_again : (given work : Work) (state : SessionState) (before waiting : Output) (units : UnitStates) → Leaves given work state before waiting units
+pub starts_again : (given work : Work) (state : SessionState) (before waiting : Output) (units : TargetUnits) → Leaves given work state before waiting units
     → work.goes_on ≡ true → Starts work state units
 starts_again given work state before waiting units l goes_on = record { lawful = l.lawful; remembered = l.remembered; units = l.units; goes_on = goes_on }
 
 -- the same session, whatever was reached
-pub starts_reaching : (step : Step) (work : Work) (state : SessionState) (units : UnitStates) → Starts work state units → Starts (reaches step work) state units
+pub starts_reaching : (step : Step) (work : Work) (state : SessionState) (units : TargetUnits) → Starts work state units → Starts (reaches step work) state units
 starts_reaching step work state units s = record { lawful = s.lawful; remembered = s.remembered; units = s.units; goes_on = s.goes_on }
 
-pub leaves_nothing : (work : Work) (state : SessionState) (before : Output) (units : UnitStates) → Starts work state units
+pub leaves_nothing : (work : Work) (state : SessionState) (before : Output) (units : TargetUnits) → Starts work state units
     → Leaves work work state before before units
 leaves_nothing work state before units s = record {
   lawful = s.lawful;
@@ -93,7 +93,7 @@ leaves_nothing work state before units s = record {
 behind_both : {A : Type 0} (l before waiting a b : List A) → waiting ≡ before ++ a → l ≡ waiting ++ b → l ≡ before ++ (a ++ b)
 behind_both {A} l before waiting a b first then_ = then_ ∙ ap (λ (x : List A). x ++ b) first ∙ append_assoc before a b
 
-pub leaves_then : (given work next : Work) (state after : SessionState) (before waiting items : Output) (units units_after : UnitStates)
+pub leaves_then : (given work next : Work) (state after : SessionState) (before waiting items : Output) (units units_after : TargetUnits)
     → Leaves given work state before waiting units → Leaves work next after waiting items units_after
     → Leaves given next after before items units_after
 leaves_then given work next state after before waiting items units units_after a b = record {
@@ -118,7 +118,7 @@ pub record Gives (given work : Work) (before waiting : Output) (more : List Answ
   pub acted : work.orders ≡ given.orders ++ functions
   pub ordered : waiting.orders ≡ before.orders ++ functions
 
-pub leaves_standing : (given work : Work) (state : SessionState) (before waiting : Output) (units : UnitStates) (more : List Answer)
+pub leaves_standing : (given work : Work) (state : SessionState) (before waiting : Output) (units : TargetUnits) (more : List Answer)
     (functions : List (List ℕ)) → Stands work.past state → work.units ≡ units → Gives given work before waiting more functions
     → Leaves given work state before waiting units
 leaves_standing given work state before waiting units more functions s same gives = record {
@@ -135,7 +135,7 @@ leaves_standing given work state before waiting units more functions s same give
 }
 
 -- one that orders nothing
-pub leaves_answering : (given work : Work) (state : SessionState) (before waiting : Output) (units : UnitStates) (more : List Answer)
+pub leaves_answering : (given work : Work) (state : SessionState) (before waiting : Output) (units : TargetUnits) (more : List Answer)
     → Stands work.past state → work.past.params ≡ given.past.params → work.past.answers ≡ given.past.answers ++ more
     → waiting.bytes ≡ before.bytes ++ flat_map spelling more → waiting.orders ≡ before.orders → work.orders ≡ given.orders → work.units ≡ units
     → Leaves given work state before waiting units
@@ -149,7 +149,7 @@ leaves_answering given work state before waiting units more s params answers spe
     })
 
 -- the same, but for the steps that were reached and whether it goes on
-pub leaves_as : (given work given_too work_too : Work) (state : SessionState) (before waiting : Output) (units : UnitStates)
+pub leaves_as : (given work given_too work_too : Work) (state : SessionState) (before waiting : Output) (units : TargetUnits)
     → given_too.past ≡ given.past → given_too.orders ≡ given.orders → work_too.past ≡ work.past → work_too.orders ≡ work.orders
     → work_too.units ≡ work.units → Leaves given work state before waiting units → Leaves given_too work_too state before waiting units
 leaves_as given work given_too work_too state before waiting units g go w wo u l = record {
@@ -165,12 +165,12 @@ leaves_as given work given_too work_too state before waiting units g go w wo u l
   ordered = l.ordered;
 }
 
-pub leaves_reaching : (step : Step) (work next : Work) (state : SessionState) (before waiting : Output) (units : UnitStates)
+pub leaves_reaching : (step : Step) (work next : Work) (state : SessionState) (before waiting : Output) (units : TargetUnits)
     → Leaves (reaches step work) next state before waiting units → Leaves work next state before waiting units
 leaves_reaching step work next state before waiting units l =
     leaves_as (reaches step work) next work next state before waiting units refl refl refl refl refl l
 
-pub leaves_stopped : (step : Step) (given work : Work) (state : SessionState) (before waiting : Output) (units : UnitStates)
+pub leaves_stopped : (step : Step) (given work : Work) (state : SessionState) (before waiting : Output) (units : TargetUnits)
     → Leaves given work state before waiting units → Leaves given (record (reaches step work) { goes_on = false }) state before waiting units
 leaves_stopped step given work state before waiting units l =
     leaves_as given work given (record (reaches step work) { goes_on = false }) state before waiting units refl refl refl refl refl l
@@ -262,7 +262,7 @@ module _ (kind : ℕ → ℕ → Step) (line : Past → List ℕ) (does : ℕ �
     → IsLawful past → count (remembered past) ≤ size past) where
   -- what is left of the turns
   pub record RanTo (turns : ℕ) (place : ℕ) (fails : Step → Bool) (given : Work) (most : ℕ) (now : SessionState) (before waiting : Output)
-      (units : UnitStates) : Type 0 where
+      (units : TargetUnits) : Type 0 where
     pub work : Work
     pub left : ℕ
     pub leaves : Leaves given work now before waiting units
@@ -271,19 +271,19 @@ module _ (kind : ℕ → ℕ → Step) (line : Past → List ℕ) (does : ℕ �
     pub same : one_by_one fails (kind place) line does 0 most given ≡ one_by_one fails (kind place) line does turns left work
 
   -- so many steps were done
-  pub record Ran (turns : ℕ) (old now : SessionState) (before waiting : Output) (units after : UnitStates) : Type 0 where
+  pub record Ran (turns : ℕ) (old now : SessionState) (before waiting : Output) (units after : TargetUnits) : Type 0 where
     pub runs : (place : ℕ) (fails : Step → Bool) (given : Work) (most : ℕ) → ((turn : ℕ) → turn < turns → fails (kind place turn) ≡ false)
         → Starts given old units → count old ≤ most
         → RanTo turns place fails given most now before waiting after
 
-  pub none_ran : (old : SessionState) (before : Output) (units : UnitStates) → Ran 0 old old before before units units
+  pub none_ran : (old : SessionState) (before : Output) (units : TargetUnits) → Ran 0 old old before before units units
   none_ran old before units = record {
     runs = λ place fails given most un s le. record
         { work = given; left = most; leaves = leaves_nothing given old before units s; goes_on = s.goes_on; enough = le; same = refl };
   }
 
   -- the first of the line takes a step, and the session goes on, or not
-  pub record StepsTo (goes_on : Bool) (now next : SessionState) (before waiting : Output) (units after : UnitStates) : Type 0 where
+  pub record StepsTo (goes_on : Bool) (now next : SessionState) (before waiting : Output) (units after : TargetUnits) : Type 0 where
     pub steps : (work : Work) → Starts work now units
         → (request : ℕ) × (others : List ℕ) × (line work.past ≡ request ∷ others) × ((does request work).goes_on ≡ goes_on)
         × Leaves work (does request work) next before waiting after
@@ -298,7 +298,7 @@ module _ (kind : ℕ → ℕ → Step) (line : Past → List ℕ) (does : ℕ �
       ∙ ap (one_by_one fails (kind place) line does (suc turn) left) (step_done fails (kind place turn) (does request) work on un)
 
   pub record Stepped (turns : ℕ) (place : ℕ) (fails : Step → Bool) (given : Work) (most : ℕ) (goes_on_then : Bool) (now next : SessionState)
-      (before waiting : Output) (units : UnitStates) : Type 0 where
+      (before waiting : Output) (units : TargetUnits) : Type 0 where
     pub work : Work
     pub left : ℕ
     pub leaves : Leaves given work next before waiting units
@@ -307,7 +307,7 @@ module _ (kind : ℕ → ℕ → Step) (line : Past → List ℕ) (does : ℕ �
     pub same : one_by_one fails (kind place) line does 0 most given ≡ one_by_one fails (kind place) line does (suc turns) left work
 
   stepped_by : (left : ℕ) (turns place : ℕ) (fails : Step → Bool) (given : Work) (most : ℕ) (goes_on : Bool) (now next : SessionState)
-      (before waiting items : Output) (units after : UnitStates) (r : RanTo turns place fails given most now before waiting units)
+      (before waiting items : Output) (units after : TargetUnits) (r : RanTo turns place fails given most now before waiting units)
       → r.left ≡ left → fails (kind place turns) ≡ false → StepsTo goes_on now next waiting items units after
       → Stepped turns place fails given most goes_on now next before items after
   stepped_by zero turns place fails given most goes_on now next before waiting items units after r e un s =
@@ -328,7 +328,7 @@ module _ (kind : ℕ → ℕ → Step) (line : Past → List ℕ) (does : ℕ �
             ∙ one_step turns left place fails r.work request found.1 found.2 r.goes_on un;
       }
 
-  pub ran_more : (turns : ℕ) (old now next : SessionState) (before waiting items : Output) (units middle after : UnitStates)
+  pub ran_more : (turns : ℕ) (old now next : SessionState) (before waiting items : Output) (units middle after : TargetUnits)
       → Ran turns old now before waiting units middle → StepsTo true now next waiting items middle after → count next < count now
       → Ran (suc turns) old next before items units after
   ran_more turns old now next before waiting items units middle after ran s fewer = record {
@@ -343,16 +343,16 @@ module _ (kind : ℕ → ℕ → Step) (line : Past → List ℕ) (does : ℕ �
   unfoldable pub all_of : (Step → Bool) → ℕ → Work → Work
   all_of fails place work = one_by_one fails (kind place) line does 0 (size work.past) work
 
-  begins : (work : Work) (old : SessionState) (units : UnitStates) → Starts work old units → count old ≤ size work.past
+  begins : (work : Work) (old : SessionState) (units : TargetUnits) → Starts work old units → count old ≤ size work.past
   begins work old units s = omega (arith, ap count s.remembered, fits work.past s.lawful)
 
   -- the line is empty, and nothing changes
-  pub record IsIdle (now next : SessionState) (before waiting : Output) (units after : UnitStates) : Type 0 where
+  pub record IsIdle (now next : SessionState) (before waiting : Output) (units after : TargetUnits) : Type 0 where
     pub none : (work : Work) → Starts work now units → line work.past ≡ []
     pub leaves : (work : Work) → Starts work now units → Leaves work work next before waiting after
 
   idle_to : (facts : IsKind kind) (turns place : ℕ) (fails : Step
-      → Bool) (given : Work) (old now next : SessionState) (before waiting items : Output) (units middle after : UnitStates)
+      → Bool) (given : Work) (old now next : SessionState) (before waiting items : Output) (units middle after : TargetUnits)
       → Ran turns old now before waiting units middle → IsIdle now next waiting items middle after → FailsAs None place fails → Starts given old units
       → (work : Work) × (all_of fails place given ≡ work) × (work.goes_on ≡ true) × Leaves given work next before items after
   unfolding all_of
@@ -366,7 +366,7 @@ module _ (kind : ℕ → ℕ → Step) (line : Past → List ℕ) (does : ℕ �
             next before waiting items middle after r.leaves (none.leaves r.work starts),
       )
 
-  pub ran_idle : (facts : IsKind kind) (turns : ℕ) (old now next : SessionState) (before waiting items : Output) (units middle after : UnitStates)
+  pub ran_idle : (facts : IsKind kind) (turns : ℕ) (old now next : SessionState) (before waiting items : Output) (units middle after : TargetUnits)
       → Ran turns old now before waiting units middle → IsIdle now next waiting items middle after → Runs all_of None true old next before items units after
   ran_idle facts turns old now next before waiting items units middle after ran none = record {
     leads = λ place fails given told s. (let t = idle_to facts turns place fails given old now next before waiting items units middle after ran none told s
@@ -378,7 +378,7 @@ module _ (kind : ℕ → ℕ → Step) (line : Past → List ℕ) (does : ℕ �
 
   -- the session ended
   ended_to : (facts : IsKind kind) (turns place : ℕ) (fails : Step
-      → Bool) (given : Work) (old now next : SessionState) (before waiting items : Output) (units middle after : UnitStates)
+      → Bool) (given : Work) (old now next : SessionState) (before waiting items : Output) (units middle after : TargetUnits)
       → Ran turns old now before waiting units middle → StepsTo false now next waiting items middle after → FailsAs None place fails → Starts given old units
       → (work : Work) × (all_of fails place given ≡ work) × (work.goes_on ≡ false) × Leaves given work next before items after
   unfolding all_of
@@ -388,7 +388,7 @@ module _ (kind : ℕ → ℕ → Step) (line : Past → List ℕ) (does : ℕ �
       (told (kind place turns) (facts.of place turns)) steps in
       (n.work, n.same ∙ stopped fails (kind place) line does (suc turns) n.left n.work n.goes_on, n.goes_on, n.leaves)
 
-  pub ran_ended : (facts : IsKind kind) (turns : ℕ) (old now next : SessionState) (before waiting items : Output) (units middle after : UnitStates)
+  pub ran_ended : (facts : IsKind kind) (turns : ℕ) (old now next : SessionState) (before waiting items : Output) (units middle after : TargetUnits)
       → Ran turns old now before waiting units middle → StepsTo false now next waiting items middle after
       → Runs all_of None false old next before items units after
   ran_ended facts turns old now next before waiting items units middle after ran steps = record {
@@ -402,7 +402,7 @@ module _ (kind : ℕ → ℕ → Step) (line : Past → List ℕ) (does : ℕ �
   }
 
   -- an allocation failed before the next step
-  pub record HasMore (now : SessionState) (units : UnitStates) : Type 0 where
+  pub record HasMore (now : SessionState) (units : TargetUnits) : Type 0 where
     pub more : (work : Work) → Starts work now units → (request : ℕ) × (others : List ℕ) × (line work.past ≡ request ∷ others)
     pub some : (work : Work) → Starts work now units → 0 < count now
 
@@ -416,7 +416,7 @@ module _ (kind : ℕ → ℕ → Step) (line : Past → List ℕ) (does : ℕ �
       ∙ stopped fails (kind place) line does (suc turn) left (record (reaches (kind place turn) work) { goes_on = false }) refl
 
   failed_to : (facts : IsKind kind) (turns place : ℕ) (fails : Step
-      → Bool) (given : Work) (old now : SessionState) (before waiting : Output) (units after : UnitStates) → Ran turns old now before waiting units after
+      → Bool) (given : Work) (old now : SessionState) (before waiting : Output) (units after : TargetUnits) → Ran turns old now before waiting units after
       → HasMore now after → FailsAs (Some (λ place. kind place turns)) place fails → Starts given old units
       → (work : Work) × (all_of fails place given ≡ record (reaches (kind place turns) work) { goes_on = false }) × Leaves given work now before waiting after
   unfolding all_of
@@ -432,7 +432,7 @@ module _ (kind : ℕ → ℕ → Step) (line : Past → List ℕ) (does : ℕ �
         r.leaves,
       )
 
-  pub ran_failed : (facts : IsKind kind) (turns : ℕ) (old now : SessionState) (before waiting : Output) (units after : UnitStates)
+  pub ran_failed : (facts : IsKind kind) (turns : ℕ) (old now : SessionState) (before waiting : Output) (units after : TargetUnits)
       → Ran turns old now before waiting units after → HasMore now after
       → Runs all_of (Some (λ place. kind place turns)) false old now before waiting units after
   ran_failed facts turns old now before waiting units after ran has = record {
@@ -448,7 +448,7 @@ module _ (kind : ℕ → ℕ → Step) (line : Past → List ℕ) (does : ℕ �
 -- ---- the same by another name
 
 pub runs_as : (run all : (Step → Bool) → ℕ → Work → Work) (failed : Option (ℕ → Step)) (goes_on : Bool) (old new : SessionState) (before waiting : Output)
-    (units after : UnitStates) → ((fails : Step → Bool) (place : ℕ) (work : Work) → all fails place work ≡ run fails place work)
+    (units after : TargetUnits) → ((fails : Step → Bool) (place : ℕ) (work : Work) → all fails place work ≡ run fails place work)
     → Runs all failed goes_on old new before waiting units after → Runs run failed goes_on old new before waiting units after
 runs_as run all failed goes_on old new before waiting units after same r = record {
   leads = λ place fails work told s. subst (λ (v : Work). Leaves work v new before waiting after) (same fails place work) (r.leads place fails work told s);

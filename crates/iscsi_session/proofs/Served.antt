@@ -2,7 +2,8 @@
 use Rattle.std.proofs.Common.{◌≡◌, ◌≢◌, ◌≤◌, map, ℕ, suc, ◌<◌, List, [], ◌∷◌, ◌++◌, length, Bool, true, false, not, cond, Option, Some, None, refl, sym, ap, ◌∙◌, subst, arith, append-nil}
 use Rattle.std.specs.Prelude.{flat_map, Result, Ok, Err, IfOk, OnErr}
 use Rattle.std.proofs.lemmas.Bool.{eq-eqb}
-use Rattle.scsi_unit.specs.Units.{UnitStates, numbers_of}
+use Rattle.scsi_unit.specs.Units.{numbers_of}
+use Rattle.iscsi_session.specs.Comings.{TargetUnits}
 use Rattle.iscsi_pdu.specs.Frames.{Frame}
 use Rattle.iscsi_pdu.specs.Answer.{spelling}
 use Rattle.iscsi_session.specs.Requests.{Past, frame_of, due}
@@ -32,13 +33,13 @@ pub record Acts (luns : List ℕ) (a : Act) (old new : SessionState) (before wai
   pub out : (past : Past) → Stands past old → waiting.bytes ≡ before.bytes ++ flat_map spelling (answers_by luns (due past) past)
   pub orders : (past : Past) → Stands past old → waiting.orders ≡ before.orders ++ orders_by (due past) past
 
-act_leaves : (work : Work) (k : ℕ) (new : SessionState) (before waiting : Output) (units : UnitStates) → work.units ≡ units
-    → Stands (acted_by (numbers_of work.units) (k ∷ []) work.past) new
-    → waiting.bytes ≡ before.bytes ++ flat_map spelling (act_answers (numbers_of work.units) k work.past)
+act_leaves : (work : Work) (k : ℕ) (new : SessionState) (before waiting : Output) (units : TargetUnits) → work.units ≡ units
+    → Stands (acted_by (numbers_of work.units.states) (k ∷ []) work.past) new
+    → waiting.bytes ≡ before.bytes ++ flat_map spelling (act_answers (numbers_of work.units.states) k work.past)
     → waiting.orders ≡ before.orders ++ ordered k work.past → Leaves work (act k work) new before waiting units
 unfolding act
 act_leaves work k new before waiting units same s spelled orders =
-    let luns = numbers_of work.units in
+    let luns = numbers_of work.units.states in
     let kept = acted_same luns k work.past in
     leaves_standing work (act k work) new before waiting units (act_answers luns k work.past) (ordered k work.past) s same
     (record { params = kept.0; answers = kept.1; spelled = spelled; acted = refl; ordered = orders })
@@ -47,14 +48,14 @@ act_goes_on : (work : Work) (k : ℕ) → (act k work).goes_on ≡ not (ends wor
 unfolding act
 act_goes_on work k = refl
 
-abbrev ActsFirst : List ℕ → Act → Work → SessionState → Output → Output → UnitStates → Type 0
+abbrev ActsFirst : List ℕ → Act → Work → SessionState → Output → Output → TargetUnits → Type 0
 ActsFirst [] a work new before waiting units = (a ≡ Idle) × Leaves work work new before waiting units
 ActsFirst (k ∷ others) a work new before waiting units = (a ≡ cond (ends work.past.params (frame_of work.past.came k)) Ended Taken) × Leaves work
     (act k work) new before waiting units
 
-acts_first : (l : List ℕ) (a : Act) (work : Work) (new : SessionState) (before waiting : Output) (units : UnitStates) → work.units ≡ units
-    → a ≡ act_by l work.past → Stands (acted_by (numbers_of work.units) l work.past) new
-    → waiting.bytes ≡ before.bytes ++ flat_map spelling (answers_by (numbers_of work.units) l work.past)
+acts_first : (l : List ℕ) (a : Act) (work : Work) (new : SessionState) (before waiting : Output) (units : TargetUnits) → work.units ≡ units
+    → a ≡ act_by l work.past → Stands (acted_by (numbers_of work.units.states) l work.past) new
+    → waiting.bytes ≡ before.bytes ++ flat_map spelling (answers_by (numbers_of work.units.states) l work.past)
     → waiting.orders ≡ before.orders ++ orders_by l work.past → ActsFirst l a work new before waiting units
 acts_first [] a work new before waiting units same is s spelled orders = (
   is,
@@ -70,11 +71,11 @@ acts_first (k ∷ others) a work new before waiting units same is s spelled orde
     (is, act_leaves work k new before waiting units same s spelled orders)
 
 -- they are those of the units that it works on
-acts_here : (luns : List ℕ) (a : Act) (work : Work) (old new : SessionState) (before waiting : Output) (units : UnitStates) → luns ≡ numbers_of units
+acts_here : (luns : List ℕ) (a : Act) (work : Work) (old new : SessionState) (before waiting : Output) (units : TargetUnits) → luns ≡ numbers_of units.states
     → Acts luns a old new before waiting → Starts work old units → ActsFirst (due work.past) a work new before waiting units
 acts_here luns a work old new before waiting units numbers acts_so s =
     let st = stands_of work old units s in
-    let acts = subst (λ (l : List ℕ). Acts l a old new before waiting) (numbers ∙ ap numbers_of (sym s.units)) acts_so in
+    let acts = subst (λ (l : List ℕ). Acts l a old new before waiting) (numbers ∙ ap (λ (u : TargetUnits). numbers_of u.states) (sym s.units)) acts_so in
     acts_first (due work.past) a work new before waiting units s.units (acts.act work.past st) (acts.stands work.past st) (acts.out work.past st)
     (acts.orders work.past st)
 
@@ -88,11 +89,11 @@ does_end : (b : Bool) → Ended ≡ cond b Ended Taken → b ≡ true
 does_end true e = refl
 does_end false e = absurd cc
 
-abbrev FoundActed : List ℕ → Bool → Work → SessionState → Output → Output → UnitStates → Type 0
+abbrev FoundActed : List ℕ → Bool → Work → SessionState → Output → Output → TargetUnits → Type 0
 FoundActed l goes_on work new before waiting units =
     (k : ℕ) × (others : List ℕ) × (l ≡ k ∷ others) × ((act k work).goes_on ≡ goes_on) × Leaves work (act k work) new before waiting units
 
-found_taken : (l : List ℕ) (work : Work) (new : SessionState) (before waiting : Output) (units : UnitStates)
+found_taken : (l : List ℕ) (work : Work) (new : SessionState) (before waiting : Output) (units : TargetUnits)
     → ActsFirst l Taken work new before waiting units → FoundActed l true work new before waiting units
 found_taken [] work new before waiting units acts = absurd (let no = acts.0 in cc)
 found_taken (k ∷ others) work new before waiting units acts = (
@@ -104,7 +105,7 @@ found_taken (k ∷ others) work new before waiting units acts = (
   acts.1,
 )
 
-found_ended : (l : List ℕ) (work : Work) (new : SessionState) (before waiting : Output) (units : UnitStates)
+found_ended : (l : List ℕ) (work : Work) (new : SessionState) (before waiting : Output) (units : TargetUnits)
     → ActsFirst l Ended work new before waiting units → FoundActed l false work new before waiting units
 found_ended [] work new before waiting units acts = absurd (let no = acts.0 in cc)
 found_ended (k ∷ others) work new before waiting units acts = (
@@ -116,7 +117,7 @@ found_ended (k ∷ others) work new before waiting units acts = (
   acts.1,
 )
 
-found_idle : (l : List ℕ) (work : Work) (new : SessionState) (before waiting : Output) (units : UnitStates)
+found_idle : (l : List ℕ) (work : Work) (new : SessionState) (before waiting : Output) (units : TargetUnits)
     → ActsFirst l Idle work new before waiting units → (l ≡ []) × Leaves work work new before waiting units
 found_idle [] work new before waiting units acts = (refl, acts.1)
 found_idle (k ∷ others) work new before waiting units acts = absurd (no_idle (ends work.past.params (frame_of work.past.came k)) acts.0)
@@ -128,8 +129,8 @@ found_idle (k ∷ others) work new before waiting units acts = absurd (no_idle (
 pub due_fits : (past : Past) → IsLawful past → tasks_count (remembered past) ≤ waiting_in past
 due_fits past lawful = waiting_fits past
 
-pub acted_more : (luns : List ℕ) (turns : ℕ) (a : Act) (old now next : SessionState) (before waiting items : Output) (units : UnitStates)
-    → luns ≡ numbers_of units → Ran Taking due act tasks_count waiting_in due_fits turns old now before waiting units units
+pub acted_more : (luns : List ℕ) (turns : ℕ) (a : Act) (old now next : SessionState) (before waiting items : Output) (units : TargetUnits)
+    → luns ≡ numbers_of units.states → Ran Taking due act tasks_count waiting_in due_fits turns old now before waiting units units
     → Acts luns a now next waiting items → a ≡ Taken
     → tasks_count next < tasks_count now
     → Ran Taking due act tasks_count waiting_in due_fits (suc turns) old next before items units units
@@ -145,8 +146,8 @@ acts_all : (fails : Step → Bool) (place : ℕ) (work : Work) → all_of Taking
 unfolding all_of act_all
 acts_all fails place work = refl
 
-pub all_acted : (luns : List ℕ) (turns : ℕ) (a : Act) (old now next : SessionState) (before waiting items : Output) (units : UnitStates)
-    → luns ≡ numbers_of units → Ran Taking due act tasks_count waiting_in due_fits turns old now before waiting units units
+pub all_acted : (luns : List ℕ) (turns : ℕ) (a : Act) (old now next : SessionState) (before waiting items : Output) (units : TargetUnits)
+    → luns ≡ numbers_of units.states → Ran Taking due act tasks_count waiting_in due_fits turns old now before waiting units units
     → Acts luns a now next waiting items → a ≡ Idle
     → Runs act_all None true old next before items units units
 all_acted luns turns a old now next before waiting items units numbers ran acts is =
@@ -158,8 +159,8 @@ all_acted luns turns a old now next before waiting items units numbers ran acts 
       leaves = λ work s. (found_idle (due work.past) work next waiting items units (acts_here luns Idle work now next waiting items units numbers one s)).1;
     }))
 
-pub acting_ends : (luns : List ℕ) (turns : ℕ) (a : Act) (old now next : SessionState) (before waiting items : Output) (units : UnitStates)
-    → luns ≡ numbers_of units → Ran Taking due act tasks_count waiting_in due_fits turns old now before waiting units units
+pub acting_ends : (luns : List ℕ) (turns : ℕ) (a : Act) (old now next : SessionState) (before waiting items : Output) (units : TargetUnits)
+    → luns ≡ numbers_of units.states → Ran Taking due act tasks_count waiting_in due_fits turns old now before waiting units units
     → Acts luns a now next waiting items → a ≡ Ended
     → Runs act_all None false old next before items units units
 acting_ends luns turns a old now next before waiting items units numbers ran acts is =
@@ -181,7 +182,7 @@ due_there : (past : Past) (l : List ℕ) → 0 < length (map (frame_of (standing
 due_there past [] some = absurd (omega arith)
 due_there past (k ∷ others) some = (k, others, refl)
 
-pub acting_stops : (turns : ℕ) (old now : SessionState) (before waiting : Output) (units : UnitStates)
+pub acting_stops : (turns : ℕ) (old now : SessionState) (before waiting : Output) (units : TargetUnits)
     → Ran Taking due act tasks_count waiting_in due_fits turns old now before waiting units units → 0 < length now.tasks.due
     → Runs act_all (Some (λ place. Taking place turns)) false old now before waiting units units
 acting_stops turns old now before waiting units ran some =
@@ -211,7 +212,7 @@ judged_same Ignored frame past = (refl, sym (append-nil past.answers))
 judged_same Dropped frame past = (refl, sym (append-nil past.answers))
 judged_same Violating frame past = (refl, sym (append-nil past.answers))
 
-judge_leaves : (v : Verdict) (frame : Frame) (work : Work) (old new : SessionState) (before waiting : Output) (units : UnitStates)
+judge_leaves : (v : Verdict) (frame : Frame) (work : Work) (old new : SessionState) (before waiting : Output) (units : TargetUnits)
     → Judges v frame old new before waiting → Starts work old units
     → Leaves work (judge frame work) new before waiting units × ((judge frame work).goes_on ≡ not (violates v))
 unfolding judge
@@ -244,7 +245,7 @@ pub same_place : (place : ℕ) → is_of place (Judging place) ≡ true
 same_place place = eq-eqb place place refl
 
 -- an allocation failed before it
-pub judging_stops : (frame : Frame) (old : SessionState) (before : Output) (units : UnitStates)
+pub judging_stops : (frame : Frame) (old : SessionState) (before : Output) (units : TargetUnits)
     → Runs (λ fails place. taken_in fails place frame) (Some (λ place. Judging place)) false old old before before units units
 judging_stops frame old before units =
     let fails_at : (place : ℕ) (fails : Step → Bool) (work : Work) → FailsAs (Some (λ place. Judging place)) place fails → Starts work old units
@@ -258,7 +259,7 @@ judging_stops frame old before units =
     }
 
 -- the session ends with it
-pub judging_ends : (v : Verdict) (frame : Frame) (old new : SessionState) (before waiting : Output) (units : UnitStates)
+pub judging_ends : (v : Verdict) (frame : Frame) (old new : SessionState) (before waiting : Output) (units : TargetUnits)
     → Judges v frame old new before waiting → v ≡ Violating → Runs (λ fails place. taken_in fails place frame) None false old new before waiting units units
 judging_ends v frame old new before waiting units judges is =
     let there : (place : ℕ) (fails : Step → Bool) (work : Work) → FailsAs None place fails → Starts work old units
@@ -288,7 +289,7 @@ goes_on_by Violating differ = absurd (differ refl)
 
 -- the requests that are due act behind it
 pub taken_on : (v : Verdict) (frame : Frame) (failed : Option (ℕ
-    → Step)) (goes_on : Bool) (old middle new : SessionState) (before waiting items : Output) (units : UnitStates)
+    → Step)) (goes_on : Bool) (old middle new : SessionState) (before waiting items : Output) (units : TargetUnits)
     → Judges v frame old middle before waiting → v ≢ Violating
     → ((place : ℕ) → is_failed failed place (Judging place) ≡ false) → Runs act_all failed goes_on middle new waiting items units units
     → Runs (λ fails place. taken_in fails place frame) failed goes_on old new before items units units
@@ -320,13 +321,13 @@ taken_on v frame failed goes_on old middle new before waiting items units judges
 -- ---- what the calls tell
 
 pub act_stops : (luns : List ℕ) (turn : ℕ) (old now next : SessionState) (before waiting items : Output) → next ≡ now → items ≡ waiting
-    → ((units : UnitStates) → luns ≡ numbers_of units → Runs act_all (Some (λ place. Taking place turn)) false old now before waiting units units)
-    → (turn : ℕ) × ((units : UnitStates) → luns ≡ numbers_of units
+    → ((units : TargetUnits) → luns ≡ numbers_of units.states → Runs act_all (Some (λ place. Taking place turn)) false old now before waiting units units)
+    → (turn : ℕ) × ((units : TargetUnits) → luns ≡ numbers_of units.states
     → Runs act_all (Some (λ place. Taking place turn)) false old next before items units units)
 act_stops luns turn old now next before waiting items same is runs = (turn, λ units numbers. rw (same, is) (runs units numbers))
 
 pub judging_stop : (luns : List ℕ) (frame : Frame) (old new : SessionState) (before waiting : Output) → new ≡ old → waiting ≡ before
-    → Stops is_serving (λ failed. (units : UnitStates) → luns ≡ numbers_of units
+    → Stops is_serving (λ failed. (units : TargetUnits) → luns ≡ numbers_of units.states
     → Runs (λ fails place. taken_in fails place frame) failed false old new before waiting units units)
 judging_stop luns frame old new before waiting same is = record {
   step = λ place. Judging place;
@@ -337,8 +338,8 @@ judging_stop luns frame old new before waiting same is = record {
 
 pub taken_ok : {E : Type 0} (luns : List ℕ) (r : Result Bool E) (v : Verdict) (frame : Frame) (old middle new : SessionState) (before waiting items : Output)
     → Judges v frame old middle before waiting → v ≢ Violating
-    → IfOk r (λ goes_on. (units : UnitStates) → luns ≡ numbers_of units → Runs act_all None goes_on middle new waiting items units units)
-    → IfOk r (λ goes_on. (units : UnitStates) → luns ≡ numbers_of units
+    → IfOk r (λ goes_on. (units : TargetUnits) → luns ≡ numbers_of units.states → Runs act_all None goes_on middle new waiting items units units)
+    → IfOk r (λ goes_on. (units : TargetUnits) → luns ≡ numbers_of units.states
     → Runs (λ fails place. taken_in fails place frame) None goes_on old new before items units units)
 taken_ok luns (Ok goes_on) v frame old middle new before waiting items judges differ acts =
     λ units numbers. taken_on v frame None goes_on old middle new before waiting items units judges differ (λ place. refl) (acts units numbers)
@@ -346,9 +347,9 @@ taken_ok luns (Err fault) v frame old middle new before waiting items judges dif
 
 pub taken_err : {T E : Type 0} (luns : List ℕ) (r : Result T E) (v : Verdict) (frame : Frame) (old middle new : SessionState) (before waiting items : Output)
     → Judges v frame old middle before waiting → v ≢ Violating
-    → OnErr r ((turn : ℕ) × ((units : UnitStates) → luns ≡ numbers_of units
+    → OnErr r ((turn : ℕ) × ((units : TargetUnits) → luns ≡ numbers_of units.states
     → Runs act_all (Some (λ place. Taking place turn)) false middle new waiting items units units))
-    → OnErr r (Stops is_serving (λ failed. (units : UnitStates) → luns ≡ numbers_of units
+    → OnErr r (Stops is_serving (λ failed. (units : TargetUnits) → luns ≡ numbers_of units.states
     → Runs (λ fails place. taken_in fails place frame) failed false old new before items units units))
 taken_err luns (Ok x) v frame old middle new before waiting items judges differ acts = tt
 taken_err luns (Err fault) v frame old middle new before waiting items judges differ acts = record {

@@ -1,12 +1,14 @@
 -- A command that is done, and a request that acts, as steps of a session's work.
 use Rattle.std.proofs.Common.{◌≡◌, ◌≤◌, ℕ, suc, ◌<◌, List, [], ◌∷◌, ◌++◌, length, map, Bool, true, false, not, Some, None, refl, sym, ap, ◌∙◌, subst, arith, append-nil}
-use Rattle.std.specs.Prelude.{flat_map, filter}
+use Rattle.std.specs.Prelude.{flat_map, filter, drop}
 use Rattle.std.specs.List.{enumerate_from}
 use Rattle.std.proofs.lemmas.List.{length-map}
 use Rattle.std.proofs.lemmas.List.Elements.{filter-append}
 use Rattle.scsi_sense.specs.Done.{Outcome}
 use Rattle.scsi_sense.specs.Nexus.{NexusName}
+use Rattle.scsi_unit.specs.CameOut.{CameOut}
 use Rattle.scsi_unit.specs.Units.{UnitStates}
+use Rattle.iscsi_session.specs.Comings.{Coming, TargetUnits, CameAs, lend, next_coming}
 use Rattle.iscsi_pdu.specs.Frames.{Frame}
 use Rattle.iscsi_pdu.specs.Answer.{spelling}
 use Rattle.iscsi_pdu.specs.declared.answer.Answer.{Answer}
@@ -43,7 +45,7 @@ command_bears numbers values frame done =
 
 -- ---- the line is empty
 
-pub none_steps : (does : ℕ → Work → Work) (l : List ℕ) (work : Work) (state : SessionState) (waiting : Output) (units : UnitStates) → l ≡ []
+pub none_steps : (does : ℕ → Work → Work) (l : List ℕ) (work : Work) (state : SessionState) (waiting : Output) (units : TargetUnits) → l ≡ []
     → work.units ≡ units → StepsFirst does l work false state state waiting waiting units
 none_steps does [] work state waiting units none same = (refl, refl, refl, sym same)
 none_steps does (request ∷ others) work state waiting units none same = absurd cc
@@ -60,7 +62,7 @@ none_ready_in past state [] s is e = refl
 none_ready_in past state (k ∷ l) s is e =
     waits_by _ past k l refl (ap not (sym (whole_is past state k s (first_unfinished past k l s.lawful is))) ∙ e)
 
-pub none_ready : (work : Work) (state : SessionState) (units : UnitStates) → Starts work state units → is_waiting state ≡ true → ready work.past ≡ []
+pub none_ready : (work : Work) (state : SessionState) (units : TargetUnits) → Starts work state units → is_waiting state ≡ true → ready work.past ≡ []
 unfolding ready
 none_ready work state units s e =
     let st = stands_of work state units s in
@@ -77,7 +79,7 @@ all_ready_in past state [] s is e = absurd cc
 all_ready_in past state (k ∷ l) s is e =
     (k, l, refl, goes_by _ past k l refl (ap not (sym (whole_is past state k s (first_unfinished past k l s.lawful is))) ∙ e))
 
-all_ready : (work : Work) (state : SessionState) (units : UnitStates) → Starts work state units → is_waiting state ≡ false
+all_ready : (work : Work) (state : SessionState) (units : TargetUnits) → Starts work state units → is_waiting state ≡ false
     → (k : ℕ) × (others : List ℕ) × (queue work.past ≡ k ∷ others) × (ready work.past ≡ queue work.past)
 unfolding ready
 all_ready work state units s e =
@@ -106,58 +108,68 @@ pub record Answers (old new : SessionState) (before waiting : Output) (done : Ou
       → waiting.bytes ≡ before.bytes ++ flat_map spelling (command_answers (stamp (finished k past)) past.params.values (frame_of past.came k) done)
   pub orders : waiting.orders ≡ before.orders
 
-finish_leaves : (work : Work) (k : ℕ) (others : List ℕ) (old new : SessionState) (before waiting : Output) (units after : UnitStates) (done : Outcome)
-    → Starts work old units → queue work.past ≡ k ∷ others
-    → (after, done) ≡ carried_out units work.past.params.nexus (frame_of work.past.came k) (payload_of work.past k) → Answers old new before waiting done
-    → Leaves work (finish k work) new before waiting after
+finish_leaves : (work : Work) (k : ℕ) (others : List ℕ) (old new : SessionState) (before waiting : Output) (units after : UnitStates)
+    (comings : List Coming) (came : CameOut) (done : Outcome)
+    → Starts work old (lend units comings) → queue work.past ≡ k ∷ others → next_coming work.past.params.target comings ≡ came
+    → (after, done) ≡ carried_out came units work.past.params.nexus (frame_of work.past.came k) (payload_of work.past k) → Answers old new before waiting done
+    → Leaves work (finish k work) new before waiting (lend after (drop 1 comings))
 unfolding finish
-finish_leaves work k others old new before waiting units after done s is carried answers =
+finish_leaves work k others old new before waiting units after comings came done s is next carried answers =
     let past = work.past in
-    let standing = stands_of work old units s in
+    let standing = stands_of work old (lend units comings) s in
     let more = command_answers (stamp (finished k past)) past.params.values (frame_of past.came k) done in
-    let all : carried_out work.units past.params.nexus (frame_of past.came k) (payload_of past k) ≡ (after, done) = ap
-    (λ (us : UnitStates). carried_out us past.params.nexus (frame_of past.came k) (payload_of past k)) s.units ∙ sym carried in
+    let does : TargetUnits → UnitStates × Outcome =
+    λ u. carried_out (next_coming past.params.target u.comings) u.states past.params.nexus (frame_of past.came k) (payload_of past k) in
+    let all : does work.units ≡ (after, done) = ap does s.units
+    ∙ ap (λ (c : CameOut). carried_out c units past.params.nexus (frame_of past.came k) (payload_of past k)) next ∙ sym carried in
     let same : (finish k work).past ≡ answered_command done k past = ap (λ (p : UnitStates × Outcome). answered_command p.1 k past) all in
-    leaves_answering work (finish k work) new before waiting after more
+    leaves_answering work (finish k work) new before waiting (lend after (drop 1 comings)) more
     (subst (λ (p : Past). Stands p new) (sym same) (answers.stands past k others standing is))
     (ap (λ (p : Past). p.params) same) (ap (λ (p : Past). p.answers) same) (answers.out past k others standing is) answers.orders refl
-    (ap (λ (p : UnitStates × Outcome). p.0) all)
+    (ap (λ (p : UnitStates × Outcome). lend p.0 (drop 1 work.units.comings)) all
+    ∙ ap (λ (u : TargetUnits). lend after (drop 1 u.comings)) s.units)
 
 -- the payload that the code has of it
 abbrev payload_in : SessionState → Frame → List ℕ
 payload_in state frame = payload_at state.transfers.list (place_for frame state.transfers.list)
 
-finish_first : (l : List ℕ) (work : Work) (old new : SessionState) (before waiting : Output) (units after : UnitStates) (frame : Frame) (rest : List Frame)
-    (nexus : NexusName) (done : Outcome) → queue work.past ≡ l → Starts work old units
-    → old.tasks.queue ≡ frame ∷ rest → nexus ≡ old.params.nexus → (after, done) ≡ carried_out units nexus frame (payload_in old frame)
+finish_first : (l : List ℕ) (work : Work) (old new : SessionState) (before waiting : Output) (units after : UnitStates)
+    (comings : List Coming) (came : CameOut) (frame : Frame) (rest : List Frame)
+    (nexus : NexusName) (done : Outcome) → queue work.past ≡ l → Starts work old (lend units comings)
+    → old.tasks.queue ≡ frame ∷ rest → nexus ≡ old.params.nexus → next_coming old.params.target comings ≡ came
+    → (after, done) ≡ carried_out came units nexus frame (payload_in old frame)
     → Answers old new before waiting done
-    → StepsFirst finish l work true old new before waiting after
-finish_first [] work old new before waiting units after frame rest nexus done is s first named carried answers =
-    absurd (let none = sym first ∙ queue_is work.past old (stands_of work old units s) ∙ ap (frames_of work.past.came) is in cc)
-finish_first (k ∷ others) work old new before waiting units after frame rest nexus done is s first named carried answers =
-    let st = stands_of work old units s in
+    → StepsFirst finish l work true old new before waiting (lend after (drop 1 comings))
+finish_first [] work old new before waiting units after comings came frame rest nexus done is s first named next carried answers =
+    absurd (let none = sym first ∙ queue_is work.past old (stands_of work old (lend units comings) s) ∙ ap (frames_of work.past.came) is in cc)
+finish_first (k ∷ others) work old new before waiting units after comings came frame rest nexus done is s first named next carried answers =
+    let st = stands_of work old (lend units comings) s in
     let heads : frame ∷ rest ≡ frame_of work.past.came k ∷ frames_of work.past.came others = sym first ∙ queue_is work.past old st
     ∙ ap (frames_of work.past.came) is in
     let same : frame ≡ frame_of work.past.came k = cc in
-    let agreed : nexus ≡ work.past.params.nexus = named ∙ ap (λ (x : Params). x.nexus) (parts work.past old st).params_is in
+    let params = (parts work.past old st).params_is in
+    let agreed : nexus ≡ work.past.params.nexus = named ∙ ap (λ (x : Params). x.nexus) params in
     let payload : payload_in old (frame_of work.past.came k) ≡ payload_of work.past k = payload_is work.past old k st
     (first_unfinished work.past k others st.lawful is) in (
       refl,
-      finish_leaves work k others old new before waiting units after done s is
-          (carried ∙ ap (λ (n : NexusName). carried_out units n frame (payload_in old frame)) agreed
-          ∙ ap (λ (f : Frame). carried_out units work.past.params.nexus f (payload_in old f)) same
-          ∙ ap (carried_out units work.past.params.nexus (frame_of work.past.came k)) payload) answers,
+      finish_leaves work k others old new before waiting units after comings came done s is
+          (ap (λ (x : Params). next_coming x.target comings) (sym params) ∙ next)
+          (carried ∙ ap (λ (n : NexusName). carried_out came units n frame (payload_in old frame)) agreed
+          ∙ ap (λ (f : Frame). carried_out came units work.past.params.nexus f (payload_in old f)) same
+          ∙ ap (carried_out came units work.past.params.nexus (frame_of work.past.came k)) payload) answers,
     )
 
-pub finish_steps : (work : Work) (old new : SessionState) (before waiting : Output) (units after : UnitStates) (frame : Frame) (rest : List Frame)
-    (nexus : NexusName) (done : Outcome) → Starts work old units
+pub finish_steps : (work : Work) (old new : SessionState) (before waiting : Output) (units after : UnitStates)
+    (comings : List Coming) (came : CameOut) (frame : Frame) (rest : List Frame)
+    (nexus : NexusName) (done : Outcome) → Starts work old (lend units comings)
     → old.tasks.queue ≡ frame ∷ rest → whole_at old.transfers.list (place_for frame old.transfers.list) ≡ true
-    → nexus ≡ old.params.nexus → (after, done) ≡ carried_out units nexus frame (payload_in old frame) → Answers old new before waiting done
-    → StepsFirst finish (ready work.past) work true old new before waiting after
-finish_steps work old new before waiting units after frame rest nexus done s first whole named carried answers =
-    let r = all_ready work old units s (not_waiting old frame rest first whole) in
-    subst (λ (l : List ℕ). StepsFirst finish l work true old new before waiting after) (sym r.3)
-    (finish_first (queue work.past) work old new before waiting units after frame rest nexus done refl s first named carried answers)
+    → nexus ≡ old.params.nexus → next_coming old.params.target comings ≡ came
+    → (after, done) ≡ carried_out came units nexus frame (payload_in old frame) → Answers old new before waiting done
+    → StepsFirst finish (ready work.past) work true old new before waiting (lend after (drop 1 comings))
+finish_steps work old new before waiting units after comings came frame rest nexus done s first whole named next carried answers =
+    let r = all_ready work old (lend units comings) s (not_waiting old frame rest first whole) in
+    subst (λ (l : List ℕ). StepsFirst finish l work true old new before waiting (lend after (drop 1 comings))) (sym r.3)
+    (finish_first (queue work.past) work old new before waiting units after comings came frame rest nexus done refl s first named next carried answers)
 
 -- ---- settling
 
@@ -168,13 +180,13 @@ pub queue_fits : (past : Past) → IsLawful past → queue_count (remembered pas
 unfolding tasks_of
 queue_fits past lawful = omega (arith, length-map (queue past) (frame_of past.came))
 
-found_finished : (l : List ℕ) (work : Work) (old new : SessionState) (before waiting : Output) (after : UnitStates)
+found_finished : (l : List ℕ) (work : Work) (old new : SessionState) (before waiting : Output) (after : TargetUnits)
     → StepsFirst finish l work true old new before waiting after
     → (request : ℕ) × (others : List ℕ) × (l ≡ request ∷ others) × Leaves work (finish request work) new before waiting after
 found_finished [] work old new before waiting after s = absurd (let no = s.0 in cc)
 found_finished (request ∷ others) work old new before waiting after s = (request, others, refl, s.1)
 
-found_none : (l : List ℕ) (work : Work) (old new : SessionState) (before waiting : Output) (units after : UnitStates) → Starts work old units
+found_none : (l : List ℕ) (work : Work) (old new : SessionState) (before waiting : Output) (units after : TargetUnits) → Starts work old units
     → StepsFirst finish l work false old new before waiting after → (l ≡ []) × Leaves work work new before waiting after
 found_none [] work old new before waiting units after s is = (
   refl,
@@ -197,11 +209,11 @@ finish_goes_on : (request : ℕ) (work : Work) → work.goes_on ≡ true → (fi
 unfolding finish
 finish_goes_on request work on = on
 
-abbrev pub FinishesOne : Bool → SessionState → SessionState → Output → Output → UnitStates → UnitStates → Type 0
+abbrev pub FinishesOne : Bool → SessionState → SessionState → Output → Output → TargetUnits → TargetUnits → Type 0
 FinishesOne more old new before waiting units after = (work : Work) → Starts work old units
     → StepsFirst finish (ready work.past) work more old new before waiting after
 
-pub settled_more : (turns : ℕ) (more : Bool) (old now next : SessionState) (before waiting items : Output) (units middle after : UnitStates)
+pub settled_more : (turns : ℕ) (more : Bool) (old now next : SessionState) (before waiting items : Output) (units middle after : TargetUnits)
     → Ran Doing ready finish queue_count queued_in queue_fits turns old now before waiting units middle
     → FinishesOne more now next waiting items middle after → more ≡ true → queue_count next < queue_count now
     → Ran Doing ready finish queue_count queued_in queue_fits (suc turns) old next before items units after
@@ -219,7 +231,7 @@ settles_all : (fails : Step → Bool) (place : ℕ) (work : Work)
 unfolding all_of settled
 settles_all fails place work = refl
 
-pub all_settled : (turns : ℕ) (more : Bool) (old now next : SessionState) (before waiting items : Output) (units middle after : UnitStates)
+pub all_settled : (turns : ℕ) (more : Bool) (old now next : SessionState) (before waiting items : Output) (units middle after : TargetUnits)
     → Ran Doing ready finish queue_count queued_in queue_fits turns old now before waiting units middle
     → FinishesOne more now next waiting items middle after → more ≡ false → Runs settled None true old next before items units after
 all_settled turns more old now next before waiting items units middle after ran steps is =
@@ -231,7 +243,7 @@ all_settled turns more old now next before waiting items units middle after ran 
       leaves = λ work s. (found_none (ready work.past) work now next waiting items middle after s (one work s)).1;
     }))
 
-pub settling_stops : (turns : ℕ) (old now : SessionState) (before waiting : Output) (units after : UnitStates)
+pub settling_stops : (turns : ℕ) (old now : SessionState) (before waiting : Output) (units after : TargetUnits)
     → Ran Doing ready finish queue_count queued_in queue_fits turns old now before waiting units after → is_waiting now ≡ false
     → Runs settled (Some (λ place. Doing place turns)) false old now before waiting units after
 settling_stops turns old now before waiting units after ran more =
@@ -242,12 +254,13 @@ settling_stops turns old now before waiting units after ran more =
       some = λ work s. some_queued now more;
     }))
 
-pub settle_stops : (turns : ℕ) (old now next : SessionState) (before waiting items : Output) (units middle after : UnitStates) (Sound : Type 0)
-    → next ≡ now → items ≡ waiting → after ≡ middle → (Sound → Runs settled (Some (λ place. Doing place turns)) false old now before waiting units middle)
-    → Stops is_doing (λ failed. Sound → Runs settled failed false old next before items units after)
-settle_stops turns old now next before waiting items units middle after Sound same is also runs = record {
+pub settle_stops : (turns : ℕ) (old now next : SessionState) (before waiting items : Output) (units middle after : UnitStates)
+    → next ≡ now → items ≡ waiting → after ≡ middle
+    → CameAs (λ given left. Runs settled (Some (λ place. Doing place turns)) false old now before waiting given left) units middle
+    → Stops is_doing (λ failed. CameAs (λ given left. Runs settled failed false old next before items given left) units after)
+settle_stops turns old now next before waiting items units middle after same is also runs = record {
   step = λ place. Doing place turns;
   of_frame = λ place. doing_kind.of place turns;
   of_kind = λ place. refl;
-  leads = λ sound. rw (same, is, also) (runs sound);
+  leads = rw (same, is, also) runs;
 }

@@ -116,7 +116,7 @@ judge_extends frame work =
 act_extends : (k : ℕ) (work : Work) → Extends work (act k work)
 unfolding act
 act_extends k work =
-    let luns = numbers_of work.units in
+    let luns = numbers_of work.units.states in
     let kept = acted_same luns k work.past in
     record { params = kept.0; more = act_answers luns k work.past; answers = kept.1 }
 

@@ -2,7 +2,8 @@
 use Rattle.std.proofs.Common.{◌≡◌, ℕ, List, [], ◌∷◌, ◌++◌, Bool, true, false, Option, Some, None, refl, sym, ap, ◌∙◌, subst, append-nil}
 use Rattle.std.specs.Prelude.{flat_map, is_some}
 use Rattle.std.proofs.lemmas.Bool.{eq-eqb}
-use Rattle.scsi_unit.specs.Units.{UnitStates, numbers_of}
+use Rattle.scsi_unit.specs.Units.{numbers_of}
+use Rattle.iscsi_session.specs.Comings.{TargetUnits}
 use Rattle.iscsi_pdu.specs.Frames.{Frame}
 use Rattle.iscsi_pdu.specs.Answer.{spelling}
 use Rattle.iscsi_session.specs.Requests.{Past}
@@ -28,7 +29,7 @@ tells_nothing : (fails : Step → Bool) (place : ℕ) (work : Work) → work.goe
 unfolding tell_due
 tells_nothing fails place work off = first_stopped fails (Answering place) tell (drained_functions work.past) work off
 
-pub served_ended : (frame : Frame) (failed : Option (ℕ → Step)) (old new : SessionState) (before waiting : Output) (units : UnitStates)
+pub served_ended : (frame : Frame) (failed : Option (ℕ → Step)) (old new : SessionState) (before waiting : Output) (units : TargetUnits)
     → Runs (λ fails place. asked_in fails place frame) failed false old new before waiting units units
     → Runs (λ fails place. served fails place frame) failed false old new before waiting units units
 unfolding served
@@ -45,9 +46,9 @@ served_ended frame failed old new before waiting units r =
     }
 
 pub stops_served : (luns : List ℕ) (frame : Frame) (old new : SessionState) (before waiting : Output)
-    → Stops is_serving (λ failed. (units : UnitStates) → luns ≡ numbers_of units
+    → Stops is_serving (λ failed. (units : TargetUnits) → luns ≡ numbers_of units.states
     → Runs (λ fails place. asked_in fails place frame) failed false old new before waiting units units)
-    → Stops is_serving (λ failed. (units : UnitStates) → luns ≡ numbers_of units
+    → Stops is_serving (λ failed. (units : TargetUnits) → luns ≡ numbers_of units.states
     → Runs (λ fails place. served fails place frame) failed false old new before waiting units units)
 stops_served luns frame old new before waiting stops = record {
   step = stops.step;
@@ -62,24 +63,24 @@ tells_goes_on : (k : ℕ) (work : Work) → (tell k work).goes_on ≡ work.goes_
 unfolding tell
 tells_goes_on k work = refl
 
-tell_leaves : (k : ℕ) (work : Work) (new : SessionState) (before waiting : Output) (units : UnitStates) → Stands (answered_by (k ∷ []) work.past) new
+tell_leaves : (k : ℕ) (work : Work) (new : SessionState) (before waiting : Output) (units : TargetUnits) → Stands (answered_by (k ∷ []) work.past) new
     → waiting.bytes ≡ before.bytes ++ flat_map spelling (told_answers work.past k) → waiting.orders ≡ before.orders → work.units ≡ units
     → Leaves work (tell k (reaches (Answering 0) work)) new before waiting units
 unfolding tell
 tell_leaves k work new before waiting units s out orders same =
     leaves_answering work (tell k (reaches (Answering 0) work)) new before waiting units (told_answers work.past k) s refl refl out orders refl same
 
-tell_reaching : (k place : ℕ) (work : Work) (new : SessionState) (before waiting : Output) (units : UnitStates)
+tell_reaching : (k place : ℕ) (work : Work) (new : SessionState) (before waiting : Output) (units : TargetUnits)
     → Leaves work (tell k (reaches (Answering 0) work)) new before waiting units → Leaves work (tell k (reaches (Answering place) work)) new before waiting units
 unfolding tell
 tell_reaching k place work new before waiting units l =
     leaves_as work (tell k (reaches (Answering 0) work)) work (tell k (reaches (Answering place) work)) new before waiting units refl refl refl refl refl l
 
-abbrev Told : (Step → Bool) → ℕ → List ℕ → Work → SessionState → Output → Output → UnitStates → Type 0
+abbrev Told : (Step → Bool) → ℕ → List ℕ → Work → SessionState → Output → Output → TargetUnits → Type 0
 Told fails place l work new before waiting units =
     (v : Work) × (first_steps fails (Answering place) tell l work ≡ v) × (v.goes_on ≡ true) × Leaves work v new before waiting units
 
-told_leaves : (l : List ℕ) (fails : Step → Bool) (place : ℕ) (work : Work) (new : SessionState) (before waiting : Output) (units : UnitStates)
+told_leaves : (l : List ℕ) (fails : Step → Bool) (place : ℕ) (work : Work) (new : SessionState) (before waiting : Output) (units : TargetUnits)
     → fails (Answering place) ≡ false → work.goes_on ≡ true → work.units ≡ units → Stands (answered_by l work.past) new
     → waiting.bytes ≡ before.bytes ++ flat_map spelling (told_by l work.past) → waiting.orders ≡ before.orders
     → Told fails place l work new before waiting units
@@ -92,14 +93,14 @@ told_leaves (k ∷ others) fails place work new before waiting units un on same 
   tell_reaching k place work new before waiting units (tell_leaves k work new before waiting units s out orders same),
 )
 
-told_here : (fails : Step → Bool) (place : ℕ) (work : Work) (old new : SessionState) (before waiting : Output) (units : UnitStates)
+told_here : (fails : Step → Bool) (place : ℕ) (work : Work) (old new : SessionState) (before waiting : Output) (units : TargetUnits)
     → fails (Answering place) ≡ false → Starts work old units → Tells old new before waiting → Told fails place (drained_functions work.past) work new before waiting units
 told_here fails place work old new before waiting units un s asks =
     let st = stands_of work old units s in
     told_leaves (drained_functions work.past) fails place work new before waiting units un s.goes_on s.units (asks.stands work.past st) (asks.out work.past st)
     asks.orders
 
-pub served_on : (frame : Frame) (old middle new : SessionState) (before waiting items : Output) (units : UnitStates)
+pub served_on : (frame : Frame) (old middle new : SessionState) (before waiting items : Output) (units : TargetUnits)
     → Runs (λ fails place. asked_in fails place frame) None true old middle before waiting units units → Tells middle new waiting items
     → Runs (λ fails place. served fails place frame) None true old new before items units units
 unfolding served tell_due
@@ -133,12 +134,12 @@ no_failure : Step → Bool
 no_failure step = false
 
 record StopsAt (place : ℕ) (fails : Step → Bool) (frame : Frame) (work : Work) (middle : SessionState) (before waiting : Output)
-    (units : UnitStates) : Type 0 where
+    (units : TargetUnits) : Type 0 where
   pub taken : Work
   pub leaves : Leaves work taken middle before waiting units
   pub is : served fails place frame work ≡ record (reaches (Answering place) taken) { goes_on = false }
 
-stops_at : (frame : Frame) (old middle : SessionState) (before waiting : Output) (units : UnitStates)
+stops_at : (frame : Frame) (old middle : SessionState) (before waiting : Output) (units : TargetUnits)
     → Runs (λ fails place. asked_in fails place frame) None true old middle before waiting units units
     → is_some (telling_place middle.transfers.drains) ≡ true → (place : ℕ) (fails : Step → Bool) (work : Work)
     → FailsAs (Some (λ place. Answering place)) place fails → Starts work old units → StopsAt place fails frame work middle before waiting units
@@ -159,7 +160,7 @@ stops_at frame old middle before waiting units r due place fails work told s =
       is = ap (tell_due fails place) same ∙ stopped_before (drained_functions t.past) fails place found.0 found.1 t found.2 on fail;
     }
 
-pub served_stops : (frame : Frame) (old middle : SessionState) (before waiting : Output) (units : UnitStates)
+pub served_stops : (frame : Frame) (old middle : SessionState) (before waiting : Output) (units : TargetUnits)
     → Runs (λ fails place. asked_in fails place frame) None true old middle before waiting units units
     → is_some (telling_place middle.transfers.drains) ≡ true
     → Runs (λ fails place. served fails place frame) (Some (λ place. Answering place)) false old middle before waiting units units
@@ -176,9 +177,9 @@ served_stops frame old middle before waiting units r due = record {
 }
 
 pub telling_stops : (luns : List ℕ) (frame : Frame) (old middle new : SessionState) (before waiting items : Output) → new ≡ middle → items ≡ waiting
-    → ((units : UnitStates) → luns ≡ numbers_of units → Runs (λ fails place. asked_in fails place frame) None true old middle before waiting units units)
+    → ((units : TargetUnits) → luns ≡ numbers_of units.states → Runs (λ fails place. asked_in fails place frame) None true old middle before waiting units units)
     → is_some (telling_place middle.transfers.drains) ≡ true
-    → Stops is_serving (λ failed. (units : UnitStates) → luns ≡ numbers_of units
+    → Stops is_serving (λ failed. (units : TargetUnits) → luns ≡ numbers_of units.states
     → Runs (λ fails place. served fails place frame) failed false old new before items units units)
 telling_stops luns frame old middle new before waiting items same is r due = record {
   step = λ place. Answering place;

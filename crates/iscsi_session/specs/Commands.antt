@@ -7,12 +7,13 @@ use Rattle.scsi_sense.specs.declared.condition.Condition.TheVariants.{InvalidFie
 use Rattle.iscsi_pdu.specs.Header.{additional_length, lun_field}
 use Rattle.iscsi_pdu.specs.ScsiCommand.{is_read, is_write, cdb}
 use Rattle.iscsi_pdu.specs.Frames.{Frame}
-use Rattle.scsi_unit.specs.Units.{UnitStates, perform}
+use Rattle.scsi_unit.specs.CameOut.{CameOut}
+use Rattle.scsi_unit.specs.Units.{UnitStates, come_out}
 
--- The units after a command with all its data, and what its initiator is told. A command with an additional header, or
--- with both R and W, is answered 05/2400 in place of being done (own).
-unfoldable pub carried_out : UnitStates → NexusName → Frame → List ℕ → UnitStates × Outcome
-carried_out units nexus frame payload =
+-- The units after a command with all its data, by how it came out, and what its initiator is told. A command with an
+-- additional header, or with both R and W, is answered 05/2400 in place of being done (own).
+unfoldable pub carried_out : CameOut → UnitStates → NexusName → Frame → List ℕ → UnitStates × Outcome
+carried_out came units nexus frame payload =
     if nat_lt 0 (additional_length frame.header) || is_read frame.header && is_write frame.header
     then (units, check_condition (plain_sense InvalidFieldInCdb))
-    else perform units nexus (lun_field frame.header) (cdb frame.header) payload
+    else come_out came units nexus (lun_field frame.header) (cdb frame.header) payload

@@ -18,6 +18,7 @@ pub mod Judging
 pub mod Texts
 pub mod Acts
 pub mod Answers
+pub mod Comings
 pub mod Commands
 pub mod Steps
 pub mod Room

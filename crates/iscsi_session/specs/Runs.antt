@@ -1,13 +1,13 @@
 -- What a call of a session comes to: its steps, all done, or done up to one that failed.
 use Rattle.std.specs.Prelude.{◌≡◌, ℕ, List, [], ◌∷◌, ◌++◌, flat_map, Bool, true, false, Option, Some, None, ⊤}
-use Rattle.scsi_unit.specs.Units.{UnitStates}
+use Rattle.iscsi_session.specs.Comings.{TargetUnits}
 use Rattle.iscsi_pdu.specs.Answer.{spelling}
 use Rattle.iscsi_pdu.specs.declared.answer.Answer.{Answer}
 use Rattle.iscsi_session.specs.State.{SessionState, IsLawful, remembered}
 use Rattle.iscsi_session.specs.Steps.{Step, is_step, is_of, Work}
 
 -- the code stands where this work does, and its session goes on
-pub record Starts (work : Work) (state : SessionState) (target : UnitStates) : Type 0 where
+pub record Starts (work : Work) (state : SessionState) (target : TargetUnits) : Type 0 where
   pub lawful : IsLawful work.past
   pub remembered : state ≡ remembered work.past
   pub units : work.units ≡ target
@@ -22,7 +22,7 @@ abbrev pub output : List ℕ → List (List ℕ) → Output
 output bytes orders = record { bytes = bytes; orders = orders }
 
 -- of what it began with: the code stands where this work does, and what it was answered and ordered more waits behind what did
-pub record Leaves (given work : Work) (state : SessionState) (before waiting : Output) (target : UnitStates) : Type 0 where
+pub record Leaves (given work : Work) (state : SessionState) (before waiting : Output) (target : TargetUnits) : Type 0 where
   pub lawful : IsLawful work.past
   pub remembered : state ≡ remembered work.past
   pub units : work.units ≡ target
@@ -54,7 +54,7 @@ IsReached (Some failed) place work = (before : List Step) × (work.reached ≡ b
 
 -- Wherever the code stood, it stands where these steps lead; the session goes on, or not.
 pub record Runs (run : (Step → Bool) → ℕ → Work → Work) (failed : Option (ℕ → Step)) (goes_on : Bool) (old new : SessionState) (before waiting : Output)
-    (units after : UnitStates) : Type 0 where
+    (units after : TargetUnits) : Type 0 where
   pub leads : (place : ℕ) (fails : Step → Bool) (work : Work) → FailsAs failed place fails → Starts work old units
       → Leaves work (run fails place work) new before waiting after
   pub ends : (place : ℕ) (fails : Step → Bool) (work : Work) → FailsAs failed place fails → Starts work old units → (run fails place work).goes_on ≡ goes_on
@@ -72,6 +72,6 @@ pub record Stops (is_kind : Step → Bool) (Leads : Option (ℕ → Step) → Ty
 -- ---- one step
 
 -- the first of a line took a step, where there is one
-abbrev pub StepsFirst : (ℕ → Work → Work) → List ℕ → Work → Bool → SessionState → SessionState → Output → Output → UnitStates → Type 0
+abbrev pub StepsFirst : (ℕ → Work → Work) → List ℕ → Work → Bool → SessionState → SessionState → Output → Output → TargetUnits → Type 0
 StepsFirst does [] work more old new before waiting after = (more ≡ false) × (new ≡ old) × (waiting ≡ before) × (after ≡ work.units)
 StepsFirst does (k ∷ others) work more old new before waiting after = (more ≡ true) × Leaves work (does k work) new before waiting after

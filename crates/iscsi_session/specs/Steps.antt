@@ -1,7 +1,8 @@
 -- The steps of a session that a frame sets off, done on the session and on its target's units.
-use Rattle.std.specs.Prelude.{ℕ, zero, suc, ◌+◌, ◌*◌, List, [], ◌∷◌, ◌++◌, length, Bool, true, false, ◌&&◌, not, ◌==◌, if◌then◌else◌}
+use Rattle.std.specs.Prelude.{ℕ, zero, suc, ◌+◌, ◌*◌, List, [], ◌∷◌, ◌++◌, length, drop, Bool, true, false, ◌&&◌, not, ◌==◌, if◌then◌else◌}
 use Rattle.scsi_sense.specs.Done.{Outcome}
-use Rattle.scsi_unit.specs.Units.{UnitStates, numbers_of}
+use Rattle.scsi_unit.specs.Units.{numbers_of}
+use Rattle.iscsi_session.specs.Comings.{TargetUnits, lend, next_coming}
 use Rattle.iscsi_pdu.specs.Frames.{Frame}
 use Rattle.iscsi_session.specs.Requests.{Past, frame_of, held, due, queue, finished, stamp, answering}
 use Rattle.iscsi_session.specs.Transfers.{payload_of, is_whole_of, asking, asked}
@@ -70,7 +71,7 @@ is_serving step = not (is_doing step)
 -- a session and its target's units, while steps are done
 pub record Work : Type 0 where
   pub past : Past
-  pub units : UnitStates
+  pub units : TargetUnits
   -- no violation, no Logout that closes, no failed allocation so far
   pub goes_on : Bool
   -- the steps that were reached, in order
@@ -78,7 +79,7 @@ pub record Work : Type 0 where
   -- the headers of the Task Management Function Requests that acted, in order
   pub orders : List (List ℕ)
 
-abbrev pub begun_work : Past → UnitStates → Work
+abbrev pub begun_work : Past → TargetUnits → Work
 begun_work past units = record { past = past; units = units; goes_on = true; reached = []; orders = [] }
 
 abbrev pub reaches : Step → Work → Work
@@ -100,7 +101,7 @@ judge frame work = record work { past = judged (verdict work.past frame) frame w
 -- a request acts: a Logout that closes ends the session
 unfoldable pub act : ℕ → Work → Work
 act k work = record work {
-  past = acted (numbers_of work.units) k work.past;
+  past = acted (numbers_of work.units.states) k work.past;
   goes_on = not (ends work.past.params (frame_of work.past.came k));
   orders = work.orders ++ ordered k work.past;
 }
@@ -119,8 +120,9 @@ answered_command done k past = answering (command_answers (stamp (finished k pas
 
 unfoldable pub finish : ℕ → Work → Work
 finish k work =
-    let p = carried_out work.units work.past.params.nexus (frame_of work.past.came k) (payload_of work.past k) in
-    record work { past = answered_command p.1 k work.past; units = p.0 }
+    let came = next_coming work.past.params.target work.units.comings in
+    let p = carried_out came work.units.states work.past.params.nexus (frame_of work.past.came k) (payload_of work.past k) in
+    record work { past = answered_command p.1 k work.past; units = lend p.0 (drop 1 work.units.comings) }
 
 -- ---- one after the other
 

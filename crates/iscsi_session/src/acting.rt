@@ -1,7 +1,8 @@
 //! The requests that are taken act.
 
 ghost use Rattle.std.specs.Prelude.{◌≡◌, ◌≤◌, ◌<◌, ◌++◌, ◌∷◌, ℕ, List, [], None, Some, length, flat_map, true, false, if◌then◌else◌, IfOk, OnOk, OnErr};
-ghost use Rattle.scsi_unit.specs.Units.{UnitStates, numbers_of};
+ghost use Rattle.scsi_unit.specs.Units.{numbers_of};
+ghost use Rattle.iscsi_session.specs.Comings.{TargetUnits};
 ghost use Rattle.iscsi_pdu.specs.Answer.{spelling};
 ghost use Rattle.iscsi_pdu.specs.Frames as pdu;
 ghost use Rattle.iscsi_session.specs.Requests.{Past, is_command, is_function as is_function_in, frame_of, due, stamp, answering};
@@ -45,9 +46,9 @@ impl Session {
         out: &mut BytesMut,
         orders: &mut Vec<Header>,
     ) -> Result<bool, Memory>
-        ensures ok { IfOk result (λ goes_on. (units : UnitStates) → luns.now ≡ numbers_of units → Runs act_all None goes_on self.old self.new
+        ensures ok { IfOk result (λ goes_on. (units : TargetUnits) → luns.now ≡ numbers_of units.states → Runs act_all None goes_on self.old self.new
             (output out.old.items orders.old.items) (output out.new.items orders.new.items) units units) }
-        ensures err { OnErr result ((turn : ℕ) × ((units : UnitStates) → luns.now ≡ numbers_of units
+        ensures err { OnErr result ((turn : ℕ) × ((units : TargetUnits) → luns.now ≡ numbers_of units.states
             → Runs act_all (Some (λ place. Taking place turn)) false self.old self.new
             (output out.old.items orders.old.items) (output out.new.items orders.new.items) units units)) }
         ensures idle { IfOk result (λ goes_on. goes_on ≡ true → self.new.tasks.due ≡ []) }

@@ -1,13 +1,15 @@
 //! A frame of a session, and the commands that were taken.
 
 ghost use Rattle.std.specs.Prelude.{◌≡◌, ◌<◌, ◌≤◌, ◌++◌, ℕ, List, [], None, length, flat_map, is_some, true, false, IfOk, OnOk, OnErr};
+ghost use Rattle.scsi_unit.specs.CameOut.{CameOut, AsDefined};
 ghost use Rattle.scsi_unit.specs.DiskCommands.{most_given};
-ghost use Rattle.scsi_unit.specs.Units.{UnitStates, numbers_of, AreSound, AreSure};
+ghost use Rattle.scsi_unit.specs.Units.{numbers_of, AreSound, AreSure};
 ghost use Rattle.iscsi_login.specs.Values.{AreInRange};
 ghost use Rattle.iscsi_pdu.specs.Answer.{spelling};
 ghost use Rattle.iscsi_session.specs.Requests.{Past};
 ghost use Rattle.iscsi_session.specs.Transfers.{asking, asked_by, r2ts_by};
 ghost use Rattle.iscsi_session.specs.State.{Stands, asking_place, is_waiting};
+ghost use Rattle.iscsi_session.specs.Comings.{TargetUnits, CameAs};
 ghost use Rattle.iscsi_session.specs.Commands.{carried_out};
 ghost use Rattle.iscsi_session.specs.Steps.{Work, is_doing, is_serving, ready, finish, taken_in, asked_in, served, settled};
 ghost use Rattle.iscsi_session.specs.Weight.{IsAtRest, Eases};
@@ -37,7 +39,8 @@ fn carry_out<S: Store>(
     frame: &Frame,
     payload: &[u8],
 ) -> Result<Done, Memory>
-    ensures done { IfOk result (λ done. AreSound units.new → (units.new, done) ≡ carried_out units.old nexus.now frame.now payload.now) }
+    ensures came { IfOk result (λ done. (came : CameOut) × ((units.new, done) ≡ carried_out came units.old nexus.now frame.now payload.now)
+        × (AreSound units.new → came ≡ AsDefined)) }
     ensures back { AreSound units.new → AreSound units.old }
     ensures sure { AreSure units.old → AreSure units.new }
     ensures given { IfOk result (λ done. length done.given ≤ most_given) }
@@ -67,10 +70,10 @@ impl Session {
         orders: &mut Vec<Header>,
     ) -> Result<bool, Memory>
         requires { AreInRange self.old.params.values }
-        ensures ok { IfOk result (λ goes_on. (units : UnitStates) → luns.now ≡ numbers_of units
+        ensures ok { IfOk result (λ goes_on. (units : TargetUnits) → luns.now ≡ numbers_of units.states
             → Runs (λ fails place. served fails place frame) None goes_on self.old self.new
             (output out.old.items orders.old.items) (output out.new.items orders.new.items) units units) }
-        ensures err { OnErr result (Stops is_serving (λ failed. (units : UnitStates) → luns.now ≡ numbers_of units
+        ensures err { OnErr result (Stops is_serving (λ failed. (units : TargetUnits) → luns.now ≡ numbers_of units.states
             → Runs (λ fails place. served fails place frame) failed false self.old self.new
             (output out.old.items orders.old.items) (output out.new.items orders.new.items) units units)) }
         ensures grows { (more : List ℕ) × (out.new.items ≡ out.old.items ++ more) }
@@ -94,10 +97,10 @@ impl Session {
         orders: &mut Vec<Header>,
     ) -> Result<bool, Memory>
         requires { AreInRange self.old.params.values }
-        ensures ok { IfOk result (λ goes_on. (units : UnitStates) → luns.now ≡ numbers_of units
+        ensures ok { IfOk result (λ goes_on. (units : TargetUnits) → luns.now ≡ numbers_of units.states
             → Runs (λ fails place. asked_in fails place frame) None goes_on self.old self.new
             (output out.old.items orders.old.items) (output out.new.items orders.new.items) units units) }
-        ensures err { OnErr result (Stops is_serving (λ failed. (units : UnitStates) → luns.now ≡ numbers_of units
+        ensures err { OnErr result (Stops is_serving (λ failed. (units : TargetUnits) → luns.now ≡ numbers_of units.states
             → Runs (λ fails place. asked_in fails place frame) failed false self.old self.new
             (output out.old.items orders.old.items) (output out.new.items orders.new.items) units units)) }
         ensures grows { (more : List ℕ) × (out.new.items ≡ out.old.items ++ more) }
@@ -121,10 +124,10 @@ impl Session {
         orders: &mut Vec<Header>,
     ) -> Result<bool, Memory>
         requires { AreInRange self.old.params.values }
-        ensures ok { IfOk result (λ goes_on. (units : UnitStates) → luns.now ≡ numbers_of units
+        ensures ok { IfOk result (λ goes_on. (units : TargetUnits) → luns.now ≡ numbers_of units.states
             → Runs (λ fails place. taken_in fails place frame) None goes_on self.old self.new
             (output out.old.items orders.old.items) (output out.new.items orders.new.items) units units) }
-        ensures err { OnErr result (Stops is_serving (λ failed. (units : UnitStates) → luns.now ≡ numbers_of units
+        ensures err { OnErr result (Stops is_serving (λ failed. (units : TargetUnits) → luns.now ≡ numbers_of units.states
             → Runs (λ fails place. taken_in fails place frame) failed false self.old self.new
             (output out.old.items orders.old.items) (output out.new.items orders.new.items) units units)) }
         ensures grows { (more : List ℕ) × (out.new.items ≡ out.old.items ++ more) }
@@ -159,7 +162,7 @@ impl Session {
     }
 
     /// The commands that were taken are done on the target's units and answered, one after the other, up to
-    /// the first whose data has not all come. Where
+    /// the first whose data has not all come: of any units, by how each command came out. Where
     /// an allocation fails the session is to be closed: the steps before it were done and answered whole.
     pub fn settle<S: Store>(
         &mut self,
@@ -168,10 +171,10 @@ impl Session {
         units: &mut Units<S>,
     ) -> Result<(), Memory>
         requires { AreInRange self.old.params.values }
-        ensures ok { OnOk result (AreSound units.new → Runs settled None true self.old self.new
-            (output out.old.items []) (output out.new.items []) units.old units.new) }
-        ensures err { OnErr result (Stops is_doing (λ failed. AreSound units.new
-            → Runs settled failed false self.old self.new (output out.old.items []) (output out.new.items []) units.old units.new)) }
+        ensures ok { OnOk result (CameAs (λ given after. Runs settled None true self.old self.new
+            (output out.old.items []) (output out.new.items []) given after) units.old units.new) }
+        ensures err { OnErr result (Stops is_doing (λ failed. CameAs (λ given after. Runs settled failed false self.old self.new
+            (output out.old.items []) (output out.new.items []) given after) units.old units.new)) }
         ensures back { AreSound units.new → AreSound units.old }
         ensures sure { AreSure units.old → AreSure units.new }
         ensures grows { (more : List ℕ) × (out.new.items ≡ out.old.items ++ more) }
@@ -192,8 +195,9 @@ impl Session {
         units: &mut Units<S>,
     ) -> Result<bool, Memory>
         requires { AreInRange self.old.params.values }
-        ensures steps { IfOk result (λ more. AreSound units.new → (work : Work) → Starts work self.old units.old
-            → StepsFirst finish (ready work.past) work more self.old self.new (output out.old.items []) (output out.new.items []) units.new) }
+        ensures steps { IfOk result (λ more. CameAs (λ given after. (work : Work) → Starts work self.old given
+            → StepsFirst finish (ready work.past) work more self.old self.new (output out.old.items []) (output out.new.items []) after)
+            units.old units.new) }
         ensures fewer { IfOk result (λ more. more ≡ true → length self.new.tasks.queue < length self.old.tasks.queue) }
         ensures back { AreSound units.new → AreSound units.old }
         ensures sure { AreSure units.old → AreSure units.new }

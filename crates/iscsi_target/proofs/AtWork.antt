@@ -9,6 +9,7 @@ use Rattle.scsi_unit.specs.Units.{UnitStates}
 use Rattle.iscsi_session.specs.Requests.{Past}
 use Rattle.iscsi_session.specs.State.{SessionState, IsLawful, remembered}
 use Rattle.iscsi_session.specs.Steps.{Step, Judging, Taking, Asking, Answering, Doing, is_of, is_doing, is_serving, Work, served, settled}
+use Rattle.iscsi_session.specs.Comings.{TargetUnits, CameAs, AreAhead, ArePlain, lend}
 use Rattle.iscsi_session.specs.Runs.{output, Starts, is_failed, IsReached, Runs}
 use Rattle.iscsi_session.proofs.Steps.{served_agrees, settled_agrees}
 use Rattle.iscsi_login.specs.Session.{is_same_target}
@@ -16,12 +17,14 @@ use Rattle.iscsi_target.specs.History.{Point, Before, Mark, is_same, connection_
 use Rattle.iscsi_target.specs.World.{Setting, World, present, past_of, is_marked, fails, work_of, changed, close, worked_on, worked, served_by, take_in, settled_by, settle_one, units_at, with_units, orders_by, orders_in}
 use Rattle.iscsi_target.specs.Machine.{Machine, IsSound, link_at, with_link}
 use Rattle.iscsi_target.specs.Stands.{IsQuiet, IsQuietIn, are_reached}
-use Rattle.iscsi_target.specs.Serving.{Serves, Begins, Agrees, Does, kept, is_taken_at, is_done_by, SettlesOne}
+use Rattle.iscsi_target.specs.Stands.{Begins}
+use Rattle.iscsi_target.specs.Serving.{Serves, Agrees, Does, kept, is_taken_at, is_done_by, SettlesOne}
 use Rattle.iscsi_target.specs.declared.phase.Phase.TheVariants as phases
 use Rattle.iscsi_target.proofs.Choices.{cond_true, eqb_self}
 use Rattle.iscsi_target.proofs.Linked.{units_with}
 use Rattle.iscsi_target.proofs.Working.{IsAtWork, at_work, past_at, session_link, left_by, serves_worked}
 use Rattle.iscsi_target.proofs.Marks.{mark_at, same_self, marked_as, marked_none}
+use Rattle.iscsi_target.proofs.Comings.{comings_worked}
 use Rattle.iscsi_target.proofs.Keeping.{on-close}
 use Rattle.iscsi_target.proofs.Doing.{Act, still_reached}
 
@@ -94,7 +97,8 @@ pub record Calls (run : (Step → Bool) → ℕ → Work → Work) (failed : Opt
   pub units_then : UnitStates
   pub phase : (link_at given c).phase ≡ phases.FullFeature state
   pub target : units_at state.params.target given.units ≡ units
-  pub runs : IsSound after → Runs run failed goes_on state then_ (output (link_at given c).waiting []) (output waiting orders) units units_then
+  pub runs : CameAs (λ a b. Runs run failed goes_on state then_ (output (link_at given c).waiting []) (output waiting orders) a b) units units_then
+  pub plain : IsSound after → ArePlain runs.came
   pub is : after ≡ left_by goes_on c (record (with_link given c (session_link then_ waiting (link_at given c)))
       { units = with_units state.params.target units_then given.units })
 
@@ -109,13 +113,13 @@ lawful_there s sent half w machine c past lt h a =
 
 pub starts : (s : Setting) (sent : ℕ → ℕ) (half : ℕ → List ℕ) (w : World) (machine : Machine) (c : ℕ) (past : Past) (state : SessionState)
     (units : UnitStates) → c < connection_limit → Serves s sent half w machine → IsAtWork w c past
-    → state ≡ remembered past → units_at state.params.target machine.units ≡ units → Starts (work_of past w) state units
+    → state ≡ remembered past → units_at state.params.target machine.units ≡ units → Starts (work_of past w) state (lend units w.comings)
 starts s sent half w machine c past state units lt h a is target = record {
   lawful = lawful_there s sent half w machine c past lt h a;
   remembered = is;
-  units =
-      ap (λ (all : List UnitStates). units_at past.params.target all) (sym (ap (λ (m : Machine). m.units) h.is ∙ units_with s sent half w))
-      ∙ ap (λ (p : Params). units_at p.target machine.units) (sym (ap (λ (x : SessionState). x.params) is ∙ params_same past)) ∙ target;
+  units = ap (λ (us : UnitStates). lend us w.comings)
+      (ap (λ (all : List UnitStates). units_at past.params.target all) (sym (ap (λ (m : Machine). m.units) h.is ∙ units_with s sent half w))
+      ∙ ap (λ (p : Params). units_at p.target machine.units) (sym (ap (λ (x : SessionState). x.params) is ∙ params_same past)) ∙ target);
   goes_on = refl;
 }
 
@@ -131,22 +135,29 @@ call_does kind act run failed goes_on c given after k acts agrees of_kind = reco
   failed = marks_of c failed;
   first = begins_if failed c;
   of_kind = of_kind;
-  stands = λ sound s sent half w place marks agree h.
+  came = k.runs.came;
+  plain = k.plain;
+  stands = λ s sent half w place marks agree ahead h.
       (let there = at_work s sent half w given c k.state k.in_range h k.phase in
       let past = there.0 in
       let begin = starts s sent half w given c past k.state k.units k.in_range h there.1 there.2 k.target in
       let work = run (is_failed failed place) place (work_of past w) in
-      let r = k.runs sound in
+      let r = k.runs.leads w.comings ahead in
+      let left_ = drop (length k.runs.came) w.comings in
       let leaves = r.leads place (is_failed failed place) (work_of past w) (λ step of. refl) begin in
       let ends = r.ends place (is_failed failed place) (work_of past w) (λ step of. refl) begin in
       let reached = r.reached place (is_failed failed place) (work_of past w) (λ step of. refl) begin in
       let params : past.params ≡ k.state.params = sym (ap (λ (x : SessionState). x.params) there.2 ∙ params_same past) in
       let is : act s marks place w ≡ worked c work w =
       acts s marks place w past (past_at w c past there.1) params ∙ ap (λ (x : Work). worked c x w) (agrees place marks (work_of past w) agree) in
-      let serves = serves_worked s sent half w given c past work k.then_ k.waiting k.orders k.units_then goes_on k.in_range h there.1 leaves ends in
+      let serves = serves_worked s sent half w given c past work k.then_ k.waiting k.orders k.units_then left_ goes_on k.in_range h there.1 leaves ends in
       let same = k.is ∙ ap (λ (p : Params). left_by goes_on c (record (with_link given c (session_link k.then_ k.waiting (link_at given c)))
       { units = with_units p.target k.units_then given.units })) (sym params) in
-      rw (is, same) (serves, reached_by goes_on failed c place work w ends reached));
+      rw (is, same) (
+        serves,
+        reached_by goes_on failed c place work w ends reached,
+        comings_worked c work w ∙ ap (λ (u : TargetUnits). u.comings) leaves.units,
+      ));
 }
 
 -- ---- the two calls
@@ -198,14 +209,14 @@ serves_does failed goes_on c frame given after k of_kind =
 -- the functions that acted in it
 pub served_orders : (s : Setting) (sent : ℕ → ℕ) (half : ℕ → List ℕ) (w : World) (given middle : Machine) (c : ℕ) (frame : Frame)
     (failed : Option (ℕ → Step)) (goes_on : Bool) (place : ℕ) (marks : List Mark)
-    → (k : Calls (λ f place. served f place frame) failed goes_on c given middle) → IsSound middle
+    → (k : Calls (λ f place. served f place frame) failed goes_on c given middle) → AreAhead k.runs.came w.comings
     → Agrees (is_taken_at place) marks (marks_of c failed place) → Serves s sent half w given → orders_in marks c place frame w ≡ k.orders
 unfolding orders_in
-served_orders s sent half w given middle c frame failed goes_on place marks k sound agree h =
+served_orders s sent half w given middle c frame failed goes_on place marks k ahead agree h =
     let there = at_work s sent half w given c k.state k.in_range h k.phase in
     let past = there.0 in
     let begin = starts s sent half w given c past k.state k.units k.in_range h there.1 there.2 k.target in
-    let leaves = (k.runs sound).leads place (is_failed failed place) (work_of past w) (λ step of. refl) begin in
+    let leaves = (k.runs.leads w.comings ahead).leads place (is_failed failed place) (work_of past w) (λ step of. refl) begin in
     ap (λ (o : Option Past). orders_by o marks c place frame w) (past_at w c past there.1)
     ∙ ap (λ (x : Work). x.orders) (serve_agrees failed c frame place marks (work_of past w) agree)
     ∙ leaves.acted ∙ sym leaves.ordered

@@ -9,6 +9,8 @@ use Rattle.iscsi_pdu.specs.Header.{lun_field}
 use Rattle.iscsi_login.specs.Session.{is_same_target}
 use Rattle.iscsi_login.specs.Directory.{KnownTargets}
 use Rattle.scsi_unit.specs.Units.{UnitStates}
+use Rattle.iscsi_session.specs.Comings.{Coming, TargetUnits, lend}
+use Rattle.iscsi_session.proofs.Came.{came_none}
 use Rattle.iscsi_session.specs.Requests.{Past, removing}
 use Rattle.iscsi_session.specs.State.{SessionState, Stands, remembered}
 use Rattle.iscsi_session.specs.Steps.{Work}
@@ -26,6 +28,7 @@ use Rattle.iscsi_target.proofs.Lists.{range_next}
 use Rattle.iscsi_target.proofs.Lives.{present-lives}
 use Rattle.iscsi_target.proofs.Linked.{link_is, serves_world, units_with}
 use Rattle.iscsi_target.proofs.Keeping.{Goes, on-lose_one, on-reset, on-carry_out}
+use Rattle.iscsi_target.proofs.Comings.{comings_reset}
 use Rattle.iscsi_target.proofs.Doing.{does_nothing, does_as, does_on, does_then}
 use Rattle.iscsi_target.proofs.AtWork.{call_does}
 use Rattle.iscsi_target.proofs.Held.{viewed, IsOther, not_same, target_is, session_calls, called, called_at}
@@ -35,16 +38,18 @@ use Rattle.iscsi_target.proofs.Sound.{reset_sound, reset_sure, reset_units}
 -- ---- one session loses commands
 
 -- where its call left it
-pub losing_leaves : (header : List ℕ) (work : Work) (state then_ : SessionState) (waiting : List ℕ) (units units_then : UnitStates) → Starts work state units
+pub losing_leaves : (header : List ℕ) (work : Work) (state then_ : SessionState) (waiting : List ℕ) (units units_then : UnitStates) (comings : List Coming)
+    → Starts work state (lend units comings)
     → Stands (removing (lost header units work.past) work.past) then_ → units_then ≡ told_loss header work.past units
-    → Leaves work (losing header work) then_ (output waiting []) (output waiting []) units_then
-losing_leaves header work state then_ waiting units units_then begin stands told =
+    → Leaves work (losing header work) then_ (output waiting []) (output waiting []) (lend units_then comings)
+losing_leaves header work state then_ waiting units units_then comings begin stands told =
     let now : Stands (losing header work).past then_ =
-    subst (λ (us : UnitStates). Stands (removing (lost header us work.past) work.past) then_) (sym begin.units) stands in
+    subst (λ (us : TargetUnits). Stands (removing (lost header us.states work.past) work.past) then_) (sym begin.units) stands in
     record {
       lawful = now.lawful;
       remembered = now.remembered;
-      units = ap (told_loss header work.past) begin.units ∙ sym told;
+      units = ap (λ (us : TargetUnits). lend (told_loss header work.past us.states) us.comings) begin.units
+          ∙ ap (λ (us : UnitStates). lend us comings) (sym told);
       params = refl;
       more = [];
       answers = sym (append-nil work.past.answers);
@@ -57,11 +62,12 @@ losing_leaves header work state then_ waiting units units_then begin stands told
 pub losing_runs : (header : List ℕ) (state then_ : SessionState) (waiting : List ℕ) (units units_then : UnitStates)
     → ((past : Past) → Stands past state → Stands (removing (lost header units past) past) then_)
     → ((past : Past) → Stands past state → units_then ≡ told_loss header past units)
-    → Runs (λ fails place work. losing header work) None true state then_ (output waiting []) (output waiting []) units units_then
-losing_runs header state then_ waiting units units_then stands told = record {
+    → (comings : List Coming)
+    → Runs (λ fails place work. losing header work) None true state then_ (output waiting []) (output waiting []) (lend units comings) (lend units_then comings)
+losing_runs header state then_ waiting units units_then stands told comings = record {
   leads = λ place fails work agree begin.
       (let s : Stands work.past state = record { lawful = begin.lawful; remembered = begin.remembered } in
-      losing_leaves header work state then_ waiting units units_then begin (stands work.past s) (told work.past s));
+      losing_leaves header work state then_ waiting units units_then comings begin (stands work.past s) (told work.past s));
   ends = λ place fails work agree begin. begin.goes_on;
   reached = λ place fails work agree begin. tt;
 }
@@ -74,7 +80,8 @@ own_same header target c d w e = cond_true (eqb d c) w (lost_by (past_of (presen
 
 pub loses_own : (machine : Machine) (header : List ℕ) (target c d : ℕ) → d ≡ c → CarriesOut (λ w. lose_one header target c w d) machine machine
 loses_own machine header target c d e = does_nothing is_of_none (λ s marks place w. lose_one header target c w d) kept machine machine
-    (λ sound s sent half w place marks agree h. serves_world s sent half w _ machine (own_same header target c d w e) h)
+    (λ s sent half w place marks agree h.
+    (serves_world s sent half w _ machine (own_same header target c d w e) h, ap (λ (v : World). v.comings) (own_same header target c d w e)))
 
 other_in : (directory : KnownTargets) (header : List ℕ) (target d : ℕ) (w : World) (life : Life) (phase : Phase)
     → IsOther target (phase_for directory life phase) → lost_by (past_in phase) header target d w ≡ w
@@ -106,7 +113,8 @@ other_same s sent half w machine header target c d lt h other =
 pub loses_none : (machine : Machine) (header : List ℕ) (target c d : ℕ) → d < connection_limit → IsOther target (link_at machine d).phase
     → CarriesOut (λ w. lose_one header target c w d) machine machine
 loses_none machine header target c d lt other = does_nothing is_of_none (λ s marks place w. lose_one header target c w d) kept machine machine
-    (λ sound s sent half w place marks agree h. serves_world s sent half w _ machine (other_same s sent half w machine header target c d lt h other) h)
+    (λ s sent half w place marks agree h. (let same = other_same s sent half w machine header target c d lt h other in
+    (serves_world s sent half w _ machine same h, ap (λ (v : World). v.comings) same)))
 
 -- ---- another session of the target
 
@@ -122,14 +130,15 @@ lose_acts header target c d w past other at same =
 pub loses_does : (header : List ℕ) (target c d : ℕ) (machine after : Machine) (framer : List ℕ) (phase : CodePhase) (waiting : List ℕ)
     (state then_ : SessionState) (units units_then : UnitStates) → d < connection_limit → eqb d c ≡ false → viewed framer phase waiting ≡ link_at machine d
     → phase ≡ phases.FullFeature state → state.params.target ≡ Some target → units_at state.params.target machine.units ≡ units
-    → Runs (λ fails place work. losing header work) None true state then_ (output waiting []) (output waiting []) units units_then
+    → ((comings : List Coming) → Runs (λ fails place work. losing header work) None true state then_ (output waiting []) (output waiting [])
+    (lend units comings) (lend units_then comings))
     → after ≡ called machine d (Some target) units_then (viewed framer (phases.FullFeature then_) waiting)
     → CarriesOut (λ w. lose_one header target c w d) machine after
 unfolding session_calls
 loses_does header target c d machine after framer phase waiting state then_ units units_then lt other link is same at runs e =
     call_does is_of_none (λ s marks place w. lose_one header target c w d) (λ fails place work. losing header work) None true d machine after
     (session_calls (λ fails place work. losing header work) None true d machine after framer phase waiting waiting [] state then_ units units_then lt link is at
-    (λ sound. runs) (e ∙ called_at machine d (Some target) state.params.target units_then (viewed framer (phases.FullFeature then_) waiting) (sym same)))
+    (came_none _ units units_then runs) (λ sound. tt) (e ∙ called_at machine d (Some target) state.params.target units_then (viewed framer (phases.FullFeature then_) waiting) (sym same)))
     (λ s marks place w past there params. lose_acts header target c d w past other there (ap (λ p. p.target) params ∙ same))
     (λ place marks work agree. refl) (λ place. refl)
 
@@ -149,7 +158,7 @@ pub carried_on : (f : World → World) (a b given after : Machine) → a ≡ giv
 carried_on f a b given after e u d = does_on is_of_none (λ s marks place w. f w) kept None a b given after e u d
 
 pub carried_none : (machine : Machine) → CarriesOut (λ w. w) machine machine
-carried_none machine = does_nothing is_of_none (λ s marks place w. w) kept machine machine (λ sound s sent half w place marks agree h. h)
+carried_none machine = does_nothing is_of_none (λ s marks place w. w) kept machine machine (λ s sent half w place marks agree h. (h, refl))
 
 -- the sessions of the connections below one
 abbrev pub lost_below : List ℕ → ℕ → ℕ → ℕ → World → World
@@ -194,7 +203,7 @@ reset_serves s sent half w machine header target h =
 
 pub reset_does : (machine : Machine) (header : List ℕ) (target : ℕ) → CarriesOut (reset header target) machine (reset_machine header target machine)
 reset_does machine header target = does_nothing is_of_none (λ s marks place w. reset header target w) kept machine (reset_machine header target machine)
-    (λ sound s sent half w place marks agree h. reset_serves s sent half w machine header target h)
+    (λ s sent half w place marks agree h. (reset_serves s sent half w machine header target h, comings_reset header target w))
 
 pub reset_moves : (b : ℕ) (machine : Machine) (header : List ℕ) (target : ℕ) → Moves b None machine (reset_machine header target machine)
 reset_moves b machine header target = record {

@@ -1,12 +1,16 @@
 -- Calls one after the other: what each of them does, and what they do together.
-use Rattle.std.proofs.Common.{◌≡◌, ℕ, List, [], ◌∷◌, ◌++◌, Bool, true, ◌||◌, Option, Some, None, refl, sym, ap, ◌∙◌, subst}
+use Rattle.std.proofs.Common.{◌≡◌, ℕ, List, [], ◌∷◌, ◌++◌, length, Bool, true, ◌||◌, Option, Some, None, refl, sym, ap, ◌∙◌, subst}
+use Rattle.std.specs.Prelude.{drop}
 use Rattle.std.specs.List.{list_any, list_all}
 use Rattle.std.proofs.lemmas.List.Folds.{list_any-append}
+use Rattle.iscsi_session.specs.Comings.{AreAhead}
+use Rattle.iscsi_session.proofs.Came.{ahead_of, ahead_behind, left_behind, plain_both}
 use Rattle.iscsi_target.specs.History.{Mark, is_same}
 use Rattle.iscsi_target.specs.World.{Setting, World}
 use Rattle.iscsi_target.specs.Machine.{Machine, IsSound}
 use Rattle.iscsi_target.specs.Stands.{are_reached}
-use Rattle.iscsi_target.specs.Serving.{Serves, Begins, Agrees, Does, first_of}
+use Rattle.iscsi_target.specs.Stands.{Begins}
+use Rattle.iscsi_target.specs.Serving.{Serves, Agrees, Does, first_of}
 use Rattle.iscsi_target.proofs.Choices.{and_true}
 use Rattle.iscsi_target.proofs.Marks.{Apart, Wider, agrees_left, agrees_right, all_wider, all_append}
 use Rattle.iscsi_target.proofs.Keeping.{Goes}
@@ -40,16 +44,19 @@ still_reached marks w v goes h =
 
 -- ---- one call
 
--- nothing failed
+-- nothing failed, and no command was done
 pub does_nothing : (kind : ℕ → Mark → Bool) (act : Act) (halves : Halves) (given after : Machine)
-    → ((sound : IsSound after) (s : Setting) (sent : ℕ → ℕ) (half : ℕ → List ℕ) (w : World) (place : ℕ) (marks : List Mark)
-    → Agrees (kind place) marks [] → Serves s sent half w given → Serves s sent (halves half) (act s marks place w) after)
+    → ((s : Setting) (sent : ℕ → ℕ) (half : ℕ → List ℕ) (w : World) (place : ℕ) (marks : List Mark)
+    → Agrees (kind place) marks [] → Serves s sent half w given
+    → Serves s sent (halves half) (act s marks place w) after × ((act s marks place w).comings ≡ w.comings))
     → Does kind act halves None given after
 does_nothing kind act halves given after stands = record {
   failed = λ place. [];
   first = λ place. refl;
   of_kind = λ place. refl;
-  stands = λ sound s sent half w place marks agree h. (stands sound s sent half w place marks agree h, refl);
+  came = [];
+  plain = λ sound. tt;
+  stands = λ s sent half w place marks agree ahead h. (let at = stands s sent half w place marks agree h in (at.0, refl, at.1));
 }
 
 -- the same under another name
@@ -61,7 +68,10 @@ does_as kind act other halves starved given after same d = record {
   failed = d.failed;
   first = d.first;
   of_kind = d.of_kind;
-  stands = λ sound s sent half w place marks agree h. rw (same s sent half w place marks h) (d.stands sound s sent half w place marks agree h);
+  came = d.came;
+  plain = d.plain;
+  stands = λ s sent half w place marks agree ahead h.
+      rw (same s sent half w place marks h) (d.stands s sent half w place marks agree ahead h);
 }
 
 pub does_on : (kind : ℕ → Mark → Bool) (act : Act) (halves : Halves) (starved : Option ℕ) (a b given after : Machine) → a ≡ given → b ≡ after
@@ -89,16 +99,20 @@ does_then one two both act_one act_two halves_one halves_two a b given middle af
   of_kind = λ place. all_append (both place) (first.failed place) (second.failed place)
       (all_wider (one place) (both place) (first.failed place) (wide_one place) (first.of_kind place))
       (all_wider (two place) (both place) (second.failed place) (wide_two place) (second.of_kind place));
-  stands = λ sound s sent half w place marks agree h.
+  came = first.came ++ second.came;
+  plain = λ sound. plain_both first.came second.came (first.plain (back sound)) (second.plain sound);
+  stands = λ s sent half w place marks agree ahead h.
       (let left = agrees_left (one place) (two place) (both place) marks (first.failed place) (second.failed place) (one_two place) (wide_one place)
       (second.of_kind place) agree in
       let right = agrees_right (one place) (two place) (both place) marks (first.failed place) (second.failed place) (two_one place)
       (wide_two place) (first.of_kind place) agree in
       let v = act_one s marks place w in
-      let at_first = first.stands (back sound) s sent half w place marks left h in
-      let at_second = second.stands sound s sent (halves_one half) v place marks right at_first.0 in (
+      let at_first = first.stands s sent half w place marks left (ahead_of first.came second.came w.comings ahead) h in
+      let then_ : AreAhead second.came v.comings = subst (AreAhead second.came) (sym at_first.2) (ahead_behind first.came second.came w.comings ahead) in
+      let at_second = second.stands s sent (halves_one half) v place marks right then_ at_first.0 in (
         at_second.0,
         all_append (λ m. list_any (is_same m) (act_two s marks place v).reached) (first.failed place) (second.failed place)
             (still_reached (first.failed place) v (act_two s marks place v) (goes s marks place v) at_first.1) at_second.1,
+        at_second.2 ∙ ap (drop (length second.came)) at_first.2 ∙ left_behind first.came second.came w.comings,
       ));
 }

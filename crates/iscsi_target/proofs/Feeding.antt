@@ -9,12 +9,15 @@ use Rattle.iscsi_pdu.specs.Frames.{rest, is_long}
 use Rattle.iscsi_pdu.proofs.Cuts.{rest_in_pieces}
 use Rattle.scsi_unit.specs.Units.{UnitStates, AreSound}
 use Rattle.iscsi_login.specs.Directory.{KnownTargets}
-use Rattle.iscsi_target.specs.History.{Bytes, Arriving, AtEnd, Point, Mark, History, Arrival, arrivals, new_arrivals, plain, marked, connection_limit}
+use Rattle.iscsi_session.specs.Comings.{Coming, AreAhead, ArePlain}
+use Rattle.iscsi_session.proofs.Came.{plain_ahead, ahead_self}
+use Rattle.iscsi_target.specs.History.{Bytes, Arriving, AtEnd, Point, Mark, History, Arrival, arrivals, new_arrivals, happening, plain, marked, connection_limit}
 use Rattle.iscsi_target.specs.Life.{Life, Phase, LoggingIn, FullFeature, Closing, Over, reads}
-use Rattle.iscsi_target.specs.World.{Setting, World, present, changed, reads_life, is_marked, close, reaching, take_step, arrive, brought, longer, bring, world}
+use Rattle.iscsi_target.specs.World.{Setting, World, present, changed, reads_life, is_marked, close, reaching, take_step, arrive, brought, longer, bring, begun_event, world}
 use Rattle.iscsi_target.specs.Machine.{LinkState, Machine, IsSound, WhereSound, Feeds, link_at, with_link, closed, is_reading, is_open_at, free_link}
-use Rattle.iscsi_target.specs.Stands.{phase_for, link_of, half_of, IsShort, IsStarved, StandsAt, Stands, are_reached}
-use Rattle.iscsi_target.specs.Serving.{Serves, first_starved, Begins, with_half, is_among, TakesAll}
+use Rattle.iscsi_target.specs.Stands.{phase_for, link_of, half_of, IsShort, IsStarved, StandsAt, Stands, StandsAfter, are_reached}
+use Rattle.iscsi_target.specs.Stands.{Begins}
+use Rattle.iscsi_target.specs.Serving.{Serves, first_starved, with_half, is_among, TakesAll}
 use Rattle.iscsi_target.specs.declared.fault.Starved.{Starved}
 use Rattle.iscsi_target.proofs.Arrivals.{new_is}
 use Rattle.iscsi_target.proofs.Moving.{own_self, changes_feeds}
@@ -23,7 +26,8 @@ use Rattle.iscsi_target.proofs.Lives.{present-changed, present-changed_other, pr
 use Rattle.iscsi_target.proofs.Marks.{mark_at, marked_one, marked_none, unmarked}
 use Rattle.iscsi_target.proofs.Keeping.{Goes, Stays, on-close, on-reaching, on-fold, on-arrive, on-then, on-same, out-longer}
 use Rattle.iscsi_target.proofs.Linked.{reads_there, some_reads, closes, present-close, serves_as, serves_reaching, present-reaching}
-use Rattle.iscsi_target.proofs.Standing.{fresh, present-fresh, stands_as, machine_same, serving, link_stands, is_open_there, count_stands}
+use Rattle.iscsi_target.proofs.Comings.{comings_changed}
+use Rattle.iscsi_target.proofs.Standing.{fresh, present-begun, present-fresh, stands_as, machine_same, serving, link_stands, is_open_there, count_stands}
 use Rattle.iscsi_target.proofs.Frames.{idle_step, unmarked_step, marked_step}
 use Rattle.iscsi_target.proofs.Doing.{still_reached}
 use Rattle.iscsi_target.proofs.AtWork.{last_there}
@@ -37,43 +41,47 @@ phase_longer directory life piece (FullFeature session) = refl
 phase_longer directory life piece Closing = refl
 phase_longer directory life piece Over = refl
 
-abbrev pub piece_came : ℕ → List ℕ → World → World
-piece_came c piece w = changed (longer piece) c (fresh w)
+abbrev pub piece_came : List Coming → ℕ → List ℕ → World → World
+piece_came comings c piece w = changed (longer piece) c (begun_event comings w)
 
-units_came : (c : ℕ) (piece : List ℕ) (w : World) → (piece_came c piece w).units ≡ w.units
+units_came : (comings : List Coming) (c : ℕ) (piece : List ℕ) (w : World) → (piece_came comings c piece w).units ≡ w.units
 unfolding changed
-units_came c piece w = refl
+units_came comings c piece w = refl
 
-pub came_here : (c : ℕ) (piece : List ℕ) (w : World) (life : Life) → present c w ≡ Some life → present c (piece_came c piece w) ≡ Some (longer piece life)
-came_here c piece w life at = present-changed (longer piece) c (fresh w) life (present-fresh c w ∙ at) (present_is c w life at)
+pub came_here : (comings : List Coming) (c : ℕ) (piece : List ℕ) (w : World) (life : Life) → present c w ≡ Some life
+    → present c (piece_came comings c piece w) ≡ Some (longer piece life)
+came_here comings c piece w life at =
+    present-changed (longer piece) c (begun_event comings w) life (present-begun comings c w ∙ at) (present_is c w life at)
 
-pub came_other : (c d : ℕ) (piece : List ℕ) (w : World) → d ≢ c → present d (piece_came c piece w) ≡ present d w
-came_other c d piece w differ = present-changed_other (longer piece) c d (fresh w) (λ l. refl) differ ∙ present-fresh d w
+pub came_other : (comings : List Coming) (c d : ℕ) (piece : List ℕ) (w : World) → d ≢ c → present d (piece_came comings c piece w) ≡ present d w
+came_other comings c d piece w differ =
+    present-changed_other (longer piece) c d (begun_event comings w) (λ l. refl) differ ∙ present-begun comings d w
 
 link_longer : (directory : KnownTargets) (sent : ℕ) (half : List ℕ) (life : Life) (piece : List ℕ)
     → link_of directory sent half (Some (longer piece life)) ≡ link_of directory sent half (Some life)
 link_longer directory sent half life piece = rw (phase_longer directory life piece life.phase, out-longer life piece) refl
 
 -- the World with the longer bytes is served as the one before
-pub longer_serves : (s : Setting) (sent : ℕ → ℕ) (half : ℕ → List ℕ) (w : World) (machine : Machine) (c : ℕ) (piece : List ℕ) (life : Life)
+pub longer_serves : (s : Setting) (sent : ℕ → ℕ) (half : ℕ → List ℕ) (w : World) (machine : Machine) (comings : List Coming) (c : ℕ)
+    (piece : List ℕ) (life : Life)
     → c < connection_limit → present c w ≡ Some life → Serves s sent half w machine
-    → Serves s sent half (piece_came c piece w) machine
-longer_serves s sent half w machine c piece life lt at h =
-    let v = piece_came c piece w in
-    let here = came_here c piece w life at in
+    → Serves s sent half (piece_came comings c piece w) machine
+longer_serves s sent half w machine comings c piece life lt at h =
+    let v = piece_came comings c piece w in
+    let here = came_here comings c piece w life at in
     record {
-      is = h.is ∙ sym (machine_same s sent sent half half w v (units_came c piece w) (λ d below. elim (eqb_tells d c) [
+      is = h.is ∙ sym (machine_same s sent sent half half w v (units_came comings c piece w) (λ d below. elim (eqb_tells d c) [
         | inl same ↦ rw same.1 (ap (link_of s.directory (sent c) (half c)) here ∙ link_longer s.directory (sent c) (half c) life piece
             ∙ ap (link_of s.directory (sent c) (half c)) (sym at))
-        | inr differ ↦ ap (link_of s.directory (sent d) (half d)) (came_other c d piece w differ.1)
+        | inr differ ↦ ap (link_of s.directory (sent d) (half d)) (came_other comings c d piece w differ.1)
       ]));
       answered = λ d below. elim (eqb_tells d c) [
         | inl same ↦ rw same.1 (rw (here, out-longer life piece) (let le = h.answered c lt in rw at at le))
-        | inr differ ↦ rw (came_other c d piece w differ.1) (h.answered d below)
+        | inr differ ↦ rw (came_other comings c d piece w differ.1) (h.answered d below)
       ];
       quiet = λ d below. elim (eqb_tells d c) [
         | inl same ↦ rw same.1 (rw here (let q = h.quiet c lt in rw at at q))
-        | inr differ ↦ rw (came_other c d piece w differ.1) (h.quiet d below)
+        | inr differ ↦ rw (came_other comings c d piece w differ.1) (h.quiet d below)
       ];
     }
 
@@ -105,15 +113,15 @@ here_short bytes left_ x None e r s short = tt
 here_short bytes left_ x (Some y) e r s short = λ reads_y. ap is_long (ap rest (s.0 ∙ e) ∙ r) ∙ short reads_y
 
 -- where the World that the arrivals made of the longer one is served, it is stood at
-pub stands_again : (s : Setting) (sent : ℕ → ℕ) (w v : World) (machine now : Machine) (c : ℕ) (piece left_ : List ℕ) (life : Life)
+pub stands_again : (s : Setting) (sent : ℕ → ℕ) (w v : World) (machine now : Machine) (comings : List Coming) (c : ℕ) (piece left_ : List ℕ) (life : Life)
     → c < connection_limit → StandsAt s sent w machine → present c w ≡ Some life
-    → Goes (piece_came c piece w) v → rest (life.bytes ++ piece) ≡ left_ → (reads_life (present c v) ≡ true → is_long left_ ≡ false)
+    → Goes (piece_came comings c piece w) v → rest (life.bytes ++ piece) ≡ left_ → (reads_life (present c v) ≡ true → is_long left_ ≡ false)
     → Serves s sent (with_half c left_ (λ d. half_of (present d w))) v now → StandsAt s sent v now
-stands_again s sent w v machine now c piece left_ life lt h at goes r short serves =
-    let here : Stays (Some (longer piece life)) (present c v) = subst (λ (o : Option Life). Stays o (present c v)) (came_here c piece w life at)
+stands_again s sent w v machine now comings c piece left_ life lt h at goes r short serves =
+    let here : Stays (Some (longer piece life)) (present c v) = subst (λ (o : Option Life). Stays o (present c v)) (came_here comings c piece w life at)
     (goes.stays c) in
     let other : (d : ℕ) → d ≢ c → Stays (present d w) (present d v) = λ d differ. subst (λ (o : Option Life). Stays o (present d v))
-    (came_other c d piece w differ) (goes.stays d) in
+    (came_other comings c d piece w differ) (goes.stays d) in
     record {
       is = serves.is ∙ sym (machine_same s sent sent (with_half c left_ (λ d. half_of (present d w))) (λ d. half_of (present d v)) v v refl
           (λ d below. elim (eqb_tells d c) [
@@ -169,26 +177,27 @@ pub record Fed (s : Setting) (sent : ℕ → ℕ) (w : World) (machine first : M
   pub is : first ≡ with_link machine c (record (link_at machine c) { half = (link_at machine c).half ++ piece })
 
 -- what the event makes of both
-pub record Came (s : Setting) (sent : ℕ → ℕ) (w : World) (c : ℕ) (piece : List ℕ) (starved : Option ℕ) (now : Machine) : Type 0 where
+pub record Came (s : Setting) (sent : ℕ → ℕ) (w : World) (comings : List Coming) (c : ℕ) (piece : List ℕ) (starved : Option ℕ) (now : Machine) : Type 0 where
   pub marks : List Mark
   pub first : Begins starved marks
-  pub reached : are_reached marks (bring s marks c piece (fresh w)) ≡ true
-  pub stands : StandsAt s sent (bring s marks c piece (fresh w)) now
+  pub reached : are_reached marks (bring s marks c piece (begun_event comings w)) ≡ true
+  pub stands : StandsAt s sent (bring s marks c piece (begun_event comings w)) now
 
-brings : (s : Setting) (marks : List Mark) (c : ℕ) (piece : List ℕ) (w : World) (life : Life) → present c w ≡ Some life → is_long (rest life.bytes) ≡ false
-    → bring s marks c piece (fresh w) ≡ take_step marks c AtEnd (λ u. u)
-    (fold (arrive s marks c) (piece_came c piece w) (enumerate_from (length (arrivals life.bytes)) (arrivals (rest life.bytes ++ piece))))
+brings : (s : Setting) (marks : List Mark) (comings : List Coming) (c : ℕ) (piece : List ℕ) (w : World) (life : Life) → present c w ≡ Some life → is_long (rest life.bytes) ≡ false
+    → bring s marks c piece (begun_event comings w) ≡ take_step marks c AtEnd (λ u. u)
+    (fold (arrive s marks c) (piece_came comings c piece w) (enumerate_from (length (arrivals life.bytes)) (arrivals (rest life.bytes ++ piece))))
 unfolding bring
-brings s marks c piece w life at short =
-    ap (λ (l : List (ℕ × Arrival)). take_step marks c AtEnd (λ u. u) (fold (arrive s marks c) (piece_came c piece w) l))
-    (ap (λ (o : Option Life). brought o piece) (present-fresh c w ∙ at) ∙ new_is life.bytes piece short)
+brings s marks comings c piece w life at short =
+    ap (λ (l : List (ℕ × Arrival)). take_step marks c AtEnd (λ u. u) (fold (arrive s marks c) (piece_came comings c piece w) l))
+    (ap (λ (o : Option Life). brought o piece) (present-begun comings c w ∙ at) ∙ new_is life.bytes piece short)
 
 short_there : (o : Option Life) (life : Life) → o ≡ Some life → IsShort o → reads life.phase ≡ true → is_long (rest life.bytes) ≡ false
 short_there o life e h r = (subst IsShort e h) r
 
-pub comes : (s : Setting) (sent : ℕ → ℕ) (w : World) (machine first now : Machine) (c : ℕ) (piece : List ℕ) (starved : Option ℕ)
-    → Fed s sent w machine first c piece → TakesAll c starved first now → IsSound now → Came s sent w c piece starved now
-comes s sent w machine first now c piece starved f takes sound =
+pub comes : (s : Setting) (sent : ℕ → ℕ) (w : World) (machine first now : Machine) (comings : List Coming) (c : ℕ) (piece : List ℕ) (starved : Option ℕ)
+    → Fed s sent w machine first c piece → (takes : TakesAll c starved first now) → AreAhead takes.takes.came comings
+    → Came s sent w comings c piece starved now
+comes s sent w machine first now comings c piece starved f takes ahead =
     let half : ℕ → List ℕ = λ d. half_of (present d w) in
     let serves = serving s sent w machine f.stands in
     let there = some_reads (present c w) (sym (reads_there s sent half w machine c f.in_range serves) ∙ f.reads_so) in
@@ -205,17 +214,18 @@ comes s sent w machine first now c piece starved f takes sound =
     let marks = takes.takes.failed n in
     let bytes = (link_at machine c).half ++ piece in
     let serves_first = serves_as s sent (with_half c bytes half) w _ first f.is (rehalved s sent half w machine c bytes f.in_range f.reads_so serves) in
-    let v0 = piece_came c piece w in
-    let serves_came = longer_serves s sent (with_half c bytes half) w first c piece life f.in_range there.1 serves_first in
-    let at = takes.takes.stands sound s sent (with_half c bytes half) v0 n marks (λ mark is. refl) serves_came in
+    let v0 = piece_came comings c piece w in
+    let serves_came = longer_serves s sent (with_half c bytes half) w first comings c piece life f.in_range there.1 serves_first in
+    let at = takes.takes.stands s sent (with_half c bytes half) v0 n marks (λ mark is. refl)
+    (subst (AreAhead takes.takes.came) (sym (comings_changed (longer piece) c (begun_event comings w))) ahead) serves_came in
     let left_ = rest (link_at first c).half in
     let v = fold (arrive s marks c) v0 (enumerate_from n (arrivals (link_at first c).half)) in
     let serves_v = serves_halves s sent (with_half c left_ (with_half c bytes half)) (with_half c left_ half) v now (half_twice c bytes left_ half) at.0 in
     let free : is_marked marks c AtEnd ≡ false = unmarked (is_among (length (arrivals (link_at first c).half)) n) marks (mark_at c AtEnd)
     (takes.takes.of_kind n) refl in
     let e = ended_by (reads_life (present c v)) s sent (with_half c left_ half) marks c v now refl free serves_v in
-    let whole : bring s marks c piece (fresh w) ≡ e.last =
-    brings s marks c piece w life there.1 short ∙ ap (λ (b : List ℕ). take_step marks c AtEnd (λ u. u)
+    let whole : bring s marks c piece (begun_event comings w) ≡ e.last =
+    brings s marks comings c piece w life there.1 short ∙ ap (λ (b : List ℕ). take_step marks c AtEnd (λ u. u)
     (fold (arrive s marks c) v0 (enumerate_from n (arrivals b)))) (sym new_half) ∙ e.is in
     let goes = on-then v0 v e.last (on-fold (arrive s marks c) v0 (enumerate_from n (arrivals (link_at first c).half)) (on-arrive s marks c)) e.goes in
     let behind : rest (life.bytes ++ piece) ≡ left_ = rest_in_pieces life.bytes piece ∙ ap rest (sym new_half) in
@@ -223,7 +233,7 @@ comes s sent w machine first now c piece starved f takes sound =
       marks = marks;
       first = takes.takes.first n;
       reached = ap (are_reached marks) whole ∙ still_reached marks v e.last e.goes at.1;
-      stands = rw whole (stands_again s sent w e.last machine now c piece left_ life f.in_range f.stands there.1 goes behind
+      stands = rw whole (stands_again s sent w e.last machine now comings c piece left_ life f.in_range f.stands there.1 goes behind
           (λ r. takes.short (reads_there s sent (with_half c left_ half) v now c f.in_range serves_v ∙ sym e.reads_same ∙ r)) e.serves);
     }
 
@@ -250,7 +260,7 @@ starves_by s c n v0 life (arrival ∷ all) at r =
 
 pub comes_starved : (s : Setting) (sent : ℕ → ℕ) (w : World) (machine now : Machine) (c : ℕ) (piece : List ℕ) → c < connection_limit
     → StandsAt s sent w machine → is_reading (link_at machine c).phase ≡ true → now ≡ closed machine c
-    → Came s sent w c piece (Some c) now
+    → Came s sent w [] c piece (Some c) now
 comes_starved s sent w machine now c piece lt stands r is =
     let half : ℕ → List ℕ = λ d. half_of (present d w) in
     let serves = serving s sent w machine stands in
@@ -261,22 +271,22 @@ comes_starved s sent w machine now c piece lt stands r is =
     let all = arrivals (rest life.bytes ++ piece) in
     let point = first_point n all in
     let marks = mark_at c point ∷ [] in
-    let v0 = piece_came c piece w in
+    let v0 = piece_came [] c piece w in
     let v = reaching c (point ∷ []) v0 in
-    let at_v : present c v ≡ Some (longer piece life) = present-reaching c c (point ∷ []) v0 ∙ came_here c piece w life there.1 in
-    let serves_v = serves_reaching s sent half v0 machine c (point ∷ []) (longer_serves s sent half w machine c piece life lt there.1 serves) in
+    let at_v : present c v ≡ Some (longer piece life) = present-reaching c c (point ∷ []) v0 ∙ came_here [] c piece w life there.1 in
+    let serves_v = serves_reaching s sent half v0 machine c (point ∷ []) (longer_serves s sent half w machine [] c piece life lt there.1 serves) in
     let shut_ : reads_life (present c (close c v)) ≡ false = ap reads_life (present-close c v (longer piece life) at_v) in
     let left_ = rest (life.bytes ++ piece) in
     let last = halves_idle s sent half (close c v) now c left_ shut_ (serves_as s sent half (close c v) (closed machine c) now is
     (closes s sent half v machine c (longer piece life) lt serves_v at_v)) in
-    let whole : bring s marks c piece (fresh w) ≡ close c v = brings s marks c piece w life there.1 short
-    ∙ starves_by s c n v0 (longer piece life) all (came_here c piece w life there.1) there.2 in
+    let whole : bring s marks c piece (fresh w) ≡ close c v = brings s marks [] c piece w life there.1 short
+    ∙ starves_by s c n v0 (longer piece life) all (came_here [] c piece w life there.1) there.2 in
     record {
       marks = marks;
       first = refl;
       reached = ap (are_reached marks) whole ∙ still_reached marks v (close c v) (on-close c v)
           (ap (λ (b : Bool). b && true) (last_there (mark_at c point) v0.reached []));
-      stands = rw whole (stands_again s sent w (close c v) machine now c piece left_ life lt stands there.1
+      stands = rw whole (stands_again s sent w (close c v) machine now [] c piece left_ life lt stands there.1
           (on-then v0 v (close c v) (on-reaching c (point ∷ []) v0) (on-close c v)) refl
           (λ e. absurd (cc (e, shut_))) last);
     }
@@ -291,16 +301,16 @@ comes_idle s sent w machine c piece lt stands open_ r =
     let half : ℕ → List ℕ = λ d. half_of (present d w) in
     let there = is_open_there s sent w machine c lt stands open_ in
     let life = there.0 in
-    let v0 = piece_came c piece w in
-    let here = came_here c piece w life there.1 in
+    let v0 = piece_came [] c piece w in
+    let here = came_here [] c piece w life there.1 in
     let serves = serving s sent w machine stands in
     let idle_ : reads life.phase ≡ false = ap reads_life (sym there.1) ∙ sym (reads_there s sent half w machine c lt serves) ∙ r in
     let idle0 : reads_life (present c v0) ≡ false = ap reads_life here ∙ idle_ in
     let left_ = rest (life.bytes ++ piece) in
     let whole : take_step [] c AtEnd (λ u. u) (fold (arrive s [] c) v0 (brought (present c (fresh w)) piece)) ≡ v0 =
     ap (take_step [] c AtEnd (λ u. u)) (idle_all s [] c v0 (brought (present c (fresh w)) piece) idle0) ∙ idle_step [] c AtEnd (λ u. u) v0 idle0 in
-    rw whole (stands_again s sent w v0 machine machine c piece left_ life lt stands there.1 (on-same v0) refl (λ e. absurd (cc (e, idle0)))
-    (halves_idle s sent half v0 machine c left_ idle0 (longer_serves s sent half w machine c piece life lt there.1 serves)))
+    rw whole (stands_again s sent w v0 machine machine [] c piece left_ life lt stands there.1 (on-same v0) refl (λ e. absurd (cc (e, idle0)))
+    (halves_idle s sent half v0 machine c left_ idle0 (longer_serves s sent half w machine [] c piece life lt there.1 serves)))
 
 nothing_new : (bytes : List ℕ) → new_arrivals bytes [] ≡ []
 unfolding new_arrivals
@@ -315,8 +325,8 @@ comes_empty s sent w machine c lt stands open_ =
     let half : ℕ → List ℕ = λ d. half_of (present d w) in
     let there = is_open_there s sent w machine c lt stands open_ in
     let life = there.0 in
-    let v0 = piece_came c [] w in
-    let serves = longer_serves s sent half w machine c [] life lt there.1 (serving s sent w machine stands) in
+    let v0 = piece_came [] c [] w in
+    let serves = longer_serves s sent half w machine [] c [] life lt there.1 (serving s sent w machine stands) in
     let none : brought (present c (fresh w)) [] ≡ [] = ap (λ (o : Option Life). brought o []) (present-fresh c w ∙ there.1) ∙ nothing_new life.bytes in
     let e = ended_by (reads_life (present c v0)) s sent half [] c v0 machine refl (marked_none c AtEnd) serves in
     let whole : take_step [] c AtEnd (λ u. u) (fold (arrive s [] c) v0 (brought (present c (fresh w)) [])) ≡ e.last =
@@ -326,8 +336,8 @@ comes_empty s sent w machine c lt stands open_ =
       | inl same ↦ ap half same.1 ∙ ap half_of there.1 ∙ sym (ap (with_half c left_ half) same.1 ∙ cond_true (eqb c c) left_ (half c) (eqb_self c))
       | inr differ ↦ sym (cond_false (eqb d c) left_ (half d) differ.0)
     ] in
-    let same_reads : reads_life (present c v0) ≡ reads life.phase = ap reads_life (came_here c [] w life there.1) in
-    rw whole (stands_again s sent w e.last machine machine c [] left_ life lt stands there.1 e.goes (ap rest (append-nil life.bytes))
+    let same_reads : reads_life (present c v0) ≡ reads life.phase = ap reads_life (came_here [] c [] w life there.1) in
+    rw whole (stands_again s sent w e.last machine machine [] c [] left_ life lt stands there.1 e.goes (ap rest (append-nil life.bytes))
     (λ r. (subst IsShort there.1 (stands.short c lt)) (sym same_reads ∙ sym e.reads_same ∙ r))
     (serves_halves s sent half (with_half c left_ half) e.last machine own e.serves))
 
@@ -354,18 +364,40 @@ first_sound : (machine first now : Machine) (c : ℕ) (piece : List ℕ) (starve
 first_sound machine first now c piece starved is takes sound = subst (λ (us : List UnitStates). All AreSound us) (ap (λ (m : Machine). m.units) is)
     (takes.back sound)
 
+-- whatever its stores did
+came_any : (s : Setting) (sent : ℕ → ℕ) (h : History) (machine first now : Machine) (comings : List Coming) (c : ℕ) (piece : List ℕ) (starved : Option ℕ)
+    → c < connection_limit → is_reading (link_at machine c).phase ≡ true → first ≡ kept_as machine c piece
+    → (takes : TakesAll c starved first now) → AreAhead takes.takes.came comings → Stands s sent machine h → Came s sent (world s h) comings c piece starved now
+came_any s sent h machine first now comings c piece starved lt r is takes ahead at =
+    comes s sent (world s h) machine first now comings c piece starved (record { in_range = lt; stands = at; reads_so = r; is = is }) takes ahead
+
+-- where all units are sound after it, no store failed
 came : (s : Setting) (sent : ℕ → ℕ) (h : History) (machine first now : Machine) (c : ℕ) (piece : List ℕ) (starved : Option ℕ) → c < connection_limit
     → is_reading (link_at machine c).phase ≡ true → first ≡ kept_as machine c piece
-    → TakesAll c starved first now → (IsSound machine → Stands s sent machine h) → IsSound now → Came s sent (world s h) c piece starved now
+    → TakesAll c starved first now → (IsSound machine → Stands s sent machine h) → IsSound now → Came s sent (world s h) [] c piece starved now
 came s sent h machine first now c piece starved lt r is takes at sound =
-    comes s sent (world s h) machine first now c piece starved (record {
-      in_range = lt;
-      stands = at (first_sound machine first now c piece starved is takes sound);
-      reads_so = r;
-      is = is;
-    }) takes sound
+    came_any s sent h machine first now [] c piece starved lt r is takes (plain_ahead takes.takes.came (takes.takes.plain sound))
+    (at (first_sound machine first now c piece starved is takes sound))
 
-plain_marks : (s : Setting) (sent : ℕ → ℕ) (h : History) (now : Machine) (c : ℕ) (piece : List ℕ) → Came s sent (world s h) c piece None now
+stands_after : (s : Setting) (sent : ℕ → ℕ) (h : History) (now : Machine) (comings : List Coming) (c : ℕ) (piece : List ℕ) (starved : Option ℕ)
+    → (IsSound now → ArePlain comings) → Came s sent (world s h) comings c piece starved now → StandsAfter s sent h (Bytes c piece) starved now
+stands_after s sent h now comings c piece starved plain_ k = record {
+  marks = k.marks;
+  comings = comings;
+  first = k.first;
+  reached = k.reached;
+  plain = plain_;
+  stands = stands_as s sent now h (happening k.marks comings (Bytes c piece)) _ refl k.stands;
+}
+
+pub all_came : (r : Result (Unit {0}) Starved) (machine first now : Machine) (c : ℕ) (piece : List ℕ) → c < connection_limit
+    → is_reading (link_at machine c).phase ≡ true → first ≡ kept_as machine c piece → TakesAll c (first_starved r) first now
+    → (s : Setting) (sent : ℕ → ℕ) (h : History) → Stands s sent machine h → StandsAfter s sent h (Bytes c piece) (first_starved r) now
+all_came r machine first now c piece lt reads_so is takes s sent h at =
+    stands_after s sent h now takes.takes.came c piece (first_starved r) takes.takes.plain
+    (came_any s sent h machine first now takes.takes.came c piece (first_starved r) lt reads_so is takes (ahead_self takes.takes.came) at)
+
+plain_marks : (s : Setting) (sent : ℕ → ℕ) (h : History) (now : Machine) (c : ℕ) (piece : List ℕ) → Came s sent (world s h) [] c piece None now
     → Stands s sent now (h ++ plain (Bytes c piece) ∷ [])
 plain_marks s sent h now c piece k = stands_as s sent now h (plain (Bytes c piece)) _ refl
     (subst (λ (marks : List Mark). StandsAt s sent (bring s marks c piece (fresh (world s h))) now) k.first k.stands)
@@ -378,7 +410,7 @@ ok_came (Ok u) machine first now c piece lt reads_so is takes = λ s sent h at s
     (came s sent h machine first now c piece None lt reads_so is takes at sound)
 ok_came (Err e) machine first now c piece lt reads_so is takes = tt
 
-starved_marks : (s : Setting) (sent : ℕ → ℕ) (h : History) (now : Machine) (c d : ℕ) (piece : List ℕ) → Came s sent (world s h) c piece (Some d) now
+starved_marks : (s : Setting) (sent : ℕ → ℕ) (h : History) (now : Machine) (c d : ℕ) (piece : List ℕ) → Came s sent (world s h) [] c piece (Some d) now
     → (marks : List Mark) × IsStarved s (world s h) (Bytes c piece) d marks × Stands s sent now (h ++ marked marks (Bytes c piece) ∷ [])
 starved_marks s sent h now c d piece k = (
   k.marks,
@@ -395,9 +427,21 @@ err_came (Ok u) machine first now c piece lt reads_so is takes = tt
 err_came (Err e) machine first now c piece lt reads_so is takes = λ s sent h at sound. starved_marks s sent h now c e.connection piece
     (came s sent h machine first now c piece (Some e.connection) lt reads_so is takes at sound)
 
+pub none_after : (s : Setting) (sent : ℕ → ℕ) (h : History) (now : Machine) (c : ℕ) (piece : List ℕ)
+    → StandsAt s sent (bring s [] c piece (fresh (world s h))) now → StandsAfter s sent h (Bytes c piece) None now
+none_after s sent h now c piece at =
+    stands_after s sent h now [] c piece None (λ sound. tt) (record { marks = []; first = refl; reached = refl; stands = at })
+
+pub starved_after : (s : Setting) (sent : ℕ → ℕ) (h : History) (machine now : Machine) (c named : ℕ) (piece : List ℕ) → named ≡ c
+    → c < connection_limit → Stands s sent machine h → is_reading (link_at machine c).phase ≡ true → now ≡ closed machine c
+    → StandsAfter s sent h (Bytes c piece) (Some named) now
+starved_after s sent h machine now c named piece e lt stands r is =
+    stands_after s sent h now [] c piece (Some named) (λ sound. tt)
+    (subst (λ (d : ℕ). Came s sent (world s h) [] c piece (Some d) now) (sym e) (comes_starved s sent (world s h) machine now c piece lt stands r is))
+
 pub starved_came : (s : Setting) (sent : ℕ → ℕ) (h : History) (machine now : Machine) (c named : ℕ) (piece : List ℕ) → named ≡ c
     → c < connection_limit → Stands s sent machine h → is_reading (link_at machine c).phase ≡ true → now ≡ closed machine c
     → (marks : List Mark) × IsStarved s (world s h) (Bytes c piece) named marks × Stands s sent now (h ++ marked marks (Bytes c piece) ∷ [])
 starved_came s sent h machine now c named piece e lt stands r is =
-    starved_marks s sent h now c named piece (subst (λ (d : ℕ). Came s sent (world s h) c piece (Some d) now) (sym e)
+    starved_marks s sent h now c named piece (subst (λ (d : ℕ). Came s sent (world s h) [] c piece (Some d) now) (sym e)
     (comes_starved s sent (world s h) machine now c piece lt stands r is))

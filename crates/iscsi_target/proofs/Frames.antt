@@ -24,6 +24,8 @@ use Rattle.iscsi_target.proofs.Linked.{link_is, reads_there, some_reads, closes,
 use Rattle.iscsi_target.proofs.LoggingIn.{Entering, logs_in}
 use Rattle.iscsi_target.proofs.Marks.{mark_at, marked_one, marked_none, unmarked, Apart, Wider, agrees_left, all_wider, is_step_at, taken_done, done_taken, taken_step, done_step, step_within}
 use Rattle.iscsi_target.proofs.Working.{at_work}
+use Rattle.iscsi_session.proofs.Came.{ahead_of}
+use Rattle.iscsi_target.proofs.Comings.{comings_close, comings_log_in}
 use Rattle.iscsi_target.proofs.Keeping.{on-then, on-close, on-settle_one, on-settle_for, on-carry_out_for}
 use Rattle.iscsi_target.proofs.Doing.{still_reached, does_nothing, does_as, does_then}
 use Rattle.iscsi_target.proofs.AtWork.{last_there, marks_of, starved_if, Calls, call_does, serves_does, served_orders}
@@ -42,8 +44,9 @@ idle s marks c w arrival e = idle_step marks c (Arriving arrival.0) (comes s mar
 pub takes_idle : (machine : Machine) (c : ℕ) (frame : Frame) → c < connection_limit → is_reading (link_at machine c).phase ≡ false
     → Takes c frame None machine machine
 takes_idle machine c frame lt idle_ = does_nothing is_of_frame (λ s marks place w. arrive s marks c w (place, Whole frame)) kept machine machine
-    (λ sound s sent half w place marks agree h. serves_world s sent half w _ machine
-    (idle s marks c w (place, Whole frame) (sym (reads_there s sent half w machine c lt h) ∙ idle_)) h)
+    (λ s sent half w place marks agree h.
+    (let same = idle s marks c w (place, Whole frame) (sym (reads_there s sent half w machine c lt h) ∙ idle_) in
+    (serves_world s sent half w _ machine same h, ap (λ (v : World). v.comings) same)))
 
 -- ---- a login is under way
 
@@ -111,21 +114,24 @@ pub takes_closed : (given after : Machine) (c : ℕ) (frame : Frame) (login : Lo
     → (link_at given c).phase ≡ phases.Login login → is_login frame ≡ false → after ≡ closed given c → Takes c frame None given after
 takes_closed given after c frame login lt phase other is = does_nothing is_of_frame (λ s marks place w. arrive s marks c w (place, Whole frame))
     kept given after
-    (λ sound s sent half w place marks agree h.
+    (λ s sent half w place marks agree h.
     (let l = logging_in s sent half w given c login lt h phase in
     let v = reaching c (Arriving place ∷ []) w in
     let step = arrived s marks c w place (Whole frame) (ap reads_life l.at ∙ ap reads l.phase) agree
     ∙ arrived_in s marks c w place frame l.life LoggingIn l.at l.phase
     ∙ cond_false (is_login frame) (log_in s c frame v) (close c v) other in
-    serves_world s sent half (close c v) _ after step (serves_as s sent half (close c v) (closed given c) after is
-    (closes s sent half v given c l.life lt (serves_reaching s sent half w given c (Arriving place ∷ []) h)
-    (present-reaching c c (Arriving place ∷ []) w ∙ l.at)))))
+    (
+      serves_world s sent half (close c v) _ after step (serves_as s sent half (close c v) (closed given c) after is
+          (closes s sent half v given c l.life lt (serves_reaching s sent half w given c (Arriving place ∷ []) h)
+          (present-reaching c c (Arriving place ∷ []) w ∙ l.at))),
+      ap (λ (u : World). u.comings) step ∙ comings_close c v,
+    )))
 
 -- a Login request
 pub takes_login : (given after : Machine) (c : ℕ) (frame : Frame) (login : LoginState) → c < connection_limit
     → (link_at given c).phase ≡ phases.Login login → is_login frame ≡ true → after ≡ logged_in given c login frame → Takes c frame None given after
 takes_login given after c frame login lt phase logs is = does_nothing is_of_frame (λ s marks place w. arrive s marks c w (place, Whole frame)) kept given after
-    (λ sound s sent half w place marks agree h.
+    (λ s sent half w place marks agree h.
     (let l = logging_in s sent half w given c login lt h phase in
     let v = reaching c (Arriving place ∷ []) w in
     let step = arrived s marks c w place (Whole frame) (ap reads_life l.at ∙ ap reads l.phase) agree
@@ -138,8 +144,11 @@ takes_login given after c frame login lt phase logs is = does_nothing is_of_fram
       phase = l.phase;
     } in
     let P : LoginState → Type 0 = λ known. Serves s sent half (log_in s c frame v) (logged_in given c known frame) in
-    serves_world s sent half (log_in s c frame v) _ after step (serves_as s sent half (log_in s c frame v) (logged_in given c login frame) after is
-    (subst P l.known (logs_in s sent half v given c l.life frame enters)))))
+    (
+      serves_world s sent half (log_in s c frame v) _ after step (serves_as s sent half (log_in s c frame v) (logged_in given c login frame) after is
+          (subst P l.known (logs_in s sent half v given c l.life frame enters))),
+      ap (λ (u : World). u.comings) step ∙ comings_log_in s c frame v,
+    )))
 
 -- ---- an allocation fails as a frame becomes whole
 
@@ -156,7 +165,9 @@ starves given after c arrival lt r is = record {
   failed = λ place. mark_at c (Arriving place) ∷ [];
   first = λ place. refl;
   of_kind = λ place. rw (eqb_self place) refl;
-  stands = λ sound s sent half w place marks agree h.
+  came = [];
+  plain = λ sound. tt;
+  stands = λ s sent half w place marks agree ahead h.
       (let there = some_reads (present c w) (sym (reads_there s sent half w given c lt h) ∙ r) in
       let v = reaching c (Arriving place ∷ []) w in
       let step = marked_step marks c (Arriving place) (comes s marks c place arrival) w (ap reads_life there.1 ∙ there.2)
@@ -166,6 +177,7 @@ starves given after c arrival lt r is = record {
             (closes s sent half v given c there.0 lt (serves_reaching s sent half w given c (Arriving place ∷ []) h)
             (present-reaching c c (Arriving place ∷ []) w ∙ there.1)),
         reached_first c place w,
+        comings_close c v,
       ));
 }
 
@@ -208,7 +220,9 @@ takes_served c target frame orders given middle after failed goes_on starved k o
       failed = both.failed;
       first = both.first;
       of_kind = λ place. all_wider (is_step_at place) (is_of_frame place) (both.failed place) (step_within place) (both.of_kind place);
-      stands = λ sound s sent half w place marks agree h.
+      came = both.came;
+      plain = both.plain;
+      stands = λ s sent half w place marks agree ahead h.
           (let there = at_work s sent half w given c k.state k.in_range h k.phase in
           let a = there.1 in
           let v = reaching c (Arriving place ∷ []) w in
@@ -219,14 +233,14 @@ takes_served c target frame orders given middle after failed goes_on starved k o
           let here = serves_reaching s sent half w given c (Arriving place ∷ []) h in
           let inner : Agrees (is_step_at place) marks (both.failed place) = λ mark is. agree mark (step_within place mark is) in
           let acted : orders_in marks c place frame v ≡ orders =
-          served_orders s sent half v given middle c frame failed goes_on place marks k (back sound)
+          served_orders s sent half v given middle c frame failed goes_on place marks k (ahead_of k.runs.came second.came v.comings ahead)
           (agrees_left (is_taken_at place) (is_done_at place) (is_step_at place) marks (marks_of c failed place) (second.failed place)
           (taken_done place) (taken_step place) (second.of_kind place) inner) here ∙ ordered in
           let step = arrived_free s marks c w place (Whole frame) (ap reads_life a.at ∙ ap reads a.phase) free
           ∙ arrived_in s marks c w place frame a.life (FullFeature there.0) a.at a.phase
           ∙ ap (λ (t : Option ℕ). settle_for marks place t (carry_out_for c t (orders_in marks c place frame v) (take_in marks c place frame v))) target_is
           ∙ ap (λ (os : List (List ℕ)). settle_for marks place target (carry_out_for c target os (take_in marks c place frame v))) acted in
-          rw step (both.stands sound s sent half v place marks inner here));
+          rw step (both.stands s sent half v place marks inner ahead here));
     }
 
 -- ---- the sessions of a target are settled, one after the other
@@ -266,7 +280,7 @@ SettledBelow target c starved given after = Does (is_done_below c) (λ s marks p
 
 pub none_settled : (target : ℕ) (machine : Machine) → SettledBelow target 0 None machine machine
 none_settled target machine = does_nothing (is_done_below 0) (λ s marks place w. fold (settle_one marks place target) w (range_with_len 0 0)) kept
-    machine machine (λ sound s sent half w place marks agree h. h)
+    machine machine (λ s sent half w place marks agree h. (h, refl))
 
 fold_next : (marks : List Mark) (place target c : ℕ) (w : World) → fold (settle_one marks place target) w (range_with_len 0 (c + 1))
     ≡ settle_one marks place target (fold (settle_one marks place target) w (range_with_len 0 c)) c
@@ -291,6 +305,8 @@ all_settled target starved given after d = record {
   failed = d.failed;
   first = d.first;
   of_kind = λ place. all_wider (is_done_below connection_limit place) (is_done_at place) (d.failed place) (below_all connection_limit place) (d.of_kind place);
-  stands = λ sound s sent half w place marks agree h. d.stands sound s sent half w place marks
-      (λ mark is. agree mark (below_all connection_limit place mark is)) h;
+  came = d.came;
+  plain = d.plain;
+  stands = λ s sent half w place marks agree ahead h. d.stands s sent half w place marks
+      (λ mark is. agree mark (below_all connection_limit place mark is)) ahead h;
 }

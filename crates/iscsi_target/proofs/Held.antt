@@ -6,6 +6,8 @@ use Rattle.std.specs.List.{list_all}
 use Rattle.std.proofs.lemmas.Bool.{ne_eqb, eqb-true, eq-eqb}
 use Rattle.std.proofs.lemmas.List.{length-set, set-get_or, get_or-set_same}
 use Rattle.scsi_unit.specs.Units.{UnitStates, AreSound, AreSure, numbers_of}
+use Rattle.iscsi_session.specs.Comings.{TargetUnits, CameAs, ArePlain, lend}
+use Rattle.iscsi_session.proofs.Came.{came_none, came_as}
 use Rattle.iscsi_session.specs.Requests.{Past}
 use Rattle.iscsi_session.specs.State.{SessionState, remembered}
 use Rattle.iscsi_session.specs.Steps.{Step, Work, is_serving, served, settled}
@@ -88,12 +90,13 @@ settles_other s sent half w machine c target place marks lt h other =
 pub settles_none : (machine : Machine) (c target : ℕ) → c < connection_limit → IsOther target (link_at machine c).phase
     → SettlesOne target c None machine machine
 settles_none machine c target lt other = does_nothing (is_done_by c) (λ s marks place w. settle_one marks place target w c) kept machine machine
-    (λ sound s sent half w place marks agree h. serves_world s sent half w _ machine (settles_other s sent half w machine c target place marks lt h other) h)
+    (λ s sent half w place marks agree h. (let same = settles_other s sent half w machine c target place marks lt h other in
+    (serves_world s sent half w _ machine same h, ap (λ (v : World). v.comings) same)))
 
 -- a session with no target settles nothing
 pub settles_for_none : (machine : Machine) → SettlesFor None None machine machine
 settles_for_none machine = does_nothing is_done_at (λ s marks place w. settle_for marks place None w) kept machine machine
-    (λ sound s sent half w place marks agree h. serves_world s sent half w _ machine refl h)
+    (λ s sent half w place marks agree h. (serves_world s sent half w _ machine refl h, refl))
 
 -- ---- a call
 
@@ -104,13 +107,14 @@ unfoldable pub session_calls : (run : (Step → Bool) → ℕ → Work → Work)
     (framer : List ℕ) (phase : CodePhase) (before waiting : List ℕ) (orders : List (List ℕ))
     (state then_ : SessionState) (units units_then : UnitStates) → c < connection_limit → viewed framer phase before ≡ link_at machine c
     → phase ≡ phases.FullFeature state → units_at state.params.target machine.units ≡ units
-    → (IsSound after → Runs run failed goes_on state then_ (output before []) (output waiting orders) units units_then)
+    → (runs : CameAs (λ a b. Runs run failed goes_on state then_ (output before []) (output waiting orders) a b) units units_then)
+    → (IsSound after → ArePlain runs.came)
     → after ≡ left_by goes_on c (record machine {
       units = with_units state.params.target units_then machine.units;
       links = slice_set machine.links c (viewed framer (phases.FullFeature then_) waiting);
     })
     → Calls run failed goes_on c machine after
-session_calls run failed goes_on c machine after framer phase before waiting orders state then_ units units_then lt link is target runs e = record {
+session_calls run failed goes_on c machine after framer phase before waiting orders state then_ units units_then lt link is target runs plain e = record {
   in_range = lt;
   state = state;
   then_ = then_;
@@ -120,8 +124,9 @@ session_calls run failed goes_on c machine after framer phase before waiting ord
   units_then = units_then;
   phase = ap (λ (l : LinkState). l.phase) (sym link) ∙ is;
   target = target;
-  runs = λ sound. subst (λ (b : List ℕ). Runs run failed goes_on state then_ (output b []) (output waiting orders) units units_then)
-      (ap (λ (l : LinkState). l.waiting) link) (runs sound);
+  runs = came_as _ _ units units_then runs (λ a b ran. subst (λ (bytes : List ℕ). Runs run failed goes_on state then_ (output bytes []) (output waiting orders) a b)
+      (ap (λ (l : LinkState). l.waiting) link) ran);
+  plain = plain;
   is = e ∙ ap (λ (half : List ℕ). left_by goes_on c (record machine {
     units = with_units state.params.target units_then machine.units;
     links = slice_set machine.links c (record { half = half; phase = phases.FullFeature then_; waiting = waiting });
@@ -198,14 +203,15 @@ pub settle_does : (failed : Option (ℕ → Step)) (goes_on : Bool) (c target : 
     (before waiting : List ℕ)
     (state then_ : SessionState) (units units_then : UnitStates) → c < connection_limit → viewed framer phase before ≡ link_at machine c
     → phase ≡ phases.FullFeature state → state.params.target ≡ Some target → units_at state.params.target machine.units ≡ units
-    → (IsSound after → Runs settled failed goes_on state then_ (output before []) (output waiting []) units units_then)
+    → (runs : CameAs (λ a b. Runs settled failed goes_on state then_ (output before []) (output waiting []) a b) units units_then)
+    → (IsSound after → ArePlain runs.came)
     → ((place : ℕ) → list_all (is_done_by c place) (marks_of c failed place) ≡ true)
     → after ≡ left_by goes_on c (called machine c (Some target) units_then (viewed framer (phases.FullFeature then_) waiting))
     → SettlesOne target c (starved_if failed c) machine after
 unfolding session_calls
-settle_does failed goes_on c target machine after framer phase before waiting state then_ units units_then lt link is same at runs kind e =
+settle_does failed goes_on c target machine after framer phase before waiting state then_ units units_then lt link is same at runs plain kind e =
     settles_does failed goes_on c target machine after
-    (session_calls settled failed goes_on c machine after framer phase before waiting [] state then_ units units_then lt link is at runs
+    (session_calls settled failed goes_on c machine after framer phase before waiting [] state then_ units units_then lt link is at runs plain
     (e ∙ ap (left_by goes_on c) (called_at machine c (Some target) state.params.target units_then (viewed framer (phases.FullFeature then_) waiting)
     (sym same)))) same kind
 
@@ -219,7 +225,7 @@ same_units machine c (Some target) link = ap (λ (all : List UnitStates). let m 
     record { directory = machine.directory; units = all; links = slice_set machine.links c link } in m) (set-get_or machine.units target [])
 
 abbrev pub Served : Frame → List ℕ → Option (ℕ → Step) → Bool → SessionState → SessionState → Output → Output → Type 0
-Served frame luns failed goes_on state then_ before waiting = (units : UnitStates) → luns ≡ numbers_of units
+Served frame luns failed goes_on state then_ before waiting = (units : TargetUnits) → luns ≡ numbers_of units.states
     → Runs (λ fails place. served fails place frame) failed goes_on state then_ before waiting units units
 
 serve_takes_by : (failed : Option (ℕ → Step)) (goes_on : Bool) (c : ℕ) (target : Option ℕ) (frame : Frame) (luns : List ℕ) (orders : List (List ℕ))
@@ -237,7 +243,7 @@ serve_takes_by failed goes_on c target frame luns orders machine middle after fr
     let known : luns ≡ numbers_of units = numbers ∙ ap (λ (t : Option ℕ). numbers_of (units_at t machine.units)) (sym same) in
     takes_served c target frame orders machine middle after failed goes_on starved
     (session_calls (λ f place. served f place frame) failed goes_on c machine middle framer phase before waiting orders state then_ units units lt
-    link is refl (λ sound. runs units known)
+    link is refl (came_none _ units units (λ comings. runs (lend units comings) known)) (λ sound. tt)
     (e ∙ ap (left_by goes_on c) (sym (same_units machine c state.params.target (viewed framer (phases.FullFeature then_) waiting)))))
     refl same kind back finish
 

@@ -296,4 +296,4 @@ named_happen g s marks w (Gone c) named = named_before g s.directory w (end c w)
 
 pub named_first : (g : Selection) (s : Setting) (w : World) (h : History) → AreNamed g s.directory (fold (happened s) w h) → AreNamed g s.directory w
 named_first g s w [] named = named
-named_first g s w (x ∷ h) named = named_happen g s x.marks (record w { reached = [] }) x.event (named_first g s (happened s w x) h named)
+named_first g s w (x ∷ h) named = named_happen g s x.marks (begun_event x.comings w) x.event (named_first g s (happened s w x) h named)

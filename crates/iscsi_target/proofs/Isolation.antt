@@ -191,10 +191,10 @@ out_end target keeps opened last next c w v keep follow =
 keeps_new : (keeps : ℕ → Bool) (last : ℕ → ℕ) (next c : ℕ) (b : Bool) → keeps (last_after next last (Open c) c) ≡ b → keeps next ≡ b
 keeps_new keeps last next c b e = ap keeps (sym (cond_true (eqb c c) next (last c) (eqb_self c))) ∙ e
 
-fresh_both : (g : Selection) (w v : World) → Agree g w v → Agree g (record w { reached = [] }) (record v { reached = [] })
+fresh_both : (g : Selection) (w v : World) → Agree g w v → Agree g (begun_event [] w) (begun_event [] v)
 fresh_both g w v agree = record { lives = agree.lives; units = agree.units; fits = agree.fits }
 
-fresh_here : (g : Selection) (w v : World) → Agree g w v → Agree g (record w { reached = [] }) v
+fresh_here : (g : Selection) (w v : World) → Agree g w v → Agree g (begun_event [] w) v
 fresh_here g w v agree = record { lives = agree.lives; units = agree.units; fits = agree.fits }
 
 bring_count : (s : Setting) (c : ℕ) (piece : List ℕ) (w : World) → length (bring s [] c piece w).lives ≡ length w.lives
@@ -207,15 +207,15 @@ follow_in : (s : Setting) (target : ℕ) (keeps : ℕ → Bool) (event : Event) 
     → Follow target keeps (open_after opened event) (last_after next last event) (next_after next event) (happened s w (plain event)) (happened s v
     (plain event))
 follow_in s target keeps (Open c) opened last next w v may keep named follow =
-    in_open target keeps opened last next c (record w { reached = [] }) (record v { reached = [] }) may (keeps_new keeps last next c true keep)
+    in_open target keeps opened last next c (begun_event [] w) (begun_event [] v) may (keeps_new keeps last next c true keep)
     (record { agree = fresh_both (selection target keeps opened last) w v follow.agree; count = follow.count })
 follow_in s target keeps (Bytes c piece) opened last next w v may keep named follow = record {
-  agree = in_bring (selection target keeps opened last) s c piece (record w { reached = [] }) (record v { reached = [] }) keep named
+  agree = in_bring (selection target keeps opened last) s c piece (begun_event [] w) (begun_event [] v) keep named
       (fresh_both (selection target keeps opened last) w v follow.agree);
-  count = follow.count ∙ sym (bring_count s c piece (record w { reached = [] }));
+  count = follow.count ∙ sym (bring_count s c piece (begun_event [] w));
 }
 follow_in s target keeps (Gone c) opened last next w v may keep named follow =
-    in_end target keeps opened last next c (record w { reached = [] }) (record v { reached = [] }) keep
+    in_end target keeps opened last next c (begun_event [] w) (begun_event [] v) keep
     (record { agree = fresh_both (selection target keeps opened last) w v follow.agree; count = follow.count })
 
 -- of another life
@@ -224,15 +224,15 @@ follow_out : (s : Setting) (target : ℕ) (keeps : ℕ → Bool) (event : Event)
     → AreNamed (selection target keeps opened last) s.directory (happened s w (plain event)) → Follow target keeps opened last next w v
     → Follow target keeps (open_after opened event) (last_after next last event) (next_after next event) (happened s w (plain event)) v
 follow_out s target keeps (Open c) opened last next w v may keep named follow =
-    out_open target keeps opened last next c (record w { reached = [] }) v may (keeps_new keeps last next c false keep)
+    out_open target keeps opened last next c (begun_event [] w) v may (keeps_new keeps last next c false keep)
     (record { agree = fresh_here (selection target keeps opened last) w v follow.agree; count = follow.count })
 follow_out s target keeps (Bytes c piece) opened last next w v may keep named follow = record {
-  agree = out_bring (selection target keeps opened last) s c piece (record w { reached = [] }) v keep named
+  agree = out_bring (selection target keeps opened last) s c piece (begun_event [] w) v keep named
       (fresh_here (selection target keeps opened last) w v follow.agree);
-  count = follow.count ∙ sym (bring_count s c piece (record w { reached = [] }));
+  count = follow.count ∙ sym (bring_count s c piece (begun_event [] w));
 }
 follow_out s target keeps (Gone c) opened last next w v may keep named follow =
-    out_end target keeps opened last next c (record w { reached = [] }) v keep
+    out_end target keeps opened last next c (begun_event [] w) v keep
     (record { agree = fresh_here (selection target keeps opened last) w v follow.agree; count = follow.count })
 
 -- ---- one event after the other

@@ -481,7 +481,7 @@ pub answers_stay : AnswersStay
 answers_stay s h marks c piece =
     let w = world s h in
     subst (λ (v : World). LivesGoOn w.lives v.lives) (sym (world-push s h (marked marks (Bytes c piece))))
-    (on-bring s marks c piece (record w { reached = [] }))
+    (on-bring s marks c piece (begun_event [] w))
 
 -- ---- the rows
 

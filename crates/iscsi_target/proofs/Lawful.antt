@@ -338,7 +338,7 @@ fit-happen s marks w (Gone c) bytes a = fit-end c w a
 
 fit-fold : (s : Setting) (w : World) (h : History) → AllByRecursion (λ happening. HasBytes happening.event) h → AreFit w → AreFit (fold (happened s) w h)
 fit-fold s w [] bytes a = a
-fit-fold s w (x ∷ h) bytes a = fit-fold s (happened s w x) h bytes.1 (fit-happen s x.marks (record w { reached = [] }) x.event bytes.0 a)
+fit-fold s w (x ∷ h) bytes a = fit-fold s (happened s w x) h bytes.1 (fit-happen s x.marks (begun_event x.comings w) x.event bytes.0 a)
 
 fit-world : (s : Setting) (h : History) → AllByRecursion (λ happening. HasBytes happening.event) h → AreFit (world s h)
 unfolding world
@@ -363,6 +363,6 @@ pub others_stay : OthersStay
 others_stay = record {
   closed = closed_other;
   gone = λ s h marks c d differ.
-      ap (present d) (world-push s h (marked marks (Gone c))) ∙ present-end_other c d (record (world s h) { reached = [] }) differ
-      ∙ present-lives d (record (world s h) { reached = [] }) (world s h) refl;
+      ap (present d) (world-push s h (marked marks (Gone c))) ∙ present-end_other c d (begun_event [] (world s h)) differ
+      ∙ present-lives d (begun_event [] (world s h)) (world s h) refl;
 }

@@ -19,6 +19,7 @@ mod IsolatedInside
 mod IsolatedServing
 mod IsolatedEvents
 mod Isolation
+mod Comings
 mod Doing
 mod AtWork
 mod Sound

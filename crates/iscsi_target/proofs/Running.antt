@@ -223,7 +223,7 @@ pub bytes_runs : (s : Setting) (machine after : Machine) (rows : List RowState) 
     → Runs s after rows before (history ++ plain (Bytes c piece) ∷ [])
 bytes_runs s machine after rows before history c piece r h = record {
   stands = h;
-  kept = r.kept ∙ sym (rows-bring s [] c piece (record (world s history) { reached = [] })) ∙ ap rows_in (sym (world-push s history (plain (Bytes c piece))));
+  kept = r.kept ∙ sym (rows-bring s [] c piece (begun_event [] (world s history))) ∙ ap rows_in (sym (world-push s history (plain (Bytes c piece))));
   distinct = r.distinct;
   tracks = r.tracks;
   below = r.below;

@@ -11,9 +11,10 @@ use Rattle.iscsi_login.specs.Login.{remembered}
 use Rattle.iscsi_login.specs.declared.params.Params.{Params}
 use Rattle.scsi_unit.specs.Units.{UnitStates}
 use Rattle.iscsi_login.specs.Directory.{KnownTargets}
+use Rattle.iscsi_session.specs.Comings.{Coming}
 use Rattle.iscsi_target.specs.History.{Open, Gone, Happening, History, plain, connection_limit}
 use Rattle.iscsi_target.specs.Life.{Life, Phase, LoggingIn, FullFeature, Closing, Over, born, is_over, out_of}
-use Rattle.iscsi_target.specs.World.{Setting, World, present, session_of, left, end, happened, new_world, world}
+use Rattle.iscsi_target.specs.World.{Setting, World, present, session_of, left, end, begun_event, happened, new_world, world}
 use Rattle.iscsi_target.specs.Output.{out_now}
 use Rattle.iscsi_target.specs.Machine.{LinkState, Machine, link_at, with_link, closed, is_free, is_open_at, free_link, opened_link, shut_link, sent_link, session_in_phase, new_machine}
 use Rattle.iscsi_target.specs.Stands.{phase_for, link_of, machine_with, machine_of, half_of, IsQuiet, IsShort, StandsAt, Stands, with_sent}
@@ -26,7 +27,10 @@ use Rattle.iscsi_target.proofs.Linked.{link_there, units_with, relinked, session
 -- ---- one more event
 
 abbrev pub fresh : World → World
-fresh w = record w { reached = [] }
+fresh w = begun_event [] w
+
+pub present-begun : (comings : List Coming) (c : ℕ) (w : World) → present c (begun_event comings w) ≡ present c w
+present-begun comings c w = present-lives c (begun_event comings w) w refl
 
 pub present-fresh : (c : ℕ) (w : World) → present c (fresh w) ≡ present c w
 present-fresh c w = present-lives c (fresh w) w refl

@@ -25,6 +25,7 @@ use Rattle.iscsi_target.proofs.Standing.{nothing_long, machine_same}
 use Rattle.iscsi_target.proofs.Marks.{Apart, Wider, all_wider}
 use Rattle.iscsi_target.proofs.Keeping.{on-arrive}
 use Rattle.iscsi_target.proofs.Doing.{Act, Halves, does_nothing, does_then}
+use Rattle.iscsi_target.proofs.Comings.{comings_close}
 use Rattle.iscsi_target.proofs.Frames.{idle, arrived, starves}
 use Rattle.iscsi_target.proofs.Apart.{part_none, part_closed, part_halved, part_as, part_then}
 use Rattle.iscsi_target.proofs.Bounding.{adds_none, adds_then, adds_more}
@@ -144,8 +145,10 @@ takes_frame old given new c frame starved lt count r gives is takes moves part l
         failed = takes.failed;
         first = takes.first;
         of_kind = takes.of_kind;
-        stands = λ sound s sent half w place marks agree h.
-            takes.stands sound s sent (with_half c more half) w place marks agree
+        came = takes.came;
+        plain = takes.plain;
+        stands = λ s sent half w place marks agree ahead h.
+            takes.stands s sent (with_half c more half) w place marks agree ahead
             (serves_as s sent (with_half c more half) w (with_link old c (record (link_at old c) { half = more })) given is
             (rehalved s sent half w old c more lt r h));
       };
@@ -174,15 +177,18 @@ takes_long old new c lt count r long is =
       shorter = long_some (link_at old c).half long;
       kept = subst (λ (m : Machine). KeepsHalf [] (link_at m c)) (sym is) (closed_keeps old c [] below);
       does = does_nothing is_of_frame (λ s marks place w. arrive s marks c w (place, TooLong)) (with_half c []) old new
-          (λ sound s sent half w place marks agree h.
+          (λ s sent half w place marks agree h.
           (let there = some_reads (present c w) (sym (reads_there s sent half w old c lt h) ∙ r) in
           let v = reaching c (Arriving place ∷ []) w in
           let at : present c v ≡ Some there.0 = present-reaching c c (Arriving place ∷ []) w ∙ there.1 in
           let step = arrived s marks c w place TooLong (ap reads_life there.1 ∙ there.2) agree in
-          serves_world s sent (with_half c [] half) (close c v) _ new step
-          (halves_idle s sent half (close c v) new c [] (ap reads_life (present-close c v there.0 at))
-          (serves_as s sent half (close c v) (closed old c) new is (closes s sent half v old c there.0 lt
-          (serves_reaching s sent half w old c (Arriving place ∷ []) h) at)))));
+          (
+            serves_world s sent (with_half c [] half) (close c v) _ new step
+                (halves_idle s sent half (close c v) new c [] (ap reads_life (present-close c v there.0 at))
+                (serves_as s sent half (close c v) (closed old c) new is (closes s sent half v old c there.0 lt
+                (serves_reaching s sent half w old c (Arriving place ∷ []) h) at))),
+            ap (λ (u : World). u.comings) step ∙ comings_close c v,
+          )));
       back = moves.back;
       sure = moves.sure;
       feeds = moves.feeds;
@@ -213,10 +219,12 @@ takes_none old new c lt count r whole is =
         failed = first.failed;
         first = first.first;
         of_kind = first.of_kind;
-        stands = λ sound s sent bytes w place marks agree h.
-            (let at = first.stands sound s sent bytes w place marks agree h in
+        came = first.came;
+        plain = first.plain;
+        stands = λ s sent bytes w place marks agree ahead h.
+            (let at = first.stands s sent bytes w place marks agree ahead h in
             let v = arrive s marks c w (place, Whole (first_frame half)) in
-            (halves_idle s sent bytes v new c more (sym (reads_there s sent bytes v new c lt at.0) ∙ shut_) at.0, at.1));
+            (halves_idle s sent bytes v new c more (sym (reads_there s sent bytes v new c lt at.0) ∙ shut_) at.0, at.1, at.2));
       };
       back = moves.back;
       sure = moves.sure;
@@ -266,7 +274,7 @@ begins machine c lt r = record {
   kept = keeps_own (link_at machine c) r;
   takes = does_nothing (is_among 0) (λ s marks place w. fold (arrive s marks c) w (enumerate_from place [])) (with_half c (link_at machine c).half)
       machine machine
-      (λ sound s sent half w place marks agree h. own_half s sent half w machine c lt r h);
+      (λ s sent half w place marks agree h. (own_half s sent half w machine c lt r h, refl));
   back = λ sound. sound;
   sure = λ sure. sure;
   feeds = (moves_none c machine).feeds;
@@ -284,7 +292,9 @@ shifted n kind act halves starved given after d = record {
   failed = λ place. d.failed (place + n);
   first = λ place. d.first (place + n);
   of_kind = λ place. d.of_kind (place + n);
-  stands = λ sound s sent half w place marks agree h. d.stands sound s sent half w (place + n) marks agree h;
+  came = d.came;
+  plain = d.plain;
+  stands = λ s sent half w place marks agree ahead h. d.stands s sent half w (place + n) marks agree ahead h;
 }
 
 -- only the bytes themselves count
@@ -387,10 +397,12 @@ takes_more c a b first machine new done more so_far one =
       failed = both.failed;
       first = both.first;
       of_kind = both.of_kind;
-      stands = λ sound s sent half w place marks agree h.
-          (let at = both.stands sound s sent half w place marks agree h in
+      came = both.came;
+      plain = both.plain;
+      stands = λ s sent half w place marks agree ahead h.
+          (let at = both.stands s sent half w place marks agree ahead h in
           rw (fold_more s marks c place w done one.arrival)
-          (serves_halves s sent (with_half c one.more (with_half c more half)) (with_half c one.more half) _ new (half_twice c more one.more half) at.0, at.1));
+          (serves_halves s sent (with_half c one.more (with_half c more half)) (with_half c one.more half) _ new (half_twice c more one.more half) at.0, at.1, at.2));
     })
 
 pub goes_on : (c : ℕ) (a b : Option ℕ) (first machine new : Machine) → is_reading (link_at machine c).phase ≡ true → Progress c a first machine
@@ -436,9 +448,11 @@ ends_idle c starved first machine lt r p =
         first = p.takes.first;
         of_kind = λ place. all_wider (is_among (length p.done) place) (is_among (length (arrivals half0)) place) (p.takes.failed place)
             (among_more (length p.done) (length (arrivals half0)) place count) (p.takes.of_kind place);
-        stands = λ sound s sent half w place marks agree h.
-            (let at = p.takes.stands sound s sent half w place marks (λ mark is. agree mark
-            (among_more (length p.done) (length (arrivals half0)) place count mark is)) h in
+        came = p.takes.came;
+        plain = p.takes.plain;
+        stands = λ s sent half w place marks agree ahead h.
+            (let at = p.takes.stands s sent half w place marks (λ mark is. agree mark
+            (among_more (length p.done) (length (arrivals half0)) place count mark is)) ahead h in
             let v = fold (arrive s marks c) w (enumerate_from place p.done) in
             let idle_ : reads_life (present c v) ≡ false = sym (reads_there s sent (with_half c p.more half) v machine c lt at.0) ∙ r in
             let whole : fold (arrive s marks c) w (enumerate_from place (arrivals half0)) ≡ v =
@@ -450,6 +464,7 @@ ends_idle c starved first machine lt r p =
                   (half_twice c p.more (rest half0) half)
                   (halves_idle s sent (with_half c p.more half) v machine c (rest half0) idle_ at.0),
               at.1,
+              at.2,
             ));
       };
       back = p.back;

@@ -4,6 +4,7 @@ use Rattle.std.specs.Prelude.{flat_map}
 use Rattle.iscsi_pdu.specs.Answer.{spelling}
 use Rattle.iscsi_pdu.specs.declared.answer.Answer.{Answer}
 use Rattle.scsi_unit.specs.Units.{UnitStates}
+use Rattle.iscsi_session.specs.Comings.{Coming, TargetUnits, lend}
 use Rattle.iscsi_session.specs.Requests.{Past}
 use Rattle.iscsi_session.specs.State.{SessionState, IsLawful, remembered}
 use Rattle.iscsi_session.specs.Steps.{Work}
@@ -95,12 +96,12 @@ units_set w machine units target e = ap (with_units target units) (sym e)
 
 -- the session goes on
 works : (s : Setting) (sent : ℕ → ℕ) (half : ℕ → List ℕ) (w : World) (machine : Machine) (c : ℕ) (past : Past) (work : Work) (state : SessionState)
-    (waiting : List ℕ) (orders : List (List ℕ)) (after : UnitStates) → c < connection_limit
+    (waiting : List ℕ) (orders : List (List ℕ)) (after : UnitStates) (comings : List Coming) → c < connection_limit
     → Serves s sent half w machine → IsAtWork w c past
-    → Leaves (work_of past w) work state (output (link_at machine c).waiting []) (output waiting orders) after
+    → Leaves (work_of past w) work state (output (link_at machine c).waiting []) (output waiting orders) (lend after comings)
     → Serves s sent half (worked_on c work w) (record (with_link machine c (session_link state waiting (link_at machine c)))
     { units = with_units past.params.target after machine.units })
-works s sent half w machine c past work state waiting orders after lt h a l =
+works s sent half w machine c past work state waiting orders after comings lt h a l =
     let now = present_worked w c past work a in
     let link = link_is s sent half w machine c lt h ∙ ap (link_of s.directory (sent c) (half c)) a.at in
     let le : sent c ≤ length (out_of a.life) = (let was = h.answered c lt in rw a.at at was) in
@@ -109,9 +110,9 @@ works s sent half w machine c past work state waiting orders after lt h a l =
     let out = out-more a.life (with_past work.past a.life) l.more (answers_grow a.life a.life.phase past work.past l.more a.phase l.answers) in
     let us = h.is in
     let same_units : machine.units ≡ w.units = ap (λ (m : Machine). m.units) h.is ∙ units_with s sent half w in
-    let units : with_units work.past.params.target work.units w.units ≡ with_units past.params.target after machine.units =
-    ap (λ (t : Option ℕ). with_units t work.units w.units) (ap (λ p. p.target) l.params)
-    ∙ ap (λ (units : UnitStates). with_units past.params.target units w.units) l.units
+    let units : with_units work.past.params.target work.units.states w.units ≡ with_units past.params.target after machine.units =
+    ap (λ (t : Option ℕ). with_units t work.units.states w.units) (ap (λ p. p.target) l.params)
+    ∙ ap (λ (units : TargetUnits). with_units past.params.target units.states w.units) l.units
     ∙ units_set w machine after past.params.target same_units in
     serves_one s sent half half w (worked_on c work w) machine c (with_units past.params.target after machine.units)
     (session_link state waiting (link_at machine c)) lt h
@@ -134,10 +135,10 @@ left_with false s sent half w machine c past work lt e a h = rw e (closes s sent
     h (present_worked w c past work a))
 
 pub serves_worked : (s : Setting) (sent : ℕ → ℕ) (half : ℕ → List ℕ) (w : World) (machine : Machine) (c : ℕ) (past : Past) (work : Work)
-    (state : SessionState) (waiting : List ℕ) (orders : List (List ℕ)) (after : UnitStates) (goes_on : Bool)
+    (state : SessionState) (waiting : List ℕ) (orders : List (List ℕ)) (after : UnitStates) (comings : List Coming) (goes_on : Bool)
     → c < connection_limit → Serves s sent half w machine → IsAtWork w c past
-    → Leaves (work_of past w) work state (output (link_at machine c).waiting []) (output waiting orders) after → work.goes_on ≡ goes_on
+    → Leaves (work_of past w) work state (output (link_at machine c).waiting []) (output waiting orders) (lend after comings) → work.goes_on ≡ goes_on
     → Serves s sent half (worked c work w) (left_by goes_on c (record (with_link machine c (session_link state waiting (link_at machine c)))
     { units = with_units past.params.target after machine.units }))
-serves_worked s sent half w machine c past work state waiting orders after goes_on lt h a l e =
-    left_with goes_on s sent half w _ c past work lt e a (works s sent half w machine c past work state waiting orders after lt h a l)
+serves_worked s sent half w machine c past work state waiting orders after comings goes_on lt h a l e =
+    left_with goes_on s sent half w _ c past work lt e a (works s sent half w machine c past work state waiting orders after comings lt h a l)

@@ -2,6 +2,7 @@
 use Rattle.std.specs.Prelude.{◌≡◌, false, ℕ, List, [], ◌∷◌, ◌++◌, length, drop, map, filter, Bool, true, ◌&&◌, not, ◌==◌, nat_lt, if◌then◌else◌}
 use Rattle.std.specs.List.{list_any, range_with_len, enumerate_from}
 use Rattle.iscsi_pdu.specs.Frames.{Frame, frames, rest, is_long}
+use Rattle.iscsi_session.specs.Comings.{Coming}
 use Rattle.iscsi_session.specs.Steps.{Step, is_step, is_of}
 
 pub data Event : Type 0 where
@@ -41,18 +42,24 @@ pub record Mark : Type 0 where
 abbrev pub is_same : Mark → Mark → Bool
 is_same a b = a.connection == b.connection && is_point a.point b.point
 
--- an event, and where allocations failed in it
+-- An event, where allocations failed in it, and how the commands came out that were done in it, one after the other: one
+-- behind these came out as defined.
 pub record Happening : Type 0 where
   pub event : Event
   pub marks : List Mark
+  pub comings : List Coming
 
 abbrev pub History : Type 0
 History = List Happening
 
-abbrev pub marked : List Mark → Event → Happening
-marked marks event = record { event = event; marks = marks }
+abbrev pub happening : List Mark → List Coming → Event → Happening
+happening marks comings event = record { event = event; marks = marks; comings = comings }
 
--- no allocation failed
+-- no store failed
+abbrev pub marked : List Mark → Event → Happening
+marked marks event = happening marks [] event
+
+-- no allocation failed, and no store
 abbrev pub plain : Event → Happening
 plain event = marked [] event
 

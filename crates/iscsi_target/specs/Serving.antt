@@ -1,13 +1,14 @@
 -- While frames are taken, the code stands where the World does: what each call makes of both.
-use Rattle.std.specs.Prelude.{◌≡◌, ◌≢◌, ℕ, ◌+◌, ◌<◌, List, [], ◌∷◌, length, Bool, true, false, if◌then◌else◌, ◌&&◌, not, ◌==◌, nat_lt, Option, Some, None, Result, Ok, Err, ⊤}
+use Rattle.std.specs.Prelude.{◌≡◌, ◌≢◌, ℕ, ◌+◌, ◌<◌, List, [], ◌∷◌, length, drop, Bool, true, false, if◌then◌else◌, ◌&&◌, not, ◌==◌, nat_lt, Option, Some, None, Result, Ok, Err, ⊤}
 use Rattle.std.specs.List.{list_all, fold, enumerate_from}
 use Rattle.iscsi_pdu.specs.Frames.{Frame, rest, is_long}
+use Rattle.iscsi_session.specs.Comings.{Coming, AreAhead, ArePlain}
 use Rattle.iscsi_session.specs.Steps.{Step, Judging, Taking, Asking, Answering, Doing, is_doing, is_serving}
 use Rattle.iscsi_target.specs.History.{Point, Arriving, Before, AtEnd, Mark, is_within, Arrival, Whole, arrivals, connection_limit}
 use Rattle.iscsi_target.specs.World.{Setting, World, present, is_marked, arrive, settle_one, settle, settle_for}
 use Rattle.iscsi_target.specs.Machine.{LinkState, Machine, IsSound, IsSure, Feeds, KeepsPart, link_at, is_reading, is_closing, closed}
 use Rattle.iscsi_target.specs.Bounded.{Adds}
-use Rattle.iscsi_target.specs.Stands.{IsQuiet, IsSent, IsFirst, machine_with, are_reached}
+use Rattle.iscsi_target.specs.Stands.{IsQuiet, IsSent, IsFirst, Begins, machine_with, are_reached}
 use Rattle.iscsi_target.specs.declared.fault.Starved.{Starved}
 
 -- As StandsAt, but of the bytes that are no whole frame yet only that these are kept.
@@ -44,10 +45,6 @@ goes_on_by (Err e) = false
 abbrev pub ended_unless : {E : Type 0} → Result Bool E → ℕ → Machine → Machine
 ended_unless result c machine = if goes_on_by result then machine else closed machine c
 
-abbrev pub Begins : Option ℕ → List Mark → Type 0
-Begins None marks = marks ≡ []
-Begins (Some c) marks = IsFirst c marks
-
 -- of the marks of this kind, these are all there are
 abbrev pub Agrees : (Mark → Bool) → List Mark → List Mark → Type 0
 Agrees kind marks these = (mark : Mark) → kind mark ≡ true → is_marked marks mark.connection mark.point ≡ is_marked these mark.connection mark.point
@@ -62,9 +59,13 @@ pub record Does (kind : ℕ → Mark → Bool) (act : Setting → List Mark → 
   pub failed : ℕ → List Mark
   pub first : (place : ℕ) → Begins starved (failed place)
   pub of_kind : (place : ℕ) → list_all (kind place) (failed place) ≡ true
-  pub stands : IsSound after → (s : Setting) (sent : ℕ → ℕ) (half : ℕ → List ℕ) (w : World) (place : ℕ) (marks : List Mark)
-      → Agrees (kind place) marks (failed place) → Serves s sent half w given
+  -- how the commands came out that it did, one after the other
+  pub came : List Coming
+  pub plain : IsSound after → ArePlain came
+  pub stands : (s : Setting) (sent : ℕ → ℕ) (half : ℕ → List ℕ) (w : World) (place : ℕ) (marks : List Mark)
+      → Agrees (kind place) marks (failed place) → AreAhead came w.comings → Serves s sent half w given
       → Serves s sent (halves half) (act s marks place w) after × (are_reached (failed place) (act s marks place w) ≡ true)
+      × ((act s marks place w).comings ≡ drop (length came) w.comings)
 
 abbrev pub kept : (ℕ → List ℕ) → ℕ → List ℕ
 kept half c = half c

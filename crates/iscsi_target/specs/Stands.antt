@@ -1,15 +1,16 @@
 -- When the code stands where the World does: what it remembers is a function of the past.
-use Rattle.std.specs.Prelude.{◌≡◌, ℕ, ◌+◌, ◌<◌, ◌≤◌, List, [], ◌∷◌, length, drop, map, Bool, true, false, ◌==◌, Option, Some, None, if◌then◌else◌, ⊤}
+use Rattle.std.specs.Prelude.{◌≡◌, ℕ, ◌+◌, ◌<◌, ◌≤◌, List, [], ◌∷◌, ◌++◌, length, drop, map, Bool, true, false, ◌==◌, Option, Some, None, if◌then◌else◌, ⊤}
 use Rattle.std.specs.List.{list_any, list_all}
 use Rattle.iscsi_pdu.specs.Frames.{rest, is_long}
 use Rattle.iscsi_login.specs.Login.{remembered}
 use Rattle.iscsi_session.specs.State.{IsLawful, remembered as session_remembered}
 use Rattle.iscsi_login.specs.Directory.{KnownTargets}
-use Rattle.iscsi_target.specs.History.{Event, History, Mark, is_same, connections, connection_limit}
+use Rattle.iscsi_session.specs.Comings.{Coming, ArePlain}
+use Rattle.iscsi_target.specs.History.{Event, History, Mark, happening, is_same, connections, connection_limit}
 use Rattle.iscsi_target.specs.Life.{Life, Phase, LoggingIn, FullFeature, Closing, Over, reads, out_of}
-use Rattle.iscsi_target.specs.World.{Setting, World, present, happen, world}
+use Rattle.iscsi_target.specs.World.{Setting, World, present, happen, begun_event, world}
 use Rattle.iscsi_target.specs.Output.{out_now}
-use Rattle.iscsi_target.specs.Machine.{Machine, LinkState, free_link}
+use Rattle.iscsi_target.specs.Machine.{Machine, LinkState, IsSound, free_link}
 use Rattle.iscsi_target.specs.declared.phase.Phase as code
 use Rattle.iscsi_target.specs.declared.phase.Phase.TheVariants as phases
 
@@ -96,4 +97,19 @@ are_reached marks w = list_all (λ mark. list_any (is_same mark) w.reached) mark
 -- Allocations failed at these points of an event, first at one of this connection, and each of the points was reached.
 pub record IsStarved (s : Setting) (w : World) (event : Event) (c : ℕ) (marks : List Mark) : Type 0 where
   pub first : IsFirst c marks
-  pub reached : are_reached marks (happen s marks (record w { reached = [] }) event) ≡ true
+  pub reached : are_reached marks (happen s marks (begun_event [] w) event) ≡ true
+
+-- no allocation failed, or the first of the marks is of this connection
+abbrev pub Begins : Option ℕ → List Mark → Type 0
+Begins None marks = marks ≡ []
+Begins (Some c) marks = IsFirst c marks
+
+-- The code stands where the World of this history does with one more event, whatever its stores did: in it allocations failed
+-- at these points, each of which was reached, and its commands came out so. They came out as defined where all units are sound.
+pub record StandsAfter (s : Setting) (sent : ℕ → ℕ) (history : History) (event : Event) (starved : Option ℕ) (machine : Machine) : Type 0 where
+  pub marks : List Mark
+  pub comings : List Coming
+  pub first : Begins starved marks
+  pub reached : are_reached marks (happen s marks (begun_event comings (world s history)) event) ≡ true
+  pub plain : IsSound machine → ArePlain comings
+  pub stands : Stands s sent machine (history ++ happening marks comings event ∷ [])

@@ -22,6 +22,7 @@ use Rattle.iscsi_login.specs.declared.reply.Reply.{Reply}
 use Rattle.iscsi_login.specs.declared.reply.Reply.TheVariants.{GoOn, Full, Refused}
 use Rattle.iscsi_session.specs.Requests.{Past, begun as begun_past, removing}
 use Rattle.iscsi_session.specs.Functions.{FunctionReach, reached}
+use Rattle.iscsi_session.specs.Comings.{Coming, lend}
 use Rattle.iscsi_session.specs.Steps.{Step, Work, begun_work, served, settled}
 use Rattle.iscsi_target.specs.History.{Event, Open, Bytes, Gone, Point, Arriving, Before, AtEnd, Mark, is_same, Happening, History, Arrival, Whole, TooLong, new_arrivals, connections}
 use Rattle.iscsi_target.specs.Life.{Life, Phase, LoggingIn, FullFeature, Closing, Over, born, reads, is_over, past_in, session_in, ended_in}
@@ -38,6 +39,8 @@ pub record World : Type 0 where
   pub units : List UnitStates
   -- the points that the last event reached, in order
   pub reached : List Mark
+  -- how the commands come out that are still to be done in this event, one after the other
+  pub comings : List Coming
 
 -- ---- lives
 
@@ -165,7 +168,7 @@ log_in s c request w = replied (login (c + 1) (requests_of (present c w)) (looku
 
 -- a session at work, with the units of its target
 abbrev pub work_of : Past → World → Work
-work_of past w = begun_work past (units_at past.params.target w.units)
+work_of past w = begun_work past (lend (units_at past.params.target w.units) w.comings)
 
 abbrev pub fails : List Mark → ℕ → Step → Bool
 fails marks c step = is_marked marks c (Before step)
@@ -176,7 +179,7 @@ with_past past life = record life { phase = FullFeature past }
 -- what its steps made of it
 abbrev pub worked_on : ℕ → Work → World → World
 worked_on c work w = record (reaching c (map Before work.reached) (changed (with_past work.past) c w))
-    { units = with_units work.past.params.target work.units w.units }
+    { units = with_units work.past.params.target work.units.states w.units; comings = work.units.comings }
 
 -- a session that does not go on ends
 unfoldable pub worked : ℕ → Work → World → World
@@ -228,7 +231,10 @@ told_loss header past units =
 
 -- it loses them
 abbrev pub losing : List ℕ → Work → Work
-losing header work = record work { past = removing (lost header work.units work.past) work.past; units = told_loss header work.past work.units }
+losing header work = record work {
+  past = removing (lost header work.units.states work.past) work.past;
+  units = lend (told_loss header work.past work.units.states) work.units.comings;
+}
 
 abbrev pub lost_by : Option Past → List ℕ → ℕ → ℕ → World → World
 lost_by None header target d w = w
@@ -328,12 +334,16 @@ happen s marks w (Open c) = record w { lives = w.lives ++ born c ∷ [] }
 happen s marks w (Bytes c piece) = bring s marks c piece w
 happen s marks w (Gone c) = end c w
 
+-- an event begins, in which commands come out so
+abbrev pub begun_event : List Coming → World → World
+begun_event comings w = record w { reached = []; comings = comings }
+
 abbrev pub happened : Setting → World → Happening → World
-happened s w h = happen s h.marks (record w { reached = [] }) h.event
+happened s w h = happen s h.marks (begun_event h.comings w) h.event
 
 -- no life, and the units that the target is made with
 abbrev pub new_world : Setting → World
-new_world s = record { lives = []; units = s.units; reached = [] }
+new_world s = record { lives = []; units = s.units; reached = []; comings = [] }
 
 unfoldable pub world : Setting → History → World
 world s history = fold (happened s) (new_world s) history

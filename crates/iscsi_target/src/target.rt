@@ -12,7 +12,7 @@ ghost use Rattle.iscsi_target.specs.declared.phase.Phase.TheVariants.{Login};
 ghost use Rattle.iscsi_login.specs.LoginState.{LoginState, IsTargetBelow};
 ghost use Rattle.iscsi_target.specs.Known.{known_in};
 ghost use Rattle.iscsi_login.specs.Values.{AreInRange};
-ghost use Rattle.iscsi_target.specs.Stands.{Stands, IsStarved, with_sent};
+ghost use Rattle.iscsi_target.specs.Stands.{Stands, StandsAfter, IsStarved, with_sent};
 ghost use Rattle.iscsi_target.specs.Serving.{Takes, TakesOne, TakesAll, Moves, first_starved, ended_unless, starved_by};
 
 use crate::config::Config;
@@ -111,6 +111,8 @@ impl<S: Store> Target<S> {
         ensures sure { IsSure self.old → IsSure self.new }
         ensures stands { (s : Setting) (sent : ℕ → ℕ) (h : History) → WhereSound self.old (Stands s sent self.old h)
             → WhereSound self.new (Stands s (with_sent sent c 0) self.new (h ++ plain (Open c) ∷ [])) }
+        ensures always { (s : Setting) (sent : ℕ → ℕ) (h : History) → Stands s sent self.old h
+            → Stands s (with_sent sent c 0) self.new (h ++ plain (Open c) ∷ []) }
         ensures bounded { Bounded self.old → Bounded self.new }
     {
         self.links[c] = Link::opened(self.alloc, c);
@@ -130,6 +132,10 @@ impl<S: Store> Target<S> {
         ensures starved { IfErr result (λ starved. (s : Setting) (sent : ℕ → ℕ) (h : History) → WhereSound self.old (Stands s sent self.old h)
             → WhereSound self.new ((marks : List Mark) × IsStarved s (world s h) (Bytes c piece.now) starved.connection marks
             × Stands s sent self.new (h ++ marked marks (Bytes c piece.now) ∷ []))) }
+
+        // Of every target, whatever its stores do: the commands came out in this way.
+        ensures came { (s : Setting) (sent : ℕ → ℕ) (h : History) → Stands s sent self.old h
+            → StandsAfter s sent h (Bytes c piece.now) (first_starved result) self.new }
         ensures sound { IsSound self.new → IsSound self.old }
         ensures sure { IsSure self.old → IsSure self.new }
         ensures feeds { Feeds c self.old self.new }
@@ -165,6 +171,8 @@ impl<S: Store> Target<S> {
         ensures sure { IsSure self.old → IsSure self.new }
         ensures stands { (s : Setting) (sent : ℕ → ℕ) (h : History) → WhereSound self.old (Stands s sent self.old h)
             → WhereSound self.new (Stands s (with_sent sent c 0) self.new (h ++ plain (Gone c) ∷ [])) }
+        ensures always { (s : Setting) (sent : ℕ → ℕ) (h : History) → Stands s sent self.old h
+            → Stands s (with_sent sent c 0) self.new (h ++ plain (Gone c) ∷ []) }
         ensures bounded { Bounded self.old → Bounded self.new }
     {
         self.close(c);
@@ -200,6 +208,7 @@ impl<S: Store> Target<S> {
         ensures sure { IsSure self.old → IsSure self.new }
         ensures stands { (s : Setting) (sent : ℕ → ℕ) (h : History) → WhereSound self.old (Stands s sent self.old h)
             → WhereSound self.new (Stands s (with_sent sent c (sent c + n)) self.new h) }
+        ensures always { (s : Setting) (sent : ℕ → ℕ) (h : History) → Stands s sent self.old h → Stands s (with_sent sent c (sent c + n)) self.new h }
         ensures bounded { Bounded self.old → Bounded self.new }
     {
         let link = &mut self.links[c];

@@ -1,5 +1,6 @@
 use Rattle.std.proofs.Common.{◌≡◌, ◌++◌, ℕ, List}
-use Rattle.scsi_unit.specs.Units.{UnitStates, numbers_of}
+use Rattle.scsi_unit.specs.Units.{numbers_of}
+use Rattle.iscsi_session.specs.Comings.{TargetUnits}
 use Rattle.iscsi_session.specs.Requests.{due}
 use Rattle.iscsi_session.specs.Steps.{Taking, act}
 use Rattle.iscsi_session.specs.Runs.{output}
@@ -13,7 +14,7 @@ use Rattle.iscsi_session.proofs.session.Session.act_all.Given as goal
 abbrev pub invariant-loop : goal.invariant-loop
 invariant-loop l = record {
   turns : ℕ;
-  ran : (units : UnitStates) → l.luns ≡ numbers_of units → Ran Taking due act tasks_count waiting_in due_fits turns l.initial.self l.self
+  ran : (units : TargetUnits) → l.luns ≡ numbers_of units.states → Ran Taking due act tasks_count waiting_in due_fits turns l.initial.self l.self
       (output l.initial.out.items l.initial.orders.items) (output l.out.items l.orders.items) units units;
   grows : (more : List ℕ) × (l.out.items ≡ l.initial.out.items ++ more);
   params : l.self.params ≡ l.initial.self.params;

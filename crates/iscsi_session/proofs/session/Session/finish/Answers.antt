@@ -8,32 +8,36 @@ use Rattle.iscsi_pdu.specs.Frames.{Frame}
 use Rattle.iscsi_pdu.specs.Header.{initiator_task_tag}
 use Rattle.iscsi_session.specs.Commands.{carried_out}
 use Rattle.iscsi_session.specs.Steps.{finish}
+use Rattle.iscsi_session.proofs.Came.{came_none, came_one}
 use Rattle.iscsi_session.proofs.Settled.{none_steps, none_ready, finish_steps}
 use Rattle.iscsi_session.proofs.AtRest.{done_eases}
 use Rattle.iscsi_session.proofs.session.Session.finish.Goals as goal
 
 pub returns-in_default-clause-steps : goal.returns-in_default-clause-steps
-returns-in_default-clause-steps g c sound work s = none_steps finish _ work _ _ _ (none_ready work _ _ s c.in_default.ensures.none) s.units
+returns-in_default-clause-steps g c =
+    came_none _ _ _ (λ comings work s. none_steps finish _ work _ _ _ (none_ready work _ _ s c.in_default.ensures.none) s.units)
 
 pub returns-clause-steps : goal.returns-clause-steps
 returns-clause-steps g c =
+    let came = c.in_ok-done.ensures.came in
     rw c.give_back.ensures
-    (λ sound work s.
+    (came_one _ _ _ _ came.0 (λ comings next work s.
     let list = c.self.inside.transfers.list in
     let payload : c.payload-payload.result.now ≡ payload_at c.args.self.now.transfers.list (place_for c.in-Some.frame.now c.args.self.now.transfers.list) =
     c.payload-payload.ensures
     ∙ ap (λ (t : ℕ). payload_at list (place_with t list)) (c.initiator_task_tag.ensures ∙ ap (λ (f : Frame). initiator_task_tag f.header) c.frame.view_is)
     ∙ ap (λ (x : SessionState). payload_at x.transfers.list (place_for c.in-Some.frame.now x.transfers.list)) c.self.view_is in
-    finish_steps work _ _ _ _ _ _ _ _ _ _ s c.in-Some.ensures.some c.in-Some.ensures.whole
+    finish_steps work _ _ _ _ _ _ comings came.0 _ _ _ _ s c.in-Some.ensures.some c.in-Some.ensures.whole
     (ap (λ (x : SessionState). x.params.nexus) c.self.view_is)
-    (c.in_ok-done.ensures.done sound ∙ ap (carried_out c.args.units.now c.self.inside.params.nexus c.in-Some.frame.now) payload)
+    next
+    (came.1 ∙ ap (carried_out came.0 c.args.units.now c.self.inside.params.nexus c.in-Some.frame.now) payload)
     (record {
       stands = c.done-buffer.ensures.stands;
       out = λ past k others st is. c.done-buffer.ensures.out past k others st is
           ∙ ap (λ (bytes : List ℕ). bytes ++ flat_map spelling
           (command_answers (stamp (finished k past)) past.params.values (frame_of past.came k) c.in_ok-done.done)) c.make_room.ensures.same;
       orders = refl;
-    }))
+    })) came.2)
 
 pub returns-clause-back : goal.returns-clause-back
 returns-clause-back g c = rw c.give_back.ensures c.carry_out.ensures.back

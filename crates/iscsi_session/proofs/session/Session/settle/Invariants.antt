@@ -1,5 +1,6 @@
 use Rattle.std.proofs.Common.{◌≡◌, ◌++◌, ℕ, List, [], length}
 use Rattle.scsi_unit.specs.Units.{AreSound, AreSure}
+use Rattle.iscsi_session.specs.Comings.{CameAs}
 use Rattle.iscsi_session.specs.Runs.{output}
 use Rattle.iscsi_session.specs.Weight.{IsAtRest, Eases}
 use Rattle.iscsi_session.specs.Steps.{Doing, ready, finish}
@@ -11,9 +12,8 @@ use Rattle.iscsi_session.proofs.session.Session.settle.Given as goal
 abbrev pub invariant-loop : goal.invariant-loop
 invariant-loop g l = record {
   turns : ℕ;
-  ran : AreSound l.units
-      → Ran Doing ready finish queue_count queued_in queue_fits turns l.initial.self l.self
-      (output l.initial.out.items []) (output l.out.items []) l.initial.units l.units;
+  ran : CameAs (λ given after. Ran Doing ready finish queue_count queued_in queue_fits turns l.initial.self l.self
+      (output l.initial.out.items []) (output l.out.items []) given after) l.initial.units l.units;
   back : AreSound l.units → AreSound l.initial.units;
   sure : AreSure l.initial.units → AreSure l.units;
   grows : (more : List ℕ) × (l.out.items ≡ l.initial.out.items ++ more);

@@ -4,7 +4,7 @@ use Rattle.std.proofs.lemmas.List.{nil_from_length}
 use Rattle.iscsi_target.specs.Machine.{Machine, IsSound, link_at, closed, is_closing, is_reading}
 use Rattle.iscsi_target.specs.World.{world}
 use Rattle.iscsi_target.proofs.Apart.{part_none, part_as, part_closed, part_halved, part_then}
-use Rattle.iscsi_target.proofs.Feeding.{comes_idle, comes_empty, ok_came, err_came, starved_came, kept_feeds, kept_reads}
+use Rattle.iscsi_target.proofs.Feeding.{comes_idle, comes_empty, all_came, ok_came, err_came, none_after, starved_after, starved_came, kept_feeds, kept_reads}
 use Rattle.iscsi_target.proofs.Moving.{own_self, closed_closing, closing_if, closed_moves, feeds_then, moves_as}
 use Rattle.iscsi_target.proofs.Sound.{closed_sound, closed_sure, sound_as, sure_as}
 use Rattle.iscsi_target.proofs.Standing.{stands_as}
@@ -23,7 +23,25 @@ returns-then-not-reads-clause-stands g c = λ s sent h at sound.
     (comes_idle s sent (world s h) c.args.self.now c.args.c c.args.piece.now c.requires.in_range (at sound) c.requires.«open»
     (sym c.reads.ensures.value ∙ c.if-not-reads.true))
 
+pub returns-then-is_empty-clause-came : goal.returns-then-is_empty-clause-came
+returns-then-is_empty-clause-came g c = λ s sent h at.
+    (let none : c.args.piece.now ≡ [] = nil_from_length c.args.piece.now (eqb-true _ _ (sym c.is_empty.ensures ∙ c.if-is_empty.true)) in
+    none_after s sent h c.args.self.now c.args.c c.args.piece.now
+    (rw none (comes_empty s sent (world s h) c.args.self.now c.args.c c.requires.in_range at c.requires.«open»)))
+
+pub returns-then-not-reads-clause-came : goal.returns-then-not-reads-clause-came
+returns-then-not-reads-clause-came g c = λ s sent h at.
+    none_after s sent h c.args.self.now c.args.c c.args.piece.now
+    (comes_idle s sent (world s h) c.args.self.now c.args.c c.args.piece.now c.requires.in_range at c.requires.«open»
+    (sym c.reads.ensures.value ∙ c.if-not-reads.true))
+
 -- ---- the piece could not be kept
+
+pub returns-in-Err-clause-came : goal.returns-in-Err-clause-came
+returns-in-Err-clause-came g c = λ s sent h at.
+    (let same : c.starve.new.self ≡ closed c.args.self.now c.args.c = c.starve.ensures.closed ∙ ap (λ (m : Machine). closed m c.args.c) c.in-Err.ensures.err in
+    starved_after s sent h c.args.self.now c.starve.new.self c.args.c c.starve.result.connection c.args.piece.now c.starve.ensures.names c.requires.in_range
+    at (sym c.reads.ensures.value ∙ c.if-not-reads.false) same)
 
 pub returns-in-Err-clause-starved : goal.returns-in-Err-clause-starved
 returns-in-Err-clause-starved g c = λ s sent h at sound.
@@ -65,6 +83,11 @@ pub returns-in-Err-clause-open : goal.returns-in-Err-clause-open
 returns-in-Err-clause-open g c = (returns-in-Err-clause-feeds g c).opens
 
 -- ---- it was kept, and its frames were taken
+
+pub returns-clause-came : goal.returns-clause-came
+returns-clause-came g c =
+    all_came c.take_frames.result c.args.self.now c.keep.new.self c.take_frames.new.self c.args.c c.args.piece.now c.requires.in_range
+    (sym c.reads.ensures.value ∙ c.if-not-reads.false) c.in_default.ensures.ok c.take_frames.ensures.takes
 
 pub returns-clause-stands : goal.returns-clause-stands
 returns-clause-stands g c =

@@ -31,6 +31,10 @@ returns-clause-stands g c = λ s sent h at sound.
     (sound_units _ c.close.new.self (ap (λ (m : Machine). m.units) c.self.view_is) sound)) in
     stands_machine _ _ _ _ _ (search rules) (gone_stands s sent c.args.self.now h c.args.c c.requires.in_range (at before)))
 
+pub returns-clause-always : goal.returns-clause-always
+returns-clause-always g c = λ s sent h at.
+    stands_machine _ _ _ _ _ (search rules) (gone_stands s sent c.args.self.now h c.args.c c.requires.in_range at)
+
 pub returns-clause-count : goal.returns-clause-count
 returns-clause-count g c =
     sym (closed_count c.args.self.now c.args.c) ∙ ap (λ (m : Machine). length m.links) (sym c.close.ensures.closed ∙ sym c.self.view_is) ∙ c.self.invariant.0

@@ -10,6 +10,10 @@ returns-clause-stands g c = λ s sent h at sound. stands_machine _ _ _ _ _ (sear
     (open_stands s sent c.args.self.now h c.args.c c.requires.in_range c.requires.free
     (at (sound_units _ c.args.self.now (ap (λ (m : Machine). m.units) c.self.view_is) sound)))
 
+pub returns-clause-always : goal.returns-clause-always
+returns-clause-always g c = λ s sent h at. stands_machine _ _ _ _ _ (search rules)
+    (open_stands s sent c.args.self.now h c.args.c c.requires.in_range c.requires.free at)
+
 pub returns-clause-sure : goal.returns-clause-sure
 returns-clause-sure g c = λ sure. sure_as c.args.self.now _ (sym c.self.view_is) sure
 

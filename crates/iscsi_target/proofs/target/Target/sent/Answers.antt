@@ -6,8 +6,8 @@ use Rattle.iscsi_target.proofs.Standing.{sent_stands, stands_machine}
 use Rattle.iscsi_target.proofs.Wanting.{bounded_links, sent_bounded}
 use Rattle.iscsi_target.proofs.target.Target.sent.Goals as goal
 
-pub returns-clause-stands : goal.returns-clause-stands
-returns-clause-stands g c = λ s sent h at sound.
+pub returns-clause-always : goal.returns-clause-always
+returns-clause-always g c = λ s sent h at.
     (let machine : Machine = record {
       directory = c.self.inside.directory;
       units = c.self.inside.units.items;
@@ -18,8 +18,11 @@ returns-clause-stands g c = λ s sent h at sound.
     let is = ap (λ (l : LinkState). let m : Machine = with_link machine c.args.c l in m) (c.sent.ensures ∙ ap (λ (l : LinkState). sent_link l c.args.n) old)
     ∙ ap (λ (m : Machine). with_link m c.args.c (sent_link (link_at m c.args.c) c.args.n)) c.self.view_is in
     stands_machine s _ h _ _ (sym (c.rest.ensures ∙ is))
-    (sent_stands s sent c.args.self.now h c.args.c c.args.n c.requires.in_range c.requires.waits
-    (at (sound_units _ c.args.self.now (ap (λ (m : Machine). m.units) c.rest.ensures ∙ ap (λ (m : Machine). m.units) c.self.view_is) sound))))
+    (sent_stands s sent c.args.self.now h c.args.c c.args.n c.requires.in_range c.requires.waits at))
+
+pub returns-clause-stands : goal.returns-clause-stands
+returns-clause-stands g c = λ s sent h at sound. returns-clause-always g c s sent h
+    (at (sound_units _ c.args.self.now (ap (λ (m : Machine). m.units) c.rest.ensures ∙ ap (λ (m : Machine). m.units) c.self.view_is) sound))
 
 pub returns-clause-bounded : goal.returns-clause-bounded
 returns-clause-bounded g c = λ bounded.

@@ -78,7 +78,9 @@ returns-in-Ok-clause-settles g c =
     c.link.inside.phase c.link.inside.waiting.items c.settle.new.out.items
     c.in-FullFeature.session c.settle.new.self c.index_mut-units.result.now c.settle.new.units c.requires.in_range link c.in-FullFeature.is target
     (units_here machine.units c.args.target _ _ _ below target c.index_mut-units.ensures.value)
-    (λ sound. c.in-Ok.ensures.ok (sound_there machine (set machine.links c.args.c then_) c.args.target c.settle.new.units below sound)) (λ place. refl) refl)
+    c.in-Ok.ensures.ok
+    (λ sound. c.in-Ok.ensures.ok.plain (sound_there machine (set machine.links c.args.c then_) c.args.target c.settle.new.units below sound))
+    (λ place. refl) refl)
 
 pub returns-in-Ok-clause-moves : goal.returns-in-Ok-clause-moves
 returns-in-Ok-clause-moves g c = λ b.
@@ -147,7 +149,8 @@ returns-in-Err-clause-settles g c =
     c.link.inside.waiting.items c.settle.new.out.items
     c.in-FullFeature.session c.settle.new.self c.index_mut-units.result.now c.settle.new.units c.requires.in_range link c.in-FullFeature.is target
     (units_here machine.units c.args.target _ _ _ below target c.index_mut-units.ensures.value)
-    (λ sound. stops.leads (sound_there machine (set machine.links c.args.c then_) c.args.target c.settle.new.units below
+    stops.leads
+    (λ sound. stops.leads.plain (sound_there machine (set machine.links c.args.c then_) c.args.target c.settle.new.units below
     (closed_sound middle c.args.c (sound_as c.starve.new.self (closed middle c.args.c) c.starve.ensures.closed sound))))
     (settle_kind c.args.c stops.step stops.of_frame stops.of_kind) c.starve.ensures.closed))
 
