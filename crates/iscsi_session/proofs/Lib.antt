@@ -39,6 +39,7 @@ mod Served
 pub mod Steps
 pub mod Lawful
 pub mod Came
+pub mod Calm
 pub mod Runs
 mod InPlace
 mod Asked

@@ -38,6 +38,11 @@ abbrev pub ArePlain : List Coming → Type 0
 ArePlain [] = ⊤
 ArePlain (coming ∷ more) = (coming.came ≡ AsDefined) × ArePlain more
 
+-- nor in any of these that is of a session with this target
+abbrev pub IsCalm : ℕ → List Coming → Type 0
+IsCalm target [] = ⊤
+IsCalm target (coming ∷ more) = (is_for coming.target (Some target) ≡ true → coming.came ≡ AsDefined) × IsCalm target more
+
 -- What a call that does commands comes to, by how they came out, whatever others come out as behind them. All came out as
 -- defined where the units are sound after it.
 pub record CameAs (Leads : TargetUnits → TargetUnits → Type 0) (units after : UnitStates) : Type 0 where

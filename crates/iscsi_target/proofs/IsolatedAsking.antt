@@ -15,7 +15,7 @@ use Rattle.iscsi_session.specs.Requests.{Past}
 use Rattle.iscsi_session.specs.Steps.{Work, served, settled}
 use Rattle.iscsi_target.specs.History.{Event, Open, Bytes, Gone, Mark, Point, Arriving, AtEnd, Arrival, Whole, TooLong, connections, History}
 use Rattle.iscsi_target.specs.Life.{Life, Phase, LoggingIn, FullFeature, Closing, Over, ended_in, born}
-use Rattle.iscsi_target.specs.World.{Setting, World, is_present, present, changed_first, changed, reads_life, past_of, live, close, over, end, reaching, is_marked, take_step, answered, asked, begun, begins, requests_of, lookup_for, end_older, replied, log_in, fails, work_of, with_past, worked_on, worked, served_by, take_in, orders_in, function_of, reaches_others, losing, lost_by, lose_one, reset, carry_out, carry_out_for, settled_by, settle_one, settle, settle_for, serve, is_login, taken_in, taken_by, comes, arrive, brought, longer, bring, happen, happened}
+use Rattle.iscsi_target.specs.World.{Setting, World, is_present, present, changed_first, changed, reads_life, past_of, live, close, over, end, reaching, is_marked, take_step, answered, asked, begun, begins, requests_of, lookup_for, end_older, replied, log_in, fails, work_of, with_past, worked_on, worked, served_by, take_in, orders_in, function_of, reaches_others, losing, lost_by, lose_one, reset, carry_out, carry_out_for, settled_by, settle_one, settle, settle_for, serve, is_login, taken_in, taken_by, comes, arrive, brought, longer, bring, happen, begun_event, happened}
 use Rattle.iscsi_target.specs.Isolation.{named_in}
 use Rattle.iscsi_target.proofs.Choices.{cond_true, cond_false}
 use Rattle.iscsi_target.proofs.IsolatedLives.{AllFrom, Selection, HasTarget, all_front}

@@ -9,7 +9,7 @@ use Rattle.scsi_unit.specs.Medium.{KeptState, kept_of}
 use Rattle.iscsi_login.specs.Session.{is_same_target}
 use Rattle.iscsi_target.specs.History.{Event, Open, Bytes, Gone, connection_limit, is_among, open_after, may_come, may_follow, well_formed, plain}
 use Rattle.iscsi_target.specs.Life.{Life, Over, is_over, born, ended_in, out_of}
-use Rattle.iscsi_target.specs.World.{Setting, World, is_present, present, session_of, left, over, end, bring, happened, new_world, world}
+use Rattle.iscsi_target.specs.World.{Setting, World, is_present, present, session_of, left, over, end, bring, begun_event, happened, new_world, world}
 use Rattle.iscsi_target.specs.Output.{outputs, media}
 use Rattle.iscsi_target.specs.Isolation.{kept_from, connection_of, next_after, last_after, only_from, only, named_in, Selects, names, plain_world, kept, TargetsAreIsolated, TargetsSeeTheirOwn, StrangersAreAlone, GivesItsOwn}
 use Rattle.iscsi_target.proofs.Choices.{cond_true, cond_false, and_true, not_true, eqb_self}

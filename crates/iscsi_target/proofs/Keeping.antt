@@ -19,7 +19,7 @@ use Rattle.iscsi_session.proofs.Steps.{Extends, served_extends, settled_extends}
 use Rattle.iscsi_login.specs.Session.{is_same_target}
 use Rattle.iscsi_target.specs.History.{Mark, Point, Arriving, AtEnd, Arrival, Whole, TooLong, Bytes, marked, connections, History, Happening}
 use Rattle.iscsi_target.specs.Life.{Life, Phase, LoggingIn, FullFeature, Closing, Over, is_over, reads, past_in, session_answers, out_of, ended_in}
-use Rattle.iscsi_target.specs.World.{Setting, World, is_present, present, changed_first, changed, reads_life, past_of, live, close, reaching, is_marked, take_step, answered, asked, begun, begins, requests_of, lookup_for, end_older, replied, log_in, fails, work_of, with_past, worked_on, worked, served_by, take_in, settled_by, settle_one, settle, serve, is_login, enter, taken_in, taken_by, comes, arrive, brought, longer, bring, happened, new_world, world, settle_for, function_of, reaches_others, losing, lost_by, lose_one, reset, carry_out, carry_out_for, orders_in}
+use Rattle.iscsi_target.specs.World.{Setting, World, is_present, present, changed_first, changed, reads_life, past_of, live, close, reaching, is_marked, take_step, answered, asked, begun, begins, requests_of, lookup_for, end_older, replied, log_in, fails, work_of, with_past, worked_on, worked, served_by, take_in, settled_by, settle_one, settle, serve, is_login, enter, taken_in, taken_by, comes, arrive, brought, longer, bring, begun_event, happened, new_world, world, settle_for, function_of, reaches_others, losing, lost_by, lose_one, reset, carry_out, carry_out_for, orders_in}
 use Rattle.iscsi_target.specs.Runs.{RowState, open_row, row_of}
 use Rattle.iscsi_target.specs.Laws.{GoesOn, LivesGoOn, AnswersStay}
 use Rattle.iscsi_target.proofs.Working.{answers_grow}

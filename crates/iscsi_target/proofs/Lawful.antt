@@ -19,7 +19,7 @@ use Rattle.iscsi_session.proofs.Lawful.{taken_once, finished_as_taken, steps_are
 use Rattle.iscsi_login.specs.Session.{is_same_target}
 use Rattle.iscsi_target.specs.History.{Event, Open, Bytes, Gone, Mark, Point, Arriving, AtEnd, Arrival, Whole, TooLong, arrivals, new_arrivals, connections, History, marked}
 use Rattle.iscsi_target.specs.Life.{Life, Phase, LoggingIn, FullFeature, Closing, Over, born, past_in, ended_in}
-use Rattle.iscsi_target.specs.World.{Setting, World, is_present, present, changed_first, changed, reads_life, past_of, live, close, over, end, reaching, is_marked, take_step, answered, asked, begun, begins, requests_of, lookup_for, end_older, replied, log_in, fails, work_of, with_past, worked_on, worked, served_by, take_in, settled_by, settle_one, settle, serve, is_login, taken_in, taken_by, comes, arrive, brought, longer, bring, happen, happened, new_world, world, settle_for, function_of, reaches_others, reach_from, losing, lost_by, lose_one, reset, carry_out, carry_out_for, orders_in}
+use Rattle.iscsi_target.specs.World.{Setting, World, is_present, present, changed_first, changed, reads_life, past_of, live, close, over, end, reaching, is_marked, take_step, answered, asked, begun, begins, requests_of, lookup_for, end_older, replied, log_in, fails, work_of, with_past, worked_on, worked, served_by, take_in, settled_by, settle_one, settle, serve, is_login, taken_in, taken_by, comes, arrive, brought, longer, bring, happen, begun_event, happened, new_world, world, settle_for, function_of, reaches_others, reach_from, losing, lost_by, lose_one, reset, carry_out, carry_out_for, orders_in}
 use Rattle.iscsi_target.specs.Stands.{IsQuietIn}
 use Rattle.iscsi_target.specs.Laws.{HasBytes, FinishesAsTaken, SessionsFinishAsTaken, OthersStay}
 use Rattle.iscsi_target.proofs.Arrivals.{long_end}
@@ -214,7 +214,7 @@ fit-take_in marks c place frame w fits a = fit-served_by (past_of (present c w))
 -- ---- Task Management
 
 lost_lawful : (header : List ℕ) (work : Work) → IsLawful work.past → IsLawful (losing header work).past
-lost_lawful header work lawful = lawful_removing (reach_from header work.units) work.past lawful
+lost_lawful header work lawful = lawful_removing (reach_from header work.units.states) work.past lawful
 
 fit-lost_by : (o : Option Past) (header : List ℕ) (target d : ℕ) (w : World) → past_of (present d w) ≡ o → AreFit w → AreFit (lost_by o header target d w)
 fit-lost_by None header target d w at a = a

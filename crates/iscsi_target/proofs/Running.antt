@@ -9,7 +9,7 @@ use Rattle.std.proofs.lemmas.List.Folds.{list_any-append}
 use Rattle.iscsi_login.specs.Directory.{KnownTargets}
 use Rattle.iscsi_target.specs.History.{Open, Bytes, Gone, History, plain, is_among, open_after, connection_limit}
 use Rattle.iscsi_target.specs.Life.{Life, Over, is_over, born, out_of, ended_in}
-use Rattle.iscsi_target.specs.World.{Setting, World, is_present, present, over, end, world}
+use Rattle.iscsi_target.specs.World.{Setting, World, is_present, present, over, end, begun_event, world}
 use Rattle.iscsi_target.specs.Output.{out_now, outputs}
 use Rattle.iscsi_target.specs.Machine.{LinkState, Machine, link_at, is_free, is_open_at}
 use Rattle.iscsi_target.specs.Stands.{link_of, half_of, Stands, with_sent}

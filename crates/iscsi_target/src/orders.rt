@@ -7,6 +7,7 @@ ghost use Rattle.iscsi_pdu.specs.Header.{lun_field};
 ghost use Rattle.scsi_unit.specs.Units.{AreSound, AreSure, numbers_of};
 ghost use Rattle.iscsi_login.specs.LoginState.{IsTargetBelow};
 ghost use Rattle.iscsi_login.specs.Session.{is_same_target as is_same};
+ghost use Rattle.iscsi_session.specs.Comings.{Coming, lend};
 ghost use Rattle.iscsi_session.specs.Runs.{output, Runs};
 ghost use Rattle.iscsi_session.specs.Weight.{IsAtRest, Eases};
 ghost use Rattle.iscsi_target.specs.World.{units_at, function_of, reaches_others as reaches_others_by, told_by, losing, lose_one, reset_by, reset as reset_in, carry_out, carry_out_for};
@@ -70,8 +71,8 @@ fn reset<S: Store>(units: &mut Units<S>, function: &Header)
 
 /// A session loses the commands that the function of another one reaches.
 fn lose<S: Store>(session: &mut Session, units: &mut Units<S>, function: &Header)
-    ensures runs { (waiting : List ℕ) → Runs (λ fails place. losing function.now) None true session.old session.new
-        (output waiting []) (output waiting []) units.old units.new }
+    ensures runs { (waiting : List ℕ) (comings : List Coming) → Runs (λ fails place. losing function.now) None true session.old session.new
+        (output waiting []) (output waiting []) (lend units.old comings) (lend units.new comings) }
     ensures back { AreSound units.new → AreSound units.old }
     ensures sure { AreSure units.old → AreSure units.new }
     ensures eases { (waiting : List ℕ) → IsAtRest session.old → Eases session.old session.new waiting waiting }

@@ -1,4 +1,4 @@
-use Rattle.std.proofs.Common.{◌≡◌, ℕ, suc, ◌<◌, List, length, true, Option, Some, None, refl, sym, ap, ◌∙◌, subst, arith}
+use Rattle.std.proofs.Common.{◌≡◌, ℕ, suc, ◌<◌, List, [], length, true, Option, Some, None, refl, sym, ap, ◌∙◌, subst, arith}
 use Rattle.iscsi_login.specs.Session.{is_same_target}
 use Rattle.iscsi_login.specs.LoginState.{IsTargetBelow}
 use Rattle.iscsi_login.specs.declared.params.Params.{Params}
@@ -12,6 +12,7 @@ use Rattle.iscsi_target.proofs.Apart.{apart_from, apart_then, part_as, part_none
 use Rattle.iscsi_target.proofs.Doing.{does_on, does_starved}
 use Rattle.iscsi_target.proofs.Frames.{takes_idle, finishes}
 use Rattle.iscsi_target.proofs.Held.{viewed, held_here, held_same, same_target, serve_takes, serve_moves, within_there}
+use Rattle.iscsi_session.specs.Comings.{lend}
 use Rattle.iscsi_session.specs.Runs.{output}
 use Rattle.iscsi_session.proofs.AtRest.{serve_loads}
 use Rattle.iscsi_target.specs.Bounded.{Adds}
@@ -253,7 +254,7 @@ returns-in-FullFeature-clause-loads g c whole =
     c.link.inside.waiting.items c.serve-goes_on.new.out.items c.in-FullFeature.session c.serve-goes_on.new.self lt link c.in-FullFeature.is
     (serve_loads c.serve-goes_on.result c.args.frame c.luns_of-luns.result.now c.in-FullFeature.session c.serve-goes_on.new.self
     (output c.link.inside.waiting.items c.new-orders.result.items) (output c.serve-goes_on.new.out.items c.serve-goes_on.new.orders.items)
-    (units_at c.params.result.now.target machine.units) known c.serve-goes_on.ensures.ok c.serve-goes_on.ensures.err c.serve-goes_on.ensures.idle whole)
+    (lend (units_at c.params.result.now.target machine.units) []) known c.serve-goes_on.ensures.ok c.serve-goes_on.ensures.err c.serve-goes_on.ensures.idle whole)
     c.end_unless-served.ensures.same in
     let apart = apart_next c.args.c in
     subst (λ (m : Machine). Adds 1 (link_at m c.args.c) (link_at c.settle_for-settled.new.self c.args.c)) c.self.view_is
