@@ -165,7 +165,7 @@ quiet_served fails place frame work =
     let acts : Work → Work = λ x. one_by_one fails (Taking place) due act 0 (waiting_in x.past) x in
     let one = quiet_step Any (λ step x ok. tt) (λ x ok. tt) fails (Judging place) (judge frame) work (λ x ok. quiet_judge frame x) tt in
     let two = quiet_all Any (λ step x ok. tt) (λ x ok. tt) fails (Taking place) due act 0 (waiting_in first.past) first (λ k x ok. tt)
-        (λ k x ok. quiet_act k x) tt in
+    (λ k x ok. quiet_act k x) tt in
     let three = quiet_first Any (λ step x ok. tt) (λ x ok. tt) fails (Asking place) ask (asking acted_.past) acted_ (λ k x ok. quiet_ask k x) tt in
     ap (λ (x : Work). told (asks (acts x))) one ∙ ap (λ (x : Work). told (asks x)) two ∙ ap told three
     ∙ quiet_first Any (λ step x ok. tt) (λ x ok. tt) fails (Answering place) tell (drained_functions asked_.past) asked_ (λ k x ok. quiet_tell k x) tt

@@ -10,7 +10,6 @@ use Rattle.iscsi_login.specs.Session.{is_same_target}
 use Rattle.iscsi_login.specs.Directory.{KnownTargets}
 use Rattle.scsi_unit.specs.Units.{UnitStates}
 use Rattle.iscsi_session.specs.Comings.{Coming, TargetUnits, lend}
-use Rattle.iscsi_session.proofs.Came.{came_none}
 use Rattle.iscsi_session.specs.Requests.{Past, removing}
 use Rattle.iscsi_session.specs.State.{SessionState, Stands, remembered}
 use Rattle.iscsi_session.specs.Steps.{Work}
@@ -138,7 +137,7 @@ unfolding session_calls
 loses_does header target c d machine after framer phase waiting state then_ units units_then lt other link is same at runs e =
     call_does is_of_none (λ s marks place w. lose_one header target c w d) (λ fails place work. losing header work) None true d machine after
     (session_calls (λ fails place work. losing header work) None true d machine after framer phase waiting waiting [] state then_ units units_then lt link is at
-    (came_none _ units units_then runs) (λ sound. tt) (e ∙ called_at machine d (Some target) state.params.target units_then (viewed framer (phases.FullFeature then_) waiting) (sym same)))
+    (record { came = []; leads = λ comings ahead. runs comings; plain = λ sound. tt }) (λ sound. tt) (e ∙ called_at machine d (Some target) state.params.target units_then (viewed framer (phases.FullFeature then_) waiting) (sym same)))
     (λ s marks place w past there params. lose_acts header target c d w past other there (ap (λ p. p.target) params ∙ same))
     (λ place marks work agree. refl) (λ place. refl)
 

@@ -119,8 +119,7 @@ takes_closed given after c frame login lt phase other is = does_nothing is_of_fr
     let v = reaching c (Arriving place ∷ []) w in
     let step = arrived s marks c w place (Whole frame) (ap reads_life l.at ∙ ap reads l.phase) agree
     ∙ arrived_in s marks c w place frame l.life LoggingIn l.at l.phase
-    ∙ cond_false (is_login frame) (log_in s c frame v) (close c v) other in
-    (
+    ∙ cond_false (is_login frame) (log_in s c frame v) (close c v) other in (
       serves_world s sent half (close c v) _ after step (serves_as s sent half (close c v) (closed given c) after is
           (closes s sent half v given c l.life lt (serves_reaching s sent half w given c (Arriving place ∷ []) h)
           (present-reaching c c (Arriving place ∷ []) w ∙ l.at))),
@@ -143,8 +142,7 @@ takes_login given after c frame login lt phase logs is = does_nothing is_of_fram
       at = present-reaching c c (Arriving place ∷ []) w ∙ l.at;
       phase = l.phase;
     } in
-    let P : LoginState → Type 0 = λ known. Serves s sent half (log_in s c frame v) (logged_in given c known frame) in
-    (
+    let P : LoginState → Type 0 = λ known. Serves s sent half (log_in s c frame v) (logged_in given c known frame) in (
       serves_world s sent half (log_in s c frame v) _ after step (serves_as s sent half (log_in s c frame v) (logged_in given c login frame) after is
           (subst P l.known (logs_in s sent half v given c l.life frame enters))),
       ap (λ (u : World). u.comings) step ∙ comings_log_in s c frame v,

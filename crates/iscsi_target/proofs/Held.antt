@@ -1,13 +1,12 @@
 -- A session's call, as the code makes it: on the link that is borrowed from the list.
 use Rattle.std.proofs.Common.{◌≡◌, ◌≢◌, ℕ, ◌<◌, List, [], ◌++◌, length, set, get_or, Bool, true, false, cond, Option, Some, None, refl, sym, ap, ◌∙◌, subst, arith}
-use Rattle.std.specs.Prelude.{All, slice_set, Result, Ok, Err, IfOk, OnErr}
+use Rattle.std.specs.Prelude.{drop, All, slice_set, Result, Ok, Err, IfOk, OnErr}
 use Rattle.iscsi_pdu.specs.Frames.{Frame}
 use Rattle.std.specs.List.{list_all}
 use Rattle.std.proofs.lemmas.Bool.{ne_eqb, eqb-true, eq-eqb}
 use Rattle.std.proofs.lemmas.List.{length-set, set-get_or, get_or-set_same}
 use Rattle.scsi_unit.specs.Units.{UnitStates, AreSound, AreSure, numbers_of}
 use Rattle.iscsi_session.specs.Comings.{TargetUnits, CameAs, ArePlain, lend}
-use Rattle.iscsi_session.proofs.Came.{came_none, came_as}
 use Rattle.iscsi_session.specs.Requests.{Past}
 use Rattle.iscsi_session.specs.State.{SessionState, remembered}
 use Rattle.iscsi_session.specs.Steps.{Step, Work, is_serving, served, settled}
@@ -124,8 +123,13 @@ session_calls run failed goes_on c machine after framer phase before waiting ord
   units_then = units_then;
   phase = ap (λ (l : LinkState). l.phase) (sym link) ∙ is;
   target = target;
-  runs = came_as _ _ units units_then runs (λ a b ran. subst (λ (bytes : List ℕ). Runs run failed goes_on state then_ (output bytes []) (output waiting orders) a b)
-      (ap (λ (l : LinkState). l.waiting) link) ran);
+  runs = record {
+    came = runs.came;
+    leads = λ comings ahead. subst (λ (bytes : List ℕ). Runs run failed goes_on state then_ (output bytes []) (output waiting orders)
+        (lend units comings) (lend units_then (drop (length runs.came) comings)))
+        (ap (λ (l : LinkState). l.waiting) link) (runs.leads comings ahead);
+    plain = runs.plain;
+  };
   plain = plain;
   is = e ∙ ap (λ (half : List ℕ). left_by goes_on c (record machine {
     units = with_units state.params.target units_then machine.units;
@@ -243,7 +247,7 @@ serve_takes_by failed goes_on c target frame luns orders machine middle after fr
     let known : luns ≡ numbers_of units = numbers ∙ ap (λ (t : Option ℕ). numbers_of (units_at t machine.units)) (sym same) in
     takes_served c target frame orders machine middle after failed goes_on starved
     (session_calls (λ f place. served f place frame) failed goes_on c machine middle framer phase before waiting orders state then_ units units lt
-    link is refl (came_none _ units units (λ comings. runs (lend units comings) known)) (λ sound. tt)
+    link is refl (record { came = []; leads = λ comings ahead. runs (lend units comings) known; plain = λ sound. tt }) (λ sound. tt)
     (e ∙ ap (left_by goes_on c) (sym (same_units machine c state.params.target (viewed framer (phases.FullFeature then_) waiting)))))
     refl same kind back finish
 

@@ -158,10 +158,10 @@ out_comes g s c place TooLong w v on named agree = out_close g c w v on agree
 -- ---- one step after the other
 
 reached_both : (g : Selection) (c : ℕ) (points : List Point) (w v : World) → Agree g w v → Agree g (reaching c points w) (reaching c points v)
-reached_both g c points w v agree = record { lives = agree.lives; units = agree.units; fits = agree.fits }
+reached_both g c points w v agree = record { lives = agree.lives; units = agree.units; fits = agree.fits; calm = agree.calm; silent = agree.silent }
 
 reached_here : (g : Selection) (c : ℕ) (points : List Point) (w v : World) → Agree g w v → Agree g (reaching c points w) v
-reached_here g c points w v agree = record { lives = agree.lives; units = agree.units; fits = agree.fits }
+reached_here g c points w v agree = record { lives = agree.lives; units = agree.units; fits = agree.fits; calm = agree.calm; silent = agree.silent }
 
 -- an act does the same where the other lives are left out
 abbrev InBoth : Selection → KnownTargets → (World → World) → Type 0

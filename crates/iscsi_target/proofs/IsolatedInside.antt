@@ -1,5 +1,6 @@
 -- What happens on a connection whose last life is kept is the same where the other lives are left out.
 use Rattle.std.proofs.Common.{◌≡◌, ℕ, List, [], ◌∷◌, Bool, true, false, cond, Option, Some, None, refl, sym, ap, ◌∙◌, subst}
+use Rattle.std.proofs.lemmas.Bool.{eqb-true}
 use Rattle.std.specs.List.{fold}
 use Rattle.iscsi_pdu.specs.Frames.{Frame}
 use Rattle.iscsi_pdu.specs.declared.answer.Answer.{Answer}
@@ -9,6 +10,8 @@ use Rattle.iscsi_login.specs.Session.{older, is_same_target}
 use Rattle.iscsi_login.specs.declared.params.Params.{Params}
 use Rattle.iscsi_login.specs.declared.reply.Reply.{Reply}
 use Rattle.iscsi_login.specs.declared.reply.Reply.TheVariants.{GoOn, Full, Refused}
+use Rattle.iscsi_session.specs.Comings.{Coming, IsCalm, lend}
+use Rattle.iscsi_session.proofs.Calm.{quiet, calm_served, calm_settled, quiet_served, quiet_settled}
 use Rattle.iscsi_session.specs.Requests.{Past}
 use Rattle.iscsi_session.specs.Steps.{Work, begun_work, served, settled}
 use Rattle.iscsi_session.proofs.Steps.{served_extends, settled_extends}
@@ -16,7 +19,7 @@ use Rattle.iscsi_target.specs.History.{Mark, connections}
 use Rattle.iscsi_target.specs.Life.{Life, Closing, ended_in}
 use Rattle.iscsi_target.specs.World.{World, is_present, present, changed_first, changed, session_of, past_of, live, units_at, with_units, changed_units, left, close, answered, begun, begins, end_older, replied, fails, work_of, with_past, worked_on, worked, served_by, take_in, settled_by, settle_one, settle, settle_for, serve}
 use Rattle.iscsi_target.proofs.IsolatedLives.{Selection, HasTarget, changed_in}
-use Rattle.iscsi_target.proofs.IsolatedWorlds.{UnitsAgree, units_own, with_own, Agree, present_in, present_out, session_target, past_target, session_of_past, older_same, older_on, one_target}
+use Rattle.iscsi_target.proofs.IsolatedWorlds.{UnitsAgree, units_own, with_own, Agree, present_in, present_out, session_target, past_target, session_of_past, older_same, older_on, one_target, same_targets}
 use Rattle.iscsi_target.proofs.IsolatedFits.{Keeps, keeps_ended, keeps_answered, keeps_begun, keeps_worked, fits_changed}
 
 -- ---- what a connection's end does
@@ -28,6 +31,8 @@ in_changed g f c w v on keeps agree = record {
   lives = ap (changed_first (is_present c) f) agree.lives ∙ sym (changed_in g f c 0 w.lives agree.fits on);
   units = agree.units;
   fits = fits_changed g f c w keeps agree.fits;
+  calm = agree.calm;
+  silent = agree.silent;
 }
 
 pub own_changed : (g : Selection) (f : UnitStates → UnitStates) (o : Option ℕ) (all some : List UnitStates) → HasTarget g true o → UnitsAgree g all some
@@ -54,7 +59,7 @@ in_close g c w v on agree =
     let units : UnitsAgree g (left (session_of (present c w)) w.units) (left (session_of (present c v)) v.units) =
     subst (λ (o : Option Life). UnitsAgree g (left (session_of (present c w)) w.units) (left (session_of o) v.units)) (sym (present_in g c w v on agree))
     (own_left g (session_of (present c w)) w.units v.units (own_session g c w v on agree) agree.units) in
-    record { lives = next.lives; units = units; fits = next.fits }
+    record { lives = next.lives; units = units; fits = next.fits; calm = next.calm; silent = next.silent }
 
 pub in_cond : (g : Selection) (b : Bool) (w u v x : World) → Agree g w v → Agree g u x → Agree g (cond b w u) (cond b v x)
 in_cond g true w u v x a b = a
@@ -72,7 +77,13 @@ in_begins : (g : Selection) (session : Params) (answer : Answer) (c : ℕ) (w v 
 in_begins g session answer c w v on own agree =
     let next = in_changed g (begun session answer) c w v on
     (keeps_begun g session answer c w v agree (subst (λ (b : Bool). HasTarget g b session.target) (sym on) own)) agree in
-    record { lives = next.lives; units = own_changed g (join session.nexus) session.target w.units v.units own agree.units; fits = next.fits }
+    record {
+      lives = next.lives;
+      units = own_changed g (join session.nexus) session.target w.units v.units own agree.units;
+      fits = next.fits;
+      calm = next.calm;
+      silent = next.silent;
+    }
 
 pub in_replied : (g : Selection) (reply : Reply) (c : ℕ) (w v : World) → g.keeps_on c ≡ true
     → ((r : _) (session : Params) → reply ≡ Full r session → HasTarget g true session.target) → Agree g w v
@@ -93,34 +104,49 @@ in_replied g (Full response session) c w v on own agree =
 -- ---- a session
 
 pub in_worked_on : (g : Selection) (c : ℕ) (past : Past) (work : Work) (w v : World) → g.keeps_on c ≡ true → past_of (present c w) ≡ Some past
-    → work.past.params ≡ past.params → Agree g w v → Agree g (worked_on c work w) (worked_on c work v)
-in_worked_on g c past work w v on at same agree =
+    → work.past.params ≡ past.params → IsCalm g.target work.units.comings → Agree g w v → Agree g (worked_on c work w) (worked_on c (quiet work) v)
+in_worked_on g c past work w v on at same calm agree =
     let own : HasTarget g true work.past.params.target =
     subst (λ (p : Params). HasTarget g true p.target) (sym same) (own_session g c w v on agree past.params (session_of_past (present c w) past at)) in
     let next = in_changed g (with_past work.past) c w v on (keeps_worked g c past work.past w at same) agree in
-    record { lives = next.lives; units = with_own g work.past.params.target work.units w.units v.units own agree.units; fits = next.fits }
+    record {
+      lives = next.lives;
+      units = with_own g work.past.params.target work.units.states w.units v.units own agree.units;
+      fits = next.fits;
+      calm = calm;
+      silent = refl;
+    }
 
 in_worked : (g : Selection) (c : ℕ) (past : Past) (work : Work) (w v : World) → g.keeps_on c ≡ true → past_of (present c w) ≡ Some past
-    → work.past.params ≡ past.params → Agree g w v → Agree g (worked c work w) (worked c work v)
+    → work.past.params ≡ past.params → IsCalm g.target work.units.comings → Agree g w v → Agree g (worked c work w) (worked c (quiet work) v)
 unfolding worked
-in_worked g c past work w v on at same agree =
-    let here = in_worked_on g c past work w v on at same agree in
-    in_cond g work.goes_on (worked_on c work w) (close c (worked_on c work w)) (worked_on c work v) (close c (worked_on c work v)) here
-    (in_close g c (worked_on c work w) (worked_on c work v) on here)
+in_worked g c past work w v on at same calm agree =
+    let here = in_worked_on g c past work w v on at same calm agree in
+    in_cond g work.goes_on (worked_on c work w) (close c (worked_on c work w)) (worked_on c (quiet work) v) (close c (worked_on c (quiet work) v)) here
+    (in_close g c (worked_on c work w) (worked_on c (quiet work) v) on here)
 
 -- its target's units are the same
 pub same_work : (g : Selection) (c : ℕ) (past : Past) (w v : World) → g.keeps_on c ≡ true → past_of (present c w) ≡ Some past → Agree g w v
-    → work_of past v ≡ work_of past w
-same_work g c past w v on at agree = ap (begun_work past) (units_own g past.params.target w.units v.units
+    → work_of past v ≡ quiet (work_of past w)
+same_work g c past w v on at agree =
+    ap (λ (units : UnitStates). begun_work past (lend units v.comings)) (units_own g past.params.target w.units v.units
     (own_session g c w v on agree past.params (session_of_past (present c w) past at)) agree.units)
+    ∙ ap (λ (comings : List Coming). begun_work past (lend (units_at past.params.target w.units) comings)) agree.silent
+
+pub same_served : (g : Selection) (marks : List Mark) (c place : ℕ) (frame : Frame) (past : Past) (w v : World) → g.keeps_on c ≡ true
+    → past_of (present c w) ≡ Some past → Agree g w v
+    → served (fails marks c) place frame (work_of past v) ≡ quiet (served (fails marks c) place frame (work_of past w))
+same_served g marks c place frame past w v on at agree =
+    ap (served (fails marks c) place frame) (same_work g c past w v on at agree) ∙ quiet_served (fails marks c) place frame (work_of past w)
 
 in_served_by : (g : Selection) (o : Option Past) (marks : List Mark) (c place : ℕ) (frame : Frame) (w v : World) → g.keeps_on c ≡ true
     → past_of (present c w) ≡ o → Agree g w v → Agree g (served_by o marks c place frame w) (served_by o marks c place frame v)
 in_served_by g None marks c place frame w v on at agree = agree
 in_served_by g (Some past) marks c place frame w v on at agree =
     let work = served (fails marks c) place frame (work_of past w) in
-    subst (λ (begun_ : Work). Agree g (worked c work w) (worked c (served (fails marks c) place frame begun_) v)) (sym (same_work g c past w v on at agree))
-    (in_worked g c past work w v on at (served_extends (fails marks c) place frame (work_of past w)).params agree)
+    subst (λ (other : Work). Agree g (worked c work w) (worked c other v)) (sym (same_served g marks c place frame past w v on at agree))
+    (in_worked g c past work w v on at (served_extends (fails marks c) place frame (work_of past w)).params
+    (calm_served g.target (fails marks c) place frame (work_of past w) agree.calm) agree)
 
 pub in_take_in : (g : Selection) (marks : List Mark) (c place : ℕ) (frame : Frame) (w v : World) → g.keeps_on c ≡ true → Agree g w v
     → Agree g (take_in marks c place frame w) (take_in marks c place frame v)
@@ -129,15 +155,35 @@ in_take_in g marks c place frame w v on agree =
     subst (λ (o : Option Life). Agree g (served_by (past_of (present c w)) marks c place frame w) (served_by (past_of o) marks c place frame v))
     (sym (present_in g c w v on agree)) (in_served_by g (past_of (present c w)) marks c place frame w v on refl agree)
 
+-- its target is this one
+own_target : (g : Selection) (o : Option ℕ) (t : ℕ) → is_same_target o (Some t) ≡ true → HasTarget g true o → o ≡ Some g.target
+unfolding HasTarget
+own_target g o t e own =
+    let same = same_targets o (Some t) e in
+    same.1 ∙ ap (λ (n : ℕ). Some n) (eqb-true same.0 g.target (sym (own same.0 same.1)))
+
 -- a session whose life is kept
+in_settled_by : (here : Bool) (g : Selection) (past : Past) (marks : List Mark) (place t c : ℕ) (w v : World) → g.keeps_on c ≡ true
+    → is_same_target past.params.target (Some t) ≡ here → past_of (present c w) ≡ Some past → Agree g w v
+    → Agree g (cond here (worked c (settled (fails marks c) place (work_of past w)) w) w)
+    (cond here (worked c (settled (fails marks c) place (work_of past v)) v) v)
+in_settled_by false g past marks place t c w v on e at agree = agree
+in_settled_by true g past marks place t c w v on e at agree =
+    let begun_ = work_of past w in
+    let work = settled (fails marks c) place begun_ in
+    let own = own_session g c w v on agree past.params (session_of_past (present c w) past at) in
+    let same : settled (fails marks c) place (work_of past v) ≡ quiet work =
+    ap (settled (fails marks c) place) (same_work g c past w v on at agree)
+    ∙ quiet_settled g.target (fails marks c) place begun_ (record { calm = agree.calm; own = own_target g past.params.target t e own }) in
+    subst (λ (other : Work). Agree g (worked c work w) (worked c other v)) (sym same)
+    (in_worked g c past work w v on at (settled_extends (fails marks c) place begun_).params
+    (calm_settled g.target (fails marks c) place begun_ agree.calm) agree)
+
 in_settled : (g : Selection) (o : Option Past) (marks : List Mark) (place t c : ℕ) (w v : World) → g.keeps_on c ≡ true → past_of (present c w) ≡ o
     → Agree g w v → Agree g (settled_by o marks place t c w) (settled_by o marks place t c v)
 in_settled g None marks place t c w v on at agree = agree
 in_settled g (Some past) marks place t c w v on at agree =
-    let work = settled (fails marks c) place (work_of past w) in
-    in_cond g (is_same_target past.params.target (Some t)) (worked c work w) w (worked c (settled (fails marks c) place (work_of past v)) v) v
-    (subst (λ (begun_ : Work). Agree g (worked c work w) (worked c (settled (fails marks c) place begun_) v)) (sym (same_work g c past w v on at agree))
-    (in_worked g c past work w v on at (settled_extends (fails marks c) place (work_of past w)).params agree)) agree
+    in_settled_by (is_same_target past.params.target (Some t)) g past marks place t c w v on refl at agree
 
 -- .. is not kept, which is of another target
 passed_over : (g : Selection) (past : Past) (marks : List Mark) (place t c : ℕ) (w v : World) (here : Bool) → HasTarget g true (Some t) → g.keeps_on c ≡ false

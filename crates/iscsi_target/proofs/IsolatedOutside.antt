@@ -10,6 +10,8 @@ use Rattle.iscsi_login.specs.Login.{login}
 use Rattle.iscsi_login.specs.declared.params.Params.{Params}
 use Rattle.iscsi_login.specs.declared.reply.Reply.{Reply}
 use Rattle.iscsi_login.specs.declared.reply.Reply.TheVariants.{GoOn, Full, Refused}
+use Rattle.iscsi_session.specs.Comings.{IsCalm}
+use Rattle.iscsi_session.proofs.Calm.{calm_served, calm_settled}
 use Rattle.iscsi_session.specs.Requests.{Past}
 use Rattle.iscsi_session.specs.Steps.{Work, served, settled}
 use Rattle.iscsi_session.proofs.Steps.{served_extends, settled_extends}
@@ -28,6 +30,8 @@ out_changed g f c w v on keeps agree = record {
   lives = agree.lives ∙ sym (changed_out g f c 0 w.lives agree.fits on);
   units = agree.units;
   fits = fits_changed g f c w keeps agree.fits;
+  calm = agree.calm;
+  silent = agree.silent;
 }
 
 pub out_left : (g : Selection) (o : Option Params) (all some : List UnitStates) → ((p : Params) → o ≡ Some p → HasTarget g false p.target)
@@ -45,7 +49,13 @@ pub out_close : (g : Selection) (c : ℕ) (w v : World) → g.keeps_on c ≡ fal
 unfolding close
 out_close g c w v on agree =
     let next = out_changed g (ended_in Closing) c w v on (keeps_ended g c w) agree in
-    record { lives = next.lives; units = out_left g (session_of (present c w)) w.units v.units (other_session g c w v on agree) agree.units; fits = next.fits }
+    record {
+      lives = next.lives;
+      units = out_left g (session_of (present c w)) w.units v.units (other_session g c w v on agree) agree.units;
+      fits = next.fits;
+      calm = next.calm;
+      silent = next.silent;
+    }
 
 pub out_cond : (g : Selection) (b : Bool) (w u v : World) → Agree g w v → Agree g u v → Agree g (cond b w u) v
 out_cond g true w u v a b = a
@@ -63,7 +73,13 @@ unfolding changed_units
 out_begins g session answer c w v on other agree =
     let next = out_changed g (begun session answer) c w v on
     (keeps_begun g session answer c w v agree (subst (λ (b : Bool). HasTarget g b session.target) (sym on) other)) agree in
-    record { lives = next.lives; units = with_other g session.target _ w.units v.units other agree.units; fits = next.fits }
+    record {
+      lives = next.lives;
+      units = with_other g session.target _ w.units v.units other agree.units;
+      fits = next.fits;
+      calm = next.calm;
+      silent = next.silent;
+    }
 
 out_replied : (g : Selection) (reply : Reply) (c : ℕ) (w v : World) → g.keeps_on c ≡ false
     → ((r : _) (session : Params) → reply ≡ Full r session → HasTarget g false session.target) → Agree g w v → Agree g (replied reply c w) v
@@ -89,18 +105,24 @@ out_log_in g s c request w v on other agree =
 -- ---- a session
 
 pub out_worked_on : (g : Selection) (c : ℕ) (past : Past) (work : Work) (w v : World) → g.keeps_on c ≡ false → past_of (present c w) ≡ Some past
-    → work.past.params ≡ past.params → Agree g w v → Agree g (worked_on c work w) v
-out_worked_on g c past work w v on at same agree =
+    → work.past.params ≡ past.params → IsCalm g.target work.units.comings → Agree g w v → Agree g (worked_on c work w) v
+out_worked_on g c past work w v on at same calm agree =
     let other : HasTarget g false work.past.params.target =
     subst (λ (p : Params). HasTarget g false p.target) (sym same) (other_session g c w v on agree past.params (session_of_past (present c w) past at)) in
     let next = out_changed g (with_past work.past) c w v on (keeps_worked g c past work.past w at same) agree in
-    record { lives = next.lives; units = with_other g work.past.params.target work.units w.units v.units other agree.units; fits = next.fits }
+    record {
+      lives = next.lives;
+      units = with_other g work.past.params.target work.units.states w.units v.units other agree.units;
+      fits = next.fits;
+      calm = calm;
+      silent = next.silent;
+    }
 
 out_worked : (g : Selection) (c : ℕ) (past : Past) (work : Work) (w v : World) → g.keeps_on c ≡ false → past_of (present c w) ≡ Some past
-    → work.past.params ≡ past.params → Agree g w v → Agree g (worked c work w) v
+    → work.past.params ≡ past.params → IsCalm g.target work.units.comings → Agree g w v → Agree g (worked c work w) v
 unfolding worked
-out_worked g c past work w v on at same agree =
-    let here = out_worked_on g c past work w v on at same agree in
+out_worked g c past work w v on at same calm agree =
+    let here = out_worked_on g c past work w v on at same calm agree in
     out_cond g work.goes_on (worked_on c work w) (close c (worked_on c work w)) v here (out_close g c (worked_on c work w) v on here)
 
 pub out_served_by : (g : Selection) (o : Option Past) (marks : List Mark) (c place : ℕ) (frame : Frame) (w v : World) → g.keeps_on c ≡ false
@@ -108,7 +130,8 @@ pub out_served_by : (g : Selection) (o : Option Past) (marks : List Mark) (c pla
 out_served_by g None marks c place frame w v on at agree = agree
 out_served_by g (Some past) marks c place frame w v on at agree =
     out_worked g c past (served (fails marks c) place frame (work_of past w)) w v on at
-    (served_extends (fails marks c) place frame (work_of past w)).params agree
+    (served_extends (fails marks c) place frame (work_of past w)).params
+    (calm_served g.target (fails marks c) place frame (work_of past w) agree.calm) agree
 
 out_settled : (g : Selection) (past : Past) (marks : List Mark) (place t c : ℕ) (w v : World) (here kept : Bool) → HasTarget g false (Some t)
     → is_same_target past.params.target (Some t) ≡ here → g.keeps_on c ≡ kept
@@ -119,7 +142,8 @@ out_settled g past marks place t c w v true true other e on at agree =
     let never : g.keeps_on c ≡ false = one_target g (g.keeps_on c) false past.params.target (Some t) (past_target g c w v past agree at) other e in
     absurd cc
 out_settled g past marks place t c w v true false other e on at agree =
-    out_worked g c past (settled (fails marks c) place (work_of past w)) w v on at (settled_extends (fails marks c) place (work_of past w)).params agree
+    out_worked g c past (settled (fails marks c) place (work_of past w)) w v on at (settled_extends (fails marks c) place (work_of past w)).params
+    (calm_settled g.target (fails marks c) place (work_of past w) agree.calm) agree
 
 out_settled_by : (g : Selection) (o : Option Past) (marks : List Mark) (place t c : ℕ) (w v : World) → HasTarget g false (Some t) → past_of (present c w) ≡ o
     → Agree g w v → Agree g (settled_by o marks place t c w) v

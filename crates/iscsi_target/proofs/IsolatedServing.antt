@@ -13,7 +13,7 @@ use Rattle.iscsi_target.specs.World.{World, present, changed, past_of, changed_u
 use Rattle.iscsi_target.proofs.IsolatedLives.{Selection, HasTarget}
 use Rattle.iscsi_target.proofs.IsolatedWorlds.{Agree, with_other, present_in, present_out, past_target, one_target}
 use Rattle.iscsi_target.proofs.IsolatedOutside.{out_cond, out_worked_on, out_served_by, out_settle_for}
-use Rattle.iscsi_target.proofs.IsolatedInside.{in_cond, in_worked_on, own_changed, same_work, in_take_in, in_settle_for}
+use Rattle.iscsi_target.proofs.IsolatedInside.{in_cond, in_worked_on, own_changed, same_work, same_served, in_take_in, in_settle_for}
 
 -- ---- of another target
 
@@ -24,7 +24,7 @@ out_lost false kept g past header t d w v e on other at agree = agree
 out_lost true true g past header t d w v e on other at agree =
     let never : g.keeps_on d ≡ false = one_target g (g.keeps_on d) false past.params.target (Some t) (past_target g d w v past agree at) other e in
     absurd cc
-out_lost true false g past header t d w v e on other at agree = out_worked_on g d past (losing header (work_of past w)) w v on at refl agree
+out_lost true false g past header t d w v e on other at agree = out_worked_on g d past (losing header (work_of past w)) w v on at refl agree.calm agree
 
 out_lost_by : (g : Selection) (o : Option Past) (header : List ℕ) (t d : ℕ) (w v : World) → HasTarget g false (Some t) → past_of (present d w) ≡ o
     → Agree g w v → Agree g (lost_by o header t d w) v
@@ -42,7 +42,13 @@ out_lose_all g header t c w v (d ∷ ds) other agree =
 
 out_reset : (g : Selection) (header : List ℕ) (t : ℕ) (w v : World) → HasTarget g false (Some t) → Agree g w v → Agree g (reset header t w) v
 unfolding reset changed_units
-out_reset g header t w v other agree = record { lives = agree.lives; units = with_other g (Some t) _ w.units v.units other agree.units; fits = agree.fits }
+out_reset g header t w v other agree = record {
+  lives = agree.lives;
+  units = with_other g (Some t) _ w.units v.units other agree.units;
+  fits = agree.fits;
+  calm = agree.calm;
+  silent = agree.silent;
+}
 
 out_carry_out_all : (g : Selection) (c t : ℕ) (w v : World) (headers : List (List ℕ)) → HasTarget g false (Some t) → Agree g w v
     → Agree g (fold (carry_out c t) w headers) v
@@ -68,7 +74,7 @@ in_lost_by g (Some past) header t d w v on at agree =
     let work = losing header (work_of past w) in
     in_cond g (is_same_target past.params.target (Some t)) (worked_on d work w) w (worked_on d (losing header (work_of past v)) v) v
     (subst (λ (begun_ : Work). Agree g (worked_on d work w) (worked_on d (losing header begun_) v)) (sym (same_work g d past w v on at agree))
-    (in_worked_on g d past work w v on at refl agree)) agree
+    (in_worked_on g d past work w v on at refl agree.calm agree)) agree
 
 -- a session of another target loses nothing
 unlost : (here : Bool) (g : Selection) (past : Past) (header : List ℕ) (t d : ℕ) (w v : World) → is_same_target past.params.target (Some t) ≡ here
@@ -109,6 +115,8 @@ in_reset g header t w v own agree = record {
   lives = agree.lives;
   units = own_changed g (reset_by (function_of header) (lun_field header)) (Some t) w.units v.units own agree.units;
   fits = agree.fits;
+  calm = agree.calm;
+  silent = agree.silent;
 }
 
 in_carry_out_all : (g : Selection) (c t : ℕ) (w v : World) (headers : List (List ℕ)) → HasTarget g true (Some t) → Agree g w v
@@ -132,7 +140,7 @@ orders_same : (g : Selection) (o : Option Past) (marks : List Mark) (c place : �
     → past_of (present c w) ≡ o → Agree g w v → orders_by o marks c place frame v ≡ orders_by o marks c place frame w
 orders_same g None marks c place frame w v on at agree = refl
 orders_same g (Some past) marks c place frame w v on at agree =
-    ap (λ (work : Work). (served (fails marks c) place frame work).orders) (same_work g c past w v on at agree)
+    ap (λ (work : Work). work.orders) (same_served g marks c place frame past w v on at agree)
 
 pub in_orders : (g : Selection) (marks : List Mark) (c place : ℕ) (frame : Frame) (w v : World) → g.keeps_on c ≡ true → Agree g w v
     → orders_in marks c place frame v ≡ orders_in marks c place frame w

@@ -9,6 +9,7 @@ use Rattle.scsi_sense.specs.Nexus.{NexusName, same_nexus}
 use Rattle.scsi_unit.specs.Units.{UnitStates}
 use Rattle.iscsi_login.specs.Session.{is_same_target, is_of, named_by, older}
 use Rattle.iscsi_login.specs.declared.params.Params.{Params}
+use Rattle.iscsi_session.specs.Comings.{IsCalm}
 use Rattle.iscsi_session.specs.Requests.{Past}
 use Rattle.iscsi_target.specs.History.{connection_limit, connections}
 use Rattle.iscsi_target.specs.Life.{Life, Phase, LoggingIn, FullFeature, Closing, Over, past_in, session_in}
@@ -73,6 +74,9 @@ pub record Agree (g : Selection) (w v : World) : Type 0 where
   pub lives : v.lives ≡ kept_from g.keeps 0 w.lives
   pub units : UnitsAgree g w.units v.units
   pub fits : AllFrom (Fits g) 0 w.lives
+  -- no store of the target failed in the first, and none at all in the second
+  pub calm : IsCalm g.target w.comings
+  pub silent : v.comings ≡ []
 
 -- a connection whose last life is kept
 pub present_in : (g : Selection) (c : ℕ) (w v : World) → g.keeps_on c ≡ true → Agree g w v → present c v ≡ present c w

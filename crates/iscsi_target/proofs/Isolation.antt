@@ -96,6 +96,8 @@ in_open target keeps opened last next c w v may keep follow = record {
         ∙ sym (kept_push keeps next (born c) w.lives follow.count);
     units = record { units = follow.agree.units.units; count = follow.agree.units.count };
     fits = open_fits target keeps opened last next c w v may follow;
+    calm = follow.agree.calm;
+    silent = follow.agree.silent;
   };
   count = open_count next c w.lives follow.count;
 }
@@ -109,6 +111,8 @@ out_open target keeps opened last next c w v may keep follow = record {
         ∙ ap (λ (l : List Life). kept_from keeps 0 w.lives ++ l) (kept_out keeps next (born c) [] keep) ∙ append-nil (kept_from keeps 0 w.lives));
     units = record { units = follow.agree.units.units; count = follow.agree.units.count };
     fits = open_fits target keeps opened last next c w v may follow;
+    calm = follow.agree.calm;
+    silent = follow.agree.silent;
   };
   count = open_count next c w.lives follow.count;
 }
@@ -165,6 +169,8 @@ in_end target keeps opened last next c w v keep follow =
         lives = ap (map (over c)) follow.agree.lives ∙ sym (kept_map keeps (over c) 0 w.lives);
         units = record { units = units.units; count = units.count };
         fits = end_fits target keeps opened last c w.lives follow.agree.fits;
+        calm = follow.agree.calm;
+        silent = follow.agree.silent;
       };
       count = follow.count ∙ sym (length-map w.lives (over c));
     }
@@ -182,6 +188,8 @@ out_end target keeps opened last next c w v keep follow =
         lives = follow.agree.lives ∙ sym (over_out g c 0 w.lives follow.agree.fits keep);
         units = record { units = units.units; count = units.count };
         fits = end_fits target keeps opened last c w.lives follow.agree.fits;
+        calm = follow.agree.calm;
+        silent = follow.agree.silent;
       };
       count = follow.count ∙ sym (length-map w.lives (over c));
     }
@@ -192,10 +200,10 @@ keeps_new : (keeps : ℕ → Bool) (last : ℕ → ℕ) (next c : ℕ) (b : Bool
 keeps_new keeps last next c b e = ap keeps (sym (cond_true (eqb c c) next (last c) (eqb_self c))) ∙ e
 
 fresh_both : (g : Selection) (w v : World) → Agree g w v → Agree g (begun_event [] w) (begun_event [] v)
-fresh_both g w v agree = record { lives = agree.lives; units = agree.units; fits = agree.fits }
+fresh_both g w v agree = record { lives = agree.lives; units = agree.units; fits = agree.fits; calm = tt; silent = refl }
 
 fresh_here : (g : Selection) (w v : World) → Agree g w v → Agree g (begun_event [] w) v
-fresh_here g w v agree = record { lives = agree.lives; units = agree.units; fits = agree.fits }
+fresh_here g w v agree = record { lives = agree.lives; units = agree.units; fits = agree.fits; calm = tt; silent = agree.silent }
 
 bring_count : (s : Setting) (c : ℕ) (piece : List ℕ) (w : World) → length (bring s [] c piece w).lives ≡ length w.lives
 bring_count s c piece w = same_count w (bring s [] c piece w) (adds-bring s [] c piece w)
@@ -287,7 +295,10 @@ along s target keeps (event ∷ events) opened last next w v may named follow =
 
 none_yet : (s : Setting) (target : ℕ) (keeps : ℕ → Bool) → Follow target keeps [] (λ c. 0) 0 (new_world s) (new_world s)
 unfolding AllFrom
-none_yet s target keeps = record { agree = record { lives = refl; units = record { units = refl; count = refl }; fits = tt }; count = refl }
+none_yet s target keeps = record {
+  agree = record { lives = refl; units = record { units = refl; count = refl }; fits = tt; calm = tt; silent = refl };
+  count = refl;
+}
 
 selected : (s : Setting) (target : ℕ) (keeps : ℕ → Bool) (w : World) → Selects s.directory target keeps w.lives
     → AreNamed (selection target keeps [] (λ c. 0)) s.directory w

@@ -181,8 +181,7 @@ takes_long old new c lt count r long is =
           (let there = some_reads (present c w) (sym (reads_there s sent half w old c lt h) ∙ r) in
           let v = reaching c (Arriving place ∷ []) w in
           let at : present c v ≡ Some there.0 = present-reaching c c (Arriving place ∷ []) w ∙ there.1 in
-          let step = arrived s marks c w place TooLong (ap reads_life there.1 ∙ there.2) agree in
-          (
+          let step = arrived s marks c w place TooLong (ap reads_life there.1 ∙ there.2) agree in (
             serves_world s sent (with_half c [] half) (close c v) _ new step
                 (halves_idle s sent half (close c v) new c [] (ap reads_life (present-close c v there.0 at))
                 (serves_as s sent half (close c v) (closed old c) new is (closes s sent half v old c there.0 lt

@@ -9,7 +9,7 @@ use Rattle.scsi_unit.specs.Device.{DeviceState, opened, opened_tape}
 use Rattle.scsi_unit.specs.Checks.{judged}
 use Rattle.scsi_unit.specs.Lun.{lun_number}
 use Rattle.scsi_unit.specs.Unit.{free_unit, unit_done, performed_as}
-use Rattle.scsi_unit.specs.Units.{perform, join, leave}
+use Rattle.scsi_unit.specs.Units.{come_out, join, leave}
 use Rattle.iscsi_login.specs.ExamplesLogin.{computed as login_computed}
 use Rattle.iscsi_login.specs.Session.{older}
 use Rattle.iscsi_session.specs.Examples.{computed as session_computed}
@@ -55,7 +55,7 @@ are_read s history = map (λ (life : Life). reads life.phase) (world s history).
 
 -- what an example unfolds
 unfoldable pub computed : Bool
-unfolding frames rest has_frame is_long first_frame frame_length login_computed arrivals new_arrivals perform performed_as judged unit_done told
+unfolding frames rest has_frame is_long first_frame frame_length login_computed arrivals new_arrivals come_out performed_as judged unit_done told
     without_unit lun_number join leave older session_computed data_answers scsi_answer out_of carried_out session_step judge act ask finish act_all ask_due tell tell_due
     taken_in asked_in served settled present changed live changed_units close end is_marked take_step log_in worked take_in orders_in lose_one reset carry_out
     settle_one settle serve is_login arrive bring world outputs
