@@ -1,11 +1,11 @@
 -- How commands came out, one after the other.
-use Rattle.std.proofs.Common.{◌≡◌, ℕ, suc, ◌+◌, List, [], ◌∷◌, ◌++◌, length, true, Option, Some, None, refl, sym, ap, ◌∙◌, subst, arith}
+use Rattle.std.proofs.Common.{◌≡◌, ℕ, suc, ◌+◌, List, [], ◌∷◌, ◌++◌, length, true, false, Option, Some, None, refl, sym, ap, ◌∙◌, subst, arith}
 use Rattle.std.specs.Prelude.{drop}
 use Rattle.std.proofs.lemmas.Bool.{eq-eqb}
 use Rattle.std.proofs.lemmas.List.{drop-drop, length-append}
 use Rattle.scsi_unit.specs.CameOut.{CameOut, AsDefined}
 use Rattle.scsi_unit.specs.Units.{UnitStates, AreSound}
-use Rattle.iscsi_session.specs.Comings.{Coming, TargetUnits, lend, is_for, next_coming, AreAhead, ArePlain, CameAs}
+use Rattle.iscsi_session.specs.Comings.{Coming, TargetUnits, lend, is_for, next_coming, AreAhead, ArePlain, AreOf, IsCalm, CameAs}
 
 -- those behind some of them
 pub ahead_of : (a b comings : List Coming) → AreAhead (a ++ b) comings → AreAhead a comings
@@ -39,24 +39,49 @@ pub ahead_self : (came : List Coming) → AreAhead came came
 ahead_self [] = tt
 ahead_self (coming ∷ more) = (rw (for_self coming.target) refl, ahead_self more)
 
+of_both : (target : Option ℕ) (a b : List Coming) → AreOf target a → AreOf target b → AreOf target (a ++ b)
+of_both target [] b first second = second
+of_both target (coming ∷ a) b first second = (first.0, of_both target a b first.1 second)
+
+-- ---- what is so of a target
+
+pub plain_calm : (target : ℕ) (came : List Coming) → ArePlain came → IsCalm target came
+plain_calm target [] is = tt
+plain_calm target (coming ∷ more) is = (λ named. is.0, plain_calm target more is.1)
+
+pub calm_both : (target : ℕ) (a b : List Coming) → IsCalm target a → IsCalm target b → IsCalm target (a ++ b)
+calm_both target [] b first second = second
+calm_both target (coming ∷ a) b first second = (first.0, calm_both target a b first.1 second)
+
+-- another target has none of them
+pub others_calm : (own : Option ℕ) (target : ℕ) (came : List Coming) → is_for own (Some target) ≡ false → AreOf own came → IsCalm target came
+others_calm own target [] other are = tt
+others_calm own target (coming ∷ more) other are =
+    (λ named. absurd (cc (ap (λ (o : Option ℕ). is_for o (Some target)) are.0, other, named)), others_calm own target more other are.1)
+
 -- ---- calls
 
-pub came_none : (Leads : TargetUnits → TargetUnits → Type 0) (units after : UnitStates)
-    → ((comings : List Coming) → Leads (lend units comings) (lend after comings)) → CameAs Leads units after
-came_none Leads units after leads = record { came = []; leads = λ comings ahead. leads comings; plain = λ sound. tt }
+pub came_none : (target : Option ℕ) (Leads : TargetUnits → TargetUnits → Type 0) (units after : UnitStates)
+    → ((comings : List Coming) → Leads (lend units comings) (lend after comings)) → CameAs target Leads units after
+came_none target Leads units after leads = record { came = []; own = tt; leads = λ comings ahead. leads comings; plain = λ sound. tt }
 
-pub came_one : (Leads : TargetUnits → TargetUnits → Type 0) (units after : UnitStates) (target : Option ℕ) (came : CameOut)
+pub came_one : (target : Option ℕ) (Leads : TargetUnits → TargetUnits → Type 0) (units after : UnitStates) (came : CameOut)
     → ((comings : List Coming) → next_coming target comings ≡ came → Leads (lend units comings) (lend after (drop 1 comings)))
-    → (AreSound after → came ≡ AsDefined) → CameAs Leads units after
-came_one Leads units after target came leads plain =
-    record { came = record { target = target; came = came } ∷ []; leads = λ comings ahead. leads comings ahead.0; plain = λ sound. (plain sound, tt) }
+    → (AreSound after → came ≡ AsDefined) → CameAs target Leads units after
+came_one target Leads units after came leads plain = record {
+  came = record { target = target; came = came } ∷ [];
+  own = (refl, tt);
+  leads = λ comings ahead. leads comings ahead.0;
+  plain = λ sound. (plain sound, tt);
+}
 
 -- one after the other
-pub came_then : (First Second Both : TargetUnits → TargetUnits → Type 0) (units middle after : UnitStates)
-    → CameAs First units middle → CameAs Second middle after → (AreSound after → AreSound middle)
-    → ((a b c : TargetUnits) → First a b → Second b c → Both a c) → CameAs Both units after
-came_then First Second Both units middle after first second back joined = record {
+pub came_then : (target : Option ℕ) (First Second Both : TargetUnits → TargetUnits → Type 0) (units middle after : UnitStates)
+    → CameAs target First units middle → CameAs target Second middle after → (AreSound after → AreSound middle)
+    → ((a b c : TargetUnits) → First a b → Second b c → Both a c) → CameAs target Both units after
+came_then target First Second Both units middle after first second back joined = record {
   came = first.came ++ second.came;
+  own = of_both target first.came second.came first.own second.own;
   leads = λ comings ahead. (
       let behind = drop (length first.came) comings in
       let both = joined (lend units comings) (lend middle behind) (lend after (drop (length second.came) behind))
@@ -67,7 +92,11 @@ came_then First Second Both units middle after first second back joined = record
 }
 
 -- what each comes to
-pub came_as : (Leads Other : TargetUnits → TargetUnits → Type 0) (units after : UnitStates) → CameAs Leads units after
-    → ((a b : TargetUnits) → Leads a b → Other a b) → CameAs Other units after
-came_as Leads Other units after came also =
-    record { came = came.came; leads = λ comings ahead. also _ _ (came.leads comings ahead); plain = came.plain }
+pub came_as : (target : Option ℕ) (Leads Other : TargetUnits → TargetUnits → Type 0) (units after : UnitStates) → CameAs target Leads units after
+    → ((a b : TargetUnits) → Leads a b → Other a b) → CameAs target Other units after
+came_as target Leads Other units after came also =
+    record { came = came.came; own = came.own; leads = λ comings ahead. also _ _ (came.leads comings ahead); plain = came.plain }
+
+pub came_with : (target other : Option ℕ) (Leads : TargetUnits → TargetUnits → Type 0) (units after : UnitStates) → target ≡ other
+    → CameAs target Leads units after → CameAs other Leads units after
+came_with target other Leads units after same came = subst (λ (t : Option ℕ). CameAs t Leads units after) same came

@@ -1,5 +1,5 @@
 -- A command that is done, and a request that acts, as steps of a session's work.
-use Rattle.std.proofs.Common.{◌≡◌, ◌≤◌, ℕ, suc, ◌<◌, List, [], ◌∷◌, ◌++◌, length, map, Bool, true, false, not, Some, None, refl, sym, ap, ◌∙◌, subst, arith, append-nil}
+use Rattle.std.proofs.Common.{◌≡◌, ◌≤◌, ℕ, suc, ◌<◌, List, [], ◌∷◌, ◌++◌, length, map, Bool, true, false, not, Some, None, refl, sym, ap, ◌∙◌, subst, arith, append-nil, Option}
 use Rattle.std.specs.Prelude.{flat_map, filter, drop}
 use Rattle.std.specs.List.{enumerate_from}
 use Rattle.std.proofs.lemmas.List.{length-map}
@@ -254,11 +254,11 @@ settling_stops turns old now before waiting units after ran more =
       some = λ work s. some_queued now more;
     }))
 
-pub settle_stops : (turns : ℕ) (old now next : SessionState) (before waiting items : Output) (units middle after : UnitStates)
+pub settle_stops : (turns : ℕ) (old now next : SessionState) (before waiting items : Output) (target : Option ℕ) (units middle after : UnitStates)
     → next ≡ now → items ≡ waiting → after ≡ middle
-    → CameAs (λ given left. Runs settled (Some (λ place. Doing place turns)) false old now before waiting given left) units middle
-    → Stops is_doing (λ failed. CameAs (λ given left. Runs settled failed false old next before items given left) units after)
-settle_stops turns old now next before waiting items units middle after same is also runs = record {
+    → CameAs target (λ given left. Runs settled (Some (λ place. Doing place turns)) false old now before waiting given left) units middle
+    → Stops is_doing (λ failed. CameAs target (λ given left. Runs settled failed false old next before items given left) units after)
+settle_stops turns old now next before waiting items target units middle after same is also runs = record {
   step = λ place. Doing place turns;
   of_frame = λ place. doing_kind.of place turns;
   of_kind = λ place. refl;

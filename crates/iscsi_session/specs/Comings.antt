@@ -43,9 +43,15 @@ abbrev pub IsCalm : ℕ → List Coming → Type 0
 IsCalm target [] = ⊤
 IsCalm target (coming ∷ more) = (is_for coming.target (Some target) ≡ true → coming.came ≡ AsDefined) × IsCalm target more
 
--- What a call that does commands comes to, by how they came out, whatever others come out as behind them. All came out as
--- defined where the units are sound after it.
-pub record CameAs (Leads : TargetUnits → TargetUnits → Type 0) (units after : UnitStates) : Type 0 where
+-- these are all of sessions with this target
+abbrev pub AreOf : Option ℕ → List Coming → Type 0
+AreOf target [] = ⊤
+AreOf target (coming ∷ more) = (coming.target ≡ target) × AreOf target more
+
+-- What a call that does commands of a session with this target comes to, by how they came out, whatever others come out as
+-- behind them. All came out as defined where the units are sound after it.
+pub record CameAs (target : Option ℕ) (Leads : TargetUnits → TargetUnits → Type 0) (units after : UnitStates) : Type 0 where
   pub came : List Coming
+  pub own : AreOf target came
   pub leads : (comings : List Coming) → AreAhead came comings → Leads (lend units comings) (lend after (drop (length came) comings))
   pub plain : AreSound after → ArePlain came

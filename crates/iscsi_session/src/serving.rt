@@ -171,9 +171,9 @@ impl Session {
         units: &mut Units<S>,
     ) -> Result<(), Memory>
         requires { AreInRange self.old.params.values }
-        ensures ok { OnOk result (CameAs (λ given after. Runs settled None true self.old self.new
+        ensures ok { OnOk result (CameAs self.old.params.target (λ given after. Runs settled None true self.old self.new
             (output out.old.items []) (output out.new.items []) given after) units.old units.new) }
-        ensures err { OnErr result (Stops is_doing (λ failed. CameAs (λ given after. Runs settled failed false self.old self.new
+        ensures err { OnErr result (Stops is_doing (λ failed. CameAs self.old.params.target (λ given after. Runs settled failed false self.old self.new
             (output out.old.items []) (output out.new.items []) given after) units.old units.new)) }
         ensures back { AreSound units.new → AreSound units.old }
         ensures sure { AreSure units.old → AreSure units.new }
@@ -195,7 +195,7 @@ impl Session {
         units: &mut Units<S>,
     ) -> Result<bool, Memory>
         requires { AreInRange self.old.params.values }
-        ensures steps { IfOk result (λ more. CameAs (λ given after. (work : Work) → Starts work self.old given
+        ensures steps { IfOk result (λ more. CameAs self.old.params.target (λ given after. (work : Work) → Starts work self.old given
             → StepsFirst finish (ready work.past) work more self.old self.new (output out.old.items []) (output out.new.items []) after)
             units.old units.new) }
         ensures fewer { IfOk result (λ more. more ≡ true → length self.new.tasks.queue < length self.old.tasks.queue) }

@@ -9,13 +9,13 @@ use Rattle.scsi_unit.specs.Units.{UnitStates}
 use Rattle.iscsi_session.specs.Requests.{Past}
 use Rattle.iscsi_session.specs.State.{SessionState, IsLawful, remembered}
 use Rattle.iscsi_session.specs.Steps.{Step, Judging, Taking, Asking, Answering, Doing, is_of, is_doing, is_serving, Work, served, settled}
-use Rattle.iscsi_session.specs.Comings.{TargetUnits, CameAs, AreAhead, ArePlain, lend}
+use Rattle.iscsi_session.specs.Comings.{TargetUnits, CameAs, AreAhead, ArePlain, IsCalm, lend}
 use Rattle.iscsi_session.specs.Runs.{output, Starts, is_failed, IsReached, Runs}
 use Rattle.iscsi_session.proofs.Steps.{served_agrees, settled_agrees}
 use Rattle.iscsi_login.specs.Session.{is_same_target}
 use Rattle.iscsi_target.specs.History.{Point, Before, Mark, is_same, connection_limit}
 use Rattle.iscsi_target.specs.World.{Setting, World, present, past_of, is_marked, fails, work_of, changed, close, worked_on, worked, served_by, take_in, settled_by, settle_one, units_at, with_units, orders_by, orders_in}
-use Rattle.iscsi_target.specs.Machine.{Machine, IsSound, link_at, with_link}
+use Rattle.iscsi_target.specs.Machine.{Machine, IsSound, IsSoundAt, link_at, with_link}
 use Rattle.iscsi_target.specs.Stands.{IsQuiet, IsQuietIn, are_reached}
 use Rattle.iscsi_target.specs.Stands.{Begins}
 use Rattle.iscsi_target.specs.Serving.{Serves, Agrees, Does, kept, is_taken_at, is_done_by, SettlesOne}
@@ -97,8 +97,9 @@ pub record Calls (run : (Step → Bool) → ℕ → Work → Work) (failed : Opt
   pub units_then : UnitStates
   pub phase : (link_at given c).phase ≡ phases.FullFeature state
   pub target : units_at state.params.target given.units ≡ units
-  pub runs : CameAs (λ a b. Runs run failed goes_on state then_ (output (link_at given c).waiting []) (output waiting orders) a b) units units_then
+  pub runs : CameAs state.params.target (λ a b. Runs run failed goes_on state then_ (output (link_at given c).waiting []) (output waiting orders) a b) units units_then
   pub plain : IsSound after → ArePlain runs.came
+  pub calm : (at : ℕ) → IsSoundAt at after → IsCalm at runs.came
   pub is : after ≡ left_by goes_on c (record (with_link given c (session_link then_ waiting (link_at given c)))
       { units = with_units state.params.target units_then given.units })
 
@@ -137,6 +138,7 @@ call_does kind act run failed goes_on c given after k acts agrees of_kind = reco
   of_kind = of_kind;
   came = k.runs.came;
   plain = k.plain;
+  calm = k.calm;
   stands = λ s sent half w place marks agree ahead h.
       (let there = at_work s sent half w given c k.state k.in_range h k.phase in
       let past = there.0 in

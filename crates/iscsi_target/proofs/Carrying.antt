@@ -32,7 +32,7 @@ use Rattle.iscsi_target.proofs.Doing.{does_nothing, does_as, does_on, does_then}
 use Rattle.iscsi_target.proofs.AtWork.{call_does}
 use Rattle.iscsi_target.proofs.Held.{viewed, IsOther, not_same, target_is, session_calls, called, called_at}
 use Rattle.iscsi_target.proofs.Moving.{moves_none}
-use Rattle.iscsi_target.proofs.Sound.{reset_sound, reset_sure, reset_units}
+use Rattle.iscsi_target.proofs.Sound.{reset_back, reset_sure, reset_units}
 
 -- ---- one session loses commands
 
@@ -137,7 +137,7 @@ unfolding session_calls
 loses_does header target c d machine after framer phase waiting state then_ units units_then lt other link is same at runs e =
     call_does is_of_none (λ s marks place w. lose_one header target c w d) (λ fails place work. losing header work) None true d machine after
     (session_calls (λ fails place work. losing header work) None true d machine after framer phase waiting waiting [] state then_ units units_then lt link is at
-    (record { came = []; leads = λ comings ahead. runs comings; plain = λ sound. tt }) (λ sound. tt) (e ∙ called_at machine d (Some target) state.params.target units_then (viewed framer (phases.FullFeature then_) waiting) (sym same)))
+    (record { came = []; own = tt; leads = λ comings ahead. runs comings; plain = λ sound. tt }) (λ sound. tt) (λ at sound. tt) (e ∙ called_at machine d (Some target) state.params.target units_then (viewed framer (phases.FullFeature then_) waiting) (sym same)))
     (λ s marks place w past there params. lose_acts header target c d w past other there (ap (λ p. p.target) params ∙ same))
     (λ place marks work agree. refl) (λ place. refl)
 
@@ -206,7 +206,7 @@ reset_does machine header target = does_nothing is_of_none (λ s marks place w. 
 
 pub reset_moves : (b : ℕ) (machine : Machine) (header : List ℕ) (target : ℕ) → Moves b None machine (reset_machine header target machine)
 reset_moves b machine header target = record {
-  back = reset_sound header target machine;
+  back = reset_back header target machine;
   sure = reset_sure header target machine;
   feeds = record {
     opens = λ d. refl;

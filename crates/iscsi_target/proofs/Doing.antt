@@ -4,14 +4,15 @@ use Rattle.std.specs.Prelude.{drop}
 use Rattle.std.specs.List.{list_any, list_all}
 use Rattle.std.proofs.lemmas.List.Folds.{list_any-append}
 use Rattle.iscsi_session.specs.Comings.{AreAhead}
-use Rattle.iscsi_session.proofs.Came.{ahead_of, ahead_behind, left_behind, plain_both}
+use Rattle.iscsi_session.proofs.Came.{ahead_of, ahead_behind, left_behind, plain_both, calm_both}
 use Rattle.iscsi_target.specs.History.{Mark, is_same}
 use Rattle.iscsi_target.specs.World.{Setting, World}
-use Rattle.iscsi_target.specs.Machine.{Machine, IsSound}
+use Rattle.iscsi_target.specs.Machine.{Machine, LeadsBack}
 use Rattle.iscsi_target.specs.Stands.{are_reached}
 use Rattle.iscsi_target.specs.Stands.{Begins}
 use Rattle.iscsi_target.specs.Serving.{Serves, Agrees, Does, first_of}
 use Rattle.iscsi_target.proofs.Choices.{and_true}
+use Rattle.iscsi_target.proofs.Sound.{sound_back}
 use Rattle.iscsi_target.proofs.Marks.{Apart, Wider, agrees_left, agrees_right, all_wider, all_append}
 use Rattle.iscsi_target.proofs.Keeping.{Goes}
 
@@ -56,6 +57,7 @@ does_nothing kind act halves given after stands = record {
   of_kind = λ place. refl;
   came = [];
   plain = λ sound. tt;
+  calm = λ target sound. tt;
   stands = λ s sent half w place marks agree ahead h. (let at = stands s sent half w place marks agree h in (at.0, refl, at.1));
 }
 
@@ -70,6 +72,7 @@ does_as kind act other halves starved given after same d = record {
   of_kind = d.of_kind;
   came = d.came;
   plain = d.plain;
+  calm = d.calm;
   stands = λ s sent half w place marks agree ahead h.
       rw (same s sent half w place marks h) (d.stands s sent half w place marks agree ahead h);
 }
@@ -90,7 +93,7 @@ does_starved kind act halves a b given after e d = let P : Option ℕ → Type 0
 unfoldable pub does_then : (one two both : ℕ → Mark → Bool) (act_one act_two : Act) (halves_one halves_two : Halves) (a b : Option ℕ) (given middle after : Machine)
     → ((place : ℕ) → Apart (one place) (two place)) → ((place : ℕ) → Apart (two place) (one place)) → ((place : ℕ) → Wider (one place) (both place))
     → ((place : ℕ) → Wider (two place) (both place))
-    → (IsSound after → IsSound middle) → ((s : Setting) (marks : List Mark) (place : ℕ) (w : World) → Goes w (act_two s marks place w))
+    → LeadsBack middle after → ((s : Setting) (marks : List Mark) (place : ℕ) (w : World) → Goes w (act_two s marks place w))
     → Does one act_one halves_one a given middle → Does two act_two halves_two b middle after
     → Does both (λ s marks place w. act_two s marks place (act_one s marks place w)) (λ half. halves_two (halves_one half)) (first_of a b) given after
 does_then one two both act_one act_two halves_one halves_two a b given middle after one_two two_one wide_one wide_two back goes first second = record {
@@ -100,7 +103,8 @@ does_then one two both act_one act_two halves_one halves_two a b given middle af
       (all_wider (one place) (both place) (first.failed place) (wide_one place) (first.of_kind place))
       (all_wider (two place) (both place) (second.failed place) (wide_two place) (second.of_kind place));
   came = first.came ++ second.came;
-  plain = λ sound. plain_both first.came second.came (first.plain (back sound)) (second.plain sound);
+  plain = λ sound. plain_both first.came second.came (first.plain (sound_back middle after back sound)) (second.plain sound);
+  calm = λ target sound. calm_both target first.came second.came (first.calm target (back target sound)) (second.calm target sound);
   stands = λ s sent half w place marks agree ahead h.
       (let left = agrees_left (one place) (two place) (both place) marks (first.failed place) (second.failed place) (one_two place) (wide_one place)
       (second.of_kind place) agree in

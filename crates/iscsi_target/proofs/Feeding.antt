@@ -9,18 +9,19 @@ use Rattle.iscsi_pdu.specs.Frames.{rest, is_long}
 use Rattle.iscsi_pdu.proofs.Cuts.{rest_in_pieces}
 use Rattle.scsi_unit.specs.Units.{UnitStates, AreSound}
 use Rattle.iscsi_login.specs.Directory.{KnownTargets}
-use Rattle.iscsi_session.specs.Comings.{Coming, AreAhead, ArePlain}
+use Rattle.iscsi_session.specs.Comings.{Coming, AreAhead, ArePlain, IsCalm}
 use Rattle.iscsi_session.proofs.Came.{plain_ahead, ahead_self}
 use Rattle.iscsi_target.specs.History.{Bytes, Arriving, AtEnd, Point, Mark, History, Arrival, arrivals, new_arrivals, happening, plain, marked, connection_limit}
 use Rattle.iscsi_target.specs.Life.{Life, Phase, LoggingIn, FullFeature, Closing, Over, reads}
 use Rattle.iscsi_target.specs.World.{Setting, World, present, changed, reads_life, is_marked, close, reaching, take_step, arrive, brought, longer, bring, begun_event, world}
-use Rattle.iscsi_target.specs.Machine.{LinkState, Machine, IsSound, WhereSound, Feeds, link_at, with_link, closed, is_reading, is_open_at, free_link}
+use Rattle.iscsi_target.specs.Machine.{LinkState, Machine, IsSound, IsSoundAt, WhereSound, Feeds, link_at, with_link, closed, is_reading, is_open_at, free_link}
 use Rattle.iscsi_target.specs.Stands.{phase_for, link_of, half_of, IsShort, IsStarved, StandsAt, Stands, StandsAfter, are_reached}
 use Rattle.iscsi_target.specs.Stands.{Begins}
 use Rattle.iscsi_target.specs.Serving.{Serves, first_starved, with_half, is_among, TakesAll}
 use Rattle.iscsi_target.specs.declared.fault.Starved.{Starved}
 use Rattle.iscsi_target.proofs.Arrivals.{new_is}
 use Rattle.iscsi_target.proofs.Moving.{own_self, changes_feeds}
+use Rattle.iscsi_target.proofs.Sound.{sound_back}
 use Rattle.iscsi_target.proofs.Choices.{eqb_self, cond_true, cond_false}
 use Rattle.iscsi_target.proofs.Lives.{present-changed, present-changed_other, present_is}
 use Rattle.iscsi_target.proofs.Marks.{mark_at, marked_one, marked_none, unmarked}
@@ -362,7 +363,7 @@ kept_reads machine first c piece lt r is =
 first_sound : (machine first now : Machine) (c : ℕ) (piece : List ℕ) (starved : Option ℕ) → first ≡ kept_as machine c piece
     → TakesAll c starved first now → IsSound now → IsSound machine
 first_sound machine first now c piece starved is takes sound = subst (λ (us : List UnitStates). All AreSound us) (ap (λ (m : Machine). m.units) is)
-    (takes.back sound)
+    (sound_back first now takes.back sound)
 
 -- whatever its stores did
 came_any : (s : Setting) (sent : ℕ → ℕ) (h : History) (machine first now : Machine) (comings : List Coming) (c : ℕ) (piece : List ℕ) (starved : Option ℕ)
@@ -380,13 +381,15 @@ came s sent h machine first now c piece starved lt r is takes at sound =
     (at (first_sound machine first now c piece starved is takes sound))
 
 stands_after : (s : Setting) (sent : ℕ → ℕ) (h : History) (now : Machine) (comings : List Coming) (c : ℕ) (piece : List ℕ) (starved : Option ℕ)
-    → (IsSound now → ArePlain comings) → Came s sent (world s h) comings c piece starved now → StandsAfter s sent h (Bytes c piece) starved now
-stands_after s sent h now comings c piece starved plain_ k = record {
+    → (IsSound now → ArePlain comings) → ((target : ℕ) → IsSoundAt target now → IsCalm target comings)
+    → Came s sent (world s h) comings c piece starved now → StandsAfter s sent h (Bytes c piece) starved now
+stands_after s sent h now comings c piece starved plain_ calm k = record {
   marks = k.marks;
   comings = comings;
   first = k.first;
   reached = k.reached;
   plain = plain_;
+  calm = calm;
   stands = stands_as s sent now h (happening k.marks comings (Bytes c piece)) _ refl k.stands;
 }
 
@@ -394,7 +397,7 @@ pub all_came : (r : Result (Unit {0}) Starved) (machine first now : Machine) (c 
     → is_reading (link_at machine c).phase ≡ true → first ≡ kept_as machine c piece → TakesAll c (first_starved r) first now
     → (s : Setting) (sent : ℕ → ℕ) (h : History) → Stands s sent machine h → StandsAfter s sent h (Bytes c piece) (first_starved r) now
 all_came r machine first now c piece lt reads_so is takes s sent h at =
-    stands_after s sent h now takes.takes.came c piece (first_starved r) takes.takes.plain
+    stands_after s sent h now takes.takes.came c piece (first_starved r) takes.takes.plain takes.takes.calm
     (came_any s sent h machine first now takes.takes.came c piece (first_starved r) lt reads_so is takes (ahead_self takes.takes.came) at)
 
 plain_marks : (s : Setting) (sent : ℕ → ℕ) (h : History) (now : Machine) (c : ℕ) (piece : List ℕ) → Came s sent (world s h) [] c piece None now
@@ -430,13 +433,13 @@ err_came (Err e) machine first now c piece lt reads_so is takes = λ s sent h at
 pub none_after : (s : Setting) (sent : ℕ → ℕ) (h : History) (now : Machine) (c : ℕ) (piece : List ℕ)
     → StandsAt s sent (bring s [] c piece (fresh (world s h))) now → StandsAfter s sent h (Bytes c piece) None now
 none_after s sent h now c piece at =
-    stands_after s sent h now [] c piece None (λ sound. tt) (record { marks = []; first = refl; reached = refl; stands = at })
+    stands_after s sent h now [] c piece None (λ sound. tt) (λ target sound. tt) (record { marks = []; first = refl; reached = refl; stands = at })
 
 pub starved_after : (s : Setting) (sent : ℕ → ℕ) (h : History) (machine now : Machine) (c named : ℕ) (piece : List ℕ) → named ≡ c
     → c < connection_limit → Stands s sent machine h → is_reading (link_at machine c).phase ≡ true → now ≡ closed machine c
     → StandsAfter s sent h (Bytes c piece) (Some named) now
 starved_after s sent h machine now c named piece e lt stands r is =
-    stands_after s sent h now [] c piece (Some named) (λ sound. tt)
+    stands_after s sent h now [] c piece (Some named) (λ sound. tt) (λ target sound. tt)
     (subst (λ (d : ℕ). Came s sent (world s h) [] c piece (Some d) now) (sym e) (comes_starved s sent (world s h) machine now c piece lt stands r is))
 
 pub starved_came : (s : Setting) (sent : ℕ → ℕ) (h : History) (machine now : Machine) (c named : ℕ) (piece : List ℕ) → named ≡ c

@@ -14,7 +14,7 @@ use Rattle.iscsi_login.specs.Directory.{KnownTargets}
 use Rattle.iscsi_target.specs.History.{Point, Arriving, Mark, Arrival, Whole, connection_limit}
 use Rattle.iscsi_target.specs.Life.{Life, Phase, LoggingIn, FullFeature, Closing, Over, reads}
 use Rattle.iscsi_target.specs.World.{Setting, World, present, reads_life, is_marked, close, reaching, take_step, log_in, take_in, settle_one, settle, serve, is_login, taken_in, taken_by, comes, arrive, settle_for, carry_out_for, orders_in}
-use Rattle.iscsi_target.specs.Machine.{LinkState, Machine, IsSound, link_at, is_reading, closed, logged_in}
+use Rattle.iscsi_target.specs.Machine.{LinkState, Machine, LeadsBack, link_at, is_reading, closed, logged_in}
 use Rattle.iscsi_target.specs.Stands.{phase_for, link_of, are_reached}
 use Rattle.iscsi_target.specs.Serving.{Serves, Agrees, Does, CarriesOut, kept, is_of_none, first_of, is_of_frame, is_taken_at, is_done_at, is_done_by, is_done_below, Takes, Settles, SettlesOne, SettlesFor}
 use Rattle.iscsi_target.specs.declared.phase.Phase.TheVariants as phases
@@ -165,6 +165,7 @@ starves given after c arrival lt r is = record {
   of_kind = λ place. rw (eqb_self place) refl;
   came = [];
   plain = λ sound. tt;
+  calm = λ target sound. tt;
   stands = λ s sent half w place marks agree ahead h.
       (let there = some_reads (present c w) (sym (reads_there s sent half w given c lt h) ∙ r) in
       let v = reaching c (Arriving place ∷ []) w in
@@ -193,7 +194,7 @@ abbrev pub Finishes : ℕ → Option ℕ → List (List ℕ) → Option ℕ → 
 Finishes c target orders starved middle after =
     Does is_done_at (λ s marks place w. settle_for marks place target (carry_out_for c target orders w)) kept starved middle after
 
-pub finishes : (c : ℕ) (target : Option ℕ) (orders : List (List ℕ)) (starved : Option ℕ) (middle carried after : Machine) → (IsSound after → IsSound carried)
+pub finishes : (c : ℕ) (target : Option ℕ) (orders : List (List ℕ)) (starved : Option ℕ) (middle carried after : Machine) → LeadsBack carried after
     → CarriesOut (carry_out_for c target orders) middle carried → SettlesFor target starved carried after → Finishes c target orders starved middle after
 finishes c target orders starved middle carried after back carries settles =
     does_then is_of_none is_done_at is_done_at (λ s marks place w. carry_out_for c target orders w) (λ s marks place w. settle_for marks place target w)
@@ -205,7 +206,7 @@ pub takes_served : (c : ℕ) (target : Option ℕ) (frame : Frame) (orders : Lis
     (goes_on : Bool) (starved : Option ℕ)
     → (k : Calls (λ f place. served f place frame) failed goes_on c given middle)
     → k.orders ≡ orders → k.state.params.target ≡ target → ((place : ℕ) → list_all (is_taken_at place) (marks_of c failed place) ≡ true)
-    → (IsSound after → IsSound middle) → Finishes c target orders starved middle after
+    → LeadsBack middle after → Finishes c target orders starved middle after
     → Takes c frame (first_of (starved_if failed c) starved) given after
 unfolding serve does_then serves_does call_does
 takes_served c target frame orders given middle after failed goes_on starved k ordered same of_kind back second =
@@ -220,6 +221,7 @@ takes_served c target frame orders given middle after failed goes_on starved k o
       of_kind = λ place. all_wider (is_step_at place) (is_of_frame place) (both.failed place) (step_within place) (both.of_kind place);
       came = both.came;
       plain = both.plain;
+      calm = both.calm;
       stands = λ s sent half w place marks agree ahead h.
           (let there = at_work s sent half w given c k.state k.in_range h k.phase in
           let a = there.1 in
@@ -285,7 +287,7 @@ fold_next : (marks : List Mark) (place target c : ℕ) (w : World) → fold (set
 fold_next marks place target c w = ap (fold (settle_one marks place target) w) (range_next c)
     ∙ fold-append (settle_one marks place target) w (range_with_len 0 c) (c ∷ [])
 
-pub settled_next : (target c : ℕ) (a b : Option ℕ) (given middle after : Machine) → (IsSound after → IsSound middle)
+pub settled_next : (target c : ℕ) (a b : Option ℕ) (given middle after : Machine) → LeadsBack middle after
     → SettledBelow target c a given middle → SettlesOne target c b middle after → SettledBelow target (c + 1) (first_of a b) given after
 settled_next target c a b given middle after back so_far one =
     does_as (is_done_below (c + 1)) (λ s marks place w. settle_one marks place target (fold (settle_one marks place target) w (range_with_len 0 c)) c)
@@ -305,6 +307,7 @@ all_settled target starved given after d = record {
   of_kind = λ place. all_wider (is_done_below connection_limit place) (is_done_at place) (d.failed place) (below_all connection_limit place) (d.of_kind place);
   came = d.came;
   plain = d.plain;
+  calm = d.calm;
   stands = λ s sent half w place marks agree ahead h. d.stands s sent half w place marks
       (λ mark is. agree mark (below_all connection_limit place mark is)) ahead h;
 }

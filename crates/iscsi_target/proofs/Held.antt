@@ -1,12 +1,14 @@
 -- A session's call, as the code makes it: on the link that is borrowed from the list.
-use Rattle.std.proofs.Common.{◌≡◌, ◌≢◌, ℕ, ◌<◌, List, [], ◌++◌, length, set, get_or, Bool, true, false, cond, Option, Some, None, refl, sym, ap, ◌∙◌, subst, arith}
+use Rattle.std.proofs.Common.{◌≡◌, ◌≢◌, ℕ, ◌<◌, List, [], ◌++◌, length, set, get_or, Bool, true, false, cond, Option, Some, None, refl, sym, ap, ◌∙◌, subst, arith, inl, inr}
 use Rattle.std.specs.Prelude.{drop, All, slice_set, Result, Ok, Err, IfOk, OnErr}
 use Rattle.iscsi_pdu.specs.Frames.{Frame}
+use Rattle.std.proofs.lemmas.Bool.Decides.{eqb_tells}
 use Rattle.std.specs.List.{list_all}
 use Rattle.std.proofs.lemmas.Bool.{ne_eqb, eqb-true, eq-eqb}
 use Rattle.std.proofs.lemmas.List.{length-set, set-get_or, get_or-set_same}
 use Rattle.scsi_unit.specs.Units.{UnitStates, AreSound, AreSure, numbers_of}
-use Rattle.iscsi_session.specs.Comings.{TargetUnits, CameAs, ArePlain, lend}
+use Rattle.iscsi_session.specs.Comings.{Coming, TargetUnits, CameAs, ArePlain, AreOf, IsCalm, is_for, lend}
+use Rattle.iscsi_session.proofs.Came.{plain_calm, others_calm}
 use Rattle.iscsi_session.specs.Requests.{Past}
 use Rattle.iscsi_session.specs.State.{SessionState, remembered}
 use Rattle.iscsi_session.specs.Steps.{Step, Work, is_serving, served, settled}
@@ -17,7 +19,7 @@ use Rattle.iscsi_login.specs.LoginState.{IsTargetBelow}
 use Rattle.iscsi_target.specs.History.{Mark, connection_limit}
 use Rattle.iscsi_target.specs.Life.{Life, Phase, LoggingIn, FullFeature, Closing, Over, past_in}
 use Rattle.iscsi_target.specs.World.{Setting, World, present, past_of, units_at, with_units, settled_by, settle_one, settle_for}
-use Rattle.iscsi_target.specs.Machine.{LinkState, Machine, IsSound, IsWithin, link_at, with_link, free_link, is_reading, is_logging_in, closed}
+use Rattle.iscsi_target.specs.Machine.{LinkState, Machine, IsSound, IsSoundAt, LeadsBack, IsWithin, link_at, with_link, free_link, is_reading, is_logging_in, closed}
 use Rattle.iscsi_target.specs.Stands.{phase_for, link_of}
 use Rattle.iscsi_target.specs.Bounded.{Adds}
 use Rattle.iscsi_target.specs.Serving.{Serves, Moves, kept, is_done_at, is_done_by, is_taken_at, SettlesOne, SettlesFor, Takes, first_of, starved_by, ended_unless}
@@ -30,6 +32,7 @@ use Rattle.iscsi_target.proofs.Working.{left_by}
 use Rattle.iscsi_target.proofs.Doing.{does_nothing}
 use Rattle.iscsi_target.proofs.AtWork.{marks_of, starved_if, Calls, settles_does, serve_kind}
 use Rattle.iscsi_target.proofs.Frames.{Finishes, takes_served}
+use Rattle.iscsi_target.proofs.Sound.{sound_at}
 use Rattle.iscsi_target.proofs.Moving.{length_with, IsOwn, own_self, changes_moves, session_changes, session_half, units_back, units_sure, moves_as, moves_then, closed_moves, starved_moves}
 
 abbrev pub viewed : List ℕ → CodePhase → List ℕ → LinkState
@@ -106,14 +109,14 @@ unfoldable pub session_calls : (run : (Step → Bool) → ℕ → Work → Work)
     (framer : List ℕ) (phase : CodePhase) (before waiting : List ℕ) (orders : List (List ℕ))
     (state then_ : SessionState) (units units_then : UnitStates) → c < connection_limit → viewed framer phase before ≡ link_at machine c
     → phase ≡ phases.FullFeature state → units_at state.params.target machine.units ≡ units
-    → (runs : CameAs (λ a b. Runs run failed goes_on state then_ (output before []) (output waiting orders) a b) units units_then)
-    → (IsSound after → ArePlain runs.came)
+    → (runs : CameAs state.params.target (λ a b. Runs run failed goes_on state then_ (output before []) (output waiting orders) a b) units units_then)
+    → (IsSound after → ArePlain runs.came) → ((at : ℕ) → IsSoundAt at after → IsCalm at runs.came)
     → after ≡ left_by goes_on c (record machine {
       units = with_units state.params.target units_then machine.units;
       links = slice_set machine.links c (viewed framer (phases.FullFeature then_) waiting);
     })
     → Calls run failed goes_on c machine after
-session_calls run failed goes_on c machine after framer phase before waiting orders state then_ units units_then lt link is target runs plain e = record {
+session_calls run failed goes_on c machine after framer phase before waiting orders state then_ units units_then lt link is target runs plain calm e = record {
   in_range = lt;
   state = state;
   then_ = then_;
@@ -125,12 +128,14 @@ session_calls run failed goes_on c machine after framer phase before waiting ord
   target = target;
   runs = record {
     came = runs.came;
+    own = runs.own;
     leads = λ comings ahead. subst (λ (bytes : List ℕ). Runs run failed goes_on state then_ (output bytes []) (output waiting orders)
         (lend units comings) (lend units_then (drop (length runs.came) comings)))
         (ap (λ (l : LinkState). l.waiting) link) (runs.leads comings ahead);
     plain = runs.plain;
   };
   plain = plain;
+  calm = calm;
   is = e ∙ ap (λ (half : List ℕ). left_by goes_on c (record machine {
     units = with_units state.params.target units_then machine.units;
     links = slice_set machine.links c (record { half = half; phase = phases.FullFeature then_; waiting = waiting });
@@ -163,9 +168,8 @@ session_moves b c machine framer phase before waiting state then_ units units_th
 
 -- the units of a sound target that were worked on are sound
 pub sound_there : (machine : Machine) (links : List LinkState) (target : ℕ) (units : UnitStates) → target < length machine.units
-    → (let after : Machine = record machine { units = slice_set machine.units target units; links = links } in IsSound after) → AreSound units
-sound_there machine links target units below sound =
-    subst AreSound (get_or-set_same machine.units target units [] below) (sound target [] (omega (arith, below, length-set machine.units target units)))
+    → (let after : Machine = record machine { units = slice_set machine.units target units; links = links } in IsSoundAt target after) → AreSound units
+sound_there machine links target units below sound = subst AreSound (get_or-set_same machine.units target units [] below) sound
 
 -- the units as they are borrowed
 pub units_here : (all : List UnitStates) (target : ℕ) (at : Option ℕ) (d value : UnitStates) → target < length all → at ≡ Some target
@@ -202,20 +206,28 @@ called machine c target units link = record machine { units = with_units target 
 pub called_at : (machine : Machine) (c : ℕ) (a b : Option ℕ) (units : UnitStates) (link : LinkState) → a ≡ b → called machine c a units link ≡ called machine c b units link
 called_at machine c a b units link e = ap (λ (t : Option ℕ). called machine c t units link) e
 
+-- of a session's target they are calm where it is sound, and of another one always
+came_calm : (after : Machine) (own : Option ℕ) (target : ℕ) → own ≡ Some target → (came : List Coming) → AreOf own came
+    → (IsSoundAt target after → ArePlain came) → (at : ℕ) → IsSoundAt at after → IsCalm at came
+came_calm after own target same came are plain at sound = elim (eqb_tells target at) [
+  | inl here ↦ plain_calm at came (plain (subst (λ (n : ℕ). IsSoundAt n after) (sym here.1) sound))
+  | inr differ ↦ others_calm own at came (ap (λ (o : Option ℕ). is_for o (Some at)) same ∙ differ.0) are
+]
+
 -- the commands of a session of this target were done, or those before one
 pub settle_does : (failed : Option (ℕ → Step)) (goes_on : Bool) (c target : ℕ) (machine after : Machine) (framer : List ℕ) (phase : CodePhase)
     (before waiting : List ℕ)
     (state then_ : SessionState) (units units_then : UnitStates) → c < connection_limit → viewed framer phase before ≡ link_at machine c
     → phase ≡ phases.FullFeature state → state.params.target ≡ Some target → units_at state.params.target machine.units ≡ units
-    → (runs : CameAs (λ a b. Runs settled failed goes_on state then_ (output before []) (output waiting []) a b) units units_then)
-    → (IsSound after → ArePlain runs.came)
+    → (runs : CameAs state.params.target (λ a b. Runs settled failed goes_on state then_ (output before []) (output waiting []) a b) units units_then)
+    → (IsSoundAt target after → ArePlain runs.came)
     → ((place : ℕ) → list_all (is_done_by c place) (marks_of c failed place) ≡ true)
     → after ≡ left_by goes_on c (called machine c (Some target) units_then (viewed framer (phases.FullFeature then_) waiting))
     → SettlesOne target c (starved_if failed c) machine after
 unfolding session_calls
 settle_does failed goes_on c target machine after framer phase before waiting state then_ units units_then lt link is same at runs plain kind e =
     settles_does failed goes_on c target machine after
-    (session_calls settled failed goes_on c machine after framer phase before waiting [] state then_ units units_then lt link is at runs plain
+    (session_calls settled failed goes_on c machine after framer phase before waiting [] state then_ units units_then lt link is at runs (λ sound. plain (sound_at after sound target)) (came_calm after state.params.target target same runs.came runs.own plain)
     (e ∙ ap (left_by goes_on c) (called_at machine c (Some target) state.params.target units_then (viewed framer (phases.FullFeature then_) waiting)
     (sym same)))) same kind
 
@@ -237,7 +249,7 @@ serve_takes_by : (failed : Option (ℕ → Step)) (goes_on : Bool) (c : ℕ) (ta
     → c < connection_limit → viewed framer phase before ≡ link_at machine c
     → phase ≡ phases.FullFeature state → state.params.target ≡ target → luns ≡ numbers_of (units_at target machine.units)
     → Served frame luns failed goes_on state then_ (output before []) (output waiting orders) → ((place : ℕ) → list_all (is_taken_at place) (marks_of c failed place) ≡ true)
-    → middle ≡ left_by goes_on c (with_link machine c (viewed framer (phases.FullFeature then_) waiting)) → (IsSound after → IsSound middle)
+    → middle ≡ left_by goes_on c (with_link machine c (viewed framer (phases.FullFeature then_) waiting)) → LeadsBack middle after
     → Finishes c target orders starved middle after
     → Takes c frame (first_of (starved_if failed c) starved) machine after
 unfolding session_calls
@@ -247,7 +259,8 @@ serve_takes_by failed goes_on c target frame luns orders machine middle after fr
     let known : luns ≡ numbers_of units = numbers ∙ ap (λ (t : Option ℕ). numbers_of (units_at t machine.units)) (sym same) in
     takes_served c target frame orders machine middle after failed goes_on starved
     (session_calls (λ f place. served f place frame) failed goes_on c machine middle framer phase before waiting orders state then_ units units lt
-    link is refl (record { came = []; leads = λ comings ahead. runs (lend units comings) known; plain = λ sound. tt }) (λ sound. tt)
+    link is refl (record { came = []; own = tt; leads = λ comings ahead. runs (lend units comings) known; plain = λ sound. tt })
+    (λ sound. tt) (λ at sound. tt)
     (e ∙ ap (left_by goes_on c) (sym (same_units machine c state.params.target (viewed framer (phases.FullFeature then_) waiting)))))
     refl same kind back finish
 
@@ -257,7 +270,7 @@ pub serve_takes : {E : Type 0} (r : Result Bool E) (c : ℕ) (target : Option �
     → phase ≡ phases.FullFeature state → state.params.target ≡ target → luns ≡ numbers_of (units_at target machine.units) → none ≡ []
     → IfOk r (λ goes_on. Served frame luns None goes_on state then_ (output before none) (output waiting orders))
     → OnErr r (Stops is_serving (λ failed. Served frame luns failed false state then_ (output before none) (output waiting orders)))
-    → middle ≡ ended_unless r c (with_link machine c (viewed framer (phases.FullFeature then_) waiting)) → (IsSound after → IsSound middle)
+    → middle ≡ ended_unless r c (with_link machine c (viewed framer (phases.FullFeature then_) waiting)) → LeadsBack middle after
     → Finishes c target orders starved middle after
     → Takes c frame (first_of (starved_by c r) starved) machine after
 serve_takes (Ok goes_on) c target frame luns none orders machine middle after framer phase before waiting state then_ starved lt link is same numbers empty

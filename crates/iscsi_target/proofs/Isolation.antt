@@ -1,17 +1,20 @@
 -- Of every history: the kept lives and the target's units are those of the kept lives' events alone.
-use Rattle.std.proofs.Common.{◌≡◌, ◌≢◌, ℕ, suc, ◌+◌, List, [], ◌∷◌, ◌++◌, length, map, Bool, true, false, not, ◌||◌, eqb, Option, Some, None, refl, sym, ap, ◌∙◌, subst, arith}
+use Rattle.std.proofs.Common.{◌≡◌, ◌≢◌, ℕ, suc, ◌+◌, ◌≤◌, List, [], ◌∷◌, ◌++◌, length, map, Bool, true, false, not, ◌||◌, eqb, Option, Some, None, refl, sym, ap, ◌∙◌, subst, arith}
 use Rattle.std.specs.Prelude.{filter, ◌==◌, slice_get, slice_index_or, nat_lt}
 use Rattle.std.specs.List.{fold}
 use Rattle.std.specs.Option.{option_and_then}
 use Rattle.std.proofs.lemmas.Bool.{eqb-true, ne_eqb}
 use Rattle.std.proofs.lemmas.List.{length-map, length-append, append-nil}
-use Rattle.scsi_unit.specs.Medium.{KeptState, kept_of}
+use Rattle.scsi_unit.specs.Medium.{kept_of}
+use Rattle.iscsi_session.specs.Comings.{Coming, IsCalm, is_for}
 use Rattle.iscsi_login.specs.Session.{is_same_target}
-use Rattle.iscsi_target.specs.History.{Event, Open, Bytes, Gone, connection_limit, is_among, open_after, may_come, may_follow, well_formed, plain}
+use Rattle.iscsi_target.specs.History.{Event, Open, Bytes, Gone, Happening, History, Mark, happening, connection_limit, is_among, open_after, may_come, may_follow, well_formed, plain}
 use Rattle.iscsi_target.specs.Life.{Life, Over, is_over, born, ended_in, out_of}
 use Rattle.iscsi_target.specs.World.{Setting, World, is_present, present, session_of, left, over, end, bring, begun_event, happened, new_world, world}
-use Rattle.iscsi_target.specs.Output.{outputs, media}
-use Rattle.iscsi_target.specs.Isolation.{kept_from, connection_of, next_after, last_after, only_from, only, named_in, Selects, names, plain_world, kept, TargetsAreIsolated, TargetsSeeTheirOwn, StrangersAreAlone, GivesItsOwn}
+use Rattle.iscsi_target.specs.Output.{outputs, media, media_in}
+use Rattle.iscsi_target.specs.Machine.{Machine}
+use Rattle.iscsi_target.specs.Stands.{Stands}
+use Rattle.iscsi_target.specs.Isolation.{kept_from, connection_of, next_after, last_after, only_from, only, named_in, Selects, names, plain_world, events_of, AreUnmarked, AreCalm, kept, TargetsAreIsolated, TargetsSeeTheirOwn, StrangersAreAlone, GivesItsOwn}
 use Rattle.iscsi_target.proofs.Choices.{cond_true, cond_false, and_true, not_true, eqb_self}
 use Rattle.iscsi_target.proofs.IsolatedLives.{AllFrom, Selection, HasTarget, Fits, kept_in, kept_out, kept_append, kept_map, over_out, all_map, all_as, all_push, all_places}
 use Rattle.iscsi_target.proofs.IsolatedNames.{is_configured}
@@ -199,49 +202,50 @@ out_end target keeps opened last next c w v keep follow =
 keeps_new : (keeps : ℕ → Bool) (last : ℕ → ℕ) (next c : ℕ) (b : Bool) → keeps (last_after next last (Open c) c) ≡ b → keeps next ≡ b
 keeps_new keeps last next c b e = ap keeps (sym (cond_true (eqb c c) next (last c) (eqb_self c))) ∙ e
 
-fresh_both : (g : Selection) (w v : World) → Agree g w v → Agree g (begun_event [] w) (begun_event [] v)
-fresh_both g w v agree = record { lives = agree.lives; units = agree.units; fits = agree.fits; calm = tt; silent = refl }
+fresh_both : (g : Selection) (comings : List Coming) (w v : World) → IsCalm g.target comings → Agree g w v
+    → Agree g (begun_event comings w) (begun_event [] v)
+fresh_both g comings w v calm agree = record { lives = agree.lives; units = agree.units; fits = agree.fits; calm = calm; silent = refl }
 
-fresh_here : (g : Selection) (w v : World) → Agree g w v → Agree g (begun_event [] w) v
-fresh_here g w v agree = record { lives = agree.lives; units = agree.units; fits = agree.fits; calm = tt; silent = agree.silent }
+fresh_here : (g : Selection) (comings : List Coming) (w v : World) → IsCalm g.target comings → Agree g w v → Agree g (begun_event comings w) v
+fresh_here g comings w v calm agree = record { lives = agree.lives; units = agree.units; fits = agree.fits; calm = calm; silent = agree.silent }
 
 bring_count : (s : Setting) (c : ℕ) (piece : List ℕ) (w : World) → length (bring s [] c piece w).lives ≡ length w.lives
 bring_count s c piece w = same_count w (bring s [] c piece w) (adds-bring s [] c piece w)
 
 -- an event of a life that is kept
-follow_in : (s : Setting) (target : ℕ) (keeps : ℕ → Bool) (event : Event) (opened : List ℕ) (last : ℕ → ℕ) (next : ℕ) (w v : World)
-    → may_come opened event ≡ true → keeps (last_after next last event (connection_of event)) ≡ true
-    → AreNamed (selection target keeps opened last) s.directory (happened s w (plain event)) → Follow target keeps opened last next w v
-    → Follow target keeps (open_after opened event) (last_after next last event) (next_after next event) (happened s w (plain event)) (happened s v
-    (plain event))
-follow_in s target keeps (Open c) opened last next w v may keep named follow =
-    in_open target keeps opened last next c (begun_event [] w) (begun_event [] v) may (keeps_new keeps last next c true keep)
-    (record { agree = fresh_both (selection target keeps opened last) w v follow.agree; count = follow.count })
-follow_in s target keeps (Bytes c piece) opened last next w v may keep named follow = record {
-  agree = in_bring (selection target keeps opened last) s c piece (begun_event [] w) (begun_event [] v) keep named
-      (fresh_both (selection target keeps opened last) w v follow.agree);
-  count = follow.count ∙ sym (bring_count s c piece (begun_event [] w));
+follow_in : (s : Setting) (target : ℕ) (keeps : ℕ → Bool) (event : Event) (comings : List Coming) (opened : List ℕ) (last : ℕ → ℕ) (next : ℕ) (w v : World)
+    → may_come opened event ≡ true → keeps (last_after next last event (connection_of event)) ≡ true → IsCalm target comings
+    → AreNamed (selection target keeps opened last) s.directory (happened s w (happening [] comings event)) → Follow target keeps opened last next w v
+    → Follow target keeps (open_after opened event) (last_after next last event) (next_after next event)
+    (happened s w (happening [] comings event)) (happened s v (plain event))
+follow_in s target keeps (Open c) comings opened last next w v may keep calm named follow =
+    in_open target keeps opened last next c (begun_event comings w) (begun_event [] v) may (keeps_new keeps last next c true keep)
+    (record { agree = fresh_both (selection target keeps opened last) comings w v calm follow.agree; count = follow.count })
+follow_in s target keeps (Bytes c piece) comings opened last next w v may keep calm named follow = record {
+  agree = in_bring (selection target keeps opened last) s c piece (begun_event comings w) (begun_event [] v) keep named
+      (fresh_both (selection target keeps opened last) comings w v calm follow.agree);
+  count = follow.count ∙ sym (bring_count s c piece (begun_event comings w));
 }
-follow_in s target keeps (Gone c) opened last next w v may keep named follow =
-    in_end target keeps opened last next c (begun_event [] w) (begun_event [] v) keep
-    (record { agree = fresh_both (selection target keeps opened last) w v follow.agree; count = follow.count })
+follow_in s target keeps (Gone c) comings opened last next w v may keep calm named follow =
+    in_end target keeps opened last next c (begun_event comings w) (begun_event [] v) keep
+    (record { agree = fresh_both (selection target keeps opened last) comings w v calm follow.agree; count = follow.count })
 
 -- of another life
-follow_out : (s : Setting) (target : ℕ) (keeps : ℕ → Bool) (event : Event) (opened : List ℕ) (last : ℕ → ℕ) (next : ℕ) (w v : World)
-    → may_come opened event ≡ true → keeps (last_after next last event (connection_of event)) ≡ false
-    → AreNamed (selection target keeps opened last) s.directory (happened s w (plain event)) → Follow target keeps opened last next w v
-    → Follow target keeps (open_after opened event) (last_after next last event) (next_after next event) (happened s w (plain event)) v
-follow_out s target keeps (Open c) opened last next w v may keep named follow =
-    out_open target keeps opened last next c (begun_event [] w) v may (keeps_new keeps last next c false keep)
-    (record { agree = fresh_here (selection target keeps opened last) w v follow.agree; count = follow.count })
-follow_out s target keeps (Bytes c piece) opened last next w v may keep named follow = record {
-  agree = out_bring (selection target keeps opened last) s c piece (begun_event [] w) v keep named
-      (fresh_here (selection target keeps opened last) w v follow.agree);
-  count = follow.count ∙ sym (bring_count s c piece (begun_event [] w));
+follow_out : (s : Setting) (target : ℕ) (keeps : ℕ → Bool) (event : Event) (comings : List Coming) (opened : List ℕ) (last : ℕ → ℕ) (next : ℕ) (w v : World)
+    → may_come opened event ≡ true → keeps (last_after next last event (connection_of event)) ≡ false → IsCalm target comings
+    → AreNamed (selection target keeps opened last) s.directory (happened s w (happening [] comings event)) → Follow target keeps opened last next w v
+    → Follow target keeps (open_after opened event) (last_after next last event) (next_after next event) (happened s w (happening [] comings event)) v
+follow_out s target keeps (Open c) comings opened last next w v may keep calm named follow =
+    out_open target keeps opened last next c (begun_event comings w) v may (keeps_new keeps last next c false keep)
+    (record { agree = fresh_here (selection target keeps opened last) comings w v calm follow.agree; count = follow.count })
+follow_out s target keeps (Bytes c piece) comings opened last next w v may keep calm named follow = record {
+  agree = out_bring (selection target keeps opened last) s c piece (begun_event comings w) v keep named
+      (fresh_here (selection target keeps opened last) comings w v calm follow.agree);
+  count = follow.count ∙ sym (bring_count s c piece (begun_event comings w));
 }
-follow_out s target keeps (Gone c) opened last next w v may keep named follow =
-    out_end target keeps opened last next c (begun_event [] w) v keep
-    (record { agree = fresh_here (selection target keeps opened last) w v follow.agree; count = follow.count })
+follow_out s target keeps (Gone c) comings opened last next w v may keep calm named follow =
+    out_end target keeps opened last next c (begun_event comings w) v keep
+    (record { agree = fresh_here (selection target keeps opened last) comings w v calm follow.agree; count = follow.count })
 
 -- ---- one event after the other
 
@@ -250,46 +254,63 @@ record Parts (target : ℕ) (keeps : ℕ → Bool) (w v : World) : Type 0 where
   lives : v.lives ≡ kept_from keeps 0 w.lives
   units : slice_index_or v.units target [] ≡ slice_index_or w.units target []
 
-after : Setting → World → List Event → World
-after s w events = fold (happened s) w (map plain events)
+after : Setting → World → History → World
+after s w history = fold (happened s) w history
 
 renamed : (s : Setting) (target : ℕ) (keeps : ℕ → Bool) (opened later : List ℕ) (last then_ : ℕ → ℕ) (w : World)
     → AreNamed (selection target keeps opened last) s.directory w → AreNamed (selection target keeps later then_) s.directory w
 unfolding Named HasTarget
 renamed s target keeps opened later last then_ w named = named
 
-along_by : (b : Bool) (s : Setting) (target : ℕ) (keeps : ℕ → Bool) (event : Event) (events : List Event) (opened : List ℕ) (last : ℕ
-    → ℕ) (next : ℕ) (w v : World)
-    → keeps (last_after next last event (connection_of event)) ≡ b → may_come opened event ≡ true
-    → AreNamed (selection target keeps opened last) s.directory (after s w (event ∷ events)) → Follow target keeps opened last next w v
-    → ((x : World) → Follow target keeps (open_after opened event) (last_after next last event) (next_after next event) (happened s w (plain event)) x
-    → Parts target keeps (after s w (event ∷ events)) (after s x (only_from keeps (next_after next event) (last_after next last event) events)))
-    → Parts target keeps (after s w (event ∷ events)) (after s v (only_from keeps next last (event ∷ events)))
+along_by : (b : Bool) (s : Setting) (target : ℕ) (keeps : ℕ → Bool) (event : Event) (comings : List Coming) (history : History) (opened : List ℕ)
+    (last : ℕ → ℕ) (next : ℕ) (w v : World)
+    → keeps (last_after next last event (connection_of event)) ≡ b → may_come opened event ≡ true → IsCalm target comings
+    → AreNamed (selection target keeps opened last) s.directory (after s w (happening [] comings event ∷ history)) → Follow target keeps opened last next w v
+    → ((x : World) → Follow target keeps (open_after opened event) (last_after next last event) (next_after next event)
+    (happened s w (happening [] comings event)) x
+    → Parts target keeps (after s w (happening [] comings event ∷ history))
+    (after s x (map plain (only_from keeps (next_after next event) (last_after next last event) (events_of history)))))
+    → Parts target keeps (after s w (happening [] comings event ∷ history)) (after s v (map plain (only_from keeps next last (event ∷ events_of history))))
 unfolding after
-along_by true s target keeps event events opened last next w v keep may named follow further =
-    let others = only_from keeps (next_after next event) (last_after next last event) events in
-    subst (λ (l : List Event). Parts target keeps (after s w (event ∷ events)) (after s v l))
+along_by true s target keeps event comings history opened last next w v keep may calm named follow further =
+    let others = only_from keeps (next_after next event) (last_after next last event) (events_of history) in
+    subst (λ (l : List Event). Parts target keeps (after s w (happening [] comings event ∷ history)) (after s v (map plain l)))
     (sym (cond_true (keeps (last_after next last event (connection_of event))) (event ∷ others) others keep))
-    (further (happened s v (plain event)) (follow_in s target keeps event opened last next w v may keep
-    (named_first (selection target keeps opened last) s (happened s w (plain event)) (map plain events) named) follow))
-along_by false s target keeps event events opened last next w v keep may named follow further =
-    let others = only_from keeps (next_after next event) (last_after next last event) events in
-    subst (λ (l : List Event). Parts target keeps (after s w (event ∷ events)) (after s v l))
+    (further (happened s v (plain event)) (follow_in s target keeps event comings opened last next w v may keep calm
+    (named_first (selection target keeps opened last) s (happened s w (happening [] comings event)) history named) follow))
+along_by false s target keeps event comings history opened last next w v keep may calm named follow further =
+    let others = only_from keeps (next_after next event) (last_after next last event) (events_of history) in
+    subst (λ (l : List Event). Parts target keeps (after s w (happening [] comings event ∷ history)) (after s v (map plain l)))
     (sym (cond_false (keeps (last_after next last event (connection_of event))) (event ∷ others) others keep))
-    (further v (follow_out s target keeps event opened last next w v may keep
-    (named_first (selection target keeps opened last) s (happened s w (plain event)) (map plain events) named) follow))
+    (further v (follow_out s target keeps event comings opened last next w v may keep calm
+    (named_first (selection target keeps opened last) s (happened s w (happening [] comings event)) history named) follow))
 
-along : (s : Setting) (target : ℕ) (keeps : ℕ → Bool) (events : List Event) (opened : List ℕ) (last : ℕ → ℕ) (next : ℕ) (w v : World)
-    → may_follow opened events ≡ true → AreNamed (selection target keeps opened last) s.directory (after s w events) → Follow target keeps opened last next w v
-    → Parts target keeps (after s w events) (after s v (only_from keeps next last events))
+-- an event in which no allocation failed
+abbrev unmarked_one : Happening → Happening
+unmarked_one x = happening [] x.comings x.event
+
+is_unmarked : (x : Happening) → x.marks ≡ [] → unmarked_one x ≡ x
+is_unmarked x e = ap (λ (marks : List Mark). happening marks x.comings x.event) (sym e)
+
+along : (s : Setting) (target : ℕ) (keeps : ℕ → Bool) (history : History) (opened : List ℕ) (last : ℕ → ℕ) (next : ℕ) (w v : World)
+    → may_follow opened (events_of history) ≡ true → AreUnmarked history → AreCalm target history
+    → AreNamed (selection target keeps opened last) s.directory (after s w history) → Follow target keeps opened last next w v
+    → Parts target keeps (after s w history) (after s v (map plain (only_from keeps next last (events_of history))))
 unfolding after
-along s target keeps [] opened last next w v may named follow = record { lives = follow.agree.lives; units = follow.agree.units.units }
-along s target keeps (event ∷ events) opened last next w v may named follow =
-    let both = and_true (may_come opened event) (may_follow (open_after opened event) events) may in
-    along_by (keeps (last_after next last event (connection_of event))) s target keeps event events opened last next w v refl both.0 named follow
-    (λ x then_. along s target keeps events (open_after opened event) (last_after next last event) (next_after next event) (happened s w
-    (plain event)) x both.1
-    (renamed s target keeps opened (open_after opened event) last (last_after next last event) (after s w (event ∷ events)) named) then_)
+along s target keeps [] opened last next w v may unmarked calm named follow = record { lives = follow.agree.lives; units = follow.agree.units.units }
+along s target keeps (x ∷ history) opened last next w v may unmarked calm named follow =
+    let both = and_true (may_come opened x.event) (may_follow (open_after opened x.event) (events_of history)) may in
+    let same = is_unmarked x unmarked.0 in
+    let P : Happening → Type 0 = λ y. Parts target keeps (after s w (y ∷ history))
+    (after s v (map plain (only_from keeps next last (x.event ∷ events_of history)))) in
+    let Q : Happening → Type 0 = λ y. AreNamed (selection target keeps opened last) s.directory (after s w (y ∷ history)) in
+    let named_ = subst Q (sym same) named in
+    subst P same
+    (along_by (keeps (last_after next last x.event (connection_of x.event))) s target keeps x.event x.comings history opened last next w v refl both.0 calm.0
+    named_ follow
+    (λ y then_. along s target keeps history (open_after opened x.event) (last_after next last x.event) (next_after next x.event)
+    (happened s w (unmarked_one x)) y both.1 unmarked.1 calm.1
+    (renamed s target keeps opened (open_after opened x.event) last (last_after next last x.event) (after s w (unmarked_one x ∷ history)) named_) then_))
 
 -- ---- the laws
 
@@ -307,55 +328,98 @@ selected s target keeps w selects =
     all_places (Named (selection target keeps [] (λ c. 0)) s.directory) 0 w.lives (λ k x at t e. (let here : 0 + k ≡ k = omega arith in
     ap keeps here ∙ selects k x t at e))
 
-parts : (s : Setting) (target : ℕ) (keeps : ℕ → Bool) (events : List Event) → well_formed events ≡ true
-    → Selects s.directory target keeps (plain_world s events).lives → Parts target keeps (plain_world s events) (plain_world s (only keeps events))
+parts : (s : Setting) (target : ℕ) (keeps : ℕ → Bool) (history : History) → well_formed (events_of history) ≡ true
+    → AreUnmarked history → AreCalm target history → Selects s.directory target keeps (world s history).lives
+    → Parts target keeps (world s history) (plain_world s (only keeps (events_of history)))
 unfolding world only after
-parts s target keeps events formed selects =
-    along s target keeps events [] (λ c. 0) 0 (new_world s) (new_world s) formed (selected s target keeps (after s (new_world s) events) selects)
-    (none_yet s target keeps)
+parts s target keeps history formed unmarked calm selects =
+    along s target keeps history [] (λ c. 0) 0 (new_world s) (new_world s) formed unmarked calm
+    (selected s target keeps (after s (new_world s) history) selects) (none_yet s target keeps)
 
 pub targets_are_isolated : TargetsAreIsolated
 unfolding outputs
-targets_are_isolated s target keeps events formed selects =
-    let both = parts s target keeps events formed selects in
+targets_are_isolated s target keeps history formed unmarked calm selects =
+    let both = parts s target keeps history formed unmarked calm selects in
     record {
       lives = sym both.lives;
       units = sym both.units;
-      answers = kept_map keeps out_of 0 (plain_world s events).lives ∙ ap (map out_of) (sym both.lives);
+      answers = kept_map keeps out_of 0 (world s history).lives ∙ ap (map out_of) (sym both.lives);
       media = ap (map kept_of) (sym both.units);
     }
 
 pub targets_see_their_own : TargetsSeeTheirOwn
-targets_see_their_own s target events formed =
-    let lives = (plain_world s events).lives in
-    targets_are_isolated s target (names s.directory target lives) events formed (λ k life named at e.
+targets_see_their_own s target history formed unmarked calm =
+    let lives = (world s history).lives in
+    targets_are_isolated s target (names s.directory target lives) history formed unmarked calm (λ k life named at e.
     ap (λ (o : Option Life). is_same_target (option_and_then (named_in s.directory) o) (Some target)) at
     ∙ ap (λ (o : Option ℕ). is_same_target o (Some target)) e)
 
-one_by : (b : Bool) (s : Setting) (lives : List Life) (j k named : ℕ) (life other : Life) → eqb j k ≡ b → slice_get lives k ≡ Some life
+-- ---- a number that no target of a history has
+
+abbrev top : Option ℕ → ℕ
+top None = 0
+top (Some target) = suc target
+
+abbrev top_in : List Coming → ℕ
+top_in [] = 0
+top_in (coming ∷ more) = top coming.target + top_in more
+
+abbrev top_of : History → ℕ
+top_of [] = 0
+top_of (x ∷ history) = top_in x.comings + top_of history
+
+not_for : (o : Option ℕ) (n : ℕ) → top o ≤ n → is_for o (Some n) ≡ false
+not_for None n le = refl
+not_for (Some target) n le = let below : suc target ≤ n = le in ne_eqb target n (λ same. absurd (omega (arith, below, same)))
+
+calm_above : (comings : List Coming) (n : ℕ) → top_in comings ≤ n → IsCalm n comings
+calm_above [] n le = tt
+calm_above (coming ∷ more) n le =
+    let both : top coming.target + top_in more ≤ n = le in (
+      λ named. absurd (cc (named, not_for coming.target n (omega (arith, both)))),
+      calm_above more n (omega (arith, both)),
+    )
+
+all_calm : (history : History) (n : ℕ) → top_of history ≤ n → AreCalm n history
+all_calm [] n le = tt
+all_calm (x ∷ history) n le =
+    let both : top_in x.comings + top_of history ≤ n = le in (calm_above x.comings n (omega (arith, both)), all_calm history n (omega (arith, both)))
+
+one_by : (b : Bool) (s : Setting) (n : ℕ) (lives : List Life) (j k named : ℕ) (life other : Life) → length s.directory.names ≤ n
+    → eqb j k ≡ b → slice_get lives k ≡ Some life
     → named_in s.directory life ≡ None → slice_get lives j ≡ Some other → named_in s.directory other ≡ Some named
-    → eqb j k ≡ eqb named (length s.directory.names)
-one_by true s lives j k named life other same at none there e =
+    → eqb j k ≡ eqb named n
+one_by true s n lives j k named life other le same at none there e =
     let here : slice_get lives j ≡ slice_get lives k = ap (slice_get lives) (eqb-true j k same) in
     let one : other ≡ life = cc in
     let both = ap (named_in s.directory) one in absurd (cc (both, none, e))
-one_by false s lives j k named life other same at none there e =
+one_by false s n lives j k named life other le same at none there e =
     let below = is_configured s.directory other named e in
-    same ∙ sym (ne_eqb named (length s.directory.names) (λ equal. omega arith))
+    same ∙ sym (ne_eqb named n (λ equal. omega arith))
 
 pub strangers_are_alone : StrangersAreAlone
-strangers_are_alone s events k life formed at none =
-    (targets_are_isolated s (length s.directory.names) (λ j. eqb j k) events formed
-    (λ j other named there e. one_by (eqb j k) s (plain_world s events).lives j k named life other refl at none there e)).answers
+strangers_are_alone s history k life formed unmarked at none =
+    let n = length s.directory.names + top_of history in
+    (targets_are_isolated s n (λ j. eqb j k) history formed unmarked (all_calm history n (omega arith))
+    (λ j other named there e. one_by (eqb j k) s n (world s history).lives j k named life other (omega arith) refl at none there e)).answers
 
 -- ---- what a run gives
 
-pub gives_its_own : (s : Setting) (target : ℕ) (events : List Event) (answered : List (List ℕ)) (keep : List KeptState) → well_formed events ≡ true
-    → answered ≡ outputs s (map plain events) → keep ≡ media s (map plain events) target → GivesItsOwn s target events answered keep
-gives_its_own s target events answered keep formed answers_are keep_is =
-    let alone = targets_see_their_own s target events formed in
+pub gives_its_own : (s : Setting) (target : ℕ) (events : List Event) (answered : List (List ℕ)) (machine : Machine) (history : History)
+    → events_of history ≡ events → well_formed events ≡ true → AreUnmarked history → AreCalm target history → Stands s (λ c. 0) machine history
+    → answered ≡ outputs s history → media_in machine.units target ≡ media s history target → GivesItsOwn s target events answered machine
+gives_its_own s target events answered machine history of formed unmarked calm stands answers_are keep_is =
+    let formed_ : well_formed (events_of history) ≡ true = ap well_formed of ∙ formed in
+    let alone = targets_see_their_own s target history formed_ unmarked calm in
+    let its = names s.directory target (world s history).lives in
     record {
-      answers = ap (kept (names s.directory target (plain_world s events).lives)) answers_are ∙ alone.answers;
-      media = keep_is ∙ alone.media;
-      strangers = λ k life at none. ap (kept (λ j. eqb j k)) answers_are ∙ strangers_are_alone s events k life formed at none;
+      history = history;
+      of = of;
+      unmarked = unmarked;
+      stands = stands;
+      all = answers_are;
+      answers = ap (kept its) answers_are ∙ alone.answers ∙ ap (λ (es : List Event). outputs s (map plain (only its es))) of;
+      media = keep_is ∙ alone.media ∙ ap (λ (es : List Event). media s (map plain (only its es)) target) of;
+      strangers = λ k life at none. ap (kept (λ j. eqb j k)) answers_are ∙ strangers_are_alone s history k life formed_ unmarked at none
+          ∙ ap (λ (es : List Event). outputs s (map plain (only (λ j. eqb j k) es))) of;
     }

@@ -39,4 +39,5 @@ mod Tables
 mod Rows
 mod Tracking
 mod Running
+mod Through
 pub mod Begun

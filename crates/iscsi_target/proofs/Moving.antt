@@ -15,14 +15,14 @@ use Rattle.iscsi_login.specs.declared.reply.Reply.{Reply}
 use Rattle.iscsi_login.specs.declared.reply.Reply.TheVariants.{GoOn, Full, Refused}
 use Rattle.iscsi_login.specs.LoginState.{IsTargetBelow}
 use Rattle.iscsi_target.specs.World.{left, units_at, with_units, changed_units, lookup_for}
-use Rattle.iscsi_target.specs.Machine.{LinkState, Machine, IsSound, IsSure, Feeds, link_at, with_link, is_free, is_reading, is_closing, free_link, shut_link, closed, session_in_phase, sessions, is_logging_in, gone_on_link, refused_link, begun_link, shut_older, replied, logged_in}
+use Rattle.iscsi_target.specs.Machine.{LinkState, Machine, IsSound, IsSure, Feeds, link_at, with_link, is_free, is_reading, is_closing, free_link, shut_link, closed, session_in_phase, sessions, is_logging_in, gone_on_link, refused_link, begun_link, shut_older, replied, logged_in, LeadsBack}
 use Rattle.iscsi_target.specs.Bounded.{Adds}
 use Rattle.iscsi_target.specs.Serving.{KeepsHalf, Moves, IsClosed, first_of, first_starved}
 use Rattle.iscsi_target.specs.declared.fault.Starved.{Starved}
 use Rattle.iscsi_target.specs.declared.phase.Phase.{Phase}
 use Rattle.iscsi_target.specs.declared.phase.Phase.TheVariants as phases
 use Rattle.iscsi_target.proofs.Bounding.{adds_none, adds_then, adds_shut}
-use Rattle.iscsi_target.proofs.Sound.{sound_set, sure_set, closed_sound, closed_sure, logged_in_sound, logged_in_sure, closed_units, logged_in_units}
+use Rattle.iscsi_target.proofs.Sound.{set_back, sure_set, closed_back, closed_sure, logged_in_back, logged_in_sure, closed_units, logged_in_units}
 
 -- ---- one call after the other
 
@@ -31,7 +31,7 @@ keeps_same link r = record { reading = λ e. refl; idle = λ e. absurd (cc (r, e
 
 pub moves_none : (b : ℕ) (machine : Machine) → Moves b None machine machine
 moves_none b machine = record {
-  back = λ sound. sound;
+  back = λ target sound. sound;
   sure = λ sure. sure;
   feeds = record {
     opens = λ d. refl;
@@ -79,7 +79,7 @@ closing_if (Err e) machine closed_ = closed_
 
 pub moves_then : (b : ℕ) (x y : Option ℕ) (given now after : Machine) → Moves b x given now → Moves b y now after → Moves b (first_of x y) given after
 moves_then k x y given now after a b = record {
-  back = λ sound. a.back (b.back sound);
+  back = λ target sound. a.back target (b.back target sound);
   sure = λ sure. b.sure (a.sure sure);
   feeds = feeds_then k given now after a.feeds b.feeds;
   closing = closed_then x y k now after a.closing b.feeds b.closing;
@@ -157,7 +157,7 @@ changes_feeds b machine units c link lt ch own =
 pub changes_moves : (b : ℕ) (machine : Machine) (units : List UnitStates) (c : ℕ) (link : LinkState) → c < length machine.links
     → Changes (link_at machine c) link → IsOwn b machine c
     → KeepsHalf (link_at machine c).half link → length units ≡ length machine.units → (c ≢ b → Adds 0 (link_at machine c) link)
-    → let after : Machine = record (with_link machine c link) { units = units } in (IsSound after → IsSound machine)
+    → let after : Machine = record (with_link machine c link) { units = units } in LeadsBack machine after
     → (IsSure machine → IsSure after) → Moves b None machine after
 changes_moves b machine units c link lt ch own half count light back sure = record {
   back = back;
@@ -187,7 +187,7 @@ shut_moves : (b : ℕ) (machine : Machine) (c : ℕ) → c < length machine.link
     → Moves b None machine (with_link machine c (shut_link (link_at machine c)))
 shut_moves b machine c lt r own =
     changes_moves b machine machine.units c (shut_link (link_at machine c)) lt (shuts (link_at machine c) r) own
-    (shut_half (link_at machine c).half (link_at machine c)) refl (λ other. adds_shut 0 (link_at machine c)) (λ sound. sound) (λ sure. sure)
+    (shut_half (link_at machine c).half (link_at machine c)) refl (λ other. adds_shut 0 (link_at machine c)) (λ target sound. sound) (λ sure. sure)
 
 closed_feeds : (b : ℕ) (machine : Machine) (c : ℕ) → c < length machine.links → is_reading (link_at machine c).phase ≡ true → IsOwn b machine c
     → Feeds b machine (closed machine c)
@@ -214,7 +214,7 @@ closed_when : (x : Option ℕ) (b : ℕ) (machine : Machine) (c : ℕ) → c < l
     → IsOwn b machine c → IsClosed x (closed machine c)
     → Moves b x machine (closed machine c)
 closed_when x b machine c lt r own closing = record {
-  back = λ sound. closed_sound machine c sound;
+  back = closed_back machine c;
   sure = λ sure. closed_sure machine c sure;
   feeds = closed_feeds b machine c lt r own;
   closing = closing;
@@ -248,9 +248,9 @@ session_half old new reads half = record { reading = λ e. half; idle = λ e. ab
 -- the units of a session's target were worked on
 pub units_back : (machine : Machine) (links : List LinkState) (target : Option ℕ) (units : UnitStates) → IsTargetBelow (length machine.units) target
     → (AreSound units → AreSound (units_at target machine.units))
-    → let after : Machine = record machine { units = with_units target units machine.units; links = links } in IsSound after → IsSound machine
-units_back machine links None units lt back sound = sound
-units_back machine links (Some target) units lt back sound = sound_set machine.units target units (λ below. back) sound
+    → let after : Machine = record machine { units = with_units target units machine.units; links = links } in LeadsBack machine after
+units_back machine links None units lt back at sound = sound
+units_back machine links (Some target) units lt back at sound = set_back machine.units target units lt back at sound
 
 pub units_sure : (machine : Machine) (links : List LinkState) (target : Option ℕ) (units : UnitStates)
     → (AreSure (units_at target machine.units) → AreSure units)
@@ -277,13 +277,13 @@ plain_moves : (machine : Machine) (units : List UnitStates) (c : ℕ) (link : Li
     (link_at (record (with_link machine c link) { units = units }) d)
 plain_moves machine units c link lt ch half d reads =
     (changes_moves c (record machine { units = units }) units c link lt ch (own_self c (record machine { units = units })) half refl
-    (λ other. absurd (other refl)) (λ sound. sound) (λ sure. sure)).keeps d reads
+    (λ other. absurd (other refl)) (λ target sound. sound) (λ sure. sure)).keeps d reads
 
 plain_eases : (machine : Machine) (units : List UnitStates) (c : ℕ) (link : LinkState) → c < length machine.links → Changes (link_at machine c) link
     → KeepsHalf (link_at machine c).half link → (d : ℕ) → d ≢ c → Adds 0 (link_at machine d) (link_at (record (with_link machine c link) { units = units }) d)
 plain_eases machine units c link lt ch half d other =
     (changes_moves c (record machine { units = units }) units c link lt ch (own_self c (record machine { units = units })) half refl
-    (λ differs. absurd (differs refl)) (λ sound. sound) (λ sure. sure)).eases d other
+    (λ differs. absurd (differs refl)) (λ target sound. sound) (λ sure. sure)).eases d other
 
 -- what is done for a connection, but for what it makes of units
 pub record Alters (b : ℕ) (given after : Machine) : Type 0 where
@@ -384,7 +384,7 @@ pub logged_in_moves : (machine : Machine) (c : ℕ) (login : LoginState) (reques
 logged_in_moves machine c login request lt reads =
     let a = logged_in_alters machine c login request lt reads in
     record {
-      back = λ sound. logged_in_sound machine c login request sound;
+      back = logged_in_back machine c login request;
       sure = λ sure. logged_in_sure machine c login request sure;
       feeds = a.feeds;
       closing = tt;

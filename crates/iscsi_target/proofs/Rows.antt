@@ -43,3 +43,9 @@ history_more es i e lt is =
     ∙ ap (map plain) (map-append event_view (take i es) (get_or es i e ∷ []))
     ∙ map-append plain (events_view (take i es)) _
     ∙ ap (λ (x : Event). plain_history (take i es) ++ plain (event_view x) ∷ []) (sym is)
+
+pub events_more : (es : List Event) (i : ℕ) (e : Event) → i < length es → e ≡ get_or es i e
+    → events_view (take (i + 1) es) ≡ events_view (take i es) ++ event_view e ∷ []
+events_more es i e lt is =
+    ap events_view (take_more es i e lt) ∙ map-append event_view (take i es) (get_or es i e ∷ [])
+    ∙ ap (λ (x : Event). events_view (take i es) ++ event_view x ∷ []) (sym is)

@@ -7,7 +7,8 @@ use Rattle.std.proofs.lemmas.Bool.Decides.{eqb_tells}
 use Rattle.std.proofs.lemmas.List.{map-append}
 use Rattle.std.proofs.lemmas.List.Folds.{list_any-append}
 use Rattle.iscsi_login.specs.Directory.{KnownTargets}
-use Rattle.iscsi_target.specs.History.{Open, Bytes, Gone, History, plain, is_among, open_after, connection_limit}
+use Rattle.iscsi_session.specs.Comings.{Coming}
+use Rattle.iscsi_target.specs.History.{Open, Bytes, Gone, History, happening, plain, is_among, open_after, connection_limit}
 use Rattle.iscsi_target.specs.Life.{Life, Over, is_over, born, out_of, ended_in}
 use Rattle.iscsi_target.specs.World.{Setting, World, is_present, present, over, end, begun_event, world}
 use Rattle.iscsi_target.specs.Output.{out_now, outputs}
@@ -218,12 +219,14 @@ open_runs s machine after rows before history c r may h =
 
 -- ---- and brings bytes
 
-pub bytes_runs : (s : Setting) (machine after : Machine) (rows : List RowState) (before : List ℕ) (history : History) (c : ℕ) (piece : List ℕ)
-    → Runs s machine rows before history → Stands s (λ k. 0) after (history ++ plain (Bytes c piece) ∷ [])
-    → Runs s after rows before (history ++ plain (Bytes c piece) ∷ [])
-bytes_runs s machine after rows before history c piece r h = record {
+pub bytes_runs : (s : Setting) (machine after : Machine) (rows : List RowState) (before : List ℕ) (history : History) (comings : List Coming) (c : ℕ)
+    (piece : List ℕ)
+    → Runs s machine rows before history → Stands s (λ k. 0) after (history ++ happening [] comings (Bytes c piece) ∷ [])
+    → Runs s after rows before (history ++ happening [] comings (Bytes c piece) ∷ [])
+bytes_runs s machine after rows before history comings c piece r h = record {
   stands = h;
-  kept = r.kept ∙ sym (rows-bring s [] c piece (begun_event [] (world s history))) ∙ ap rows_in (sym (world-push s history (plain (Bytes c piece))));
+  kept = r.kept ∙ sym (rows-bring s [] c piece (begun_event comings (world s history)))
+      ∙ ap rows_in (sym (world-push s history (happening [] comings (Bytes c piece))));
   distinct = r.distinct;
   tracks = r.tracks;
   below = r.below;

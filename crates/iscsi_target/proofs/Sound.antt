@@ -1,5 +1,5 @@
 -- A target that is sound after a step was so before it, and one that is sure stays so.
-use Rattle.std.proofs.Common.{◌≡◌, ℕ, ◌<◌, List, [], ◌∷◌, length, map, set, get_or, Bool, true, false, cond, Option, Some, None, refl, sym, ap, ◌∙◌, subst, arith, inl, inr}
+use Rattle.std.proofs.Common.{◌≡◌, ℕ, zero, suc, ◌<◌, List, [], ◌∷◌, length, map, set, get_or, Bool, true, false, cond, Option, Some, None, refl, sym, ap, ◌∙◌, subst, arith, inl, inr}
 use Rattle.std.specs.Prelude.{All, slice_index_or, slice_set}
 use Rattle.std.proofs.Math.Seq.{map-set_same}
 use Rattle.std.proofs.lemmas.Bool.Decides.{eqb_tells}
@@ -24,7 +24,7 @@ use Rattle.iscsi_login.specs.declared.params.Params.{Params}
 use Rattle.iscsi_login.specs.declared.reply.Reply.{Reply}
 use Rattle.iscsi_login.specs.declared.reply.Reply.TheVariants.{GoOn, Full, Refused}
 use Rattle.iscsi_target.specs.World.{left, changed_units, lookup_for, function_of, told_by, reset_by}
-use Rattle.iscsi_target.specs.Machine.{Machine, IsSound, IsSure, link_at, with_link, begun_link, closed, session_in_phase, sessions, shut_older, begun, replied, logged_in}
+use Rattle.iscsi_target.specs.Machine.{Machine, IsSound, IsSoundAt, LeadsBack, IsSure, link_at, with_link, begun_link, closed, session_in_phase, sessions, shut_older, begun, replied, logged_in}
 
 -- one target's units are set to others, which are sound only where they were
 pub sound_set : (all : List UnitStates) (at : ℕ) (units : UnitStates) → (at < length all → AreSound units → AreSound (slice_index_or all at []))
@@ -39,6 +39,30 @@ sound_set all at units back sound k d lt = elim (eqb_tells k at) [
   | inr differ ↦ (
       let there : get_or (set all at units) k d ≡ get_or all k d = get_or-set_other all at k units d differ.1 in
       subst AreSound there (sound k d (omega (arith, lt, length-set all at units))))
+]
+
+-- ---- one target, and all
+
+pub each_sound : (all : List UnitStates) → All AreSound all → (target : ℕ) → AreSound (slice_index_or all target [])
+each_sound [] sound target = λ i d lt. absurd (omega (arith, lt))
+each_sound (units ∷ all) sound zero = sound 0 [] (omega arith)
+each_sound (units ∷ all) sound (suc target) = each_sound all (λ i d lt. sound (suc i) d (omega (arith, lt))) target
+
+pub sound_at : (machine : Machine) → IsSound machine → (target : ℕ) → IsSoundAt target machine
+sound_at machine sound target = each_sound machine.units sound target
+
+pub sound_back : (old new : Machine) → LeadsBack old new → IsSound new → IsSound old
+sound_back old new back sound = λ i d lt. subst AreSound (get_or_default old.units i [] d lt) (back i (sound_at new sound i))
+
+-- one target's units are set to others, which are sound only where they were
+pub set_back : (all : List UnitStates) (at : ℕ) (units : UnitStates) → at < length all → (AreSound units → AreSound (slice_index_or all at []))
+    → (target : ℕ) → AreSound (slice_index_or (slice_set all at units) target []) → AreSound (slice_index_or all target [])
+set_back all at units lt back target sound = elim (eqb_tells target at) [
+  | inl same ↦ (
+      let here : slice_index_or (slice_set all at units) target [] ≡ units =
+      ap (λ (n : ℕ). slice_index_or (slice_set all at units) n []) same.1 ∙ get_or-set_same all at units [] lt in
+      subst (λ (n : ℕ). AreSound (slice_index_or all n [])) (sym same.1) (back (subst AreSound here sound)))
+  | inr differ ↦ subst AreSound (get_or-set_other all at target units [] differ.1) sound
 ]
 
 -- ---- the media stay as they are when a nexus joins or leaves
@@ -147,6 +171,19 @@ over_media : (P : DeviceState → Type 0) (a b : List UnitStates) → map media 
     → All (All (λ unit. P unit.device)) b
 over_media P a b e h = of_all_media P b (subst (All (All P)) e (to_all_media P a h))
 
+media_at : (all : List UnitStates) (target : ℕ) → media (slice_index_or all target []) ≡ slice_index_or (map media all) target []
+media_at [] target = refl
+media_at (units ∷ all) zero = refl
+media_at (units ∷ all) (suc target) = media_at all target
+
+-- a target is as sound as its media are
+pub media_back : (a b : List UnitStates) → map media a ≡ map media b → (target : ℕ) → AreSound (slice_index_or a target [])
+    → AreSound (slice_index_or b target [])
+media_back a b e target sound =
+    let same = media_at a target ∙ ap (λ (l : List (List DeviceState)). slice_index_or l target []) e ∙ sym (media_at b target) in
+    of_media IsSoundDevice (slice_index_or b target []) (subst (All IsSoundDevice) same
+    (All-map IsSoundDevice (λ (unit : UnitState). unit.device) (slice_index_or a target []) sound))
+
 media_target : (header : List ℕ) (target : ℕ) (all : List UnitStates)
     → map media (changed_units (reset_by (function_of header) (lun_field header)) (Some target) all) ≡ map media all
 media_target header target all = media_changed (reset_by (function_of header) (lun_field header)) (Some target) all
@@ -155,6 +192,10 @@ media_target header target all = media_changed (reset_by (function_of header) (l
 pub reset_sound : (header : List ℕ) (target : ℕ) (machine : Machine)
     → All AreSound (changed_units (reset_by (function_of header) (lun_field header)) (Some target) machine.units) → IsSound machine
 reset_sound header target machine sound = over_media IsSoundDevice _ machine.units (media_target header target machine.units) sound
+
+pub reset_back : (header : List ℕ) (target : ℕ) (machine : Machine) (at : ℕ)
+    → AreSound (slice_index_or (changed_units (reset_by (function_of header) (lun_field header)) (Some target) machine.units) at []) → IsSoundAt at machine
+reset_back header target machine at sound = media_back _ machine.units (media_target header target machine.units) at sound
 
 pub reset_sure : (header : List ℕ) (target : ℕ) (machine : Machine) → IsSure machine
     → All AreSure (changed_units (reset_by (function_of header) (lun_field header)) (Some target) machine.units)
@@ -178,12 +219,19 @@ told_sure header nexus units sure = over_units IsSureDevice units _ (sym (media_
 pub closed_sound : (machine : Machine) (c : ℕ) → IsSound (closed machine c) → IsSound machine
 closed_sound machine c sound = over_media IsSoundDevice (closed machine c).units machine.units (media_closed machine c) sound
 
+pub closed_back : (machine : Machine) (c : ℕ) → LeadsBack machine (closed machine c)
+closed_back machine c target sound = media_back (closed machine c).units machine.units (media_closed machine c) target sound
+
 pub closed_sure : (machine : Machine) (c : ℕ) → IsSure machine → IsSure (closed machine c)
 closed_sure machine c sure = over_media IsSureDevice machine.units (closed machine c).units (sym (media_closed machine c)) sure
 
 pub logged_in_sound : (machine : Machine) (c : ℕ) (login : LoginState) (request : Frame) → IsSound (logged_in machine c login request) → IsSound machine
 logged_in_sound machine c login request sound =
     over_media IsSoundDevice (logged_in machine c login request).units machine.units (media_logged_in machine c login request) sound
+
+pub logged_in_back : (machine : Machine) (c : ℕ) (login : LoginState) (request : Frame) → LeadsBack machine (logged_in machine c login request)
+logged_in_back machine c login request target sound =
+    media_back (logged_in machine c login request).units machine.units (media_logged_in machine c login request) target sound
 
 pub logged_in_sure : (machine : Machine) (c : ℕ) (login : LoginState) (request : Frame) → IsSure machine → IsSure (logged_in machine c login request)
 logged_in_sure machine c login request sure =
@@ -205,6 +253,13 @@ sound_of_sure machine sure = λ i d lt j e below. (sure i d lt j e below).sound
 -- however the machine is written
 pub sound_as : (a b : Machine) → a ≡ b → IsSound a → IsSound b
 sound_as a b e sound = let P : Machine → Type 0 = λ m. IsSound m in subst P e sound
+
+pub at_as : (a b : Machine) (target : ℕ) → a ≡ b → IsSoundAt target a → IsSoundAt target b
+at_as a b target e sound = let P : Machine → Type 0 = λ m. IsSoundAt target m in subst P e sound
+
+pub at_units : (units : List UnitStates) (machine : Machine) (target : ℕ) → units ≡ machine.units → AreSound (slice_index_or units target [])
+    → IsSoundAt target machine
+at_units units machine target e sound = subst (λ (us : List UnitStates). AreSound (slice_index_or us target [])) e sound
 
 pub sound_units : (units : List UnitStates) (machine : Machine) → units ≡ machine.units → All AreSound units → IsSound machine
 sound_units units machine e sound = let P : List UnitStates → Type 0 = λ us. All AreSound us in subst P e sound

@@ -1,6 +1,6 @@
 -- The whole frames of a piece are taken, one after the other.
 use Rattle.std.proofs.Common.{◌≡◌, ◌≢◌, ℕ, ◌+◌, ◌<◌, ◌≤◌, List, [], ◌∷◌, ◌++◌, length, map, drop, Bool, true, false, not, ◌&&◌, eqb, Option, Some, None, refl, sym, ap, ◌∙◌, subst, arith, inl, inr, append_assoc}
-use Rattle.std.specs.Prelude.{All, nat_lt}
+use Rattle.std.specs.Prelude.{All, nat_lt, slice_index_or}
 use Rattle.scsi_unit.specs.Units.{UnitStates, AreSound, AreSure}
 use Rattle.std.specs.List.{fold, enumerate_from}
 use Rattle.std.proofs.lemmas.Bool.{eqb-true, ltb-true, lt-ltb, le-ltb, ne_eqb}
@@ -14,7 +14,7 @@ use Rattle.iscsi_login.specs.Directory.{KnownTargets}
 use Rattle.iscsi_target.specs.History.{Point, Arriving, Before, AtEnd, Mark, Arrival, Whole, TooLong, arrivals, is_within, connection_limit}
 use Rattle.iscsi_target.specs.Life.{Life, reads}
 use Rattle.iscsi_target.specs.World.{Setting, World, present, reads_life, close, reaching, arrive}
-use Rattle.iscsi_target.specs.Machine.{LinkState, Machine, IsSound, IsSure, Feeds, KeepsPart, link_at, with_link, is_reading, closed, free_link, shut_link, GivesFrame}
+use Rattle.iscsi_target.specs.Machine.{LinkState, Machine, IsSound, IsSure, Feeds, KeepsPart, link_at, with_link, is_reading, closed, free_link, shut_link, GivesFrame, LeadsBack}
 use Rattle.iscsi_target.specs.Bounded.{Adds}
 use Rattle.iscsi_target.specs.Stands.{link_of}
 use Rattle.iscsi_target.specs.Serving.{Serves, IsClosed, Does, is_of_frame, has_place, place_of, is_among, first_of, with_half, KeepsHalf, Moves, Takes, TakesOne, TakesSome, TakesAll}
@@ -147,12 +147,14 @@ takes_frame old given new c frame starved lt count r gives is takes moves part l
         of_kind = takes.of_kind;
         came = takes.came;
         plain = takes.plain;
+        calm = takes.calm;
         stands = λ s sent half w place marks agree ahead h.
             takes.stands s sent (with_half c more half) w place marks agree ahead
             (serves_as s sent (with_half c more half) w (with_link old c (record (link_at old c) { half = more })) given is
             (rehalved s sent half w old c more lt r h));
       };
-      back = λ sound. subst (λ (us : List UnitStates). All AreSound us) (ap (λ (m : Machine). m.units) is) (moves.back sound);
+      back = λ target sound. subst (λ (us : List UnitStates). AreSound (slice_index_or us target [])) (ap (λ (m : Machine). m.units) is)
+          (moves.back target sound);
       sure = λ sure. moves.sure (subst (λ (us : List UnitStates). All AreSure us) (sym (ap (λ (m : Machine). m.units) is)) sure);
       feeds = feeds_then c old given new fed moves.feeds;
       closing = moves.closing;
@@ -220,6 +222,7 @@ takes_none old new c lt count r whole is =
         of_kind = first.of_kind;
         came = first.came;
         plain = first.plain;
+        calm = first.calm;
         stands = λ s sent bytes w place marks agree ahead h.
             (let at = first.stands s sent bytes w place marks agree ahead h in
             let v = arrive s marks c w (place, Whole (first_frame half)) in
@@ -244,7 +247,7 @@ pub record Progress (c : ℕ) (starved : Option ℕ) (first machine : Machine) :
   pub behind : is_reading (link_at machine c).phase ≡ true → rest (link_at first c).half ≡ rest more
   pub kept : KeepsHalf more (link_at machine c)
   pub takes : TakesSome c done more starved first machine
-  pub back : IsSound machine → IsSound first
+  pub back : LeadsBack first machine
   pub sure : IsSure first → IsSure machine
   pub feeds : Feeds c first machine
   pub closing : IsClosed starved machine
@@ -274,7 +277,7 @@ begins machine c lt r = record {
   takes = does_nothing (is_among 0) (λ s marks place w. fold (arrive s marks c) w (enumerate_from place [])) (with_half c (link_at machine c).half)
       machine machine
       (λ s sent half w place marks agree h. (own_half s sent half w machine c lt r h, refl));
-  back = λ sound. sound;
+  back = λ target sound. sound;
   sure = λ sure. sure;
   feeds = (moves_none c machine).feeds;
   closing = tt;
@@ -293,6 +296,7 @@ shifted n kind act halves starved given after d = record {
   of_kind = λ place. d.of_kind (place + n);
   came = d.came;
   plain = d.plain;
+  calm = d.calm;
   stands = λ s sent half w place marks agree ahead h. d.stands s sent half w (place + n) marks agree ahead h;
 }
 
@@ -398,6 +402,7 @@ takes_more c a b first machine new done more so_far one =
       of_kind = both.of_kind;
       came = both.came;
       plain = both.plain;
+      calm = both.calm;
       stands = λ s sent half w place marks agree ahead h.
           (let at = both.stands s sent half w place marks agree ahead h in
           rw (fold_more s marks c place w done one.arrival)
@@ -416,7 +421,7 @@ goes_on c a b first machine new r p one =
       behind = λ e. p.behind r ∙ ap rest (sym half) ∙ one.behind e;
       kept = one.kept;
       takes = takes_more c a b first machine new p.done p.more p.takes one;
-      back = λ sound. p.back (one.back sound);
+      back = λ target sound. p.back target (one.back target sound);
       sure = λ sure. one.sure (p.sure sure);
       feeds = feeds_then c first machine new p.feeds one.feeds;
       closing = closed_then a b c machine new p.closing one.feeds one.closing;
@@ -449,6 +454,7 @@ ends_idle c starved first machine lt r p =
             (among_more (length p.done) (length (arrivals half0)) place count) (p.takes.of_kind place);
         came = p.takes.came;
         plain = p.takes.plain;
+        calm = p.takes.calm;
         stands = λ s sent half w place marks agree ahead h.
             (let at = p.takes.stands s sent half w place marks (λ mark is. agree mark
             (among_more (length p.done) (length (arrivals half0)) place count mark is)) ahead h in

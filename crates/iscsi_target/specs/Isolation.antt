@@ -1,14 +1,16 @@
 -- What one target's initiators see: its part of a history, without the connections of the other targets.
-use Rattle.std.specs.Prelude.{◌≡◌, ℕ, suc, ◌+◌, List, [], ◌∷◌, map, Bool, true, ◌==◌, Option, Some, None, slice_get, if◌then◌else◌}
+use Rattle.std.specs.Prelude.{◌≡◌, ℕ, suc, ◌+◌, List, [], ◌∷◌, map, Bool, true, ◌==◌, Option, Some, None, slice_get, if◌then◌else◌, ⊤}
 use Rattle.std.specs.Option.{option_and_then}
 use Rattle.iscsi_login.specs.Directory.{KnownTargets}
 use Rattle.iscsi_login.specs.Session.{is_same_target}
 use Rattle.iscsi_login.specs.Login.{remembered}
-use Rattle.iscsi_target.specs.History.{Event, Open, Bytes, Gone, plain, well_formed}
+use Rattle.iscsi_session.specs.Comings.{IsCalm}
+use Rattle.iscsi_target.specs.History.{Event, Open, Bytes, Gone, History, plain, well_formed}
 use Rattle.iscsi_target.specs.Life.{Life}
 use Rattle.iscsi_target.specs.World.{Setting, World, world, units_at}
-use Rattle.iscsi_target.specs.Output.{outputs, media}
-use Rattle.scsi_unit.specs.Medium.{KeptState}
+use Rattle.iscsi_target.specs.Output.{outputs, media, media_in}
+use Rattle.iscsi_target.specs.Machine.{Machine}
+use Rattle.iscsi_target.specs.Stands.{Stands}
 
 -- ---- some of the lives
 
@@ -68,37 +70,58 @@ names directory target lives k = is_same_target (option_and_then (named_in direc
 abbrev pub plain_world : Setting → List Event → World
 plain_world s events = world s (map plain events)
 
--- The lives that are kept, their answers and a target's units are after these events what they are after the kept lives' events alone.
-pub record IsAlone (s : Setting) (target : ℕ) (keeps : ℕ → Bool) (events : List Event) : Type 0 where
-  pub lives : kept keeps (plain_world s events).lives ≡ (plain_world s (only keeps events)).lives
-  pub units : units_at (Some target) (plain_world s events).units ≡ units_at (Some target) (plain_world s (only keeps events)).units
-  pub answers : kept keeps (outputs s (map plain events)) ≡ outputs s (map plain (only keeps events))
-  pub media : media s (map plain events) target ≡ media s (map plain (only keeps events)) target
+abbrev pub events_of : History → List Event
+events_of history = map (λ x. x.event) history
 
--- Whatever others log in, break, reset or reserve elsewhere: dropping lives changes nothing for a target and for the lives that
--- are kept, if each life that names it is kept and none that names another one.
+-- no allocation failed
+abbrev pub AreUnmarked : History → Type 0
+AreUnmarked [] = ⊤
+AreUnmarked (x ∷ history) = (x.marks ≡ []) × AreUnmarked history
+
+-- no store of this target failed
+abbrev pub AreCalm : ℕ → History → Type 0
+AreCalm target [] = ⊤
+AreCalm target (x ∷ history) = IsCalm target x.comings × AreCalm target history
+
+-- The lives that are kept, their answers and a target's units are after this history what they are after the kept lives' events
+-- alone, with no store that failed.
+pub record IsAlone (s : Setting) (target : ℕ) (keeps : ℕ → Bool) (history : History) : Type 0 where
+  pub lives : kept keeps (world s history).lives ≡ (plain_world s (only keeps (events_of history))).lives
+  pub units : units_at (Some target) (world s history).units ≡ units_at (Some target) (plain_world s (only keeps (events_of history))).units
+  pub answers : kept keeps (outputs s history) ≡ outputs s (map plain (only keeps (events_of history)))
+  pub media : media s history target ≡ media s (map plain (only keeps (events_of history))) target
+
+-- Whatever others log in, break, reset or reserve elsewhere, and whatever the stores of others do: dropping lives changes nothing
+-- for a target of which no store failed and for the lives that are kept, if each life that names it is kept and none that names
+-- another one.
 abbrev pub TargetsAreIsolated : Type 0
-TargetsAreIsolated = (s : Setting) (target : ℕ) (keeps : ℕ → Bool) (events : List Event) → well_formed events ≡ true
-    → Selects s.directory target keeps (plain_world s events).lives → IsAlone s target keeps events
+TargetsAreIsolated = (s : Setting) (target : ℕ) (keeps : ℕ → Bool) (history : History) → well_formed (events_of history) ≡ true
+    → AreUnmarked history → AreCalm target history → Selects s.directory target keeps (world s history).lives → IsAlone s target keeps history
 
 -- So the answers of the lives that name a target, and its units, are those of their own events alone.
 abbrev pub TargetsSeeTheirOwn : Type 0
-TargetsSeeTheirOwn = (s : Setting) (target : ℕ) (events : List Event) → well_formed events ≡ true
-    → IsAlone s target (names s.directory target (plain_world s events).lives) events
+TargetsSeeTheirOwn = (s : Setting) (target : ℕ) (history : History) → well_formed (events_of history) ≡ true
+    → AreUnmarked history → AreCalm target history → IsAlone s target (names s.directory target (world s history).lives) history
 
 -- A life that names no target is answered as if it were alone.
 abbrev pub StrangersAreAlone : Type 0
-StrangersAreAlone = (s : Setting) (events : List Event) (k : ℕ) (life : Life) → well_formed events ≡ true
-    → slice_get (plain_world s events).lives k ≡ Some life → named_in s.directory life ≡ None
-    → kept (λ j. j == k) (outputs s (map plain events)) ≡ outputs s (map plain (only (λ j. j == k) events))
+StrangersAreAlone = (s : Setting) (history : History) (k : ℕ) (life : Life) → well_formed (events_of history) ≡ true → AreUnmarked history
+    → slice_get (world s history).lives k ≡ Some life → named_in s.directory life ≡ None
+    → kept (λ j. j == k) (outputs s history) ≡ outputs s (map plain (only (λ j. j == k) (events_of history)))
 
 -- ---- what a run gives
 
--- These answers, one text for each life, and what a target's units keep: those of the lives that name the target, and its units,
--- are what their own events alone give; so is that of each life that names no target.
-pub record GivesItsOwn (s : Setting) (target : ℕ) (events : List Event) (answered : List (List ℕ)) (keep : List KeptState) : Type 0 where
-  pub answers : kept (names s.directory target (plain_world s events).lives) answered
-      ≡ outputs s (map plain (only (names s.directory target (plain_world s events).lives) events))
-  pub media : keep ≡ media s (map plain (only (names s.directory target (plain_world s events).lives) events)) target
-  pub strangers : (k : ℕ) (life : Life) → slice_get (plain_world s events).lives k ≡ Some life → named_in s.directory life ≡ None
+-- What was answered, one text for each life, and the target behind it, are those of a history of these events in which no
+-- allocation failed. Of it the answers of the lives that name this target, and what its units keep, are what their own events
+-- alone give; so is what each life is answered that names no target.
+pub record GivesItsOwn (s : Setting) (target : ℕ) (events : List Event) (answered : List (List ℕ)) (machine : Machine) : Type 0 where
+  pub history : History
+  pub of : events_of history ≡ events
+  pub unmarked : AreUnmarked history
+  pub stands : Stands s (λ c. 0) machine history
+  pub all : answered ≡ outputs s history
+  pub answers : kept (names s.directory target (world s history).lives) answered
+      ≡ outputs s (map plain (only (names s.directory target (world s history).lives) events))
+  pub media : media_in machine.units target ≡ media s (map plain (only (names s.directory target (world s history).lives) events)) target
+  pub strangers : (k : ℕ) (life : Life) → slice_get (world s history).lives k ≡ Some life → named_in s.directory life ≡ None
       → kept (λ j. j == k) answered ≡ outputs s (map plain (only (λ j. j == k) events))

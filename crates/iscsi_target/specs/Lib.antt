@@ -34,9 +34,9 @@ pub mod Machine
 pub mod Bounded
 pub mod Stands
 pub mod Serving
+pub mod Isolation
 pub mod Runs
 pub mod Laws
-pub mod Isolation
 pub mod ExamplesBytes
 pub mod ExamplesWorld
 pub mod ExamplesData

@@ -39,6 +39,14 @@ pub record Machine : Type 0 where
 abbrev pub IsSound : Machine → Type 0
 IsSound machine = All AreSound machine.units
 
+-- the same of one target
+abbrev pub IsSoundAt : ℕ → Machine → Type 0
+IsSoundAt target machine = AreSound (slice_index_or machine.units target [])
+
+-- each target that is sound in the second was so in the first
+abbrev pub LeadsBack : Machine → Machine → Type 0
+LeadsBack old new = (target : ℕ) → IsSoundAt target new → IsSoundAt target old
+
 abbrev pub WhereSound : Machine → Type 0 → Type 0
 WhereSound machine P = IsSound machine → P
 

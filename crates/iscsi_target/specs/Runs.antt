@@ -4,7 +4,8 @@ use Rattle.std.specs.List.{list_any}
 use Rattle.iscsi_target.specs.History.{Event, Open, Bytes, Gone, History, is_among, connection_limit}
 use Rattle.iscsi_target.specs.Life.{Life, is_over, out_of}
 use Rattle.iscsi_target.specs.World.{Setting, world}
-use Rattle.iscsi_target.specs.Machine.{Machine, link_at, is_open_at}
+use Rattle.iscsi_target.specs.Machine.{Machine, IsSoundAt, link_at, is_open_at}
+use Rattle.iscsi_target.specs.Isolation.{events_of, AreUnmarked, AreCalm}
 use Rattle.iscsi_target.specs.Stands.{Stands}
 use Rattle.iscsi_target.specs.declared.run.Row.{Row}
 
@@ -78,3 +79,11 @@ pub record Runs (s : Setting) (machine : Machine) (rows : List RowState) (open_c
   -- the connections that are open
   pub tracks : (c : ℕ) → has c rows ≡ is_among c open_connections
   pub below : (c : ℕ) → is_among c open_connections ≡ true → c < connection_limit
+
+-- a target that was put through these events, whatever its stores did: no allocation failed, and of a target that is sound no store
+pub record RunsThrough (s : Setting) (machine : Machine) (rows : List RowState) (open_connections : List ℕ) (events : List Event) : Type 0 where
+  pub history : History
+  pub of : events_of history ≡ events
+  pub unmarked : AreUnmarked history
+  pub calm : (target : ℕ) → IsSoundAt target machine → AreCalm target history
+  pub runs : Runs s machine rows open_connections history

@@ -2,11 +2,11 @@
 use Rattle.std.specs.Prelude.{◌≡◌, ◌≢◌, ℕ, ◌+◌, ◌<◌, List, [], ◌∷◌, length, drop, Bool, true, false, if◌then◌else◌, ◌&&◌, not, ◌==◌, nat_lt, Option, Some, None, Result, Ok, Err, ⊤}
 use Rattle.std.specs.List.{list_all, fold, enumerate_from}
 use Rattle.iscsi_pdu.specs.Frames.{Frame, rest, is_long}
-use Rattle.iscsi_session.specs.Comings.{Coming, AreAhead, ArePlain}
+use Rattle.iscsi_session.specs.Comings.{Coming, AreAhead, ArePlain, IsCalm}
 use Rattle.iscsi_session.specs.Steps.{Step, Judging, Taking, Asking, Answering, Doing, is_doing, is_serving}
 use Rattle.iscsi_target.specs.History.{Point, Arriving, Before, AtEnd, Mark, is_within, Arrival, Whole, arrivals, connection_limit}
 use Rattle.iscsi_target.specs.World.{Setting, World, present, is_marked, arrive, settle_one, settle, settle_for}
-use Rattle.iscsi_target.specs.Machine.{LinkState, Machine, IsSound, IsSure, Feeds, KeepsPart, link_at, is_reading, is_closing, closed}
+use Rattle.iscsi_target.specs.Machine.{LinkState, Machine, IsSound, IsSoundAt, LeadsBack, IsSure, Feeds, KeepsPart, link_at, is_reading, is_closing, closed}
 use Rattle.iscsi_target.specs.Bounded.{Adds}
 use Rattle.iscsi_target.specs.Stands.{IsQuiet, IsSent, IsFirst, Begins, machine_with, are_reached}
 use Rattle.iscsi_target.specs.declared.fault.Starved.{Starved}
@@ -62,6 +62,7 @@ pub record Does (kind : ℕ → Mark → Bool) (act : Setting → List Mark → 
   -- how the commands came out that it did, one after the other
   pub came : List Coming
   pub plain : IsSound after → ArePlain came
+  pub calm : (target : ℕ) → IsSoundAt target after → IsCalm target came
   pub stands : (s : Setting) (sent : ℕ → ℕ) (half : ℕ → List ℕ) (w : World) (place : ℕ) (marks : List Mark)
       → Agrees (kind place) marks (failed place) → AreAhead came w.comings → Serves s sent half w given
       → Serves s sent (halves half) (act s marks place w) after × (are_reached (failed place) (act s marks place w) ≡ true)
@@ -77,7 +78,7 @@ pub record KeepsHalf (half : List ℕ) (link : LinkState) : Type 0 where
 
 -- What any such call, for a connection, makes of every target.
 pub record Moves (c : ℕ) (starved : Option ℕ) (given after : Machine) : Type 0 where
-  pub back : IsSound after → IsSound given
+  pub back : LeadsBack given after
   pub sure : IsSure given → IsSure after
   pub feeds : Feeds c given after
   pub closing : IsClosed starved after
@@ -139,7 +140,7 @@ pub record TakesOne (c : ℕ) (starved : Option ℕ) (old new : Machine) : Type 
   pub shorter : length more < length (link_at old c).half
   pub kept : KeepsHalf more (link_at new c)
   pub does : Does is_of_frame (λ s marks place w. arrive s marks c w (place, arrival)) (with_half c more) starved old new
-  pub back : IsSound new → IsSound old
+  pub back : LeadsBack old new
   pub sure : IsSure old → IsSure new
   pub feeds : Feeds c old new
   pub closing : IsClosed starved new
@@ -173,7 +174,7 @@ pub record TakesAll (c : ℕ) (starved : Option ℕ) (old new : Machine) : Type 
   pub kept : KeepsHalf (rest (link_at old c).half) (link_at new c)
   pub short : is_reading (link_at new c).phase ≡ true → is_long (rest (link_at old c).half) ≡ false
   pub takes : TakesSome c (arrivals (link_at old c).half) (rest (link_at old c).half) starved old new
-  pub back : IsSound new → IsSound old
+  pub back : LeadsBack old new
   pub sure : IsSure old → IsSure new
   pub feeds : Feeds c old new
   pub closing : IsClosed starved new

@@ -5,12 +5,12 @@ use Rattle.iscsi_pdu.specs.Frames.{rest, is_long}
 use Rattle.iscsi_login.specs.Login.{remembered}
 use Rattle.iscsi_session.specs.State.{IsLawful, remembered as session_remembered}
 use Rattle.iscsi_login.specs.Directory.{KnownTargets}
-use Rattle.iscsi_session.specs.Comings.{Coming, ArePlain}
+use Rattle.iscsi_session.specs.Comings.{Coming, ArePlain, IsCalm}
 use Rattle.iscsi_target.specs.History.{Event, History, Mark, happening, is_same, connections, connection_limit}
 use Rattle.iscsi_target.specs.Life.{Life, Phase, LoggingIn, FullFeature, Closing, Over, reads, out_of}
 use Rattle.iscsi_target.specs.World.{Setting, World, present, happen, begun_event, world}
 use Rattle.iscsi_target.specs.Output.{out_now}
-use Rattle.iscsi_target.specs.Machine.{Machine, LinkState, IsSound, free_link}
+use Rattle.iscsi_target.specs.Machine.{Machine, LinkState, IsSound, IsSoundAt, free_link}
 use Rattle.iscsi_target.specs.declared.phase.Phase as code
 use Rattle.iscsi_target.specs.declared.phase.Phase.TheVariants as phases
 
@@ -105,11 +105,12 @@ Begins None marks = marks ≡ []
 Begins (Some c) marks = IsFirst c marks
 
 -- The code stands where the World of this history does with one more event, whatever its stores did: in it allocations failed
--- at these points, each of which was reached, and its commands came out so. They came out as defined where all units are sound.
+-- at these points, each of which was reached, and its commands came out so: as defined where the units of their target are sound.
 pub record StandsAfter (s : Setting) (sent : ℕ → ℕ) (history : History) (event : Event) (starved : Option ℕ) (machine : Machine) : Type 0 where
   pub marks : List Mark
   pub comings : List Coming
   pub first : Begins starved marks
   pub reached : are_reached marks (happen s marks (begun_event comings (world s history)) event) ≡ true
   pub plain : IsSound machine → ArePlain comings
+  pub calm : (target : ℕ) → IsSoundAt target machine → IsCalm target comings
   pub stands : Stands s sent machine (history ++ happening marks comings event ∷ [])

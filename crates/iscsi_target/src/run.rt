@@ -4,12 +4,13 @@ ghost use Rattle.std.specs.Prelude.{All, ◌≡◌, ℕ, List, [], ◌∷◌, �
 ghost use Rattle.iscsi_target.specs.Known.{known_in};
 ghost use Rattle.iscsi_target.specs.History.{History, well_formed as is_well_formed, open_after, plain};
 ghost use Rattle.iscsi_target.specs.Events.{event_view, events_view, plain_history};
+ghost use Rattle.iscsi_target.specs.History as history;
 ghost use Rattle.iscsi_target.specs.World.{Setting};
 ghost use Rattle.iscsi_target.specs.Output.{outputs as outputs_of, media_in, media};
 ghost use Rattle.iscsi_target.specs.Isolation.{GivesItsOwn};
 ghost use Rattle.iscsi_target.specs.Stands.{Stands};
-ghost use Rattle.iscsi_target.specs.Runs.{Runs, MayCome, AreOpen, seen, finished, ended};
-ghost use Rattle.iscsi_target.specs.Machine.{WhereSound, IsSure};
+ghost use Rattle.iscsi_target.specs.Runs.{Runs, RunsThrough, MayCome, AreOpen, seen, finished, ended};
+ghost use Rattle.iscsi_target.specs.Machine.{WhereSound, IsSoundAt, IsSure};
 ghost use Rattle.scsi_unit.specs.Units.{AreSure};
 
 use crate::config::Config;
@@ -111,6 +112,9 @@ fn take_event<S: Store>(
     ensures runs { OnOk result ((s : Setting) (before : List ℕ) (h : History) → WhereSound target.old (Runs s target.old (map seen rows.old.items) before h)
         → WhereSound target.new (Runs s target.new (map seen rows.new.items) (open_after before (event_view event.now))
         (h ++ plain (event_view event.now) ∷ []))) }
+    ensures through { OnOk result ((s : Setting) (before : List ℕ) (es : List history.Event)
+        → RunsThrough s target.old (map seen rows.old.items) before es
+        → RunsThrough s target.new (map seen rows.new.items) (open_after before (event_view event.now)) (es ++ event_view event.now ∷ [])) }
     ensures sure { OnOk result (IsSure target.old → IsSure target.new) }
     ensures open { OnOk result ((before : List ℕ) → AreOpen target.old before → AreOpen target.new (open_after before (event_view event.now))) }
 {
@@ -153,9 +157,9 @@ impl<S: Store + Drop> Target<S> {
         ensures media { IfOk result (λ r. WhereSound r.1 ((number : ℕ)
             → media_in r.1.units number ≡ media (record { directory = known_in config; units = units.items })
             (plain_history events.now) number)) }
-        ensures isolated { IfOk result (λ r. WhereSound r.1 ((number : ℕ)
+        ensures isolated { IfOk result (λ r. (number : ℕ) → IsSoundAt number r.1
             → GivesItsOwn (record { directory = known_in config; units = units.items }) number (events_view events.now)
-            (map (λ output. output.items) r.0.items) (media_in r.1.units number))) }
+            (map (λ output. output.items) r.0.items) r.1) }
     {
         let mut target = Target::new(alloc, config, units)?;
         let mut rows = Vec::new(alloc);

@@ -7,7 +7,7 @@ ghost use Rattle.iscsi_pdu.specs.Header.{header_length};
 ghost use Rattle.iscsi_target.specs.Bounded.{Adds, Bounded};
 ghost use Rattle.iscsi_target.specs.History.{Open, Bytes, Gone, Mark, History, arrivals, plain, marked};
 ghost use Rattle.iscsi_target.specs.World.{Setting, present, world};
-ghost use Rattle.iscsi_target.specs.Machine.{LinkState, IsSound, WhereSound, IsSure, Feeds, KeepsPart, free_link, opened_link, sent_link, new_machine, link_at, with_link, closed, joined_session, shut_older, begun, logged_in, is_logging_in, GivesFrame, is_reading, is_open_at, is_closing, want_of};
+ghost use Rattle.iscsi_target.specs.Machine.{LinkState, IsSound, LeadsBack, WhereSound, IsSure, Feeds, KeepsPart, free_link, opened_link, sent_link, new_machine, link_at, with_link, closed, joined_session, shut_older, begun, logged_in, is_logging_in, GivesFrame, is_reading, is_open_at, is_closing, want_of};
 ghost use Rattle.iscsi_target.specs.declared.phase.Phase.TheVariants.{Login};
 ghost use Rattle.iscsi_login.specs.LoginState.{LoginState, IsTargetBelow};
 ghost use Rattle.iscsi_target.specs.Known.{known_in};
@@ -108,6 +108,7 @@ impl<S: Store> Target<S> {
         ensures now { self.new ≡ with_link self.old c (opened_link c) }
         ensures count { length self.old.links ≡ 64 }
         ensures sound { IsSound self.new → IsSound self.old }
+        ensures each { LeadsBack self.old self.new }
         ensures sure { IsSure self.old → IsSure self.new }
         ensures stands { (s : Setting) (sent : ℕ → ℕ) (h : History) → WhereSound self.old (Stands s sent self.old h)
             → WhereSound self.new (Stands s (with_sent sent c 0) self.new (h ++ plain (Open c) ∷ [])) }
@@ -137,6 +138,7 @@ impl<S: Store> Target<S> {
         ensures came { (s : Setting) (sent : ℕ → ℕ) (h : History) → Stands s sent self.old h
             → StandsAfter s sent h (Bytes c piece.now) (first_starved result) self.new }
         ensures sound { IsSound self.new → IsSound self.old }
+        ensures each { LeadsBack self.old self.new }
         ensures sure { IsSure self.old → IsSure self.new }
         ensures feeds { Feeds c self.old self.new }
         ensures part { KeepsPart c self.old self.new }
@@ -168,6 +170,7 @@ impl<S: Store> Target<S> {
         ensures now { self.new ≡ with_link (closed self.old c) c free_link }
         ensures count { length self.old.links ≡ 64 }
         ensures sound { IsSound self.new → IsSound self.old }
+        ensures each { LeadsBack self.old self.new }
         ensures sure { IsSure self.old → IsSure self.new }
         ensures stands { (s : Setting) (sent : ℕ → ℕ) (h : History) → WhereSound self.old (Stands s sent self.old h)
             → WhereSound self.new (Stands s (with_sent sent c 0) self.new (h ++ plain (Gone c) ∷ [])) }
@@ -205,6 +208,7 @@ impl<S: Store> Target<S> {
         requires waits { n ≤ length (link_at self.old c).waiting }
         ensures now { self.new ≡ with_link self.old c (sent_link (link_at self.old c) n) }
         ensures sound { IsSound self.new → IsSound self.old }
+        ensures each { LeadsBack self.old self.new }
         ensures sure { IsSure self.old → IsSure self.new }
         ensures stands { (s : Setting) (sent : ℕ → ℕ) (h : History) → WhereSound self.old (Stands s sent self.old h)
             → WhereSound self.new (Stands s (with_sent sent c (sent c + n)) self.new h) }

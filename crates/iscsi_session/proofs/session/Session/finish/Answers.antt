@@ -15,7 +15,7 @@ use Rattle.iscsi_session.proofs.session.Session.finish.Goals as goal
 
 pub returns-in_default-clause-steps : goal.returns-in_default-clause-steps
 returns-in_default-clause-steps g c =
-    came_none _ _ _ (λ comings work s. none_steps finish _ work _ _ _ (none_ready work _ _ s c.in_default.ensures.none) s.units)
+    came_none _ _ _ _ (λ comings work s. none_steps finish _ work _ _ _ (none_ready work _ _ s c.in_default.ensures.none) s.units)
 
 pub returns-clause-steps : goal.returns-clause-steps
 returns-clause-steps g c =

@@ -1,7 +1,8 @@
 use Rattle.std.proofs.Common.{ℕ, suc, List, [], refl, ap, ◌∙◌}
+use Rattle.iscsi_login.specs.declared.params.Params.{Params}
 use Rattle.iscsi_session.specs.Runs.{output}
 use Rattle.iscsi_session.specs.Steps.{Doing, ready, finish}
-use Rattle.iscsi_session.proofs.Came.{came_none, came_then, came_as}
+use Rattle.iscsi_session.proofs.Came.{came_none, came_then, came_as, came_with}
 use Rattle.iscsi_session.proofs.Parts.{on_err_known}
 use Rattle.iscsi_session.proofs.Runs.{none_ran, grows_none, grows_then, queue_count}
 use Rattle.iscsi_session.proofs.Settled.{settled_more, all_settled, settling_stops, settle_stops}
@@ -12,7 +13,7 @@ use Rattle.iscsi_session.proofs.session.Session.settle.Goals as goal
 pub loop-init : goal.loop-init
 loop-init g c = record {
   turns = 0;
-  ran = came_none _ _ _ (λ comings. none_ran Doing ready finish queue_count queued_in queue_fits _ _ _);
+  ran = came_none _ _ _ _ (λ comings. none_ran Doing ready finish queue_count queued_in queue_fits _ _ _);
   back = λ sound. sound;
   sure = λ sure. sure;
   grows = grows_none _;
@@ -22,15 +23,16 @@ loop-init g c = record {
 
 pub returns-in_err-finish-clause-err : goal.returns-in_err-finish-clause-err
 returns-in_err-finish-clause-err g c = on_err_known _
-    (settle_stops c.loop.invariant.turns _ _ _ _ _ _ _ _ _ c.in_err-finish.ensures.err
+    (settle_stops c.loop.invariant.turns _ _ _ _ _ _ _ _ _ _ c.in_err-finish.ensures.err
     (ap (λ (bytes : List ℕ). output bytes []) c.in_err-finish.ensures.out_err)
     c.in_err-finish.ensures.units_err
-    (came_as _ _ _ _ c.loop.invariant.ran (λ given left ran. settling_stops _ _ _ _ _ given left ran c.in_err-finish.ensures.waits)))
+    (came_as _ _ _ _ _ c.loop.invariant.ran (λ given left ran. settling_stops _ _ _ _ _ given left ran c.in_err-finish.ensures.waits)))
 
 pub loop-preserved : goal.loop-preserved
 loop-preserved g c = record {
   turns = suc c.loop.invariant.turns;
-  ran = came_then _ _ _ _ _ _ c.loop.invariant.ran c.in_ok-finish.ensures.steps c.in_ok-finish.ensures.back
+  ran = came_then _ _ _ _ _ _ _ c.loop.invariant.ran
+      (came_with _ _ _ _ _ (ap (λ (p : Params). p.target) c.loop.invariant.params) c.in_ok-finish.ensures.steps) c.in_ok-finish.ensures.back
       (λ given middle left ran one. settled_more _ _ _ _ _ _ _ _ given middle left ran one
       c.if-branch.true (c.in_ok-finish.ensures.fewer c.if-branch.true));
   back = λ sound. c.loop.invariant.back (c.in_ok-finish.ensures.back sound);
@@ -41,7 +43,8 @@ loop-preserved g c = record {
 }
 
 pub returns-clause-ok : goal.returns-clause-ok
-returns-clause-ok g c = came_then _ _ _ _ _ _ c.loop.invariant.ran c.in_ok-finish.ensures.steps c.in_ok-finish.ensures.back
+returns-clause-ok g c = came_then _ _ _ _ _ _ _ c.loop.invariant.ran
+    (came_with _ _ _ _ _ (ap (λ (p : Params). p.target) c.loop.invariant.params) c.in_ok-finish.ensures.steps) c.in_ok-finish.ensures.back
     (λ given middle left ran one. all_settled _ _ _ _ _ _ _ _ given middle left ran one c.if-branch.false)
 
 pub returns-in_err-finish-clause-eases : goal.returns-in_err-finish-clause-eases

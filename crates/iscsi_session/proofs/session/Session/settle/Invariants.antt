@@ -12,7 +12,7 @@ use Rattle.iscsi_session.proofs.session.Session.settle.Given as goal
 abbrev pub invariant-loop : goal.invariant-loop
 invariant-loop g l = record {
   turns : ℕ;
-  ran : CameAs (λ given after. Ran Doing ready finish queue_count queued_in queue_fits turns l.initial.self l.self
+  ran : CameAs l.initial.self.params.target (λ given after. Ran Doing ready finish queue_count queued_in queue_fits turns l.initial.self l.self
       (output l.initial.out.items []) (output l.out.items []) given after) l.initial.units l.units;
   back : AreSound l.units → AreSound l.initial.units;
   sure : AreSure l.initial.units → AreSure l.units;

@@ -6,7 +6,7 @@ use Rattle.iscsi_target.specs.World.{world}
 use Rattle.iscsi_target.proofs.Apart.{part_none, part_as, part_closed, part_halved, part_then}
 use Rattle.iscsi_target.proofs.Feeding.{comes_idle, comes_empty, all_came, ok_came, err_came, none_after, starved_after, starved_came, kept_feeds, kept_reads}
 use Rattle.iscsi_target.proofs.Moving.{own_self, closed_closing, closing_if, closed_moves, feeds_then, moves_as}
-use Rattle.iscsi_target.proofs.Sound.{closed_sound, closed_sure, sound_as, sure_as}
+use Rattle.iscsi_target.proofs.Sound.{sound_back, closed_back, at_as, at_units, closed_sound, closed_sure, sound_as, sure_as}
 use Rattle.iscsi_target.proofs.Standing.{stands_as}
 use Rattle.iscsi_target.proofs.Wanting.{half_there, fed_bounded, closed_bounded, bounded_as}
 use Rattle.iscsi_target.proofs.target.Target.feed.Goals as goal
@@ -35,7 +35,18 @@ returns-then-not-reads-clause-came g c = λ s sent h at.
     (comes_idle s sent (world s h) c.args.self.now c.args.c c.args.piece.now c.requires.in_range at c.requires.«open»
     (sym c.reads.ensures.value ∙ c.if-not-reads.true))
 
+pub returns-then-is_empty-clause-each : goal.returns-then-is_empty-clause-each
+returns-then-is_empty-clause-each g c = λ target sound. sound
+
+pub returns-then-not-reads-clause-each : goal.returns-then-not-reads-clause-each
+returns-then-not-reads-clause-each g c = λ target sound. sound
+
 -- ---- the piece could not be kept
+
+pub returns-in-Err-clause-each : goal.returns-in-Err-clause-each
+returns-in-Err-clause-each g c = λ target sound.
+    (let same : c.starve.new.self ≡ closed c.args.self.now c.args.c = c.starve.ensures.closed ∙ ap (λ (m : Machine). closed m c.args.c) c.in-Err.ensures.err in
+    closed_back c.args.self.now c.args.c target (at_as c.starve.new.self _ target same sound))
 
 pub returns-in-Err-clause-came : goal.returns-in-Err-clause-came
 returns-in-Err-clause-came g c = λ s sent h at.
@@ -99,6 +110,14 @@ returns-clause-starved g c =
     err_came c.take_frames.result c.args.self.now c.keep.new.self c.take_frames.new.self c.args.c c.args.piece.now c.requires.in_range
     (sym c.reads.ensures.value ∙ c.if-not-reads.false) c.in_default.ensures.ok c.take_frames.ensures.takes
 
+pub returns-clause-each : goal.returns-clause-each
+returns-clause-each g c = λ target sound.
+    at_units c.keep.new.self.units c.args.self.now target (ap (λ (m : Machine). m.units) c.in_default.ensures.ok)
+    (c.take_frames.ensures.takes.back target sound)
+
+pub returns-clause-sound : goal.returns-clause-sound
+returns-clause-sound g c = sound_back c.args.self.now c.take_frames.new.self (returns-clause-each g c)
+
 pub returns-clause-feeds : goal.returns-clause-feeds
 returns-clause-feeds g c =
     let lt : c.args.c < length c.args.self.now.links = (let below = c.requires.in_range in omega (arith, c.reads.ensures.count)) in
@@ -140,6 +159,7 @@ pub returns-clause-bounded : goal.returns-clause-bounded
 returns-clause-bounded g c = λ s sent h at le bounded sound.
     (let lt : c.args.c < length c.args.self.now.links = (let below = c.requires.in_range in omega (arith, c.reads.ensures.count)) in
     let reading : is_reading (link_at c.args.self.now c.args.c).phase ≡ true = sym c.reads.ensures.value ∙ c.if-not-reads.false in
-    let sound_old : IsSound c.args.self.now = sound_as c.keep.new.self _ c.in_default.ensures.ok (c.take_frames.ensures.takes.back sound) in
+    let sound_old : IsSound c.args.self.now = sound_as c.keep.new.self _ c.in_default.ensures.ok
+    (sound_back c.keep.new.self c.take_frames.new.self c.take_frames.ensures.takes.back sound) in
     fed_bounded c.args.self.now c.keep.new.self c.take_frames.new.self c.args.c c.args.piece.now _ lt reading
     (half_there s sent h c.args.self.now c.args.c c.requires.in_range (at sound_old) reading) c.in_default.ensures.ok c.take_frames.ensures.takes le bounded)

@@ -3,7 +3,7 @@ use Rattle.std.proofs.lemmas.List.{length-set}
 use Rattle.std.proofs.lemmas.List.Elements.{All-set}
 use Rattle.iscsi_target.specs.Machine.{LinkState, Machine, IsWithin, with_link, closed, free_link}
 use Rattle.iscsi_target.proofs.Moving.{closed_count}
-use Rattle.iscsi_target.proofs.Sound.{closed_sound, closed_sure, sound_as, sure_as, sound_units}
+use Rattle.iscsi_target.proofs.Sound.{closed_back, at_as, at_units, closed_sound, closed_sure, sound_as, sure_as, sound_units}
 use Rattle.iscsi_target.proofs.Standing.{gone_stands, stands_machine}
 use Rattle.iscsi_target.proofs.Wanting.{bounded_links, gone_bounded}
 use Rattle.iscsi_target.proofs.target.Target.gone.Goals as goal
@@ -20,6 +20,10 @@ invariant_of-self g c =
 pub returns-clause-sound : goal.returns-clause-sound
 returns-clause-sound g c = λ sound. closed_sound c.args.self.now c.args.c
     (sound_as c.close.new.self _ c.close.ensures.closed (sound_units _ c.close.new.self (ap (λ (m : Machine). m.units) c.self.view_is) sound))
+
+pub returns-clause-each : goal.returns-clause-each
+returns-clause-each g c = λ target sound. closed_back c.args.self.now c.args.c target
+    (at_as c.close.new.self _ target c.close.ensures.closed (at_units _ c.close.new.self target (ap (λ (m : Machine). m.units) c.self.view_is) sound))
 
 pub returns-clause-sure : goal.returns-clause-sure
 returns-clause-sure g c = λ sure. sure_as c.close.new.self _ (sym c.self.view_is)

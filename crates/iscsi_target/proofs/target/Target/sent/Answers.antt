@@ -1,7 +1,7 @@
 use Rattle.std.proofs.Common.{◌<◌, length, sym, ap, ◌∙◌, arith}
 use Rattle.iscsi_target.specs.Machine.{LinkState, Machine, link_at, with_link, sent_link, free_link}
 use Rattle.iscsi_target.proofs.Asking.{get_or_any}
-use Rattle.iscsi_target.proofs.Sound.{sound_units}
+use Rattle.iscsi_target.proofs.Sound.{at_units, sound_units}
 use Rattle.iscsi_target.proofs.Standing.{sent_stands, stands_machine}
 use Rattle.iscsi_target.proofs.Wanting.{bounded_links, sent_bounded}
 use Rattle.iscsi_target.proofs.target.Target.sent.Goals as goal
@@ -19,6 +19,10 @@ returns-clause-always g c = λ s sent h at.
     ∙ ap (λ (m : Machine). with_link m c.args.c (sent_link (link_at m c.args.c) c.args.n)) c.self.view_is in
     stands_machine s _ h _ _ (sym (c.rest.ensures ∙ is))
     (sent_stands s sent c.args.self.now h c.args.c c.args.n c.requires.in_range c.requires.waits at))
+
+pub returns-clause-each : goal.returns-clause-each
+returns-clause-each g c = λ target sound.
+    at_units _ c.args.self.now target (ap (λ (m : Machine). m.units) c.rest.ensures ∙ ap (λ (m : Machine). m.units) c.self.view_is) sound
 
 pub returns-clause-stands : goal.returns-clause-stands
 returns-clause-stands g c = λ s sent h at sound. returns-clause-always g c s sent h

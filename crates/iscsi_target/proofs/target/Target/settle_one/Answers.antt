@@ -10,7 +10,7 @@ use Rattle.iscsi_target.proofs.AtWork.{settle_kind}
 use Rattle.iscsi_target.proofs.Doing.{does_on, does_starved}
 use Rattle.iscsi_target.proofs.Held.{viewed, held_here, held_same, settles_none, called, settle_does, settle_moves, same_session, same_target, other_target, sound_there, units_here}
 use Rattle.iscsi_target.proofs.Moving.{moves_none, moves_as, moves_from, moves_then, moves_starved, starved_moves}
-use Rattle.iscsi_target.proofs.Sound.{closed_sound, sound_as}
+use Rattle.iscsi_target.proofs.Sound.{closed_back, at_as}
 use Rattle.iscsi_target.proofs.target.Target.settle_one.Goals as goal
 
 pub returns-in_default : goal.returns-in_default
@@ -151,7 +151,7 @@ returns-in-Err-clause-settles g c =
     (units_here machine.units c.args.target _ _ _ below target c.index_mut-units.ensures.value)
     stops.leads
     (λ sound. stops.leads.plain (sound_there machine (set machine.links c.args.c then_) c.args.target c.settle.new.units below
-    (closed_sound middle c.args.c (sound_as c.starve.new.self (closed middle c.args.c) c.starve.ensures.closed sound))))
+    (closed_back middle c.args.c c.args.target (at_as c.starve.new.self (closed middle c.args.c) c.args.target c.starve.ensures.closed sound))))
     (settle_kind c.args.c stops.step stops.of_frame stops.of_kind) c.starve.ensures.closed))
 
 pub returns-in-Err-clause-moves : goal.returns-in-Err-clause-moves

@@ -78,7 +78,7 @@ returns-in-FullFeature-clause-takes g c =
     c.serve-goes_on.new.orders.items machine c.end_unless-served.new.self c.settle_for-settled.new.self c.link.inside.framer c.link.inside.phase c.link.inside.waiting.items
     c.serve-goes_on.new.out.items c.in-FullFeature.session c.serve-goes_on.new.self (first_starved c.settle_for-settled.result) c.requires link
     c.in-FullFeature.is target known c.new-orders.ensures.items c.serve-goes_on.ensures.ok c.serve-goes_on.ensures.err c.end_unless-served.ensures.same
-    (λ sound. (c.carry_out_for.ensures.moves 0).back ((c.settle_for-settled.ensures.moves 0).back sound))
+    (λ at sound. (c.carry_out_for.ensures.moves 0).back at ((c.settle_for-settled.ensures.moves 0).back at sound))
     (finishes c.args.c c.params.result.now.target c.serve-goes_on.new.orders.items (first_starved c.settle_for-settled.result) c.end_unless-served.new.self
     c.carry_out_for.new.self c.settle_for-settled.new.self (c.settle_for-settled.ensures.moves 0).back carries
     c.settle_for-settled.ensures.settles)))
