@@ -2,7 +2,7 @@
 use Rattle.std.proofs.Common.{◌≡◌, ℕ, ◌-◌, List, [], ◌∷◌, map, true, false, not, cond, Option, Some, None, refl, sym, ap, subst, ◌∙◌}
 use Rattle.std.specs.Prelude.{filter, find, is_some}
 use Rattle.iscsi_pdu.specs.Header.{is_immediate, initiator_task_tag}
-use Rattle.iscsi_session.specs.declared.transfers.Drained.{Drained}
+use Rattle.iscsi_session.specs.Drained.{Drained}
 use Rattle.iscsi_session.specs.Requests.{Past, frame_of, is_in, pending, stamp, bearing}
 use Rattle.iscsi_pdu.specs.declared.task_management_response.TaskResult.TheVariants as results
 use Rattle.iscsi_session.specs.Transfers.{tag_of, drains_of}

@@ -5,10 +5,13 @@ use Rattle.std.proofs.lemmas.Bool.{eq-eqb, ne_eqb, false_from_ne_true}
 use Rattle.std.proofs.lemmas.List.Elements.{All-push, All-nil, All-cons, All-head, All-tail}
 use Rattle.iscsi_pdu.specs.Header.{is_immediate, initiator_task_tag}
 use Rattle.iscsi_pdu.specs.Frames.{Frame}
-use Rattle.iscsi_transfer.specs.Task.{TaskState, remembered as task_of, fault_of, is_whole, with_data}
+use Rattle.iscsi_transfer.specs.Task.{TaskState, remembered as task_of, fault_of, is_whole, with_data, blank}
+use Rattle.iscsi_transfer.specs.declared.fault.DataFault.{DataFault}
+use Rattle.iscsi_transfer.proofs.Blank.{fault_blank, with_blank}
+use Rattle.iscsi_session.proofs.Blanked.{asked_blanked}
 use Rattle.iscsi_transfer.proofs.Standing.{remembered-accepted}
 use Rattle.iscsi_session.specs.declared.transfers.Transfer.{Transfer}
-use Rattle.iscsi_session.specs.declared.transfers.Drained.{Drained}
+use Rattle.iscsi_session.specs.Drained.{Drained}
 use Rattle.iscsi_session.specs.declared.verdict.Verdict.TheVariants.{Violating, Feeding}
 use Rattle.iscsi_session.specs.Functions.{function_with, immediate_in}
 use Rattle.iscsi_session.specs.Requests.{Past, Drain, DataOut, is_command, is_function, functions, frame_of, is_in, due, queue, unfinished, finished}
@@ -43,7 +46,7 @@ drain_located : (past : Past) (tag : ℕ)
     → LocatedAmong (is_asked_of past) (λ k. tag_of past.came k == tag) (drains_of past) (drain_with tag (map (drained_of past) (drains_of past)))
 drain_located past tag =
     located_among (λ (x : Drained). is_draining x && bears tag x.transfer) (drained_of past) (is_asked_of past) (λ k. tag_of past.came k == tag) (drains_of past)
-    (λ d. refl)
+    (λ d. ap (λ (b : Bool). b && bears tag (transfer_of past d.command)) (asked_blanked (transfer_of past d.command)))
 
 pub drains_are : (past : Past) (state : SessionState) → Stands past state → state.transfers.drains ≡ map (drained_of past) (drains_of past)
 unfolding transfers_of
@@ -171,7 +174,9 @@ unfolding drained
 judged_drained past frame None found = ap (data_verdict past frame) (sym found)
 judged_drained past frame (Some i) found =
     ap (λ (x : Drained). if is_some (fault_of x.transfer.task frame) then Violating else Feeding)
-    (index_drains (drained_of past) no_drained (drains_of past) i found.0 found.2) ∙ ap (data_verdict past frame) (sym found.1)
+    (index_drains (drained_of past) no_drained (drains_of past) i found.0 found.2)
+    ∙ ap (λ (o : Option DataFault). if is_some o then Violating else Feeding) (fault_blank (transfer_of past found.0.command).task frame)
+    ∙ ap (data_verdict past frame) (sym found.1)
 
 -- by the first of two where there is one, else by the second
 by_either : {Y : Type 0} (f : Option ℕ → Y) (c : Bool) (a b : Option ℕ) (x y : Y) → c ≡ is_some a → x ≡ f a → y ≡ f b
@@ -275,8 +280,10 @@ fed_drained past frame (Some i) drained found =
     let d = found.0 in
     let k = d.command in
     let set_there : fed_drain (map (drained_of past) (drains_of past)) frame (Some i) ≡ map (drained_of (feeding k frame past)) (drains_of past) =
-    ap (λ (x : Drained). set (map (drained_of past) (drains_of past)) i (record x { transfer = record x.transfer { task = with_data x.transfer.task frame } }))
+    ap (λ (x : Drained). set (map (drained_of past) (drains_of past)) i (record x { transfer = record x.transfer { task = blank (with_data x.transfer.task frame) } }))
     (index_drains (drained_of past) no_drained (drains_of past) i d found.2)
+    ∙ ap (λ (task : TaskState). (let x : Drained = record { function = (frame_of past.came d.function).header; transfer = record (transfer_of past k) { task = task } } in
+    set (map (drained_of past) (drains_of past)) i x)) (with_blank (transfer_of past k).task frame)
     ∙ ap (λ (t : Transfer). set (map (drained_of past) (drains_of past)) i (drained_with (frame_of past.came d.function).header t))
     (sym (fed_there past k frame))
     ∙ set_drains (drained_of past) (drained_of (feeding k frame past)) (drains_of past) i d (drains_once past drained) found.2

@@ -24,7 +24,7 @@ use Rattle.iscsi_login.specs.declared.params.Params.{Params}
 use Rattle.iscsi_login.specs.declared.values.Values.{Values}
 use Rattle.iscsi_login.specs.Values.{AreInRange}
 use Rattle.iscsi_transfer.specs.DataIn.{piece_count}
-use Rattle.iscsi_transfer.specs.declared.task.Ask.{Ask}
+use Rattle.iscsi_transfer.specs.declared.progress.Ask.{Ask}
 use Rattle.iscsi_pdu.specs.ScsiCommand.{is_read, is_write}
 use Rattle.scsi_sense.specs.Done.{Outcome}
 use Rattle.scsi_sense.specs.declared.sense.Sense.{Sense}

@@ -43,5 +43,6 @@ pub mod Calm
 pub mod Runs
 mod InPlace
 mod Asked
+mod Blanked
 mod Drained
 mod Told

@@ -6,12 +6,13 @@ use Rattle.std.proofs.lemmas.Bool.{cases_eq, eq-eqb, ne_eqb, eqb-true, false_fro
 use Rattle.std.proofs.lemmas.List.Elements.{All-head, All-tail, All-nil, All-cons, All-push}
 use Rattle.iscsi_pdu.specs.Header.{is_immediate}
 use Rattle.iscsi_order.specs.Window.{taken as taken_numbers}
-use Rattle.iscsi_session.specs.declared.transfers.Drained.{Drained}
+use Rattle.iscsi_session.specs.Drained.{Drained}
+use Rattle.iscsi_session.proofs.Blanked.{asked_blanked}
 use Rattle.iscsi_session.specs.Requests.{Past, Drain, frame_of, is_in, left, is_command, is_function, others, counted, over, pending, taken, numbers, commands, due, queue, unfinished, functions}
 use Rattle.iscsi_session.specs.Transfers.{tag_of, task_at, outs_of, tags_of, is_asked_of, drains_of}
 use Rattle.iscsi_session.specs.Texts.{exchange_of}
 use Rattle.iscsi_session.specs.Functions.{lacks, told}
-use Rattle.iscsi_session.specs.State.{AreDistinct, IsLawful, standing, tasks_of, drained_of, transfers_of, functions_of}
+use Rattle.iscsi_session.specs.State.{AreDistinct, IsLawful, standing, tasks_of, drained_of, transfer_of, transfers_of, functions_of}
 use Rattle.iscsi_session.specs.Draining.{function_tag, lacks_for, drains_without}
 use Rattle.iscsi_session.proofs.Left.{filter_cong, filter_filter, left_more, left_swap, in_left, in_left_back, not_gone, below_of, is_in_append}
 use Rattle.iscsi_session.proofs.Places.{or_known, found_self}
@@ -310,7 +311,9 @@ module _ (past : Past) (lawful : IsLawful past) where
       → lacks_for (map (drained_of past) l) (tag_of past.came k) ≡ list_any (λ d. d.function == k && is_asked_of past d.command) l
   lacks_by [] k waits all = refl
   lacks_by (d ∷ l) k waits all =
-      rw (
+      ap (λ (b : Bool). tag_of past.came d.function == tag_of past.came k && b || lacks_for (map (drained_of past) l) (tag_of past.came k))
+      (asked_blanked (transfer_of past d.command))
+      ∙ rw (
         same_tag d.function k (All-head (λ (x : Drain). is_in x.function (pending past) ≡ true) d l all) waits,
         lacks_by l k waits (All-tail (λ (x : Drain). is_in x.function (pending past) ≡ true) d l all),
       ) refl

@@ -8,7 +8,7 @@ use Rattle.iscsi_pdu.specs.Header.{initiator_task_tag}
 use Rattle.iscsi_transfer.specs.Task.{remembered as task_of}
 use Rattle.iscsi_transfer.specs.Payload.{begun}
 use Rattle.iscsi_session.specs.declared.transfers.Transfer.{Transfer}
-use Rattle.iscsi_session.specs.declared.transfers.Drained.{Drained}
+use Rattle.iscsi_session.specs.Drained.{Drained, blanked}
 use Rattle.iscsi_session.specs.Requests.{Request, Past, Drain, frame_of, is_in, left, is_command, commands, queue, unfinished, finished}
 use Rattle.iscsi_session.specs.Transfers.{tag_of, outs_of, tags_of, task_at, last_tag, drains_of}
 use Rattle.iscsi_session.specs.State.{AreDistinct, AreDrained, transfer_of, drained_of, transfers_of, begun_transfer}
@@ -80,7 +80,7 @@ transfers_before : (past : Past) (x : Request) → map (transfer_of (joined x pa
 transfers_before past x = map_cong _ _ (unfinished past) (λ i d lt. transfer_joined past x _ (unfinished_came past _ (in_at (unfinished past) i d lt)))
 
 abbrev pub drained_with : List ℕ → Transfer → Drained
-drained_with header transfer = record { function = header; transfer = transfer }
+drained_with header transfer = record { function = header; transfer = blanked transfer }
 
 drained_before : (past : Past) (x : Request) → AreDrained past → Below past past.finished → Below past past.removed
     → map (drained_of (joined x past)) (drains_of past) ≡ map (drained_of past) (drains_of past)

@@ -5,7 +5,7 @@ use Rattle.std.specs.List.{list_any}
 use Rattle.std.proofs.lemmas.Bool.{ne_eqb, false_from_ne_true}
 use Rattle.std.proofs.lemmas.List.{map-append}
 use Rattle.std.proofs.lemmas.List.Elements.{All-nil, All-cons, All-head, All-tail}
-use Rattle.iscsi_session.specs.declared.transfers.Drained.{Drained}
+use Rattle.iscsi_session.specs.Drained.{Drained}
 use Rattle.iscsi_session.specs.Requests.{Past, Drain, drain_for, draining, frame_of, frames_of, is_in, is_command, is_function, due, unfinished, moved, removing, functions}
 use Rattle.iscsi_session.specs.Transfers.{task_at, outs_of, tags_of, is_asked_of}
 use Rattle.iscsi_session.specs.Functions.{FunctionReach, reaches, reached, waits, awaited}

@@ -3,10 +3,10 @@ use Rattle.std.specs.Prelude.{ℕ, List, [], map, Bool, ◌&&◌, ◌||◌, not,
 use Rattle.std.specs.List.{list_any}
 use Rattle.iscsi_pdu.specs.Header.{initiator_task_tag}
 use Rattle.iscsi_pdu.specs.Frames.{Frame}
-use Rattle.iscsi_transfer.specs.Task.{fault_of, lacks_data, with_data}
+use Rattle.iscsi_transfer.specs.Task.{fault_of, lacks_data, with_data, blank}
 use Rattle.iscsi_session.specs.Functions.{FunctionReach, reaches, waits}
 use Rattle.iscsi_session.specs.declared.transfers.Transfer.{Transfer}
-use Rattle.iscsi_session.specs.declared.transfers.Drained.{Drained}
+use Rattle.iscsi_session.specs.Drained.{Drained, blanked}
 use Rattle.iscsi_session.specs.declared.verdict.Verdict.{Verdict}
 use Rattle.iscsi_session.specs.declared.verdict.Verdict.TheVariants.{Dropped, Violating, Feeding}
 use Rattle.iscsi_session.specs.State.{TransferList, no_transfer, bears, place_with, place_for, due_of, judged_at, fed_at}
@@ -38,7 +38,7 @@ abbrev pub fed_drain : List Drained → Frame → Option ℕ → List Drained
 fed_drain drains frame None = drains
 fed_drain drains frame (Some i) =
     let transfer = (drained_at drains i).transfer in
-    slice_set drains i (record (drained_at drains i) { transfer = record transfer { task = with_data transfer.task frame } })
+    slice_set drains i (record (drained_at drains i) { transfer = record transfer { task = blank (with_data transfer.task frame) } })
 
 -- a Data-Out for a command that is not finished, or for one whose data is drained
 abbrev pub judged_in : TransferList → Frame → Verdict
@@ -80,7 +80,7 @@ told_in transfers (Some i) = record transfers { drains = drains_without (functio
 
 -- what a function is to wait for, of the commands that it reaches
 abbrev pub drained_for : List ℕ → Transfer → Drained
-drained_for function transfer = record { function = function; transfer = transfer }
+drained_for function transfer = record { function = function; transfer = blanked transfer }
 
 abbrev pub is_awaited : FunctionReach → Transfer → Bool
 is_awaited reach transfer = reaches reach transfer.header && is_asked transfer

@@ -22,6 +22,7 @@ pub mod Comings
 pub mod Commands
 pub mod Steps
 pub mod Room
+pub mod Drained
 pub mod State
 pub mod Draining
 pub mod Runs

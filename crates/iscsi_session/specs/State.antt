@@ -12,9 +12,9 @@ use Rattle.iscsi_session.specs.Requests.{Request, Past, Drain, has_number, numbe
 use Rattle.iscsi_pdu.specs.declared.r2t.R2t.{R2t}
 use Rattle.iscsi_pdu.specs.declared.stamp.Stamp.{Stamp}
 use Rattle.iscsi_transfer.specs.Task.{TaskState, fault_of, due_ask, is_whole, with_data, command_fault}
-use Rattle.iscsi_transfer.specs.declared.task.Ask.{Ask}
+use Rattle.iscsi_transfer.specs.declared.progress.Ask.{Ask}
 use Rattle.iscsi_session.specs.declared.transfers.Transfer.{Transfer}
-use Rattle.iscsi_session.specs.declared.transfers.Drained.{Drained}
+use Rattle.iscsi_session.specs.Drained.{Drained, blanked}
 use Rattle.iscsi_session.specs.declared.verdict.Verdict.{Verdict}
 use Rattle.iscsi_session.specs.declared.verdict.Verdict.TheVariants.{Dropped, Violating, Feeding}
 use Rattle.iscsi_session.specs.Texts.{exchange_of}
@@ -93,7 +93,7 @@ transfer_of past k = record { header = (frame_of past.came k).header; task = tas
 
 -- the header of the function that waits for it, and the data
 abbrev pub drained_of : Past → Drain → Drained
-drained_of past d = record { function = (frame_of past.came d.function).header; transfer = transfer_of past d.command }
+drained_of past d = record { function = (frame_of past.came d.function).header; transfer = blanked (transfer_of past d.command) }
 
 unfoldable pub transfers_of : Past → TransferList
 transfers_of past = record {

@@ -9,7 +9,7 @@ use Rattle.iscsi_pdu.specs.declared.stamp.Stamp.{Stamp}
 use Rattle.iscsi_pdu.specs.DataOut.{no_transfer_tag}
 use Rattle.iscsi_transfer.specs.Payload as payloads
 use Rattle.iscsi_transfer.specs.Task.{TaskState, remembered as task_of, fault_of, due_ask, lacks_data, is_whole}
-use Rattle.iscsi_transfer.specs.declared.task.Ask.{Ask}
+use Rattle.iscsi_transfer.specs.declared.progress.Ask.{Ask}
 use Rattle.iscsi_transfer.specs.declared.fault.DataFault.{DataFault}
 use Rattle.iscsi_session.specs.Requests.{Request, Past, Drain, frame_of, is_in, unfinished, stamp, answering}
 

@@ -7,7 +7,7 @@ ghost use Rattle.iscsi_transfer.specs.Task.{command_fault, remembered as task_of
 ghost use Rattle.iscsi_session.specs.Transfers.{r2t_for};
 ghost use Rattle.iscsi_session.specs.declared.transfers.Transfer.{Transfer};
 ghost use Rattle.iscsi_session.specs.declared.verdict.Verdict.TheVariants.{Feeding};
-ghost use Rattle.iscsi_session.specs.Draining.{is_asked, is_awaited, awaited_in, awaits_in, is_draining, drain_with, drain_for, judged_drain, fed_drain, judged_in, fed_in, is_live_in, function_tag, lacks_for, telling_place, function_at, drains_without};
+ghost use Rattle.iscsi_session.specs.Draining.{is_asked, is_awaited, drained_for, awaited_in, awaits_in, is_draining, drain_with, drain_for, judged_drain, fed_drain, judged_in, fed_in, is_live_in, function_tag, lacks_for, telling_place, function_at, drains_without};
 ghost use Rattle.iscsi_session.specs.State.{bears, no_transfers, place_with, immediate_transfers, whole_at, payload_at, removed_at, place_for, begun_transfer, due_of, asking_place, r2t_at, asked_at, reaches_some, transfers_without};
 
 use crate::fault::Memory;
@@ -15,7 +15,7 @@ use crate::reach::Reach;
 use crate::verdict::Verdict;
 use iscsi_login::Values;
 use iscsi_pdu::{Frame, Header, R2t, Stamp};
-use iscsi_transfer::{Ask, DataFault, NO_TRANSFER_TAG, Task};
+use iscsi_transfer::{Ask, DataFault, NO_TRANSFER_TAG, Progress, Task};
 use std::alloc::Global;
 use std::marker::Model;
 
@@ -29,12 +29,26 @@ pub(crate) struct Transfer {
     sent: usize,
 }
 
-/// The data of a SCSI Command that was removed while an R2T was open, for which a function waits.
+/// How far the data of a SCSI Command has come that was removed while an R2T was open, and for which a function waits. The
+/// data itself is not kept.
 #[derive(Drop)]
 pub(crate) struct Drained {
     /// The header of the function.
     function: Header,
-    transfer: Transfer,
+    /// The header of the command.
+    header: Header,
+    progress: Progress,
+    /// How many R2Ts were sent for it.
+    sent: usize,
+}
+
+impl Model for Drained {
+    ghost use Rattle.iscsi_session.specs.Drained.{Drained};
+    ghost use Rattle.iscsi_session.specs.declared.transfers.Transfer.{Transfer};
+
+    ghost Value = { Drained };
+
+    ghost view = { λ d. record { function = d.function; transfer = record { header = d.header; task = d.progress; sent = d.sent } } };
 }
 
 /// The data of the SCSI Commands of a session.
@@ -80,6 +94,18 @@ impl Transfer {
         self.task.lacks_data() && self.due().is_none()
     }
 
+    /// It is removed, and this function waits for its data.
+    fn into_drained(self, function: Header) -> Drained
+        ensures { result ≡ drained_for function self }
+    {
+        Drained {
+            function,
+            header: self.header,
+            progress: self.task.into_progress(),
+            sent: self.sent,
+        }
+    }
+
     /// A function reaches it, and an R2T is open.
     fn is_awaited(&self, reach: &Reach) -> bool
         ensures { result ≡ is_awaited reach.now self.now }
@@ -93,14 +119,24 @@ impl Drained {
     fn is_draining(&self) -> bool
         ensures { result ≡ is_draining self.now }
     {
-        self.transfer.is_asked()
+        self.progress.lacks_data() && !self.is_due()
+    }
+
+    /// All that the open R2T asked for has come.
+    fn is_due(&self) -> bool
+        ensures { result ≡ is_some (due_of self.now.transfer) }
+    {
+        match self.progress.due() {
+            Some(ask) => ask.number as usize == self.sent,
+            None => false,
+        }
     }
 
     /// The command with this tag is drained here.
     fn drains(&self, tag: u32) -> bool
         ensures { result ≡ (is_draining self.now && bears tag self.now.transfer) }
     {
-        self.is_draining() && self.transfer.header.initiator_task_tag() == tag
+        self.is_draining() && self.header.initiator_task_tag() == tag
     }
 
     /// The function with this tag waits for it.
@@ -187,7 +223,7 @@ impl Transfers {
         let Some(place) = self.drain_of(frame.header.initiator_task_tag()) else {
             return Verdict::Dropped;
         };
-        match self.drains[place].transfer.task.fault_of(frame) {
+        match self.drains[place].progress.fault_of(frame) {
             Some(_) => Verdict::Violating,
             None => Verdict::Feeding,
         }
@@ -215,7 +251,7 @@ impl Transfers {
             return;
         };
         // It is lawful, so this does not fail.
-        let _ = self.drains[place].transfer.task.data_out(frame);
+        let _ = self.drains[place].progress.data_out(frame);
     }
 
     /// A SCSI Command that has just come is kept, with the data that it brings. Where an allocation fails nothing
@@ -324,10 +360,8 @@ impl Transfers {
             if reach.has(&self.list[place].header) {
                 let transfer = self.list.remove(place);
                 if transfer.is_asked() {
-                    self.drains.push_reserved(Drained {
-                        function: reach.function,
-                        transfer,
-                    });
+                    self.drains
+                        .push_reserved(transfer.into_drained(reach.function));
                 }
             } else {
                 place += 1;

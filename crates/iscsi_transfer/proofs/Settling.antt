@@ -12,7 +12,7 @@ use Rattle.iscsi_transfer.specs.Task.{TaskState, command_fault, unsolicited_limi
 use Rattle.iscsi_pdu.specs.ScsiCommand.{is_write}
 use Rattle.iscsi_login.specs.declared.values.Values.{Values}
 use Rattle.iscsi_transfer.proofs.Standing.{remembered-begun}
-use Rattle.iscsi_transfer.specs.declared.task.Ask.{Ask}
+use Rattle.iscsi_transfer.specs.declared.progress.Ask.{Ask}
 use Rattle.iscsi_transfer.specs.declared.fault.DataFault.{DataFault}
 use Rattle.iscsi_transfer.specs.declared.fault.DataFault.TheVariants as faults
 use Rattle.iscsi_transfer.specs.TaskLaws.{CommandIsWholeOrAsks, SequenceIsWholeOrAsks}

@@ -3,6 +3,7 @@ pub mod Fault
 pub mod DataIn
 pub mod Payload
 pub mod Task
+pub mod Counted
 pub mod Room
 pub mod Laws
 pub mod TaskLaws

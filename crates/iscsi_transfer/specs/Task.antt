@@ -1,5 +1,5 @@
 -- The rules of a command's data (RFC 7143 §11.7, §11.8), in terms of what is remembered of its past.
-use Rattle.std.specs.Prelude.{ℕ, ◌+◌, ◌-◌, ◌*◌, ◌/◌, min, List, ◌++◌, length, Bool, ◌&&◌, ◌||◌, not, ◌==◌, nat_lt, nat_le, Option, Some, None, if◌then◌else◌}
+use Rattle.std.specs.Prelude.{ℕ, ◌+◌, ◌-◌, ◌*◌, ◌/◌, min, List, ◌++◌, length, replicate, Bool, ◌&&◌, ◌||◌, not, ◌==◌, nat_lt, nat_le, Option, Some, None, if◌then◌else◌}
 use Rattle.iscsi_pdu.specs.Frames.{Frame}
 use Rattle.iscsi_pdu.specs.ScsiCommand.{is_write}
 use Rattle.iscsi_pdu.specs.DataOut.{no_transfer_tag, target_transfer_tag, data_sn, buffer_offset}
@@ -7,7 +7,7 @@ use Rattle.iscsi_login.specs.declared.values.Values.{Values}
 use Rattle.iscsi_transfer.specs.Payload.{Past, is_last, announces, is_open, payload, u, sequence_length, expected}
 use Rattle.iscsi_transfer.specs.declared.fault.DataFault.{DataFault}
 use Rattle.iscsi_transfer.specs.declared.fault.DataFault.TheVariants as faults
-use Rattle.iscsi_transfer.specs.declared.task.Ask.{Ask}
+use Rattle.iscsi_transfer.specs.declared.progress.Ask.{Ask}
 
 -- where the data of a command stands
 pub record TaskState : Type 0 where
@@ -127,3 +127,7 @@ with_data task out = record task {
   is_open = task.is_open && not (is_last out);
   sequence_length = if is_last out then 0 else task.sequence_length + 1;
 }
+
+-- the same without the data: zeros stand in its place
+abbrev pub blank : TaskState → TaskState
+blank task = record task { payload = replicate (length task.payload) 0 }

@@ -35,8 +35,10 @@
 mod data_in;
 mod fault;
 pub mod laws;
+mod progress;
 mod task;
 
 pub use data_in::{Piece, data_ins, piece_at, piece_count};
 pub use fault::DataFault;
-pub use task::{Ask, NO_TRANSFER_TAG, Task, command_fault};
+pub use progress::{Ask, NO_TRANSFER_TAG, Progress};
+pub use task::{Task, command_fault};

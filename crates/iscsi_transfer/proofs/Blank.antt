@@ -1,0 +1,46 @@
+-- Only how long the payload is counts for the rules of a command's data.
+use Rattle.std.proofs.Common.{◌≡◌, ℕ, ◌+◌, List, ◌++◌, length, replicate, Option, refl, sym, ap, ◌∙◌}
+use Rattle.std.proofs.lemmas.List.{length-append, length-replicate}
+use Rattle.iscsi_pdu.specs.Frames.{Frame}
+use Rattle.iscsi_transfer.specs.Counted.{most}
+use Rattle.iscsi_transfer.specs.Task.{TaskState, blank, lacks_data, due_ask, fault_of, with_data}
+
+pub long_of : (zeros items : List ℕ) → zeros ≡ replicate (length items) 0 → length zeros ≡ length items
+long_of zeros items e = ap length e ∙ length-replicate (length items) 0
+
+pub fault_same : (task : TaskState) (items : List ℕ) (out : Frame) → length task.payload ≡ length items
+    → fault_of (record task { payload = items }) out ≡ fault_of task out
+unfolding fault_of
+fault_same task items out long = rw (← long) refl
+
+pub with_same : (task : TaskState) (items : List ℕ) (out : Frame) → length task.payload ≡ length items
+    → record (blank (with_data task out)) { payload = items ++ out.body } ≡ with_data (record task { payload = items }) out
+unfolding with_data
+with_same task items out long = rw (length-append task.payload out.body, length-append items out.body, long) refl
+
+blank_long : (task : TaskState) → length task.payload ≡ length (blank task).payload
+blank_long task = sym (length-replicate (length task.payload) 0)
+
+pub fault_blank : (task : TaskState) (out : Frame) → fault_of (blank task) out ≡ fault_of task out
+fault_blank task out = fault_same task (blank task).payload out (blank_long task)
+
+pub lacks_blank : (task : TaskState) → lacks_data (blank task) ≡ lacks_data task
+lacks_blank task = rw (← blank_long task) refl
+
+pub due_blank : (task : TaskState) → due_ask (blank task) ≡ due_ask task
+due_blank task = rw (← blank_long task) refl
+
+pub with_blank : (task : TaskState) (out : Frame) → blank (with_data (blank task) out) ≡ blank (with_data task out)
+unfolding with_data
+with_blank task out = rw (length-append (blank task).payload out.body, length-append task.payload out.body, ← blank_long task) refl
+
+-- what does not change
+pub with_keeps : (task : TaskState) (out : Frame)
+    → most (blank (with_data task out)).first_burst (blank (with_data task out)).expected ≡ most task.first_burst task.expected
+unfolding with_data
+with_keeps task out = refl
+
+-- and how long it is
+pub with_zeros : (task : TaskState) (out : Frame) (n : ℕ) → length task.payload + length out.body ≡ n → (blank (with_data task out)).payload ≡ replicate n 0
+unfolding with_data
+with_zeros task out n e = ap (λ (k : ℕ). replicate k 0) (length-append task.payload out.body ∙ e)

@@ -1,0 +1,280 @@
+//! How far the data of a SCSI Command has come.
+
+ghost use Rattle.std.specs.Prelude.{◌≡◌, ◌+◌, ◌*◌, ◌^◌, ◌<◌, ◌≤◌, length, replicate, IfNone, IfErr, OnOk, OnErr, Some, None};
+ghost use Rattle.iscsi_transfer.specs.Payload.{announces, expected as expected_in};
+ghost use Rattle.iscsi_transfer.specs.Task.{TaskState, blank, fault_of as fault_in, with_data, due_ask, is_whole as is_whole_in, wanted as wanted_in, next_ask, sequence_tag, sequence_end, lacks_data};
+ghost use Rattle.iscsi_transfer.specs.Counted.{most};
+
+use crate::fault::DataFault;
+use iscsi_login::Values;
+use iscsi_pdu::Frame;
+use std::marker::Model;
+
+/// So many bytes are asked for at most.
+pub(crate) const MOST_WANTED: usize = 1_048_576;
+
+/// The Target Transfer Tag of unsolicited data (RFC 7143 §11.7.4). That of an R2T is below it.
+pub const NO_TRANSFER_TAG: u32 = 0xffff_ffff;
+
+/// A part of a command's data that is asked for by an R2T (RFC 7143 §11.8).
+#[derive(Clone, Copy, Debug, PartialEq, Eq)]
+pub struct Ask {
+    /// R2TSN: its place among the command's R2Ts, counted from 0.
+    pub number: u32,
+    /// Where it begins in the data, in bytes: the Buffer Offset.
+    pub offset: u32,
+    /// How many bytes are asked for: the Desired Data Transfer Length.
+    pub length: u32,
+}
+
+/// How far the data of one SCSI Command has come (RFC 7143 §4.2.4.2), without the data: in its place clauses see so many zeros.
+/// It is all that is kept of a command whose data is to be thrown away.
+#[derive(Drop)]
+pub struct Progress {
+    /// How many bytes have come.
+    length: usize,
+    /// How many bytes the command takes.
+    expected: usize,
+    first_burst: usize,
+    burst: usize,
+    /// How many bytes came unasked.
+    unsolicited: usize,
+    /// More unsolicited Data-Outs are to come.
+    is_open: bool,
+    /// How many Data-Outs of the open sequence have come.
+    sequence_length: usize,
+    /// The tag of the last R2T.
+    tag: u32,
+}
+
+impl Model for Progress {
+    ghost use Rattle.std.specs.Prelude.{replicate};
+    ghost use Rattle.iscsi_transfer.specs.Task.{TaskState};
+    ghost use Rattle.iscsi_transfer.specs.Counted.{IsCounted};
+
+    ghost Value = { TaskState };
+
+    ghost view = { λ t. record {
+      payload = replicate t.length 0;
+      expected = t.expected;
+      first_burst = t.first_burst;
+      burst = t.burst;
+      unsolicited = t.unsolicited;
+      is_open = t.is_open;
+      sequence_length = t.sequence_length;
+      tag = t.tag;
+    } };
+
+    ghost invariant = { IsCounted };
+}
+
+/// Behind the command unsolicited Data-Outs come: it has W and no F (RFC 7143 §11.3.1).
+pub(crate) fn announces(command: &Frame) -> bool
+    ensures { result ≡ announces command.now }
+{
+    command.header.is_write() && !command.header.is_final()
+}
+
+/// How many bytes the command takes from the initiator.
+pub(crate) fn expected(command: &Frame) -> usize
+    ensures value { result ≡ expected_in command.now }
+    ensures bound { result ≤ 4294967295 }
+{
+    if command.header.is_write() {
+        command.header.expected_transfer_length() as usize
+    } else {
+        0
+    }
+}
+
+impl Progress {
+    /// That of a SCSI Command that has just come.
+    pub(crate) fn begun(command: &Frame, values: &Values) -> Progress
+        requires burst { 1 ≤ values.now.max_burst_length }
+        requires short { length command.now.body ≤ 4294967295 }
+        ensures { result ≡ record {
+          payload = replicate (length command.now.body) 0;
+          expected = expected_in command.now;
+          first_burst = values.now.first_burst_length;
+          burst = values.now.max_burst_length;
+          unsolicited = length command.now.body;
+          is_open = announces command.now;
+          sequence_length = 0;
+          tag = 0xFFFFFFFF;
+        } }
+    {
+        let length = command.body.len();
+        Progress {
+            length,
+            expected: expected(command),
+            first_burst: values.first_burst_length as usize,
+            burst: values.max_burst_length as usize,
+            unsolicited: length,
+            is_open: announces(command),
+            sequence_length: 0,
+            tag: NO_TRANSFER_TAG,
+        }
+    }
+
+    /// How long the payload is to be.
+    fn wanted(&self) -> usize
+        ensures { result ≡ wanted_in self.now }
+    {
+        if self.expected <= MOST_WANTED {
+            self.expected
+        } else {
+            self.unsolicited
+        }
+    }
+
+    /// The unsolicited data has ended, and more is wanted.
+    pub fn lacks_data(&self) -> bool
+        ensures { result ≡ lacks_data self.now }
+    {
+        !self.is_open && self.length < self.wanted()
+    }
+
+    /// The number of the R2T whose burst the payload has come to.
+    fn next_number(&self) -> usize
+        ensures value { result ≡ (next_ask self.now).number }
+        ensures bound { self.now.unsolicited + result * self.now.burst < 2 ^ 63 }
+    {
+        (self.length - self.unsolicited) / self.burst
+    }
+
+    /// Where that burst begins.
+    fn next_offset(&self) -> usize
+        ensures value { result ≡ (next_ask self.now).offset }
+        ensures bound { result ≤ length self.now.payload }
+    {
+        self.unsolicited + self.next_number() * self.burst
+    }
+
+    /// The length of that burst.
+    fn next_length(&self) -> usize
+        ensures { result ≡ (next_ask self.now).length }
+    {
+        self.burst
+            .min(self.wanted().saturating_sub(self.next_offset()))
+    }
+
+    /// The Target Transfer Tag of the open sequence.
+    fn sequence_tag(&self) -> u32
+        ensures { result ≡ sequence_tag self.now }
+    {
+        if self.is_open {
+            NO_TRANSFER_TAG
+        } else {
+            self.tag
+        }
+    }
+
+    /// Where the open sequence ends at the latest.
+    fn sequence_end(&self) -> usize
+        ensures { result ≡ sequence_end self.now }
+    {
+        if self.is_open {
+            self.first_burst.min(self.expected)
+        } else {
+            self.next_offset() + self.next_length()
+        }
+    }
+
+    /// What the last frame made due: the next R2T, which is to be sent now, and then [`Progress::asked`] says
+    /// its tag.
+    pub fn due(&self) -> Option<Ask>
+        ensures { result ≡ due_ask self.now }
+    {
+        let offset = self.next_offset();
+        if !self.lacks_data() || self.sequence_length != 0 || offset != self.length {
+            return None;
+        }
+        Some(Ask {
+            number: self.next_number() as u32,
+            offset: offset as u32,
+            length: self.next_length() as u32,
+        })
+    }
+
+    /// The R2T that was due is sent, with this Target Transfer Tag.
+    pub fn asked(&mut self, tag: u32)
+        ensures { self.new ≡ record self.old { tag = tag } }
+    {
+        self.tag = tag;
+    }
+
+    /// What is wrong with a Data-Out of this command: the first of [`DataFault::TransferTag`],
+    /// [`DataFault::DataSn`], [`DataFault::BufferOffset`], [`DataFault::TooMuch`] and [`DataFault::Final`].
+    pub fn fault_of(&self, out: &Frame) -> Option<DataFault>
+        ensures { result ≡ fault_in self.now out.now }
+    {
+        self.judged(out)
+    }
+
+    /// The same; for a Data-Out with which nothing is wrong there is room.
+    #[tactic(auto, unfolding(crate::specs::Task::fault_of))]
+    pub(crate) fn judged(&self, out: &Frame) -> Option<DataFault>
+        ensures fault { result ≡ fault_in self.now out.now }
+        ensures counted { IfNone result (self.now.sequence_length ≤ 4294967295) }
+        ensures room { IfNone result (length self.now.payload + length out.now.body ≤ most self.now.first_burst self.now.expected) }
+    {
+        let is_expected = self.is_open || self.lacks_data();
+        let reached = self.length + out.body.len();
+        let end = self.sequence_end();
+        if !(is_expected && out.header.target_transfer_tag() == self.sequence_tag()) {
+            Some(DataFault::TransferTag)
+        } else if out.header.data_sn() as usize != self.sequence_length {
+            Some(DataFault::DataSn)
+        } else if out.header.buffer_offset() as usize != self.length {
+            Some(DataFault::BufferOffset)
+        } else if end < reached {
+            Some(DataFault::TooMuch)
+        } else if !self.is_open && out.header.is_final() != (reached == end) {
+            Some(DataFault::Final)
+        } else {
+            None
+        }
+    }
+
+    /// A Data-Out of this command comes whose data is thrown away: nothing changes where something is wrong with it
+    /// ([`Progress::fault_of`]).
+    pub fn data_out(&mut self, out: &Frame) -> Result<(), DataFault>
+        ensures ok { OnOk result (self.new ≡ blank (with_data self.old out.now)) }
+        ensures lawful { OnOk result (fault_in self.old out.now ≡ None) }
+        ensures fault { IfErr result (λ fault. fault_in self.old out.now ≡ Some fault) }
+        ensures err { OnErr result (self.new ≡ self.old) }
+    {
+        if let Some(fault) = self.judged(out) {
+            return Err(fault);
+        }
+        self.take(out);
+        Ok(())
+    }
+
+    /// A Data-Out is accepted.
+    #[tactic(auto, unfolding(crate::specs::Task::with_data))]
+    pub(crate) fn take(&mut self, out: &Frame)
+        requires counted { self.old.sequence_length ≤ 4294967295 }
+        requires room { length self.old.payload + length out.now.body ≤ most self.old.first_burst self.old.expected }
+        ensures { self.new ≡ blank (with_data self.old out.now) }
+    {
+        let is_final = out.header.is_final();
+        self.length += out.body.len();
+        if self.is_open {
+            self.unsolicited = self.length;
+            self.is_open = !is_final;
+        }
+        self.sequence_length = if is_final {
+            0
+        } else {
+            self.sequence_length + 1
+        };
+    }
+
+    /// The payload is whole: no unsolicited Data-Out is to come, and nothing is to be asked for.
+    pub fn is_whole(&self) -> bool
+        ensures { result ≡ is_whole_in self.now }
+    {
+        !self.is_open && self.length == self.wanted()
+    }
+}
