@@ -7,6 +7,7 @@ pub use Rattle.iscsi_target.specs.Stands
 pub mod Fault
 pub mod Log
 pub mod Told
+pub mod Script
 pub mod Entries
 pub mod Calls
 pub mod Ahead
@@ -15,3 +16,4 @@ pub mod Turn
 pub mod Progress
 pub mod ExamplesLog
 pub mod ExamplesAhead
+pub mod ExamplesScript

@@ -1,44 +1,27 @@
 //! Ports that follow a script, for tests.
 
-ghost use Rattle.std.specs.Prelude.{◌≡◌, ◌≤◌, ◌++◌, ◌∷◌, [], true, length, IfOk};
-ghost use Rattle.iscsi_serve.specs.Log.{Read, Wrote};
-ghost use Rattle.iscsi_serve.specs.Told.{carried_by, count_of};
+ghost use Rattle.std.specs.Prelude.{◌≡◌, ◌<◌, ◌≤◌, ◌++◌, ◌∷◌, [], true, length, take, None, Ok, IsOk, IfOk};
+ghost use Rattle.iscsi_serve.specs.Log.{Read, Wrote, Close};
+ghost use Rattle.iscsi_serve.specs.Told.{carried_by, count_of, accept_entry};
+ghost use Rattle.iscsi_serve.specs.Script.{place_at, input_at, read_told_at, write_told_at, HasRead, HasWritten, GoesOn, HasCome, KeepsOthers};
 ghost use Rattle.iscsi_serve.specs.Entries.{carried_view, entry_view, log_view};
 
 use crate::entry::{Carried, Entry};
 use crate::places::free_places;
 use crate::ports::Ports;
+use crate::script::Script;
 use crate::told::{Accepted, CONNECTIONS, Named, PortFault, Told};
 use std::alloc::{AllocError, Global};
 use std::collections::VecDeque;
-
-/// What a read or a write of a script tells.
-#[derive(Clone, Copy, Debug, PartialEq, Eq)]
-pub enum Step {
-    /// So many bytes at most: 0 where the call would wait.
-    Moves(usize),
-    End,
-    Fault,
-}
-
-/// What a connection brings, and how its reads and writes go. Behind the steps each call moves all
-/// that it can, and a read of what is used up would wait.
-#[derive(Debug, Drop)]
-pub struct Script {
-    /// The bytes that come on it.
-    pub input: Vec<u8>,
-    pub reads: VecDeque<Step>,
-    pub writes: VecDeque<Step>,
-}
 
 /// A listener with connections that follow scripts, and the log of what they told.
 #[derive(Debug, Drop)]
 pub struct MemPorts {
     alloc: Global,
     /// Those that have not been accepted yet, the next one first.
-    callers: VecDeque<Script>,
+    pub callers: VecDeque<Script>,
     /// By their numbers. The last place is for one for which no number is free.
-    connections: Vec<Option<Script>>,
+    pub connections: Vec<Option<Script>>,
     pub log: Vec<Entry>,
     /// Every entry of the log was kept: no allocation failed.
     pub tells: bool,
@@ -68,48 +51,28 @@ impl MemPorts {
     }
 }
 
-/// What a script says of the next call, which can move so many bytes.
-fn next_step(steps: &mut VecDeque<Step>, most: usize) -> Told
-    ensures { count_of result ≤ most }
+/// What the connection in this place gives to a read: a fault where there is none.
+fn read_of(place: &mut Option<Script>, buffer: &mut [u8]) -> Told
+    ensures count { count_of result ≤ length buffer.new }
+    ensures told { result ≡ read_told_at place.old (length buffer.old) }
+    ensures piece { take (count_of result) buffer.new ≡ take (count_of result) (input_at place.old) }
+    ensures left { GoesOn (λ script script_then. HasRead script script_then result) place.old place.new }
 {
-    match steps.pop_front() {
-        None => Told::Bytes(most),
-        Some(Step::Moves(count)) => Told::Bytes(count.min(most)),
-        Some(Step::End) => Told::End,
-        Some(Step::Fault) => Told::Fault,
+    match place {
+        Some(script) => script.read(buffer),
+        None => Told::Fault,
     }
 }
 
-/// What a connection gives to a read.
-fn give(script: &mut Script, buffer: &mut [u8]) -> Told
-    ensures { count_of result ≤ length buffer.new }
+/// How many bytes the connection in this place takes of a write: a fault where there is none.
+fn write_of(place: &mut Option<Script>, bytes: &[u8]) -> Told
+    ensures count { count_of result ≤ length bytes.now }
+    ensures told { result ≡ write_told_at place.old (length bytes.now) }
+    ensures left { GoesOn HasWritten place.old place.new }
 {
-    let most = script.input.len().min(buffer.len());
-    let told = next_step(&mut script.reads, most);
-    if let Told::Bytes(count) = told {
-        buffer[..count].copy_from_slice(&script.input.as_slice()[..count]);
-        script.input.drain(..count);
-    }
-    told
-}
-
-/// What the connection of a number gives to a read: a fault where there is none.
-fn read_of(connections: &mut [Option<Script>], c: usize, buffer: &mut [u8]) -> Told
-    ensures { count_of result ≤ length buffer.new }
-{
-    match connections.get_mut(c) {
-        Some(Some(script)) => give(script, buffer),
-        _ => Told::Fault,
-    }
-}
-
-/// How many bytes the connection of a number takes of a write: a fault where there is none.
-fn write_of(connections: &mut [Option<Script>], c: usize, bytes: &[u8]) -> Told
-    ensures { count_of result ≤ length bytes.now }
-{
-    match connections.get_mut(c) {
-        Some(Some(script)) => next_step(&mut script.writes, bytes.len()),
-        _ => Told::Fault,
+    match place {
+        Some(script) => script.write(bytes.len()),
+        None => Told::Fault,
     }
 }
 
@@ -184,7 +147,17 @@ impl Ports for MemPorts {
         Ok(named)
     }
 
-    fn accept(&mut self, c: usize) -> Result<Accepted, PortFault> {
+    fn accept(&mut self, c: usize) -> Result<Accepted, PortFault>
+        requires { c ≤ 64 }
+        ensures ok { IsOk result }
+        ensures log { self.new.tells ≡ true → log_view self.new.log.items ≡ log_view self.old.log.items ++ accept_entry c result ∷ [] }
+        ensures back { self.new.tells ≡ true → self.old.tells ≡ true }
+        ensures came { result ≡ Ok Accepted.Connection
+            → HasCome (place_at c self.new.connections.items) self.old.callers.items self.new.callers.items }
+        ensures nobody { result ≡ Ok Accepted.Nobody → (self.old.callers.items ≡ []) × (self.new.callers.items ≡ [])
+            × (self.new.connections ≡ self.old.connections) }
+        ensures others { KeepsOthers c self.old.connections.items self.new.connections.items }
+    {
         match self.callers.pop_front() {
             Some(script) => {
                 self.connections[c] = Some(script);
@@ -198,19 +171,50 @@ impl Ports for MemPorts {
         }
     }
 
-    fn read(&mut self, c: usize, buffer: &mut [u8]) -> Told {
-        let told = read_of(self.connections.as_mut_slice(), c, buffer);
+    #[tactic(auto, using(std::proofs::lemmas::List::get_or_read))]
+    fn read(&mut self, c: usize, buffer: &mut [u8]) -> Told
+        requires { c < 64 }
+        ensures count { count_of result ≤ length buffer.new }
+        ensures log { self.new.tells ≡ true
+            → log_view self.new.log.items ≡ log_view self.old.log.items ++ Read c (length buffer.new) (carried_by result buffer.new) ∷ [] }
+        ensures back { self.new.tells ≡ true → self.old.tells ≡ true }
+        ensures told { result ≡ read_told_at (place_at c self.old.connections.items) (length buffer.old) }
+        ensures piece { take (count_of result) buffer.new ≡ take (count_of result) (input_at (place_at c self.old.connections.items)) }
+        ensures goes_on { GoesOn (λ script script_then. HasRead script script_then result)
+            (place_at c self.old.connections.items) (place_at c self.new.connections.items) }
+        ensures others { KeepsOthers c self.old.connections.items self.new.connections.items }
+        ensures callers { self.new.callers ≡ self.old.callers }
+    {
+        let told = read_of(&mut self.connections[c], buffer);
         self.tells = keep_read(self.alloc, &mut self.log, c, told, buffer) && self.tells;
         told
     }
 
-    fn write(&mut self, c: usize, bytes: &[u8]) -> Told {
-        let told = write_of(self.connections.as_mut_slice(), c, bytes);
+    #[tactic(auto, using(std::proofs::lemmas::List::get_or_read))]
+    fn write(&mut self, c: usize, bytes: &[u8]) -> Told
+        requires { c < 64 }
+        ensures count { count_of result ≤ length bytes.now }
+        ensures log { self.new.tells ≡ true
+            → log_view self.new.log.items ≡ log_view self.old.log.items ++ Wrote c (length bytes.now) (carried_by result bytes.now) ∷ [] }
+        ensures back { self.new.tells ≡ true → self.old.tells ≡ true }
+        ensures told { result ≡ write_told_at (place_at c self.old.connections.items) (length bytes.now) }
+        ensures goes_on { GoesOn HasWritten (place_at c self.old.connections.items) (place_at c self.new.connections.items) }
+        ensures others { KeepsOthers c self.old.connections.items self.new.connections.items }
+        ensures callers { self.new.callers ≡ self.old.callers }
+    {
+        let told = write_of(&mut self.connections[c], bytes);
         self.tells = keep_write(self.alloc, &mut self.log, c, told, bytes) && self.tells;
         told
     }
 
-    fn close(&mut self, c: usize) {
+    fn close(&mut self, c: usize)
+        requires { c ≤ 64 }
+        ensures log { self.new.tells ≡ true → log_view self.new.log.items ≡ log_view self.old.log.items ++ Close c ∷ [] }
+        ensures back { self.new.tells ≡ true → self.old.tells ≡ true }
+        ensures closed { place_at c self.new.connections.items ≡ None }
+        ensures others { KeepsOthers c self.old.connections.items self.new.connections.items }
+        ensures callers { self.new.callers ≡ self.old.callers }
+    {
         self.connections[c] = None;
         self.tells = keep(&mut self.log, Entry::Close(c)) && self.tells;
     }
