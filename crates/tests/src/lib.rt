@@ -5,7 +5,13 @@
 #![tactic(auto)]
 
 #[cfg(test)]
+mod initiators;
+#[cfg(test)]
+mod one_disk;
+#[cfg(test)]
 mod reservations;
+#[cfg(test)]
+mod scripted;
 #[cfg(test)]
 mod serving;
 #[cfg(test)]
