@@ -1,7 +1,8 @@
 /* Makes calls of the C library fail in the program that this is loaded into (LD_PRELOAD).
  *
  *   FAIL_CALL    allocation, input (read of descriptor 0), file (read of another), output (write to 1),
- *                store (a read or write at a place of a file, or a sync of it), or accept
+ *                store (a read or write at a place of a file, a sync of it, or a change of its length), accept,
+ *                receive (a read of a connection), or send (a write to one)
  *   FAIL_NUMBER  which call of these fails, counted from 1 since the program's own start
  *   FAIL_ON      1: all calls behind it fail too
  *   FAIL_ERROR   errno of the failed call; 0: it reads or writes no byte and is no error
@@ -141,6 +142,26 @@ int fsync(int descriptor)
 int fdatasync(int descriptor)
 {
     return fails("store") ? -1 : (int)syscall(SYS_fdatasync, descriptor);
+}
+
+int ftruncate64(int descriptor, off_t length)
+{
+    return fails("store") ? -1 : (int)syscall(SYS_ftruncate, descriptor, length);
+}
+
+int ftruncate(int descriptor, off_t length)
+{
+    return ftruncate64(descriptor, length);
+}
+
+ssize_t recv(int connection, void *out, size_t count, int flags)
+{
+    return fails("receive") ? -1 : syscall(SYS_recvfrom, connection, out, count, flags, NULL, NULL);
+}
+
+ssize_t send(int connection, const void *bytes, size_t count, int flags)
+{
+    return fails("send") ? -1 : syscall(SYS_sendto, connection, bytes, count, flags, NULL, 0);
 }
 
 int accept4(int listener, struct sockaddr *address, socklen_t *length, int flags)

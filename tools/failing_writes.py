@@ -84,15 +84,16 @@ def sense_of(answer):
     return (segment[4] & 15, int.from_bytes(segment[14:16], "big")) if segment else None
 
 
-def check_disk(ended):
-    """Each command's blocks are as before or as it writes them, and it was answered where they are."""
+def check_disk(ended, lost=()):
+    """Each command's blocks are as before or as it writes them, and it was answered where they are, but for those whose
+    answers may be lost."""
     expected = bytearray(LENGTH)
     for command in COMMANDS:
         found = ended.disk[command.at:command.at + len(command.content)]
         answer, is_written = ended.answers[command.part], found == command.content
         if not is_written and found != bytes(len(found)):
             raise Failed(f"block {command.at // 512}: a part of a write is there")
-        if is_written and not answer and ended.status is None:
+        if is_written and not answer and ended.status is None and PARTS[command.part][0] not in lost:
             raise Failed(f"block {command.at // 512}: written, and not answered")
         if answer and answer[3] == 0 and not is_written:
             raise Failed(f"block {command.at // 512}: answered with GOOD, and not written")
@@ -105,6 +106,7 @@ def check_disk(ended):
 
 def check_starved(plain, ended):
     """Each initiator's answers are the first of those of the plain run. A program that ends has run out of memory."""
+    check_disk(ended)
     if ended.status not in (None, 3):
         raise Failed(f"the program ended with status {ended.status}")
     if ended.status is None and len(ended.closed) > 1:
@@ -117,6 +119,7 @@ def check_starved(plain, ended):
 def check_store(plain, ended):
     """The first answer that is not that of the plain run tells of a failed read or write; behind a failed write the
     disk is not ready, and behind a failed read it is."""
+    check_disk(ended)
     if ended.status is not None or None in ended.answers:
         raise Failed("a call on the disk failed, and a connection was closed")
     other = [sense_of(answer) for answer, wanted in zip(ended.answers, plain.answers) if answer != wanted]
@@ -125,6 +128,24 @@ def check_store(plain, ended):
     if other and (other[0] not in (READ_ERROR, WRITE_ERROR) or set(other[1:]) - {NOT_READY}
                   or other[0] == READ_ERROR and other[1:]):
         raise Failed(f"answered with {other}")
+
+
+def check_broken(plain, ended):
+    """A call on a connection failed: that one is closed, and was answered the first of what it is answered in the plain run.
+    The other one was answered all."""
+    check_disk(ended, lost=ended.closed)
+    if ended.status is not None or len(ended.closed) > 1:
+        raise Failed(f"status {ended.status}, closed: {sorted(ended.closed)}")
+    for (c, _), answer, wanted in zip(PARTS, ended.answers, plain.answers):
+        if answer != wanted and (answer is not None or c not in ended.closed):
+            raise Failed("an answer is not that of the plain run")
+
+
+def check_unchanged(plain, ended):
+    """The call was made again, and nothing else changed."""
+    check_disk(ended)
+    if ended.status is not None or ended.closed or ended.answers != plain.answers:
+        raise Failed("the run is not the plain run")
 
 
 class Writes:
@@ -144,7 +165,6 @@ class Writes:
 
         def checked(number):
             ended = run(SCRIPT, self.program, self.shim, number=number, **settings)
-            check_disk(ended)
             check(plain, ended)
             return ended.failures
 
@@ -154,4 +174,8 @@ class Writes:
 SWEEPS = [
     ("each allocation fails", lambda w: w.each(check_starved, call="allocation", error=errno.ENOMEM)),
     ("each call on the disk fails", lambda w: w.each(check_store, call="store", error=errno.EIO)),
+    ("each read of a connection fails", lambda w: w.each(check_broken, call="receive", error=errno.ECONNRESET)),
+    ("each write to a connection fails", lambda w: w.each(check_broken, call="send", error=errno.EPIPE)),
+    ("each read of a connection is interrupted", lambda w: w.each(check_unchanged, call="receive", error=errno.EINTR)),
+    ("each write to a connection is interrupted", lambda w: w.each(check_unchanged, call="send", error=errno.EINTR)),
 ]

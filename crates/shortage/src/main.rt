@@ -1,31 +1,32 @@
-//! Two initiators on one target while memory runs short: what each of them is answered.
+//! Initiators on one target while memory runs short: what each of them is answered.
 //!
-//! The initiators `a` and `b` log in on connections 0 and 1, and each sends two TEST UNIT READYs and a READ.
-//! Printed are, piece by piece,
+//! Each line of standard input names a connection, 0 or 1, and bytes that come on it, in hexadecimal digits. They reach a
+//! target `t1` with a disk, LUN 0, and a tape, LUN 1, in memory. Printed are, line by line,
 //!
 //! ```text
 //! 0 23870000     bytes of the target's answer on connection 0
 //! 0 starved      the target closed connection 0, since an allocation failed
 //! ```
 //!
-//! A test lets one allocation fail after the other, and looks at what the other initiator gets. Where
-//! the program itself has no memory for its own needs it ends with status 3.
+//! and an empty line behind each line that was read. A test lets one allocation fail after the other, and looks at what the
+//! other initiator gets. Where the program itself has no memory for its own needs it ends with status 3.
 #![tactic(auto)]
 
 use hex::FromHexError;
-use iscsi_target::{Config, Memory, Serial, Target, Unit, Units};
-use media_block::{BLOCK_LENGTH, Disk, NotOpened};
+use iscsi_target::{Config, Memory, Serial, Starved, Target, Unit, Units};
+use media_block::{BLOCK_LENGTH, Disk};
 use media_store::MemStore;
+use media_tape::Tape;
 use std::alloc::{AllocError, AllocFailed, Global};
-use std::io;
+use std::io::{self, ErrorKind, Input};
 use std::process::ExitCode;
 
 /// Why the program ends before its pieces do.
 enum Fault {
     OutOfMemory,
     Unopened,
-    Digits,
-    Output,
+    Line,
+    Stream,
 }
 
 impl From<Memory> for Fault {
@@ -40,8 +41,14 @@ impl From<scsi_unit::Memory> for Fault {
     }
 }
 
-impl From<NotOpened<MemStore>> for Fault {
-    fn from(_e: NotOpened<MemStore>) -> Fault {
+impl From<media_block::NotOpened<MemStore>> for Fault {
+    fn from(_e: media_block::NotOpened<MemStore>) -> Fault {
+        Fault::Unopened
+    }
+}
+
+impl From<media_tape::NotOpened<MemStore>> for Fault {
+    fn from(_e: media_tape::NotOpened<MemStore>) -> Fault {
         Fault::Unopened
     }
 }
@@ -59,64 +66,44 @@ impl<T: Drop> From<AllocFailed<T>> for Fault {
 }
 
 impl From<io::Error> for Fault {
-    fn from(_e: io::Error) -> Fault {
-        Fault::Output
+    fn from(e: io::Error) -> Fault {
+        match e.kind() {
+            ErrorKind::OutOfMemory => Fault::OutOfMemory,
+            _ => Fault::Stream,
+        }
     }
 }
 
-/// The pieces, in hexadecimal digits, and the connection of each.
-const PIECES: [(usize, &str); 8] = [
-    (
-        0,
-        "438700000000001d40000000000a00000000001000000000000000640000000000000000000000000000000000000000496e69746961746f724e616d653d61005461726765744e616d653d7400000000",
-    ),
-    (
-        1,
-        "438700000000001d40000000000b00000000001000000000000007d00000000000000000000000000000000000000000496e69746961746f724e616d653d62005461726765744e616d653d7400000000",
-    ),
-    (
-        0,
-        "0180000000000000000000000000000000000001000000000000006400000001000000000000000000000000000000000180000000000000000000000000000000000002",
-    ),
-    (
-        1,
-        "018000000000000000000000000000000000000900000000000007d00000000100000000000000000000000000000000",
-    ),
-    (
-        0,
-        "00000000000000650000000200000000000000000000000000000000",
-    ),
-    (
-        1,
-        "018000000000000000000000000000000000000a00000000000007d10000000200000000000000000000000000000000",
-    ),
-    (
-        0,
-        "01c000000000000000000000000000000000000300000200000000660000000028000000000000000100000000000000",
-    ),
-    (
-        1,
-        "01c000000000000000000000000000000000000b00000400000007d20000000028000000000000000200000000000000",
-    ),
-];
-
 /// The blocks of the disk.
-const BLOCKS: usize = 2;
+const BLOCKS: usize = 4096;
 
-/// A target `t` with one disk.
+/// The bytes that the tape takes, and its early-warning position.
+const CAPACITY: usize = 100_000;
+
+const EARLY: u64 = 90_000;
+
+fn disk(alloc: Global) -> Result<Unit<MemStore>, Fault> {
+    let store = MemStore::new(alloc, BLOCKS * BLOCK_LENGTH, BLOCKS * BLOCK_LENGTH)?;
+    let serial = Serial::new(String::from_str(alloc, "D0")?);
+    Ok(Unit::disk(alloc, 0, serial, Disk::open(store)?))
+}
+
+fn tape(alloc: Global) -> Result<Unit<MemStore>, Fault> {
+    let store = MemStore::new(alloc, 0, CAPACITY)?;
+    let serial = Serial::new(String::from_str(alloc, "T1")?);
+    let tape = Tape::open(store, CAPACITY as u64, EARLY)?;
+    Ok(Unit::tape(alloc, 1, serial, tape))
+}
+
+/// A target `t1` with a disk and a tape.
 fn target(alloc: Global) -> Result<Target<MemStore>, Fault> {
     let mut names = Vec::new(alloc);
-    names.push(String::from_str(alloc, "t")?)?;
-    let store = MemStore::new(alloc, BLOCKS * BLOCK_LENGTH, BLOCKS * BLOCK_LENGTH)?;
-    let mut disks = Vec::new(alloc);
-    disks.push(Unit::disk(
-        alloc,
-        0,
-        Serial::new(String::from_str(alloc, "D0")?),
-        Disk::open(store)?,
-    ))?;
+    names.push(String::from_str(alloc, "t1")?)?;
+    let mut both = Vec::new(alloc);
+    both.push(disk(alloc)?)?;
+    both.push(tape(alloc)?)?;
     let mut units = Vec::new(alloc);
-    units.push(Units::new(alloc, disks)?)?;
+    units.push(Units::new(alloc, both)?)?;
     let config = Config {
         listen: String::new(alloc),
         targets: names,
@@ -139,7 +126,7 @@ fn print_answer(rt: &HostRuntime, target: &mut Target<MemStore>, c: usize) -> Re
     Ok(())
 }
 
-/// Gives a piece to the target, and prints what comes of it.
+/// Gives a piece to the target, and prints what comes of it on both connections.
 fn bring(
     rt: &HostRuntime,
     target: &mut Target<MemStore>,
@@ -149,15 +136,20 @@ fn bring(
     let piece = match hex::decode(rt.alloc(), digits) {
         Ok(piece) => piece,
         Err(FromHexError::OutOfMemory) => return Err(Fault::OutOfMemory),
-        Err(_) => return Err(Fault::Digits),
+        Err(_) => return Err(Fault::Line),
     };
-    if c < 64 && target.is_open(c) && target.feed(c, piece.as_slice()).is_err() {
-        println!(rt; "{c} starved")?;
+    if c < 64 && target.is_open(c) {
+        if let Err(Starved { connection }) = target.feed(c, piece.as_slice()) {
+            println!(rt; "{connection} starved")?;
+        }
     }
-    print_answer(rt, target, c)
+    print_answer(rt, target, 0)?;
+    print_answer(rt, target, 1)?;
+    println!(rt; "")?;
+    Ok(())
 }
 
-/// Puts both initiators' pieces through one target.
+/// Puts the lines of standard input through one target.
 fn run(rt: &HostRuntime) -> Result<(), Fault> {
     let mut target = target(rt.alloc())?;
     for c in 0..2 {
@@ -165,8 +157,13 @@ fn run(rt: &HostRuntime) -> Result<(), Fault> {
             let _ = target.open(c);
         }
     }
-    for (c, digits) in PIECES {
-        bring(rt, &mut target, c, digits)?;
+    for line in rt.lines(rt.alloc()) {
+        let line = line?;
+        match line.as_str().split_once(' ') {
+            Some(("0", digits)) => bring(rt, &mut target, 0, digits)?,
+            Some(("1", digits)) => bring(rt, &mut target, 1, digits)?,
+            _ => return Err(Fault::Line),
+        }
     }
     Ok(())
 }
@@ -175,6 +172,6 @@ fn main(rt: HostRuntime) -> ExitCode {
     match run(&rt) {
         Ok(()) => ExitCode::from(0),
         Err(Fault::OutOfMemory) => ExitCode::from(3),
-        Err(Fault::Unopened | Fault::Digits | Fault::Output) => ExitCode::from(1),
+        Err(Fault::Unopened | Fault::Line | Fault::Stream) => ExitCode::from(1),
     }
 }
