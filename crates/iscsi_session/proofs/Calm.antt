@@ -1,5 +1,5 @@
 -- Where no store of a target failed, its sessions do what they do where none failed at all.
-use Rattle.std.proofs.Common.{◌≡◌, ℕ, zero, suc, List, [], ◌∷◌, length, Bool, true, false, not, cond, Option, Some, refl, sym, ap, ◌∙◌, subst}
+use Rattle.std.proofs.Common.{◌≡◌, ℕ, zero, suc, List, [], ◌∷◌, length, Bool, true, false, not, cond, Option, Some, refl, sym, ap, ◌∙◌}
 use Rattle.std.specs.Prelude.{drop, ⊤}
 use Rattle.scsi_unit.specs.CameOut.{CameOut, AsDefined}
 use Rattle.iscsi_pdu.specs.Frames.{Frame}
@@ -7,7 +7,7 @@ use Rattle.iscsi_session.specs.Requests.{Past, frame_of, due, queue}
 use Rattle.iscsi_session.specs.Transfers.{payload_of, asking}
 use Rattle.iscsi_session.specs.Functions.{drained_functions}
 use Rattle.iscsi_session.specs.Commands.{carried_out}
-use Rattle.iscsi_session.specs.Comings.{Coming, TargetUnits, lend, is_for, next_coming, IsCalm}
+use Rattle.iscsi_session.specs.Comings.{Coming, lend, is_for, next_coming, IsCalm}
 use Rattle.iscsi_session.specs.Steps.{Step, Judging, Taking, Asking, Answering, Doing, Work, reaches, take_step, judge, act, ask, tell, answered_command, finish, first_steps, one_by_one, waiting_in, act_all, ask_due, tell_due, taken_in, asked_in, served, ready, settled}
 
 -- ---- how commands come out

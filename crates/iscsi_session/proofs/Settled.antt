@@ -22,10 +22,11 @@ use Rattle.iscsi_session.specs.Answers.{data_sent, sent_pieces, data_in, data_an
 use Rattle.iscsi_session.specs.Commands.{carried_out}
 use Rattle.iscsi_session.specs.Transfers.{payload_of, is_whole_of}
 use Rattle.iscsi_session.specs.Steps.{is_doing, Step, Doing, Work, answered_command, finish, ready, ready_in, settled}
-use Rattle.iscsi_session.specs.Runs.{Output, Starts, Leaves, StepsFirst, Runs, Stops}
+use Rattle.iscsi_session.specs.Runs.{Output, output, Starts, Leaves, StepsFirst, Runs, Stops, IsSettled}
+use Rattle.iscsi_session.proofs.Came.{came_none}
 use Rattle.iscsi_session.proofs.Feeding.{whole_is, payload_is, first_unfinished}
 use Rattle.iscsi_session.proofs.Parts.{parts, queue_is}
-use Rattle.iscsi_session.proofs.Runs.{stands_of, leaves_answering, Ran, queue_count, ran_more, ran_idle, ran_failed, all_of, runs_as, doing_kind}
+use Rattle.iscsi_session.proofs.Runs.{stands_of, leaves_answering, Ran, none_ran, queue_count, ran_more, ran_idle, ran_failed, all_of, runs_as, doing_kind}
 
 -- ---- one answer of a command bears status
 
@@ -264,3 +265,12 @@ settle_stops turns old now next before waiting items target units middle after s
   of_kind = λ place. refl;
   leads = rw (same, is, also) runs;
 }
+
+-- ---- nothing can be done
+
+pub settled_is : (state : SessionState) → is_waiting state ≡ true → IsSettled state
+settled_is state waits units bytes = came_none state.params.target _ units units (λ comings.
+    all_settled 0 false state state state (output bytes []) (output bytes []) (output bytes []) (lend units comings) (lend units comings) (lend units comings)
+    (none_ran Doing ready finish queue_count queued_in queue_fits state (output bytes []) (lend units comings))
+    (λ work s. none_steps finish (ready work.past) work state (output bytes []) (lend units comings)
+    (none_ready work state (lend units comings) s waits) s.units) refl)

@@ -1,10 +1,11 @@
 -- What a call of a session comes to: its steps, all done, or done up to one that failed.
 use Rattle.std.specs.Prelude.{◌≡◌, ℕ, List, [], ◌∷◌, ◌++◌, flat_map, Bool, true, false, Option, Some, None, ⊤}
-use Rattle.iscsi_session.specs.Comings.{TargetUnits}
+use Rattle.scsi_unit.specs.Units.{UnitStates}
+use Rattle.iscsi_session.specs.Comings.{TargetUnits, CameAs}
 use Rattle.iscsi_pdu.specs.Answer.{spelling}
 use Rattle.iscsi_pdu.specs.declared.answer.Answer.{Answer}
 use Rattle.iscsi_session.specs.State.{SessionState, IsLawful, remembered}
-use Rattle.iscsi_session.specs.Steps.{Step, is_step, is_of, Work}
+use Rattle.iscsi_session.specs.Steps.{Step, is_step, is_of, Work, settled}
 
 -- the code stands where this work does, and its session goes on
 pub record Starts (work : Work) (state : SessionState) (target : TargetUnits) : Type 0 where
@@ -60,6 +61,11 @@ pub record Runs (run : (Step → Bool) → ℕ → Work → Work) (failed : Opti
   pub ends : (place : ℕ) (fails : Step → Bool) (work : Work) → FailsAs failed place fails → Starts work old units → (run fails place work).goes_on ≡ goes_on
   pub reached : (place : ℕ) (fails : Step → Bool) (work : Work) → FailsAs failed place fails → Starts work old units
       → IsReached failed place (run fails place work)
+
+-- a session of which no command can be done now, whatever its target's units are and whatever waits
+abbrev pub IsSettled : SessionState → Type 0
+IsSettled state = (units : UnitStates) (bytes : List ℕ)
+    → CameAs state.params.target (λ given after. Runs settled None true state state (output bytes []) (output bytes []) given after) units units
 
 -- an allocation failed before one of the steps, which are of this kind, and nothing of that step was done
 pub record Stops (is_kind : Step → Bool) (Leads : Option (ℕ → Step) → Type 0) : Type 0 where

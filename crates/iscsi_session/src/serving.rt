@@ -13,7 +13,7 @@ ghost use Rattle.iscsi_session.specs.Comings.{TargetUnits, CameAs};
 ghost use Rattle.iscsi_session.specs.Commands.{carried_out};
 ghost use Rattle.iscsi_session.specs.Steps.{Work, is_doing, is_serving, ready, finish, taken_in, asked_in, served, settled};
 ghost use Rattle.iscsi_session.specs.Weight.{IsAtRest, Eases};
-ghost use Rattle.iscsi_session.specs.Runs.{output, Starts, Runs, Stops, StepsFirst};
+ghost use Rattle.iscsi_session.specs.Runs.{output, Starts, Runs, Stops, StepsFirst, IsSettled};
 
 use crate::answers::{make_room, put_r2t};
 use crate::fault::Memory;
@@ -159,6 +159,19 @@ impl Session {
         let r2t = self.transfers.ask(stamp);
         put_r2t(out, r2t);
         Ok(())
+    }
+
+    /// No command can be done now: all that were taken are finished, or the first that is not waits for data. What
+    /// [`Session::settle`] would do is then nothing.
+    #[tactic(auto, using(crate::proofs::Settled::settled_is))]
+    pub fn is_settled(&self) -> bool
+        ensures value { result ≡ is_waiting self.now }
+        ensures settled { result ≡ true → IsSettled self.now }
+    {
+        match self.first() {
+            Some(_) => false,
+            None => true,
+        }
     }
 
     /// The commands that were taken are done on the target's units and answered, one after the other, up to

@@ -1,10 +1,9 @@
 -- How heavy a connection is after a call.
-use Rattle.std.proofs.Common.{◌≡◌, ℕ, ◌+◌, ◌*◌, ◌≤◌, List, [], ◌++◌, length, Bool, true, false, cond, refl, sym, ap, ◌∙◌, subst, arith}
-use Rattle.iscsi_pdu.specs.Frames.{Frame}
+use Rattle.std.proofs.Common.{◌≡◌, ℕ, ◌+◌, ◌≤◌, List, [], length, Bool, true, cond, refl, sym, ap, subst, arith}
 use Rattle.iscsi_session.specs.State.{SessionState}
-use Rattle.iscsi_session.specs.Weight.{weight_with, IsAtRest, Eases, Loads, most_added}
+use Rattle.iscsi_session.specs.Weight.{weight_with, IsAtRest, Eases, Loads}
 use Rattle.iscsi_target.specs.Machine.{LinkState, is_reading, shut_link}
-use Rattle.iscsi_target.specs.Bounded.{weight_in, weight, Rests, Weighs, Adds}
+use Rattle.iscsi_target.specs.Bounded.{weight_in, weight, Rests, Adds}
 use Rattle.iscsi_target.specs.declared.phase.Phase.{Phase}
 use Rattle.iscsi_target.specs.declared.phase.Phase.TheVariants as phases
 

@@ -1,15 +1,14 @@
 -- How heavy the connection is that a frame came on.
-use Rattle.std.proofs.Common.{◌≡◌, ◌≢◌, ℕ, suc, ◌+◌, ◌-◌, ◌*◌, ◌<◌, ◌≤◌, ◌&&◌, List, [], ◌∷◌, ◌++◌, length, take, drop, replicate, Bool, true, false, Option, Some, None, Result, Ok, Err, refl, sym, ap, ◌∙◌, subst, arith, inl, inr}
+use Rattle.std.proofs.Common.{◌≡◌, ◌≢◌, ℕ, suc, ◌+◌, ◌-◌, ◌<◌, ◌≤◌, ◌&&◌, List, [], ◌∷◌, ◌++◌, length, take, drop, replicate, Bool, true, false, Option, Some, None, Result, Ok, Err, refl, sym, ap, ◌∙◌, subst, arith, inl, inr}
 use Rattle.std.proofs.lemmas.Bool.Decides.{eqb_tells}
 use Rattle.std.proofs.lemmas.Bool.{leb-true}
 use Rattle.std.proofs.lemmas.List.{length-append, length-take, length-set, length-replicate}
 use Rattle.iscsi_pdu.specs.Header.{header_length}
 use Rattle.iscsi_pdu.specs.Segment.{segment, padded}
-use Rattle.iscsi_pdu.specs.Frames.{Frame, frames, has_frame, first_frame, frame_length, rest}
+use Rattle.iscsi_pdu.specs.Frames.{Frame, frames, has_frame, first_frame}
 use Rattle.iscsi_pdu.specs.Answer.{spelling}
 use Rattle.iscsi_pdu.specs.LoginRequest.{tsih}
 use Rattle.iscsi_pdu.specs.LoginResponse.{login_text}
-use Rattle.iscsi_pdu.specs.declared.answer.Answer.{Answer}
 use Rattle.iscsi_pdu.specs.declared.answer.Answer.TheVariants as answers
 use Rattle.iscsi_pdu.specs.declared.login_response.LoginResponse.{LoginResponse}
 use Rattle.iscsi_pdu.specs.declared.login_response.LoginRefusal.{LoginRefusal}
@@ -20,21 +19,20 @@ use Rattle.iscsi_login.specs.Lookup.{Lookup}
 use Rattle.iscsi_login.specs.Session.{older}
 use Rattle.iscsi_login.specs.Login.{brought, step_of, begun_by, accepted, handle_with, login_response, reply_with, reply_to, reply_unless, reply_of, advanced}
 use Rattle.iscsi_login.specs.Rules.{refusal_of}
-use Rattle.iscsi_login.specs.declared.params.Params.{Params}
 use Rattle.iscsi_login.specs.declared.reply.Reply.{Reply}
 use Rattle.iscsi_login.specs.declared.reply.Reply.TheVariants.{GoOn, Full, Refused}
 use Rattle.iscsi_session.specs.State.{SessionState}
-use Rattle.iscsi_session.specs.Weight.{IsAtRest, Loads, most_added}
+use Rattle.iscsi_session.specs.Weight.{IsAtRest, Loads}
 use Rattle.iscsi_session.proofs.AtRest.{goes_on_by, begun_rests, begun_pending}
 use Rattle.iscsi_target.specs.World.{lookup_for}
-use Rattle.iscsi_target.specs.Machine.{LinkState, Machine, link_at, with_link, free_link, shut_link, is_reading, closed, sessions, gone_on_link, refused_link, begun_link, shut_older, joined_session, replied, logged_in}
+use Rattle.iscsi_target.specs.Machine.{LinkState, Machine, link_at, with_link, shut_link, closed, sessions, gone_on_link, refused_link, begun_link, shut_older, joined_session, replied, logged_in}
 use Rattle.iscsi_target.specs.Serving.{ended_unless}
-use Rattle.iscsi_target.specs.Bounded.{weight_in, weight, Rests, Weighs, Adds}
+use Rattle.iscsi_target.specs.Bounded.{weight, Rests, Adds}
 use Rattle.iscsi_target.specs.declared.phase.Phase.{Phase}
 use Rattle.iscsi_target.specs.declared.phase.Phase.TheVariants as phases
 use Rattle.iscsi_target.proofs.Held.{viewed}
 use Rattle.iscsi_target.proofs.Moving.{link_set, link_other}
-use Rattle.iscsi_target.proofs.Bounding.{adds_none, adds_then, adds_more, adds_shut, waiting_least, session_loads, ended_loads}
+use Rattle.iscsi_target.proofs.Bounding.{adds_none, adds_then, adds_shut, waiting_least, session_loads, ended_loads}
 
 -- ---- a connection closes
 

@@ -234,7 +234,7 @@ settle_does failed goes_on c target machine after framer phase before waiting st
 -- ---- a frame that a session serves
 
 -- no units were touched
-same_units : (machine : Machine) (c : ℕ) (target : Option ℕ) (link : LinkState) → called machine c target (units_at target machine.units) link
+pub same_units : (machine : Machine) (c : ℕ) (target : Option ℕ) (link : LinkState) → called machine c target (units_at target machine.units) link
     ≡ with_link machine c link
 same_units machine c None link = refl
 same_units machine c (Some target) link = ap (λ (all : List UnitStates). let m : Machine =

@@ -17,7 +17,7 @@ use Rattle.iscsi_session.specs.Steps.{Work, begun_work, served, settled}
 use Rattle.iscsi_session.proofs.Steps.{served_extends, settled_extends}
 use Rattle.iscsi_target.specs.History.{Mark, connections}
 use Rattle.iscsi_target.specs.Life.{Life, Closing, ended_in}
-use Rattle.iscsi_target.specs.World.{World, is_present, present, changed_first, changed, session_of, past_of, live, units_at, with_units, changed_units, left, close, answered, begun, begins, end_older, replied, fails, work_of, with_past, worked_on, worked, served_by, take_in, settled_by, settle_one, settle, settle_for, serve}
+use Rattle.iscsi_target.specs.World.{World, is_present, present, changed_first, changed, session_of, past_of, live, units_at, with_units, changed_units, left, close, answered, begun, begins, end_older, replied, fails, work_of, with_past, worked_on, worked, served_by, take_in, settled_by, settle_one, settle, settle_for}
 use Rattle.iscsi_target.proofs.IsolatedLives.{Selection, HasTarget, changed_in}
 use Rattle.iscsi_target.proofs.IsolatedWorlds.{UnitsAgree, units_own, with_own, Agree, present_in, present_out, session_target, past_target, session_of_past, older_same, older_on, one_target, same_targets}
 use Rattle.iscsi_target.proofs.IsolatedFits.{Keeps, keeps_ended, keeps_answered, keeps_begun, keeps_worked, fits_changed}

@@ -17,7 +17,7 @@ use Rattle.iscsi_session.specs.Steps.{Work, served, settled}
 use Rattle.iscsi_session.proofs.Steps.{served_extends, settled_extends}
 use Rattle.iscsi_target.specs.History.{Mark, connections}
 use Rattle.iscsi_target.specs.Life.{Life, Closing, ended_in}
-use Rattle.iscsi_target.specs.World.{Setting, World, present, changed, session_of, past_of, live, changed_units, left, close, answered, asked, begun, begins, requests_of, lookup_for, end_older, replied, log_in, fails, work_of, with_past, worked_on, worked, served_by, take_in, settled_by, settle_one, settle, settle_for, serve}
+use Rattle.iscsi_target.specs.World.{Setting, World, present, changed, session_of, past_of, live, changed_units, left, close, answered, asked, begun, begins, requests_of, lookup_for, end_older, replied, log_in, fails, work_of, with_past, worked_on, worked, served_by, settled_by, settle_one, settle, settle_for}
 use Rattle.iscsi_target.proofs.IsolatedLives.{Selection, HasTarget, changed_out}
 use Rattle.iscsi_target.proofs.IsolatedWorlds.{UnitsAgree, with_other, Agree, session_target, past_target, session_of_past, older_on, one_target}
 use Rattle.iscsi_target.proofs.IsolatedFits.{Keeps, keeps_ended, keeps_answered, keeps_asked, keeps_begun, keeps_worked, fits_changed}

@@ -4,12 +4,11 @@ use Rattle.std.specs.List.{fold}
 use Rattle.iscsi_pdu.specs.Header.{lun_field}
 use Rattle.iscsi_pdu.specs.Frames.{Frame}
 use Rattle.iscsi_login.specs.Session.{is_same_target}
-use Rattle.iscsi_login.specs.declared.params.Params.{Params}
-use Rattle.iscsi_session.specs.Requests.{Past, removing}
-use Rattle.iscsi_session.specs.Steps.{Work, begun_work, served}
+use Rattle.iscsi_session.specs.Requests.{Past}
+use Rattle.iscsi_session.specs.Steps.{Work}
 use Rattle.iscsi_target.specs.History.{Mark, connections}
 use Rattle.iscsi_target.specs.Life.{Life}
-use Rattle.iscsi_target.specs.World.{World, present, changed, past_of, changed_units, fails, work_of, with_past, worked_on, take_in, orders_by, orders_in, function_of, reaches_others, lost, losing, lost_by, lose_one, reset_by, reset, carry_out, carry_out_for, settle_for, serve}
+use Rattle.iscsi_target.specs.World.{World, present, past_of, changed_units, work_of, worked_on, take_in, orders_by, orders_in, function_of, reaches_others, losing, lost_by, lose_one, reset_by, reset, carry_out, carry_out_for, settle_for, serve}
 use Rattle.iscsi_target.proofs.IsolatedLives.{Selection, HasTarget}
 use Rattle.iscsi_target.proofs.IsolatedWorlds.{Agree, with_other, present_in, present_out, past_target, one_target}
 use Rattle.iscsi_target.proofs.IsolatedOutside.{out_cond, out_worked_on, out_served_by, out_settle_for}

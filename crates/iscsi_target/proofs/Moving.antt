@@ -15,7 +15,7 @@ use Rattle.iscsi_login.specs.declared.reply.Reply.{Reply}
 use Rattle.iscsi_login.specs.declared.reply.Reply.TheVariants.{GoOn, Full, Refused}
 use Rattle.iscsi_login.specs.LoginState.{IsTargetBelow}
 use Rattle.iscsi_target.specs.World.{left, units_at, with_units, changed_units, lookup_for}
-use Rattle.iscsi_target.specs.Machine.{LinkState, Machine, IsSound, IsSure, Feeds, link_at, with_link, is_free, is_reading, is_closing, free_link, shut_link, closed, session_in_phase, sessions, is_logging_in, gone_on_link, refused_link, begun_link, shut_older, replied, logged_in, LeadsBack}
+use Rattle.iscsi_target.specs.Machine.{LinkState, Machine, IsSure, Feeds, link_at, with_link, is_free, is_reading, is_closing, free_link, shut_link, closed, session_in_phase, sessions, is_logging_in, gone_on_link, refused_link, begun_link, shut_older, replied, logged_in, LeadsBack}
 use Rattle.iscsi_target.specs.Bounded.{Adds}
 use Rattle.iscsi_target.specs.Serving.{KeepsHalf, Moves, IsClosed, first_of, first_starved}
 use Rattle.iscsi_target.specs.declared.fault.Starved.{Starved}

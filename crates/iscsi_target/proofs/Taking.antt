@@ -14,7 +14,7 @@ use Rattle.iscsi_login.specs.Directory.{KnownTargets}
 use Rattle.iscsi_target.specs.History.{Point, Arriving, Before, AtEnd, Mark, Arrival, Whole, TooLong, arrivals, is_within, connection_limit}
 use Rattle.iscsi_target.specs.Life.{Life, reads}
 use Rattle.iscsi_target.specs.World.{Setting, World, present, reads_life, close, reaching, arrive}
-use Rattle.iscsi_target.specs.Machine.{LinkState, Machine, IsSound, IsSure, Feeds, KeepsPart, link_at, with_link, is_reading, closed, free_link, shut_link, GivesFrame, LeadsBack}
+use Rattle.iscsi_target.specs.Machine.{LinkState, Machine, IsSure, Feeds, KeepsPart, link_at, with_link, is_reading, closed, free_link, shut_link, GivesFrame, LeadsBack}
 use Rattle.iscsi_target.specs.Bounded.{Adds}
 use Rattle.iscsi_target.specs.Stands.{link_of}
 use Rattle.iscsi_target.specs.Serving.{Serves, IsClosed, Does, is_of_frame, has_place, place_of, is_among, first_of, with_half, KeepsHalf, Moves, Takes, TakesOne, TakesSome, TakesAll}

@@ -1,9 +1,9 @@
 -- A target that is put through events, whatever its stores do.
-use Rattle.std.proofs.Common.{◌≡◌, ℕ, List, [], ◌∷◌, ◌++◌, map, None, refl, sym, ap, ◌∙◌, subst}
+use Rattle.std.proofs.Common.{ℕ, List, [], ◌∷◌, ◌++◌, map, None, refl, ap, ◌∙◌, subst}
 use Rattle.std.proofs.lemmas.List.{map-append}
 use Rattle.iscsi_session.specs.Comings.{Coming, IsCalm}
 use Rattle.iscsi_target.specs.History.{Event, Open, Bytes, Gone, Happening, History, Mark, happening, plain, open_after}
-use Rattle.iscsi_target.specs.Isolation.{events_of, AreUnmarked, AreCalm}
+use Rattle.iscsi_target.specs.Isolation.{AreUnmarked, AreCalm}
 use Rattle.iscsi_target.specs.World.{Setting}
 use Rattle.iscsi_target.specs.Machine.{Machine, IsSoundAt, LeadsBack}
 use Rattle.iscsi_target.specs.Stands.{Stands, StandsAfter, with_sent}

@@ -1,31 +1,30 @@
 -- A piece of no more bytes than are wanted brings one frame at most, and each connection stays as light as it may be.
-use Rattle.std.proofs.Common.{◌≡◌, ◌≢◌, ℕ, zero, suc, ◌+◌, ◌-◌, ◌*◌, ◌<◌, ◌≤◌, max, ◌||◌, List, [], ◌∷◌, ◌++◌, length, drop, replicate, get_or, Bool, true, false, cond, ltb, Option, Some, None, refl, sym, ap, ◌∙◌, subst, arith, inl, inr, append-nil}
-use Rattle.std.proofs.lemmas.Bool.{ltb-true, ltb-false, le-leb, leb-true, leb-false, lt-leb}
+use Rattle.std.proofs.Common.{◌≡◌, ℕ, zero, suc, ◌+◌, ◌-◌, ◌*◌, ◌<◌, ◌≤◌, max, List, [], ◌++◌, length, drop, replicate, get_or, Bool, true, false, ltb, Option, Some, None, refl, sym, ap, ◌∙◌, subst, arith, inl, inr, append-nil}
+use Rattle.std.proofs.lemmas.Bool.{ltb-false, le-leb, lt-leb}
 use Rattle.std.proofs.lemmas.Bool.Decides.{eqb_tells, leb_tells}
-use Rattle.std.proofs.lemmas.List.{length-append, length-drop, length-set, get_or_append_left, nil_from_length}
+use Rattle.std.proofs.lemmas.List.{length-append, length-drop, get_or_append_left, nil_from_length}
 use Rattle.iscsi_pdu.specs.Header.{header_length, additional_length, data_length}
 use Rattle.iscsi_pdu.specs.Frames.{Frame, frames, rest, has_header, has_frame, is_long, first_frame, frame_length, missing, wanted}
-use Rattle.iscsi_pdu.proofs.Frames.{no_frame, has_frame-true, has_frame-from, is_long-from, frame_length-header, frames_none, frames_step, rest_none, rest_step}
+use Rattle.iscsi_pdu.proofs.Frames.{no_frame, has_frame-from, is_long-from, frame_length-header, frames_step, rest_step}
 use Rattle.iscsi_pdu.proofs.Cuts.{frames_in_pieces}
 use Rattle.iscsi_login.specs.Directory.{KnownTargets}
 use Rattle.scsi_unit.specs.Units.{UnitStates}
 use Rattle.iscsi_session.specs.Weight.{request_weight, most_added}
 use Rattle.iscsi_session.proofs.AtRest.{few_pending}
-use Rattle.iscsi_target.specs.History.{History, Whole, TooLong, arrivals, connection_limit}
+use Rattle.iscsi_target.specs.History.{History, arrivals, connection_limit}
 use Rattle.iscsi_target.specs.Life.{Life, reads}
-use Rattle.iscsi_target.specs.World.{Setting, World, present, world}
+use Rattle.iscsi_target.specs.World.{Setting, present, world}
 use Rattle.iscsi_target.specs.Machine.{LinkState, Machine, link_at, with_link, free_link, shut_link, opened_link, sent_link, closed, new_machine, is_reading, is_closing, most_waiting, want_of}
-use Rattle.iscsi_target.specs.Stands.{Stands, StandsAt, IsShort, link_of, half_of}
+use Rattle.iscsi_target.specs.Stands.{Stands, IsShort, link_of, half_of}
 use Rattle.iscsi_target.specs.Serving.{Serves, TakesAll}
-use Rattle.iscsi_target.specs.Bounded.{most_weight, weight_in, weight, Rests, Weighs, Bounded, Adds, CallsKeepBounded}
+use Rattle.iscsi_target.specs.Bounded.{most_weight, weight_in, Rests, Weighs, Bounded, Adds, CallsKeepBounded}
 use Rattle.iscsi_target.specs.declared.phase.Phase.{Phase}
 use Rattle.iscsi_target.specs.declared.phase.Phase.TheVariants as phases
 use Rattle.iscsi_target.proofs.Linked.{link_is}
 use Rattle.iscsi_target.proofs.Standing.{nothing_long}
 use Rattle.iscsi_target.proofs.Moving.{link_set, link_other, closed_count}
 use Rattle.iscsi_target.proofs.Taking.{none_whole, some_whole, long_whole, no_bytes}
-use Rattle.iscsi_target.proofs.Bounding.{adds_none, adds_shut}
-use Rattle.iscsi_target.proofs.Heavier.{closed_loads}
+use Rattle.iscsi_target.proofs.Bounding.{adds_shut}
 
 -- ---- frames
 

@@ -8,7 +8,7 @@ use Rattle.iscsi_target.specs.History.{Point, Arriving, Before, AtEnd, Mark, is_
 use Rattle.iscsi_target.specs.World.{Setting, World, present, is_marked, arrive, settle_one, settle, settle_for}
 use Rattle.iscsi_target.specs.Machine.{LinkState, Machine, IsSound, IsSoundAt, LeadsBack, IsSure, Feeds, KeepsPart, link_at, is_reading, is_closing, closed}
 use Rattle.iscsi_target.specs.Bounded.{Adds}
-use Rattle.iscsi_target.specs.Stands.{IsQuiet, IsSent, IsFirst, Begins, machine_with, are_reached}
+use Rattle.iscsi_target.specs.Stands.{IsQuiet, IsSent, Begins, machine_with, are_reached}
 use Rattle.iscsi_target.specs.declared.fault.Starved.{Starved}
 
 -- As StandsAt, but of the bytes that are no whole frame yet only that these are kept.

@@ -69,6 +69,9 @@ impl<S: Store> Target<S> {
             return Ok(());
         };
         if is_same_target(session.params().target, Some(target)) {
+            if session.is_settled() {
+                return Ok(());
+            }
             let units = &mut self.units[target];
             return match session.settle(self.alloc, &mut link.waiting, units) {
                 Ok(()) => Ok(()),

@@ -1,6 +1,7 @@
-use Rattle.std.proofs.Common.{◌≡◌, true, false, ◌≢◌, ◌<◌, List, length, set, Some, None, refl, sym, ap, ◌∙◌, arith}
+use Rattle.std.proofs.Common.{◌≡◌, ℕ, Option, true, false, ◌≢◌, ◌<◌, List, length, set, Some, None, refl, sym, ap, ◌∙◌, arith}
 use Rattle.std.proofs.lemmas.List.{length-set, get_or-set_same}
 use Rattle.iscsi_session.specs.State.{SessionState}
+use Rattle.iscsi_target.specs.World.{units_at}
 use Rattle.iscsi_target.specs.Machine.{LinkState, Machine, link_at, closed, is_with, is_reading, is_logging_in, free_link}
 use Rattle.iscsi_target.specs.declared.phase.Phase.{Phase}
 use Rattle.iscsi_target.specs.declared.phase.Phase.TheVariants as phases
@@ -8,7 +9,7 @@ use Rattle.iscsi_target.proofs.Bounding.{session_adds}
 use Rattle.iscsi_target.proofs.Apart.{apart_none, apart_then, apart_as, apart_from, session_apart, closed_apart, with_session}
 use Rattle.iscsi_target.proofs.AtWork.{settle_kind}
 use Rattle.iscsi_target.proofs.Doing.{does_on, does_starved}
-use Rattle.iscsi_target.proofs.Held.{viewed, held_here, held_same, settles_none, called, settle_does, settle_moves, same_session, same_target, other_target, sound_there, units_here}
+use Rattle.iscsi_target.proofs.Held.{viewed, held_here, held_same, settles_none, called, settle_does, settle_moves, same_session, same_target, same_units, other_target, sound_there, units_here}
 use Rattle.iscsi_target.proofs.Moving.{moves_none, moves_as, moves_from, moves_then, moves_starved, starved_moves}
 use Rattle.iscsi_target.proofs.Sound.{closed_back, at_as}
 use Rattle.iscsi_target.proofs.target.Target.settle_one.Goals as goal
@@ -57,6 +58,34 @@ returns-clause-settles g c =
     (ap (λ p. p.target) c.params.ensures ∙ ap (λ (s : SessionState). s.params.target) state_is ∙ of)) in
     does_on _ _ _ None c.args.self.now c.args.self.now c.args.self.now _ refl (sym same)
     (settles_none c.args.self.now c.args.c c.args.target c.requires.in_range other)
+
+-- it has nothing to do
+pub returns-then-is_settled-clause-settles : goal.returns-then-is_settled-clause-settles
+returns-then-is_settled-clause-settles g c =
+    let machine : Machine = record {
+      directory = c.self.inside.directory;
+      units = c.self.inside.units.items;
+      links = c.self.inside.links.items;
+    } in
+    let link : viewed c.link.inside.framer c.link.inside.phase c.link.inside.waiting.items ≡ link_at machine c.args.c =
+    held_here c.self.inside.links.items c.args.c _ c.index_mut-link.result.now _ c.self.invariant.0 c.requires.in_range
+    c.index_mut-link.ensures.value c.link.view_is in
+    let target : c.in-FullFeature.session.params.target ≡ Some c.args.target = ap (λ p. p.target) (sym c.params.ensures)
+    ∙ same_target c.params.result.now.target c.args.target (sym c.is_same_target.ensures ∙ c.if-is_same_target.true) in
+    let below : c.args.target < length machine.units = (let is = ap (λ (m : Machine). length m.units) c.self.view_is in
+    let lt = c.requires.target in omega arith) in
+    let here = units_at (Some c.args.target) machine.units in
+    let then_ = viewed c.link.inside.framer (phases.FullFeature c.in-FullFeature.session) c.link.inside.waiting.items in
+    let runs = c.is_settled.ensures.settled c.if-is_settled.true here c.link.inside.waiting.items in
+    does_on _ _ _ None machine (called machine c.args.c (Some c.args.target) here then_) c.args.self.now _ c.self.view_is
+    (same_units machine c.args.c (Some c.args.target) then_)
+    (settle_does None true c.args.c c.args.target machine (called machine c.args.c (Some c.args.target) here then_) c.link.inside.framer
+    c.link.inside.phase c.link.inside.waiting.items c.link.inside.waiting.items
+    c.in-FullFeature.session c.in-FullFeature.session here here c.requires.in_range link c.in-FullFeature.is target
+    (ap (λ (t : Option ℕ). units_at t machine.units) target)
+    runs
+    (λ sound. runs.plain (sound_there machine (set machine.links c.args.c then_) c.args.target here below sound))
+    (λ place. refl) refl)
 
 pub returns-in-Ok-clause-settles : goal.returns-in-Ok-clause-settles
 returns-in-Ok-clause-settles g c =
