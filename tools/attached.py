@@ -308,11 +308,10 @@ def writes_on_after_its_connection_was_cut(lab):
 
 
 def must_be_complete(functions, code):
-    """The function was asked for and done; until functions are, it is answered that it is not supported."""
+    """The function was asked for and done."""
     responses = [response for function, response in functions if function == code]
     must(responses, ("it was not asked for", functions))
-    if responses[0] != COMPLETE:
-        raise Skipped(f"Task Management: function {code} is answered {responses[0]}")
+    must(responses[0] == COMPLETE, f"function {code} is answered {responses[0]}")
 
 
 def recovers_a_write_whose_data_is_not_asked_for(lab):
@@ -343,11 +342,17 @@ def takes_a_reset(option, code):
 
 
 def resets_while_it_writes(lab):
+    """Linux sends no data behind a reset (FastAbort), so one that waits for the data of an R2T is not answered.
+    Then the guest logs in again."""
     mark = begins_to_write(lab, 14)
     status, said = lab.guest.run(f"sg_reset --no-esc --device /dev/{lab.disk()}", LONG)
     ends_its_write(lab)
-    must_be_complete(lab.functions(mark), LUN_RESET)
-    must(status == 0, (status, said))
+    responses = [response for function, response in lab.functions(mark) if function == LUN_RESET]
+    must(responses, "it was not asked for")
+    if responses[0] is None:
+        must(lab.sent(mark, LOGIN), "it is not answered, and there was no login")
+        raise Skipped("Task Management: a reset waits for data that Linux does not send behind it")
+    must(responses[0] == COMPLETE and status == 0, (responses, status, said))
 
 
 def logs_out(lab):

@@ -116,8 +116,8 @@ class Relay:
             self.changed.notify_all()
 
     def cut(self):
-        """Ends each connection for both sides, wherever it is in a PDU."""
-        for end in (end for ends in self.ends for end in ends):
+        """Ends each connection that there is for both sides, wherever it is in a PDU."""
+        for end in [end for ends in self.ends for end in ends]:
             shut_down(end, socket.SHUT_RDWR)
 
 
