@@ -44,9 +44,11 @@ def command(program, run):
 def at_once(program, run, count, **settings):
     """Runs the first lines of a case, which are all there from the beginning."""
     sent = b"".join(step.sent for step in run.steps[:count])
-    with folder_with(run.files) as folder:
+    with folder_with(run.files) as folder, tempfile.TemporaryFile() as given:
+        given.write(sent)  # a pipe would take it in pieces, each of which wakes the program
+        given.seek(0)
         try:
-            ended = subprocess.run(**command(program, run), **settings, input=sent, cwd=folder,
+            ended = subprocess.run(**command(program, run), **settings, stdin=given, cwd=folder,
                                    capture_output=True, timeout=TIME_LIMIT, check=False)
         except subprocess.TimeoutExpired:
             raise TimeLimit from None
