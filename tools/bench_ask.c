@@ -1,0 +1,418 @@
+/* The asking end of a measurement on loopback: an initiator with one connection or many.
+
+       bench_ask port=N [NAME=VALUE ..]
+
+   It logs in on so many `connections` (1), each a session of its own, to the target whose name is `target` (t1). On
+   each it keeps `window` (1) commands in flight to the unit `lun` (0), until `count` were sent or the `milliseconds`
+   are over. Then it prints how many commands were answered, the seconds that these took, and the median and the 99th
+   percentile of the microseconds from the sending of a command to its answer.
+
+   kind=read, kind=write              READs or WRITEs of `length` (0) bytes at the front of a disk; TEST UNIT READYs
+                                      where they are 0
+   kind=read-on, kind=write-on        one behind the other, from the front of a disk on
+   kind=read-tape, kind=write-tape    records of so many bytes, from the front of a tape on
+   kind=read-short                    records of a tape, each of which may be shorter than what is asked for (SILI)
+
+   held=1     once it is logged in it prints "logged in" and waits for a line of its input, and once it has printed
+              what was answered it waits for the next, so that its sessions stay
+   stalled=1  it does not read the answers, but sends as many commands as there may be in flight
+   apart=1    a session sends nothing before all commands of the one before it are answered */
+
+#include "bench.h"
+#include <netinet/tcp.h>
+#include <pthread.h>
+#include <stdint.h>
+#include <sys/epoll.h>
+#include <sys/socket.h>
+#include <time.h>
+#include <unistd.h>
+
+enum { ROOM = 1 << 20, FIRST_BURST = 65536, SEGMENT = 8192, WINDOW = 64, TAGS = 1024, ATTENTIONS = 8 };
+enum { THREADS = 2, SAMPLES = 1 << 20, RESIDUAL = 0x06, HAS_STATUS = 0x01, IMMEDIATE = 0x40 };
+
+static const struct kind {
+    const char *name;
+    int writes, goes_on, is_tape, is_short;
+} kinds[] = {{"read", 0, 0, 0, 0},
+             {"write", 1, 0, 0, 0},
+             {"read-on", 0, 1, 0, 0},
+             {"write-on", 1, 1, 0, 0},
+             {"read-tape", 0, 0, 1, 0},
+             {"write-tape", 1, 0, 1, 0},
+             {"read-short", 0, 0, 1, 1}};
+
+static const struct kind *kind = kinds;
+static const char *target = "t1";
+static long port, lun, connections = 1, window = 1, count = 1L << 40, milliseconds = 3600000, length;
+static long held, stalled, apart;
+static const struct {
+    const char *name;
+    long *value, most;
+} options[] = {{"port", &port, 65535},
+               {"lun", &lun, 255},
+               {"connections", &connections, CONNECTIONS},
+               {"window", &window, WINDOW},
+               {"count", &count, 1L << 40},
+               {"milliseconds", &milliseconds, 3600000},
+               {"length", &length, ROOM},
+               {"held", &held, 1},
+               {"stalled", &stalled, 1},
+               {"apart", &apart, 1}};
+
+struct session {
+    int fd;
+    unsigned next; /* the number and the tag of the next command */
+    long sent, answered;
+    size_t segment;    /* how much data a PDU to the target may have */
+    size_t held, rest; /* how much of a header was read, and how much of its data is still to come */
+    unsigned char header[HEADER];
+    uint64_t began[TAGS]; /* when a command was sent, by its tag */
+};
+
+/* A thread, which works for some of the sessions. */
+struct worker {
+    pthread_t thread;
+    struct session *sessions;
+    long count, in_flight, answered, sampled;
+    uint64_t until;          /* no command is sent behind this time */
+    unsigned char *in, *out; /* what was read, and what is sent */
+    uint32_t *samples;       /* nanoseconds from each command to its answer */
+};
+
+static void refused(const char *what, const unsigned char *header)
+{
+    fprintf(stderr, "%s: PDU %02x %02x %02x %02x\n", what, header[0], header[1], header[2], header[3]);
+    exit(1);
+}
+
+static void put(int fd, const unsigned char *bytes, size_t size)
+{
+    while (size > 0) {
+        ssize_t n = send(fd, bytes, size, MSG_NOSIGNAL);
+        if (n <= 0)
+            fail("send");
+        bytes += n;
+        size -= (size_t)n;
+    }
+}
+
+static void get(int fd, unsigned char *bytes, size_t size)
+{
+    while (size > 0) {
+        ssize_t n = read(fd, bytes, size);
+        if (n <= 0)
+            fail("read");
+        bytes += n;
+        size -= (size_t)n;
+    }
+}
+
+static uint64_t nanoseconds(void)
+{
+    struct timespec now;
+    clock_gettime(CLOCK_MONOTONIC, &now);
+    return (uint64_t)now.tv_sec * 1000000000 + (uint64_t)now.tv_nsec;
+}
+
+/* Sends a PDU that has the next number, and reads the one that answers it: its header, and its data as a text. */
+static const char *exchange(struct session *session, unsigned char *pdu, size_t size)
+{
+    static unsigned char text[MOST + 1];
+    put_number(pdu, 16, session->next);
+    put_number(pdu, 24, session->next);
+    put(session->fd, pdu, size);
+    get(session->fd, session->header, HEADER);
+    if (behind(session->header) > MOST)
+        refused("too much data", session->header);
+    get(session->fd, text, behind(session->header));
+    text[behind(session->header)] = 0;
+    return (const char *)text;
+}
+
+/* Logs in, by the initiator port of this number, and notes how much data the target takes in a PDU. */
+static void login(struct session *session, int port_number)
+{
+    static const char limit[] = "MaxRecvDataSegmentLength=";
+    unsigned char pdu[HEADER + 512] = {IMMEDIATE | LOGIN, LOGGED_IN, [8] = 0x80, [21] = 1};
+    int size = 1 + snprintf((char *)pdu + HEADER, 512, "InitiatorName=a%cTargetName=%s%cSessionType=Normal%c%s%d",
+                            0, target, 0, 0, limit, MOST);
+    if (size > 512)
+        fail("the name of the target is too long");
+    put_number(pdu, 4, (size_t)size);
+    put_number(pdu, 10, (size_t)getpid() << 16 | (size_t)port_number);
+    const char *text = exchange(session, pdu, HEADER + behind(pdu));
+    if (opcode(session->header) != ACCEPTED || session->header[1] != LOGGED_IN || session->header[36] != 0)
+        refused("a login is refused", session->header);
+    session->segment = SEGMENT;
+    for (const char *key = text; key < text + behind(session->header); key += strlen(key) + 1)
+        if (strncmp(key, limit, strlen(limit)) == 0)
+            session->segment = smaller((size_t)atol(key + strlen(limit)), MOST);
+}
+
+/* Sends a command without data. Whether it is GOOD. */
+static int is_good(struct session *session, unsigned char operation)
+{
+    unsigned char command[HEADER] = {COMMAND, 0x81, [9] = (unsigned char)lun, [32] = operation};
+    exchange(session, command, HEADER);
+    session->next++;
+    return session->header[0] == RESPONSE && session->header[2] == 0 && session->header[3] == 0;
+}
+
+/* Begins a session whose unit is ready. A tape is rewound. */
+static void begin(struct session *session, int port_number)
+{
+    struct sockaddr_in address = {.sin_family = AF_INET, .sin_addr.s_addr = htonl(INADDR_LOOPBACK),
+                                  .sin_port = htons((unsigned short)port)};
+    int on = 1, told = 0;
+    session->fd = socket(AF_INET, SOCK_STREAM, 0);
+    if (connect(session->fd, (struct sockaddr *)&address, sizeof address) != 0)
+        fail("connect");
+    setsockopt(session->fd, IPPROTO_TCP, TCP_NODELAY, &on, sizeof on);
+    login(session, port_number);
+    while (!is_good(session, 0x00)) /* until its unit attentions are told */
+        if (++told > ATTENTIONS)
+            refused("the unit is not ready", session->header);
+    if (kind->is_tape && !is_good(session, 0x01))
+        refused("the tape is not rewound", session->header);
+}
+
+/* The bytes of a WRITE that come with its command. */
+static size_t immediate(const struct session *session)
+{
+    return kind->writes ? smaller((size_t)length, smaller(FIRST_BURST, session->segment)) : 0;
+}
+
+/* The header of the next command. */
+static void command_of(const struct session *session, unsigned char *command)
+{
+    memset(command, 0, HEADER);
+    command[0] = COMMAND;
+    command[1] = length == 0 ? 0x81 : kind->writes ? 0xa1 : 0xc1;
+    command[9] = (unsigned char)lun;
+    put_number(command, 4, immediate(session));
+    put_number(command, 16, session->next);
+    put_number(command, 20, (size_t)length);
+    put_number(command, 24, session->next);
+    if (length > 0 && kind->is_tape) {
+        put_number(command, 33, (size_t)length); /* of it the last three bytes, behind byte 1 of the CDB */
+        command[32] = kind->writes ? 0x0a : 0x08;
+        command[33] = kind->is_short ? 0x02 : 0;
+    } else if (length > 0) {
+        command[32] = kind->writes ? 0x2a : 0x28;
+        put_number(command, 34, kind->goes_on ? (size_t)(session->sent * length / BLOCK) : 0);
+        command[39] = (unsigned char)(length / BLOCK >> 8);
+        command[40] = (unsigned char)(length / BLOCK);
+    }
+}
+
+/* Sends commands until there are as many in flight as there may be. */
+static void send_commands(struct worker *worker, struct session *session)
+{
+    size_t each = HEADER + immediate(session), size = 0;
+    uint64_t now = nanoseconds();
+    if (now >= worker->until)
+        return;
+    for (; session->sent - session->answered < window && session->sent < count; session->sent++) {
+        command_of(session, worker->out + size);
+        session->began[session->next++ % TAGS] = now;
+        worker->in_flight++;
+        size += each;
+    }
+    put(session->fd, worker->out, size);
+}
+
+/* Sends what an R2T asks for. */
+static void send_data(struct worker *worker, struct session *session)
+{
+    const unsigned char *r2t = session->header;
+    size_t at = number(r2t, 40), end = at + number(r2t, 44);
+    for (size_t order = 0; at < end; order++) {
+        unsigned char *data = worker->out;
+        size_t part = smaller(end - at, session->segment);
+        memset(data, 0, HEADER);
+        data[0] = DATA_OUT;
+        data[1] = at + part == end ? FINAL : 0;
+        put_number(data, 4, part);
+        memcpy(data + 8, r2t + 8, 16); /* LUN and tags */
+        put_number(data, 36, order);
+        put_number(data, 40, at);
+        put(session->fd, data, HEADER + part);
+        at += part;
+    }
+}
+
+/* Takes an answer that is there as a whole. */
+static void answer(struct worker *worker, struct session *session, uint64_t now)
+{
+    const unsigned char *header = session->header;
+    int is_response = opcode(header) == RESPONSE, is_data = opcode(header) == DATA_IN;
+    if (opcode(header) == R2T)
+        send_data(worker, session);
+    if (opcode(header) == R2T || opcode(header) == NOP_IN || (is_data && (header[1] & HAS_STATUS) == 0))
+        return;
+    if ((!is_response && !is_data) || (is_response && header[2] != 0) || header[3] != 0)
+        refused("a command fails", header);
+    if (header[1] & RESIDUAL && !kind->is_short)
+        refused("a command has a residual", header);
+    session->answered++;
+    worker->answered++;
+    worker->in_flight--;
+    if (worker->sampled < SAMPLES)
+        worker->samples[worker->sampled++] = (uint32_t)(now - session->began[number(header, 16) % TAGS]);
+}
+
+/* Takes what was read, and sends as many commands as were answered. */
+static void take(struct worker *worker, struct session *session, size_t size)
+{
+    const unsigned char *in = worker->in;
+    uint64_t now = nanoseconds();
+    while (size > 0) {
+        size_t more = smaller(session->held < HEADER ? HEADER - session->held : session->rest, size);
+        if (session->held < HEADER) {
+            memcpy(session->header + session->held, in, more);
+            session->held += more;
+            session->rest = session->held == HEADER ? behind(session->header) : 0;
+        } else {
+            session->rest -= more;
+        }
+        in += more;
+        size -= more;
+        if (session->held == HEADER && session->rest == 0) {
+            session->held = 0;
+            answer(worker, session, now);
+        }
+    }
+    send_commands(worker, session);
+}
+
+/* Keeps commands in flight on these sessions. Where there is one, it waits for its bytes and nothing else. */
+static void *work(void *given)
+{
+    struct worker *worker = given;
+    struct epoll_event events[CONNECTIONS];
+    int poll = epoll_create1(0), ready = 1;
+    events[0].data.ptr = worker->sessions;
+    for (long k = 0; k < worker->count; k++) {
+        struct epoll_event one = {.events = EPOLLIN, .data.ptr = worker->sessions + k};
+        epoll_ctl(poll, EPOLL_CTL_ADD, worker->sessions[k].fd, &one);
+        send_commands(worker, worker->sessions + k);
+    }
+    while (worker->in_flight > 0 && !stalled) {
+        if (worker->count > 1)
+            ready = epoll_wait(poll, events, CONNECTIONS, -1);
+        for (int k = 0; k < ready; k++) {
+            struct session *session = events[k].data.ptr;
+            ssize_t n = read(session->fd, worker->in, ROOM);
+            if (n <= 0)
+                fail("read");
+            take(worker, session, (size_t)n);
+        }
+    }
+    close(poll);
+    return NULL;
+}
+
+/* Lets as many threads work as are of use, each for a part of these sessions. */
+static void run(struct worker *workers, struct session *sessions, long those)
+{
+    int threads = those < THREADS ? (int)those : THREADS;
+    uint64_t until = nanoseconds() + (uint64_t)milliseconds * 1000000;
+    for (int k = 0; k < threads; k++) {
+        struct worker *worker = workers + k;
+        long first = those * k / threads;
+        worker->sessions = sessions + first;
+        worker->count = those * (k + 1) / threads - first;
+        worker->until = until;
+        if (pthread_create(&worker->thread, NULL, work, worker) != 0)
+            fail("pthread_create");
+    }
+    for (int k = 0; k < threads; k++)
+        pthread_join(workers[k].thread, NULL);
+}
+
+static int by_size(const void *one, const void *other)
+{
+    uint32_t a = *(const uint32_t *)one, b = *(const uint32_t *)other;
+    return (a > b) - (a < b);
+}
+
+/* Prints a line, and waits for one. */
+static void wait_behind(const char *line)
+{
+    char in[8];
+    puts(line);
+    fflush(stdout);
+    if (fgets(in, sizeof in, stdin) == NULL)
+        exit(0);
+}
+
+/* How many commands were answered, in how many seconds, and how long they took: half of them and all but one in a
+   hundred. */
+static const char *told(const struct worker *workers, double seconds)
+{
+    static uint32_t samples[THREADS * SAMPLES];
+    static char line[128];
+    long answered = 0, sampled = 0;
+    for (int k = 0; k < THREADS; k++) {
+        memcpy(samples + sampled, workers[k].samples, (size_t)workers[k].sampled * sizeof *samples);
+        sampled += workers[k].sampled;
+        answered += workers[k].answered;
+    }
+    qsort(samples, (size_t)sampled, sizeof *samples, by_size);
+    snprintf(line, sizeof line, "%ld %.6f %.2f %.2f", answered, seconds, samples[sampled / 2] / 1e3,
+             samples[sampled * 99 / 100] / 1e3);
+    return line;
+}
+
+/* Notes what a word says. Whether it says anything. */
+static int is_taken(const char *word)
+{
+    const char *value = strchr(word, '=');
+    size_t name = value != NULL ? (size_t)(value++ - word) : 0;
+    if (name == 6 && strncmp(word, "target", name) == 0) {
+        target = value;
+        return 1;
+    }
+    for (size_t k = 0; k < sizeof kinds / sizeof *kinds && name == 4 && strncmp(word, "kind", name) == 0; k++)
+        if (strcmp(value, kinds[k].name) == 0) {
+            kind = kinds + k;
+            return 1;
+        }
+    for (size_t k = 0; k < sizeof options / sizeof *options; k++)
+        if (name == strlen(options[k].name) && strncmp(word, options[k].name, name) == 0) {
+            *options[k].value = atol(value);
+            return *options[k].value >= 0 && *options[k].value <= options[k].most;
+        }
+    return 0;
+}
+
+int main(int words, char **word)
+{
+    int is_clear = words > 1;
+    for (int k = 1; k < words; k++)
+        is_clear &= is_taken(word[k]);
+    if (!is_clear || port == 0 || connections == 0 || length % BLOCK != 0 || (kind->writes && length > MOST)) {
+        fprintf(stderr, "bench_ask port=N [NAME=VALUE ..], by tools/bench_ask.c\n");
+        return 2;
+    }
+    struct session *sessions = room((size_t)connections * sizeof *sessions);
+    struct worker workers[THREADS] = {0};
+    for (int k = 0; k < THREADS; k++) {
+        workers[k].in = room(ROOM);
+        workers[k].out = room(WINDOW * (HEADER + FIRST_BURST) + MOST);
+        workers[k].samples = room(SAMPLES * sizeof *workers[k].samples);
+    }
+    for (int k = 0; k < connections; k++)
+        begin(sessions + k, k);
+    if (held)
+        wait_behind("logged in");
+    uint64_t began = nanoseconds();
+    for (long k = 0; k < (apart ? connections : 1); k++)
+        run(workers, sessions + k, apart ? 1 : connections);
+    const char *line = told(workers, (double)(nanoseconds() - began) / 1e9);
+    if (held)
+        wait_behind(line);
+    else
+        puts(line);
+    return 0;
+}
