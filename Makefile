@@ -16,8 +16,7 @@ demo-proved: build
 
 # Proves every crate, builds targetd and leaves it at crates/targetd/out/targetd.
 build:
-	@echo "== proving the crates side by side and building targetd. It took 76 minutes on four processors"
-	@echo "== that proved much else meanwhile"
+	@echo "== proving every crate and building targetd. It took 67 minutes on four processors of 2.5 GHz"
 	@./tools/build
 
 # Puts the program, its pages, an example and a systemd unit below DESTDIR and PREFIX. Nothing outside them is touched.
@@ -32,7 +31,8 @@ install:
 uninstall:
 	@./tools/install --remove "$(PREFIX)" "$(DESTDIR)"
 
-# The gate: the proofs, the wrong bodies, the cases, sockets, initiators, failing calls, the pages. About 40 minutes.
+# The gate: the proofs, the wrong bodies, the cases, sockets, initiators, failing calls, the pages. On four processors
+# it takes 40 to 90 minutes, by their speed.
 test:
 	@./tools/test
 
@@ -47,8 +47,8 @@ linux:
 	@test -x crates/targetd/out/targetd || ./tools/build
 	@./tools/linux
 
-# Requests each second and processor time, beside a plain C program and beside tgt, on this machine.
-# Installs the Debian packages libiscsi-bin, qemu-utils, qemu-block-extra and tgt where missing.
+# What commands cost and how fast they are answered, beside tgt and plain C programs, and what of that is aimed at.
+# Installs the Debian packages libiscsi-bin, qemu-utils, qemu-block-extra and tgt where missing. Takes about five minutes.
 bench:
 	@test -x crates/targetd/out/targetd || ./tools/build
 	@./tools/bench
