@@ -355,6 +355,22 @@ def resets_while_it_writes(lab):
     must(responses[0] == COMPLETE and status == 0, (responses, status, said))
 
 
+def resets_while_it_sends_what_was_asked_for(lab):
+    """With FastAbort = No Linux sends the data of its R2Ts behind a reset, which is then answered."""
+    lab.node("--logout")
+    lab.guest.waits_for("! ls -d /sys/block/sd*")
+    lab.node("-o update -n node.session.iscsi.FastAbort -v No")
+    lab.node("--login")
+    lab.guest.waits_for("test -b /dev/$(basename /sys/block/sd*) -a -c /dev/nst0")
+    for seed in range(15, 20):
+        mark = begins_to_write(lab, seed)
+        status, said = lab.guest.run(f"sg_reset --no-esc --device /dev/{lab.disk()}", LONG)
+        ends_its_write(lab)
+        must_be_complete(lab.functions(mark), LUN_RESET)
+        must(status == 0, (status, said))
+        must(not lab.sent(mark, LOGIN), "it logged in again")
+
+
 def logs_out(lab):
     mark = lab.mark()
     lab.node("--logout")
@@ -385,5 +401,6 @@ CHECKS = [
     takes_a_reset("--device", LUN_RESET),
     takes_a_reset("--target", TARGET_WARM_RESET),
     resets_while_it_writes,
+    resets_while_it_sends_what_was_asked_for,
     logs_out,
 ]
