@@ -1,5 +1,5 @@
 -- What is remembered after an answer, by what its request brought.
-use Rattle.std.proofs.Common.{◌≡◌, true, false, List, ℕ, refl, ap, sym, ◌∙◌}
+use Rattle.std.proofs.Common.{◌≡◌, true, false, refl, ap, sym, ◌∙◌}
 use Rattle.iscsi_pdu.specs.Frames.{Frame}
 use Rattle.iscsi_pdu.specs.LoginRequest.{is_continued}
 use Rattle.iscsi_login.specs.Directory.{KnownTargets}

@@ -1,5 +1,5 @@
 -- A login's requests one after the other: its stage, the text kept, the answer that is due.
-use Rattle.std.proofs.Common.{◌≡◌, ℕ, zero, suc, ◌+◌, ◌*◌, List, [], ◌∷◌, ◌++◌, length, drop, Bool, true, false, cond, not, ◌&&◌, ◌||◌, Option, Some, None, refl, sym, ap, ◌∙◌, subst, arith, append_assoc, append-nil}
+use Rattle.std.proofs.Common.{◌≡◌, ℕ, zero, suc, ◌+◌, ◌*◌, List, [], ◌∷◌, ◌++◌, length, drop, Bool, true, false, cond, ◌&&◌, ◌||◌, Option, Some, None, refl, sym, ap, ◌∙◌, arith, append_assoc, append-nil}
 use Rattle.std.specs.Prelude.{flat_map, nat_lt}
 use Rattle.std.specs.List.{fold}
 use Rattle.std.specs.Option.{option_or}
@@ -12,8 +12,8 @@ use Rattle.iscsi_pdu.specs.declared.login_response.LoginStep.{LoginStep}
 use Rattle.iscsi_pdu.specs.declared.login_response.LoginStep.TheVariants as steps
 use Rattle.iscsi_login.specs.Directory.{KnownTargets}
 use Rattle.iscsi_login.specs.LoginState.{LoginState, new_login}
-use Rattle.iscsi_login.specs.Rules.{is_due, joined, stage_with, interrupts, reads_text, pairs_with}
-use Rattle.iscsi_login.specs.Login.{longest_piece, kept_with, heard, brought, step_of, stage_after, answered, advanced, remembered}
+use Rattle.iscsi_login.specs.Rules.{is_due, stage_with, interrupts, reads_text, pairs_with}
+use Rattle.iscsi_login.specs.Login.{longest_piece, kept_with, heard, brought, stage_after, advanced, remembered}
 use Rattle.iscsi_login.specs.Laws.{step_told, agreed, NoneAgrees, StageIsLastAgreed, NoneIsWhole, KeptIsSinceWhole, DueIsTheRest}
 
 -- ---- what a request brings

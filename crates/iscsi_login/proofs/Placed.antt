@@ -1,11 +1,12 @@
 -- Pairs that an index of their keys finds.
-use Rattle.std.proofs.Common.{◌≡◌, ℕ, zero, suc, ◌+◌, ◌≤◌, Bool, true, false, not, cond, List, [], ◌∷◌, ◌++◌, length, drop, Option, Some, None, refl, sym, ap, ◌∙◌, arith}
-use Rattle.std.specs.Prelude.{slice_get, bytes_eq, is_some, option_map}
+use Rattle.std.proofs.Common.{◌≡◌, ℕ, zero, suc, ◌+◌, ◌≤◌, Bool, true, false, ◌||◌, cond, List, [], ◌∷◌, ◌++◌, length, drop, Option, Some, None, refl, sym, ap, ◌∙◌, arith}
+use Rattle.std.specs.Prelude.{slice_get, bytes_eq, is_some}
 use Rattle.std.proofs.lemmas.Bool.{false≢true}
 use Rattle.std.proofs.lemmas.List.{append-nil, drop_all, get_or_append_left, get_or-append-add, length-append}
 use Rattle.std.proofs.lemmas.Option.{slice_get_within, slice_get_read, get_or_from_slice_get}
 use Rattle.std.proofs.lemmas.Slice.Eq.{bytes_eq-Decides}
 use Rattle.iscsi_text.specs.Pairs.{Pair, value_of}
+use Rattle.std.specs.List.{list_any}
 use Rattle.iscsi_login.specs.Earlier.{IsPlaced, TellsPlaces}
 use Rattle.iscsi_login.proofs.Lists.{drop_at}
 
@@ -77,16 +78,29 @@ has_value (pair ∷ pairs) (suc at) key value e =
     let found = has_value pairs at key value e in
     by_test (bytes_eq key pair.0) (λ is. (pair.1, rw is refl)) (λ is. (found.0, rw is found.1))
 
--- whether a value was found
-pub not_found : {X Y : Type 0} (f : X → Y) (found : Option X) (known : Option Y) (none : Bool) → is_some found ≡ not none → none ≡ true
-    → option_map f found ≡ known → known ≡ None
-not_found f None known none tells is same = sym same
-not_found f (Some x) known none tells is same = absurd (false≢true (sym (rw is at tells)))
+-- whether a key was said
+pub not_said : (found : Option (List ℕ)) → is_some found ≡ false → found ≡ None
+not_said None e = refl
+not_said (Some value) e = absurd cc
 
-pub is_found : {X Y : Type 0} (f : X → Y) (found : Option X) (known : Option Y) (none : Bool) → is_some found ≡ not none → none ≡ false
-    → option_map f found ≡ known → (y : Y) × (known ≡ Some y)
-is_found f None known none tells is same = absurd (false≢true (rw is at tells))
-is_found f (Some x) known none tells is same = (f x, sym same)
+pub is_said : (found : Option (List ℕ)) → is_some found ≡ true → (value : List ℕ) × (found ≡ Some value)
+is_said None e = absurd cc
+is_said (Some value) e = (value, refl)
+
+-- of pairs that say nothing again none does
+pub none_again : (again : Pair → Bool) (pairs : List Pair) (at : ℕ) (pair : Pair) → slice_get pairs at ≡ Some pair → list_any again pairs ≡ false
+    → again pair ≡ false
+none_again again [] at pair is none = absurd cc
+none_again again (x ∷ xs) zero pair is none = ap again (sym (some_is x pair is)) ∙ none_of (again x) (list_any again xs) none
+  where
+    none_of : (a b : Bool) → (a || b) ≡ false → a ≡ false
+    none_of true b e = absurd cc
+    none_of false b e = refl
+none_again again (x ∷ xs) (suc at) pair is none = none_again again xs at pair is (rest_of (again x) (list_any again xs) none)
+  where
+    rest_of : (a b : Bool) → (a || b) ≡ false → b ≡ false
+    rest_of true b e = absurd cc
+    rest_of false b e = e
 
 -- ---- what is found of a key, where this place is told of it
 

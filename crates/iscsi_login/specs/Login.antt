@@ -1,5 +1,5 @@
 -- The dialogue of a login (RFC 7143 §6.3, §11.12, §11.13): what each request is answered, and what is remembered of it.
-use Rattle.std.specs.Prelude.{◌<◌, ℕ, ◌+◌, ◌^◌, ◌%◌, List, [], ◌∷◌, ◌++◌, length, take, drop, fold, Bool, true, false, ◌&&◌, ◌||◌, not, nat_lt, Option, Some, None, is_none, unwrap_or, option_map, codes, if◌then◌else◌, ⊤, ◌≡◌}
+use Rattle.std.specs.Prelude.{ℕ, ◌+◌, ◌^◌, ◌%◌, List, [], ◌∷◌, ◌++◌, length, take, drop, fold, Bool, true, false, ◌&&◌, ◌||◌, not, nat_lt, Option, Some, None, unwrap_or, option_map, codes, if◌then◌else◌, ⊤, ◌≡◌}
 use Rattle.std.specs.List.{filter_map}
 use Rattle.std.specs.Option.{option_or}
 use Rattle.iscsi_pdu.specs.Header.{initiator_task_tag}

@@ -24,7 +24,7 @@ pub(crate) fn joined(alloc: Global, kept: &[u8], more: &[u8]) -> Result<Vec<u8>,
 
 /// The key may be said again in a later text.
 #[tactic(auto, unfolding(crate::specs::Rules::is_name_key))]
-fn is_name(key: &str) -> bool
+pub(crate) fn is_name(key: &str) -> bool
     ensures { result ≡ is_name_key key.now }
 {
     key == "InitiatorName" || key == "TargetName" || key == "SessionType"

@@ -1,11 +1,12 @@
 //! How a login takes the text of its requests.
 
-ghost use Rattle.std.specs.Prelude.{◌≡◌, ◌≤◌, ℕ, length, take, None, IfOk, IfErr, OnOk, OnErr};
+ghost use Rattle.std.specs.Prelude.{◌≡◌, ◌≤◌, ℕ, length, take, false, None, IfOk, IfErr, OnOk, OnErr};
+ghost use Rattle.std.specs.List.{list_any};
 ghost use Rattle.iscsi_text.specs.Pairs.{text_of};
 ghost use Rattle.iscsi_login.specs.Directory.{KnownTargets};
 ghost use Rattle.iscsi_login.specs.Lookup.{lookup_in};
 ghost use Rattle.iscsi_login.specs.LoginState.{AsksBelow};
-ghost use Rattle.iscsi_login.specs.Rules.{text_fault, session_refusal, text_refusal, pairs_with, asked_by, Tells};
+ghost use Rattle.iscsi_login.specs.Rules.{text_fault, session_refusal, text_refusal, pairs_with, asked_by, is_again, Tells};
 ghost use Rattle.iscsi_login.specs.Login.{longest_piece, answer_pairs, tells_group, declares, kept_with, heard};
 
 use crate::answer::{answer_text, buffer, first_piece};
@@ -81,7 +82,8 @@ impl Login {
         asked: Option<Session>,
         due: BytesMut,
     ) -> Result<(), Memory>
-        requires { due.items ≡ text_of (answer_pairs (tells_group self.old.session pairs) (declares self.old header.now) pairs) }
+        requires due { due.items ≡ text_of (answer_pairs (tells_group self.old.session pairs) (declares self.old header.now) pairs) }
+        requires not_again { list_any (is_again self.old.earlier) pairs ≡ false }
         ensures ok { OnOk result ((directory : KnownTargets) → asked ≡ asked_by self.old.session directory header.now pairs
             → self.new ≡ heard directory self.old header.now pairs) }
         ensures due { OnOk result (self.new.due ≡ due.items) }
