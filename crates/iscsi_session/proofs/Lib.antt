@@ -34,7 +34,7 @@ mod Answered
 mod Ending
 pub mod Waiting
 pub mod Waits
-mod Settled
+pub mod Settled
 mod Served
 pub mod Steps
 pub mod Lawful

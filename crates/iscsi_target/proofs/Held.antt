@@ -9,8 +9,9 @@ use Rattle.std.proofs.lemmas.List.{length-set, set-get_or, get_or-set_same}
 use Rattle.scsi_unit.specs.Units.{UnitStates, AreSound, AreSure, numbers_of}
 use Rattle.iscsi_session.specs.Comings.{Coming, TargetUnits, CameAs, ArePlain, AreOf, IsCalm, is_for, lend}
 use Rattle.iscsi_session.proofs.Came.{plain_calm, others_calm}
+use Rattle.iscsi_session.proofs.Settled.{settled_is}
 use Rattle.iscsi_session.specs.Requests.{Past}
-use Rattle.iscsi_session.specs.State.{SessionState, remembered}
+use Rattle.iscsi_session.specs.State.{SessionState, remembered, is_waiting}
 use Rattle.iscsi_session.specs.Steps.{Step, Work, is_serving, served, settled}
 use Rattle.iscsi_session.specs.Runs.{Output, output, Runs, Stops}
 use Rattle.iscsi_login.specs.Directory.{KnownTargets}
@@ -19,7 +20,7 @@ use Rattle.iscsi_login.specs.LoginState.{IsTargetBelow}
 use Rattle.iscsi_target.specs.History.{Mark, connection_limit}
 use Rattle.iscsi_target.specs.Life.{Life, Phase, LoggingIn, FullFeature, Closing, Over, past_in}
 use Rattle.iscsi_target.specs.World.{Setting, World, present, past_of, units_at, with_units, settled_by, settle_one, settle_for}
-use Rattle.iscsi_target.specs.Machine.{LinkState, Machine, IsSound, IsSoundAt, LeadsBack, IsWithin, link_at, with_link, free_link, is_reading, is_logging_in, closed}
+use Rattle.iscsi_target.specs.Machine.{LinkState, Machine, IsSound, IsSoundAt, LeadsBack, IsWithin, link_at, with_link, free_link, is_reading, is_settled, is_logging_in, closed}
 use Rattle.iscsi_target.specs.Stands.{phase_for, link_of}
 use Rattle.iscsi_target.specs.Bounded.{Adds}
 use Rattle.iscsi_target.specs.Serving.{Serves, Moves, kept, is_done_at, is_done_by, is_taken_at, SettlesOne, SettlesFor, Takes, first_of, starved_by, ended_unless}
@@ -29,7 +30,7 @@ use Rattle.iscsi_target.proofs.Asking.{get_or_any}
 use Rattle.iscsi_target.proofs.Choices.{cond_true, cond_false}
 use Rattle.iscsi_target.proofs.Linked.{link_is, serves_world}
 use Rattle.iscsi_target.proofs.Working.{left_by}
-use Rattle.iscsi_target.proofs.Doing.{does_nothing}
+use Rattle.iscsi_target.proofs.Doing.{does_nothing, does_on}
 use Rattle.iscsi_target.proofs.AtWork.{marks_of, starved_if, Calls, settles_does, serve_kind}
 use Rattle.iscsi_target.proofs.Frames.{Finishes, takes_served}
 use Rattle.iscsi_target.proofs.Sound.{sound_at}
@@ -313,3 +314,46 @@ pub within_there : (machine : Machine) (c : ℕ) (state : SessionState) → c < 
 within_there machine c state lt is all =
     let within : IsWithin (length machine.units) (link_at machine c).phase = all c free_link lt in
     (subst (λ (p : CodePhase). IsWithin (length machine.units) p) is within).0
+
+-- ---- of its session no command can be done
+
+settled_in : (machine : Machine) (c target : ℕ) (half : List ℕ) (state : SessionState) (waiting : List ℕ) → c < connection_limit
+    → target < length machine.units → viewed half (phases.FullFeature state) waiting ≡ link_at machine c → state.params.target ≡ Some target
+    → is_waiting state ≡ true → SettlesOne target c None machine machine
+settled_in machine c target half state waiting lt below link same waits =
+    let held = viewed half (phases.FullFeature state) waiting in
+    let here = units_at (Some target) machine.units in
+    let after = called machine c (Some target) here held in
+    let runs = settled_is state waits here waiting in
+    does_on _ _ _ None machine after machine machine refl
+    (same_units machine c (Some target) held
+    ∙ ap (λ (links : List LinkState). let m : Machine = record machine { links = links } in m) (held_same machine.links c held link))
+    (settle_does None true c target machine after half (phases.FullFeature state) waiting waiting state state here here lt link refl same
+    (ap (λ (t : Option ℕ). units_at t machine.units) same) runs
+    (λ sound. runs.plain (sound_there machine (set machine.links c held) target here below sound)) (λ place. refl) refl)
+
+settled_by_target : (b : Bool) (machine : Machine) (c target : ℕ) (half : List ℕ) (state : SessionState) (waiting : List ℕ) → c < connection_limit
+    → target < length machine.units → viewed half (phases.FullFeature state) waiting ≡ link_at machine c
+    → is_same_target state.params.target (Some target) ≡ b → is_waiting state ≡ true → SettlesOne target c None machine machine
+settled_by_target true machine c target half state waiting lt below link e waits =
+    settled_in machine c target half state waiting lt below link (same_target state.params.target target e) waits
+settled_by_target false machine c target half state waiting lt below link e waits =
+    settles_none machine c target lt (λ other is of. other_target state.params.target target e
+    (ap (λ (s : SessionState). s.params.target) (same_session state other (ap (λ (l : LinkState). l.phase) link ∙ is)) ∙ of))
+
+settled_as : (machine : Machine) (c target : ℕ) (half : List ℕ) (phase : CodePhase) (waiting : List ℕ) → c < connection_limit
+    → target < length machine.units → (let link : LinkState = record { half = half; phase = phase; waiting = waiting } in link ≡ link_at machine c)
+    → is_settled phase ≡ true → SettlesOne target c None machine machine
+settled_as machine c target half (phases.FullFeature state) waiting lt below link e =
+    settled_by_target (is_same_target state.params.target (Some target)) machine c target half state waiting lt below link refl e
+settled_as machine c target half phases.Free waiting lt below link e =
+    settles_none machine c target lt (λ state is of. (let differ = ap (λ (l : LinkState). l.phase) link ∙ is in absurd cc))
+settled_as machine c target half (phases.Login login) waiting lt below link e =
+    settles_none machine c target lt (λ state is of. (let differ = ap (λ (l : LinkState). l.phase) link ∙ is in absurd cc))
+settled_as machine c target half phases.Closing waiting lt below link e =
+    settles_none machine c target lt (λ state is of. (let differ = ap (λ (l : LinkState). l.phase) link ∙ is in absurd cc))
+
+-- settling it does nothing
+pub settled_at : (machine : Machine) (c target : ℕ) → c < connection_limit → target < length machine.units → is_settled (link_at machine c).phase ≡ true
+    → SettlesOne target c None machine machine
+settled_at machine c target lt below e = let link = link_at machine c in settled_as machine c target link.half link.phase link.waiting lt below refl e

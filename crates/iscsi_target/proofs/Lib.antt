@@ -29,6 +29,7 @@ mod Apart
 mod Asking
 mod Frames
 mod Held
+mod Marked
 mod Heavier
 mod Carrying
 pub mod Standing

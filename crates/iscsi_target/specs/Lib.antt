@@ -31,6 +31,8 @@ pub mod World
 pub mod Output
 pub mod Events
 pub mod Machine
+pub mod Links
+pub mod Lending
 pub mod Bounded
 pub mod Stands
 pub mod Serving

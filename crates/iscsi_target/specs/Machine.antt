@@ -1,6 +1,6 @@
 -- What a clause sees of the target: for each connection the bytes that are no whole frame yet, its phase
 -- and what waits to be sent, and the units of each target.
-use Rattle.std.specs.Prelude.{◌≡◌, ◌≢◌, ◌⊎◌, All, ℕ, ◌+◌, ◌<◌, List, [], ◌∷◌, ◌++◌, length, drop, map, replicate, Bool, true, false, ◌||◌, not, nat_lt, Option, Some, None, slice_index_or, slice_set, if◌then◌else◌, ⊤}
+use Rattle.std.specs.Prelude.{◌≡◌, ◌≢◌, ◌⊎◌, All, ℕ, ◌+◌, ◌<◌, List, [], ◌∷◌, ◌++◌, length, drop, map, replicate, Bool, true, false, ◌||◌, ◌&&◌, ◌==◌, not, nat_lt, Option, Some, None, slice_index_or, slice_set, if◌then◌else◌, ⊤}
 use Rattle.iscsi_pdu.specs.Frames.{Frame, frames, rest, wanted}
 use Rattle.iscsi_pdu.specs.Answer.{spelling}
 use Rattle.iscsi_pdu.specs.declared.answer.Answer.{Answer}
@@ -14,7 +14,7 @@ use Rattle.iscsi_login.specs.LoginState.{LoginState, IsTargetBelow, AsksBelow, n
 use Rattle.iscsi_login.specs.Login.{advanced, reply_of}
 use Rattle.iscsi_login.specs.Values.{AreInRange}
 use Rattle.iscsi_session.specs.Requests.{begun as begun_past}
-use Rattle.iscsi_session.specs.State.{remembered}
+use Rattle.iscsi_session.specs.State.{remembered, is_waiting}
 use Rattle.iscsi_target.specs.World.{left, changed_units, lookup_for}
 use Rattle.iscsi_login.specs.declared.params.Params.{Params}
 use Rattle.iscsi_login.specs.declared.reply.Reply.{Reply}
@@ -78,6 +78,17 @@ is_closing Closing = true
 is_closing Free = false
 is_closing (Login login) = false
 is_closing (FullFeature session) = false
+
+-- own: of its session no command can be done, or it has none
+abbrev pub is_settled : Phase → Bool
+is_settled (FullFeature session) = is_waiting session
+is_settled Free = true
+is_settled (Login login) = true
+is_settled Closing = true
+
+-- own: nothing waits to be sent, and it is not closing
+abbrev pub is_silent : LinkState → Bool
+is_silent link = length link.waiting == 0 && not (is_closing link.phase)
 
 -- a login is under way
 abbrev pub is_logging_in : Phase → Bool

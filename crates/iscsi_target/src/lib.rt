@@ -14,6 +14,7 @@ mod fault;
 mod history;
 pub mod laws;
 mod link;
+mod links;
 mod orders;
 mod phase;
 mod run;

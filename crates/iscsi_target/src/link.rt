@@ -9,7 +9,7 @@ ghost use Rattle.iscsi_login.specs.Values.{AreInRange};
 ghost use Rattle.iscsi_login.specs.Lookup.{lookup_in};
 ghost use Rattle.iscsi_login.specs.LoginState.{LoginState, IsTargetBelow};
 ghost use Rattle.iscsi_login.specs.Login.{advanced, reply_of};
-ghost use Rattle.iscsi_target.specs.Machine.{LinkState, is_reading, is_logging_in, session_in_phase, free_link, opened_link, shut_link, begun_link, IsAnswered, IsWithin, sent_link};
+ghost use Rattle.iscsi_target.specs.Machine.{LinkState, is_reading, is_logging_in, session_in_phase, free_link, opened_link, shut_link, begun_link, IsAnswered, IsWithin, sent_link, is_settled, is_silent};
 ghost use Rattle.iscsi_target.specs.declared.phase.Phase.TheVariants.{Login as UnderWay};
 
 use crate::fault::Memory;
@@ -219,6 +219,23 @@ impl Link {
         if self.waiting.capacity() > MOST_ROOM_KEPT {
             self.waiting = BytesMut::new(alloc);
         }
+    }
+
+    /// No command of the session can be done, or there is none.
+    pub(crate) fn is_settled(&self) -> bool
+        ensures { result ≡ is_settled self.now.phase }
+    {
+        match &self.phase {
+            Phase::FullFeature(session) => session.is_settled(),
+            _ => true,
+        }
+    }
+
+    /// Nothing waits to be sent, and the connection is not closing.
+    pub(crate) fn is_silent(&self) -> bool
+        ensures { result ≡ is_silent self.now }
+    {
+        self.waiting.is_empty() && !self.phase.is_closing()
     }
 
     /// How many bytes are missing of the header, or of its frame.

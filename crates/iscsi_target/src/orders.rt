@@ -15,8 +15,9 @@ ghost use Rattle.iscsi_target.specs.History.{connections};
 ghost use Rattle.iscsi_target.specs.Machine.{Machine, KeepsApart};
 ghost use Rattle.iscsi_target.specs.Serving.{Moves, CarriesOut};
 
+use crate::links::CONNECTIONS;
 use crate::phase::Phase;
-use crate::target::{CONNECTIONS, Target};
+use crate::target::Target;
 use iscsi_login::is_same_target;
 use iscsi_pdu::{Header, TaskFunction};
 use iscsi_session::{Reach, Session};
@@ -152,7 +153,7 @@ impl<S: Store> Target<S> {
         if d == c {
             return;
         }
-        let link = &mut self.links[d];
+        let link = self.links.at_mut(d);
         let Phase::FullFeature(session) = &mut link.phase else {
             return;
         };

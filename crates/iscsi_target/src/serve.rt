@@ -8,8 +8,9 @@ ghost use Rattle.iscsi_login.specs.Session.{is_same_target as is_same};
 ghost use Rattle.iscsi_target.specs.Serving.{Settles, SettlesFor, SettlesOne, Moves, first_starved, first_of};
 
 use crate::fault::Starved;
+use crate::links::CONNECTIONS;
 use crate::phase::Phase;
-use crate::target::{CONNECTIONS, Target};
+use crate::target::Target;
 use iscsi_login::is_same_target;
 use iscsi_session::Memory;
 use media_store::Store;
@@ -64,14 +65,14 @@ impl<S: Store> Target<S> {
         ensures apart { KeepsApart target self.old self.new }
         ensures moves { (b : ℕ) → Moves b (first_starved result) self.old self.new }
     {
-        let link = &mut self.links[c];
+        if self.links.is_settled(c) {
+            return Ok(());
+        }
+        let link = self.links.at_mut(c);
         let Phase::FullFeature(session) = &mut link.phase else {
             return Ok(());
         };
         if is_same_target(session.params().target, Some(target)) {
-            if session.is_settled() {
-                return Ok(());
-            }
             let units = &mut self.units[target];
             return match session.settle(self.alloc, &mut link.waiting, units) {
                 Ok(()) => Ok(()),

@@ -1,13 +1,13 @@
 //! The target: all connections and all units, behind one state.
 
-ghost use Rattle.std.specs.Prelude.{◌≡◌, ◌<◌, ◌≤◌, ◌+◌, ◌++◌, ◌∷◌, ℕ, List, [], true, false, length, replicate, IsOk, IfOk, IfErr, IfSome, IfNone, OnOk, OnErr};
+ghost use Rattle.std.specs.Prelude.{◌≡◌, ◌<◌, ◌≤◌, ◌+◌, ◌++◌, ◌∷◌, ℕ, List, [], true, false, length, IsOk, IfOk, IfErr, IfSome, IfNone, OnOk, OnErr};
 ghost use Rattle.std.specs.Result.{IsErrOf};
 ghost use Rattle.iscsi_pdu.specs.Frames.{has_frame, is_long};
 ghost use Rattle.iscsi_pdu.specs.Header.{header_length};
 ghost use Rattle.iscsi_target.specs.Bounded.{Adds, Bounded};
 ghost use Rattle.iscsi_target.specs.History.{Open, Bytes, Gone, Mark, History, arrivals, plain, marked};
 ghost use Rattle.iscsi_target.specs.World.{Setting, present, world};
-ghost use Rattle.iscsi_target.specs.Machine.{LinkState, IsSound, LeadsBack, WhereSound, IsSure, Feeds, KeepsPart, free_link, opened_link, sent_link, new_machine, link_at, with_link, closed, joined_session, shut_older, begun, logged_in, is_logging_in, GivesFrame, is_reading, is_open_at, is_closing, want_of};
+ghost use Rattle.iscsi_target.specs.Machine.{LinkState, IsSound, LeadsBack, WhereSound, IsSure, Feeds, KeepsPart, free_link, opened_link, sent_link, new_machine, link_at, with_link, closed, joined_session, shut_older, begun, logged_in, is_logging_in, GivesFrame, is_reading, is_silent, is_open_at, is_closing, want_of};
 ghost use Rattle.iscsi_target.specs.declared.phase.Phase.TheVariants.{Login};
 ghost use Rattle.iscsi_login.specs.LoginState.{LoginState, IsTargetBelow};
 ghost use Rattle.iscsi_target.specs.Known.{known_in};
@@ -18,6 +18,7 @@ ghost use Rattle.iscsi_target.specs.Serving.{Takes, TakesOne, TakesAll, Moves, f
 use crate::config::Config;
 use crate::fault::{Memory, Starved};
 use crate::link::Link;
+use crate::links::{CONNECTIONS, Links};
 use crate::orders::luns_of;
 use crate::phase::Phase;
 use crate::serve::earlier_of;
@@ -28,9 +29,6 @@ use media_store::Store;
 use scsi_unit::Units;
 use std::alloc::Global;
 use std::marker::Model;
-
-/// Connections are numbered from 0 to one less than this.
-pub(crate) const CONNECTIONS: usize = 64;
 
 /// A connection with more bytes than this waiting is not read.
 const MOST_WAITING: usize = 1_048_576;
@@ -47,7 +45,7 @@ pub struct Target<S: Store> {
     pub(crate) alloc: Global,
     directory: Directory,
     pub(crate) units: Vec<Units<S>>,
-    pub(crate) links: Vec<Link>,
+    pub(crate) links: Links,
     /// The connection that is looked at next for room that it does not need.
     resting: usize,
 }
@@ -59,21 +57,10 @@ impl<S: Store> Model for Target<S> {
 
     ghost Value = { Machine };
 
-    ghost view = { λ t. record { directory = t.directory; units = t.units.items; links = t.links.items } };
+    ghost view = { λ t. record { directory = t.directory; units = t.units.items; links = t.links } };
 
-    ghost invariant = { λ t. (length t.links.items ≡ 64) × (length t.units.items ≡ length t.directory.names)
-        × All (λ (link : LinkState). IsWithin (length t.units.items) link.phase) t.links.items };
-}
-
-/// Every connection, none of them open.
-fn free_links(alloc: Global) -> Result<Vec<Link>, Memory>
-    ensures { IfOk result (λ links. links.items ≡ replicate 64 free_link) }
-{
-    let mut links = Vec::with_capacity(alloc, CONNECTIONS)?;
-    for _ in 0..CONNECTIONS {
-        links.push(Link::free(alloc))?;
-    }
-    Ok(links)
+    ghost invariant = { λ t. (length t.links ≡ 64) × (length t.units.items ≡ length t.directory.names)
+        × All (λ (link : LinkState). IsWithin (length t.units.items) link.phase) t.links };
 }
 
 impl<S: Store + Drop> Target<S> {
@@ -85,7 +72,7 @@ impl<S: Store + Drop> Target<S> {
         ensures stands { IfOk result (λ target. Stands (record { directory = known_in config; units = units.items }) (λ _. 0) target []) }
         ensures bounded { IfOk result (λ target. Bounded target) }
     {
-        let links = free_links(alloc)?;
+        let links = Links::free(alloc)?;
         Ok(Target {
             alloc,
             directory: Directory {
@@ -116,7 +103,7 @@ impl<S: Store> Target<S> {
             → Stands s (with_sent sent c 0) self.new (h ++ plain (Open c) ∷ []) }
         ensures bounded { Bounded self.old → Bounded self.new }
     {
-        self.links[c] = Link::opened(self.alloc, c);
+        self.links.put(c, Link::opened(self.alloc, c));
         Ok(())
     }
 
@@ -179,7 +166,7 @@ impl<S: Store> Target<S> {
         ensures bounded { Bounded self.old → Bounded self.new }
     {
         self.close(c);
-        self.links[c] = Link::free(self.alloc);
+        self.links.put(c, Link::free(self.alloc));
     }
 
     /// All that waits to be sent on a connection.
@@ -188,14 +175,14 @@ impl<S: Store> Target<S> {
         requires open { is_open_at self.now c ≡ true }
         ensures { result.now ≡ (link_at self.now c).waiting }
     {
-        self.links[c].out()
+        self.links.at(c).out()
     }
 
     /// Appends all that waits on a connection: nothing where it is not open.
     pub(crate) fn copy_out(&self, c: usize, bytes: &mut Vec<u8>) -> Result<(), Memory>
         ensures { OnOk result (bytes.new.items ≡ bytes.old.items ++ (link_at self.now c).waiting) }
     {
-        if let Some(link) = self.links.get(c) {
+        if let Some(link) = self.links.as_slice().get(c) {
             bytes.extend_from_slice(link.out())?;
         }
         Ok(())
@@ -215,7 +202,7 @@ impl<S: Store> Target<S> {
         ensures always { (s : Setting) (sent : ℕ → ℕ) (h : History) → Stands s sent self.old h → Stands s (with_sent sent c (sent c + n)) self.new h }
         ensures bounded { Bounded self.old → Bounded self.new }
     {
-        let link = &mut self.links[c];
+        let link = self.links.at_mut(c);
         link.sent(n);
         self.rest();
     }
@@ -227,8 +214,15 @@ impl<S: Store> Target<S> {
     {
         let c = self.resting % CONNECTIONS;
         self.resting = c + 1;
-        let link = &mut self.links[c];
-        link.rest(self.alloc);
+        self.links.rest(self.alloc, c);
+    }
+
+    /// Nothing waits to be sent on the connection, and it is not closing.
+    pub fn is_silent(&self, c: usize) -> bool
+        requires { c < 64 }
+        ensures { result ≡ is_silent (link_at self.now c) }
+    {
+        self.links.is_silent(c)
     }
 
     /// What waits is still sent, and nothing more is read.
@@ -237,7 +231,7 @@ impl<S: Store> Target<S> {
         requires open { is_open_at self.now c ≡ true }
         ensures { result ≡ is_closing (link_at self.now c).phase }
     {
-        self.links[c].phase.is_closing()
+        self.links.at(c).phase.is_closing()
     }
 
     /// The connection was opened and has not ended.
@@ -245,7 +239,7 @@ impl<S: Store> Target<S> {
         requires { c < 64 }
         ensures { result ≡ is_open_at self.now c }
     {
-        !self.links[c].phase.is_free()
+        !self.links.at(c).phase.is_free()
     }
 
     /// How many bytes to read next: those missing of a header, or of its frame. 0 where the
@@ -255,7 +249,7 @@ impl<S: Store> Target<S> {
         requires open { is_open_at self.now c ≡ true }
         ensures { result ≡ want_of (link_at self.now c) }
     {
-        let link = &self.links[c];
+        let link = self.links.at(c);
         if link.phase.is_closing() || link.out().len() > MOST_WAITING {
             return 0;
         }
@@ -268,7 +262,7 @@ impl<S: Store> Target<S> {
         ensures value { result ≡ is_reading (link_at self.now c).phase }
         ensures count { length self.now.links ≡ 64 }
     {
-        self.links[c].phase.reads()
+        self.links.at(c).phase.reads()
     }
 
     /// The connection closes, and its session ends.
@@ -278,7 +272,7 @@ impl<S: Store> Target<S> {
         ensures closed { self.new ≡ closed self.old c }
         ensures count { length self.old.links ≡ 64 }
     {
-        let link = &mut self.links[c];
+        let link = self.links.at_mut(c);
         if let Phase::FullFeature(session) = &link.phase {
             let params = session.params();
             if let Some(target) = params.target {
@@ -307,7 +301,7 @@ impl<S: Store> Target<S> {
         ensures ok { OnOk result (self.new ≡ with_link self.old c (record (link_at self.old c) { half = (link_at self.old c).half ++ piece.now })) }
         ensures err { OnErr result (self.new ≡ self.old) }
     {
-        let link = &mut self.links[c];
+        let link = self.links.at_mut(c);
         link.keep(piece)
     }
 
@@ -325,7 +319,7 @@ impl<S: Store> Target<S> {
         ensures err { OnErr result (self.new ≡ self.old) }
         ensures count { length self.old.links ≡ 64 }
     {
-        let link = &mut self.links[c];
+        let link = self.links.at_mut(c);
         link.next_frame()
     }
 
@@ -374,7 +368,7 @@ impl<S: Store> Target<S> {
         ensures part { KeepsPart c self.old self.new }
         ensures loads { length frame.header ≡ header_length → Adds 1 (link_at self.old c) (link_at self.new c) }
     {
-        let link = &mut self.links[c];
+        let link = self.links.at_mut(c);
         match &mut link.phase {
             Phase::Free => Ok(()),
             Phase::Closing => Ok(()),
@@ -444,7 +438,7 @@ impl<S: Store> Target<S> {
         ensures count { length self.old.links ≡ 64 }
     {
         let named = named(self.links.as_slice(), request.header.tsih())?;
-        let link = &mut self.links[c];
+        let link = self.links.at_mut(c);
         match link.log_in(request, &self.directory, &named)? {
             Some((response, session)) => self.begin(c, session, &Answer::LoginResponse(response)),
             None => Ok(()),
@@ -481,11 +475,11 @@ impl<S: Store> Target<S> {
         match session.target {
             Some(target) => {
                 let units = &mut self.units[target];
-                let link = &mut self.links[c];
+                let link = self.links.at_mut(c);
                 link.begin(self.alloc, session, answer, units)
             }
             None => {
-                let link = &mut self.links[c];
+                let link = self.links.at_mut(c);
                 link.begin_discovery(self.alloc, session, answer)
             }
         }
@@ -497,7 +491,7 @@ impl<S: Store> Target<S> {
         ensures { self.new ≡ shut_older before self.old }
     {
         if let Some(before) = before {
-            let link = &mut self.links[before];
+            let link = self.links.at_mut(before);
             link.shut();
         }
     }

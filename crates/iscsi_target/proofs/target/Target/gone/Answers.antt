@@ -1,4 +1,5 @@
-use Rattle.std.proofs.Common.{rules, length, subst, sym, ap, ◌∙◌, arith}
+use Rattle.std.proofs.Common.{List, rules, length, subst, sym, ap, ◌∙◌, arith}
+use Rattle.std.specs.Prelude.{All}
 use Rattle.std.proofs.lemmas.List.{length-set}
 use Rattle.std.proofs.lemmas.List.Elements.{All-set}
 use Rattle.iscsi_target.specs.Machine.{LinkState, Machine, IsWithin, with_link, closed, free_link}
@@ -12,9 +13,10 @@ pub invariant_of-self : goal.invariant_of-self
 invariant_of-self g c =
     let free : IsWithin (length c.self.inside.units.items) c.free.result.phase =
     subst (λ (l : LinkState). IsWithin (length c.self.inside.units.items) l.phase) (sym c.free.ensures) tt in (
-      length-set c.self.inside.links.items c.args.c c.free.result ∙ c.self.invariant.0,
+      ap (λ (links : List LinkState). length links) c.put.ensures ∙ length-set c.self.inside.links c.args.c c.free.result ∙ c.self.invariant.0,
       c.self.invariant.1,
-      All-set (λ (l : LinkState). IsWithin (length c.self.inside.units.items) l.phase) c.self.inside.links.items c.args.c c.free.result free c.self.invariant.2,
+      subst (λ (links : List LinkState). All (λ (l : LinkState). IsWithin (length c.self.inside.units.items) l.phase) links) (sym c.put.ensures)
+          (All-set (λ (l : LinkState). IsWithin (length c.self.inside.units.items) l.phase) c.self.inside.links c.args.c c.free.result free c.self.invariant.2),
     )
 
 pub returns-clause-sound : goal.returns-clause-sound

@@ -19,11 +19,11 @@ returns-in_err-response-clause-err g c =
     let machine : Machine = record {
       directory = c.self.inside.directory;
       units = c.self.inside.units.items;
-      links = c.self.inside.links.items;
+      links = c.self.inside.links;
     } in
-    let lt : c.args.c < length c.self.inside.links.items = (let below = c.requires.in_range in let count = c.self.invariant.0 in omega arith) in
-    let old : c.index_mut-link.result.now ≡ link_at machine c.args.c = c.index_mut-link.ensures.value
-    ∙ get_or_any c.self.inside.links.items c.args.c _ free_link lt in
+    let lt : c.args.c < length c.self.inside.links = (let below = c.requires.in_range in let count = c.self.invariant.0 in omega arith) in
+    let old : c.at_mut-link.result.now ≡ link_at machine c.args.c = c.at_mut-link.ensures.value
+    ∙ get_or_any c.self.inside.links c.args.c _ free_link lt in
     let logs : is_logging_in (link_at machine c.args.c).phase ≡ true = ap (λ (m : Machine). is_logging_in (link_at m c.args.c).phase) c.self.view_is
     ∙ c.requires.logs_in in
     on_err c.from_residual-in_err-response.result
@@ -33,17 +33,17 @@ returns-in_err-response-clause-err g c =
 
 pub invariant_of-self-in-Some : goal.invariant_of-self-in-Some
 invariant_of-self-in-Some g c =
-    let lt : c.args.c < length c.self.inside.links.items = (let below = c.requires.in_range in let count = c.self.invariant.0 in omega arith) in
-    let old : c.index_mut-link.result.now ≡ _ = c.index_mut-link.ensures.value ∙ get_or_any c.self.inside.links.items c.args.c _ free_link lt in
+    let lt : c.args.c < length c.self.inside.links = (let below = c.requires.in_range in let count = c.self.invariant.0 in omega arith) in
+    let old : c.at_mut-link.result.now ≡ _ = c.at_mut-link.ensures.value ∙ get_or_any c.self.inside.links c.args.c _ free_link lt in
     let count : length c.self.inside.directory.names ≡ length c.self.inside.units.items = sym c.self.invariant.1 in
-    let was : IsWithin (length c.self.inside.units.items) c.index_mut-link.result.now.phase =
+    let was : IsWithin (length c.self.inside.units.items) c.at_mut-link.result.now.phase =
     subst (λ (l : LinkState). IsWithin (length c.self.inside.units.items) l.phase) (sym old) (c.self.invariant.2 c.args.c free_link lt) in
     let is : IsWithin (length c.self.inside.units.items) c.log_in.new.self.phase =
-    subst (λ (n : ℕ). IsWithin n c.index_mut-link.result.now.phase → IsWithin n c.log_in.new.self.phase) count c.in_ok-response.ensures.target was
+    subst (λ (n : ℕ). IsWithin n c.at_mut-link.result.now.phase → IsWithin n c.log_in.new.self.phase) count c.in_ok-response.ensures.target was
     in (
-      length-set c.self.inside.links.items c.args.c c.log_in.new.self ∙ c.self.invariant.0,
+      length-set c.self.inside.links c.args.c c.log_in.new.self ∙ c.self.invariant.0,
       c.self.invariant.1,
-      All-set (λ (l : LinkState). IsWithin (length c.self.inside.units.items) l.phase) c.self.inside.links.items c.args.c c.log_in.new.self is
+      All-set (λ (l : LinkState). IsWithin (length c.self.inside.units.items) l.phase) c.self.inside.links c.args.c c.log_in.new.self is
           c.self.invariant.2,
     )
 
@@ -52,14 +52,14 @@ begin-requires-clause-reads g c =
     let machine : Machine = record {
       directory = c.self.inside.directory;
       units = c.self.inside.units.items;
-      links = c.self.inside.links.items;
+      links = c.self.inside.links;
     } in
-    let lt : c.args.c < length c.self.inside.links.items = (let below = c.requires.in_range in let count = c.self.invariant.0 in omega arith) in
-    let old : c.index_mut-link.result.now ≡ link_at machine c.args.c = c.index_mut-link.ensures.value
-    ∙ get_or_any c.self.inside.links.items c.args.c _ free_link lt in
+    let lt : c.args.c < length c.self.inside.links = (let below = c.requires.in_range in let count = c.self.invariant.0 in omega arith) in
+    let old : c.at_mut-link.result.now ≡ link_at machine c.args.c = c.at_mut-link.ensures.value
+    ∙ get_or_any c.self.inside.links c.args.c _ free_link lt in
     let logs : is_logging_in (link_at machine c.args.c).phase ≡ true = ap (λ (m : Machine). is_logging_in (link_at m c.args.c).phase) c.self.view_is
     ∙ c.requires.logs_in in
-    let there = login_there c.index_mut-link.result.now.phase (ap (λ (l : LinkState). is_logging_in l.phase) old ∙ logs) in
+    let there = login_there c.at_mut-link.result.now.phase (ap (λ (l : LinkState). is_logging_in l.phase) old ∙ logs) in
     let waiting = waits _ _ _ _ _ _ (rw c.in-Some.is at (c.in_ok-response.ensures.answered there.0 there.1)) in
     ap (λ (l : LinkState). is_reading l.phase) (link_there machine c.args.c c.log_in.new.self lt) ∙ still_reading c.log_in.new.self.phase waiting.logging_in
 
@@ -68,20 +68,20 @@ returns-in-Some-clause-ok g c =
     let machine : Machine = record {
       directory = c.self.inside.directory;
       units = c.self.inside.units.items;
-      links = c.self.inside.links.items;
+      links = c.self.inside.links;
     } in
-    let lt : c.args.c < length c.self.inside.links.items = (let below = c.requires.in_range in let count = c.self.invariant.0 in omega arith) in
-    let old : c.index_mut-link.result.now ≡ link_at machine c.args.c = c.index_mut-link.ensures.value
-    ∙ get_or_any c.self.inside.links.items c.args.c _ free_link lt in
+    let lt : c.args.c < length c.self.inside.links = (let below = c.requires.in_range in let count = c.self.invariant.0 in omega arith) in
+    let old : c.at_mut-link.result.now ≡ link_at machine c.args.c = c.at_mut-link.ensures.value
+    ∙ get_or_any c.self.inside.links c.args.c _ free_link lt in
     let logs : is_logging_in (link_at machine c.args.c).phase ≡ true = ap (λ (m : Machine). is_logging_in (link_at m c.args.c).phase) c.self.view_is
     ∙ c.requires.logs_in in
-    let named : c.in_ok-named.named ≡ named_by (tsih c.args.request.now.header) (sessions c.self.inside.links.items) =
+    let named : c.in_ok-named.named ≡ named_by (tsih c.args.request.now.header) (sessions c.self.inside.links) =
     c.in_ok-named.ensures ∙ ap (λ (ls : List LinkState). named_by c.tsih.result (sessions ls)) c.as_slice.ensures.value
-    ∙ ap (λ (n : ℕ). named_by n (sessions c.self.inside.links.items)) (c.tsih.ensures ∙ ap (λ (f : Frame). tsih f.header) c.request.view_is) in
+    ∙ ap (λ (n : ℕ). named_by n (sessions c.self.inside.links)) (c.tsih.ensures ∙ ap (λ (f : Frame). tsih f.header) c.request.view_is) in
     let looked_up : lookup_in c.self.inside.directory c.in_ok-named.named ≡ lookup_for machine.directory (sessions machine.links) c.args.request.now =
     ap (λ (o : Option Params). lookup_in c.self.inside.directory o) named in
     on_ok_weaker c.begin.result (λ e login h.
-    (let is_so : c.index_mut-link.result.now.phase ≡ _ = ap (λ (l : LinkState). l.phase) old
+    (let is_so : c.at_mut-link.result.now.phase ≡ _ = ap (λ (l : LinkState). l.phase) old
     ∙ ap (λ (m : Machine). (link_at m c.args.c).phase) c.self.view_is ∙ h in
     let waiting = waits _ _ _ _ _ _ (rw c.in-Some.is at (c.in_ok-response.ensures.answered login is_so)) in
     let reply : reply_of login (lookup_for machine.directory (sessions machine.links) c.args.request.now) c.args.request.now ≡ _ =
@@ -96,14 +96,14 @@ returns-in-Some-clause-err g c =
     let machine : Machine = record {
       directory = c.self.inside.directory;
       units = c.self.inside.units.items;
-      links = c.self.inside.links.items;
+      links = c.self.inside.links;
     } in
-    let lt : c.args.c < length c.self.inside.links.items = (let below = c.requires.in_range in let count = c.self.invariant.0 in omega arith) in
-    let old : c.index_mut-link.result.now ≡ link_at machine c.args.c = c.index_mut-link.ensures.value
-    ∙ get_or_any c.self.inside.links.items c.args.c _ free_link lt in
+    let lt : c.args.c < length c.self.inside.links = (let below = c.requires.in_range in let count = c.self.invariant.0 in omega arith) in
+    let old : c.at_mut-link.result.now ≡ link_at machine c.args.c = c.at_mut-link.ensures.value
+    ∙ get_or_any c.self.inside.links c.args.c _ free_link lt in
     let logs : is_logging_in (link_at machine c.args.c).phase ≡ true = ap (λ (m : Machine). is_logging_in (link_at m c.args.c).phase) c.self.view_is
     ∙ c.requires.logs_in in
-    let there = login_there c.index_mut-link.result.now.phase (ap (λ (l : LinkState). is_logging_in l.phase) old ∙ logs) in
+    let there = login_there c.at_mut-link.result.now.phase (ap (λ (l : LinkState). is_logging_in l.phase) old ∙ logs) in
     let waiting = waits _ _ _ _ _ _ (rw c.in-Some.is at (c.in_ok-response.ensures.answered there.0 there.1)) in
     on_err_weaker c.begin.result (λ e. ap (λ (m : Machine). closed m c.args.c) e
     ∙ closed_alike machine c.args.c c.log_in.new.self lt (ap (λ (l : LinkState). l.waiting) waiting.same ∙ ap (λ (l : LinkState). l.waiting) old)

@@ -26,13 +26,13 @@ returns-in_default g c =
     let machine : Machine = record {
       directory = c.self.inside.directory;
       units = c.self.inside.units.items;
-      links = c.self.inside.links.items;
+      links = c.self.inside.links;
     } in
     let link : viewed c.link.inside.framer c.link.inside.phase c.link.inside.waiting.items ≡ link_at machine c.args.d =
-    held_here c.self.inside.links.items c.args.d _ c.index_mut-link.result.now _ c.self.invariant.0 c.requires.in_range
-    c.index_mut-link.ensures.value c.link.view_is in
+    held_here c.self.inside.links c.args.d _ c.at_mut-link.result.now _ c.self.invariant.0 c.requires.in_range
+    c.at_mut-link.ensures.value c.link.view_is in
     let same = ap (λ (links : List LinkState). let m : Machine = record machine { links = links } in m)
-    (held_same c.self.inside.links.items c.args.d _ link) ∙ c.self.view_is in
+    (held_same c.self.inside.links c.args.d _ link) ∙ c.self.view_is in
     let other : (state : SessionState) → (link_at c.args.self.now c.args.d).phase ≡ phases.FullFeature state
     → state.params.target ≢ Some c.args.target = λ state e.
     absurd (c.in_default.not-FullFeature state (ap (λ (l : LinkState). l.phase) link ∙ ap (λ (m : Machine). (link_at m c.args.d).phase) c.self.view_is ∙ e)) in
@@ -49,15 +49,15 @@ returns-else-is_same_target g c =
     let machine : Machine = record {
       directory = c.self.inside.directory;
       units = c.self.inside.units.items;
-      links = c.self.inside.links.items;
+      links = c.self.inside.links;
     } in
     let link : viewed c.link.inside.framer c.link.inside.phase c.link.inside.waiting.items ≡ link_at machine c.args.d =
-    held_here c.self.inside.links.items c.args.d _ c.index_mut-link.result.now _ c.self.invariant.0 c.requires.in_range
-    c.index_mut-link.ensures.value c.link.view_is in
+    held_here c.self.inside.links c.args.d _ c.at_mut-link.result.now _ c.self.invariant.0 c.requires.in_range
+    c.at_mut-link.ensures.value c.link.view_is in
     let view : viewed c.link.inside.framer (phases.FullFeature c.in-FullFeature.session) c.link.inside.waiting.items ≡ link_at machine c.args.d =
     ap (λ (p : Phase). viewed c.link.inside.framer p c.link.inside.waiting.items) (sym c.in-FullFeature.is) ∙ link in
     let same = ap (λ (links : List LinkState). let m : Machine = record machine { links = links } in m)
-    (held_same c.self.inside.links.items c.args.d _ view) ∙ c.self.view_is in
+    (held_same c.self.inside.links c.args.d _ view) ∙ c.self.view_is in
     let phase = ap (λ (l : LinkState). l.phase) view ∙ ap (λ (m : Machine). (link_at m c.args.d).phase) c.self.view_is in
     let other : (state : SessionState) → (link_at c.args.self.now c.args.d).phase ≡ phases.FullFeature state
     → state.params.target ≢ Some c.args.target = λ state e of.
@@ -77,11 +77,11 @@ returns-then-is_same_target g c =
     let machine : Machine = record {
       directory = c.self.inside.directory;
       units = c.self.inside.units.items;
-      links = c.self.inside.links.items;
+      links = c.self.inside.links;
     } in
     let link : viewed c.link.inside.framer c.link.inside.phase c.link.inside.waiting.items ≡ link_at machine c.args.d =
-    held_here c.self.inside.links.items c.args.d _ c.index_mut-link.result.now _ c.self.invariant.0 c.requires.in_range
-    c.index_mut-link.ensures.value c.link.view_is in
+    held_here c.self.inside.links c.args.d _ c.at_mut-link.result.now _ c.self.invariant.0 c.requires.in_range
+    c.at_mut-link.ensures.value c.link.view_is in
     let target : c.in-FullFeature.session.params.target ≡ Some c.args.target = ap (λ p. p.target) (sym c.params.ensures)
     ∙ same_target c.params.result.now.target c.args.target (sym c.is_same_target.ensures ∙ c.if-is_same_target.true) in
     let below : c.args.target < length machine.units = (let is = ap (λ (m : Machine). length m.units) c.self.view_is in

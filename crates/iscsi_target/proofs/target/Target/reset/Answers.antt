@@ -14,7 +14,7 @@ returns g c =
     let machine : Machine = record {
       directory = c.self.inside.directory;
       units = c.self.inside.units.items;
-      links = c.self.inside.links.items;
+      links = c.self.inside.links;
     } in
     let below : c.args.target < length machine.units = (let is = ap (λ (m : Machine). length m.units) c.self.view_is in
     let lt = c.requires in omega arith) in

@@ -11,10 +11,10 @@ returns-clause-always g c = λ s sent h at.
     (let machine : Machine = record {
       directory = c.self.inside.directory;
       units = c.self.inside.units.items;
-      links = c.self.inside.links.items;
+      links = c.self.inside.links;
     } in
-    let lt : c.args.c < length c.self.inside.links.items = (let below = c.requires.in_range in let count = c.self.invariant.0 in omega arith) in
-    let old = c.index_mut-link.ensures.value ∙ get_or_any c.self.inside.links.items c.args.c _ free_link lt in
+    let lt : c.args.c < length c.self.inside.links = (let below = c.requires.in_range in let count = c.self.invariant.0 in omega arith) in
+    let old = c.at_mut-link.ensures.value ∙ get_or_any c.self.inside.links c.args.c _ free_link lt in
     let is = ap (λ (l : LinkState). let m : Machine = with_link machine c.args.c l in m) (c.sent.ensures ∙ ap (λ (l : LinkState). sent_link l c.args.n) old)
     ∙ ap (λ (m : Machine). with_link m c.args.c (sent_link (link_at m c.args.c) c.args.n)) c.self.view_is in
     stands_machine s _ h _ _ (sym (c.rest.ensures ∙ is))
@@ -33,10 +33,10 @@ returns-clause-bounded g c = λ bounded.
     (let machine : Machine = record {
       directory = c.self.inside.directory;
       units = c.self.inside.units.items;
-      links = c.self.inside.links.items;
+      links = c.self.inside.links;
     } in
-    let lt : c.args.c < length c.self.inside.links.items = (let below = c.requires.in_range in let count = c.self.invariant.0 in omega arith) in
-    let old = c.index_mut-link.ensures.value ∙ get_or_any c.self.inside.links.items c.args.c _ free_link lt in
+    let lt : c.args.c < length c.self.inside.links = (let below = c.requires.in_range in let count = c.self.invariant.0 in omega arith) in
+    let old = c.at_mut-link.ensures.value ∙ get_or_any c.self.inside.links c.args.c _ free_link lt in
     let is = ap (λ (l : LinkState). let m : Machine = with_link machine c.args.c l in m) (c.sent.ensures ∙ ap (λ (l : LinkState). sent_link l c.args.n) old)
     ∙ ap (λ (m : Machine). with_link m c.args.c (sent_link (link_at m c.args.c) c.args.n)) c.self.view_is in
     bounded_links (with_link c.args.self.now c.args.c (sent_link (link_at c.args.self.now c.args.c) c.args.n)) _

@@ -9,7 +9,7 @@ use Rattle.iscsi_target.proofs.Bounding.{session_adds}
 use Rattle.iscsi_target.proofs.Apart.{apart_none, apart_then, apart_as, apart_from, session_apart, closed_apart, with_session}
 use Rattle.iscsi_target.proofs.AtWork.{settle_kind}
 use Rattle.iscsi_target.proofs.Doing.{does_on, does_starved}
-use Rattle.iscsi_target.proofs.Held.{viewed, held_here, held_same, settles_none, called, settle_does, settle_moves, same_session, same_target, same_units, other_target, sound_there, units_here}
+use Rattle.iscsi_target.proofs.Held.{viewed, held_here, held_same, settled_at, settles_none, called, settle_does, settle_moves, same_session, same_target, same_units, other_target, sound_there, units_here}
 use Rattle.iscsi_target.proofs.Moving.{moves_none, moves_as, moves_from, moves_then, moves_starved, starved_moves}
 use Rattle.iscsi_target.proofs.Sound.{closed_back, at_as}
 use Rattle.iscsi_target.proofs.target.Target.settle_one.Goals as goal
@@ -19,13 +19,13 @@ returns-in_default g c =
     let machine : Machine = record {
       directory = c.self.inside.directory;
       units = c.self.inside.units.items;
-      links = c.self.inside.links.items;
+      links = c.self.inside.links;
     } in
     let link : viewed c.link.inside.framer c.link.inside.phase c.link.inside.waiting.items ≡ link_at machine c.args.c =
-    held_here c.self.inside.links.items c.args.c _ c.index_mut-link.result.now _ c.self.invariant.0 c.requires.in_range
-    c.index_mut-link.ensures.value c.link.view_is in
+    held_here c.self.inside.links c.args.c _ c.at_mut-link.result.now _ c.self.invariant.0 c.requires.in_range
+    c.at_mut-link.ensures.value c.link.view_is in
     let same = ap (λ (links : List LinkState). let m : Machine = record machine { links = links } in m)
-    (held_same c.self.inside.links.items c.args.c _ link) ∙ c.self.view_is in
+    (held_same c.self.inside.links c.args.c _ link) ∙ c.self.view_is in
     let other : (state : SessionState) → (link_at c.args.self.now c.args.c).phase ≡ phases.FullFeature state → state.params.target ≢ Some c.args.target = λ state e.
     absurd (c.in_default.not-FullFeature state (ap (λ (l : LinkState). l.phase) link ∙ ap (λ (m : Machine). (link_at m c.args.c).phase) c.self.view_is ∙ e)) in
     record {
@@ -41,15 +41,15 @@ returns-clause-settles g c =
     let machine : Machine = record {
       directory = c.self.inside.directory;
       units = c.self.inside.units.items;
-      links = c.self.inside.links.items;
+      links = c.self.inside.links;
     } in
     let link : viewed c.link.inside.framer c.link.inside.phase c.link.inside.waiting.items ≡ link_at machine c.args.c =
-    held_here c.self.inside.links.items c.args.c _ c.index_mut-link.result.now _ c.self.invariant.0 c.requires.in_range
-    c.index_mut-link.ensures.value c.link.view_is in
+    held_here c.self.inside.links c.args.c _ c.at_mut-link.result.now _ c.self.invariant.0 c.requires.in_range
+    c.at_mut-link.ensures.value c.link.view_is in
     let view : viewed c.link.inside.framer (phases.FullFeature c.in-FullFeature.session) c.link.inside.waiting.items ≡ link_at machine c.args.c =
     ap (λ (p : Phase). viewed c.link.inside.framer p c.link.inside.waiting.items) (sym c.in-FullFeature.is) ∙ link in
     let same = ap (λ (links : List LinkState). let m : Machine = record machine { links = links } in m)
-    (held_same c.self.inside.links.items c.args.c _ view) ∙ c.self.view_is in
+    (held_same c.self.inside.links c.args.c _ view) ∙ c.self.view_is in
     let phase = ap (λ (l : LinkState). l.phase) view ∙ ap (λ (m : Machine). (link_at m c.args.c).phase) c.self.view_is in
     let other : (state : SessionState) → (link_at c.args.self.now c.args.c).phase ≡ phases.FullFeature state
     → state.params.target ≢ Some c.args.target = λ state e of.
@@ -65,38 +65,23 @@ returns-then-is_settled-clause-settles g c =
     let machine : Machine = record {
       directory = c.self.inside.directory;
       units = c.self.inside.units.items;
-      links = c.self.inside.links.items;
+      links = c.self.inside.links;
     } in
-    let link : viewed c.link.inside.framer c.link.inside.phase c.link.inside.waiting.items ≡ link_at machine c.args.c =
-    held_here c.self.inside.links.items c.args.c _ c.index_mut-link.result.now _ c.self.invariant.0 c.requires.in_range
-    c.index_mut-link.ensures.value c.link.view_is in
-    let target : c.in-FullFeature.session.params.target ≡ Some c.args.target = ap (λ p. p.target) (sym c.params.ensures)
-    ∙ same_target c.params.result.now.target c.args.target (sym c.is_same_target.ensures ∙ c.if-is_same_target.true) in
     let below : c.args.target < length machine.units = (let is = ap (λ (m : Machine). length m.units) c.self.view_is in
     let lt = c.requires.target in omega arith) in
-    let here = units_at (Some c.args.target) machine.units in
-    let then_ = viewed c.link.inside.framer (phases.FullFeature c.in-FullFeature.session) c.link.inside.waiting.items in
-    let runs = c.is_settled.ensures.settled c.if-is_settled.true here c.link.inside.waiting.items in
-    does_on _ _ _ None machine (called machine c.args.c (Some c.args.target) here then_) c.args.self.now _ c.self.view_is
-    (same_units machine c.args.c (Some c.args.target) then_)
-    (settle_does None true c.args.c c.args.target machine (called machine c.args.c (Some c.args.target) here then_) c.link.inside.framer
-    c.link.inside.phase c.link.inside.waiting.items c.link.inside.waiting.items
-    c.in-FullFeature.session c.in-FullFeature.session here here c.requires.in_range link c.in-FullFeature.is target
-    (ap (λ (t : Option ℕ). units_at t machine.units) target)
-    runs
-    (λ sound. runs.plain (sound_there machine (set machine.links c.args.c then_) c.args.target here below sound))
-    (λ place. refl) refl)
+    does_on _ _ _ None machine machine c.args.self.now c.args.self.now c.self.view_is c.self.view_is
+    (settled_at machine c.args.c c.args.target c.requires.in_range below (sym c.if-is_settled.ensures))
 
 pub returns-in-Ok-clause-settles : goal.returns-in-Ok-clause-settles
 returns-in-Ok-clause-settles g c =
     let machine : Machine = record {
       directory = c.self.inside.directory;
       units = c.self.inside.units.items;
-      links = c.self.inside.links.items;
+      links = c.self.inside.links;
     } in
     let link : viewed c.link.inside.framer c.link.inside.phase c.link.inside.waiting.items ≡ link_at machine c.args.c =
-    held_here c.self.inside.links.items c.args.c _ c.index_mut-link.result.now _ c.self.invariant.0 c.requires.in_range
-    c.index_mut-link.ensures.value c.link.view_is in
+    held_here c.self.inside.links c.args.c _ c.at_mut-link.result.now _ c.self.invariant.0 c.requires.in_range
+    c.at_mut-link.ensures.value c.link.view_is in
     let target : c.in-FullFeature.session.params.target ≡ Some c.args.target = ap (λ p. p.target) (sym c.params.ensures)
     ∙ same_target c.params.result.now.target c.args.target (sym c.is_same_target.ensures ∙ c.if-is_same_target.true) in
     let below : c.args.target < length machine.units = (let is = ap (λ (m : Machine). length m.units) c.self.view_is in
@@ -116,11 +101,11 @@ returns-in-Ok-clause-moves g c = λ b.
     (let machine : Machine = record {
       directory = c.self.inside.directory;
       units = c.self.inside.units.items;
-      links = c.self.inside.links.items;
+      links = c.self.inside.links;
     } in
     let link : viewed c.link.inside.framer c.link.inside.phase c.link.inside.waiting.items ≡ link_at machine c.args.c =
-    held_here c.self.inside.links.items c.args.c _ c.index_mut-link.result.now _ c.self.invariant.0 c.requires.in_range
-    c.index_mut-link.ensures.value c.link.view_is in
+    held_here c.self.inside.links c.args.c _ c.at_mut-link.result.now _ c.self.invariant.0 c.requires.in_range
+    c.at_mut-link.ensures.value c.link.view_is in
     let target : c.in-FullFeature.session.params.target ≡ Some c.args.target = ap (λ p. p.target) (sym c.params.ensures)
     ∙ same_target c.params.result.now.target c.args.target (sym c.is_same_target.ensures ∙ c.if-is_same_target.true) in
     let below : c.args.target < length machine.units = (let is = ap (λ (m : Machine). length m.units) c.self.view_is in
@@ -139,11 +124,11 @@ returns-in-Ok-clause-apart g c =
     let machine : Machine = record {
       directory = c.self.inside.directory;
       units = c.self.inside.units.items;
-      links = c.self.inside.links.items;
+      links = c.self.inside.links;
     } in
     let link : viewed c.link.inside.framer c.link.inside.phase c.link.inside.waiting.items ≡ link_at machine c.args.c =
-    held_here c.self.inside.links.items c.args.c _ c.index_mut-link.result.now _ c.self.invariant.0 c.requires.in_range
-    c.index_mut-link.ensures.value c.link.view_is in
+    held_here c.self.inside.links c.args.c _ c.at_mut-link.result.now _ c.self.invariant.0 c.requires.in_range
+    c.at_mut-link.ensures.value c.link.view_is in
     let target : c.in-FullFeature.session.params.target ≡ Some c.args.target = ap (λ p. p.target) (sym c.params.ensures)
     ∙ same_target c.params.result.now.target c.args.target (sym c.is_same_target.ensures ∙ c.if-is_same_target.true) in
     let lt : c.args.c < length machine.links = (let count = c.self.invariant.0 in let below = c.requires.in_range in omega arith) in
@@ -160,11 +145,11 @@ returns-in-Err-clause-settles g c =
     let machine : Machine = record {
       directory = c.self.inside.directory;
       units = c.self.inside.units.items;
-      links = c.self.inside.links.items;
+      links = c.self.inside.links;
     } in
     let link : viewed c.link.inside.framer c.link.inside.phase c.link.inside.waiting.items ≡ link_at machine c.args.c =
-    held_here c.self.inside.links.items c.args.c _ c.index_mut-link.result.now _ c.self.invariant.0 c.requires.in_range
-    c.index_mut-link.ensures.value c.link.view_is in
+    held_here c.self.inside.links c.args.c _ c.at_mut-link.result.now _ c.self.invariant.0 c.requires.in_range
+    c.at_mut-link.ensures.value c.link.view_is in
     let target : c.in-FullFeature.session.params.target ≡ Some c.args.target = ap (λ p. p.target) (sym c.params.ensures)
     ∙ same_target c.params.result.now.target c.args.target (sym c.is_same_target.ensures ∙ c.if-is_same_target.true) in
     let below : c.args.target < length machine.units = (let is = ap (λ (m : Machine). length m.units) c.self.view_is in
@@ -188,11 +173,11 @@ returns-in-Err-clause-moves g c = λ b.
     (let machine : Machine = record {
       directory = c.self.inside.directory;
       units = c.self.inside.units.items;
-      links = c.self.inside.links.items;
+      links = c.self.inside.links;
     } in
     let link : viewed c.link.inside.framer c.link.inside.phase c.link.inside.waiting.items ≡ link_at machine c.args.c =
-    held_here c.self.inside.links.items c.args.c _ c.index_mut-link.result.now _ c.self.invariant.0 c.requires.in_range
-    c.index_mut-link.ensures.value c.link.view_is in
+    held_here c.self.inside.links c.args.c _ c.at_mut-link.result.now _ c.self.invariant.0 c.requires.in_range
+    c.at_mut-link.ensures.value c.link.view_is in
     let target : c.in-FullFeature.session.params.target ≡ Some c.args.target = ap (λ p. p.target) (sym c.params.ensures)
     ∙ same_target c.params.result.now.target c.args.target (sym c.is_same_target.ensures ∙ c.if-is_same_target.true) in
     let below : c.args.target < length machine.units = (let is = ap (λ (m : Machine). length m.units) c.self.view_is in
@@ -219,11 +204,11 @@ returns-in-Err-clause-apart g c =
     let machine : Machine = record {
       directory = c.self.inside.directory;
       units = c.self.inside.units.items;
-      links = c.self.inside.links.items;
+      links = c.self.inside.links;
     } in
     let link : viewed c.link.inside.framer c.link.inside.phase c.link.inside.waiting.items ≡ link_at machine c.args.c =
-    held_here c.self.inside.links.items c.args.c _ c.index_mut-link.result.now _ c.self.invariant.0 c.requires.in_range
-    c.index_mut-link.ensures.value c.link.view_is in
+    held_here c.self.inside.links c.args.c _ c.at_mut-link.result.now _ c.self.invariant.0 c.requires.in_range
+    c.at_mut-link.ensures.value c.link.view_is in
     let target : c.in-FullFeature.session.params.target ≡ Some c.args.target = ap (λ p. p.target) (sym c.params.ensures)
     ∙ same_target c.params.result.now.target c.args.target (sym c.is_same_target.ensures ∙ c.if-is_same_target.true) in
     let lt : c.args.c < length machine.links = (let count = c.self.invariant.0 in let below = c.requires.in_range in omega arith) in
@@ -247,13 +232,13 @@ returns-clause-apart g c =
     let machine : Machine = record {
       directory = c.self.inside.directory;
       units = c.self.inside.units.items;
-      links = c.self.inside.links.items;
+      links = c.self.inside.links;
     } in
     let link : viewed c.link.inside.framer c.link.inside.phase c.link.inside.waiting.items ≡ link_at machine c.args.c =
-    held_here c.self.inside.links.items c.args.c _ c.index_mut-link.result.now _ c.self.invariant.0 c.requires.in_range
-    c.index_mut-link.ensures.value c.link.view_is in
+    held_here c.self.inside.links c.args.c _ c.at_mut-link.result.now _ c.self.invariant.0 c.requires.in_range
+    c.at_mut-link.ensures.value c.link.view_is in
     let view : viewed c.link.inside.framer (phases.FullFeature c.in-FullFeature.session) c.link.inside.waiting.items ≡ link_at machine c.args.c =
     ap (λ (p : Phase). viewed c.link.inside.framer p c.link.inside.waiting.items) (sym c.in-FullFeature.is) ∙ link in
     let same = ap (λ (links : List LinkState). let m : Machine = record machine { links = links } in m)
-    (held_same c.self.inside.links.items c.args.c _ view) ∙ c.self.view_is in
+    (held_same c.self.inside.links c.args.c _ view) ∙ c.self.view_is in
     apart_as c.args.target c.args.self.now c.args.self.now _ same (apart_none c.args.target c.args.self.now)

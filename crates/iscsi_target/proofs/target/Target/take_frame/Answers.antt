@@ -26,11 +26,11 @@ carry_out_for-requires g c =
     let machine : Machine = record {
       directory = c.self.inside.directory;
       units = c.self.inside.units.items;
-      links = c.self.inside.links.items;
+      links = c.self.inside.links;
     } in
     let lt : c.args.c < length machine.links = (let count = c.self.invariant.0 in let below = c.requires in omega arith) in
     let link : viewed c.link.inside.framer c.link.inside.phase c.link.inside.waiting.items ≡ link_at machine c.args.c =
-    held_here c.self.inside.links.items c.args.c _ c.index_mut-link.result.now _ c.self.invariant.0 c.requires c.index_mut-link.ensures.value c.link.view_is in
+    held_here c.self.inside.links c.args.c _ c.at_mut-link.result.now _ c.self.invariant.0 c.requires c.at_mut-link.ensures.value c.link.view_is in
     let below : IsTargetBelow (length machine.units) c.in-FullFeature.session.params.target =
     within_there machine c.args.c c.in-FullFeature.session lt (ap (λ (l : LinkState). l.phase) (sym link) ∙ c.in-FullFeature.is) c.self.invariant.2 in
     let m = serve_moves c.serve-goes_on.result c.args.c machine c.end_unless-served.new.self c.link.inside.framer c.link.inside.phase
@@ -44,11 +44,11 @@ settle_for-settled-requires g c =
     let machine : Machine = record {
       directory = c.self.inside.directory;
       units = c.self.inside.units.items;
-      links = c.self.inside.links.items;
+      links = c.self.inside.links;
     } in
     let lt : c.args.c < length machine.links = (let count = c.self.invariant.0 in let below = c.requires in omega arith) in
     let link : viewed c.link.inside.framer c.link.inside.phase c.link.inside.waiting.items ≡ link_at machine c.args.c =
-    held_here c.self.inside.links.items c.args.c _ c.index_mut-link.result.now _ c.self.invariant.0 c.requires c.index_mut-link.ensures.value c.link.view_is in
+    held_here c.self.inside.links c.args.c _ c.at_mut-link.result.now _ c.self.invariant.0 c.requires c.at_mut-link.ensures.value c.link.view_is in
     let below : IsTargetBelow (length machine.units) c.in-FullFeature.session.params.target =
     within_there machine c.args.c c.in-FullFeature.session lt (ap (λ (l : LinkState). l.phase) (sym link) ∙ c.in-FullFeature.is) c.self.invariant.2 in
     let m = serve_moves c.serve-goes_on.result c.args.c machine c.end_unless-served.new.self c.link.inside.framer c.link.inside.phase
@@ -62,10 +62,10 @@ returns-in-FullFeature-clause-takes g c =
     let machine : Machine = record {
       directory = c.self.inside.directory;
       units = c.self.inside.units.items;
-      links = c.self.inside.links.items;
+      links = c.self.inside.links;
     } in
     let link : viewed c.link.inside.framer c.link.inside.phase c.link.inside.waiting.items ≡ link_at machine c.args.c =
-    held_here c.self.inside.links.items c.args.c _ c.index_mut-link.result.now _ c.self.invariant.0 c.requires c.index_mut-link.ensures.value c.link.view_is in
+    held_here c.self.inside.links c.args.c _ c.at_mut-link.result.now _ c.self.invariant.0 c.requires c.at_mut-link.ensures.value c.link.view_is in
     let target : c.in-FullFeature.session.params.target ≡ c.params.result.now.target = ap (λ (p : Params). p.target) (sym c.params.ensures) in
     let known : c.luns_of-luns.result.now ≡ numbers_of (units_at c.params.result.now.target machine.units) =
     c.luns_of-luns.ensures ∙ ap (λ (all : List UnitStates). numbers_of (units_at c.params.result.now.target all)) c.as_slice.ensures.value in
@@ -88,11 +88,11 @@ returns-in-FullFeature-clause-moves g c =
     let machine : Machine = record {
       directory = c.self.inside.directory;
       units = c.self.inside.units.items;
-      links = c.self.inside.links.items;
+      links = c.self.inside.links;
     } in
     let lt : c.args.c < length machine.links = (let count = c.self.invariant.0 in let below = c.requires in omega arith) in
     let link : viewed c.link.inside.framer c.link.inside.phase c.link.inside.waiting.items ≡ link_at machine c.args.c =
-    held_here c.self.inside.links.items c.args.c _ c.index_mut-link.result.now _ c.self.invariant.0 c.requires c.index_mut-link.ensures.value c.link.view_is in
+    held_here c.self.inside.links c.args.c _ c.at_mut-link.result.now _ c.self.invariant.0 c.requires c.at_mut-link.ensures.value c.link.view_is in
     let below : IsTargetBelow (length machine.units) c.in-FullFeature.session.params.target =
     within_there machine c.args.c c.in-FullFeature.session lt (ap (λ (l : LinkState). l.phase) (sym link) ∙ c.in-FullFeature.is) c.self.invariant.2 in
     let m = serve_moves c.serve-goes_on.result c.args.c machine c.end_unless-served.new.self c.link.inside.framer c.link.inside.phase
@@ -110,11 +110,11 @@ returns-in-FullFeature-clause-part g c = λ target with_.
     (let machine : Machine = record {
       directory = c.self.inside.directory;
       units = c.self.inside.units.items;
-      links = c.self.inside.links.items;
+      links = c.self.inside.links;
     } in
     let lt : c.args.c < length machine.links = (let count = c.self.invariant.0 in let below = c.requires in omega arith) in
     let link : viewed c.link.inside.framer c.link.inside.phase c.link.inside.waiting.items ≡ link_at machine c.args.c =
-    held_here c.self.inside.links.items c.args.c _ c.index_mut-link.result.now _ c.self.invariant.0 c.requires c.index_mut-link.ensures.value c.link.view_is in
+    held_here c.self.inside.links c.args.c _ c.at_mut-link.result.now _ c.self.invariant.0 c.requires c.at_mut-link.ensures.value c.link.view_is in
     let own : is_with target (link_at machine c.args.c).phase ≡ true = ap (λ (m : Machine). is_with target (link_at m c.args.c).phase) c.self.view_is ∙ with_ in
     let here : is_with target (phases.FullFeature c.in-FullFeature.session) ≡ true = ap (is_with target) (sym c.in-FullFeature.is)
     ∙ ap (λ (l : LinkState). is_with target l.phase) link ∙ own in
@@ -133,14 +133,14 @@ returns-in-Free-clause-takes g c =
     let machine : Machine = record {
       directory = c.self.inside.directory;
       units = c.self.inside.units.items;
-      links = c.self.inside.links.items;
+      links = c.self.inside.links;
     } in
     let link : viewed c.link.inside.framer c.link.inside.phase c.link.inside.waiting.items ≡ link_at machine c.args.c =
-    held_here c.self.inside.links.items c.args.c _ c.index_mut-link.result.now _ c.self.invariant.0 c.requires c.index_mut-link.ensures.value c.link.view_is in
+    held_here c.self.inside.links c.args.c _ c.at_mut-link.result.now _ c.self.invariant.0 c.requires c.at_mut-link.ensures.value c.link.view_is in
     let view : viewed c.link.inside.framer phases.Free c.link.inside.waiting.items ≡ link_at machine c.args.c =
     ap (λ (p : Phase). viewed c.link.inside.framer p c.link.inside.waiting.items) (sym c.in-Free.is) ∙ link in
     let same = ap (λ (links : List LinkState). let m : Machine = record machine { links = links } in m)
-    (held_same c.self.inside.links.items c.args.c _ link) ∙ c.self.view_is in
+    (held_same c.self.inside.links c.args.c _ link) ∙ c.self.view_is in
     let idle = ap (λ (m : Machine). is_reading (link_at m c.args.c).phase) (sym c.self.view_is) ∙ ap (λ (l : LinkState). is_reading l.phase) (sym view) in
     does_on _ _ _ None c.args.self.now c.args.self.now c.args.self.now _ refl (sym same) (takes_idle c.args.self.now c.args.c c.args.frame c.requires idle)
 
@@ -149,12 +149,12 @@ returns-in-Free-clause-part g c =
     let machine : Machine = record {
       directory = c.self.inside.directory;
       units = c.self.inside.units.items;
-      links = c.self.inside.links.items;
+      links = c.self.inside.links;
     } in
     let link : viewed c.link.inside.framer c.link.inside.phase c.link.inside.waiting.items ≡ link_at machine c.args.c =
-    held_here c.self.inside.links.items c.args.c _ c.index_mut-link.result.now _ c.self.invariant.0 c.requires c.index_mut-link.ensures.value c.link.view_is in
+    held_here c.self.inside.links c.args.c _ c.at_mut-link.result.now _ c.self.invariant.0 c.requires c.at_mut-link.ensures.value c.link.view_is in
     let same = ap (λ (links : List LinkState). let m : Machine = record machine { links = links } in m)
-    (held_same c.self.inside.links.items c.args.c _ link) ∙ c.self.view_is in
+    (held_same c.self.inside.links c.args.c _ link) ∙ c.self.view_is in
     part_as c.args.c c.args.self.now c.args.self.now _ same (part_none c.args.c c.args.self.now)
 
 pub returns-in-Free-clause-moves : goal.returns-in-Free-clause-moves
@@ -162,12 +162,12 @@ returns-in-Free-clause-moves g c =
     let machine : Machine = record {
       directory = c.self.inside.directory;
       units = c.self.inside.units.items;
-      links = c.self.inside.links.items;
+      links = c.self.inside.links;
     } in
     let link : viewed c.link.inside.framer c.link.inside.phase c.link.inside.waiting.items ≡ link_at machine c.args.c =
-    held_here c.self.inside.links.items c.args.c _ c.index_mut-link.result.now _ c.self.invariant.0 c.requires c.index_mut-link.ensures.value c.link.view_is in
+    held_here c.self.inside.links c.args.c _ c.at_mut-link.result.now _ c.self.invariant.0 c.requires c.at_mut-link.ensures.value c.link.view_is in
     let same = ap (λ (links : List LinkState). let m : Machine = record machine { links = links } in m)
-    (held_same c.self.inside.links.items c.args.c _ link) ∙ c.self.view_is in
+    (held_same c.self.inside.links c.args.c _ link) ∙ c.self.view_is in
     moves_as c.args.c None c.args.self.now c.args.self.now _ same (moves_none c.args.c c.args.self.now)
 
 pub returns-in-Closing-clause-takes : goal.returns-in-Closing-clause-takes
@@ -175,14 +175,14 @@ returns-in-Closing-clause-takes g c =
     let machine : Machine = record {
       directory = c.self.inside.directory;
       units = c.self.inside.units.items;
-      links = c.self.inside.links.items;
+      links = c.self.inside.links;
     } in
     let link : viewed c.link.inside.framer c.link.inside.phase c.link.inside.waiting.items ≡ link_at machine c.args.c =
-    held_here c.self.inside.links.items c.args.c _ c.index_mut-link.result.now _ c.self.invariant.0 c.requires c.index_mut-link.ensures.value c.link.view_is in
+    held_here c.self.inside.links c.args.c _ c.at_mut-link.result.now _ c.self.invariant.0 c.requires c.at_mut-link.ensures.value c.link.view_is in
     let view : viewed c.link.inside.framer phases.Closing c.link.inside.waiting.items ≡ link_at machine c.args.c =
     ap (λ (p : Phase). viewed c.link.inside.framer p c.link.inside.waiting.items) (sym c.in-Closing.is) ∙ link in
     let same = ap (λ (links : List LinkState). let m : Machine = record machine { links = links } in m)
-    (held_same c.self.inside.links.items c.args.c _ link) ∙ c.self.view_is in
+    (held_same c.self.inside.links c.args.c _ link) ∙ c.self.view_is in
     let idle = ap (λ (m : Machine). is_reading (link_at m c.args.c).phase) (sym c.self.view_is) ∙ ap (λ (l : LinkState). is_reading l.phase) (sym view) in
     does_on _ _ _ None c.args.self.now c.args.self.now c.args.self.now _ refl (sym same) (takes_idle c.args.self.now c.args.c c.args.frame c.requires idle)
 
@@ -191,12 +191,12 @@ returns-in-Closing-clause-part g c =
     let machine : Machine = record {
       directory = c.self.inside.directory;
       units = c.self.inside.units.items;
-      links = c.self.inside.links.items;
+      links = c.self.inside.links;
     } in
     let link : viewed c.link.inside.framer c.link.inside.phase c.link.inside.waiting.items ≡ link_at machine c.args.c =
-    held_here c.self.inside.links.items c.args.c _ c.index_mut-link.result.now _ c.self.invariant.0 c.requires c.index_mut-link.ensures.value c.link.view_is in
+    held_here c.self.inside.links c.args.c _ c.at_mut-link.result.now _ c.self.invariant.0 c.requires c.at_mut-link.ensures.value c.link.view_is in
     let same = ap (λ (links : List LinkState). let m : Machine = record machine { links = links } in m)
-    (held_same c.self.inside.links.items c.args.c _ link) ∙ c.self.view_is in
+    (held_same c.self.inside.links c.args.c _ link) ∙ c.self.view_is in
     part_as c.args.c c.args.self.now c.args.self.now _ same (part_none c.args.c c.args.self.now)
 
 pub returns-in-Closing-clause-moves : goal.returns-in-Closing-clause-moves
@@ -204,12 +204,12 @@ returns-in-Closing-clause-moves g c =
     let machine : Machine = record {
       directory = c.self.inside.directory;
       units = c.self.inside.units.items;
-      links = c.self.inside.links.items;
+      links = c.self.inside.links;
     } in
     let link : viewed c.link.inside.framer c.link.inside.phase c.link.inside.waiting.items ≡ link_at machine c.args.c =
-    held_here c.self.inside.links.items c.args.c _ c.index_mut-link.result.now _ c.self.invariant.0 c.requires c.index_mut-link.ensures.value c.link.view_is in
+    held_here c.self.inside.links c.args.c _ c.at_mut-link.result.now _ c.self.invariant.0 c.requires c.at_mut-link.ensures.value c.link.view_is in
     let same = ap (λ (links : List LinkState). let m : Machine = record machine { links = links } in m)
-    (held_same c.self.inside.links.items c.args.c _ link) ∙ c.self.view_is in
+    (held_same c.self.inside.links c.args.c _ link) ∙ c.self.view_is in
     moves_as c.args.c None c.args.self.now c.args.self.now _ same (moves_none c.args.c c.args.self.now)
 
 pub returns-in-Free-clause-loads : goal.returns-in-Free-clause-loads
@@ -217,12 +217,12 @@ returns-in-Free-clause-loads g c whole =
     let machine : Machine = record {
       directory = c.self.inside.directory;
       units = c.self.inside.units.items;
-      links = c.self.inside.links.items;
+      links = c.self.inside.links;
     } in
     let link : viewed c.link.inside.framer c.link.inside.phase c.link.inside.waiting.items ≡ link_at machine c.args.c =
-    held_here c.self.inside.links.items c.args.c _ c.index_mut-link.result.now _ c.self.invariant.0 c.requires c.index_mut-link.ensures.value c.link.view_is in
+    held_here c.self.inside.links c.args.c _ c.at_mut-link.result.now _ c.self.invariant.0 c.requires c.at_mut-link.ensures.value c.link.view_is in
     let same = ap (λ (links : List LinkState). let m : Machine = record machine { links = links } in m)
-    (held_same c.self.inside.links.items c.args.c _ link) ∙ c.self.view_is in
+    (held_same c.self.inside.links c.args.c _ link) ∙ c.self.view_is in
     subst (λ (m : Machine). Adds 1 (link_at c.args.self.now c.args.c) (link_at m c.args.c)) (sym same) (adds_none 1 (link_at c.args.self.now c.args.c))
 
 pub returns-in-Closing-clause-loads : goal.returns-in-Closing-clause-loads
@@ -230,12 +230,12 @@ returns-in-Closing-clause-loads g c whole =
     let machine : Machine = record {
       directory = c.self.inside.directory;
       units = c.self.inside.units.items;
-      links = c.self.inside.links.items;
+      links = c.self.inside.links;
     } in
     let link : viewed c.link.inside.framer c.link.inside.phase c.link.inside.waiting.items ≡ link_at machine c.args.c =
-    held_here c.self.inside.links.items c.args.c _ c.index_mut-link.result.now _ c.self.invariant.0 c.requires c.index_mut-link.ensures.value c.link.view_is in
+    held_here c.self.inside.links c.args.c _ c.at_mut-link.result.now _ c.self.invariant.0 c.requires c.at_mut-link.ensures.value c.link.view_is in
     let same = ap (λ (links : List LinkState). let m : Machine = record machine { links = links } in m)
-    (held_same c.self.inside.links.items c.args.c _ link) ∙ c.self.view_is in
+    (held_same c.self.inside.links c.args.c _ link) ∙ c.self.view_is in
     subst (λ (m : Machine). Adds 1 (link_at c.args.self.now c.args.c) (link_at m c.args.c)) (sym same) (adds_none 1 (link_at c.args.self.now c.args.c))
 
 pub returns-in-FullFeature-clause-loads : goal.returns-in-FullFeature-clause-loads
@@ -243,10 +243,10 @@ returns-in-FullFeature-clause-loads g c whole =
     let machine : Machine = record {
       directory = c.self.inside.directory;
       units = c.self.inside.units.items;
-      links = c.self.inside.links.items;
+      links = c.self.inside.links;
     } in
     let link : viewed c.link.inside.framer c.link.inside.phase c.link.inside.waiting.items ≡ link_at machine c.args.c =
-    held_here c.self.inside.links.items c.args.c _ c.index_mut-link.result.now _ c.self.invariant.0 c.requires c.index_mut-link.ensures.value c.link.view_is in
+    held_here c.self.inside.links c.args.c _ c.at_mut-link.result.now _ c.self.invariant.0 c.requires c.at_mut-link.ensures.value c.link.view_is in
     let lt : c.args.c < length machine.links = (let count = c.self.invariant.0 in let below = c.requires in omega arith) in
     let known : c.luns_of-luns.result.now ≡ numbers_of (units_at c.params.result.now.target machine.units) =
     c.luns_of-luns.ensures ∙ ap (λ (all : List UnitStates). numbers_of (units_at c.params.result.now.target all)) c.as_slice.ensures.value in

@@ -1,0 +1,13 @@
+use Rattle.std.proofs.Common.{◌≡◌, List, length, replicate, ap, sym, ◌∙◌}
+use Rattle.std.proofs.lemmas.List.{length-replicate}
+use Rattle.iscsi_target.specs.Machine.{LinkState, is_settled, is_silent, free_link}
+use Rattle.iscsi_target.proofs.Marked.{none_marked}
+use Rattle.iscsi_target.proofs.links.Links.free.Goals as goal
+
+pub invariant_of-result : goal.invariant_of-result
+invariant_of-result c =
+    let links = c.in_ok-items.items.items in (
+      ap (λ (all : List LinkState). length all) c.in_ok-items.ensures ∙ length-replicate 64 free_link,
+      none_marked (λ (link : LinkState). is_settled link.phase) links,
+      none_marked is_silent links,
+    )

@@ -1,0 +1,130 @@
+//! All connections, and what was found of those that nobody has changed since.
+
+ghost use Rattle.std.specs.Prelude.{◌≡◌, ◌<◌, length, replicate, slice_index_or, slice_set, IfOk};
+ghost use Rattle.std.specs.Borrow.{sem};
+ghost use Rattle.iscsi_target.specs.Lending.{LendsLink};
+ghost use Rattle.iscsi_target.specs.Machine.{free_link, is_settled, is_silent};
+
+use crate::fault::Memory;
+use crate::link::Link;
+use std::alloc::Global;
+use std::marker::Model;
+
+/// Connections are numbered from 0 to one less than this.
+pub(crate) const CONNECTIONS: usize = 64;
+
+/// The connections under their numbers. Clauses see them as a list.
+///
+/// Most of them have nothing to do at most times, so what is found of one is remembered until it is lent to be changed.
+#[derive(Drop)]
+pub(crate) struct Links {
+    items: Vec<Link>,
+    /// Settling their sessions does nothing.
+    settled: [bool; CONNECTIONS],
+    /// Nothing waits to be sent on them, and they are not closing.
+    silent: [bool; CONNECTIONS],
+}
+
+impl Model for Links {
+    ghost use Rattle.std.specs.Prelude.{◌≡◌, length, true, List};
+    ghost use Rattle.iscsi_target.specs.Links.{Tells};
+    ghost use Rattle.iscsi_target.specs.Machine.{LinkState, is_settled, is_silent};
+
+    ghost Value = { List LinkState };
+
+    ghost view = { λ l. l.items.items };
+
+    ghost invariant = { λ l. (length l.items.items ≡ 64) × Tells (λ (link : LinkState). is_settled link.phase) l.settled l.items.items
+        × Tells is_silent l.silent l.items.items };
+}
+
+/// Every connection, none of them open.
+fn free_links(alloc: Global) -> Result<Vec<Link>, Memory>
+    ensures { IfOk result (λ links. links.items ≡ replicate 64 free_link) }
+{
+    let mut links = Vec::with_capacity(alloc, CONNECTIONS)?;
+    for _ in 0..CONNECTIONS {
+        links.push(Link::free(alloc))?;
+    }
+    Ok(links)
+}
+
+impl Links {
+    /// No connection is open.
+    pub(crate) fn free(alloc: Global) -> Result<Links, Memory>
+        ensures { IfOk result (λ links. links ≡ replicate 64 free_link) }
+    {
+        let items = free_links(alloc)?;
+        Ok(Links {
+            items,
+            settled: [false; CONNECTIONS],
+            silent: [false; CONNECTIONS],
+        })
+    }
+
+    /// All of them, in their order.
+    #[inline]
+    pub(crate) fn as_slice(&self) -> &[Link]
+        ensures value { result.now ≡ self.now }
+    {
+        self.items.as_slice()
+    }
+
+    /// The connection with this number.
+    #[inline]
+    pub(crate) fn at(&self, c: usize) -> &Link
+        requires { c < 64 }
+        ensures { result.now ≡ slice_index_or self.now c free_link }
+    {
+        &self.items[c]
+    }
+
+    /// The connection with this number, to be changed.
+    #[inline]
+    pub(crate) fn at_mut(&mut self, c: usize) -> &mut Link
+        requires { c < 64 }
+        ensures* writes_back { sem 𝓛 (LendsLink self.entry c result) }
+        ensures value { result.now ≡ slice_index_or self.old c result.now }
+    {
+        self.settled[c] = false;
+        self.silent[c] = false;
+        &mut self.items[c]
+    }
+
+    /// Another connection under this number.
+    pub(crate) fn put(&mut self, c: usize, link: Link)
+        requires { c < 64 }
+        ensures { self.new ≡ slice_set self.old c link }
+    {
+        *self.at_mut(c) = link;
+    }
+
+    /// No command of the connection's session can be done, or it has none.
+    #[inline]
+    pub(crate) fn is_settled(&self, c: usize) -> bool
+        requires { c < 64 }
+        ensures { result ≡ is_settled (slice_index_or self.now c free_link).phase }
+    {
+        self.settled[c] || self.items[c].is_settled()
+    }
+
+    /// Nothing waits to be sent on the connection, and it is not closing.
+    #[inline]
+    pub(crate) fn is_silent(&self, c: usize) -> bool
+        requires { c < 64 }
+        ensures { result ≡ is_silent (slice_index_or self.now c free_link) }
+    {
+        self.silent[c] || self.items[c].is_silent()
+    }
+
+    /// The connection gives back room that it does not need, and what is found of it is remembered.
+    pub(crate) fn rest(&mut self, alloc: Global, c: usize)
+        requires { c < 64 }
+        ensures { self.new ≡ self.old }
+    {
+        let link = &mut self.items[c];
+        link.rest(alloc);
+        self.settled[c] = link.is_settled();
+        self.silent[c] = link.is_silent();
+    }
+}
