@@ -1,10 +1,10 @@
 -- Which closes are due once all writes were made.
-use Rattle.std.proofs.Common.{◌≡◌, ℕ, ◌+◌, ◌<◌, zero, suc, List, [], ◌∷◌, length, Bool, true, false, ◌||◌, ◌&&◌, eqb, set, get_or, refl, sym, ap, ◌∙◌, inl, inr, arith}
+use Rattle.std.proofs.Common.{◌≡◌, ℕ, ◌+◌, ◌<◌, zero, suc, List, [], ◌∷◌, length, Bool, true, false, ◌||◌, ◌&&◌, not, eqb, set, get_or, refl, sym, ap, ◌∙◌, inl, inr, arith}
 use Rattle.std.proofs.lemmas.Bool.Decides.{eqb_tells}
 use Rattle.std.proofs.lemmas.List.{get_or-set_other, set-get_or}
 use Rattle.std.specs.List.{range_with_len}
 use Rattle.iscsi_target.specs.History.{connection_limit, connections}
-use Rattle.iscsi_target.specs.Machine.{Machine, LinkState, link_at, with_link, sent_link, is_open_at, is_closing, closed, free_link}
+use Rattle.iscsi_target.specs.Machine.{Machine, LinkState, link_at, with_link, sent_link, is_open_at, is_closing, is_silent, closed, free_link}
 use Rattle.iscsi_serve.specs.Log.{Entry, Close}
 use Rattle.iscsi_serve.specs.Turn.{Moment, moment, changed, is_open, is_closed, Closes, Along}
 use Rattle.iscsi_serve.specs.Progress.{AreEnded, Does, is_over, is_to_close, NoneToClose, KeepsOthers}
@@ -50,6 +50,20 @@ pub due_open : (target : Machine) (ended : List Bool) (c : ℕ) (done : Bool) �
     → done ≡ is_to_close ended target c
 due_open target ended c done open_ e =
     e ∙ sym (ap (λ (b : Bool). b && (get_or ended c false || is_closing (link_at target c).phase && eqb (length (link_at target c).waiting) 0)) open_)
+
+-- where nothing waits and the target has not closed it
+pub due_silent : (target : Machine) (ended : List Bool) (c : ℕ) (due : Bool) → is_silent (link_at target c) ≡ true
+    → due ≡ (get_or ended c false && is_open_at target c) → due ≡ is_to_close ended target c
+due_silent target ended c due e is = let link = link_at target c in
+    is ∙ only_ended (get_or ended c false) (is_open_at target c) (is_closing link.phase) (eqb (length link.waiting) 0) e
+  where
+    only_ended : (has_ended open_ closing none : Bool) → (none && not closing) ≡ true → (has_ended && open_) ≡ (open_ && (has_ended || closing && none))
+    only_ended has_ended open_ true true e = absurd cc
+    only_ended has_ended open_ closing false e = absurd cc
+    only_ended true true false true e = refl
+    only_ended true false false true e = refl
+    only_ended false true false true e = refl
+    only_ended false false false true e = refl
 
 or_false : (a b : Bool) → (a || b) ≡ false → (a ≡ false) × (b ≡ false)
 or_false true b e = absurd cc

@@ -1,14 +1,14 @@
 -- What each connection's step in a turn does.
-use Rattle.std.proofs.Common.{◌≡◌, ℕ, ◌<◌, ◌≤◌, List, [], ◌∷◌, ◌++◌, length, take, drop, set, get_or, Bool, true, false, ◌||◌, ◌&&◌, eqb, refl, sym, ap, ◌∙◌, subst, inl, inr, arith}
+use Rattle.std.proofs.Common.{◌≡◌, ℕ, ◌<◌, ◌≤◌, List, [], ◌∷◌, ◌++◌, length, take, drop, set, get_or, Bool, true, false, ◌||◌, ◌&&◌, not, eqb, refl, sym, ap, ◌∙◌, subst, inl, inr, arith}
 use Rattle.std.specs.Prelude.{nat_lt}
 use Rattle.std.specs.List.{list_any}
-use Rattle.std.proofs.lemmas.Bool.{lt-ltb}
+use Rattle.std.proofs.lemmas.Bool.{lt-ltb, eqb-true}
 use Rattle.std.proofs.lemmas.Bool.Decides.{eqb_tells}
 use Rattle.std.proofs.lemmas.List.{get_or-set_same, get_or-set_other, get_or-replicate, length-take-le, take-append-drop}
 use Rattle.std.proofs.lemmas.List.Folds.{list_any-append}
 use Rattle.iscsi_target.specs.History.{connection_limit}
-use Rattle.iscsi_target.specs.Machine.{Machine, Feeds, link_at, with_link, is_open_at, is_closing, opened_link, sent_link, closed, free_link}
-use Rattle.iscsi_target.proofs.Choices.{and_false, cond_true}
+use Rattle.iscsi_target.specs.Machine.{Machine, Feeds, link_at, with_link, is_open_at, is_closing, is_silent, opened_link, sent_link, closed, free_link}
+use Rattle.iscsi_target.proofs.Choices.{and_false, and_true, cond_true}
 use Rattle.iscsi_serve.specs.Log.{Carried, Bytes, Entry, Open, NobodyCame, Read, Wrote, Close, is_number}
 use Rattle.iscsi_serve.specs.Turn.{Moment, moment, changed, told, IfElse, opened, free_number, HasAccepted, is_read, room_for, HasFed, HasRead, Reads, piece_in, is_written, after_write, HasWritten, Writes, is_end, ends, is_closed, Closes}
 use Rattle.iscsi_serve.specs.Progress.{AreEnded, none_ended, IsDue, Goes}
@@ -123,6 +123,15 @@ pub empty_write : (log : List Entry) (target : Machine) (ended : List Bool) (c :
     → Goes (Writes c) log log target target ended ended
 empty_write log target ended c e =
     no_write log target ended c (ap (λ (waiting : List ℕ). is_open_at target c && nat_lt 0 (length waiting)) e ∙ and_false (is_open_at target c))
+
+pub silent_write : (log : List Entry) (target : Machine) (ended : List Bool) (c : ℕ) → is_silent (link_at target c) ≡ true
+    → Goes (Writes c) log log target target ended ended
+silent_write log target ended c e = let link = link_at target c in
+    empty_write log target ended c (none_waits link.waiting (and_true (eqb (length link.waiting) 0) (not (is_closing link.phase)) e).0)
+  where
+    none_waits : (waiting : List ℕ) → eqb (length waiting) 0 ≡ true → waiting ≡ []
+    none_waits [] e = refl
+    none_waits (byte ∷ bytes) e = absurd (omega (arith, eqb-true (length (byte ∷ bytes)) 0 e))
 
 -- all that waits was offered, and this is what came of it
 written : (m n : Moment) (c : ℕ) (offered unwritten : List ℕ) (carried : Carried) → is_open_at m.target c ≡ true

@@ -2,7 +2,8 @@
 
 ghost use Rattle.std.specs.Prelude.{◌≡◌, ◌≤◌, length, take};
 ghost use Rattle.iscsi_serve.specs.Told.{count_of};
-ghost use Rattle.iscsi_serve.specs.Script.{told_at, IsBehind, read_told, write_told, HasRead, HasWritten};
+ghost use Rattle.iscsi_serve.specs.declared.script.Step.TheVariants.{Moves};
+ghost use Rattle.iscsi_serve.specs.Script.{most_moved, told_at, IsBehind, read_told, write_told, HasRead, HasWritten};
 
 use crate::told::Told;
 
@@ -38,7 +39,9 @@ pub struct Script {
 
 impl Course {
     /// Each call moves all that it can.
-    pub fn unhindered() -> Course {
+    pub fn unhindered() -> Course
+        ensures { result ≡ record { first = 0; next = Moves most_moved; behind = Moves most_moved } }
+    {
         Course::after(0, Step::Moves(usize::MAX))
     }
 

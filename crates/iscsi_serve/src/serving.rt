@@ -161,6 +161,14 @@ fn is_done<S: Store>(target: &Target<S>, ended: &[bool; CONNECTIONS], c: usize) 
     ended[c] || target.closing(c) && target.out(c).is_empty()
 }
 
+/// The connection has ended in this turn.
+fn has_ended<S: Store>(target: &Target<S>, ended: &[bool; CONNECTIONS], c: usize) -> bool
+    requires { c < 64 }
+    ensures { result ≡ (slice_index_or ended.now c false && is_open_at target.now c) }
+{
+    ended[c] && target.is_open(c)
+}
+
 /// Writes what waits on a connection, as far as it is taken. Whether a close of it is due then.
 fn write_one<P: Ports, S: Store>(
     ports: &mut P,
@@ -173,6 +181,9 @@ fn write_one<P: Ports, S: Store>(
     ensures others { KeepsOthers c target.old target.new ended.old ended.new }
     ensures due { result ≡ is_to_close ended.new target.new c }
 {
+    if target.is_silent(c) {
+        return has_ended(target, ended, c);
+    }
     if !target.is_open(c) {
         return false;
     }

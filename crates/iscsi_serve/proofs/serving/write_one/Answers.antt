@@ -1,8 +1,20 @@
 use Rattle.std.proofs.Common.{sym}
-use Rattle.iscsi_serve.proofs.Closing.{others_same, none_free, due_open}
-use Rattle.iscsi_serve.proofs.Goings.{free_write}
+use Rattle.iscsi_serve.proofs.Closing.{others_same, none_free, due_open, due_silent}
+use Rattle.iscsi_serve.proofs.Goings.{free_write, silent_write}
 use Rattle.iscsi_serve.proofs.Keeping.{keeps_same}
 use Rattle.iscsi_serve.proofs.serving.write_one.Goals as goal
+
+pub returns-then-is_silent-clause-does : goal.returns-then-is_silent-clause-does
+returns-then-is_silent-clause-does g c = record {
+  keeps = keeps_same _ _ _;
+  goes = λ tells. silent_write _ c.args.target.now c.args.ended.now c.args.c (sym c.if-is_silent.ensures);
+}
+
+pub returns-then-is_silent-clause-others : goal.returns-then-is_silent-clause-others
+returns-then-is_silent-clause-others g c = others_same c.args.target.now c.args.ended.now c.args.c
+
+pub returns-then-is_silent-clause-due : goal.returns-then-is_silent-clause-due
+returns-then-is_silent-clause-due g c = due_silent c.args.target.now c.args.ended.now c.args.c _ (sym c.if-is_silent.ensures) c.has_ended.ensures
 
 pub returns-then-not-is_open-clause-does : goal.returns-then-not-is_open-clause-does
 returns-then-not-is_open-clause-does g c = record {
