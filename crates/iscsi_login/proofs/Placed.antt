@@ -1,6 +1,6 @@
 -- Pairs that an index of their keys finds.
 use Rattle.std.proofs.Common.{◌≡◌, ℕ, zero, suc, ◌+◌, ◌≤◌, Bool, true, false, ◌||◌, cond, List, [], ◌∷◌, ◌++◌, length, drop, Option, Some, None, refl, sym, ap, ◌∙◌, arith}
-use Rattle.std.specs.Prelude.{slice_get, bytes_eq, is_some}
+use Rattle.std.specs.Prelude.{slice_get, bytes_eq, is_some, option_map, unwrap_or}
 use Rattle.std.proofs.lemmas.Bool.{false≢true}
 use Rattle.std.proofs.lemmas.List.{append-nil, drop_all, get_or_append_left, get_or-append-add, length-append}
 use Rattle.std.proofs.lemmas.Option.{slice_get_within, slice_get_read, get_or_from_slice_get}
@@ -78,29 +78,20 @@ has_value (pair ∷ pairs) (suc at) key value e =
     let found = has_value pairs at key value e in
     by_test (bytes_eq key pair.0) (λ is. (pair.1, rw is refl)) (λ is. (found.0, rw is found.1))
 
--- whether a key was said
-pub not_said : (found : Option (List ℕ)) → is_some found ≡ false → found ≡ None
-not_said None e = refl
-not_said (Some value) e = absurd cc
-
-pub is_said : (found : Option (List ℕ)) → is_some found ≡ true → (value : List ℕ) × (found ≡ Some value)
-is_said None e = absurd cc
-is_said (Some value) e = (value, refl)
-
--- of pairs that say nothing again none does
-pub none_again : (again : Pair → Bool) (pairs : List Pair) (at : ℕ) (pair : Pair) → slice_get pairs at ≡ Some pair → list_any again pairs ≡ false
-    → again pair ≡ false
-none_again again [] at pair is none = absurd cc
-none_again again (x ∷ xs) zero pair is none = ap again (sym (some_is x pair is)) ∙ none_of (again x) (list_any again xs) none
+-- one of the pairs passes
+pub any_at : {X : Type 0} (p : X → Bool) (xs : List X) (at : ℕ) (x : X) → slice_get xs at ≡ Some x → p x ≡ true → list_any p xs ≡ true
+any_at p [] at x is passes = absurd cc
+any_at p (y ∷ ys) zero x is passes = ap (λ (b : Bool). b || list_any p ys) (ap p (some_is y x is) ∙ passes)
+any_at p (y ∷ ys) (suc at) x is passes = ap (λ (b : Bool). p y || b) (any_at p ys at x is passes) ∙ or_true (p y)
   where
-    none_of : (a b : Bool) → (a || b) ≡ false → a ≡ false
-    none_of true b e = absurd cc
-    none_of false b e = refl
-none_again again (x ∷ xs) (suc at) pair is none = none_again again xs at pair is (rest_of (again x) (list_any again xs) none)
-  where
-    rest_of : (a b : Bool) → (a || b) ≡ false → b ≡ false
-    rest_of true b e = absurd cc
-    rest_of false b e = e
+    or_true : (b : Bool) → (b || true) ≡ true
+    or_true true = refl
+    or_true false = refl
+
+-- nor does one more
+pub none_more : {X : Type 0} (p : X → Bool) (xs : List X) (at : ℕ) (x : X) → slice_get xs at ≡ Some x → p x ≡ false → list_any p (drop (at + 1) xs) ≡ false
+    → list_any p (drop at xs) ≡ false
+none_more p xs at x is fails none = ap (list_any p) (drop_at xs at x is) ∙ ap (λ (b : Bool). b || list_any p (drop (at + 1) xs)) fails ∙ none
 
 -- ---- what is found of a key, where this place is told of it
 
@@ -202,3 +193,44 @@ module _ (pairs more : List Pair) where
         go false e =
             let placed = tells key value (skips key pairs pair rest (λ none. differs key pair.0 e (bytes_eq key pair.0) refl) ∙ there) in
             record { place = placed.place; tells = others key e ∙ placed.tells; stands = placed.stands }
+
+-- ---- a key is noted where nothing was told of it
+
+pub placed_told : (pairs : List Pair) (key value : List ℕ) (told : Option ℕ) (place shown : ℕ) → shown ≡ unwrap_or told place
+    → IsPlaced pairs key value told → IsPlaced pairs key value (Some shown)
+placed_told pairs key value told place shown e placed =
+    record { place = placed.place; tells = ap (λ (n : ℕ). Some n) (e ∙ ap (λ (o : Option ℕ). unwrap_or o place) placed.tells); stands = placed.stands }
+
+pub told_before : (pairs : List Pair) (key value : List ℕ) (told : Option ℕ) (place shown : ℕ) → shown ≡ unwrap_or told place
+    → IsPlaced pairs key value told → told ≡ Some shown
+told_before pairs key value told place shown e placed =
+    placed.tells ∙ ap (λ (n : ℕ). Some n) (sym (e ∙ ap (λ (o : Option ℕ). unwrap_or o place) placed.tells))
+
+pub said_none : {X Y : Type 0} (f : X → Y) (said : Option X) → is_some said ≡ true → option_map f said ≡ None → ⊥
+said_none f None some none = cc
+said_none f (Some x) some none = cc
+
+pub said_some : {X Y : Type 0} (f : X → Y) (said : Option X) → is_some said ≡ false → (y : Y) → option_map f said ≡ Some y → ⊥
+said_some f None none y some = cc
+said_some f (Some x) none y some = cc
+
+-- one more pair is noted, unless its key stands among the pairs
+module _ (pairs more : List Pair) (old new : List ℕ → Option ℕ) (at : ℕ) (pair : Pair) (stands : slice_get more at ≡ Some pair)
+    (noted : value_of pair.0 pairs ≡ None → (q : List ℕ) → new q ≡ cond (bytes_eq pair.0 q) (Some (length pairs + at)) (old q))
+    (kept : (value : List ℕ) → value_of pair.0 pairs ≡ Some value → (q : List ℕ) → new q ≡ old q) where
+  told_same : (key value : List ℕ) (ps : List Pair) → new key ≡ old key → IsPlaced ps key value (old key) → IsPlaced ps key value (new key)
+  told_same key value ps same placed = record { place = placed.place; tells = same ∙ placed.tells; stands = placed.stands }
+
+  pub tells_still : TellsPlaces pairs old → TellsPlaces pairs new
+  tells_still tells = go (value_of pair.0 pairs) refl
+    where
+      go : (found : Option (List ℕ)) → value_of pair.0 pairs ≡ found → TellsPlaces pairs new
+      go None is = still_told pairs more old new at pair is (noted is) tells
+      go (Some v) is = λ key value of. told_same key value pairs (kept v is key) (tells key value of)
+
+  pub tells_more : TellsFrom pairs more (at + 1) old → TellsFrom pairs more at new
+  tells_more tells = go (value_of pair.0 pairs) refl
+    where
+      go : (found : Option (List ℕ)) → value_of pair.0 pairs ≡ found → TellsFrom pairs more at new
+      go None is = notes_here pairs more old new at pair is (noted is) stands tells
+      go (Some v) is = λ key value of. told_same key value (pairs ++ more) (kept v is key) (passes_over pairs more old at pair v stands is tells key value of)

@@ -1,14 +1,14 @@
 //! The pairs of the texts before, in which a key is found among many.
 
-ghost use Rattle.std.specs.Prelude.{◌≡◌, ◌++◌, [], false, OnOk, OnErr, is_some, option_map};
+ghost use Rattle.std.specs.Prelude.{◌≡◌, ◌≤◌, ◌++◌, ℕ, List, [], Some, None, true, false, not, length, IfOk, IfErr, OnOk, OnErr, bytes_eq, option_map, if◌then◌else◌};
 ghost use Rattle.std.specs.List.{list_any};
 ghost use Rattle.std.specs.BTreeMap.{get_by_text};
 ghost use Rattle.iscsi_text.specs.Pairs.{value_of};
-ghost use Rattle.iscsi_login.specs.Earlier.{TellsPlaces};
-ghost use Rattle.iscsi_login.specs.Rules.{is_again};
+ghost use Rattle.iscsi_login.specs.Earlier.{IsPlaced, TellsPlaces};
+ghost use Rattle.iscsi_login.specs.Rules.{is_again_after, is_again as is_said_again};
 
 use crate::fault::Memory;
-use crate::text::is_name;
+use crate::text::is_again;
 use iscsi_text::Pairs;
 use std::alloc::Global;
 use std::collections::BTreeMap;
@@ -35,51 +35,67 @@ impl Model for Earlier {
     ghost invariant = { λ earlier. TellsPlaces earlier.pairs (get_by_text earlier.places) };
 }
 
-/// The value of a key among pairs: that of the first pair with this key.
-fn value_among<'a>(pairs: &'a Pairs, places: &BTreeMap<String, usize>, key: &str) -> Option<&'a str>
-    requires { TellsPlaces pairs.now (get_by_text places.now) }
+/// The value of a key among pairs, that of the first pair with this key, where this place is told of it.
+fn value_at<'a>(pairs: &'a Pairs, place: usize, key: &str) -> Option<&'a str>
+    requires { (value : List ℕ) → value_of key.now pairs.now ≡ Some value → IsPlaced pairs.now key.now value (Some place) }
     ensures { option_map (λ value. value.now) result ≡ value_of key.now pairs.now }
 {
-    let at = *places.get(key)?;
-    if at >= pairs.len() {
+    if place >= pairs.len() {
         return None;
     }
-    let (found, value) = pairs.pair(at);
+    let (found, value) = pairs.pair(place);
     if found == key { Some(value) } else { None }
 }
 
-/// The key stands among pairs behind which it may be said with this value. So it is looked up only where it is a name,
-/// which alone may be said again.
-fn is_said(pairs: &Pairs, places: &BTreeMap<String, usize>, key: &str, value: &str) -> bool
-    requires places { TellsPlaces pairs.now (get_by_text places.now) }
-    requires not_again { is_again pairs.now (key.now, value.now) ≡ false }
-    ensures { result ≡ is_some (value_of key.now pairs.now) }
+/// Notes where a key will stand behind these pairs, unless it stands among them. Gives its value there.
+fn note_key<'a>(
+    alloc: Global,
+    places: &mut BTreeMap<String, usize>,
+    pairs: &'a Pairs,
+    key: &str,
+    place: usize,
+) -> Result<Option<&'a str>, Memory>
+    requires told { TellsPlaces pairs.now (get_by_text places.old) }
+    requires behind { length pairs.now ≤ place }
+    ensures value { IfOk result (λ said. option_map (λ value. value.now) said ≡ value_of key.now pairs.now) }
+    ensures noted { OnOk result (value_of key.now pairs.now ≡ None → (other : List ℕ) → get_by_text places.new other
+        ≡ (if bytes_eq key.now other then Some place else get_by_text places.old other)) }
+    ensures kept { OnOk result ((value : List ℕ) → value_of key.now pairs.now ≡ Some value → (other : List ℕ) → get_by_text places.new other ≡ get_by_text places.old other) }
+    ensures err { OnErr result ((other : List ℕ) → get_by_text places.new other ≡ get_by_text places.old other) }
 {
-    is_name(key) && value_among(pairs, places, key).is_some()
+    let told = places
+        .entry(String::from_str(alloc, key)?)?
+        .or_insert(place);
+    let said = value_at(pairs, *told, key);
+    if said.is_none() {
+        *told = place;
+    }
+    Ok(said)
 }
 
 /// Notes where the keys of more pairs will stand behind these, unless they stand among these. The last is noted
-/// first, so that of a key that comes twice the first place is left.
+/// first, so that of a key that comes twice the first place is left. Whether none says a key again that it may not.
 fn note(
     alloc: Global,
     places: &mut BTreeMap<String, usize>,
     pairs: &Pairs,
     more: &Pairs,
-) -> Result<(), Memory>
-    requires places { TellsPlaces pairs.now (get_by_text places.old) }
-    requires not_again { list_any (is_again pairs.now) more.now ≡ false }
+) -> Result<bool, Memory>
+    requires { TellsPlaces pairs.now (get_by_text places.old) }
     ensures kept { TellsPlaces pairs.now (get_by_text places.new) }
-    ensures noted { OnOk result (TellsPlaces (pairs.now ++ more.now) (get_by_text places.new)) }
+    ensures noted { IfOk result (λ is_new. is_new ≡ true → TellsPlaces (pairs.now ++ more.now) (get_by_text places.new)) }
+    ensures value { IfOk result (λ is_new. is_new ≡ not (list_any (is_said_again pairs.now) more.now)) }
 {
     let mut at = more.len();
     while at > 0 {
         at -= 1;
         let (key, value) = more.pair(at);
-        if !is_said(pairs, places, key, value) {
-            places.insert(String::from_str(alloc, key)?, pairs.len() + at)?;
+        let said = note_key(alloc, places, pairs, key, pairs.len() + at)?;
+        if is_again(said, key, value) {
+            return Ok(false);
         }
     }
-    Ok(())
+    Ok(true)
 }
 
 impl Earlier {
@@ -94,24 +110,19 @@ impl Earlier {
         }
     }
 
-    /// The value of a key: that of the first pair with this key.
-    pub fn get(&self, key: &str) -> Option<&str>
-        ensures { option_map (λ value. value.now) result ≡ value_of key.now self.now }
-    {
-        value_among(&self.pairs, &self.places, key)
-    }
-
-    /// Puts pairs behind these, of which none says a key again but a name as it is. Where an allocation fails the
-    /// pairs are as they were.
-    pub fn append(&mut self, more: Pairs) -> Result<(), Memory>
-        requires { list_any (is_again self.old) more ≡ false }
-        ensures added { OnOk result (self.new ≡ self.old ++ more) }
+    /// Puts pairs behind these, where none of them says a key again that it may not. Otherwise, and where an allocation
+    /// fails, the pairs are as they were.
+    pub fn append(&mut self, more: Pairs) -> Result<bool, Memory>
+        ensures value { IfOk result (λ is_new. is_new ≡ not (list_any (is_said_again self.old) more)) }
+        ensures added { IfOk result (λ is_new. self.new ≡ (if is_new then self.old ++ more else self.old)) }
         ensures unchanged { OnErr result (self.new ≡ self.old) }
     {
-        note(self.alloc, &mut self.places, &self.pairs, &more)?;
+        if !note(self.alloc, &mut self.places, &self.pairs, &more)? {
+            return Ok(false);
+        }
         if self.pairs.append(more).is_err() {
             return Err(Memory);
         }
-        Ok(())
+        Ok(true)
     }
 }

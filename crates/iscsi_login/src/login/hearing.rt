@@ -1,8 +1,10 @@
 //! How a login takes the text of its requests.
 
-ghost use Rattle.std.specs.Prelude.{◌≡◌, ◌≤◌, ℕ, length, take, false, None, IfOk, IfErr, OnOk, OnErr};
+ghost use Rattle.std.specs.Prelude.{◌≡◌, ◌≤◌, ℕ, length, take, false, Some, None, IfOk, IfErr, OnOk, OnErr};
 ghost use Rattle.std.specs.List.{list_any};
 ghost use Rattle.iscsi_text.specs.Pairs.{text_of};
+ghost use Rattle.iscsi_pdu.specs.declared.login_response.LoginRefusal.TheVariants.{InitiatorError};
+ghost use Rattle.iscsi_login.specs.declared.fault.Fault.TheVariants as faults;
 ghost use Rattle.iscsi_login.specs.Directory.{KnownTargets};
 ghost use Rattle.iscsi_login.specs.Lookup.{lookup_in};
 ghost use Rattle.iscsi_login.specs.LoginState.{AsksBelow};
@@ -17,7 +19,7 @@ use crate::names::{asked, is_normal_session};
 use crate::params::Params;
 use crate::request::is_operational;
 use crate::session::Session;
-use crate::text::{joined, refusal_of_keys};
+use crate::text::{joined, says_no_segment};
 use bytes::BytesMut;
 use iscsi_pdu::{Frame, Header, LoginRefusal};
 use iscsi_text::{Pairs, TextFault, pairs};
@@ -73,7 +75,7 @@ impl Login {
     }
 
     /// A whole text is remembered by its pairs and the session that it asks for, and its answer is
-    /// due. Where an allocation fails nothing changes.
+    /// due, unless it says a key again that it may not. Where it is refused or an allocation fails nothing changes.
     #[tactic(auto, unfolding(crate::specs::Login::heard))]
     fn remember(
         &mut self,
@@ -81,17 +83,21 @@ impl Login {
         pairs: Pairs,
         asked: Option<Session>,
         due: BytesMut,
-    ) -> Result<(), Memory>
-        requires due { due.items ≡ text_of (answer_pairs (tells_group self.old.session pairs) (declares self.old header.now) pairs) }
-        requires not_again { list_any (is_again self.old.earlier) pairs ≡ false }
+    ) -> Result<(), Fault>
+        requires { due.items ≡ text_of (answer_pairs (tells_group self.old.session pairs) (declares self.old header.now) pairs) }
         ensures ok { OnOk result ((directory : KnownTargets) → asked ≡ asked_by self.old.session directory header.now pairs
             → self.new ≡ heard directory self.old header.now pairs) }
         ensures due { OnOk result (self.new.due ≡ due.items) }
         ensures target { OnOk result ((count : ℕ) → AsksBelow count self.old.session → AsksBelow count asked → AsksBelow count self.new.session) }
+        ensures accepted { OnOk result (list_any (is_again self.old.earlier) pairs ≡ false) }
+        ensures refused { IfErr result (λ fault. list_any (is_again self.old.earlier) pairs ≡ false → fault ≡ faults.Memory) }
+        ensures told { IfErr result (Tells (Some InitiatorError)) }
         ensures err { OnErr result (self.new ≡ self.old) }
     {
         let values = self.values.with_pairs(&pairs);
-        self.earlier.append(pairs)?;
+        if !self.earlier.append(pairs)? {
+            return Err(Fault::Refused(LoginRefusal::InitiatorError));
+        }
         self.kept = Vec::new(self.alloc);
         self.session = self.session.take().or(asked);
         self.values = values;
@@ -118,8 +124,8 @@ impl Login {
     {
         let pairs = self.read(request)?;
         let asked = self.ask(request, directory, named, &pairs)?;
-        if let Some(refusal) = refusal_of_keys(&self.earlier, &pairs) {
-            return Err(Fault::Refused(refusal));
+        if says_no_segment(&pairs) {
+            return Err(Fault::Refused(LoginRefusal::InitiatorError));
         }
         let (due, piece) = self.answer_to(&request.header, &pairs)?;
         self.remember(&request.header, pairs, asked, due)?;
