@@ -3,6 +3,7 @@ with commands behind them, slow clients beside busy ones."""
 
 import random
 import select
+import signal
 import socket
 import struct
 import threading
@@ -16,6 +17,8 @@ from sockets import (CONNECTIONS, LOGIN, READY_AGAIN, UNITS, answer_of, answers,
 AHEAD = 65536  # bytes that are read ahead of a connection at most
 LONG = 2 * AHEAD // pdu.HEADER  # commands that are more than may be ahead
 READS = 300  # of 256 KiB: their answers are more than any system takes while they are not read
+SETTING_UP = 200  # turns: more than two logins take
+BUSY = 400  # commands, of which a turn does one at most
 BIG_UNITS = UNITS.replace("blocks = 8", "blocks = 4096")
 
 
@@ -72,6 +75,18 @@ def answers_all_that_came_before_an_end():
                 client.shutdown(socket.SHUT_WR)
                 assert are_good(read(client, pdu.HEADER * (count + 1))) == count, count
                 assert is_closed(client), count
+
+
+def answers_the_whole_requests_of_one_who_ends_at_any_byte():
+    with serving() as (_, address):
+        whole = requests(1)
+        for sent in range(len(whole) + 1):
+            with connect(address) as client:
+                client.sendall(whole[:sent])
+                client.shutdown(socket.SHUT_WR)
+                count = sum(length for end, length in ((80, 104), (128, 68), (176, 48)) if sent >= end)
+                data = read(client, len(answers(0)) + 1)
+                assert data[16:] == answers(0)[16:count] and len(data) == count, f"behind {sent} bytes: {data.hex()}"
 
 
 def ends_only_the_connection_that_is_reset_with_commands_ahead():
@@ -166,14 +181,44 @@ def answers_commands_in_pieces_of_any_length():
         assert are_good(got) == 3000
 
 
+def two_that_send_at_once(address, process, counts):
+    """Two clients that are logged in. What they send, so many commands each, is there before the program goes on."""
+    clients = held_clients(address, 2)
+    for n, client in enumerate(clients):
+        assert is_answered(client, n), n
+    process.send_signal(signal.SIGSTOP)
+    for client, count in zip(clients, counts):
+        client.sendall(commands(count))
+    process.send_signal(signal.SIGCONT)
+    return clients
+
+
+def answers_another_while_one_is_busy():
+    with serving("127.0.0.1:0", "--turns", str(SETTING_UP)) as (process, address):
+        busy, other = two_that_send_at_once(address, process, (BUSY, 1))
+        assert are_good(read(other, pdu.HEADER + 1)) == 1
+        # The turns were over before all commands of the first were done.
+        assert are_good(read(busy, pdu.HEADER * BUSY)) < BUSY
+
+
+def serves_two_that_are_busy_side_by_side():
+    # One behind the other they would take twice as many turns.
+    with serving("127.0.0.1:0", "--turns", str(SETTING_UP + BUSY)) as (process, address):
+        for client in two_that_send_at_once(address, process, (BUSY, BUSY)):
+            assert are_good(read(client, pdu.HEADER * BUSY)) == BUSY
+
+
 CHECKS = [
     answers_a_session_that_is_cut_in_two_at_any_byte,
     answers_more_commands_than_it_reads_at_once,
     answers_all_that_came_before_an_end,
+    answers_the_whole_requests_of_one_who_ends_at_any_byte,
     ends_only_the_connection_that_is_reset_with_commands_ahead,
     carries_out_nothing_behind_a_violation,
     begins_with_nothing_ahead_under_a_number_that_was_used,
     serves_a_slow_client_beside_63_floods,
     goes_on_for_the_others_while_one_does_not_read,
     answers_commands_in_pieces_of_any_length,
+    answers_another_while_one_is_busy,
+    serves_two_that_are_busy_side_by_side,
 ]

@@ -6,7 +6,8 @@
  *   FAIL_NUMBER  which call of these fails, counted from 1 since the program's own start
  *   FAIL_ON      1: all calls behind it fail too
  *   FAIL_ERROR   errno of the failed call; 0: it reads or writes no byte and is no error
- *   FAIL_PIECE   the most bytes that a read of descriptor 0 or a write to descriptor 1 moves
+ *   FAIL_PIECE   the most bytes that a read of descriptor 0 or a write to descriptor 1 moves, or, where FAIL_CALL is send,
+ *                a write to a connection
  *   FAIL_REPORT  the descriptor that is told `failed` for each call that failed
  */
 #include <errno.h>
@@ -156,12 +157,17 @@ int ftruncate(int descriptor, off_t length)
 
 ssize_t recv(int connection, void *out, size_t count, int flags)
 {
-    return fails("receive") ? -1 : syscall(SYS_recvfrom, connection, out, count, flags, NULL, NULL);
+    if (fails("receive"))
+        return error ? -1 : 0;
+    return syscall(SYS_recvfrom, connection, out, count, flags, NULL, NULL);
 }
 
 ssize_t send(int connection, const void *bytes, size_t count, int flags)
 {
-    return fails("send") ? -1 : syscall(SYS_sendto, connection, bytes, count, flags, NULL, 0);
+    if (fails("send"))
+        return error ? -1 : 0;
+    count = which && !strcmp("send", which) ? at_most(count) : count;
+    return syscall(SYS_sendto, connection, bytes, count, flags, NULL, 0);
 }
 
 int accept4(int listener, struct sockaddr *address, socklen_t *length, int flags)

@@ -170,6 +170,13 @@ class Writes:
 
         return each_call(checked)
 
+    def whole(self, pieces, call):
+        """Runs in which each call of this kind moves so many bytes at most, which must change nothing."""
+        plain = run(SCRIPT, self.program, self.shim)
+        for piece in pieces:
+            check_unchanged(plain, run(SCRIPT, self.program, self.shim, call=call, piece=piece))
+        return f"{len(pieces)} sizes"
+
 
 SWEEPS = [
     ("each allocation fails", lambda w: w.each(check_starved, call="allocation", error=errno.ENOMEM)),
@@ -178,4 +185,6 @@ SWEEPS = [
     ("each write to a connection fails", lambda w: w.each(check_broken, call="send", error=errno.EPIPE)),
     ("each read of a connection is interrupted", lambda w: w.each(check_unchanged, call="receive", error=errno.EINTR)),
     ("each write to a connection is interrupted", lambda w: w.each(check_unchanged, call="send", error=errno.EINTR)),
+    ("each read of a connection tells its end", lambda w: w.each(check_broken, call="receive", error=0)),
+    ("writes to a connection take pieces of each size", lambda w: w.whole([1, 2, 47, 48, 49, 4096], "send")),
 ]

@@ -42,15 +42,33 @@ def gives_back(process, before):
     return resident(process) <= before + SLACK
 
 
-def pushed(client, data, most):
-    """Sends this again and again, until so many bytes were taken or more, or nothing is for half a second. How many were."""
+def pushed(client, data, most, sent=0):
+    """Sends this again and again, behind what was sent of it before, until so many bytes were taken or more, or nothing is
+    for half a second. How many were."""
     client.setblocking(False)
-    sent = 0
     while sent < most and select.select([], [client], [], 0.5)[1]:
         at = sent % len(data)
         sent += client.send(data[at:at + MEBIBYTE])
     client.settimeout(LIMIT)
     return sent
+
+
+def queued(local, remote):
+    """How many bytes of a TCP connection the system has: what its end at this port sent and the other one has not taken,
+    and what came to it and was not read (proc_net_tcp of the kernel's documentation)."""
+    for line in Path("/proc/net/tcp").read_text(encoding="ascii").splitlines()[1:]:
+        _, here, there, _, queues, *_ = line.split()
+        if (int(here.rpartition(":")[2], 16), int(there.rpartition(":")[2], 16)) == (local, remote):
+            return tuple(int(count, 16) for count in queues.split(":"))
+    raise AssertionError("the connection is not in /proc/net/tcp")
+
+
+def waiting(client, sent):
+    """How many bytes of the answers to its pings wait in the program, of a client that sent so many bytes of pings and
+    reads nothing."""
+    here, there = client.getsockname()[1], client.getpeername()[1]
+    (unsent, unread), (taken, untaken) = queued(here, there), queued(there, here)
+    return 104 + (sent - unsent - untaken) // len(PINGS) * len(PINGS) - unread - taken
 
 
 def ready(number):
@@ -86,6 +104,11 @@ def stops_reading_pings_whose_answers_nobody_reads():
         with connect(address) as greedy:
             greedy.sendall(GREEDY)
             taken = pushed(greedy, PINGS, FLOOD)
+            # It is not read on once more than 1 MiB waits.
+            until = time.monotonic() + LIMIT
+            while waiting(greedy, taken) <= MEBIBYTE and time.monotonic() < until:
+                taken = pushed(greedy, PINGS, FLOOD, taken)
+            assert MEBIBYTE < waiting(greedy, taken) <= MEBIBYTE + len(PINGS), waiting(greedy, taken)
             # What was taken beyond what the program holds lies in the buffers of the system.
             assert taken < FLOOD, taken
             for number in range(20):
