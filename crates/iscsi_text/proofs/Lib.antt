@@ -4,4 +4,3 @@ pub mod PieceFaults
 pub mod Pieces
 pub mod Keys
 pub mod ReadAgain
-pub mod CutPieces

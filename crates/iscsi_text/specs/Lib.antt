@@ -1,7 +1,5 @@
 pub mod Fault
 pub mod Pairs
 pub mod Reading
-pub mod Cut
 pub mod Laws
 pub mod ExamplesPairs
-pub mod ExamplesCut

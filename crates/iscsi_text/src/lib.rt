@@ -10,18 +10,14 @@
 //! - [`text`] writes exactly the text of pairs.
 //! - What [`pairs`] read and [`text`] wrote, [`pairs`] reads again as the same pairs
 //!   ([`laws::is_read_again`]).
-//! - [`cut`] gives where the pieces of a long text lie. Joined, they are the text
-//!   ([`laws::pieces_are_the_text`]).
 #![tactic(auto)]
 
-mod cutting;
 mod fault;
 pub mod laws;
 mod list;
 mod reading;
 mod writing;
 
-pub use cutting::cut;
 pub use fault::TextFault;
 pub use list::Pairs;
 pub use reading::pairs;

@@ -1,8 +1,0 @@
-use Rattle.iscsi_text.proofs.CutPieces.{pieces_fit, pieces_are_joined}
-use Rattle.iscsi_text.proofs.laws.pieces_are_the_text.Goals as goal
-
-pub returns-clause-fit : goal.returns-clause-fit
-returns-clause-fit c = pieces_fit
-
-pub returns-clause-joined : goal.returns-clause-joined
-returns-clause-joined c = pieces_are_joined
