@@ -1,4 +1,4 @@
-"""Two initiators of the target of crates/shortage, which goes on where an allocation fails.
+"""Two initiators of the target of crates/two_initiators, which goes on where an allocation fails.
 
 A writes 1 MiB to the disk, as its data is asked for, while B writes records to the tape and reads them back. A resets the
 disk while B has a WRITE in flight and a command behind it. Each reads what both wrote. Then A reserves the disk and goes, and
