@@ -10,16 +10,13 @@ use crate::fault::Memory;
 use crate::send_targets::answer_text;
 use crate::told::{Piece, Told};
 use iscsi_login::Params;
-use iscsi_pdu::{EXCHANGE_TAG, Frame, NO_EXCHANGE_TAG, TextStep};
+use iscsi_pdu::{EXCHANGE_TAG, Frame, MOST_DATA, NO_EXCHANGE_TAG, TextStep};
 use iscsi_text::{TextFault, pairs};
 use std::alloc::Global;
 use std::marker::Model;
 
 /// The longest text that is kept, in bytes.
 const LONGEST_TEXT: usize = 65536;
-
-/// A PDU of the target bears no more data than this, in bytes.
-const MOST_DATA: usize = 262_144;
 
 /// What is remembered of an exchange of texts (RFC 7143 §11.10): the text that goes on, and the answer
 /// that is still to be sent. A session has one at a time.
