@@ -1,7 +1,7 @@
 -- What the pairs of a text in full feature phase are answered (RFC 7143 §6.2, §11.10, Appendix C).
 use Rattle.std.specs.Prelude.{ℕ, List, [], ◌∷◌, ◌++◌, length, filter, flat_map, Bool, true, ◌||◌, ◌==◌, Option, Some, None, is_none, is_some, codes, bytes_eq, if◌then◌else◌}
 use Rattle.iscsi_text.specs.Pairs.{Pair}
-use Rattle.iscsi_login.specs.Keys.{is_answer, is_known}
+use Rattle.iscsi_login.specs.Keys.{is_known, is_passed_over}
 use Rattle.iscsi_login.specs.Directory.{KnownTargets}
 use Rattle.iscsi_login.specs.Session.{target_named}
 use Rattle.iscsi_login.specs.declared.params.Params.{Params}
@@ -46,10 +46,10 @@ send_targets params value = if is_none params.target then discovery_answer param
 abbrev pub other_answer : List ℕ → List Pair
 other_answer key = (key, if is_known key then codes "Reject" else codes "NotUnderstood") ∷ []
 
--- a value that is an answer is passed over
+-- own: a value that is an answer is passed over, but of a key that names
 unfoldable pub pair_answer : Params → Pair → List Pair
 pair_answer params pair =
-    if is_answer pair.1 then []
+    if is_passed_over pair.0 pair.1 then []
     else if bytes_eq pair.0 (codes "SendTargets") then send_targets params pair.1
     else other_answer pair.0
 

@@ -5,7 +5,7 @@ ghost use Rattle.iscsi_text.specs.Pairs.{text_of};
 ghost use Rattle.iscsi_exchange.specs.SendTargets.{target_pairs, asked_pairs, told_of, discovery_answer, normal_answer, send_targets as targets_sent, pair_answer, pairs_answer};
 
 use crate::fault::Memory;
-use iscsi_login::{Directory, Params, is_answer, is_known, position};
+use iscsi_login::{Directory, Params, is_known, is_passed_over, position};
 use iscsi_text::{Pairs, text};
 use std::alloc::Global;
 
@@ -160,7 +160,7 @@ fn put_answer(
 ) -> Result<(), Memory>
     ensures { OnOk result (answer.new ≡ answer.old ++ pair_answer params.now (key.now, value.now)) }
 {
-    if is_answer(value) {
+    if is_passed_over(key, value) {
         return Ok(());
     }
     if key == "SendTargets" {

@@ -2,11 +2,12 @@
 use Rattle.std.specs.Prelude.{◌≡◌, ℕ, List, [], ◌∷◌, Option, Some, None, Bool, true, false, codes, map, refl}
 use Rattle.std.specs.Fmt.{digits}
 use Rattle.iscsi_login.specs.Number.{numeral, number_of, number_in}
-use Rattle.iscsi_login.specs.Keys.{session_negotiation, transfer_negotiation, negotiation_of, is_listed, boolean_of, result_by, is_answer, is_known, settled, key_result}
+use Rattle.iscsi_login.specs.Keys.{session_negotiation, transfer_negotiation, negotiation_of, is_listed, boolean_of, result_by, is_answer, is_name_key, is_passed_over, is_known, settled, key_result}
 
 -- what the examples unfold
 unfoldable pub computed : Bool
-unfolding digits numeral number_of number_in session_negotiation transfer_negotiation negotiation_of is_listed boolean_of result_by is_answer is_known settled key_result
+unfolding digits numeral number_of number_in session_negotiation transfer_negotiation negotiation_of is_listed boolean_of result_by is_answer
+    is_name_key is_passed_over is_known settled key_result
 computed = true
 
 -- the results of several offers of a key

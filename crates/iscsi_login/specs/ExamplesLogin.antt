@@ -17,7 +17,7 @@ use Rattle.iscsi_login.specs.Session.{target_named}
 use Rattle.iscsi_login.specs.Lookup.{Lookup}
 use Rattle.iscsi_login.specs.Values.{default_values, with_result, with_pair}
 use Rattle.iscsi_login.specs.LoginState.{LoginState}
-use Rattle.iscsi_login.specs.Rules.{said, session_type, is_normal, is_discovery, is_name_key, is_segment_refused, pairs_with, target_asked, told_of, asked_for, first_refusal, text_refusal, is_other_session, interrupts, is_too_long, request_refusal, refusal_of}
+use Rattle.iscsi_login.specs.Rules.{said, session_type, is_normal, is_discovery, is_segment_refused, pairs_with, target_asked, told_of, asked_for, first_refusal, text_refusal, is_other_session, interrupts, is_too_long, request_refusal, refusal_of}
 use Rattle.iscsi_login.specs.Login.{answer_pairs, heard, advanced, remembered, login_stamp, login_response, params_of, reply_to, reply_of}
 use Rattle.iscsi_login.specs.declared.params.Params.{Params}
 use Rattle.iscsi_login.specs.declared.reply.Reply.{Reply}
@@ -26,7 +26,7 @@ use Rattle.iscsi_login.specs.declared.values.Values.{Values}
 
 -- what the examples unfold
 unfoldable pub computed : Bool
-unfolding keys_computed is_utf8 chars lib.Utf8.encode text_pairs pieces own_fault target_named with_result with_pair said session_type is_normal is_discovery is_name_key
+unfolding keys_computed is_utf8 chars lib.Utf8.encode text_pairs pieces own_fault target_named with_result with_pair said session_type is_normal is_discovery
     is_segment_refused pairs_with target_asked told_of asked_for first_refusal text_refusal is_other_session interrupts is_too_long request_refusal refusal_of
     answer_pairs heard advanced remembered login_stamp login_response params_of reply_to reply_of
 computed = true

@@ -1,5 +1,5 @@
 -- What an offer of a key comes to (RFC 7143 §6.2, §12, §13).
-use Rattle.std.specs.Prelude.{ℕ, min, max, List, [], ◌∷◌, Bool, true, false, ◌&&◌, ◌||◌, ◌==◌, Option, Some, None, codes, bytes_eq, decimal, if◌then◌else◌}
+use Rattle.std.specs.Prelude.{ℕ, min, max, List, [], ◌∷◌, Bool, true, false, ◌&&◌, not, ◌||◌, ◌==◌, Option, Some, None, codes, bytes_eq, decimal, if◌then◌else◌}
 use Rattle.std.specs.List.{list_any, slice_split}
 use Rattle.iscsi_login.specs.Number.{number_in}
 use Rattle.iscsi_login.specs.declared.keys.Word.{Word}
@@ -141,6 +141,14 @@ result_by kinds.Declared offer = results.NoAnswer
 -- RFC 7143 §6.2: values that answer an offer, and are none
 unfoldable pub is_answer : List ℕ → Bool
 is_answer value = bytes_eq value (codes "NotUnderstood") || bytes_eq value (codes "Irrelevant") || bytes_eq value (codes "Reject")
+
+-- RFC 7143 §13.4, §13.5, §13.21: who the initiator is, and what it asks for
+unfoldable pub is_name_key : List ℕ → Bool
+is_name_key key = bytes_eq key (codes "InitiatorName") || bytes_eq key (codes "TargetName") || bytes_eq key (codes "SessionType")
+
+-- own: a value that answers an offer is passed over, but of a key that names, which is never offered
+unfoldable pub is_passed_over : List ℕ → List ℕ → Bool
+is_passed_over key value = is_answer value && not (is_name_key key)
 
 -- what an offer comes to; own: a value that is an answer is passed over
 unfoldable pub settled : List ℕ → List ℕ → KeyResult

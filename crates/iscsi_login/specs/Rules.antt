@@ -11,7 +11,7 @@ use Rattle.iscsi_pdu.specs.declared.login_response.LoginRefusal.{LoginRefusal}
 use Rattle.iscsi_pdu.specs.declared.login_response.LoginRefusal.TheVariants.{InitiatorError, TargetNotFound, UnsupportedVersion, TooManyConnections, MissingParameter, SessionDoesNotExist}
 use Rattle.iscsi_text.specs.Pairs.{Pair, text_pairs, longest_text, value_of}
 use Rattle.iscsi_login.specs.Number.{number_in}
-use Rattle.iscsi_login.specs.Keys.{is_answer}
+use Rattle.iscsi_login.specs.Keys.{is_answer, is_name_key}
 use Rattle.iscsi_login.specs.Values.{is_segment_key}
 use Rattle.iscsi_login.specs.Session.{is_of, target_named}
 use Rattle.iscsi_login.specs.Lookup.{Lookup}
@@ -145,10 +145,6 @@ rules_of_handle session handle named =
     rule (is_of session.nexus session.target named) TooManyConnections
     ∷ rule (not (handle == 0)) SessionDoesNotExist
     ∷ []
-
--- RFC 7143 §13.4, §13.5, §13.21: keys that a later text may say once more
-unfoldable pub is_name_key : List ℕ → Bool
-is_name_key key = bytes_eq key (codes "InitiatorName") || bytes_eq key (codes "TargetName") || bytes_eq key (codes "SessionType")
 
 abbrev pub is_again_after : Pair → Option (List ℕ) → Bool
 is_again_after pair None = false

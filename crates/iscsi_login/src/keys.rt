@@ -1,7 +1,7 @@
 //! What an offer of a key comes to (RFC 7143 §6.2, §12, §13).
 
 ghost use Rattle.std.specs.Prelude.{◌≡◌, IfOk, decimal, option_map, string_bytes};
-ghost use Rattle.iscsi_login.specs.Keys.{word_text, boolean_text, result_text, negotiation_of, transfer_negotiation as transfer_negotiation_of, session_negotiation as session_negotiation_of, is_listed as is_listed_word, boolean_of, result_by, is_answer as is_answer_value, is_understood, is_known as is_known_key, settled as settled_of, key_result};
+ghost use Rattle.iscsi_login.specs.Keys.{word_text, boolean_text, result_text, negotiation_of, transfer_negotiation as transfer_negotiation_of, session_negotiation as session_negotiation_of, is_listed as is_listed_word, boolean_of, result_by, is_answer as is_answer_value, is_name_key, is_passed_over as is_pair_passed_over, is_understood, is_known as is_known_key, settled as settled_of, key_result};
 
 use crate::fault::Memory;
 use crate::number::number_in;
@@ -163,10 +163,26 @@ fn boolean(offer: &str) -> Option<bool>
 
 /// The value answers an offer, and is none.
 #[tactic(auto, unfolding(crate::specs::Keys::is_answer))]
-pub fn is_answer(value: &str) -> bool
+pub(crate) fn is_answer(value: &str) -> bool
     ensures { result ≡ is_answer_value value.now }
 {
     value == "NotUnderstood" || value == "Irrelevant" || value == "Reject"
+}
+
+/// The key says who the initiator is, or what it asks for.
+#[tactic(auto, unfolding(crate::specs::Keys::is_name_key))]
+pub(crate) fn is_name(key: &str) -> bool
+    ensures { result ≡ is_name_key key.now }
+{
+    key == "InitiatorName" || key == "TargetName" || key == "SessionType"
+}
+
+/// The pair is passed over: its value answers an offer, and its key is none that names.
+#[tactic(auto, unfolding(crate::specs::Keys::is_passed_over))]
+pub fn is_passed_over(key: &str, value: &str) -> bool
+    ensures { result ≡ is_pair_passed_over key.now value.now }
+{
+    is_answer(value) && !is_name(key)
 }
 
 impl Negotiation {

@@ -36,7 +36,7 @@ mod values;
 
 pub use directory::Directory;
 pub use fault::Memory;
-pub use keys::{is_answer, is_known, settle_key};
+pub use keys::{is_known, is_passed_over, settle_key};
 pub use login::Login;
 pub use names::position;
 pub use params::Params;

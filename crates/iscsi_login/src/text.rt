@@ -2,10 +2,10 @@
 
 ghost use Rattle.std.specs.Prelude.{◌≡◌, ◌++◌, IfOk, option_map};
 ghost use Rattle.std.specs.List.{list_any};
-ghost use Rattle.iscsi_login.specs.Rules.{is_name_key, is_again_after, is_segment_refused as is_refused_segment};
+ghost use Rattle.iscsi_login.specs.Rules.{is_again_after, is_segment_refused as is_refused_segment};
 
 use crate::fault::Memory;
-use crate::keys::is_answer;
+use crate::keys::{is_answer, is_name};
 use crate::number::number_in;
 use crate::values::{LEAST_SEGMENT, MOST_SEGMENT};
 use iscsi_text::Pairs;
@@ -18,14 +18,6 @@ pub(crate) fn joined(alloc: Global, kept: &[u8], more: &[u8]) -> Result<Vec<u8>,
     let mut text = Vec::from_slice(alloc, kept)?;
     text.extend_from_slice(more)?;
     Ok(text)
-}
-
-/// The key may be said again in a later text.
-#[tactic(auto, unfolding(crate::specs::Rules::is_name_key))]
-fn is_name(key: &str) -> bool
-    ensures { result ≡ is_name_key key.now }
-{
-    key == "InitiatorName" || key == "TargetName" || key == "SessionType"
 }
 
 /// The key was said before with this value, if it was, and may not be said again so.
