@@ -18,18 +18,19 @@ most_compared = 128
 abbrev pub most_same : ℕ
 most_same = 32768
 
--- the range, where its length is taken
-abbrev pub range_if : Bool → ℕ → ℕ → Option Range
-range_if is_taken first count = if is_taken then Some (record { first = first; count = count }) else None
+-- the range, where it has no fewer blocks and no more
+abbrev pub range_between : ℕ → ℕ → ℕ → ℕ → Option Range
+range_between least most first count =
+    if nat_le least count && nat_le count most then Some (record { first = first; count = count }) else None
 
 -- the blocks of a READ, of a WRITE, of a VERIFY with data
 abbrev pub range_of : ℕ → ℕ → Option Range
-range_of first count = range_if (nat_le count most_blocks) first count
+range_of first count = range_between 0 most_blocks first count
 
 -- the blocks of a COMPARE AND WRITE
 abbrev pub compared_range_of : ℕ → ℕ → Option Range
-compared_range_of first count = range_if (nat_le count most_compared) first count
+compared_range_of first count = range_between 0 most_compared first count
 
 -- the blocks of a WRITE SAME: one at least (SBC-3 "Block Limits VPD page", WSNZ)
 abbrev pub same_range_of : ℕ → ℕ → Option Range
-same_range_of first count = range_if (nat_le 1 count && nat_le count most_same) first count
+same_range_of first count = range_between 1 most_same first count

@@ -1,8 +1,8 @@
 //! Blocks that a command names: so many from the first one on, with the most that it takes in the type.
 //! Whether a disk has them is not known here.
 
-ghost use Rattle.std.specs.Prelude.{◌≡◌, ◌<◌, ◌≤◌};
-ghost use Rattle.scsi_cdb.specs.Range.{most_blocks, most_compared, most_same, range_of, compared_range_of, same_range_of};
+ghost use Rattle.std.specs.Prelude.{◌≡◌, ◌≤◌};
+ghost use Rattle.scsi_cdb.specs.Range.{range_between};
 
 use std::marker::Model;
 
@@ -58,149 +58,60 @@ impl AnyRange {
     }
 }
 
-/// 2048 blocks at most.
+/// LEAST blocks at least, and MOST at most.
 #[derive(Clone, Copy, Debug, PartialEq, Eq)]
-pub struct BlockRange {
+pub struct LimitedRange<const LEAST: u32, const MOST: u32> {
     first: u64,
     count: u32,
 }
 
-impl Model for BlockRange {
+/// The blocks of a READ, of a WRITE, of a VERIFY with data.
+pub type BlockRange = LimitedRange<0, MOST_BLOCKS>;
+
+/// The blocks of a COMPARE AND WRITE.
+pub type ComparedRange = LimitedRange<0, MOST_COMPARED>;
+
+/// The blocks of a WRITE SAME: one at least (SBC-3 "Block Limits VPD page", WSNZ).
+pub type SameRange = LimitedRange<1, MOST_SAME>;
+
+impl<const LEAST: u32, const MOST: u32> Model for LimitedRange<LEAST, MOST> {
     ghost use Rattle.std.specs.Prelude.{◌≤◌, refl};
-    ghost use Rattle.scsi_cdb.specs.Range.{Range, most_blocks};
+    ghost use Rattle.scsi_cdb.specs.Range.{Range};
 
     ghost Value = { Range };
 
     ghost view = { λ r. record { first = r.first; count = r.count } };
 
-    ghost invariant = { λ r. r.count ≤ most_blocks };
+    ghost invariant = { λ r. (LEAST ≤ r.count) × (r.count ≤ MOST) };
 
     ghost inverse = { λ r. record { first = r.first; count = r.count } };
 
     ghost inverse_ok = { λ r is. refl };
 }
 
-impl BlockRange {
-    /// The range, or none where it has too many blocks.
-    pub fn new(first: u64, count: u32) -> Option<BlockRange>
-        ensures { result ≡ range_of first count }
+impl<const LEAST: u32, const MOST: u32> LimitedRange<LEAST, MOST> {
+    /// The range, or none where it has too few blocks or too many.
+    pub fn new(first: u64, count: u32) -> Option<LimitedRange<LEAST, MOST>>
+        ensures { result ≡ range_between LEAST MOST first count }
     {
-        if count > MOST_BLOCKS {
+        if count < LEAST || count > MOST {
             return None;
         }
-        Some(BlockRange { first, count })
+        Some(LimitedRange { first, count })
     }
 
     /// The logical block address of the first one.
     pub fn first(self) -> u64
-        ensures { result ≡ self.first }
+        ensures { result ≡ self.entry.first }
     {
         self.first
     }
 
     /// How many there are.
     pub fn count(self) -> u32
-        ensures value { result ≡ self.count }
-        ensures bound { result ≤ most_blocks }
-    {
-        self.count
-    }
-}
-
-/// 128 blocks at most.
-#[derive(Clone, Copy, Debug, PartialEq, Eq)]
-pub struct ComparedRange {
-    first: u64,
-    count: u32,
-}
-
-impl Model for ComparedRange {
-    ghost use Rattle.std.specs.Prelude.{◌≤◌, refl};
-    ghost use Rattle.scsi_cdb.specs.Range.{Range, most_compared};
-
-    ghost Value = { Range };
-
-    ghost view = { λ r. record { first = r.first; count = r.count } };
-
-    ghost invariant = { λ r. r.count ≤ most_compared };
-
-    ghost inverse = { λ r. record { first = r.first; count = r.count } };
-
-    ghost inverse_ok = { λ r is. refl };
-}
-
-impl ComparedRange {
-    /// The range, or none where it has too many blocks.
-    pub fn new(first: u64, count: u32) -> Option<ComparedRange>
-        ensures { result ≡ compared_range_of first count }
-    {
-        if count > MOST_COMPARED {
-            return None;
-        }
-        Some(ComparedRange { first, count })
-    }
-
-    /// The logical block address of the first one.
-    pub fn first(self) -> u64
-        ensures { result ≡ self.first }
-    {
-        self.first
-    }
-
-    /// How many there are.
-    pub fn count(self) -> u32
-        ensures value { result ≡ self.count }
-        ensures bound { result ≤ most_compared }
-    {
-        self.count
-    }
-}
-
-/// One block at least, and 32768 at most.
-#[derive(Clone, Copy, Debug, PartialEq, Eq)]
-pub struct SameRange {
-    first: u64,
-    count: u32,
-}
-
-impl Model for SameRange {
-    ghost use Rattle.std.specs.Prelude.{◌<◌, ◌≤◌, refl};
-    ghost use Rattle.scsi_cdb.specs.Range.{Range, most_same};
-
-    ghost Value = { Range };
-
-    ghost view = { λ r. record { first = r.first; count = r.count } };
-
-    ghost invariant = { λ r. (0 < r.count) × (r.count ≤ most_same) };
-
-    ghost inverse = { λ r. record { first = r.first; count = r.count } };
-
-    ghost inverse_ok = { λ r is. refl };
-}
-
-impl SameRange {
-    /// The range, or none where it has no block or too many.
-    pub fn new(first: u64, count: u32) -> Option<SameRange>
-        ensures { result ≡ same_range_of first count }
-    {
-        if count == 0 || count > MOST_SAME {
-            return None;
-        }
-        Some(SameRange { first, count })
-    }
-
-    /// The logical block address of the first one.
-    pub fn first(self) -> u64
-        ensures { result ≡ self.first }
-    {
-        self.first
-    }
-
-    /// How many there are.
-    pub fn count(self) -> u32
-        ensures value { result ≡ self.count }
-        ensures some { 0 < result }
-        ensures bound { result ≤ most_same }
+        ensures value { result ≡ self.entry.count }
+        ensures least { LEAST ≤ result }
+        ensures most { result ≤ MOST }
     {
         self.count
     }

@@ -65,7 +65,8 @@ mod report_luns;
 mod tape;
 
 pub use block_range::{
-    AnyRange, BlockRange, ComparedRange, MOST_BLOCKS, MOST_COMPARED, MOST_SAME, SameRange,
+    AnyRange, BlockRange, ComparedRange, LimitedRange, MOST_BLOCKS, MOST_COMPARED, MOST_SAME,
+    SameRange,
 };
 pub use cdb::Cdb;
 pub use command::{Command, DiskCommand, UnitCommand};

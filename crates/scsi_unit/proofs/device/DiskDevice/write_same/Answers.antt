@@ -10,7 +10,7 @@ pub returns-in-Ok-clause-done : goal.returns-in-Ok-clause-done
 returns-in-Ok-clause-done g c =
     let range = c.args.range in
     let disk = c.args.self.now.disk in
-    let some : nat_lt 0 range.count ≡ true = rw c.count.ensures.value at (lt-ltb 0 c.count.result c.count.ensures.some) in
+    let some : nat_lt 0 range.count ≡ true = rw c.count.ensures.value at (lt-ltb 0 c.count.result c.count.ensures.least) in
     let done = c.in-Ok.ensures in
     rw c.good_taking.ensures
     (same_given range c.args.«data».now (disk_view c.args.self.now) c.same.new.self some
@@ -22,7 +22,7 @@ pub returns-in-Err-clause-done : goal.returns-in-Err-clause-done
 returns-in-Err-clause-done g c =
     let range = c.args.range in
     let disk = c.args.self.now.disk in
-    let some : nat_lt 0 range.count ≡ true = rw c.count.ensures.value at (lt-ltb 0 c.count.result c.count.ensures.some) in
+    let some : nat_lt 0 range.count ≡ true = rw c.count.ensures.value at (lt-ltb 0 c.count.result c.count.ensures.least) in
     let done = c.in-Err.ensures in
     rw (c.write_failed.ensures.told, c.write_failed.ensures.disk)
     (same_failed range c.args.«data».now (disk_view c.args.self.now) c.same.new.self some
