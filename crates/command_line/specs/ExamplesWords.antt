@@ -1,5 +1,5 @@
 -- Words and what they ask for, computed.
-use Rattle.std.specs.Prelude.{◌≡◌, ℕ, List, [], ◌∷◌, codes, Some, None, refl}
+use Rattle.std.specs.Prelude.{◌≡◌, ℕ, List, [], ◌∷◌, length, map, replicate, codes, Some, None, refl}
 use Rattle.clap.proofs.OnLiterals.{clap_on_literals}
 use Rattle.command_line.specs.Words.{Command, Replay, Serve, mode_in}
 
@@ -7,9 +7,9 @@ use Rattle.command_line.specs.Words.{Command, Replay, Serve, mode_in}
 abbrev Gives : List (List ℕ) → Command → Type 0
 Gives words command = mode_in words ≡ Some command
 
--- these words give no command
-abbrev GivesNone : List (List ℕ) → Type 0
-GivesNone words = mode_in words ≡ None
+-- none of these words gives a command
+abbrev GiveNone : List (List (List ℕ)) → Type 0
+GiveNone each = map mode_in each ≡ replicate (length each) None
 
 -- ---- replay
 
@@ -85,275 +85,106 @@ without_end = refl
 
 -- ---- no command
 
-no_words : GivesNone []
+no_command : GiveNone (
+    []  -- no words
+    ∷ ([] ∷ [])  -- empty word alone
+    ∷ (codes "repla" ∷ codes "--config" ∷ codes "F" ∷ [])  -- unknown
+    ∷ (codes "Replay" ∷ codes "--config" ∷ codes "F" ∷ [])  -- other case
+    ∷ (codes "replay " ∷ codes "--config" ∷ codes "F" ∷ [])  -- with space
+    ∷ (codes "replay" ∷ codes "replay" ∷ codes "--config" ∷ codes "F" ∷ [])  -- command twice
+    ∷ (codes "--config" ∷ codes "F" ∷ codes "replay" ∷ [])  -- option before
+    ∷ (codes "--config" ∷ codes "F" ∷ [])  -- option alone
+    ∷ []
+    )
 unfolding clap_on_literals
-no_words = refl
-
-empty_word_alone : GivesNone ([] ∷ [])
-unfolding clap_on_literals
-empty_word_alone = refl
-
-unknown : GivesNone (codes "repla" ∷ codes "--config" ∷ codes "F" ∷ [])
-unfolding clap_on_literals
-unknown = refl
-
-other_case : GivesNone (codes "Replay" ∷ codes "--config" ∷ codes "F" ∷ [])
-unfolding clap_on_literals
-other_case = refl
-
-with_space : GivesNone (codes "replay " ∷ codes "--config" ∷ codes "F" ∷ [])
-unfolding clap_on_literals
-with_space = refl
-
-command_twice : GivesNone (codes "replay" ∷ codes "replay" ∷ codes "--config" ∷ codes "F" ∷ [])
-unfolding clap_on_literals
-command_twice = refl
-
-option_before : GivesNone (codes "--config" ∷ codes "F" ∷ codes "replay" ∷ [])
-unfolding clap_on_literals
-option_before = refl
-
-option_alone : GivesNone (codes "--config" ∷ codes "F" ∷ [])
-unfolding clap_on_literals
-option_alone = refl
+no_command = refl
 
 -- ---- the configuration
 
-bare_replay : GivesNone (codes "replay" ∷ [])
+no_configuration : GiveNone (
+    (codes "replay" ∷ [])  -- bare replay
+    ∷ (codes "serve" ∷ [])  -- bare serve
+    ∷ (codes "replay" ∷ codes "--config" ∷ [])  -- no value
+    ∷ (codes "replay" ∷ codes "--config" ∷ [] ∷ [])  -- empty value
+    ∷ (codes "replay" ∷ codes "--config=" ∷ [])  -- empty in one word
+    ∷ (codes "replay" ∷ codes "--config" ∷ codes "F" ∷ codes "--config" ∷ codes "F" ∷ [])  -- twice
+    ∷ (codes "replay" ∷ codes "--config=F" ∷ codes "--config=F" ∷ [])  -- twice in one word
+    ∷ (codes "replay" ∷ codes "--config=F" ∷ codes "--config" ∷ codes "F" ∷ [])  -- twice in both
+    ∷ (codes "serve" ∷ codes "--turns" ∷ codes "1" ∷ codes "--config" ∷ codes "F" ∷ codes "--config" ∷ codes "F" ∷ [])  -- twice behind turns
+    ∷ (codes "replay" ∷ codes "--conf" ∷ codes "F" ∷ [])  -- abbreviated
+    ∷ (codes "replay" ∷ codes "--conf=F" ∷ [])  -- abbreviated in one word
+    ∷ (codes "replay" ∷ codes "--Config" ∷ codes "F" ∷ [])  -- option of other case
+    ∷ (codes "replay" ∷ codes "-config" ∷ codes "F" ∷ [])  -- one dash
+    ∷ (codes "replay" ∷ codes "-c" ∷ codes "F" ∷ [])  -- short
+    ∷ (codes "replay" ∷ codes "--config" ∷ codes "-x" ∷ [])  -- a value in its own word is no option
+    ∷ (codes "replay" ∷ codes "--config" ∷ codes "--x" ∷ [])  -- value of two dashes
+    ∷ (codes "serve" ∷ codes "--turns" ∷ codes "3" ∷ [])  -- turns missing config
+    ∷ []
+    )
 unfolding clap_on_literals
-bare_replay = refl
-
-bare_serve : GivesNone (codes "serve" ∷ [])
-unfolding clap_on_literals
-bare_serve = refl
-
-no_value : GivesNone (codes "replay" ∷ codes "--config" ∷ [])
-unfolding clap_on_literals
-no_value = refl
-
-empty_value : GivesNone (codes "replay" ∷ codes "--config" ∷ [] ∷ [])
-unfolding clap_on_literals
-empty_value = refl
-
-empty_in_one_word : GivesNone (codes "replay" ∷ codes "--config=" ∷ [])
-unfolding clap_on_literals
-empty_in_one_word = refl
-
-twice : GivesNone (codes "replay" ∷ codes "--config" ∷ codes "F" ∷ codes "--config" ∷ codes "F" ∷ [])
-unfolding clap_on_literals
-twice = refl
-
-twice_in_one_word : GivesNone (codes "replay" ∷ codes "--config=F" ∷ codes "--config=F" ∷ [])
-unfolding clap_on_literals
-twice_in_one_word = refl
-
-twice_in_both : GivesNone (codes "replay" ∷ codes "--config=F" ∷ codes "--config" ∷ codes "F" ∷ [])
-unfolding clap_on_literals
-twice_in_both = refl
-
-twice_behind_turns : GivesNone (codes "serve" ∷ codes "--turns" ∷ codes "1" ∷ codes "--config" ∷ codes "F" ∷ codes "--config" ∷ codes "F" ∷ [])
-unfolding clap_on_literals
-twice_behind_turns = refl
-
-abbreviated : GivesNone (codes "replay" ∷ codes "--conf" ∷ codes "F" ∷ [])
-unfolding clap_on_literals
-abbreviated = refl
-
-abbreviated_in_one_word : GivesNone (codes "replay" ∷ codes "--conf=F" ∷ [])
-unfolding clap_on_literals
-abbreviated_in_one_word = refl
-
-option_of_other_case : GivesNone (codes "replay" ∷ codes "--Config" ∷ codes "F" ∷ [])
-unfolding clap_on_literals
-option_of_other_case = refl
-
-one_dash : GivesNone (codes "replay" ∷ codes "-config" ∷ codes "F" ∷ [])
-unfolding clap_on_literals
-one_dash = refl
-
-short : GivesNone (codes "replay" ∷ codes "-c" ∷ codes "F" ∷ [])
-unfolding clap_on_literals
-short = refl
-
--- a value in its own word is no option
-value_with_dash : GivesNone (codes "replay" ∷ codes "--config" ∷ codes "-x" ∷ [])
-unfolding clap_on_literals
-value_with_dash = refl
-
-value_of_two_dashes : GivesNone (codes "replay" ∷ codes "--config" ∷ codes "--x" ∷ [])
-unfolding clap_on_literals
-value_of_two_dashes = refl
-
-turns_missing_config : GivesNone (codes "serve" ∷ codes "--turns" ∷ codes "3" ∷ [])
-unfolding clap_on_literals
-turns_missing_config = refl
+no_configuration = refl
 
 -- ---- words too many
 
-dashes_behind : GivesNone (codes "replay" ∷ codes "--config" ∷ codes "F" ∷ codes "--" ∷ [])
+words_too_many : GiveNone (
+    (codes "replay" ∷ codes "--config" ∷ codes "F" ∷ codes "--" ∷ [])  -- dashes behind
+    ∷ (codes "replay" ∷ codes "--config=F" ∷ codes "--" ∷ [])  -- dashes behind in one word
+    ∷ (codes "replay" ∷ codes "--config" ∷ codes "--" ∷ [])  -- dashes for value
+    ∷ (codes "replay" ∷ codes "--config" ∷ codes "F" ∷ codes "--" ∷ codes "F" ∷ [])  -- dashes and word
+    ∷ (codes "replay" ∷ codes "--" ∷ codes "--config" ∷ codes "F" ∷ [])  -- dashes before option
+    ∷ (codes "replay" ∷ codes "--config" ∷ codes "--" ∷ codes "F" ∷ [])  -- dashes before value
+    ∷ (codes "--" ∷ codes "replay" ∷ codes "--config" ∷ codes "F" ∷ [])  -- dashes first
+    ∷ (codes "serve" ∷ codes "--config" ∷ codes "F" ∷ codes "--" ∷ codes "--turns" ∷ codes "1" ∷ [])  -- dashes before turns
+    ∷ (codes "replay" ∷ codes "--config" ∷ codes "F" ∷ codes "F" ∷ [])  -- word behind
+    ∷ (codes "replay" ∷ codes "--config" ∷ codes "F" ∷ [] ∷ [])  -- empty behind
+    ∷ (codes "replay" ∷ codes "--config" ∷ codes "F" ∷ codes "-" ∷ [])  -- hyphen behind
+    ∷ (codes "replay" ∷ codes "F" ∷ [])  -- word for option
+    ∷ (codes "replay" ∷ codes "F" ∷ codes "--config" ∷ codes "F" ∷ [])  -- word before option
+    ∷ (codes "serve" ∷ codes "F" ∷ [])  -- word for serve
+    ∷ (codes "replay" ∷ codes "--config" ∷ codes "F" ∷ codes "--turns" ∷ codes "3" ∷ [])  -- replay turns
+    ∷ (codes "replay" ∷ codes "--config" ∷ codes "F" ∷ codes "-v" ∷ [])  -- unknown flag
+    ∷ (codes "serve" ∷ codes "--config" ∷ codes "F" ∷ codes "--turns" ∷ codes "1" ∷ codes "more" ∷ [])  -- word behind turns
+    ∷ []
+    )
 unfolding clap_on_literals
-dashes_behind = refl
-
-dashes_behind_in_one_word : GivesNone (codes "replay" ∷ codes "--config=F" ∷ codes "--" ∷ [])
-unfolding clap_on_literals
-dashes_behind_in_one_word = refl
-
-dashes_for_value : GivesNone (codes "replay" ∷ codes "--config" ∷ codes "--" ∷ [])
-unfolding clap_on_literals
-dashes_for_value = refl
-
-dashes_and_word : GivesNone (codes "replay" ∷ codes "--config" ∷ codes "F" ∷ codes "--" ∷ codes "F" ∷ [])
-unfolding clap_on_literals
-dashes_and_word = refl
-
-dashes_before_option : GivesNone (codes "replay" ∷ codes "--" ∷ codes "--config" ∷ codes "F" ∷ [])
-unfolding clap_on_literals
-dashes_before_option = refl
-
-dashes_before_value : GivesNone (codes "replay" ∷ codes "--config" ∷ codes "--" ∷ codes "F" ∷ [])
-unfolding clap_on_literals
-dashes_before_value = refl
-
-dashes_first : GivesNone (codes "--" ∷ codes "replay" ∷ codes "--config" ∷ codes "F" ∷ [])
-unfolding clap_on_literals
-dashes_first = refl
-
-dashes_before_turns : GivesNone (codes "serve" ∷ codes "--config" ∷ codes "F" ∷ codes "--" ∷ codes "--turns" ∷ codes "1" ∷ [])
-unfolding clap_on_literals
-dashes_before_turns = refl
-
-word_behind : GivesNone (codes "replay" ∷ codes "--config" ∷ codes "F" ∷ codes "F" ∷ [])
-unfolding clap_on_literals
-word_behind = refl
-
-empty_behind : GivesNone (codes "replay" ∷ codes "--config" ∷ codes "F" ∷ [] ∷ [])
-unfolding clap_on_literals
-empty_behind = refl
-
-hyphen_behind : GivesNone (codes "replay" ∷ codes "--config" ∷ codes "F" ∷ codes "-" ∷ [])
-unfolding clap_on_literals
-hyphen_behind = refl
-
-word_for_option : GivesNone (codes "replay" ∷ codes "F" ∷ [])
-unfolding clap_on_literals
-word_for_option = refl
-
-word_before_option : GivesNone (codes "replay" ∷ codes "F" ∷ codes "--config" ∷ codes "F" ∷ [])
-unfolding clap_on_literals
-word_before_option = refl
-
-word_for_serve : GivesNone (codes "serve" ∷ codes "F" ∷ [])
-unfolding clap_on_literals
-word_for_serve = refl
-
-replay_turns : GivesNone (codes "replay" ∷ codes "--config" ∷ codes "F" ∷ codes "--turns" ∷ codes "3" ∷ [])
-unfolding clap_on_literals
-replay_turns = refl
-
-unknown_flag : GivesNone (codes "replay" ∷ codes "--config" ∷ codes "F" ∷ codes "-v" ∷ [])
-unfolding clap_on_literals
-unknown_flag = refl
-
-word_behind_turns : GivesNone (codes "serve" ∷ codes "--config" ∷ codes "F" ∷ codes "--turns" ∷ codes "1" ∷ codes "more" ∷ [])
-unfolding clap_on_literals
-word_behind_turns = refl
+words_too_many = refl
 
 -- ---- turns
 
-turns_alone : GivesNone (codes "serve" ∷ codes "--config" ∷ codes "F" ∷ codes "--turns" ∷ [])
+no_turns : GiveNone (
+    (codes "serve" ∷ codes "--config" ∷ codes "F" ∷ codes "--turns" ∷ [])  -- turns alone
+    ∷ (codes "serve" ∷ codes "--config=F" ∷ codes "--turns=" ∷ [])  -- empty turns
+    ∷ (codes "serve" ∷ codes "--config" ∷ codes "F" ∷ codes "--turns" ∷ [] ∷ [])  -- empty turns word
+    ∷ (codes "serve" ∷ codes "--config=F" ∷ codes "--turns=-1" ∷ [])  -- negative
+    ∷ (codes "serve" ∷ codes "--config" ∷ codes "F" ∷ codes "--turns" ∷ codes "-1" ∷ [])  -- negative word
+    ∷ (codes "serve" ∷ codes "--config=F" ∷ codes "--turns=+5" ∷ [])  -- plus
+    ∷ (codes "serve" ∷ codes "--config" ∷ codes "F" ∷ codes "--turns" ∷ codes "+1" ∷ [])  -- plus word
+    ∷ (codes "serve" ∷ codes "--config" ∷ codes "F" ∷ codes "--turns" ∷ codes "0x1" ∷ [])  -- hexadecimal
+    ∷ (codes "serve" ∷ codes "--config" ∷ codes "F" ∷ codes "--turns=x" ∷ [])  -- text turns
+    ∷ (codes "serve" ∷ codes "--config=F" ∷ codes "--turns=18446744073709551616" ∷ [])  -- too great
+    ∷ (codes "serve" ∷ codes "--config" ∷ codes "F" ∷ codes "--turns" ∷ codes "18446744073709551616" ∷ [])  -- too great word
+    ∷ (codes "serve" ∷ codes "--config" ∷ codes "F" ∷ codes "--turns" ∷ codes "1" ∷ codes "--turns" ∷ codes "1" ∷ [])  -- turns twice
+    ∷ (codes "serve" ∷ codes "--config" ∷ codes "F" ∷ codes "--turns=1" ∷ codes "--turns=1" ∷ [])  -- turns twice in one word
+    ∷ (codes "serve" ∷ codes "--turns" ∷ codes "1" ∷ codes "--turns" ∷ codes "1" ∷ [])  -- turns twice alone
+    ∷ []
+    )
 unfolding clap_on_literals
-turns_alone = refl
-
-empty_turns : GivesNone (codes "serve" ∷ codes "--config=F" ∷ codes "--turns=" ∷ [])
-unfolding clap_on_literals
-empty_turns = refl
-
-empty_turns_word : GivesNone (codes "serve" ∷ codes "--config" ∷ codes "F" ∷ codes "--turns" ∷ [] ∷ [])
-unfolding clap_on_literals
-empty_turns_word = refl
-
-negative : GivesNone (codes "serve" ∷ codes "--config=F" ∷ codes "--turns=-1" ∷ [])
-unfolding clap_on_literals
-negative = refl
-
-negative_word : GivesNone (codes "serve" ∷ codes "--config" ∷ codes "F" ∷ codes "--turns" ∷ codes "-1" ∷ [])
-unfolding clap_on_literals
-negative_word = refl
-
-plus : GivesNone (codes "serve" ∷ codes "--config=F" ∷ codes "--turns=+5" ∷ [])
-unfolding clap_on_literals
-plus = refl
-
-plus_word : GivesNone (codes "serve" ∷ codes "--config" ∷ codes "F" ∷ codes "--turns" ∷ codes "+1" ∷ [])
-unfolding clap_on_literals
-plus_word = refl
-
-hexadecimal : GivesNone (codes "serve" ∷ codes "--config" ∷ codes "F" ∷ codes "--turns" ∷ codes "0x1" ∷ [])
-unfolding clap_on_literals
-hexadecimal = refl
-
-text_turns : GivesNone (codes "serve" ∷ codes "--config" ∷ codes "F" ∷ codes "--turns=x" ∷ [])
-unfolding clap_on_literals
-text_turns = refl
-
-too_great : GivesNone (codes "serve" ∷ codes "--config=F" ∷ codes "--turns=18446744073709551616" ∷ [])
-unfolding clap_on_literals
-too_great = refl
-
-too_great_word : GivesNone (codes "serve" ∷ codes "--config" ∷ codes "F" ∷ codes "--turns" ∷ codes "18446744073709551616" ∷ [])
-unfolding clap_on_literals
-too_great_word = refl
-
-turns_twice : GivesNone (codes "serve" ∷ codes "--config" ∷ codes "F" ∷ codes "--turns" ∷ codes "1" ∷ codes "--turns" ∷ codes "1" ∷ [])
-unfolding clap_on_literals
-turns_twice = refl
-
-turns_twice_in_one_word : GivesNone (codes "serve" ∷ codes "--config" ∷ codes "F" ∷ codes "--turns=1" ∷ codes "--turns=1" ∷ [])
-unfolding clap_on_literals
-turns_twice_in_one_word = refl
-
-turns_twice_alone : GivesNone (codes "serve" ∷ codes "--turns" ∷ codes "1" ∷ codes "--turns" ∷ codes "1" ∷ [])
-unfolding clap_on_literals
-turns_twice_alone = refl
+no_turns = refl
 
 -- ---- calls for help
 
-help : GivesNone (codes "help" ∷ [])
+no_help : GiveNone (
+    (codes "help" ∷ [])  -- help
+    ∷ (codes "help" ∷ codes "replay" ∷ [])  -- help command
+    ∷ (codes "--help" ∷ [])  -- help flag
+    ∷ (codes "-h" ∷ [])  -- help short
+    ∷ (codes "replay" ∷ codes "--help" ∷ [])  -- help of replay
+    ∷ (codes "serve" ∷ codes "--help" ∷ [])  -- help of serve
+    ∷ (codes "replay" ∷ codes "--config" ∷ codes "F" ∷ codes "--help" ∷ [])  -- help behind
+    ∷ (codes "replay" ∷ codes "--config=F" ∷ codes "-h" ∷ [])  -- help short behind
+    ∷ (codes "--version" ∷ [])  -- version
+    ∷ (codes "-V" ∷ [])  -- version short
+    ∷ []
+    )
 unfolding clap_on_literals
-help = refl
-
-help_command : GivesNone (codes "help" ∷ codes "replay" ∷ [])
-unfolding clap_on_literals
-help_command = refl
-
-help_flag : GivesNone (codes "--help" ∷ [])
-unfolding clap_on_literals
-help_flag = refl
-
-help_short : GivesNone (codes "-h" ∷ [])
-unfolding clap_on_literals
-help_short = refl
-
-help_of_replay : GivesNone (codes "replay" ∷ codes "--help" ∷ [])
-unfolding clap_on_literals
-help_of_replay = refl
-
-help_of_serve : GivesNone (codes "serve" ∷ codes "--help" ∷ [])
-unfolding clap_on_literals
-help_of_serve = refl
-
-help_behind : GivesNone (codes "replay" ∷ codes "--config" ∷ codes "F" ∷ codes "--help" ∷ [])
-unfolding clap_on_literals
-help_behind = refl
-
-help_short_behind : GivesNone (codes "replay" ∷ codes "--config=F" ∷ codes "-h" ∷ [])
-unfolding clap_on_literals
-help_short_behind = refl
-
-version : GivesNone (codes "--version" ∷ [])
-unfolding clap_on_literals
-version = refl
-
-version_short : GivesNone (codes "-V" ∷ [])
-unfolding clap_on_literals
-version_short = refl
+no_help = refl
