@@ -2,4 +2,5 @@ pub mod Writes
 pub mod Joined
 pub mod PartsRead
 pub mod PartsWritten
+pub mod Tries
 pub mod Outcomes

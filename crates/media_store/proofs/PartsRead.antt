@@ -1,16 +1,18 @@
 -- A whole read, part by part.
-use Rattle.std.proofs.Common.{◌≡◌, ℕ, ◌+◌, ◌-◌, min, ◌≤◌, ◌&&◌, List, [], ◌∷◌, ◌++◌, length, take, drop, slice_range, refl, sym, ◌∙◌, ap, arith, rules, bytes_eq}
+use Rattle.std.proofs.Common.{◌≡◌, ℕ, ◌+◌, ◌-◌, min, ◌≤◌, ◌&&◌, Bool, false, List, [], ◌∷◌, ◌++◌, length, take, drop, slice_range, refl, sym, ◌∙◌, ap, arith, rules, bytes_eq}
 use Rattle.std.proofs.lemmas.List.{same_lists, places, length-append, take_at, drop_at}
-use Rattle.std.proofs.lemmas.Bool.{and_parts, and_from}
+use Rattle.std.proofs.lemmas.Bool.{and_parts, and_from, false≢true}
 use Rattle.std.proofs.lemmas.Slice.Eq.{bytes_eq-Decides}
 use Rattle.media_store.proofs.Joined.{same_test, and_true, and_assoc}
+use Rattle.media_store.specs.Whole.{HasRead}
 use Rattle.media_store.specs.Calls.{FileCall, Read, NotRead}
-use Rattle.media_store.specs.Replay.{Origin, content_of, agrees, is_honest}
+use Rattle.media_store.specs.Replay.{Origin, content_of, agrees, is_honest, is_synced}
 
 -- so many bytes have come into the front of a buffer
 pub record HasComeTo (origin : Origin) (at : ℕ) (buffer : List ℕ) (done : ℕ) (old new : List FileCall) : Type 0 where
   pub content : content_of origin new ≡ content_of origin old
   pub honest : is_honest origin new ≡ (is_honest origin old && agrees (Read at (take done buffer)) (content_of origin old))
+  pub synced : is_synced new ≡ is_synced old
 
 -- the range of two parts
 range-split : (content : List ℕ) (at m n : ℕ)
@@ -47,7 +49,7 @@ agrees-append content at first second m is =
 pub HasComeTo-none : (origin : Origin) (at : ℕ) (buffer : List ℕ) (calls : List FileCall) → HasComeTo origin at buffer 0 calls calls
 HasComeTo-none origin at buffer calls =
     let none : slice_range (content_of origin calls) at (at + 0) ≡ [] = same_lists _ _ (search (rules, places)) (λ k d h. grind (arith, places)) in
-    record { content = refl; honest = rw none (sym (and_true (is_honest origin calls))) }
+    record { content = refl; honest = rw none (sym (and_true (is_honest origin calls))); synced = refl }
 
 -- one more part comes
 pub HasComeTo-more : (origin : Origin) (at : ℕ) (buffer after part : List ℕ) (done end : ℕ) (old now : List FileCall)
@@ -63,6 +65,7 @@ HasComeTo-more origin at buffer after part done end old now within is parts come
       content = come.content;
       honest = rw (parts, whole, come.content, come.honest) (and_assoc (is_honest origin old) (agrees (Read at (take done buffer)) content)
           (agrees (Read (at + done) part) content));
+      synced = come.synced;
     }
 
 -- a call fails
@@ -72,4 +75,28 @@ pub HasComeTo-again : (origin : Origin) (at : ℕ) (buffer after : List ℕ) (do
 HasComeTo-again origin at buffer after done from count old now same come = record {
   content = come.content;
   honest = rw same (and_true _ ∙ come.honest);
+  synced = come.synced;
+}
+
+-- all bytes have come, or some have not
+pub HasRead-whole : (origin : Origin) (at : ℕ) (buffer : List ℕ) (done : ℕ) (ok : Bool) (old now : List FileCall)
+    → done ≡ length buffer → HasComeTo origin at buffer done old now → HasRead origin at buffer ok old now
+HasRead-whole origin at buffer done ok old now all come = record {
+  count = done;
+  within = omega (arith, all);
+  whole = λ _. all;
+  content = come.content;
+  honest = come.honest;
+  synced = come.synced;
+}
+
+pub HasRead-part : (origin : Origin) (at : ℕ) (buffer : List ℕ) (done : ℕ) (old now : List FileCall)
+    → done ≤ length buffer → HasComeTo origin at buffer done old now → HasRead origin at buffer false old now
+HasRead-part origin at buffer done old now within come = record {
+  count = done;
+  within = within;
+  whole = λ h. absurd (false≢true h);
+  content = come.content;
+  honest = come.honest;
+  synced = come.synced;
 }

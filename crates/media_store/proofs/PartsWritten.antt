@@ -4,7 +4,7 @@ use Rattle.std.proofs.lemmas.List.{append-nil, append_assoc, nil_from_length, ta
 use Rattle.std.proofs.lemmas.Bool.{cases_lt, false≢true}
 use Rattle.media_store.specs.Content.{resized, overlaid, written, KeepsOutside, KeepsFront}
 use Rattle.media_store.specs.Calls.{FileCall, Wrote, NotWritten}
-use Rattle.media_store.specs.Replay.{Origin, content_of, is_honest}
+use Rattle.media_store.specs.Replay.{Origin, content_of, is_honest, path_of, is_synced}
 use Rattle.media_store.specs.Whole.{HasWritten}
 use Rattle.media_store.proofs.Writes.{written-some}
 use Rattle.media_store.proofs.Joined.{and_true}
@@ -211,7 +211,7 @@ pub HasPutTo-again : (origin : Origin) (at : ℕ) (bytes : List ℕ) (done count
     → done ≤ length bytes → count ≡ length bytes - done
     → HasPutTo origin at bytes done old now → HasPutTo origin at bytes done old (NotWritten (at + done) count ∷ now)
 HasPutTo-again origin at bytes done count old now within is p =
-    let part = take count (origin.torn (length now)) in
+    let part = take count (origin.torn (path_of now) (length now)) in
     let few : length part ≤ count = search (rules, places) in
     put-more origin at bytes part done done old now (NotWritten (at + done) count ∷ now) within (omega arith) p
     (omega (arith, length-written done part p.put p.below, p.below))
@@ -219,13 +219,13 @@ HasPutTo-again origin at bytes done count old now within is p =
 
 -- all bytes are written, or some are not
 pub HasWritten-whole : (origin : Origin) (at : ℕ) (bytes : List ℕ) (done : ℕ) (ok : Bool) (old now : List FileCall)
-    → length bytes ≤ done → HasPutTo origin at bytes done old now → HasWritten origin at bytes ok old now
-HasWritten-whole origin at bytes done ok old now all p =
+    → length bytes ≤ done → is_synced now ≡ false → HasPutTo origin at bytes done old now → HasWritten origin at bytes ok old now
+HasWritten-whole origin at bytes done ok old now all synced p =
     let long : length p.put ≤ done = omega (arith, p.within) in
     let same : p.put ≡ bytes = sym (take_all done p.put long) ∙ p.front ∙ take_all done bytes all in
-    record { put = p.put; within = p.within; whole = λ _. same; content = p.content; honest = p.honest }
+    record { put = p.put; within = p.within; whole = λ _. same; content = p.content; honest = p.honest; synced = synced }
 
 pub HasWritten-part : (origin : Origin) (at : ℕ) (bytes : List ℕ) (done : ℕ) (old now : List FileCall)
-    → HasPutTo origin at bytes done old now → HasWritten origin at bytes false old now
-HasWritten-part origin at bytes done old now p =
-    record { put = p.put; within = p.within; whole = λ h. absurd (false≢true h); content = p.content; honest = p.honest }
+    → is_synced now ≡ false → HasPutTo origin at bytes done old now → HasWritten origin at bytes false old now
+HasWritten-part origin at bytes done old now synced p =
+    record { put = p.put; within = p.within; whole = λ h. absurd (false≢true h); content = p.content; honest = p.honest; synced = synced }

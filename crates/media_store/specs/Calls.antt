@@ -1,10 +1,12 @@
 -- The calls of the system on an open file, and how they are noted.
 use Rattle.std.specs.Prelude.{ℕ, false, ◌==◌, if◌then◌else◌, List, map, length, take, slice_index, slice_index_or, Result, Ok, Err}
 use Rattle.call_record.specs.Noted.{Noted}
-use Rattle.media_store.specs.declared.system_file.TheConstants.{END, READ, WRITE, RESIZE}
+use Rattle.media_store.specs.declared.system_file.TheConstants.{END, READ, WRITE, RESIZE, SYNC}
 
 -- own: a call with its answer; offsets, lengths and counts are in bytes
 pub data FileCall : Type 0 where
+  -- the file at this path was opened
+  Opened : (path : List ℕ) → FileCall
   -- where the end is, or that it was not told
   Measured : (len : ℕ) → FileCall
   NotMeasured : FileCall
@@ -50,7 +52,8 @@ succeeded kind number bytes =
     else if kind == READ then Read number bytes
     else if kind == WRITE then Wrote number bytes
     else if kind == RESIZE then Resized number
-    else Synced
+    else if kind == SYNC then Synced
+    else Opened bytes
 
 abbrev pub failed : ℕ → ℕ → ℕ → FileCall
 failed kind number count =

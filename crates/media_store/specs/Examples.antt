@@ -1,9 +1,9 @@
 -- Contents of a store after calls, computed.
-use Rattle.std.specs.Prelude.{◌≡◌, ◌-◌, ◌^◌, true, false, [], ◌∷◌, refl}
+use Rattle.std.specs.Prelude.{◌≡◌, ◌-◌, ◌^◌, ◌==◌, true, false, List, [], ◌∷◌, slice_index, if◌then◌else◌, refl}
 use Rattle.media_store.specs.Content.{resized, written}
 use Rattle.media_store.specs.Failures.{risen}
-use Rattle.media_store.specs.Calls.{Measured, Read, Wrote, NotWritten, NotResized, NotSynced, call_of}
-use Rattle.media_store.specs.Replay.{Origin, content_of, is_honest}
+use Rattle.media_store.specs.Calls.{FileCall, Opened, Measured, Read, Wrote, NotWritten, NotResized, Synced, NotSynced, call_of}
+use Rattle.media_store.specs.Replay.{Origin, content_of, is_honest, is_synced}
 
 -- within the content, over its end, and behind it
 written_within : written 1 (8 ∷ 9 ∷ []) (1 ∷ 2 ∷ 3 ∷ 4 ∷ []) ≡ 1 ∷ 8 ∷ 9 ∷ 4 ∷ []
@@ -29,30 +29,39 @@ filled_up = refl
 counts : (risen 7 ≡ 8) × (risen (2 ^ 64 - 1) ≡ 2 ^ 64 - 1)
 counts = (refl, refl)
 
--- ---- a file that held 1, 2, 3, where a failed call leaves 8, 9, 7
-abbrev opened : Origin
-opened = record { held = 1 ∷ 2 ∷ 3 ∷ []; torn = λ _. 8 ∷ 9 ∷ 7 ∷ [] }
+-- ---- a file that held 1, 2, 3 and was opened at the path 47, where a failed call leaves 8, 9, 7
+abbrev origin : Origin
+origin = record { held = λ path. if slice_index path 0 == 47 then 1 ∷ 2 ∷ 3 ∷ [] else []; torn = λ _ _. 8 ∷ 9 ∷ 7 ∷ [] }
+
+abbrev opened : List FileCall
+opened = Opened (47 ∷ []) ∷ []
 
 -- the newest call stands first
-written_and_read : is_honest opened (Read 1 (5 ∷ 3 ∷ []) ∷ Wrote 1 (5 ∷ []) ∷ Read 0 (1 ∷ 2 ∷ []) ∷ Measured 3 ∷ []) ≡ true
+written_and_read : is_honest origin (Read 1 (5 ∷ 3 ∷ []) ∷ Wrote 1 (5 ∷ []) ∷ Read 0 (1 ∷ 2 ∷ []) ∷ Measured 3 ∷ opened) ≡ true
 written_and_read = refl
 
 -- the old byte is read, one byte is read behind the end, the length is wrong
-lies : (is_honest opened (Read 1 (2 ∷ 3 ∷ []) ∷ Wrote 1 (5 ∷ []) ∷ []) ≡ false)
-    × (is_honest opened (Read 2 (3 ∷ 0 ∷ []) ∷ []) ≡ false) × (is_honest opened (Measured 4 ∷ []) ≡ false)
+lies : (is_honest origin (Read 1 (2 ∷ 3 ∷ []) ∷ Wrote 1 (5 ∷ []) ∷ opened) ≡ false)
+    × (is_honest origin (Read 2 (3 ∷ 0 ∷ []) ∷ opened) ≡ false) × (is_honest origin (Measured 4 ∷ opened) ≡ false)
 lies = (refl, refl, refl)
 
 -- an honest answer does not mend what was told before
-never_again : is_honest opened (Measured 3 ∷ Measured 4 ∷ []) ≡ false
+never_again : is_honest origin (Measured 3 ∷ Measured 4 ∷ opened) ≡ false
 never_again = refl
 
 -- a front of the range was torn; the end lies between
-torn : (content_of opened (NotWritten 1 2 ∷ []) ≡ 1 ∷ 8 ∷ 9 ∷ []) × (content_of opened (NotResized 5 ∷ []) ≡ 1 ∷ 2 ∷ 3 ∷ [])
-    × (content_of opened (NotResized 1 ∷ []) ≡ 1 ∷ 2 ∷ 3 ∷ [])
+torn : (content_of origin (NotWritten 1 2 ∷ opened) ≡ 1 ∷ 8 ∷ 9 ∷ []) × (content_of origin (NotResized 5 ∷ opened) ≡ 1 ∷ 2 ∷ 3 ∷ [])
+    × (content_of origin (NotResized 1 ∷ opened) ≡ 1 ∷ 2 ∷ 3 ∷ [])
 torn = (refl, refl, refl)
+
+-- a sync that succeeds stands behind the write; it failed; a write was tried behind it; a sync fails behind it
+synced : (is_synced (Synced ∷ Wrote 1 (5 ∷ []) ∷ opened) ≡ true) × (is_synced (NotSynced ∷ Wrote 1 (5 ∷ []) ∷ opened) ≡ false)
+    × (is_synced (NotWritten 1 2 ∷ Synced ∷ opened) ≡ false) × (is_synced (NotSynced ∷ Synced ∷ opened) ≡ true)
+synced = (refl, refl, refl, refl)
 
 -- notes, read as calls
 notes : (call_of (record { numbers = 1 ∷ 7 ∷ []; bytes = 5 ∷ 6 ∷ []; flags = true ∷ [] }) ≡ Read 7 (5 ∷ 6 ∷ []))
     × (call_of (record { numbers = 2 ∷ 7 ∷ 4 ∷ []; bytes = []; flags = false ∷ [] }) ≡ NotWritten 7 4)
     × (call_of (record { numbers = 4 ∷ []; bytes = []; flags = false ∷ [] }) ≡ NotSynced)
-notes = (refl, refl, refl)
+    × (call_of (record { numbers = 5 ∷ []; bytes = 47 ∷ []; flags = true ∷ [] }) ≡ Opened (47 ∷ []))
+notes = (refl, refl, refl, refl)

@@ -4,6 +4,7 @@ pub mod Honesty
 pub mod Calls
 pub mod Replay
 pub mod Whole
+pub mod Again
 pub mod States
 pub mod Failing
 pub mod Lying

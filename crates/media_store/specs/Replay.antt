@@ -1,33 +1,41 @@
--- What a file holds after its calls, and whether it answered as a file does that holds this.
-use Rattle.std.specs.Prelude.{ℕ, ◌+◌, ◌==◌, min, max, Bool, true, ◌&&◌, List, [], ◌∷◌, length, take, slice_range, bytes_eq}
-use Rattle.media_store.specs.Calls.{FileCall, Measured, Read, Wrote, NotWritten, Resized, NotResized}
+-- What a file holds after its calls, whether it answered as a file does that holds this, and whether it is synced.
+use Rattle.std.specs.Prelude.{ℕ, ◌+◌, ◌==◌, min, max, Bool, true, false, ◌&&◌, List, [], ◌∷◌, length, take, slice_range, bytes_eq}
+use Rattle.media_store.specs.Calls.{FileCall, Opened, Measured, Read, Wrote, NotWritten, Resized, NotResized, Synced}
 use Rattle.media_store.specs.Content.{written, resized}
 
--- own: what the file held when it was opened, and what a failed call left behind so many earlier calls
+-- own: what the files held when they were opened, by their paths, and what a failed call left of what it should have
+-- written, by the path and by how many calls came before it
 pub record Origin : Type 0 where
-  pub held : List ℕ
-  pub torn : ℕ → List ℕ
+  pub held : List ℕ → List ℕ
+  pub torn : List ℕ → ℕ → List ℕ
 
--- own: that of the file at a path
-abbrev pub origin_at : (List ℕ → List ℕ) → (List ℕ → ℕ → List ℕ) → List ℕ → Origin
-origin_at held torn path = record { held = held path; torn = torn path }
+abbrev pub origin_by : (List ℕ → List ℕ) → (List ℕ → ℕ → List ℕ) → Origin
+origin_by held torn = record { held = held; torn = torn }
+
+-- own: the path at which the file was opened
+abbrev pub path_of : List FileCall → List ℕ
+path_of [] = []
+path_of (Opened path ∷ earlier) = path
+path_of (call ∷ earlier) = path_of earlier
 
 -- own: the length that a failed change of the length left: any between the old one and the new one
 abbrev pub torn_length : ℕ → ℕ → List ℕ → ℕ
 torn_length old new torn = max (min old new) (min (length torn) (max old new))
 
 -- own: the content after a call; a failed write may have put any bytes into its range
-abbrev pub after_call : List ℕ → FileCall → List ℕ → List ℕ
-after_call torn (Wrote at bytes) content = written at bytes content
-after_call torn (NotWritten at count) content = written at (take count torn) content
-after_call torn (Resized len) content = resized len content
-after_call torn (NotResized len) content = resized (torn_length (length content) len torn) content
-after_call torn call content = content
+abbrev pub after_call : (List ℕ → List ℕ) → List ℕ → FileCall → List ℕ → List ℕ
+after_call held torn (Opened path) content = held path
+after_call held torn (Wrote at bytes) content = written at bytes content
+after_call held torn (NotWritten at count) content = written at (take count torn) content
+after_call held torn (Resized len) content = resized len content
+after_call held torn (NotResized len) content = resized (torn_length (length content) len torn) content
+after_call held torn call content = content
 
 -- own: the content after calls, the newest first
 abbrev pub content_of : Origin → List FileCall → List ℕ
-content_of origin [] = origin.held
-content_of origin (call ∷ earlier) = after_call (origin.torn (length earlier)) call (content_of origin earlier)
+content_of origin [] = []
+content_of origin (call ∷ earlier) =
+    after_call origin.held (origin.torn (path_of earlier) (length earlier)) call (content_of origin earlier)
 
 -- own: an answer agrees with the content: the length is its length, and the bytes stand in it
 abbrev pub agrees : FileCall → List ℕ → Bool
@@ -39,3 +47,18 @@ agrees call content = true
 abbrev pub is_honest : Origin → List FileCall → Bool
 is_honest origin [] = true
 is_honest origin (call ∷ earlier) = is_honest origin earlier && agrees call (content_of origin earlier)
+
+-- own: whether all is on the medium after a call: a sync that succeeds puts it there, and a change, done or tried, ends
+-- that
+abbrev pub synced_after : FileCall → Bool → Bool
+synced_after Synced synced = true
+synced_after (Wrote at bytes) synced = false
+synced_after (NotWritten at count) synced = false
+synced_after (Resized len) synced = false
+synced_after (NotResized len) synced = false
+synced_after call synced = synced
+
+-- own: of a file of which nothing is known, until a sync of it succeeds
+abbrev pub is_synced : List FileCall → Bool
+is_synced [] = false
+is_synced (call ∷ earlier) = synced_after call (is_synced earlier)

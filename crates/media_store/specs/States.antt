@@ -9,7 +9,7 @@ pub record MemoryState : Type 0 where
   pub synced : Bool
   pub failures : ℕ
 
--- own: a store in a file; its content and its honesty follow from the record of its calls
+-- own: a store in a file; all but its failures follows from the record of its calls
 pub record FileState : Type 0 where
   pub content : List ℕ
   pub honest : Bool

@@ -8,7 +8,7 @@ use std::io;
 /// An open file whose calls are noted. Nothing is promised of what a call does or answers, only that
 /// it is noted with its answer. Offsets and lengths are in bytes.
 pub trait FileCalls {
-    /// The calls so far with their answers, the newest first.
+    /// The calls so far with their answers, the newest first. The oldest is the opening of the file.
     ghost calls: { Self → List FileCall };
 
     /// Where the end is.

@@ -6,9 +6,10 @@
 //!
 //! - [`MemStore`] keeps the bytes in memory. It is always honest, and calls succeed within its content and up to the
 //!   length that it was made for.
-//! - [`FileStore`] keeps them in a file. It notes each call of the system with its answer ([`FileCalls`]),
-//!   so its content is what the file held when it was opened ([`Start`]), after these calls, and it is
-//!   honest exactly as long as the answers agree with that.
+//! - [`FileStore`] keeps them in a file. Each call of the system is noted with its answer ([`FileCalls`]),
+//!   so its content is what the file held when it was opened ([`Start`]), after these calls; it is
+//!   honest exactly as long as the answers agree with that, and synced where a sync that succeeded stands behind all
+//!   that changed the file.
 //! - [`FailStore`] is another store that fails from some call on, and is as honest as that store.
 //! - [`LyingStore`] is another store that gives wrong bytes once.
 //!
@@ -16,6 +17,7 @@
 //! A failed write changes nothing outside its range, a failed read nothing at all.
 #![tactic(auto)]
 
+mod again;
 mod fail;
 mod fault;
 mod file;

@@ -10,7 +10,7 @@ pub trait Start: Drop {
     ghost held: { List ℕ → List ℕ };
 
     /// What a failed call left of what it should have written, by the path, and by how many calls on
-    /// that open file came before it.
+    /// that file, from its opening on, came before it.
     ghost torn: { List ℕ → ℕ → List ℕ };
 }
 

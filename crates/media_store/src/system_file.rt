@@ -2,7 +2,8 @@
 //! its answer. The clauses pin the notes to the answers; that the call made is the one that is noted, a
 //! reader has to see here.
 
-ghost use Rattle.std.specs.Prelude.{◌≡◌, [], IfOk};
+ghost use Rattle.std.specs.Prelude.{◌≡◌, ◌∷◌, [], IfOk};
+ghost use Rattle.media_store.specs.Calls.{Opened};
 
 use crate::file_calls::FileCalls;
 use call_record::Record;
@@ -23,7 +24,10 @@ const RESIZE: u64 = 3;
 
 const SYNC: u64 = 4;
 
-/// An open file, or a block device. It is seen as the list of the calls on it, the newest first.
+const OPEN: u64 = 5;
+
+/// An open file, or a block device. It is seen as the list of the calls on it, the newest first, from its
+/// opening on.
 #[derive(Drop)]
 pub struct SystemFile {
     file: File,
@@ -45,14 +49,13 @@ impl SystemFile {
     ///
     /// It fails also where the file is locked by another open, of this program or another, by whatever path.
     pub fn open(rt: &impl Files<File = File>, path: &str) -> io::Result<SystemFile>
-        ensures { IfOk result (λ opened. opened ≡ []) }
+        ensures { IfOk result (λ opened. opened ≡ Opened path.now ∷ []) }
     {
         let file = OpenOptions::new().read(true).write(true).open(rt, path)?;
+        let mut noted = Record::new();
+        noted.note(&[OPEN], path.as_bytes(), &[true]);
         file.try_lock()?;
-        Ok(SystemFile {
-            file,
-            noted: Record::new(),
-        })
+        Ok(SystemFile { file, noted })
     }
 }
 

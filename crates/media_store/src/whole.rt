@@ -35,8 +35,8 @@ pub(crate) fn read_whole<C: FileCalls>(
     Err(StoreFault)
 }
 
-/// Writes bytes from an offset on. A call that a signal interrupts is made again, and one that takes
-/// no byte fails.
+/// Writes bytes from an offset on, by one call at least. A call that a signal interrupts is made again, and one that
+/// takes no byte of some fails.
 pub(crate) fn write_whole<C: FileCalls>(
     calls: &mut C,
     at: u64,
@@ -46,15 +46,19 @@ pub(crate) fn write_whole<C: FileCalls>(
 {
     let mut done = 0;
     for _ in 0..u64::MAX {
-        if done >= bytes.len() {
-            return Ok(());
-        }
         let Some(from) = at.checked_add(done as u64) else {
             return Err(StoreFault);
         };
         match calls.write_some(from, &bytes[done..]) {
-            Ok(0) => return Err(StoreFault),
-            Ok(count) => done += count,
+            Ok(count) => {
+                done += count;
+                if done >= bytes.len() {
+                    return Ok(());
+                }
+                if count == 0 {
+                    return Err(StoreFault);
+                }
+            }
             Err(error) if error.kind() == ErrorKind::Interrupted => {}
             Err(_) => return Err(StoreFault),
         }

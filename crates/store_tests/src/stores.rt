@@ -12,9 +12,8 @@ const PATH: &str = "media_store_test";
 #[test]
 fn file_gives_back_what_was_written(rt: HostRuntime) -> Result<(), Fail> {
     fs::write(&rt, PATH, b"".as_slice())?;
-    let path = String::from_str(rt.alloc(), PATH)?;
     let opened = SystemFile::open(&rt, PATH)?;
-    let mut store: FileStore<SystemFile, Unknown> = FileStore::new(opened, path);
+    let mut store: FileStore<SystemFile, Unknown> = FileStore::new(opened);
     assert_eq!(rt; store.len(), Ok(0));
     assert_eq!(rt; store.write_at(3, b"abc"), Ok(()));
     assert_eq!(rt; store.write_at(4, b"x"), Ok(()));

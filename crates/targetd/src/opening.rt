@@ -109,7 +109,7 @@ fn file_disk<S: Start>(
     ensures fault { IfErr result (λ why. why ≢ OutOfMemory → why ≡ Device lun) }
 {
     match SystemFile::open(rt, path.as_str()) {
-        Ok(file) => match Disk::open(MediumStore::File(FileStore::new(file, path))) {
+        Ok(file) => match Disk::open(MediumStore::File(FileStore::new(file))) {
             Ok(disk) => Ok(disk),
             Err(_) => Err(Unopened::Device { lun }),
         },
@@ -130,7 +130,7 @@ fn file_tape<S: Start>(
 {
     match SystemFile::open(rt, path.as_str()) {
         Ok(file) => {
-            let store = MediumStore::File(FileStore::new(file, path));
+            let store = MediumStore::File(FileStore::new(file));
             match Tape::open(store, capacity, early) {
                 Ok(tape) => Ok(tape),
                 Err(_) => Err(Unopened::Device { lun }),

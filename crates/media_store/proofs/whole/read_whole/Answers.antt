@@ -1,7 +1,7 @@
-use Rattle.std.proofs.Common.{rules, ◌≡◌, ℕ, ◌+◌, ◌-◌, ◌≤◌, length, List, ◌++◌, take, arith}
+use Rattle.std.proofs.Common.{rules, true, ◌≡◌, ℕ, ◌+◌, ◌-◌, ◌≤◌, length, List, ◌++◌, take, arith, ap, sym, ◌∙◌}
 use Rattle.std.proofs.lemmas.List.{places, same_lists}
 use borrow.Rule.Slice.PartMut.{put_mid}
-use Rattle.media_store.proofs.PartsRead.{HasComeTo-more, HasComeTo-again}
+use Rattle.media_store.proofs.PartsRead.{HasComeTo-more, HasComeTo-again, HasRead-whole, HasRead-part}
 use Rattle.media_store.proofs.whole.read_whole.Goals as goal
 use Rattle.media_store.proofs.whole.read_whole.Goals.{in-Ok, in-Err}
 
@@ -41,3 +41,43 @@ loop-preserved g c =
                 (HasComeTo-again origin c.args.at buffer after done _ _ _ _ kept (c.loop.invariant.1 origin)),
           )
     ]
+
+pub returns-then-done-buf : goal.returns-then-done-buf
+returns-then-done-buf g c origin =
+    HasRead-whole origin c.args.at c.loop.buf c.loop.done true _ _ (omega (arith, c.loop.invariant.0)) (c.loop.invariant.1 origin)
+
+pub returns-in_default : goal.returns-in_default
+returns-in_default g c origin =
+    HasRead-part origin c.args.at c.loop.buf c.loop.done _ _ c.loop.invariant.0 (c.loop.invariant.1 origin)
+
+pub returns : goal.returns
+returns g c origin =
+    HasRead-part origin c.args.at c.loop.buf c.loop.done _ _ c.loop.invariant.0 (c.loop.invariant.1 origin)
+
+pub returns-in-Ok-eq0 : goal.returns-in-Ok-eq0
+returns-in-Ok-eq0 g c origin =
+    let done = c.loop.done in
+    let buffer = c.loop.buf in
+    let rest = c.read_some.new.buf in
+    let within : done ≤ length buffer = c.loop.invariant.0 in
+    let is : c.in-Some.from ≡ c.args.at + done = search rules in
+    let left : length rest ≡ length buffer - done = search (rules, places) in
+    let after = put_mid done (length buffer - done) buffer rest in
+    let kept : done ≤ length after = search (rules, places) in
+    let none : done + 0 ≡ done = omega arith in
+    let filled : take done after ≡ take done buffer ++ take 0 rest =
+    ap (λ n. take n after) (sym none) ∙ take-filled done 0 buffer rest within (omega arith) left in
+    rw (c.read_some.ensures.noted, c.in-Ok-eq0.is, c.in-Ok-eq0.field-0-test, is) (HasRead-part origin c.args.at after done _ _ kept
+    (HasComeTo-more origin c.args.at buffer after (take 0 rest) done done _ _ within (omega arith) filled (c.loop.invariant.1 origin)))
+
+pub returns-in-Err-2 : goal.returns-in-Err-2
+returns-in-Err-2 g c origin =
+    let done = c.loop.done in
+    let buffer = c.loop.buf in
+    let rest = c.read_some.new.buf in
+    let within : done ≤ length buffer = c.loop.invariant.0 in
+    let left : length rest ≡ length buffer - done = search (rules, places) in
+    let after = put_mid done (length buffer - done) buffer rest in
+    let kept : done ≤ length after = search (rules, places) in
+    rw c.in-Err-2.ensures.noted (HasRead-part origin c.args.at after done _ _ kept
+    (HasComeTo-again origin c.args.at buffer after done _ _ _ _ (take-kept done buffer rest within left) (c.loop.invariant.1 origin)))

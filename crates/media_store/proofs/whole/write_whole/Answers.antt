@@ -1,8 +1,8 @@
-use Rattle.std.proofs.Common.{rules, ◌≡◌, ℕ, ◌+◌, ◌-◌, ◌≤◌, length, List, [], ◌++◌, take, slice_range, arith, true, sym}
-use Rattle.std.proofs.lemmas.List.{places, same_lists, append-nil}
+use Rattle.std.proofs.Common.{rules, ◌≡◌, ℕ, ◌+◌, ◌-◌, ◌≤◌, ◌<◌, ◌^◌, length, List, ◌++◌, take, slice_range, arith, refl, true}
+use Rattle.std.proofs.lemmas.List.{places, same_lists}
 use Rattle.media_store.proofs.PartsWritten.{HasPutTo-more, HasPutTo-again, HasWritten-whole, HasWritten-part}
 use Rattle.media_store.proofs.whole.write_whole.Goals as goal
-use Rattle.media_store.proofs.whole.write_whole.Goals.{in-Ok, in-Err}
+use Rattle.media_store.proofs.whole.write_whole.Goals.{in-Ok+else-done-bytes+else-count-eq0, in-Err}
 
 take-rest : (done n : ℕ) (bytes : List ℕ) → done + n ≤ length bytes
     → take (done + n) bytes ≡ take done bytes ++ take n (slice_range bytes done (length bytes))
@@ -13,44 +13,68 @@ loop-preserved g c =
     let done = c.loop.done in
     let bytes = c.args.bytes.now in
     let rest = slice_range bytes done (length bytes) in
-    let within : done ≤ length bytes = c.loop.invariant.0 in
+    let within : done ≤ length bytes = c.loop.invariant.within in
     let is : c.in-Some.from ≡ c.args.at + done = search rules in
     let left : length rest ≡ length bytes - done = search (rules, places) in
     elim c.match-write_some.branch [
-      | in-Ok w ↦
+      | in-Ok+else-done-bytes+else-count-eq0 w ↦
           let few : w.in-Ok.count ≤ length rest = w.in-Ok.ensures.count in
           let part : length (take w.in-Ok.count rest) ≡ w.in-Ok.count = search (rules, places) in
           let taken : take c.match-write_some.done bytes ≡ take done bytes ++ take w.in-Ok.count rest =
-          rw w.done-is (take-rest done w.in-Ok.count bytes (omega arith)) in (
-            omega arith,
-            λ origin. rw (w.in-Ok.ensures.noted, is) (HasPutTo-more origin c.args.at bytes
-                (take w.in-Ok.count rest) done c.match-write_some.done _ _ within (omega arith) (omega arith) taken (c.loop.invariant.1 origin)),
-          )
-      | in-Err w ↦ (
-        omega arith,
-        λ origin. rw (w.done-is, w.in-Err.ensures.noted, is)
-            (HasPutTo-again origin c.args.at bytes done (length rest) _ _ within left (c.loop.invariant.1 origin)),
-      )
+          rw w.done-is (take-rest done w.in-Ok.count bytes (omega arith)) in record {
+            within = omega arith;
+            put = λ origin. rw (w.in-Ok.ensures.noted, is) (HasPutTo-more origin c.args.at bytes
+                (take w.in-Ok.count rest) done c.match-write_some.done _ _ within (omega arith) (omega arith) taken (c.loop.invariant.put origin));
+            called = omega arith;
+            synced = λ _. rw w.in-Ok.ensures.noted refl;
+          }
+      | in-Err w ↦ record {
+        within = omega arith;
+        put = λ origin. rw (w.done-is, w.in-Err.ensures.noted, is)
+            (HasPutTo-again origin c.args.at bytes done (length rest) _ _ within left (c.loop.invariant.put origin));
+        called = omega arith;
+        synced = λ _. rw w.in-Err.ensures.noted refl;
+      }
     ]
 
 pub returns-then-done-bytes : goal.returns-then-done-bytes
 returns-then-done-bytes g c origin =
-    HasWritten-whole origin c.args.at c.args.bytes.now c.loop.done true _ _ c.if-done-bytes.true (c.loop.invariant.1 origin)
-
-pub returns-in_default : goal.returns-in_default
-returns-in_default g c origin = HasWritten-part origin c.args.at c.args.bytes.now c.loop.done _ _ (c.loop.invariant.1 origin)
-
-pub returns : goal.returns
-returns g c origin = HasWritten-part origin c.args.at c.args.bytes.now c.loop.done _ _ (c.loop.invariant.1 origin)
-
-pub returns-in-Ok-eq0 : goal.returns-in-Ok-eq0
-returns-in-Ok-eq0 g c origin =
     let done = c.loop.done in
     let bytes = c.args.bytes.now in
+    let rest = slice_range bytes done (length bytes) in
+    let within : done ≤ length bytes = c.loop.invariant.within in
     let is : c.in-Some.from ≡ c.args.at + done = search rules in
-    rw (c.write_some.ensures.noted, c.in-Ok-eq0.is, c.in-Ok-eq0.field-0-test, is) (HasWritten-part origin c.args.at bytes done _ _
-    (HasPutTo-more origin c.args.at bytes [] done done _ _ c.loop.invariant.0 (omega arith) c.loop.invariant.0
-    (sym (append-nil (take done bytes))) (c.loop.invariant.1 origin)))
+    let left : length rest ≡ length bytes - done = search (rules, places) in
+    let few : c.in-Ok.count ≤ length rest = c.in-Ok.ensures.count in
+    let part : length (take c.in-Ok.count rest) ≡ c.in-Ok.count = search (rules, places) in
+    rw (c.in-Ok.ensures.noted, is) (HasWritten-whole origin c.args.at bytes (done + c.in-Ok.count) true _ _ c.if-done-bytes.true refl
+    (HasPutTo-more origin c.args.at bytes (take c.in-Ok.count rest) done (done + c.in-Ok.count) _ _ within (omega arith)
+    (omega arith) (take-rest done c.in-Ok.count bytes (omega arith)) (c.loop.invariant.put origin)))
+
+pub returns-then-count-eq0 : goal.returns-then-count-eq0
+returns-then-count-eq0 g c origin =
+    let done = c.loop.done in
+    let bytes = c.args.bytes.now in
+    let rest = slice_range bytes done (length bytes) in
+    let within : done ≤ length bytes = c.loop.invariant.within in
+    let is : c.in-Some.from ≡ c.args.at + done = search rules in
+    let left : length rest ≡ length bytes - done = search (rules, places) in
+    let few : c.in-Ok.count ≤ length rest = c.in-Ok.ensures.count in
+    let part : length (take c.in-Ok.count rest) ≡ c.in-Ok.count = search (rules, places) in
+    rw (c.in-Ok.ensures.noted, is) (HasWritten-part origin c.args.at bytes (done + c.in-Ok.count) _ _ refl
+    (HasPutTo-more origin c.args.at bytes (take c.in-Ok.count rest) done (done + c.in-Ok.count) _ _ within (omega arith)
+    (omega arith) (take-rest done c.in-Ok.count bytes (omega arith)) (c.loop.invariant.put origin)))
+
+pub returns-in_default : goal.returns-in_default
+returns-in_default g c origin =
+    let far : 2 ^ 64 ≤ c.args.at + c.loop.done = search rules in
+    let some : 0 < c.loop.done = omega (arith, c.ranges.at) in
+    let called : 0 < c.loop.counter = omega (arith, c.loop.invariant.called) in
+    HasWritten-part origin c.args.at c.args.bytes.now c.loop.done _ _ (c.loop.invariant.synced called) (c.loop.invariant.put origin)
+
+pub returns : goal.returns
+returns g c origin =
+    HasWritten-part origin c.args.at c.args.bytes.now c.loop.done _ _ (c.loop.invariant.synced (omega arith)) (c.loop.invariant.put origin)
 
 pub returns-in-Err-2 : goal.returns-in-Err-2
 returns-in-Err-2 g c origin =
@@ -59,5 +83,5 @@ returns-in-Err-2 g c origin =
     let rest = slice_range bytes done (length bytes) in
     let is : c.in-Some.from ≡ c.args.at + done = search rules in
     let left : length rest ≡ length bytes - done = search (rules, places) in
-    rw (c.in-Err-2.ensures.noted, is) (HasWritten-part origin c.args.at bytes done _ _
-    (HasPutTo-again origin c.args.at bytes done (length rest) _ _ c.loop.invariant.0 left (c.loop.invariant.1 origin)))
+    rw (c.in-Err-2.ensures.noted, is) (HasWritten-part origin c.args.at bytes done _ _ refl
+    (HasPutTo-again origin c.args.at bytes done (length rest) _ _ c.loop.invariant.within left (c.loop.invariant.put origin)))

@@ -1,0 +1,8 @@
+use Rattle.std.proofs.Common.{◌≡◌, [], ◌∷◌, ap, ◌∙◌, string_bytes, rules}
+use Rattle.media_store.specs.Calls.{Opened}
+use Rattle.targetd.proofs.opening.file_disk.Goals as goal
+
+pub returns-in-Ok-open-clause-disk : goal.returns-in-Ok-open-clause-disk
+returns-in-Ok-open-clause-disk g c =
+    let made = c.new.ensures (string_bytes c.args.path) (c.in-Ok.ensures ∙ ap (λ path. Opened path ∷ []) c.as_str.ensures.value) in
+    search rules
