@@ -4,7 +4,7 @@ use Rattle.std.proofs.lemmas.Bool.{ne_eqb, cases_eq}
 use Rattle.std.proofs.lemmas.List.{append-nil, take-append-drop, get_or-set_same, get_or-set_other, drop_min}
 use Rattle.iscsi_target.specs.History.{connection_limit}
 use Rattle.iscsi_serve.specs.Calls.{Call, Reading, Handing}
-use Rattle.iscsi_serve.specs.Ahead.{given, handed, bytes_in, ahead_on, IsAccounted}
+use Rattle.iscsi_serve.specs.ReadBuffer.{given, handed, bytes_in, ahead_on, IsAccounted}
 
 -- on the connection itself, and on the others
 handed_here : (calls : List Call) (places : List (Option (List ℕ))) (place : Option (List ℕ)) (c room n : ℕ) (piece : List ℕ)

@@ -12,7 +12,7 @@ use Rattle.iscsi_target.proofs.Choices.{and_false, and_true, cond_true}
 use Rattle.iscsi_serve.specs.Log.{Carried, Bytes, Entry, Open, NobodyCame, Read, Wrote, Close, is_number}
 use Rattle.iscsi_serve.specs.Turn.{Moment, moment, changed, told, IfElse, opened, free_number, HasAccepted, is_read, room_for, HasFed, HasRead, Reads, piece_in, is_written, after_write, HasWritten, Writes, is_end, ends, is_closed, Closes}
 use Rattle.iscsi_serve.specs.Progress.{AreEnded, none_ended, IsDue, Goes}
-use Rattle.iscsi_serve.specs.declared.told.Named.{Named}
+use Rattle.iscsi_serve.specs.declared.results.Named.{Named}
 use Rattle.iscsi_serve.proofs.Moments.{none_more, one_more}
 
 where_due : (b : Bool) (A B : Type 0) → b ≡ true → A → IfElse b A B

@@ -1,26 +1,10 @@
 -- From one moment of a turn to the next.
-use Rattle.std.proofs.Common.{◌≡◌, ℕ, ◌+◌, ◌-◌, ◌<◌, zero, suc, List, [], ◌∷◌, ◌++◌, Bool, true, false, refl, ap, ◌∙◌, subst, sym, arith, append_assoc}
-use Rattle.std.specs.Prelude.{find, unwrap_or}
+use Rattle.std.proofs.Common.{◌≡◌, ℕ, ◌+◌, zero, suc, List, [], ◌∷◌, ◌++◌, Bool, refl, ap, ◌∙◌, subst, sym, arith, append_assoc}
 use Rattle.std.specs.List.{range_with_len}
-use Rattle.iscsi_target.specs.History.{connections}
 use Rattle.iscsi_target.specs.Machine.{Machine}
 use Rattle.iscsi_serve.specs.Log.{Entry}
 use Rattle.iscsi_serve.specs.Turn.{Moment, moment, Along}
 use Rattle.iscsi_serve.specs.Progress.{AreEnded, Goes}
-
--- ---- the lowest number that is free
-
-range_next : (c : ℕ) → c < 64 → range_with_len c (64 - c) ≡ c ∷ range_with_len (c + 1) (64 - (c + 1))
-range_next c lt =
-    let more : 64 - c ≡ suc (64 - (c + 1)) = omega arith in
-    ap (range_with_len c) more
-
-pub free_here : (P : ℕ → Bool) (c : ℕ) → c < 64 → P c ≡ true → find P connections ≡ find P (range_with_len c (64 - c)) → c ≡ unwrap_or (find P connections) 64
-free_here P c lt e from = rw (from, range_next c lt, e) refl
-
-pub free_next : (P : ℕ → Bool) (c : ℕ) → c < 64 → P c ≡ false → find P connections ≡ find P (range_with_len c (64 - c))
-    → find P connections ≡ find P (range_with_len (c + 1) (64 - (c + 1)))
-free_next P c lt e from = rw (from, range_next c lt, e) refl
 
 -- ---- one more of each connection
 

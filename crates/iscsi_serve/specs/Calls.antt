@@ -10,7 +10,7 @@ use Rattle.call_record.specs.Noted.{Noted}
 use Rattle.iscsi_serve.specs.Log as log
 use Rattle.iscsi_serve.specs.Log.{Entry, Carried, Bytes, End, Fault, Polled, Open, NobodyCame, AcceptFailed, Read, Wrote, Close}
 use Rattle.iscsi_serve.specs.declared.mio_sockets.TheConstants.{LISTENING, POLLING, NAMING, ACCEPTING, READING, HANDING, WRITING, PUTTING_OFF, CLOSING}
-use Rattle.iscsi_serve.specs.declared.told.Named.{Named}
+use Rattle.iscsi_serve.specs.declared.results.Named.{Named}
 use Rattle.iscsi_serve.specs.declared.socket_failure.SocketFailure.{SocketFailure}
 use Rattle.iscsi_serve.specs.declared.socket_failure.SocketFailure.TheVariants.{WouldWait, Interrupted, Passing, Refused, Broken}
 

@@ -1,8 +1,7 @@
 -- What the calls of a connection tell that follows a script, computed.
 use Rattle.std.specs.Prelude.{◌≡◌, refl}
 use Rattle.iscsi_serve.specs.Script.{told_at}
-use Rattle.iscsi_serve.specs.declared.told.Told.{Told}
-use Rattle.iscsi_serve.specs.declared.told.Told.TheVariants as told
+use Rattle.iscsi_serve.specs.declared.results.IoResult.TheVariants as told
 use Rattle.iscsi_serve.specs.declared.script.Step.TheVariants as steps
 use Rattle.iscsi_serve.specs.declared.script.Course.{Course}
 

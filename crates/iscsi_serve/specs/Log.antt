@@ -2,7 +2,7 @@
 use Rattle.std.specs.Prelude.{ℕ, List, [], ◌∷◌, ◌++◌, flat_map, fold, map, find, Bool, true, false, ◌&&◌, not, ◌==◌, nat_lt, Option, Some, None, if◌then◌else◌}
 use Rattle.iscsi_target.specs.History as history
 use Rattle.iscsi_target.specs.History.{connection_limit}
-use Rattle.iscsi_serve.specs.declared.told.Named.{Named}
+use Rattle.iscsi_serve.specs.declared.results.Named.{Named}
 
 -- what a read gave or a write took; an empty piece where it would wait
 pub data Carried : Type 0 where

@@ -9,7 +9,7 @@ use Rattle.iscsi_target.specs.Machine.{Machine, LinkState, IsSound, IsSure, link
 use Rattle.iscsi_serve.specs.Log.{Entry}
 use Rattle.iscsi_serve.specs.Served.{StaysServed, StaysBounded}
 use Rattle.iscsi_serve.specs.Turn.{Moment, moment, is_open, is_read, room_for, ends}
-use Rattle.iscsi_serve.specs.declared.told.Named.{Named}
+use Rattle.iscsi_serve.specs.declared.results.Named.{Named}
 
 -- the test at each number is whether the connection ended in this turn
 abbrev pub AreEnded : List Bool → List Entry → Type 0

@@ -1,8 +1,8 @@
 -- What the calls of a connection tell that follows a script.
 use Rattle.std.specs.Prelude.{◌≡◌, ◌≢◌, ℕ, ◌+◌, List, [], ◌∷◌, drop, length, min, Option, Some, None, ◌&&◌, ◌==◌, nat_lt, slice_index_or, if◌then◌else◌}
-use Rattle.iscsi_serve.specs.Told.{count_of}
-use Rattle.iscsi_serve.specs.declared.told.Told.{Told}
-use Rattle.iscsi_serve.specs.declared.told.Told.TheVariants as told
+use Rattle.iscsi_serve.specs.Results.{count_of}
+use Rattle.iscsi_serve.specs.declared.results.IoResult.{IoResult}
+use Rattle.iscsi_serve.specs.declared.results.IoResult.TheVariants as told
 use Rattle.iscsi_serve.specs.declared.script.Step.{Step}
 use Rattle.iscsi_serve.specs.declared.script.Step.TheVariants as steps
 use Rattle.iscsi_serve.specs.declared.script.Course.{Course}
@@ -13,13 +13,13 @@ abbrev pub most_moved : ℕ
 most_moved = 18446744073709551615
 
 -- by a step, of a call that can move so many bytes
-abbrev pub step_told : Step → ℕ → Told
+abbrev pub step_told : Step → ℕ → IoResult
 step_told (steps.Moves count) most = told.Bytes (min count most)
 step_told steps.End most = told.End
 step_told steps.Fault most = told.Fault
 
 -- by a course, of its n-th call from 0
-abbrev pub told_at : Course → ℕ → ℕ → Told
+abbrev pub told_at : Course → ℕ → ℕ → IoResult
 told_at course n most =
     if nat_lt n course.first then told.Bytes most else step_told (if n == course.first then course.next else course.behind) most
 
@@ -28,16 +28,16 @@ abbrev pub IsBehind : Course → Course → Type 0
 IsBehind course course_then = (n most : ℕ) → told_at course_then n most ≡ told_at course (n + 1) most
 
 -- a read with so much room tells the end where nothing is left, if there is one, and else goes by its course
-abbrev pub read_told : Script → ℕ → Told
+abbrev pub read_told : Script → ℕ → IoResult
 read_told script room =
     if script.ends && length script.input.items == 0 then told.End
     else told_at script.reads 0 (min (length script.input.items) room)
 
-abbrev pub write_told : Script → ℕ → Told
+abbrev pub write_told : Script → ℕ → IoResult
 write_told script offered = told_at script.writes 0 offered
 
 -- a read that told this has taken what it gave from the front of the input
-pub record HasRead (script script_then : Script) (told : Told) : Type 0 where
+pub record HasRead (script script_then : Script) (told : IoResult) : Type 0 where
   pub input : script_then.input.items ≡ drop (count_of told) script.input.items
   pub ends : script_then.ends ≡ script.ends
   pub reads : IsBehind script.reads script_then.reads
@@ -56,11 +56,11 @@ abbrev pub place_at : ℕ → List (Option Script) → Option Script
 place_at c places = slice_index_or places c None
 
 -- a fault where there is no connection
-abbrev pub read_told_at : Option Script → ℕ → Told
+abbrev pub read_told_at : Option Script → ℕ → IoResult
 read_told_at None room = told.Fault
 read_told_at (Some script) room = read_told script room
 
-abbrev pub write_told_at : Option Script → ℕ → Told
+abbrev pub write_told_at : Option Script → ℕ → IoResult
 write_told_at None offered = told.Fault
 write_told_at (Some script) offered = write_told script offered
 

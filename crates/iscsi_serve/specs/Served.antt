@@ -1,7 +1,6 @@
 -- What the running loop keeps of a sound target.
 use Rattle.std.specs.Prelude.{◌≡◌, ◌⊎◌, ◌<◌, ℕ, List, [], ◌∷◌, ◌++◌, length, map, ⊤}
-use Rattle.iscsi_target.specs.History as history
-use Rattle.iscsi_target.specs.History.{Event, Happening, History, Mark, connection_limit}
+use Rattle.iscsi_target.specs.History.{Happening, History, connection_limit}
 use Rattle.iscsi_target.specs.Life.{Life, is_over, out_of}
 use Rattle.iscsi_target.specs.World.{Setting, World, present, world}
 use Rattle.iscsi_target.specs.Output.{out_now}

@@ -1,6 +1,6 @@
 //! A log of ports that is kept in memory.
 
-use crate::told::Named;
+use crate::results::Named;
 
 /// What a read gave or a write took.
 #[derive(Debug, Drop)]

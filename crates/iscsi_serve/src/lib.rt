@@ -10,35 +10,35 @@
 //! only clauses read; [`MemPorts`] follow a script and keep a log, for tests.
 #![tactic(auto)]
 
-mod ahead;
 mod bind_fault;
 mod entry;
 mod fault;
-mod known;
-mod leaving;
+mod lingering;
 mod mem_ports;
 mod mio_sockets;
 mod peer_watch;
 mod places;
 mod ports;
+mod read_buffer;
+mod readiness;
+mod results;
 mod script;
 mod serving;
 mod socket_calls;
 mod socket_failure;
 mod socket_ports;
-mod told;
 mod watching;
 
 pub use bind_fault::BindFault;
 pub use entry::{Carried, Entry};
 pub use fault::ServeFault;
-pub use known::Known;
 pub use mem_ports::MemPorts;
 pub use mio_sockets::MioSockets;
 pub use ports::Ports;
+pub use readiness::Readiness;
+pub use results::{Accepted, IoResult, Named, PortFault};
 pub use script::{Course, Script, Step};
 pub use serving::{turn, turns};
 pub use socket_calls::SocketCalls;
 pub use socket_failure::SocketFailure;
 pub use socket_ports::{MioPorts, SocketPorts};
-pub use told::{Accepted, Named, PortFault, Told};

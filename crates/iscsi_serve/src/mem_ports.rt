@@ -2,15 +2,15 @@
 
 ghost use Rattle.std.specs.Prelude.{◌≡◌, ◌<◌, ◌≤◌, ◌++◌, ◌∷◌, [], true, length, take, None, Ok, IsOk, IfOk};
 ghost use Rattle.iscsi_serve.specs.Log.{Read, Wrote, Close};
-ghost use Rattle.iscsi_serve.specs.Told.{carried_by, count_of, accept_entry};
+ghost use Rattle.iscsi_serve.specs.Results.{carried_by, count_of, accept_entry};
 ghost use Rattle.iscsi_serve.specs.Script.{place_at, input_at, read_told_at, write_told_at, HasRead, HasWritten, GoesOn, HasCome, KeepsOthers};
 ghost use Rattle.iscsi_serve.specs.Entries.{carried_view, entry_view, log_view};
 
 use crate::entry::{Carried, Entry};
 use crate::places::free_places;
 use crate::ports::Ports;
+use crate::results::{Accepted, CONNECTIONS, IoResult, Named, PortFault};
 use crate::script::Script;
-use crate::told::{Accepted, CONNECTIONS, Named, PortFault, Told};
 use std::alloc::{AllocError, Global};
 use std::collections::VecDeque;
 
@@ -52,7 +52,7 @@ impl MemPorts {
 }
 
 /// What the connection in this place gives to a read: a fault where there is none.
-fn read_of(place: &mut Option<Script>, buffer: &mut [u8]) -> Told
+fn read_of(place: &mut Option<Script>, buffer: &mut [u8]) -> IoResult
     ensures count { count_of result ≤ length buffer.new }
     ensures told { result ≡ read_told_at place.old (length buffer.old) }
     ensures piece { take (count_of result) buffer.new ≡ take (count_of result) (input_at place.old) }
@@ -60,31 +60,31 @@ fn read_of(place: &mut Option<Script>, buffer: &mut [u8]) -> Told
 {
     match place {
         Some(script) => script.read(buffer),
-        None => Told::Fault,
+        None => IoResult::Fault,
     }
 }
 
 /// How many bytes the connection in this place takes of a write: a fault where there is none.
-fn write_of(place: &mut Option<Script>, bytes: &[u8]) -> Told
+fn write_of(place: &mut Option<Script>, bytes: &[u8]) -> IoResult
     ensures count { count_of result ≤ length bytes.now }
     ensures told { result ≡ write_told_at place.old (length bytes.now) }
     ensures left { GoesOn HasWritten place.old place.new }
 {
     match place {
         Some(script) => script.write(bytes.len()),
-        None => Told::Fault,
+        None => IoResult::Fault,
     }
 }
 
 /// What a call with this buffer told, for the log.
-fn carried(alloc: Global, told: Told, buffer: &[u8]) -> Result<Carried, AllocError>
+fn carried(alloc: Global, told: IoResult, buffer: &[u8]) -> Result<Carried, AllocError>
     requires { count_of told ≤ length buffer.now }
     ensures { IfOk result (λ carried. carried_view carried ≡ carried_by told buffer.now) }
 {
     match told {
-        Told::Bytes(count) => Ok(Carried::Bytes(Vec::from_slice(alloc, &buffer[..count])?)),
-        Told::End => Ok(Carried::End),
-        Told::Fault => Ok(Carried::Fault),
+        IoResult::Bytes(count) => Ok(Carried::Bytes(Vec::from_slice(alloc, &buffer[..count])?)),
+        IoResult::End => Ok(Carried::End),
+        IoResult::Fault => Ok(Carried::Fault),
     }
 }
 
@@ -96,7 +96,7 @@ fn keep(log: &mut Vec<Entry>, entry: Entry) -> bool
 }
 
 /// Keeps a read, and says whether it did.
-fn keep_read(alloc: Global, log: &mut Vec<Entry>, c: usize, told: Told, buffer: &[u8]) -> bool
+fn keep_read(alloc: Global, log: &mut Vec<Entry>, c: usize, told: IoResult, buffer: &[u8]) -> bool
     requires { count_of told ≤ length buffer.now }
     ensures { result ≡ true → log_view log.new.items ≡ log_view log.old.items ++ Read c (length buffer.now) (carried_by told buffer.now) ∷ [] }
 {
@@ -114,7 +114,7 @@ fn keep_read(alloc: Global, log: &mut Vec<Entry>, c: usize, told: Told, buffer: 
 }
 
 /// Keeps a write, and says whether it did.
-fn keep_write(alloc: Global, log: &mut Vec<Entry>, c: usize, told: Told, bytes: &[u8]) -> bool
+fn keep_write(alloc: Global, log: &mut Vec<Entry>, c: usize, told: IoResult, bytes: &[u8]) -> bool
     requires { count_of told ≤ length bytes.now }
     ensures { result ≡ true → log_view log.new.items ≡ log_view log.old.items ++ Wrote c (length bytes.now) (carried_by told bytes.now) ∷ [] }
 {
@@ -172,7 +172,7 @@ impl Ports for MemPorts {
     }
 
     #[tactic(auto, using(std::proofs::lemmas::List::get_or_read))]
-    fn read(&mut self, c: usize, buffer: &mut [u8]) -> Told
+    fn read(&mut self, c: usize, buffer: &mut [u8]) -> IoResult
         requires { c < 64 }
         ensures count { count_of result ≤ length buffer.new }
         ensures log { self.new.tells ≡ true
@@ -191,7 +191,7 @@ impl Ports for MemPorts {
     }
 
     #[tactic(auto, using(std::proofs::lemmas::List::get_or_read))]
-    fn write(&mut self, c: usize, bytes: &[u8]) -> Told
+    fn write(&mut self, c: usize, bytes: &[u8]) -> IoResult
         requires { c < 64 }
         ensures count { count_of result ≤ length bytes.now }
         ensures log { self.new.tells ≡ true

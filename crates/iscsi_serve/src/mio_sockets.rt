@@ -4,24 +4,27 @@
 //! read fills a whole buffer where it can; what the reader has no room for is handed on at the next reads,
 //! which are noted without a call.
 
-ghost use Rattle.std.specs.Prelude.{◌≡◌, ◌<◌, ◌++◌, ◌∷◌, [], ◌==◌, length, IfOk, OnErr};
+ghost use Rattle.std.specs.Prelude.{◌≡◌, ◌<◌, ◌≤◌, ◌-◌, ◌++◌, ◌∷◌, [], ◌==◌, ℕ, fold, length, IfOk, OnOk, OnErr};
 ghost use Rattle.std.specs.Io.{WritesAtMost};
 ghost use Rattle.std.specs.Net.Socket.{socket_ip, socket_port};
 ghost use Rattle.std.specs.Result.{IsErrOf};
 ghost use Rattle.std.specs.Net.Grammar.{IsSocketText};
 ghost use Rattle.std.specs.declared.net.socket_addr.SocketAddr.{SocketAddr};
 ghost use Rattle.iscsi_serve.specs.Log.{Read};
-ghost use Rattle.iscsi_serve.specs.Calls.{Listening, Located, ip_octets, calls_of, log_by, moved, read_carried};
-ghost use Rattle.iscsi_serve.specs.Ahead.{IsAccounted, ahead_on};
+ghost use Rattle.iscsi_serve.specs.Calls.{Listening, Located, Polling, ip_octets, calls_of, log_by, moved, named_by, read_carried};
+ghost use Rattle.iscsi_serve.specs.Lingering.{place_of, turns_left};
+ghost use Rattle.iscsi_serve.specs.Readiness.{after_event, after_taking, given_in_all, read_by, took_all as all_taken};
+ghost use Rattle.mio.specs.Events.{items};
+ghost use Rattle.iscsi_serve.specs.ReadBuffer.{IsAccounted, ahead_on};
 
-use crate::ahead::{Ahead, MOST_AHEAD, count_ahead, give_back, hand_from, take_spare};
 use crate::bind_fault::{BindFault, bind_fault};
-use crate::known::{Known, Seen};
-use crate::leaving::Leavers;
+use crate::lingering::{LingeringSockets, turns_of};
 use crate::places::free_places;
+use crate::read_buffer::{MOST_AHEAD, ReadBuffer, count_ahead, give_back, hand_from, take_spare};
+use crate::readiness::{Readiness, ReadyEvent};
+use crate::results::{CONNECTIONS, Named};
 use crate::socket_calls::SocketCalls;
 use crate::socket_failure::{SocketFailure, socket_failure};
-use crate::told::{CONNECTIONS, Named};
 use crate::watching::{LISTENER, keep, watched};
 use call_record::Record;
 use mio::event::Event;
@@ -68,12 +71,12 @@ pub struct MioSockets {
     /// By their numbers. The last place is for one for which no number is free.
     streams: Vec<Option<TcpStream>>,
     /// What is ahead of each.
-    ahead: Vec<Option<Ahead>>,
+    ahead: Vec<Option<ReadBuffer>>,
     /// A buffer for the next read.
-    spare: Option<Ahead>,
+    spare: Option<ReadBuffer>,
     alloc: Global,
     /// Those that were closed, and whose peers may still send.
-    leavers: Leavers,
+    lingering: LingeringSockets,
     noted: Record,
     ghost places: { length streams.items ≡ 65 },
     ghost ahead_places: { length ahead.items ≡ 65 },
@@ -102,7 +105,7 @@ impl MioSockets {
             ahead: free_places(alloc)?,
             spare: None,
             alloc,
-            leavers: Leavers::new(alloc)?,
+            lingering: LingeringSockets::new(alloc)?,
             noted: record,
         })
     }
@@ -124,17 +127,28 @@ impl MioSockets {
 }
 
 /// Takes note of an event.
-fn see(known: &mut Known, event: &Event) {
+fn see(readiness: &mut Readiness, event: &Event)
+    ensures { readiness.new ≡ after_event readiness.old event.now }
+{
     let Token(token) = event.token();
     if token == LISTENER {
-        known.named.listener = true;
+        readiness.named.listener = true;
     } else if token < CONNECTIONS {
-        let seen = Seen {
+        let event = ReadyEvent {
             is_readable: event.is_readable(),
             is_writable: event.is_writable(),
             has_ended: event.is_read_closed() || event.is_error(),
         };
-        known.see(token, seen);
+        readiness.see(token, event);
+    }
+}
+
+/// Takes note of all events.
+fn see_all(readiness: &mut Readiness, events: &Events)
+    ensures { readiness.new ≡ fold after_event readiness.old (items events.now) }
+{
+    for event in events {
+        see(readiness, event);
     }
 }
 
@@ -142,7 +156,7 @@ fn see(known: &mut Known, event: &Event) {
 fn fill_from(
     streams: &mut [Option<TcpStream>],
     c: usize,
-    ahead: &mut Ahead,
+    ahead: &mut ReadBuffer,
 ) -> Result<usize, SocketFailure>
     ensures { IfOk result (λ count. count ≡ length ahead.new) }
 {
@@ -197,7 +211,9 @@ fn bit(flag: bool) -> u64
 }
 
 /// What the answer to a read says of what the system still has: it gave all, or perhaps not.
-fn took_all(answer: Result<usize, SocketFailure>, room: usize) -> bool {
+fn took_all(answer: Result<usize, SocketFailure>, room: usize) -> bool
+    ensures { result ≡ all_taken answer room }
+{
     match answer {
         Ok(count) => count < room,
         Err(failure) => failure == SocketFailure::WouldWait,
@@ -227,7 +243,7 @@ impl MioSockets {
     /// Reads into the reader's buffer.
     fn read_at_once(
         &mut self,
-        known: &mut Known,
+        readiness: &mut Readiness,
         c: usize,
         buffer: &mut [u8],
     ) -> Result<usize, SocketFailure>
@@ -236,11 +252,13 @@ impl MioSockets {
         ensures count { WritesAtMost result buffer.new }
         ensures told { log_by (⟦<MioSockets as SocketCalls>⟧.calls self.new) ≡ log_by (⟦<MioSockets as SocketCalls>⟧.calls self.old)
             ++ Read c (length buffer.new) (read_carried (moved result buffer.new)) ∷ [] }
+        ensures readiness { readiness.new ≡ after_taking c (all_taken result (length buffer.new)) readiness.old }
+        ensures ahead { self.new.ahead ≡ self.old.ahead }
     {
         let record = &mut self.noted;
         let room = buffer.len() as u64;
         let answer = read_from(self.streams.as_mut_slice(), c, buffer);
-        known.took(c, took_all(answer, buffer.len()));
+        readiness.took(c, took_all(answer, buffer.len()));
         match answer {
             Ok(count) => record.note(&[READING, DONE, c as u64, room], &buffer[..count], &[]),
             Err(failure) => record.note(&[READING, failure.number(), c as u64, room], &[], &[]),
@@ -251,8 +269,8 @@ impl MioSockets {
     /// Reads into a buffer of the ports, and hands on as much as there is room for.
     fn read_ahead(
         &mut self,
-        known: &mut Known,
-        mut ahead: Ahead,
+        readiness: &mut Readiness,
+        mut ahead: ReadBuffer,
         c: usize,
         buffer: &mut [u8],
     ) -> Result<usize, SocketFailure>
@@ -262,10 +280,12 @@ impl MioSockets {
         ensures count { WritesAtMost result buffer.new }
         ensures told { log_by (⟦<MioSockets as SocketCalls>⟧.calls self.new) ≡ log_by (⟦<MioSockets as SocketCalls>⟧.calls self.old)
             ++ Read c (length buffer.new) (read_carried (moved result buffer.new)) ∷ [] }
+        ensures readiness { readiness.new ≡ after_taking c
+            (all_taken (given_in_all result (length (ahead_on c self.new.ahead.items))) 65536) readiness.old }
     {
         let room = buffer.len() as u64;
         let answer = fill_from(self.streams.as_mut_slice(), c, &mut ahead);
-        known.took(c, took_all(answer, MOST_AHEAD));
+        readiness.took(c, took_all(answer, MOST_AHEAD));
         if let Err(failure) = answer {
             self.noted
                 .note(&[READING, failure.number(), c as u64, room], &[], &[]);
@@ -280,6 +300,32 @@ impl MioSockets {
         give_back(place, &mut self.spare);
         Ok(count)
     }
+
+    /// Hands on what is ahead, or reads of the system, where there is room.
+    fn read_some(
+        &mut self,
+        readiness: &mut Readiness,
+        c: usize,
+        buffer: &mut [u8],
+    ) -> Result<usize, SocketFailure>
+        requires { c < 64 }
+        ensures count { WritesAtMost result buffer.new }
+        ensures told { log_by (⟦<MioSockets as SocketCalls>⟧.calls self.new) ≡ log_by (⟦<MioSockets as SocketCalls>⟧.calls self.old)
+            ++ Read c (length buffer.new) (read_carried (moved result buffer.new)) ∷ [] }
+        ensures readiness { (capacity : ℕ) × (length buffer.new ≤ capacity) × (readiness.new ≡ read_by capacity c (length buffer.new)
+            (length (ahead_on c self.old.ahead.items)) (length (ahead_on c self.new.ahead.items)) result readiness.old) }
+    {
+        if buffer.is_empty() || self.count_ahead(c) > 0 {
+            return self.hand_on(c, buffer);
+        }
+        if buffer.len() >= MOST_AHEAD {
+            return self.read_at_once(readiness, c, buffer);
+        }
+        match take_spare(self.alloc, &mut self.spare) {
+            Some(ahead) => self.read_ahead(readiness, ahead, c, buffer),
+            None => self.read_at_once(readiness, c, buffer),
+        }
+    }
 }
 
 impl SocketCalls for MioSockets {
@@ -287,19 +333,29 @@ impl SocketCalls for MioSockets {
 
     ghost ahead = { λ sockets c. ahead_on c sockets.ahead.items };
 
-    fn poll(&mut self, known: &mut Known, wait: Option<Duration>) -> Result<(), SocketFailure> {
-        let wait = self.leavers.drain(wait);
+    fn poll(
+        &mut self,
+        readiness: &mut Readiness,
+        wait: Option<Duration>,
+    ) -> Result<(), SocketFailure>
+        ensures noted { ⟦<MioSockets as SocketCalls>⟧.calls self.new
+            ≡ Polling (named_by result readiness.new.named) ∷ ⟦<MioSockets as SocketCalls>⟧.calls self.old }
+        ensures seen { OnOk result (readiness.new ≡ fold after_event readiness.old (items self.new.events)) }
+        ensures unseen { OnErr result (readiness.new ≡ readiness.old) }
+        ensures lingering { OnOk result ((d : ℕ) → turns_left (place_of d self.new.lingering.places.items)
+            ≤ turns_left (place_of d self.old.lingering.places.items) - 1) }
+    {
+        let wait = self.lingering.drain(wait);
         let record = &mut self.noted;
         if let Err(error) = self.poll.poll(&mut self.events, wait) {
             let failure = socket_failure(&error);
             record.note(&[POLLING, failure.number(), 0], &[], &[]);
             return Err(failure);
         }
-        for event in &self.events {
-            see(known, event);
-        }
-        self.leavers.count_turn(wait, !self.events.is_empty());
-        let named = &known.named;
+        see_all(readiness, &self.events);
+        let turns = turns_of(wait, !self.events.is_empty());
+        self.lingering.count_turns(turns);
+        let named = &readiness.named;
         let listener = bit(named.listener);
         record.note(&[POLLING, DONE, listener], &[], &named.connections);
         Ok(())
@@ -336,25 +392,21 @@ impl SocketCalls for MioSockets {
 
     fn read(
         &mut self,
-        known: &mut Known,
+        readiness: &mut Readiness,
         c: usize,
         buffer: &mut [u8],
     ) -> Result<usize, SocketFailure> {
-        let answer = if buffer.is_empty() || self.count_ahead(c) > 0 {
-            self.hand_on(c, buffer)
-        } else if buffer.len() >= MOST_AHEAD {
-            self.read_at_once(known, c, buffer)
-        } else {
-            match take_spare(self.alloc, &mut self.spare) {
-                Some(ahead) => self.read_ahead(known, ahead, c, buffer),
-                None => self.read_at_once(known, c, buffer),
-            }
-        };
-        known.name(c, self.count_ahead(c) > 0);
+        let answer = self.read_some(readiness, c, buffer);
+        readiness.name(c, self.count_ahead(c) > 0);
         answer
     }
 
-    fn write(&mut self, known: &mut Known, c: usize, bytes: &[u8]) -> Result<usize, SocketFailure> {
+    fn write(
+        &mut self,
+        readiness: &mut Readiness,
+        c: usize,
+        bytes: &[u8],
+    ) -> Result<usize, SocketFailure> {
         let record = &mut self.noted;
         let offered = bytes.len() as u64;
         match write_to(self.streams.as_mut_slice(), c, bytes) {
@@ -365,7 +417,7 @@ impl SocketCalls for MioSockets {
             Err(failure) => {
                 record.note(&[WRITING, failure.number(), c as u64, offered], &[], &[]);
                 if failure == SocketFailure::WouldWait {
-                    known.fill(c);
+                    readiness.fill(c);
                 }
                 Err(failure)
             }
@@ -379,7 +431,7 @@ impl SocketCalls for MioSockets {
 
     fn close(&mut self, c: usize) {
         if let Some(stream) = self.streams[c].take() {
-            self.leavers.begin(self.poll.registry(), stream);
+            self.lingering.begin(self.poll.registry(), stream);
         }
         self.ahead[c] = None;
         self.noted.note(&[CLOSING, DONE, c as u64], &[], &[]);

@@ -1,5 +1,8 @@
 //! The options of a connection by which the system finds out that its peer is gone (tcp(7)).
 
+ghost use Rattle.std.specs.Prelude.{◌≡◌, take};
+ghost use Rattle.std.specs.Int.{w32, to_le_bytes, cast_unsigned};
+
 use libc::net::{
     IPPROTO_TCP, SO_KEEPALIVE, SOL_SOCKET, TCP_KEEPCNT, TCP_KEEPIDLE, TCP_KEEPINTVL,
     TCP_USER_TIMEOUT, setsockopt,
@@ -20,7 +23,9 @@ const ASKED: i32 = 3;
 const UNACKNOWLEDGED: i32 = 60_000;
 
 /// A number as the value of an option.
-fn value(number: i32) -> [u8; 16] {
+fn value(number: i32) -> [u8; 16]
+    ensures { take 4 result ≡ to_le_bytes w32 (cast_unsigned w32 number) }
+{
     let mut bytes = [0; 16];
     bytes[..4].copy_from_slice(&number.to_ne_bytes());
     bytes

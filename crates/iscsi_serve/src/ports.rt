@@ -2,9 +2,9 @@
 
 ghost use Rattle.std.specs.Prelude.{◌≡◌, ◌<◌, ◌≤◌, ◌++◌, ◌∷◌, List, [], Bool, true, length};
 ghost use Rattle.iscsi_serve.specs.Log.{Entry, Read, Wrote, Close};
-ghost use Rattle.iscsi_serve.specs.Told.{carried_by, count_of, poll_entry, accept_entry};
+ghost use Rattle.iscsi_serve.specs.Results.{carried_by, count_of, poll_entry, accept_entry};
 
-use crate::told::{Accepted, Named, PortFault, Told};
+use crate::results::{Accepted, IoResult, Named, PortFault};
 
 /// A listener and the connections that it accepted, each under a number that the caller chose: 0 to
 /// 63, and 64 for one that is closed at once.
@@ -29,14 +29,14 @@ pub trait Ports {
         ensures back { tells self.new ≡ true → tells self.old ≡ true };
 
     /// Reads what has come on a connection into the front of the buffer.
-    fn read(&mut self, c: usize, buffer: &mut [u8]) -> Told
+    fn read(&mut self, c: usize, buffer: &mut [u8]) -> IoResult
         requires { c < 64 }
         ensures count { count_of result ≤ length buffer.new }
         ensures log { tells self.new ≡ true → log self.new ≡ log self.old ++ Read c (length buffer.new) (carried_by result buffer.new) ∷ [] }
         ensures back { tells self.new ≡ true → tells self.old ≡ true };
 
     /// Writes a front of these bytes to a connection.
-    fn write(&mut self, c: usize, bytes: &[u8]) -> Told
+    fn write(&mut self, c: usize, bytes: &[u8]) -> IoResult
         requires { c < 64 }
         ensures count { count_of result ≤ length bytes.now }
         ensures log { tells self.new ≡ true → log self.new ≡ log self.old ++ Wrote c (length bytes.now) (carried_by result bytes.now) ∷ [] }

@@ -1,11 +1,11 @@
 //! How the calls of a connection go, for tests.
 
 ghost use Rattle.std.specs.Prelude.{◌≡◌, ◌≤◌, length, take};
-ghost use Rattle.iscsi_serve.specs.Told.{count_of};
+ghost use Rattle.iscsi_serve.specs.Results.{count_of};
 ghost use Rattle.iscsi_serve.specs.declared.script.Step.TheVariants.{Moves};
 ghost use Rattle.iscsi_serve.specs.Script.{most_moved, told_at, IsBehind, read_told, write_told, HasRead, HasWritten};
 
-use crate::told::Told;
+use crate::results::IoResult;
 
 /// What a read or a write tells.
 #[derive(Clone, Copy, Debug, PartialEq, Eq)]
@@ -57,27 +57,27 @@ impl Course {
     }
 
     /// What the next call tells, which can move so many bytes.
-    fn call(&mut self, most: usize) -> Told
+    fn call(&mut self, most: usize) -> IoResult
         ensures told { result ≡ told_at self.old 0 most }
         ensures next { IsBehind self.old self.new }
     {
         if self.first > 0 {
             self.first -= 1;
-            return Told::Bytes(most);
+            return IoResult::Bytes(most);
         }
         let step = self.next;
         self.next = self.behind;
         match step {
-            Step::Moves(count) => Told::Bytes(count.min(most)),
-            Step::End => Told::End,
-            Step::Fault => Told::Fault,
+            Step::Moves(count) => IoResult::Bytes(count.min(most)),
+            Step::End => IoResult::End,
+            Step::Fault => IoResult::Fault,
         }
     }
 }
 
 impl Script {
     /// What a read tells and gives.
-    pub(crate) fn read(&mut self, buffer: &mut [u8]) -> Told
+    pub(crate) fn read(&mut self, buffer: &mut [u8]) -> IoResult
         ensures count { count_of result ≤ length buffer.new }
         ensures told { result ≡ read_told self.old (length buffer.old) }
         ensures piece { take (count_of result) buffer.new ≡ take (count_of result) self.old.input.items }
@@ -86,9 +86,9 @@ impl Script {
         let most = self.input.len().min(buffer.len());
         let told = self.reads.call(most);
         if self.ends && self.input.is_empty() {
-            return Told::End;
+            return IoResult::End;
         }
-        if let Told::Bytes(count) = told {
+        if let IoResult::Bytes(count) = told {
             buffer[..count].copy_from_slice(&self.input.as_slice()[..count]);
             self.input.drain(..count);
         }
@@ -96,7 +96,7 @@ impl Script {
     }
 
     /// What a write of so many bytes tells.
-    pub(crate) fn write(&mut self, offered: usize) -> Told
+    pub(crate) fn write(&mut self, offered: usize) -> IoResult
         ensures count { count_of result ≤ offered }
         ensures told { result ≡ write_told self.old offered }
         ensures left { HasWritten self.old self.new }

@@ -10,11 +10,11 @@ ghost use Rattle.iscsi_serve.specs.Log.{Entry, AcceptFailed};
 ghost use Rattle.iscsi_serve.specs.Served.{StaysServed, StaysBounded};
 ghost use Rattle.iscsi_serve.specs.Turn.{Moment, moment, log_of, beginning, free_number as lowest_free, HasAccepted, is_read, Accepts, Reads, Writes, Closes, Along, Carries, EndsTurn, EndsTurns};
 ghost use Rattle.iscsi_serve.specs.Progress.{AreEnded, none_ended, is_to_close, NoneToClose, KeepsOthers, IsDue, StandsFed, Goes, Keeps, Does};
-ghost use Rattle.iscsi_serve.specs.declared.told.Named.{Named};
+ghost use Rattle.iscsi_serve.specs.declared.results.Named.{Named};
 
 use crate::fault::ServeFault;
 use crate::ports::Ports;
-use crate::told::{Accepted, CONNECTIONS, Named, PortFault, Told};
+use crate::results::{Accepted, CONNECTIONS, IoResult, Named, PortFault};
 use iscsi_target::{Starved, Target};
 use media_store::Store;
 
@@ -103,9 +103,9 @@ fn read_piece<P: Ports, S: Store>(
         (P.log ports.old) (P.log ports.new) target.old target.new ended.old ended.new }
 {
     match ports.read(c, piece) {
-        Told::Bytes(0) => {}
-        Told::Bytes(count) => feed(target, c, &piece[..count]),
-        Told::End | Told::Fault => ended[c] = true,
+        IoResult::Bytes(0) => {}
+        IoResult::Bytes(count) => feed(target, c, &piece[..count]),
+        IoResult::End | IoResult::Fault => ended[c] = true,
     }
 }
 
@@ -146,9 +146,9 @@ fn write_open<P: Ports, S: Store>(
         return;
     }
     match ports.write(c, offered) {
-        Told::Bytes(0) => {}
-        Told::Bytes(count) => target.sent(c, count),
-        Told::End | Told::Fault => ended[c] = true,
+        IoResult::Bytes(0) => {}
+        IoResult::Bytes(count) => target.sent(c, count),
+        IoResult::End | IoResult::Fault => ended[c] = true,
     }
 }
 

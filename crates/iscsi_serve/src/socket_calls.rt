@@ -4,11 +4,12 @@ ghost use Rattle.std.specs.Prelude.{◌≡◌, ◌<◌, ◌≤◌, ◌++◌, ◌
 ghost use Rattle.std.specs.Io.{WritesAtMost};
 ghost use Rattle.iscsi_serve.specs.Log.{Read};
 ghost use Rattle.iscsi_serve.specs.Calls.{Call, Polling, Naming, Accepting, Writing, PuttingOff, Closing, named_by, moved, read_carried, log_by};
-ghost use Rattle.iscsi_serve.specs.Ahead.{given, handed};
+ghost use Rattle.iscsi_serve.specs.ReadBuffer.{given, handed};
+ghost use Rattle.iscsi_serve.specs.Readiness.{after_write, IsReadBy};
 
-use crate::known::Known;
+use crate::readiness::Readiness;
+use crate::results::Named;
 use crate::socket_failure::SocketFailure;
-use crate::told::Named;
 use std::time::Duration;
 
 /// The plain calls on sockets, and what each answered: `calls` has them all, the newest first. What the
@@ -23,8 +24,12 @@ pub trait SocketCalls {
 
     /// Waits for an event, no longer than this where a time is given, and makes known whom the system
     /// names.
-    fn poll(&mut self, known: &mut Known, wait: Option<Duration>) -> Result<(), SocketFailure>
-        ensures { calls self.new ≡ Polling (named_by result known.new.named) ∷ calls self.old };
+    fn poll(
+        &mut self,
+        readiness: &mut Readiness,
+        wait: Option<Duration>,
+    ) -> Result<(), SocketFailure>
+        ensures { calls self.new ≡ Polling (named_by result readiness.new.named) ∷ calls self.old };
 
     /// Notes that a poll tells who is known to be ready.
     fn note_named(&mut self, named: &Named)
@@ -44,20 +49,28 @@ pub trait SocketCalls {
     /// Reads into the front of the buffer: what is ahead, or else what the system gives.
     fn read(
         &mut self,
-        known: &mut Known,
+        readiness: &mut Readiness,
         c: usize,
         buffer: &mut [u8],
     ) -> Result<usize, SocketFailure>
         requires { c < 64 }
         ensures count { WritesAtMost result buffer.new }
         ensures told { log_by (calls self.new) ≡ log_by (calls self.old)
-            ++ Read c (length buffer.new) (read_carried (moved result buffer.new)) ∷ [] };
+            ++ Read c (length buffer.new) (read_carried (moved result buffer.new)) ∷ [] }
+        ensures readiness { IsReadBy c (length buffer.new) (length (ahead self.old c)) (length (ahead self.new c)) result
+            readiness.old readiness.new };
 
     /// Writes a front of these bytes.
-    fn write(&mut self, known: &mut Known, c: usize, bytes: &[u8]) -> Result<usize, SocketFailure>
+    fn write(
+        &mut self,
+        readiness: &mut Readiness,
+        c: usize,
+        bytes: &[u8],
+    ) -> Result<usize, SocketFailure>
         requires { c < 64 }
         ensures count { WritesAtMost result bytes.now }
-        ensures call { calls self.new ≡ Writing c (length bytes.now) (moved result bytes.now) ∷ calls self.old };
+        ensures call { calls self.new ≡ Writing c (length bytes.now) (moved result bytes.now) ∷ calls self.old }
+        ensures readiness { readiness.new ≡ after_write c result readiness.old };
 
     /// Notes that a write of so many bytes is put off.
     fn note_put_off(&mut self, c: usize, offered: usize)

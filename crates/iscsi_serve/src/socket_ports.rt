@@ -1,23 +1,27 @@
 //! Ports over sockets.
 
-ghost use Rattle.std.specs.Prelude.{◌≡◌, ◌<◌, ◌≤◌, ◌∷◌, ◌++◌, ◌&&◌, ◌||◌, ◌+◌, ◌*◌, not, nat_lt, nat_le, min, ℕ, List, [], true, false, length, IfOk, IfSome};
+ghost use Rattle.std.specs.Prelude.{◌≡◌, ◌<◌, ◌≤◌, ◌∷◌, ◌++◌, ℕ, List, [], Bool, true, false, length, Result, IfOk, IfSome};
 ghost use Rattle.std.specs.Duration.{as_nanos};
 ghost use Rattle.std.specs.Io.{WritesAtMost};
 ghost use Rattle.std.specs.Net.Socket.{socket_ip, socket_port};
 ghost use Rattle.std.specs.Result.{IsErrOf};
 ghost use Rattle.std.specs.Net.Grammar.{IsSocketText};
 ghost use Rattle.std.specs.declared.net.socket_addr.SocketAddr.{SocketAddr};
-ghost use Rattle.iscsi_serve.specs.Told.{carried_by, count_of, accept_entry};
-ghost use Rattle.iscsi_serve.specs.Log.{Listened, Located};
-ghost use Rattle.iscsi_serve.specs.Calls.{ip_octets, moved, accepted, read_carried, write_carried, log_by};
+ghost use Rattle.iscsi_serve.specs.Results.{carried_by, count_of, poll_entry, accept_entry};
+ghost use Rattle.iscsi_serve.specs.Log.{Listened, Located, Read, Wrote, Close};
+ghost use Rattle.iscsi_serve.specs.Calls.{Polling, Naming, Accepting, Writing, PuttingOff, ip_octets, moved, accepted, read_carried, write_carried, log_by};
+ghost use Rattle.iscsi_serve.specs.Readiness as ready;
+ghost use Rattle.iscsi_serve.specs.Readiness.{forgotten, IsReadBy};
+ghost use Rattle.iscsi_serve.specs.Asking as asking;
+ghost use Rattle.iscsi_serve.specs.Asking.{asks, asks_now, after_asking, after_naming, after_accepting, after_reading, after_writing};
 
 use crate::bind_fault::BindFault;
-use crate::known::Known;
 use crate::mio_sockets::MioSockets;
 use crate::ports::Ports;
+use crate::readiness::{Readiness, set_where};
+use crate::results::{Accepted, CONNECTIONS, IoResult, Named, PortFault};
 use crate::socket_calls::SocketCalls;
 use crate::socket_failure::SocketFailure;
-use crate::told::{Accepted, CONNECTIONS, Named, PortFault, Told};
 use std::alloc::Global;
 use std::io;
 use std::net::{Net, SocketAddr};
@@ -49,7 +53,7 @@ const MOST_PUT_OFF: usize = 262_144;
 pub struct SocketPorts<K: SocketCalls + Drop> {
     sockets: K,
     /// Which ports may be ready.
-    known: Known,
+    readiness: Readiness,
     /// Something was read, written or accepted since the last poll, so that there may be more.
     busy: bool,
     /// Bytes were read since the last poll of a connection of which more are ahead.
@@ -88,7 +92,7 @@ impl SocketPorts<MioSockets> {
         let sockets = MioSockets::listen(net, alloc, address)?;
         Ok(SocketPorts {
             sockets,
-            known: Known::new(),
+            readiness: Readiness::new(),
             busy: false,
             holding: false,
             has_read: [false; CONNECTIONS],
@@ -112,7 +116,7 @@ impl SocketPorts<MioSockets> {
 /// Whether a poll asks the system: not where bytes that are ahead were just read, nor at once after
 /// something was done, but whatever happens where so many polls were answered without asking.
 fn is_to_ask(holding: bool, busy: bool, unasked: u32, most_unasked: u32) -> bool
-    ensures { result ≡ not (nat_lt unasked most_unasked && (holding || (busy && nat_lt unasked 1))) }
+    ensures { result ≡ asks holding busy unasked most_unasked }
 {
     unasked >= most_unasked || !holding && !(busy && unasked == 0)
 }
@@ -120,7 +124,7 @@ fn is_to_ask(holding: bool, busy: bool, unasked: u32, most_unasked: u32) -> bool
 /// How many polls in a row may be answered without asking, once the system was asked: twice as many and one,
 /// up to 63.
 fn longer(most_unasked: u32) -> u32
-    ensures { result ≡ min (2 * most_unasked + 1) 63 }
+    ensures { result ≡ asking.longer most_unasked }
 {
     if most_unasked >= MOST_UNASKED / 2 {
         return MOST_UNASKED;
@@ -131,7 +135,7 @@ fn longer(most_unasked: u32) -> u32
 /// Whether a write of so many bytes is put off, on a connection of which bytes were just read and so many are
 /// ahead: as long as these may hold a whole header, whose answer can go with it.
 fn is_put_off(has_read: bool, ahead: usize, offered: usize) -> bool
-    ensures { result ≡ (has_read && nat_le 48 ahead && nat_lt offered 262144) }
+    ensures { result ≡ asking.is_put_off has_read ahead offered }
 {
     has_read && ahead >= HEADER && offered < MOST_PUT_OFF
 }
@@ -170,75 +174,111 @@ fn accept_told(answer: Result<bool, SocketFailure>) -> Result<Accepted, PortFaul
 }
 
 /// What a read came to. No bytes are the end of the stream.
-fn read_told(answer: Result<usize, SocketFailure>) -> Told
+fn read_told(answer: Result<usize, SocketFailure>) -> IoResult
     ensures count { (buffer : List ℕ) → WritesAtMost answer buffer → count_of result ≤ length buffer }
     ensures told { (buffer : List ℕ) → WritesAtMost answer buffer → carried_by result buffer ≡ read_carried (moved answer buffer) }
 {
     match answer {
-        Ok(0) => Told::End,
-        Ok(count) => Told::Bytes(count),
-        Err(SocketFailure::WouldWait) => Told::Bytes(0),
-        Err(SocketFailure::Interrupted) => Told::Bytes(0),
-        Err(SocketFailure::Passing) => Told::Fault,
-        Err(SocketFailure::Refused) => Told::Fault,
-        Err(SocketFailure::Broken) => Told::Fault,
+        Ok(0) => IoResult::End,
+        Ok(count) => IoResult::Bytes(count),
+        Err(SocketFailure::WouldWait) => IoResult::Bytes(0),
+        Err(SocketFailure::Interrupted) => IoResult::Bytes(0),
+        Err(SocketFailure::Passing) => IoResult::Fault,
+        Err(SocketFailure::Refused) => IoResult::Fault,
+        Err(SocketFailure::Broken) => IoResult::Fault,
     }
 }
 
 /// What a write came to.
-fn write_told(answer: Result<usize, SocketFailure>) -> Told
+fn write_told(answer: Result<usize, SocketFailure>) -> IoResult
     ensures count { (bytes : List ℕ) → WritesAtMost answer bytes → count_of result ≤ length bytes }
     ensures told { (bytes : List ℕ) → carried_by result bytes ≡ write_carried (moved answer bytes) }
 {
     match answer {
-        Ok(count) => Told::Bytes(count),
-        Err(SocketFailure::WouldWait) => Told::Bytes(0),
-        Err(SocketFailure::Interrupted) => Told::Bytes(0),
-        Err(SocketFailure::Passing) => Told::Fault,
-        Err(SocketFailure::Refused) => Told::Fault,
-        Err(SocketFailure::Broken) => Told::Fault,
+        Ok(count) => IoResult::Bytes(count),
+        Err(SocketFailure::WouldWait) => IoResult::Bytes(0),
+        Err(SocketFailure::Interrupted) => IoResult::Bytes(0),
+        Err(SocketFailure::Passing) => IoResult::Fault,
+        Err(SocketFailure::Refused) => IoResult::Fault,
+        Err(SocketFailure::Broken) => IoResult::Fault,
     }
 }
 
 /// After an accept: the listener is not ready where it would wait, and of a connection that has just come
 /// nothing is known.
-fn after_accept(known: &mut Known, busy: &mut bool, c: usize, answer: Result<bool, SocketFailure>) {
+fn after_accept(readiness: &mut Readiness, c: usize, answer: Result<bool, SocketFailure>)
+    ensures { readiness.new ≡ ready.after_accept c answer readiness.old }
+{
     match answer {
-        Ok(is_watched) => {
-            *busy = true;
-            if is_watched {
-                known.forget(c);
-            }
-        }
-        Err(SocketFailure::WouldWait) => known.named.listener = false,
-        Err(SocketFailure::Interrupted | SocketFailure::Passing) => *busy = true,
-        Err(SocketFailure::Refused | SocketFailure::Broken) => {}
+        Ok(true) => readiness.forget(c),
+        Err(SocketFailure::WouldWait) => readiness.named.listener = false,
+        Ok(false) | Err(_) => {}
     }
 }
 
+/// Somebody came, or the accept is to be tried again at once.
+fn accept_goes_on(answer: Result<bool, SocketFailure>) -> bool
+    ensures { result ≡ ready.accept_goes_on answer }
+{
+    matches!(
+        answer,
+        Ok(_) | Err(SocketFailure::Interrupted | SocketFailure::Passing)
+    )
+}
+
+/// Those who wait are still there, and no event will tell of them.
+fn is_refused(answer: Result<bool, SocketFailure>) -> bool
+    ensures { result ≡ asking.is_refused answer }
+{
+    matches!(answer, Err(SocketFailure::Refused))
+}
+
 /// Something was done, or is to be tried again at once.
-fn did_something(answer: Result<usize, SocketFailure>) -> bool {
+fn goes_on(answer: Result<usize, SocketFailure>) -> bool
+    ensures { result ≡ ready.goes_on answer }
+{
     matches!(answer, Ok(_) | Err(SocketFailure::Interrupted))
+}
+
+/// A read gave bytes.
+fn gave(answer: Result<usize, SocketFailure>) -> bool
+    ensures { result ≡ asking.gave answer }
+{
+    match answer {
+        Ok(count) => count > 0,
+        Err(_) => false,
+    }
+}
+
+/// How many polls in a row may be answered without asking, behind a write.
+fn most_after(answer: Result<usize, SocketFailure>, most_unasked: u32) -> u32
+    ensures { result ≡ asking.most_after answer most_unasked }
+{
+    match answer {
+        Err(SocketFailure::WouldWait) => 0,
+        _ => most_unasked,
+    }
 }
 
 impl<K: SocketCalls + Drop> SocketPorts<K> {
     /// After a read.
     fn after_read(&mut self, c: usize, answer: Result<usize, SocketFailure>)
         requires { c < 64 }
-        ensures { self.new.sockets ≡ self.old.sockets }
+        ensures { self.new ≡ after_reading c answer (length (K.ahead self.old.sockets c)) self.old.sockets self.old.readiness self.old }
     {
-        self.busy = self.busy || did_something(answer);
-        if matches!(answer, Ok(count) if count > 0) {
-            self.has_read[c] = true;
-            self.holding = self.holding || self.sockets.count_ahead(c) > 0;
-        }
+        let gave = gave(answer);
+        self.busy |= goes_on(answer);
+        self.holding |= gave & (self.sockets.count_ahead(c) > 0);
+        set_where(gave, &mut self.has_read, c, true);
     }
 
     /// Whether a write of so many bytes has to wait: the connection takes none now, or its answers are put off.
     fn has_to_wait(&self, c: usize, offered: usize) -> bool
         requires { c < 64 }
+        ensures { result ≡ asking.has_to_wait c (length (K.ahead self.now.sockets c)) offered self.now }
     {
-        self.known.is_full(c) || is_put_off(self.has_read[c], self.sockets.count_ahead(c), offered)
+        self.readiness.is_full(c)
+            || is_put_off(self.has_read[c], self.sockets.count_ahead(c), offered)
     }
 }
 
@@ -247,7 +287,15 @@ impl<K: SocketCalls + Drop> Ports for SocketPorts<K> {
 
     ghost tells = { λ _. true };
 
-    fn poll(&mut self) -> Result<Named, PortFault> {
+    fn poll(&mut self) -> Result<Named, PortFault>
+        ensures log { log_by (K.calls self.new.sockets) ≡ log_by (K.calls self.old.sockets) ++ poll_entry result ∷ [] }
+        ensures asked { asks_now self.old ≡ true
+            → (named : Result Named SocketFailure) × (K.calls self.new.sockets ≡ Polling named ∷ K.calls self.old.sockets) }
+        ensures after_asking { asks_now self.old ≡ true → self.new ≡ after_asking self.new.sockets self.new.readiness self.old }
+        ensures unasked { asks_now self.old ≡ false
+            → K.calls self.new.sockets ≡ Naming self.old.readiness.named ∷ K.calls self.old.sockets }
+        ensures after_naming { asks_now self.old ≡ false → self.new ≡ after_naming self.new.sockets self.old }
+    {
         let asks = is_to_ask(self.holding, self.busy, self.unasked, self.most_unasked);
         let wait = to_wait(self.busy, self.refused, self.wait);
         self.busy = false;
@@ -255,46 +303,75 @@ impl<K: SocketCalls + Drop> Ports for SocketPorts<K> {
         self.has_read = [false; CONNECTIONS];
         if !asks {
             self.unasked += 1;
-            self.sockets.note_named(&self.known.named);
-            return Ok(self.known.named);
+            self.sockets.note_named(&self.readiness.named);
+            return Ok(self.readiness.named);
         }
         self.unasked = 0;
         self.most_unasked = longer(self.most_unasked);
         self.refused = false;
-        match self.sockets.poll(&mut self.known, wait) {
-            Ok(()) => Ok(self.known.named),
+        match self.sockets.poll(&mut self.readiness, wait) {
+            Ok(()) => Ok(self.readiness.named),
             Err(_) => Err(PortFault),
         }
     }
 
-    fn accept(&mut self, c: usize) -> Result<Accepted, PortFault> {
+    fn accept(&mut self, c: usize) -> Result<Accepted, PortFault>
+        requires { c ≤ 64 }
+        ensures log { log_by (K.calls self.new.sockets) ≡ log_by (K.calls self.old.sockets) ++ accept_entry c result ∷ [] }
+        ensures asked { (answer : Result Bool SocketFailure) × (K.calls self.new.sockets ≡ Accepting c answer ∷ K.calls self.old.sockets)
+            × (self.new ≡ after_accepting c answer self.new.sockets self.old) }
+    {
         let answer = self.sockets.accept(c);
-        after_accept(&mut self.known, &mut self.busy, c, answer);
-        self.refused = matches!(answer, Err(SocketFailure::Refused));
+        after_accept(&mut self.readiness, c, answer);
+        self.busy |= accept_goes_on(answer);
+        self.refused = is_refused(answer);
         accept_told(answer)
     }
 
-    fn read(&mut self, c: usize, buffer: &mut [u8]) -> Told {
-        let answer = self.sockets.read(&mut self.known, c, buffer);
+    fn read(&mut self, c: usize, buffer: &mut [u8]) -> IoResult
+        requires { c < 64 }
+        ensures count { count_of result ≤ length buffer.new }
+        ensures log { log_by (K.calls self.new.sockets) ≡ log_by (K.calls self.old.sockets)
+            ++ Read c (length buffer.new) (carried_by result buffer.new) ∷ [] }
+        ensures after { (answer : Result ℕ SocketFailure) × (carried_by result buffer.new ≡ read_carried (moved answer buffer.new))
+            × IsReadBy c (length buffer.new) (length (K.ahead self.old.sockets c)) (length (K.ahead self.new.sockets c)) answer
+            self.old.readiness self.new.readiness
+            × (self.new ≡ after_reading c answer (length (K.ahead self.new.sockets c)) self.new.sockets self.new.readiness self.old) }
+    {
+        let answer = self.sockets.read(&mut self.readiness, c, buffer);
         self.after_read(c, answer);
         read_told(answer)
     }
 
-    fn write(&mut self, c: usize, bytes: &[u8]) -> Told {
+    fn write(&mut self, c: usize, bytes: &[u8]) -> IoResult
+        requires { c < 64 }
+        ensures count { count_of result ≤ length bytes.now }
+        ensures log { log_by (K.calls self.new.sockets) ≡ log_by (K.calls self.old.sockets)
+            ++ Wrote c (length bytes.now) (carried_by result bytes.now) ∷ [] }
+        ensures put_off { asking.has_to_wait c (length (K.ahead self.old.sockets c)) (length bytes.now) self.old ≡ true
+            → (K.calls self.new.sockets ≡ PuttingOff c (length bytes.now) ∷ K.calls self.old.sockets)
+            × (self.new ≡ record self.old { sockets = self.new.sockets }) }
+        ensures written { asking.has_to_wait c (length (K.ahead self.old.sockets c)) (length bytes.now) self.old ≡ false
+            → (answer : Result ℕ SocketFailure)
+            × (K.calls self.new.sockets ≡ Writing c (length bytes.now) (moved answer bytes.now) ∷ K.calls self.old.sockets)
+            × (self.new ≡ after_writing c answer self.new.sockets self.old) }
+    {
         if self.has_to_wait(c, bytes.len()) {
             self.sockets.note_put_off(c, bytes.len());
-            return Told::Bytes(0);
+            return IoResult::Bytes(0);
         }
-        let answer = self.sockets.write(&mut self.known, c, bytes);
-        self.busy = self.busy || did_something(answer);
-        if matches!(answer, Err(SocketFailure::WouldWait)) {
-            self.most_unasked = 0;
-        }
+        let answer = self.sockets.write(&mut self.readiness, c, bytes);
+        self.busy |= goes_on(answer);
+        self.most_unasked = most_after(answer, self.most_unasked);
         write_told(answer)
     }
 
-    fn close(&mut self, c: usize) {
+    fn close(&mut self, c: usize)
+        requires { c ≤ 64 }
+        ensures log { log_by (K.calls self.new.sockets) ≡ log_by (K.calls self.old.sockets) ++ Close c ∷ [] }
+        ensures after { self.new ≡ record self.old { sockets = self.new.sockets; readiness = forgotten c self.old.readiness } }
+    {
         self.sockets.close(c);
-        self.known.forget(c);
+        self.readiness.forget(c);
     }
 }

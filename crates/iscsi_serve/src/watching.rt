@@ -1,9 +1,10 @@
 //! Sockets that the system watches, so that a poll names them.
 
-ghost use Rattle.std.specs.Prelude.{◌<◌, length};
+ghost use Rattle.std.specs.Prelude.{◌≡◌, ◌<◌, length, true, false, slice_set, Some};
+ghost use Rattle.mio.specs.declared.net.stream.TcpStream.{TcpStream};
 
 use crate::peer_watch::watch_peer;
-use crate::told::CONNECTIONS;
+use crate::results::CONNECTIONS;
 use mio::net::{TcpListener, TcpStream};
 use mio::{Interest, Poll, Registry, Token};
 use std::io;
@@ -29,6 +30,8 @@ pub(crate) fn keep(
     mut stream: TcpStream,
 ) -> bool
     requires { c < length streams.old }
+    ensures kept { result ≡ true → (place : TcpStream) × (streams.new ≡ slice_set streams.old c (Some place)) }
+    ensures dropped { result ≡ false → streams.new ≡ streams.old }
 {
     // A connection that its peer has reset cannot be set; its next read tells so.
     let _ = stream.set_nodelay(true);

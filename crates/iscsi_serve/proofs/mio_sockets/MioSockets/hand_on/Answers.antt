@@ -1,7 +1,7 @@
 use Rattle.std.proofs.Common.{◌≡◌, ◌<◌, ◌∙◌, ap, length, get_or, take, drop, None, arith}
 use Rattle.std.proofs.lemmas.List.{get_or_read, length-set}
 use Rattle.iscsi_serve.specs.Calls.{calls_of}
-use Rattle.iscsi_serve.specs.Ahead.{bytes_in, ahead_on}
+use Rattle.iscsi_serve.specs.ReadBuffer.{bytes_in, ahead_on}
 use Rattle.iscsi_serve.proofs.Accounts.{accounted_handing}
 use Rattle.iscsi_serve.proofs.mio_sockets.MioSockets.hand_on.Goals as goal
 

@@ -1,6 +1,6 @@
 use Rattle.std.proofs.Common.{ap, sym, None, arith}
 use Rattle.std.proofs.lemmas.List.{get_or-replicate}
-use Rattle.iscsi_serve.specs.Ahead.{bytes_in}
+use Rattle.iscsi_serve.specs.ReadBuffer.{bytes_in}
 use Rattle.iscsi_serve.proofs.mio_sockets.MioSockets.listen.Goals as goal
 
 pub invariant_of-result-clause-accounted : goal.invariant_of-result-clause-accounted

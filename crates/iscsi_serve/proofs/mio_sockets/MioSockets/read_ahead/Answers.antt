@@ -1,7 +1,7 @@
 use Rattle.std.proofs.Common.{◌≡◌, ◌<◌, ◌∙◌, ap, sym, length, drop, min, arith}
 use Rattle.std.proofs.lemmas.List.{length-set}
 use Rattle.iscsi_serve.specs.Calls.{calls_of}
-use Rattle.iscsi_serve.specs.Ahead.{bytes_in}
+use Rattle.iscsi_serve.specs.ReadBuffer.{bytes_in}
 use Rattle.iscsi_serve.proofs.Accounts.{accounted_reading}
 use Rattle.iscsi_serve.proofs.mio_sockets.MioSockets.read_ahead.Goals as goal
 

@@ -2,7 +2,7 @@
 use Rattle.std.specs.Prelude.{◌≡◌, List, [], ◌∷◌, true, Some, None, Ok, Err, refl}
 use Rattle.iscsi_serve.specs.Log.{Bytes, End, Open, Read, Wrote}
 use Rattle.iscsi_serve.specs.Calls.{Call, Accepting, Reading, Handing, PuttingOff, Closing, log_by}
-use Rattle.iscsi_serve.specs.Ahead.{given, handed, ahead_on}
+use Rattle.iscsi_serve.specs.ReadBuffer.{given, handed, ahead_on}
 use Rattle.iscsi_serve.specs.declared.socket_failure.SocketFailure.TheVariants.{WouldWait}
 
 -- a read for two bytes meets five, of which two more are handed on; then a write is put off, and the next read

@@ -1,6 +1,6 @@
 use Rattle.std.proofs.Common.{◌∙◌, ap, drop, arith}
 use Rattle.iscsi_serve.proofs.Buffers.{rest_of}
-use Rattle.iscsi_serve.proofs.ahead.Ahead.hand.Goals as goal
+use Rattle.iscsi_serve.proofs.read_buffer.ReadBuffer.hand.Goals as goal
 
 pub returns-clause-rest : goal.returns-clause-rest
 returns-clause-rest c =

@@ -2,15 +2,15 @@
 use Rattle.std.specs.Prelude.{ℕ, List, take, Some, None, Result, Ok, Err}
 use Rattle.iscsi_serve.specs.Log as log
 use Rattle.iscsi_serve.specs.Log.{Entry, Carried, Polled, Open, NobodyCame, AcceptFailed}
-use Rattle.iscsi_serve.specs.declared.told.Named.{Named}
-use Rattle.iscsi_serve.specs.declared.told.PortFault.{PortFault}
-use Rattle.iscsi_serve.specs.declared.told.Told.{Told}
-use Rattle.iscsi_serve.specs.declared.told.Told.TheVariants as told
-use Rattle.iscsi_serve.specs.declared.told.Accepted.{Accepted}
-use Rattle.iscsi_serve.specs.declared.told.Accepted.TheVariants as accepted
+use Rattle.iscsi_serve.specs.declared.results.Named.{Named}
+use Rattle.iscsi_serve.specs.declared.results.PortFault.{PortFault}
+use Rattle.iscsi_serve.specs.declared.results.IoResult.{IoResult}
+use Rattle.iscsi_serve.specs.declared.results.IoResult.TheVariants as told
+use Rattle.iscsi_serve.specs.declared.results.Accepted.{Accepted}
+use Rattle.iscsi_serve.specs.declared.results.Accepted.TheVariants as accepted
 
 -- what a call with this buffer told
-abbrev pub carried_by : Told → List ℕ → Carried
+abbrev pub carried_by : IoResult → List ℕ → Carried
 carried_by (told.Bytes n) buffer = log.Bytes (take n buffer)
 carried_by told.End buffer = log.End
 carried_by told.Fault buffer = log.Fault
@@ -25,7 +25,7 @@ accept_entry c (Ok accepted.Nobody) = NobodyCame
 accept_entry c (Err fault) = AcceptFailed
 
 -- how many bytes a call gave or took
-abbrev pub count_of : Told → ℕ
+abbrev pub count_of : IoResult → ℕ
 count_of (told.Bytes n) = n
 count_of told.End = 0
 count_of told.Fault = 0

@@ -12,7 +12,7 @@ pub struct Named {
 
 /// What a read or a write told.
 #[derive(Clone, Copy, Debug, PartialEq, Eq)]
-pub enum Told {
+pub enum IoResult {
     /// So many bytes were read or written: none where the call would have waited.
     Bytes(usize),
     /// The peer sends nothing more.

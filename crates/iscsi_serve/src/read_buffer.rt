@@ -1,7 +1,7 @@
 //! Bytes of a connection that the system gave and that were not handed on yet.
 
-ghost use Rattle.std.specs.Prelude.{◌≡◌, [], min, length, take, drop, IfOk};
-ghost use Rattle.iscsi_serve.specs.Ahead.{bytes_in};
+ghost use Rattle.std.specs.Prelude.{◌≡◌, [], min, length, take, drop, None, IsSome, IfOk};
+ghost use Rattle.iscsi_serve.specs.ReadBuffer.{bytes_in};
 
 use std::alloc::{AllocError, Global};
 use std::io::{self, Read};
@@ -12,13 +12,13 @@ pub(crate) const MOST_AHEAD: usize = 65_536;
 
 /// A buffer with bytes that are ahead. It is seen as the list of these.
 #[derive(Drop)]
-pub(crate) struct Ahead {
+pub(crate) struct ReadBuffer {
     buffer: Vec<u8>,
     from: usize,
     to: usize,
 }
 
-impl Model for Ahead {
+impl Model for ReadBuffer {
     ghost use Rattle.std.specs.Prelude.{ℕ, List, ◌≤◌, length, slice_range};
 
     ghost Value = { List ℕ };
@@ -28,12 +28,12 @@ impl Model for Ahead {
     ghost invariant = { λ ahead. (ahead.from ≤ ahead.to) × (ahead.to ≤ length ahead.buffer.items) };
 }
 
-impl Ahead {
+impl ReadBuffer {
     /// A buffer with nothing in it.
-    pub(crate) fn new(alloc: Global) -> Result<Ahead, AllocError>
+    pub(crate) fn new(alloc: Global) -> Result<ReadBuffer, AllocError>
         ensures { IfOk result (λ ahead. ahead ≡ []) }
     {
-        Ok(Ahead {
+        Ok(ReadBuffer {
             buffer: vec![in alloc; 0; MOST_AHEAD]?,
             from: 0,
             to: 0,
@@ -80,7 +80,7 @@ impl Ahead {
 }
 
 /// Hands on what is ahead, if anything is.
-pub(crate) fn hand_from(place: &mut Option<Ahead>, buffer: &mut [u8]) -> usize
+pub(crate) fn hand_from(place: &mut Option<ReadBuffer>, buffer: &mut [u8]) -> usize
     ensures count { result ≡ min (length (bytes_in place.old)) (length buffer.old) }
     ensures piece { take result buffer.new ≡ take result (bytes_in place.old) }
     ensures rest { bytes_in place.new ≡ drop result (bytes_in place.old) }
@@ -92,7 +92,7 @@ pub(crate) fn hand_from(place: &mut Option<Ahead>, buffer: &mut [u8]) -> usize
 }
 
 /// How many bytes are ahead.
-pub(crate) fn count_ahead(place: &Option<Ahead>) -> usize
+pub(crate) fn count_ahead(place: &Option<ReadBuffer>) -> usize
     ensures { result ≡ length (bytes_in place.now) }
 {
     match place {
@@ -102,7 +102,7 @@ pub(crate) fn count_ahead(place: &Option<Ahead>) -> usize
 }
 
 /// Where nothing is ahead any more, the buffer is kept for the next read.
-pub(crate) fn give_back(place: &mut Option<Ahead>, spare: &mut Option<Ahead>)
+pub(crate) fn give_back(place: &mut Option<ReadBuffer>, spare: &mut Option<ReadBuffer>)
     ensures { bytes_in place.new ≡ bytes_in place.old }
 {
     if count_ahead(place) == 0 {
@@ -113,9 +113,12 @@ pub(crate) fn give_back(place: &mut Option<Ahead>, spare: &mut Option<Ahead>)
 }
 
 /// A buffer to read into: the one that is kept, or a new one. None where an allocation fails.
-pub(crate) fn take_spare(alloc: Global, spare: &mut Option<Ahead>) -> Option<Ahead> {
+pub(crate) fn take_spare(alloc: Global, spare: &mut Option<ReadBuffer>) -> Option<ReadBuffer>
+    ensures kept { IsSome spare.old → result ≡ spare.old }
+    ensures taken { spare.new ≡ None }
+{
     match spare.take() {
         Some(ahead) => Some(ahead),
-        None => Ahead::new(alloc).ok(),
+        None => ReadBuffer::new(alloc).ok(),
     }
 }
