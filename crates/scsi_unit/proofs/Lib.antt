@@ -3,10 +3,8 @@ pub mod Numbers
 pub mod Places
 pub mod CameOut
 pub mod Possible
-pub mod Room
 pub mod DiskDone
 pub mod DiskWrites
 pub mod Found
-pub mod ReserveData
 pub mod Sound
 pub mod TapeDone

@@ -16,7 +16,7 @@ use Rattle.scsi_cdb.specs.declared.tape.TapeCommand.TheVariants.{Rewind, ReadBlo
 use Rattle.scsi_cdb.specs.declared.tape.TapeCommand.TheVariants.{Erase, LoadUnload, Locate, ReadPosition}
 use Rattle.scsi_tape.specs.State.{TapeUnitState}
 use Rattle.scsi_tape.specs.Commands.{tape_left}
-use Rattle.scsi_tape.specs.CameOut.{TapeCame, TapeTouch, tape_touch, tape_after, tape_told, IsTapePossible, IsTapeDone, is_steady}
+use Rattle.scsi_tape.specs.CameOut.{TapeCame, TapeTouch, tape_touch, tape_after, IsTapePossible, IsTapeDone, is_steady}
 use Rattle.scsi_tape.specs.CameOut as tape
 use Rattle.scsi_unit.specs.Device.{DeviceState, Tape, StoreState, store_of}
 use Rattle.scsi_unit.specs.CameOut.{CameOut, store_after, IsPossible}

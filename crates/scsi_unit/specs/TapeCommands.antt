@@ -1,5 +1,5 @@
 -- What commands do to the tape of a unit, by how they came out (SSC-4 "Command descriptions").
-use Rattle.std.specs.Prelude.{ℕ, List, Bool, false, not, nat_lt, Some, None, if◌then◌else◌}
+use Rattle.std.specs.Prelude.{ℕ, List, Bool, false, not, Some, None, if◌then◌else◌}
 use Rattle.scsi_sense.specs.Done.{Outcome, check_condition}
 use Rattle.scsi_sense.specs.Nexus.{NexusName}
 use Rattle.scsi_sense.specs.declared.condition.Attention.TheVariants.{NotReadyToReadyChange}
@@ -7,8 +7,8 @@ use Rattle.scsi_cdb.specs.Fault.{invalid_operation_code}
 use Rattle.scsi_cdb.specs.declared.tape.TapeCommand.{TapeCommand}
 use Rattle.scsi_cdb.specs.declared.tape.TapeCommand.TheVariants.{Rewind, ReadBlockLimits, Read, Write, WriteFilemarks, Space, SpaceToEndOfData}
 use Rattle.scsi_cdb.specs.declared.tape.TapeCommand.TheVariants.{Erase, LoadUnload, Locate, ReadPosition}
-use Rattle.scsi_tape.specs.Commands.{tape_outcome, tape_left, room_needed}
-use Rattle.scsi_tape.specs.CameOut.{TapeCame, TapeTouch, tape_touch, tape_after, tape_told}
+use Rattle.scsi_tape.specs.Commands.{tape_outcome, tape_left}
+use Rattle.scsi_tape.specs.CameOut.{TapeCame, TapeTouch, tape_after, tape_told}
 use Rattle.scsi_tape.specs.CameOut as tape
 use Rattle.scsi_unit.specs.Device.{DeviceState, Disk, Tape}
 use Rattle.scsi_unit.specs.CameOut.{CameOut, AsDefined, Dishonest, ReadFailed, WriteFailed, TapeDishonest, TapeWriteFailed, Touch}
@@ -61,7 +61,3 @@ tape_performed came nexus bytes unit (Tape on) command = (
   },
   tape_told (tape_came came) (tape_outcome command bytes on.tape),
 )
-
--- own: it takes memory for the room of the data that it can give, also where it then gives none
-abbrev pub takes_room : TapeCommand → Bool
-takes_room command = nat_lt 0 (room_needed command)

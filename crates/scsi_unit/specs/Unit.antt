@@ -1,5 +1,5 @@
 -- A logical unit, and what a command does to it.
-use Rattle.std.specs.Prelude.{◌≡◌, ℕ, List, [], ◌∷◌, take, Bool, true, false, ◌==◌, Option, Some, None, Result, Ok, Err, if◌then◌else◌}
+use Rattle.std.specs.Prelude.{◌≡◌, ℕ, List, [], ◌∷◌, take, Bool, false, ◌==◌, Option, Some, None, Result, Ok, Err, if◌then◌else◌}
 use Rattle.scsi_sense.specs.Sense.{plain_sense}
 use Rattle.scsi_sense.specs.Done.{Outcome, good, good_with, good_taking, check_condition, reservation_conflict}
 use Rattle.scsi_sense.specs.Nexus.{NexusName}
@@ -24,7 +24,7 @@ use Rattle.scsi_unit.specs.Device.{DeviceState, Disk, Tape, kind_of, parameters_
 use Rattle.scsi_unit.specs.CameOut.{CameOut, AsDefined, shown_by, store_after, disk_after, Touch, no_touch, IsPossible}
 use Rattle.scsi_unit.specs.Possible.{way}
 use Rattle.scsi_unit.specs.DiskCommands.{shown, disk_defined, disk_told, touch_of}
-use Rattle.scsi_unit.specs.TapeCommands.{touch_of_tape, tape_performed, takes_room}
+use Rattle.scsi_unit.specs.TapeCommands.{touch_of_tape, tape_performed}
 use Rattle.scsi_unit.specs.Joined.{with_nexus, without_nexus, told, raised_for, raised_for_others, raised_for_all}
 use Rattle.scsi_unit.specs.Identity.{inquiry_outcome, luns_outcome, sense_outcome, pending_sense, without_unit}
 use Rattle.scsi_unit.specs.PersistentReserve.{reserve_in_outcome, reserved_out}
@@ -149,30 +149,6 @@ touch_where device (Ok command) = touch_by device command
 unfoldable pub touch_at : NexusName → List ℕ → List ℕ → UnitState → Touch
 touch_at nexus cdb bytes unit = touch_where unit.device (judged nexus cdb bytes unit)
 
--- own: PERSISTENT RESERVE OUT takes memory and gives no data: for who is registered
-abbrev pub keeps_more : UnitCommand → Bool
-keeps_more TestUnitReady = false
-keeps_more (RequestSense allocation_length) = false
-keeps_more (Inquiry page allocation_length) = false
-keeps_more (ModeSelect fields) = false
-keeps_more (ModeSense fields) = false
-keeps_more (ReserveIn fields) = false
-keeps_more (ReserveOut fields) = true
-keeps_more (ReportLuns fields) = false
-
-abbrev pub keeps_more_by : Command → Bool
-keeps_more_by (to.Unit command) = keeps_more command
-keeps_more_by (to.Disk command) = false
-keeps_more_by (to.Tape command) = takes_room command
-
-abbrev pub keeps_more_where : Result Command Refusal → Bool
-keeps_more_where (Err refusal) = false
-keeps_more_where (Ok command) = keeps_more_by command
-
--- own: whether a command that no check refuses may take memory and give no data
-unfoldable pub keeps_more_at : NexusName → List ℕ → List ℕ → UnitState → Bool
-keeps_more_at nexus cdb bytes unit = keeps_more_where (judged nexus cdb bytes unit)
-
 -- own: a command came out in one of the ways in which it can, and the unit and what is told are so
 pub record IsPerformed (touch : Touch) (should : CameOut → UnitState × Outcome) (old new : UnitState) (done : Outcome) : Type 0 where
   pub came : CameOut
@@ -206,7 +182,3 @@ perform_as came nexus lun cdb bytes unit =
 -- and what it does to the medium
 unfoldable pub touch_with : NexusName → List ℕ → List ℕ → List ℕ → UnitState → Touch
 touch_with nexus lun cdb bytes unit = if names_unit lun unit then touch_at nexus cdb bytes unit else no_touch
-
--- and whether it may take memory and give no data
-unfoldable pub keeps_more_with : NexusName → List ℕ → List ℕ → List ℕ → UnitState → Bool
-keeps_more_with nexus lun cdb bytes unit = if names_unit lun unit then keeps_more_at nexus cdb bytes unit else false

@@ -1,5 +1,5 @@
 -- The logical units of one target, and what a command does to them.
-use Rattle.std.specs.Prelude.{◌≡◌, ℕ, All, IsTrue, List, map, Bool, true, false, position, ◌==◌, Option, Some, None, option_and_then, slice_get, slice_set, slice_index_or, MatchBool, if◌then◌else◌}
+use Rattle.std.specs.Prelude.{◌≡◌, ℕ, All, IsTrue, List, map, true, position, ◌==◌, Option, Some, None, option_and_then, slice_get, slice_set, slice_index_or, MatchBool, if◌then◌else◌}
 use Rattle.scsi_sense.specs.Done.{Outcome}
 use Rattle.scsi_sense.specs.Nexus.{NexusName}
 use Rattle.scsi_sense.specs.declared.condition.Attention.{Attention}
@@ -9,7 +9,7 @@ use Rattle.scsi_unit.specs.CameOut.{CameOut, AsDefined, touches}
 use Rattle.scsi_unit.specs.State.{UnitState}
 use Rattle.scsi_unit.specs.Identity.{without_unit, is_for_target, reported_luns}
 use Rattle.scsi_unit.specs.Lun.{lun_number}
-use Rattle.scsi_unit.specs.Unit.{joined_unit, left_unit, raised_unit, raised_unit_for_all, where_named, performed_as, came_out_at, touch_at, keeps_more_at, IsPerformed}
+use Rattle.scsi_unit.specs.Unit.{joined_unit, left_unit, raised_unit, raised_unit_for_all, where_named, performed_as, came_out_at, touch_at, IsPerformed}
 
 abbrev pub UnitStates : Type 0
 UnitStates = List UnitState
@@ -120,21 +120,3 @@ IsTrusted nexus cdb bytes None old new = Unit {0}
 IsTrusted nexus cdb bytes (Some at) old new =
     (unit : UnitState) → touches (touch_at nexus cdb bytes (slice_index_or old at unit)) ≡ true
     → IsTrustedStore (store_of (slice_index_or old at unit).device) (store_of (slice_index_or new at unit).device)
-
--- own: whether a command does anything to the medium of the unit that stands at a place
-abbrev pub touches_there : NexusName → List ℕ → List ℕ → Option UnitState → Bool
-touches_there nexus cdb bytes None = false
-touches_there nexus cdb bytes (Some unit) = touches (touch_at nexus cdb bytes unit)
-
--- own: .. of the unit that a LUN names, where it names one
-abbrev pub touches_at : NexusName → List ℕ → List ℕ → UnitStates → Option ℕ → Bool
-touches_at nexus cdb bytes units place = touches_there nexus cdb bytes (option_and_then (slice_get units) place)
-
--- own: whether a command to the unit that stands at a place may take memory and give no data
-abbrev pub keeps_more_there : NexusName → List ℕ → List ℕ → Option UnitState → Bool
-keeps_more_there nexus cdb bytes None = false
-keeps_more_there nexus cdb bytes (Some unit) = keeps_more_at nexus cdb bytes unit
-
--- own: .. of the unit that a LUN names, where it names one
-abbrev pub keeps_more_in : NexusName → List ℕ → List ℕ → UnitStates → Option ℕ → Bool
-keeps_more_in nexus cdb bytes units place = keeps_more_there nexus cdb bytes (option_and_then (slice_get units) place)

@@ -1,15 +1,14 @@
 //! The commands to disks.
 
-ghost use Rattle.std.specs.Prelude.{◌≡◌, ◌+◌, ◌*◌, ◌<◌, ◌≤◌, ℕ, List, [], length, drop, false, IsTrue, IsOk, IfOk, OnOk, OnErr};
+ghost use Rattle.std.specs.Prelude.{◌≡◌, ◌+◌, ◌*◌, ◌<◌, ◌≤◌, ℕ, List, [], length, drop, IsTrue, IsOk, IfOk, OnOk, OnErr};
 ghost use Rattle.media_store.specs.Failures.{counted};
 ghost use Rattle.media_block.specs.Blocks.{block_length, data_of};
 ghost use Rattle.scsi_sense.specs.Given.{headroom};
 ghost use Rattle.scsi_cdb.specs.declared.command.DiskCommand.TheVariants.{Read};
 ghost use Rattle.scsi_unit.specs.Device.{disk_view, Disk as DiskDeviceOf};
-ghost use Rattle.scsi_unit.specs.CameOut.{touches};
 ghost use Rattle.scsi_unit.specs.Checks.{has_range};
-ghost use Rattle.scsi_unit.specs.DiskCommands.{capacity_10 as capacity_10_data, capacity_16 as capacity_16_data, bytes_needed, disk_outcome};
-ghost use Rattle.scsi_unit.specs.DiskCommands.{range_named, touch_of, IsDiskDone, most_given};
+ghost use Rattle.scsi_unit.specs.DiskCommands.{capacity_10 as capacity_10_data, capacity_16 as capacity_16_data, bytes_needed};
+ghost use Rattle.scsi_unit.specs.DiskCommands.{range_named, IsDiskDone, most_given};
 
 use crate::buffers::take;
 use crate::device::DiskDevice;
@@ -74,8 +73,7 @@ fn read_into<S: Store>(
 
 impl<S: Store> DiskDevice<S> {
     /// READ of blocks that the disk has. The room for the data is made first, with room for a header in
-    /// front of it and for what is sent behind it, so that where an allocation fails nothing changes. It takes
-    /// no memory where no block is read.
+    /// front of it and for what is sent behind it, so that where an allocation fails nothing changes.
     fn read(
         &mut self,
         alloc: Global,
@@ -85,15 +83,11 @@ impl<S: Store> DiskDevice<S> {
         requires { range.first + range.count ≤ length self.old.disk.blocks }
         ensures done { IfOk result (λ done. (bytes : List ℕ) → IsDiskDone (Read range) bytes (disk_view self.old) (disk_view self.new) done) }
         ensures given { IfOk result (λ done. length done.given ≤ most_given) }
-        ensures nothing { (IsTrue (touches (touch_of (Read range))) → IsTrue self.old.disk.honest)
-            → data_of self.old.disk.blocks range.first range.count ≡ [] → IsOk result }
         ensures err { OnErr result (disk_view self.new ≡ disk_view self.old) }
     {
         if range.count() == 0 {
             return Ok(Done::good(alloc));
         }
-        // So each block has its bytes, where the store is honest.
-        let _ = self.disk.block_count();
         let room = HEADROOM + BLOCK_LENGTH * range.count() as usize + TAILROOM;
         let mut buffer = take(alloc, used, room)?;
         match read_into(&mut self.disk, range, &mut buffer) {
@@ -103,7 +97,7 @@ impl<S: Store> DiskDevice<S> {
     }
 
     /// A command to the disk, whose blocks it has, with the data that it needs. Where the store fails it is
-    /// told so. Only what gives data takes memory.
+    /// told so.
     pub fn carry_out(
         &mut self,
         alloc: Global,
@@ -115,8 +109,6 @@ impl<S: Store> DiskDevice<S> {
         requires enough { bytes_needed command ≤ length «data».now }
         ensures done { IfOk result (IsDiskDone command «data».now (disk_view self.old) (disk_view self.new)) }
         ensures given { IfOk result (λ done. length done.given ≤ most_given) }
-        ensures nothing { (IsTrue (touches (touch_of command)) → IsTrue self.old.disk.honest)
-            → (disk_outcome self.old.disk.blocks «data».now command).given ≡ [] → IsOk result }
         ensures err { OnErr result (disk_view self.new ≡ disk_view self.old) }
     {
         match command {

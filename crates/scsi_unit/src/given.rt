@@ -1,6 +1,6 @@
 //! The data that commands give.
 
-ghost use Rattle.std.specs.Prelude.{◌≡◌, ◌≤◌, [], length, take, IsOk, IfOk};
+ghost use Rattle.std.specs.Prelude.{◌≡◌, ◌≤◌, length, take, IfOk};
 ghost use Rattle.scsi_sense.specs.Done.{good_with};
 
 use crate::fault::Memory;
@@ -19,15 +19,13 @@ pub(crate) fn front(bytes: &[u8], most: usize) -> &[u8]
     }
 }
 
-/// GOOD with these bytes, of which no more are given than the allocation length. It takes no memory where
-/// none are given.
+/// GOOD with these bytes, of which no more are given than the allocation length.
 pub(crate) fn done_with_front(
     alloc: Global,
     bytes: &[u8],
     allocation_length: u32,
 ) -> Result<Done, Memory>
     ensures done { IfOk result (λ done. done ≡ good_with (take allocation_length bytes.now)) }
-    ensures nothing { take allocation_length bytes.now ≡ [] → IsOk result }
 {
     let given = Given::copied(alloc, front(bytes, allocation_length as usize))?;
     Ok(Done::good_with(given))

@@ -1,6 +1,6 @@
 //! INQUIRY, REPORT LUNS and the data of REQUEST SENSE, also where there is no unit.
 
-ghost use Rattle.std.specs.Prelude.{◌≡◌, ◌≤◌, [], length, take, IsOk, IfOk};
+ghost use Rattle.std.specs.Prelude.{◌≡◌, ◌≤◌, length, take, IfOk};
 ghost use Rattle.scsi_sense.specs.Done.{good_with, check_condition};
 ghost use Rattle.scsi_cdb.specs.Fault.{invalid_field};
 ghost use Rattle.scsi_inquiry.specs.Standard.{standard_data};
@@ -30,7 +30,6 @@ fn standard_inquiry(
 ) -> Result<Done, Memory>
     ensures done { IfOk result (λ done. done ≡ good_with (take allocation_length (standard_data peripheral))) }
     ensures given { IfOk result (λ done. length done.given ≤ most_given) }
-    ensures nothing { take allocation_length (standard_data peripheral) ≡ [] → IsOk result }
 {
     done_with_front(alloc, &standard(peripheral), allocation_length)
 }
@@ -46,7 +45,6 @@ fn page_inquiry(
     requires { length serial.now ≤ most_serial }
     ensures done { IfOk result (λ done. done ≡ page_outcome kind serial.now allocation_length (page_of code kind)) }
     ensures given { IfOk result (λ done. length done.given ≤ most_given) }
-    ensures nothing { (page_outcome kind serial.now allocation_length (page_of code kind)).given ≡ [] → IsOk result }
 {
     let Some(asked) = VpdPage::of(code, kind) else {
         return Ok(field_refused(alloc));
@@ -67,7 +65,6 @@ pub(crate) fn inquiry(
     requires { length serial.now ≤ most_serial }
     ensures done { IfOk result (λ done. done ≡ inquiry_outcome kind serial.now page allocation_length) }
     ensures given { IfOk result (λ done. length done.given ≤ most_given) }
-    ensures nothing { (inquiry_outcome kind serial.now page allocation_length).given ≡ [] → IsOk result }
 {
     match page {
         Some(code) => page_inquiry(alloc, kind, serial, code, allocation_length),
@@ -84,7 +81,6 @@ pub(crate) fn report_luns(
 ) -> Result<Done, Memory>
     ensures done { IfOk result (λ done. done ≡ luns_outcome numbers.now fields) }
     ensures given { IfOk result (λ done. length done.given ≤ most_given) }
-    ensures nothing { (luns_outcome numbers.now fields).given ≡ [] → IsOk result }
 {
     if fields.allocation_length == 0 {
         return Ok(Done::good(alloc));
@@ -102,7 +98,6 @@ pub(crate) fn sense_data(
 ) -> Result<Done, Memory>
     ensures done { IfOk result (λ done. done ≡ sense_outcome sense allocation_length) }
     ensures given { IfOk result (λ done. length done.given ≤ most_given) }
-    ensures nothing { (sense_outcome sense allocation_length).given ≡ [] → IsOk result }
 {
     done_with_front(alloc, &sense.bytes(), allocation_length)
 }
@@ -119,7 +114,6 @@ fn not_supported() -> Sense
 pub(crate) fn without_unit(alloc: Global, cdb: [u8; 16]) -> Result<Done, Memory>
     ensures done { IfOk result (λ done. done ≡ without_unit cdb) }
     ensures given { IfOk result (λ done. length done.given ≤ most_given) }
-    ensures nothing { (without_unit cdb).given ≡ [] → IsOk result }
 {
     let operation = match Row::of(cdb[0]) {
         Some(row) if row.passes_missing_unit => row.operation,

@@ -22,9 +22,7 @@
 //! SYNCHRONIZE CACHE with GOOD, and WRITE or COMPARE AND WRITE with GOOD that wrote a block with FUA, the
 //! store is synced.
 //!
-//! Where an allocation fails nothing changes. No allocation can fail for a command that gives no data, where
-//! the units are sound or it does not touch its medium, but for PERSISTENT RESERVE OUT: what is refused, what writes or compares, what has an
-//! allocation length of 0, and a READ of no block. The data of a write goes to the store from where it lies.
+//! Where an allocation fails nothing changes. The data of a write goes to the store from where it lies.
 #![tactic(auto)]
 
 mod buffers;

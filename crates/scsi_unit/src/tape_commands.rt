@@ -1,13 +1,13 @@
 //! The commands to tapes.
 
-ghost use Rattle.std.specs.Prelude.{◌≡◌, ◌≤◌, length, false, IsOk, IfOk, OnErr};
+ghost use Rattle.std.specs.Prelude.{◌≡◌, ◌≤◌, length, IfOk, OnErr};
 ghost use Rattle.scsi_cdb.specs.declared.command.Command.TheVariants as to;
 ghost use Rattle.scsi_tape.specs.Commands.{bytes_needed};
 ghost use Rattle.scsi_tape.specs.CameOut.{IsTapeDone};
 ghost use Rattle.scsi_sense.specs.declared.condition.Attention.TheVariants.{NotReadyToReadyChange};
 ghost use Rattle.scsi_unit.specs.DiskCommands.{most_given};
 ghost use Rattle.scsi_unit.specs.Joined.{raised_for_others};
-ghost use Rattle.scsi_unit.specs.TapeCommands.{loads as loads_tape, tape_performed, takes_room};
+ghost use Rattle.scsi_unit.specs.TapeCommands.{loads as loads_tape, tape_performed};
 ghost use Rattle.scsi_unit.specs.Unit.{touch_by, IsPerformed};
 
 use crate::buffers::{give_back, take};
@@ -33,7 +33,6 @@ fn carry_out<S: Store>(
     requires { bytes_needed command ≤ length «data».now }
     ensures done { IfOk result (IsTapeDone command «data».now tape.old tape.new) }
     ensures given { IfOk result (λ done. length done.given ≤ most_given) }
-    ensures nothing { takes_room command ≡ false → IsOk result }
     ensures err { OnErr result (tape.new ≡ tape.old) }
 {
     let room = room_needed(&command);
@@ -74,7 +73,6 @@ impl<S: Store> Unit<S> {
         ensures done { IfOk result (IsPerformed (touch_by self.old.device (to.Tape command))
             (λ came. tape_performed came nexus.now «data».now self.old self.old.device command) self.old self.new) }
         ensures given { IfOk result (λ done. length done.given ≤ most_given) }
-        ensures nothing { takes_room command ≡ false → IsOk result }
         ensures err { OnErr result (self.new ≡ self.old) }
     {
         let Device::Tape(tape) = &mut self.device else {

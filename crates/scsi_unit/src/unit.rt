@@ -1,10 +1,9 @@
 //! One logical unit.
 
-ghost use Rattle.std.specs.Prelude.{◌≡◌, ◌≤◌, [], length, false, IsTrue, IsOk, IfOk, OnOk, OnErr};
-ghost use Rattle.scsi_unit.specs.Device.{opened, opened_tape, store_of};
-ghost use Rattle.scsi_unit.specs.CameOut.{touches, AsDefined};
+ghost use Rattle.std.specs.Prelude.{◌≡◌, ◌≤◌, length, false, IfOk, OnOk, OnErr};
+ghost use Rattle.scsi_unit.specs.Device.{opened, opened_tape};
 ghost use Rattle.scsi_unit.specs.DiskCommands.{most_given};
-ghost use Rattle.scsi_unit.specs.Unit.{free_unit, joined_unit, left_unit, raised_unit, raised_unit_for_all, where_named, names_unit, perform_as, touch_with, keeps_more_with, IsPerformed};
+ghost use Rattle.scsi_unit.specs.Unit.{free_unit, joined_unit, left_unit, raised_unit, raised_unit_for_all, where_named, names_unit, perform_as, touch_with, IsPerformed};
 
 use crate::device::{Device, DiskDevice};
 use crate::fault::Memory;
@@ -43,7 +42,7 @@ impl<S: Store> Model for Unit<S> {
 }
 
 impl<S: Store> Unit<S> {
-    /// A disk. It takes no memory.
+    /// A disk.
     pub fn disk(alloc: Global, lun: u8, serial: Serial, disk: Disk<S>) -> Unit<S>
         ensures { result ≡ free_unit lun serial (opened disk) }
     {
@@ -61,7 +60,7 @@ impl<S: Store> Unit<S> {
         }
     }
 
-    /// A tape. It takes no memory.
+    /// A tape.
     pub fn tape(alloc: Global, lun: u8, serial: Serial, tape: Tape<S>) -> Unit<S>
         ensures { result ≡ free_unit lun serial (opened_tape tape) }
     {
@@ -140,9 +139,8 @@ impl<S: Store> Unit<S> {
     /// forbids it, the medium is ready, the fields of the command descriptor block, the range, the length of the data,
     /// write protection. A store that fails is told: UNRECOVERED READ ERROR, and nothing else changes; WRITE ERROR,
     /// and the unit is not ready until it is opened again. REPORT LUNS reports this unit alone. Where an
-    /// allocation fails nothing changes. A command that gives no data takes no memory; of one that touches
-    /// its medium, where the store is honest. PERSISTENT RESERVE OUT takes memory.
-    #[tactic(auto, unfolding(crate::specs::Unit::perform_as, crate::specs::Unit::touch_with, crate::specs::Unit::keeps_more_with))]
+    /// allocation fails nothing changes.
+    #[tactic(auto, unfolding(crate::specs::Unit::perform_as, crate::specs::Unit::touch_with))]
     pub fn perform(
         &mut self,
         nexus: &Nexus,
@@ -153,9 +151,6 @@ impl<S: Store> Unit<S> {
         ensures done { IfOk result (IsPerformed (touch_with nexus.now lun cdb «data».now self.old)
             (λ came. perform_as came nexus.now lun cdb «data».now self.old) self.old self.new) }
         ensures given { IfOk result (λ done. length done.given ≤ most_given) }
-        ensures nothing { (IsTrue (touches (touch_with nexus.now lun cdb «data».now self.old)) → IsTrue (store_of self.old.device).honest)
-            → keeps_more_with nexus.now lun cdb «data».now self.old ≡ false
-            → (perform_as AsDefined nexus.now lun cdb «data».now self.old).1.given ≡ [] → IsOk result }
         ensures err { OnErr result (self.new ≡ self.old) }
     {
         let alloc = self.alloc;

@@ -1,11 +1,11 @@
 //! The logical units of one target.
 
-ghost use Rattle.std.specs.Prelude.{◌≡◌, ◌<◌, ◌≤◌, [], length, map, false, IsTrue, IsOk, IfSome, IfOk, OnOk, OnErr};
+ghost use Rattle.std.specs.Prelude.{◌≡◌, ◌<◌, ◌≤◌, length, map, false, IfSome, IfOk, OnOk, OnErr};
 ghost use Rattle.scsi_unit.specs.CameOut.{CameOut, AsDefined};
 ghost use Rattle.scsi_unit.specs.DiskCommands.{most_given};
 ghost use Rattle.scsi_unit.specs.Unit.{joined_unit};
 ghost use Rattle.scsi_unit.specs.Lun.{lun_number as number_of_lun};
-ghost use Rattle.scsi_unit.specs.Units.{join, leave, raised_at, raised_for_all_at, raised_everywhere, numbers_of, come_out, perform as performed, unit_of, AreSound, AreSure, AreAnswered, IsTrusted, touches_at, keeps_more_in};
+ghost use Rattle.scsi_unit.specs.Units.{join, leave, raised_at, raised_for_all_at, raised_everywhere, numbers_of, come_out, perform as performed, unit_of, AreSound, AreSure, AreAnswered, IsTrusted};
 ghost use Rattle.scsi_unit.specs.Identity.{reported_luns, is_row_of_target};
 ghost use Rattle.scsi_cdb.specs.Operation.{row_of};
 
@@ -71,12 +71,11 @@ fn numbers<S: Store>(alloc: Global, units: &[Unit<S>]) -> Result<Vec<u8>, Memory
     Ok(numbers)
 }
 
-/// REPORT LUNS with these bytes, to units with these numbers. It takes no memory where no data is given.
+/// REPORT LUNS with these bytes, to units with these numbers.
 #[tactic(auto, unfolding(crate::specs::Identity::reported_luns, crate::specs::Identity::luns_outcome))]
 fn reported_luns(alloc: Global, luns: &[u8], cdb: [u8; 16]) -> Result<Done, Memory>
     ensures done { IfOk result (λ done. done ≡ reported_luns luns.now cdb) }
     ensures given { IfOk result (λ done. length done.given ≤ most_given) }
-    ensures nothing { (reported_luns luns.now cdb).given ≡ [] → IsOk result }
 {
     match ReportLunsFields::read(&cdb) {
         Ok(fields) => {
@@ -196,8 +195,7 @@ impl<S: Store> Units<S> {
     }
 
     /// A command with this data to the unit that the LUN names. REPORT LUNS reports all units. It gives
-    /// 1,048,576 bytes at most. Where an allocation fails nothing changes. A command that gives no data takes
-    /// no memory; of one that touches its medium, where the units are sound. PERSISTENT RESERVE OUT takes memory.
+    /// 1,048,576 bytes at most. Where an allocation fails nothing changes.
     #[tactic(auto, unfolding(crate::specs::Units::perform))]
     pub fn perform(
         &mut self,
@@ -215,9 +213,6 @@ impl<S: Store> Units<S> {
         ensures back { AreSound self.new → AreSound self.old }
         ensures sure { AreSure self.old → AreSure self.new }
         ensures given { IfOk result (λ done. length done.given ≤ most_given) }
-        ensures nothing { (IsTrue (touches_at nexus.now cdb «data».now self.old (unit_of self.old (number_of_lun lun))) → AreSound self.old)
-            → keeps_more_in nexus.now cdb «data».now self.old (unit_of self.old (number_of_lun lun)) ≡ false
-            → (performed self.old nexus.now lun cdb «data».now).1.given ≡ [] → IsOk result }
         ensures err { OnErr result (self.new ≡ self.old) }
     {
         let Some(at) = self.position(lun) else {

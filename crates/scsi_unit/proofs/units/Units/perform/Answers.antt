@@ -6,7 +6,7 @@ use Rattle.scsi_unit.specs.Units.{unit_of, numbers_of}
 use Rattle.scsi_unit.specs.Lun.{lun_number}
 use Rattle.scsi_unit.specs.State.{UnitState}
 use Rattle.scsi_unit.proofs.Numbers.{numbers_set, result_same}
-use Rattle.scsi_unit.proofs.Found.{place_found, luns_answered, luns_given, unit_answered, unit_given}
+use Rattle.scsi_unit.proofs.Found.{place_found, luns_answered, unit_answered}
 use Rattle.scsi_unit.proofs.Sound.{none_came, answered_came, answered_exact, answered_sound, answered_back, answered_sure}
 use Rattle.scsi_unit.proofs.units.Units.perform.Goals as goal
 
@@ -41,14 +41,6 @@ returns-then-is_for_target-clause-sound g c =
     IfOk-weaker c.reported_luns.result _ _
     (λ done answered. answered_sound c.args.nexus.now c.args.lun c.args.cdb c.args.«data».now c.args.self.now
     c.args.self.now done found refl answered) (returns-then-is_for_target-clause-answered g c)
-
-pub returns-then-is_for_target-clause-nothing : goal.returns-then-is_for_target-clause-nothing
-returns-then-is_for_target-clause-nothing g c =
-    let report : is_for_target c.args.cdb ≡ true = sym c.is_for_target.ensures ∙ c.if-is_for_target.true in
-    let known : c.as_slice.result.now ≡ numbers_of c.args.self.now = c.as_slice.ensures.value ∙ c.self.invariant ∙ ap numbers_of c.self.view_is in
-    let nothing = rw known at c.reported_luns.ensures.nothing in
-    λ calm plain given. luns_given c.reported_luns.result c.args.self.now c.args.nexus.now c.args.lun c.args.cdb c.args.«data».now c.in-Some.at
-    (sym c.in-Some.ensures.value) c.in-Some.ensures.bound report nothing given
 
 -- ---- another command
 
@@ -103,13 +95,6 @@ returns-clause-sure g c =
     answered_sure c.perform_with.result (unit_of c.args.self.now
     (lun_number c.args.lun)) c.args.nexus.now c.args.cdb c.args.«data».now c.args.self.now _ found
     (returns-clause-answered g c) (returns-clause-err g c)
-
-pub returns-clause-nothing : goal.returns-clause-nothing
-returns-clause-nothing g c =
-    let other : is_for_target c.args.cdb ≡ false = sym c.is_for_target.ensures ∙ c.if-is_for_target.false in
-    unit_given c.perform_with.result c.args.self.now c.args.nexus.now c.args.lun c.args.cdb
-    c.args.«data».now c.in-Some.at c.index_mut-unit.result.now
-    (sym c.in-Some.ensures.value) c.in-Some.ensures.bound other (rw (c.index_mut-unit.ensures.value, c.self.view_is) at c.perform_with.ensures.nothing)
 
 -- ---- the units keep their numbers
 
