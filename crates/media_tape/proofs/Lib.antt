@@ -6,3 +6,4 @@ pub mod Commands
 pub mod Results
 pub mod Spacing
 pub mod There
+pub mod Ends

@@ -1,5 +1,5 @@
 -- SPACE (6) (SSC-4): from item to item, over records or over filemarks, behind the position or before it.
-use Rattle.std.specs.Prelude.{ℕ, zero, suc, ◌+◌, ◌-◌, ◌==◌, List, [], ◌∷◌, length, take, drop, reverse, Option, Some, None, if◌then◌else◌}
+use Rattle.std.specs.Prelude.{◌≡◌, ℕ, zero, suc, ◌+◌, ◌-◌, ◌==◌, List, [], ◌∷◌, length, take, drop, reverse, Option, Some, None, if◌then◌else◌}
 use Rattle.media_tape.specs.Items.{Item, Record, Filemark}
 use Rattle.media_tape.specs.Tape.{TapeState, items, located_at}
 use Rattle.media_tape.specs.declared.outcome.Over.{Over}
@@ -49,6 +49,10 @@ spaced_to Backward position passed = position - passed
 abbrev pub way_from : Direction → Over → ℕ → ℕ → List Item → Way
 way_from Forward over count position items = way Forward over count (drop position items)
 way_from Backward over count position items = way Backward over count (reverse (take position items))
+
+-- own: spacing over so many can end so: on these items it does
+abbrev pub Ends : Direction → Over → ℕ → Spaced → Type 0
+Ends toward over count told = (ahead : List Item) × (told ≡ (way toward over count ahead).told)
 
 -- SPACE (6) with the code for logical blocks, or for filemarks
 abbrev pub spaced_told : Direction → Over → ℕ → TapeState → Spaced

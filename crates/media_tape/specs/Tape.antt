@@ -121,6 +121,17 @@ tape_marked count tape =
     if count == 0 then record tape { synced = true }
     else synced_if_told (size_told (8 * count) tape) (wrote_if_told (size_told (8 * count) tape) (replicate count Filemark) tape)
 
+-- own: whether all is on the medium behind a WRITE or WRITE FILEMARKS that told this, where it was so before or not
+abbrev pub written_synced : Written → Bool → Bool
+written_synced written.Refused before = before
+written_synced written.Early before = false
+written_synced written.Whole before = false
+
+abbrev pub marked_synced : Written → Bool → Bool
+marked_synced written.Refused before = before
+marked_synced written.Early before = true
+marked_synced written.Whole before = true
+
 -- the items from the position on are removed
 abbrev pub erased : TapeState → TapeState
 erased tape = wrote [] tape

@@ -4,7 +4,7 @@ ghost use Rattle.std.specs.Prelude.{◌≡◌, ◌+◌, ◌*◌, ◌≤◌, ◌<
 ghost use Rattle.media_store.specs.Failures.{counted};
 ghost use Rattle.media_tape.specs.Items.{items_of};
 ghost use Rattle.media_tape.specs.Tape.{Lies};
-ghost use Rattle.media_tape.specs.Space.{left_behind, spaced_to, way, way_from};
+ghost use Rattle.media_tape.specs.Space.{Ends, left_behind, spaced_to, way, way_from};
 ghost use Rattle.media_tape.specs.declared.outcome.Direction.TheVariants.{Forward, Backward};
 
 use crate::item::{LENGTHS, item_at, item_before};
@@ -47,6 +47,7 @@ pub(crate) fn space_toward<S: Store>(
         → Lies (S.Store.content store.old) ended.at.count ended.at.place all.count all.place
         × (ended.at.count ≡ spaced_to toward from.count (way_from toward over count from.count (items_of (take all.place (S.Store.content store.old)))).passed)
         × (ended.told ≡ (way_from toward over count from.count (items_of (take all.place (S.Store.content store.old)))).told)) }
+    ensures shown { IfOk result (λ ended. Ends toward over count ended.told) }
     ensures within { IfOk result (λ ended. (ended.at.place ≤ all.place) × (8 * ended.at.count ≤ ended.at.place) × (ended.at.count ≤ all.count)) }
     ensures back { IsTrue (S.Store.honest store.new) → IsTrue (S.Store.honest store.old) }
     ensures content { S.Store.content store.new ≡ S.Store.content store.old }
@@ -78,6 +79,7 @@ pub(crate) fn space_on<S: Store>(
         → Lies (S.Store.content store.old) ended.at.count ended.at.place all.count all.place
         × (ended.at.count ≡ from.count + (way Forward over count (drop from.count (items_of (take all.place (S.Store.content store.old))))).passed)
         × (ended.told ≡ (way Forward over count (drop from.count (items_of (take all.place (S.Store.content store.old))))).told)) }
+    ensures shown { IfOk result (λ ended. Ends Forward over count ended.told) }
     ensures within { IfOk result (λ ended. (ended.at.place ≤ all.place) × (8 * ended.at.count ≤ ended.at.place) × (ended.at.count ≤ all.count)) }
     ensures back { IsTrue (S.Store.honest store.new) → IsTrue (S.Store.honest store.old) }
     ensures content { S.Store.content store.new ≡ S.Store.content store.old }
@@ -127,6 +129,7 @@ pub(crate) fn space_back<S: Store>(
         → Lies (S.Store.content store.old) ended.at.count ended.at.place all.count all.place
         × (ended.at.count + (way Backward over count (reverse (take from.count (items_of (take all.place (S.Store.content store.old)))))).passed ≡ from.count)
         × (ended.told ≡ (way Backward over count (reverse (take from.count (items_of (take all.place (S.Store.content store.old)))))).told)) }
+    ensures shown { IfOk result (λ ended. Ends Backward over count ended.told) }
     ensures within { IfOk result (λ ended. (ended.at.place ≤ all.place) × (8 * ended.at.count ≤ ended.at.place) × (ended.at.count ≤ all.count)) }
     ensures back { IsTrue (S.Store.honest store.new) → IsTrue (S.Store.honest store.old) }
     ensures content { S.Store.content store.new ≡ S.Store.content store.old }

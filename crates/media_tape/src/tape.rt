@@ -5,9 +5,12 @@ ghost use Rattle.std.specs.Prelude.{take, true, false, is_ok, if◌then◌else�
 ghost use Rattle.media_store.specs.Failures.{counted, risen};
 ghost use Rattle.media_tape.specs.Items.{most_bytes, items_of, is_tape, size_of};
 ghost use Rattle.media_tape.specs.Fault.{failures_after, Explains};
-ghost use Rattle.media_tape.specs.Tape.{TapeState, located_at, located_told, read_told, passed_length, first_data, filled, tape_read};
-ghost use Rattle.media_tape.specs.Tape.{write_told, tape_written, marks_told, tape_marked, lost, erased, is_early};
-ghost use Rattle.media_tape.specs.Space.{spaced_told, tape_spaced, tape_ended};
+ghost use Rattle.media_tape.specs.Tape.{TapeState, items, located_at, located_told, read_told, passed_length, first_data, filled, tape_read};
+ghost use Rattle.media_tape.specs.Tape.{write_told, tape_written, written_synced, marks_told, marked_synced, tape_marked, lost, erased, is_early};
+ghost use Rattle.media_tape.specs.Space.{spaced_told, tape_spaced, tape_ended, Ends};
+ghost use Rattle.media_tape.specs.declared.outcome.Passed.TheVariants as passed;
+ghost use Rattle.media_tape.specs.declared.outcome.Written.TheVariants as written;
+ghost use Rattle.media_tape.specs.declared.outcome.Located.TheVariants as located;
 
 use crate::fault::{NotOpened, TapeOpenFault};
 use crate::item::{LENGTHS, data_at, item_at};
@@ -131,6 +134,7 @@ impl<S: Store> Tape<S> {
     /// is room for (SSC-4 "READ (6)"). Where it fails, the tape is as before.
     pub fn read(&mut self, bytes: &mut [u8]) -> Result<Passed, StoreFault>
         ensures passed { IfOk result (λ passed. IsTrue self.new.honest → passed ≡ read_told (length bytes.old) self.old) }
+        ensures nothing { IfOk result (λ told. told ≡ passed.Nothing → length bytes.old ≡ 0) }
         ensures fits { IfOk result (λ passed. passed_length passed ≤ most_bytes) }
         ensures given { OnOk result (IsTrue self.new.honest → bytes.new ≡ filled (first_data self.old.after) bytes.old) }
         ensures tape { OnOk result (IsTrue self.new.honest → self.new ≡ tape_read (length bytes.old) self.old) }
@@ -167,6 +171,10 @@ impl<S: Store> Tape<S> {
         ensures told { IfOk result (λ told. IsTrue self.old.honest → told ≡ write_told bytes.now self.old) }
         ensures tape { OnOk result (IsTrue self.old.honest → self.new ≡ tape_written bytes.now self.old) }
         ensures failed { OnErr result (IsTrue self.old.honest → self.new ≡ lost self.new.tail false self.old) }
+        ensures refused { IfOk result (λ told. told ≡ written.Refused → self.new ≡ self.old) }
+        ensures synced { IfOk result (λ told. bytes.now ≢ [] → self.new.synced ≡ written_synced told self.old.synced) }
+        ensures unsynced { OnErr result (self.new.synced ≡ false) }
+        ensures fits { OnErr result (IsTrue self.old.honest → size_of self.old.before + (length bytes.now + 8) ≤ self.old.capacity) }
         ensures honest { self.new.honest ≡ self.old.honest }
         ensures rest { self.new ≡ record self.old {
           before = self.new.before;
@@ -205,7 +213,12 @@ impl<S: Store> Tape<S> {
         ensures told { IfOk result (λ told. IsTrue self.old.honest → told ≡ marks_told count self.old) }
         ensures tape { OnOk result (IsTrue self.old.honest → self.new ≡ tape_marked count self.old) }
         ensures failed { OnErr result (IsTrue self.old.honest → count ≢ 0 → self.new ≡ lost self.new.tail false self.old) }
+        ensures none { OnOk result (count ≡ 0 → self.new ≡ record self.old { synced = true }) }
         ensures none_failed { OnErr result (count ≡ 0 → self.new ≡ record self.old { failures = risen self.old.failures }) }
+        ensures refused { IfOk result (λ told. told ≡ written.Refused → self.new ≡ self.old) }
+        ensures synced { IfOk result (λ told. self.new.synced ≡ marked_synced told self.old.synced) }
+        ensures unsynced { OnErr result (count ≢ 0 → self.new.synced ≡ false) }
+        ensures fits { OnErr result (IsTrue self.old.honest → count ≢ 0 → size_of self.old.before + 8 * count ≤ self.old.capacity) }
         ensures honest { self.new.honest ≡ self.old.honest }
         ensures rest { self.new ≡ record self.old {
           before = self.new.before;
@@ -265,6 +278,8 @@ impl<S: Store> Tape<S> {
     pub fn locate(&mut self, number: u64) -> Result<Located, StoreFault>
         ensures told { IfOk result (λ told. IsTrue self.new.honest → told ≡ located_told number self.old) }
         ensures tape { OnOk result (IsTrue self.new.honest → self.new ≡ located_at number self.old) }
+        ensures past { IfOk result (λ told. told ≡ located.EndOfData → 0 < number) }
+        ensures end { IsTrue self.old.honest → length (items self.old) ≤ number → IsOk result × (self.new.honest ≡ self.old.honest) }
         ensures failed { OnErr result (self.new ≡ record self.old { failures = risen self.old.failures; honest = self.new.honest }) }
         ensures rest { self.new ≡ record self.old {
           before = self.new.before;
@@ -295,6 +310,7 @@ impl<S: Store> Tape<S> {
     /// before that (SSC-4 "SPACE (6)"). Where it fails, the tape is as before.
     pub fn space(&mut self, toward: Direction, over: Over, count: u32) -> Result<Spaced, StoreFault>
         ensures told { IfOk result (λ told. IsTrue self.new.honest → told ≡ spaced_told toward over count self.old) }
+        ensures shown { IfOk result (λ told. Ends toward over count told) }
         ensures tape { OnOk result (IsTrue self.new.honest → self.new ≡ tape_spaced toward over count self.old) }
         ensures failed { OnErr result (self.new ≡ record self.old { failures = risen self.old.failures; honest = self.new.honest }) }
         ensures rest { self.new ≡ record self.old {

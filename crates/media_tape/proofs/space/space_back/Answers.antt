@@ -1,5 +1,7 @@
 use Rattle.std.proofs.Common.{◌≡◌, ◌+◌, ◌-◌, ◌≤◌, ◌<◌, rules, length, take, arith, ◌∙◌}
 use Rattle.media_tape.proofs.Spacing.{Lies-is, is-Lies, back-next, back-mark, back-edge, back-whole, found-some, found-none}
+use Rattle.media_tape.proofs.Ends.{ends-next, ends-mark, ends-edge, ends-whole}
+use Rattle.media_tape.specs.declared.outcome.Direction.TheVariants.{Backward}
 use Rattle.media_tape.proofs.space.space_back.Goals as goal
 
 pub loop-left-init : goal.loop-left-init
@@ -15,6 +17,7 @@ loop-left-init g c =
       reach = search rules;
       back = λ honest. honest;
       stays = λ steady long. search rules;
+      shown = λ told ends. ends;
       is = λ honest lies.
           record {
             is = Lies-is (g.S.Store.content c.args.store.now) c.args.from.count c.args.from.place c.args.all.count c.args.all.place lies c.requires.before;
@@ -45,6 +48,8 @@ loop-left-preserved g c =
       stays = λ steady long.
           let within_store : at.place ≤ length content = omega (arith, long, kept.within) in
           (told.succeeds (kept.steady ∙ steady) (rw kept.content within_store)).1 ∙ kept.stays steady long;
+      shown = λ told ends. kept.shown told (ends-next Backward c.args.over c.loop-left.left n c.in-Some-left_of.rest told c.loop-left-test.true
+          (rw c.in-Some-left_of.is at c.left_of.ensures) ends);
       is = λ honest lies.
           let found = rw (c.in-Some.is, kept.content) at (told.found honest) in
           let rest = rw c.in-Some-left_of.is at c.left_of.ensures in
@@ -103,3 +108,22 @@ returns-clause-ended g c honest lies =
     let reached = back-whole (take all.place content) c.args.over c.args.count from.count c.loop-left.left at.count at.place
     on (omega (arith, c.loop-left-test.false)) in
     (is-Lies content from.count from.place at.count at.place all.count all.place lies reached.is, reached.passed, reached.ended)
+
+-- ---- what it tells is what it tells of some items, also where the store lies
+
+pub returns-then-at-eq0-clause-shown : goal.returns-then-at-eq0-clause-shown
+returns-then-at-eq0-clause-shown g c =
+    c.loop-left.invariant.shown _ (ends-edge Backward c.args.over c.loop-left.left c.loop-left-test.true)
+
+pub returns-in_default-clause-shown : goal.returns-in_default-clause-shown
+returns-in_default-clause-shown g c =
+    c.loop-left.invariant.shown _ (ends-edge Backward c.args.over c.loop-left.left c.loop-left-test.true)
+
+pub returns-in_default-left_of-clause-shown : goal.returns-in_default-left_of-clause-shown
+returns-in_default-left_of-clause-shown g c =
+    c.loop-left.invariant.shown _ (ends-mark Backward c.args.over c.loop-left.left c.in-Some.length c.loop-left-test.true
+    (rw c.in_default-left_of.is at c.left_of.ensures))
+
+pub returns-clause-shown : goal.returns-clause-shown
+returns-clause-shown g c =
+    c.loop-left.invariant.shown _ (ends-whole Backward c.args.over c.loop-left.left (omega (arith, c.loop-left-test.false)))

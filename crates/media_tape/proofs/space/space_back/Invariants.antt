@@ -1,5 +1,8 @@
 use Rattle.std.proofs.Common.{◌≡◌, ◌*◌, ◌≤◌, length, take, IsTrue}
 use Rattle.media_tape.specs.Tape.{Lies}
+use Rattle.media_tape.specs.Space.{Ends}
+use Rattle.media_tape.specs.declared.outcome.Spaced.{Spaced}
+use Rattle.media_tape.specs.declared.outcome.Direction.TheVariants.{Backward}
 use Rattle.media_tape.proofs.Spacing.{IsWayBack}
 use Rattle.media_tape.proofs.space.space_back.Given as goal
 
@@ -16,6 +19,7 @@ invariant-loop-left g l = record {
   back : IsTrue (g.S.Store.honest l.store) → IsTrue (g.S.Store.honest l.initial.store);
   stays : IsTrue (g.S.Store.steady l.initial.store) → l.fn.all.place ≤ length (g.S.Store.content l.initial.store)
       → g.S.Store.honest l.store ≡ g.S.Store.honest l.initial.store;
+  shown : (told : Spaced) → Ends Backward l.over l.left told → Ends Backward l.over l.count told;
   is : IsTrue (g.S.Store.honest l.store)
       → Lies (g.S.Store.content l.initial.store) l.fn.from.count l.fn.from.place l.fn.all.count l.fn.all.place
       → IsWayBack (take l.fn.all.place (g.S.Store.content l.initial.store)) l.over l.count l.fn.from.count l.left l.at.count l.at.place;

@@ -1,6 +1,8 @@
 use Rattle.std.proofs.Common.{◌≡◌, ◌+◌, rules, take, arith, ◌∙◌}
 use Rattle.media_tape.proofs.Positions.{IsPlace-last}
 use Rattle.media_tape.proofs.Spacing.{Lies-is, is-Lies, on-next, on-mark, on-edge, on-whole}
+use Rattle.media_tape.proofs.Ends.{ends-next, ends-mark, ends-edge, ends-whole}
+use Rattle.media_tape.specs.declared.outcome.Direction.TheVariants.{Forward}
 use Rattle.media_tape.proofs.space.space_on.Goals as goal
 
 pub loop-left-init : goal.loop-left-init
@@ -16,6 +18,7 @@ loop-left-init g c =
       reach = search rules;
       back = λ honest. honest;
       stays = λ steady long. search rules;
+      shown = λ told ends. ends;
       is = λ honest lies.
           record {
             is = Lies-is (g.S.Store.content c.args.store.now) c.args.from.count c.args.from.place c.args.all.count c.args.all.place lies c.requires.before;
@@ -44,6 +47,8 @@ loop-left-preserved g c =
       back = λ honest. kept.back (told.back honest);
       stays = λ steady long.
           (told.succeeds (kept.steady ∙ steady) (rw kept.content long)).1 ∙ kept.stays steady long;
+      shown = λ told ends. kept.shown told (ends-next Forward c.args.over c.loop-left.left n c.in-Some-left_of.rest told c.loop-left-test.true
+          (rw c.in-Some-left_of.is at c.left_of.ensures) ends);
       is = λ honest lies.
           let within_store = lies.long in
           let some = rw (c.in-Some.is, kept.content) at (told.found honest (rw kept.content within_store)) in
@@ -101,3 +106,22 @@ returns-clause-ended g c honest lies =
     let reached = on-whole (take all.place content) c.args.over c.args.count from.count c.loop-left.left at.count at.place
     on (omega (arith, c.loop-left-test.false)) in
     (is-Lies content from.count from.place at.count at.place all.count all.place lies reached.is, reached.passed, reached.ended)
+
+-- ---- what it tells is what it tells of some items, also where the store lies
+
+pub returns-then-at-all-clause-shown : goal.returns-then-at-all-clause-shown
+returns-then-at-all-clause-shown g c =
+    c.loop-left.invariant.shown _ (ends-edge Forward c.args.over c.loop-left.left c.loop-left-test.true)
+
+pub returns-in_default-clause-shown : goal.returns-in_default-clause-shown
+returns-in_default-clause-shown g c =
+    c.loop-left.invariant.shown _ (ends-edge Forward c.args.over c.loop-left.left c.loop-left-test.true)
+
+pub returns-in_default-left_of-clause-shown : goal.returns-in_default-left_of-clause-shown
+returns-in_default-left_of-clause-shown g c =
+    c.loop-left.invariant.shown _ (ends-mark Forward c.args.over c.loop-left.left c.in-Some.length c.loop-left-test.true
+    (rw c.in_default-left_of.is at c.left_of.ensures))
+
+pub returns-clause-shown : goal.returns-clause-shown
+returns-clause-shown g c =
+    c.loop-left.invariant.shown _ (ends-whole Forward c.args.over c.loop-left.left (omega (arith, c.loop-left-test.false)))
