@@ -1,7 +1,7 @@
 //! The calls on a tape.
 
 ghost use Rattle.std.specs.Prelude.{◌≡◌, ◌≢◌, ◌+◌, ◌*◌, ◌<◌, ◌≤◌, ◌==◌, [], length, drop};
-ghost use Rattle.std.specs.Prelude.{take, true, false, is_ok, if◌then◌else◌, IsTrue, IsOk, IfOk, IfErr, OnOk, OnErr};
+ghost use Rattle.std.specs.Prelude.{take, true, false, IsTrue, IsOk, IfOk, IfErr, OnOk, OnErr};
 ghost use Rattle.media_store.specs.Failures.{counted, risen};
 ghost use Rattle.media_tape.specs.Items.{most_bytes, items_of, is_tape, size_of};
 ghost use Rattle.media_tape.specs.Fault.{failures_after, Explains};
@@ -213,7 +213,7 @@ impl<S: Store> Tape<S> {
         ensures told { IfOk result (λ told. IsTrue self.old.honest → told ≡ marks_told count self.old) }
         ensures tape { OnOk result (IsTrue self.old.honest → self.new ≡ tape_marked count self.old) }
         ensures failed { OnErr result (IsTrue self.old.honest → count ≢ 0 → self.new ≡ lost self.new.tail false self.old) }
-        ensures none { OnOk result (count ≡ 0 → self.new ≡ record self.old { synced = true }) }
+        ensures none { IfOk result (λ told. count ≡ 0 → (told ≡ written.Whole) × (self.new ≡ record self.old { synced = true })) }
         ensures none_failed { OnErr result (count ≡ 0 → self.new ≡ record self.old { failures = risen self.old.failures }) }
         ensures refused { IfOk result (λ told. told ≡ written.Refused → self.new ≡ self.old) }
         ensures synced { IfOk result (λ told. self.new.synced ≡ marked_synced told self.old.synced) }

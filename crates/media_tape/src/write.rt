@@ -1,6 +1,6 @@
 //! Items written to a store from a place on, and nothing behind them.
 
-ghost use Rattle.std.specs.Prelude.{◌≡◌, ◌+◌, ◌*◌, ◌≤◌, ◌<◌, ◌^◌, ◌++◌, false, length, take, replicate, IsTrue, IsOk, OnOk, OnErr};
+ghost use Rattle.std.specs.Prelude.{◌≡◌, ◌+◌, ◌≤◌, ◌<◌, ◌^◌, ◌++◌, false, length, take, IsTrue, IsOk, OnOk, OnErr};
 ghost use Rattle.byteorder.specs.Endian.{big_bytes};
 ghost use Rattle.media_store.specs.Failures.{counted};
 ghost use Rattle.media_tape.specs.Writing.{KeepsBefore};

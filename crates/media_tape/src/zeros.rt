@@ -1,6 +1,6 @@
 //! Filemarks written to a store from a place on: two lengths of zero each.
 
-ghost use Rattle.std.specs.Prelude.{◌≡◌, ◌+◌, ◌*◌, ◌≤◌, ◌<◌, ◌^◌, ◌++◌, false, length, take, replicate, IsTrue, IsOk, OnOk, OnErr};
+ghost use Rattle.std.specs.Prelude.{◌≡◌, ◌+◌, ◌≤◌, ◌<◌, ◌^◌, ◌++◌, false, length, take, replicate, IsTrue, IsOk, OnOk, OnErr};
 ghost use Rattle.media_store.specs.Failures.{counted};
 ghost use Rattle.media_tape.specs.Writing.{KeepsBefore};
 

@@ -1,7 +1,6 @@
 -- How a command to a tape came out, by what the call to its medium did.
-use Rattle.std.proofs.Common.{◌≡◌, ◌≢◌, ℕ, zero, suc, ◌≤◌, List, [], length, Bool, true, false, ◌||◌, nat_le, IsTrue, refl, sym, ap, ◌∙◌, inl, inr, arith}
-use Rattle.std.proofs.lemmas.Bool.{false≢true, and_parts, leb-true}
-use Rattle.std.proofs.Math.Nat.{suc-ne-zero}
+use Rattle.std.proofs.Common.{◌≡◌, ℕ, ◌≤◌, List, [], length, Bool, true, false, ◌||◌, ◌&&◌, not, nat_le, IsTrue, if◌then◌else◌, refl, sym, ap, ◌∙◌, arith}
+use Rattle.std.proofs.lemmas.Bool.{false≢true, and_parts, and_from, leb-true, le-leb}
 use Rattle.media_store.specs.Failures.{risen}
 use Rattle.media_tape.specs.Tape.{TapeState, lost}
 use Rattle.scsi_sense.specs.Done.{Outcome, check_condition}
@@ -10,19 +9,11 @@ use Rattle.scsi_cdb.specs.declared.tape.TapeCommand.{TapeCommand}
 use Rattle.scsi_tape.specs.TapeSense.{unrecovered_read, write_error}
 use Rattle.scsi_tape.specs.State.{TapeUnitState}
 use Rattle.scsi_tape.specs.Commands.{tape_outcome, tape_left}
-use Rattle.scsi_tape.specs.CameOut.{AsDefined, Dishonest, ReadFailed, WriteFailed, Standing, standing_of, with_standing}
-use Rattle.scsi_tape.specs.CameOut.{tape_touch, IsTapeDone, KeepsFront, is_steady}
+use Rattle.scsi_tape.specs.CameOut.{AsDefined, Dishonest, ReadFailed, WriteFailed, Shown, showing, Standing}
+use Rattle.scsi_tape.specs.CameOut.{tape_touch, IsTapeDone, is_steady, tape_after}
 
 abbrev pub with_tape : TapeUnitState → TapeState → TapeUnitState
 with_tape unit tape = record unit { tape = tape }
-
-some_touch : (reads writes : Bool) → IsTrue reads → (reads || writes) ≡ true
-some_touch true writes is = refl
-some_touch false writes is = absurd (false≢true is)
-
-other_touch : (reads writes : Bool) → IsTrue writes → (reads || writes) ≡ true
-other_touch true writes is = refl
-other_touch false writes is = is
 
 -- the store of a tape on which no call fails
 steady_store : (tape : TapeState) → IsTrue (is_steady tape) → IsTrue tape.steady
@@ -31,133 +22,163 @@ steady_store tape steady = (and_parts tape.steady (nat_le tape.capacity tape.rea
 room_store : (tape : TapeState) → IsTrue (is_steady tape) → tape.capacity ≤ tape.reach
 room_store tape steady = leb-true tape.capacity tape.reach (and_parts tape.steady (nat_le tape.capacity tape.reach) steady).1
 
+-- a call that cannot be on a steady tape, or leaves it no longer honest
+may_fail : (honest steady : Bool) → (IsTrue honest → IsTrue steady → ⊥) → not (honest && steady) ≡ true
+may_fail false steady fails = refl
+may_fail true false fails = refl
+may_fail true true fails = absurd (fails refl refl)
+
+-- it was read, or was not honest
+not_honest : (reads honest : Bool) → (reads ≡ false → honest ≡ false) → (reads || not honest) ≡ true
+not_honest true honest was = refl
+not_honest false honest was = rw (was refl) refl
+
+no_more : (new old : Bool) → (IsTrue new → IsTrue old) → (not new || old) ≡ true
+no_more false old back = refl
+no_more true old back = back refl
+
 module _ (command : TapeCommand) (bytes : List ℕ) (unit : TapeUnitState) where
   -- it did as its definition says
   pub as_defined : (new : TapeState) (done : Outcome) → new ≡ tape_left command bytes unit.tape → done ≡ tape_outcome command bytes unit.tape
       → IsTapeDone command bytes unit (with_tape unit new) done
-  as_defined new done left told = record { came = AsDefined; possible = tt; unit = ap (with_tape unit) left; told = told }
+  as_defined new done left told = record { came = AsDefined; possible = refl; unit = ap (with_tape unit) left; told = told }
 
-  -- ---- a command that reads
+  module _ (shown : Shown) (left : Standing) (new : TapeState) (done : Outcome) where
+    -- its store is not honest after it
+    was_misled : (tape_touch command unit.tape).goes_by ≡ true
+        → ((tape_touch command unit.tape).reads ≡ false → unit.tape.honest ≡ false)
+        → (IsTrue unit.tape.honest → IsTrue unit.tape.steady → ⊥)
+        → with_tape unit new ≡ tape_after (Dishonest shown left) command bytes unit
+        → done ≡ tape_outcome command bytes (showing shown unit.tape)
+        → length done.given ≤ most_record
+        → IsTapeDone command bytes unit (with_tape unit new) done
+    was_misled goes reads sure same told few =
+        let touch = tape_touch command unit.tape in
+        let given : length (tape_outcome command bytes (showing shown unit.tape)).given ≤ most_record = rw told at few in
+        record {
+          came = Dishonest shown left;
+          possible = and_from _ _ (may_fail unit.tape.honest (is_steady unit.tape) (λ honest steady. sure honest (steady_store unit.tape steady)))
+              (and_from _ _ goes (and_from _ _ (not_honest touch.reads unit.tape.honest reads) (le-leb _ _ given)));
+          unit = same;
+          told = told;
+        }
 
-  module _ (left : Standing) (new : TapeState) (done : Outcome) where
     -- the store answered, and is honest or not
-    reads_at : (honest : Bool) → new.honest ≡ honest → (tape_touch command).reads ≡ true
-        → new ≡ record (with_standing left unit.tape) { honest = new.honest }
+    answered_at : (honest : Bool) → new.honest ≡ honest
+        → (tape_touch command unit.tape).goes_by ≡ true
+        → ((tape_touch command unit.tape).reads ≡ false → IsTrue unit.tape.honest → new.honest ≡ unit.tape.honest)
         → (IsTrue new.honest → new ≡ tape_left command bytes unit.tape)
         → (IsTrue new.honest → done ≡ tape_outcome command bytes unit.tape)
-        → length done.given ≤ most_record
         → (IsTrue unit.tape.steady → IsTrue unit.tape.honest → new.honest ≡ unit.tape.honest)
+        → (new.honest ≡ false → with_tape unit new ≡ tape_after (Dishonest shown left) command bytes unit)
+        → (new.honest ≡ false → done ≡ tape_outcome command bytes (showing shown unit.tape))
+        → length done.given ≤ most_record
         → IsTapeDone command bytes unit (with_tape unit new) done
-    reads_at true is reads same stands told few sure = as_defined new done (stands is) (told is)
-    reads_at false is reads same stands told few sure = record {
-      came = Dishonest done left;
-      possible = (
-        some_touch (tape_touch command).reads (tape_touch command).writes reads,
-        record { back = λ honest. absurd (false≢true honest); kept = λ none. absurd (false≢true (sym none ∙ reads)) },
-        few,
-        λ honest steady. false≢true (sym is ∙ sure (steady_store unit.tape steady) honest ∙ honest),
-      );
-      unit = ap (with_tape unit) (same ∙ ap (λ (h : Bool). record (with_standing left unit.tape) { honest = h }) is);
-      told = refl;
-    }
+    answered_at true is goes kept stands told sure same seen few = as_defined new done (stands is) (told is)
+    answered_at false is goes kept stands told sure same seen few =
+        was_misled goes (λ none. lies unit.tape.honest refl (λ honest. kept none honest))
+        (λ honest steady. false≢true (sym is ∙ sure steady honest ∙ honest)) (same is) (seen is) few
+      where
+        lies : (old : Bool) → unit.tape.honest ≡ old → (IsTrue unit.tape.honest → new.honest ≡ unit.tape.honest) → unit.tape.honest ≡ false
+        lies false was kept = was
+        lies true was kept = absurd (false≢true (sym is ∙ kept was ∙ was))
 
-    pub reads : (tape_touch command).reads ≡ true
-        → new ≡ record (with_standing left unit.tape) { honest = new.honest }
+    pub answered : (tape_touch command unit.tape).goes_by ≡ true
+        → ((tape_touch command unit.tape).reads ≡ false → IsTrue unit.tape.honest → new.honest ≡ unit.tape.honest)
         → (IsTrue new.honest → new ≡ tape_left command bytes unit.tape)
         → (IsTrue new.honest → done ≡ tape_outcome command bytes unit.tape)
-        → length done.given ≤ most_record
         → (IsTrue unit.tape.steady → IsTrue unit.tape.honest → new.honest ≡ unit.tape.honest)
-        → IsTapeDone command bytes unit (with_tape unit new) done
-    reads = reads_at new.honest refl
-
-    -- it did not fail in a write, and is honest or not
-    writes_at : (honest : Bool) → unit.tape.honest ≡ honest → (tape_touch command).writes ≡ true
-        → new ≡ with_standing left unit.tape
-        → (IsTrue unit.tape.honest → new ≡ tape_left command bytes unit.tape)
-        → (IsTrue unit.tape.honest → done ≡ tape_outcome command bytes unit.tape)
+        → (new.honest ≡ false → with_tape unit new ≡ tape_after (Dishonest shown left) command bytes unit)
+        → (new.honest ≡ false → done ≡ tape_outcome command bytes (showing shown unit.tape))
         → length done.given ≤ most_record
         → IsTapeDone command bytes unit (with_tape unit new) done
-    writes_at true is writes same stands told few = as_defined new done (stands is) (told is)
-    writes_at false is writes same stands told few = record {
-      came = Dishonest done left;
-      possible = (
-        other_touch (tape_touch command).reads (tape_touch command).writes writes,
-        record { back = λ honest. absurd (false≢true honest); kept = λ none. sym is },
-        few,
-        λ honest steady. false≢true (sym is ∙ honest),
-      );
-      unit = ap (with_tape unit) (same ∙ ap (λ (h : Bool). record (with_standing left unit.tape) { honest = h }) is);
-      told = refl;
-    }
-
-    pub writes : (tape_touch command).writes ≡ true
-        → new ≡ with_standing left unit.tape
-        → (IsTrue unit.tape.honest → new ≡ tape_left command bytes unit.tape)
-        → (IsTrue unit.tape.honest → done ≡ tape_outcome command bytes unit.tape)
-        → length done.given ≤ most_record
-        → IsTapeDone command bytes unit (with_tape unit new) done
-    writes = writes_at unit.tape.honest refl
+    answered = answered_at new.honest refl
 
   -- the store failed
-  pub read_fails : (new : TapeState) → (tape_touch command).reads ≡ true
+  pub read_fails : (new : TapeState) → (tape_touch command unit.tape).reads ≡ true
       → new ≡ record unit.tape { failures = risen unit.tape.failures; honest = new.honest }
       → (IsTrue new.honest → IsTrue unit.tape.honest)
       → (IsTrue unit.tape.steady → IsTrue unit.tape.honest → ⊥)
       → IsTapeDone command bytes unit (with_tape unit new) (check_condition unrecovered_read)
   read_fails new reads same back sure = record {
     came = ReadFailed new.honest;
-    possible = (
-      reads,
-      record { back = back; kept = λ none. absurd (false≢true (sym none ∙ reads)) },
-      λ honest steady. sure (steady_store unit.tape steady) honest,
-    );
+    possible = and_from _ _ (may_fail unit.tape.honest (is_steady unit.tape) (λ honest steady. sure (steady_store unit.tape steady) honest))
+        (and_from _ _ reads (no_more new.honest unit.tape.honest back));
     unit = ap (with_tape unit) same;
     told = refl;
   }
 
   -- the store failed
-  pub write_fails : (left : Standing) (new : TapeState) → (tape_touch command).writes ≡ true
-      → new ≡ record (with_standing left unit.tape) { failures = risen unit.tape.failures }
-      → (IsTrue unit.tape.honest → KeepsFront unit.tape left)
+  pub write_fails : (left : Standing) (new : TapeState)
+      → ((tape_touch command unit.tape).writes || (tape_touch command unit.tape).syncs) ≡ true
+      → record (with_tape unit new) { is_working = false } ≡ tape_after (WriteFailed left) command bytes unit
       → (IsTrue unit.tape.steady → IsTrue unit.tape.honest → unit.tape.capacity ≤ unit.tape.reach → ⊥)
       → IsTapeDone command bytes unit (record (with_tape unit new) { is_working = false }) (check_condition write_error)
-  write_fails left new writes same keeps sure = record {
+  write_fails left new writes same sure = record {
     came = WriteFailed left;
-    possible = (writes, keeps, λ honest steady. sure (steady_store unit.tape steady) honest (room_store unit.tape steady));
-    unit = ap (λ (tape : TapeState). record unit { tape = tape; is_working = false }) same;
+    possible = and_from _ _ (may_fail unit.tape.honest (is_steady unit.tape)
+        (λ honest steady. sure (steady_store unit.tape steady) honest (room_store unit.tape steady))) writes;
+    unit = same;
     told = refl;
   }
-
--- what a read leaves, whatever it passed
-abbrev pub moved : TapeState → TapeState → Standing
-moved old new = record { before = new.before; after = new.after; tail = old.tail; synced = old.synced }
-
--- what a cut leaves: it is not synced
-abbrev pub cut : TapeState → Standing
-cut new = record { before = new.before; after = new.after; tail = new.tail; synced = false }
-
--- what a write or a cut that failed leaves
-pub lost_front : (old new : TapeState) (left : Standing) (tail : List ℕ) (synced : Bool) → left.before ≡ new.before
-    → left.after ≡ new.after → new ≡ lost tail synced old → KeepsFront old left
-lost_front old new left tail synced before after same = record {
-  before = before ∙ ap (λ (tape : TapeState). tape.before) same;
-  after = inl (after ∙ ap (λ (tape : TapeState). tape.after) same);
-}
-
--- what a sync that failed leaves
-pub same_front : (old new : TapeState) → new ≡ record old { failures = risen old.failures } → KeepsFront old (standing_of new)
-same_front old new same = record {
-  before = ap (λ (tape : TapeState). tape.before) same;
-  after = inr (ap (λ (tape : TapeState). tape.after) same);
-}
-
--- what WRITE FILEMARKS that failed leaves
-pub marks_front : (count : ℕ) (old new : TapeState) → (count ≢ 0 → new ≡ lost new.tail false old)
-    → (count ≡ 0 → new ≡ record old { failures = risen old.failures }) → KeepsFront old (standing_of new)
-marks_front zero old new some none = same_front old new (none refl)
-marks_front (suc count) old new some none =
-    lost_front old new (standing_of new) new.tail false refl refl (some (suc-ne-zero count))
 
 -- what gives no data
 pub none_given : (done : Outcome) → done.given ≡ [] → length done.given ≤ most_record
 none_given done none = omega (arith, ap length none)
+
+-- what a command leaves that moves the position alone, or not even that, where its store is not honest
+pub moved : (unit : TapeUnitState) (new : TapeState)
+    → new ≡ record unit.tape { before = new.before; after = new.after; honest = new.honest } → new.honest ≡ false
+    → with_tape unit new ≡ with_tape unit (record unit.tape { before = new.before; after = new.after; honest = false })
+moved unit new same wrong =
+    ap (with_tape unit) (same ∙ ap (λ (h : Bool). record unit.tape { before = new.before; after = new.after; honest = h }) wrong)
+
+pub left : (unit : TapeUnitState) → unit.tape.honest ≡ false → unit ≡ with_tape unit (record unit.tape { honest = false })
+left unit wrong = ap (λ (h : Bool). with_tape unit (record unit.tape { honest = h })) wrong
+
+-- what a command leaves that changes the items where its store is not honest
+pub rewritten : (unit : TapeUnitState) (new : TapeState) (synced : Bool)
+    → new ≡ record unit.tape { before = new.before; after = new.after; tail = new.tail; synced = synced }
+    → new.honest ≡ unit.tape.honest → new.honest ≡ false
+    → with_tape unit new
+    ≡ with_tape unit (record unit.tape { before = new.before; after = new.after; tail = new.tail; synced = synced; honest = false })
+rewritten unit new synced same kept wrong =
+    ap (with_tape unit) (same ∙ ap (λ (h : Bool). record unit.tape { before = new.before; after = new.after; tail = new.tail; synced = synced; honest = h })
+    (sym kept ∙ wrong))
+
+-- what a write or a cut leaves that failed
+torn_at : (old new : TapeState) (honest : Bool) → (IsTrue honest → new ≡ lost new.tail false old)
+    → new ≡ record old { before = new.before; after = new.after; tail = new.tail; synced = false; failures = risen old.failures }
+    → new ≡ record old {
+      before = if honest then old.before else new.before;
+      after = if honest then [] else new.after;
+      tail = new.tail;
+      synced = false;
+      failures = risen old.failures;
+    }
+torn_at old new true left rest = left refl
+torn_at old new false left rest = rest
+
+pub torn_items : (unit : TapeUnitState) (new : TapeState)
+    → (IsTrue unit.tape.honest → new ≡ lost new.tail false unit.tape)
+    → new ≡ record unit.tape { before = new.before; after = new.after; tail = new.tail; synced = false; failures = risen unit.tape.failures }
+    → record (with_tape unit new) { is_working = false }
+    ≡ record unit {
+      tape = record unit.tape {
+        before = if unit.tape.honest then unit.tape.before else new.before;
+        after = if unit.tape.honest then [] else new.after;
+        tail = new.tail;
+        synced = false;
+        failures = risen unit.tape.failures;
+      };
+      is_working = false;
+    }
+torn_items unit new left rest =
+    ap (λ (tape : TapeState). record unit { tape = tape; is_working = false }) (torn_at unit.tape new unit.tape.honest left rest)
+
+pub unsynced_rest : (unit : TapeUnitState) (new : TapeState)
+    → new ≡ record unit.tape { before = new.before; after = new.after; tail = new.tail; synced = new.synced; failures = risen unit.tape.failures }
+    → new.synced ≡ false
+    → new ≡ record unit.tape { before = new.before; after = new.after; tail = new.tail; synced = false; failures = risen unit.tape.failures }
+unsynced_rest unit new rest unsynced = rest
+    ∙ ap (λ (s : Bool). record unit.tape { before = new.before; after = new.after; tail = new.tail; synced = s; failures = risen unit.tape.failures }) unsynced

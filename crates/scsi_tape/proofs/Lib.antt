@@ -1,4 +1,8 @@
 pub mod Came
 pub mod Records
 pub mod Room
+pub mod Shown
+pub mod MarksDone
+pub mod WriteDone
+pub mod ReadDone
 pub mod Trusted

@@ -1,8 +1,8 @@
 -- How a command to a tape came out, as its store has it.
-use Rattle.std.specs.Prelude.{◌≡◌, ℕ, ◌≤◌, ◌⊎◌, nat_lt, nat_le, List, [], length, Bool, true, false, ◌||◌, ◌&&◌, IsTrue}
+use Rattle.std.specs.Prelude.{◌≡◌, ℕ, ◌+◌, ◌*◌, ◌⊎◌, ◌==◌, nat_lt, nat_le, List, [], length, Bool, true, false, ◌||◌, ◌&&◌, not, IsTrue, if◌then◌else◌}
 use Rattle.media_store.specs.Failures.{risen, NoneFailed}
-use Rattle.media_tape.specs.Items.{Item}
-use Rattle.media_tape.specs.Tape.{TapeState}
+use Rattle.media_tape.specs.Items.{Item, size_of}
+use Rattle.media_tape.specs.Tape.{TapeState, items}
 use Rattle.scsi_sense.specs.Done.{Outcome, good, check_condition}
 use Rattle.scsi_cdb.specs.Record.{most_record}
 use Rattle.scsi_cdb.specs.declared.tape.TapeCommand.{TapeCommand}
@@ -12,106 +12,144 @@ use Rattle.scsi_tape.specs.TapeSense.{early_warning, unrecovered_read, write_err
 use Rattle.scsi_tape.specs.State.{TapeUnitState}
 use Rattle.scsi_tape.specs.Commands.{tape_outcome, tape_left}
 
--- own: what stands on a tape, and behind its items, synced or not
+-- own: a tape as a store made it appear: its items and the position among them, and where it warns and ends
+pub record Shown : Type 0 where
+  pub before : List Item
+  pub after : List Item
+  pub early_mark : ℕ
+  pub capacity : ℕ
+
+-- a tape that is as it was shown
+abbrev pub showing : Shown → TapeState → TapeState
+showing shown tape =
+    record tape { before = shown.before; after = shown.after; early_mark = shown.early_mark; capacity = shown.capacity; honest = true }
+
+-- own: what stands on a tape, and behind its items
 pub record Standing : Type 0 where
   pub before : List Item
   pub after : List Item
   pub tail : List ℕ
-  pub synced : Bool
 
 abbrev pub standing_of : TapeState → Standing
-standing_of tape = record { before = tape.before; after = tape.after; tail = tape.tail; synced = tape.synced }
-
-abbrev pub with_standing : Standing → TapeState → TapeState
-with_standing standing tape =
-    record tape { before = standing.before; after = standing.after; tail = standing.tail; synced = standing.synced }
+standing_of tape = record { before = tape.before; after = tape.after; tail = tape.tail }
 
 pub data TapeCame : Type 0 where
   -- as its definition says
   AsDefined : TapeCame
-  -- its store is not honest after it: this was told, and this stands on the tape after it
-  Dishonest : (told : Outcome) (left : Standing) → TapeCame
+  -- its store is not honest after it: it showed this tape, and this stands on it after the command
+  Dishonest : (shown : Shown) (left : Standing) → TapeCame
   -- a read failed, and the store is honest after it or not
   ReadFailed : (honest : Bool) → TapeCame
   -- a write, a cut or a sync failed, and this stands on the tape after it
   WriteFailed : (left : Standing) → TapeCame
 
--- own: what a command does with its medium: whether what it tells comes from there, and whether it changes or syncs it
+-- own: what a command does with its medium: whether it goes by the items there, reads them from the store, moves the
+-- position by them, changes them, or waits until all is on the medium
 pub record TapeTouch : Type 0 where
+  pub goes_by : Bool
   pub reads : Bool
+  pub moves : Bool
   pub writes : Bool
+  pub syncs : Bool
 
 abbrev pub no_touch : TapeTouch
-no_touch = record { reads = false; writes = false }
+no_touch = record { goes_by = false; reads = false; moves = false; writes = false; syncs = false }
 
-abbrev pub reading : TapeTouch
-reading = record { reads = true; writes = false }
+abbrev reading : TapeTouch
+reading = record { goes_by = true; reads = true; moves = true; writes = false; syncs = false }
 
-abbrev pub writing : TapeTouch
-writing = record { reads = false; writes = true }
+-- own: whether so many bytes of items are not refused on this tape; where its store is not honest they need not be
+abbrev pub can_fit : ℕ → TapeState → Bool
+can_fit more tape = not tape.honest || nat_le (size_of tape.before + more) tape.capacity
 
--- own: a READ and a WRITE of no byte do nothing with it
-abbrev pub tape_touch : TapeCommand → TapeTouch
-tape_touch Rewind = no_touch
-tape_touch ReadBlockLimits = no_touch
-tape_touch (Read asked suppressed) = record { reads = nat_lt 0 asked; writes = false }
-tape_touch (Write count) = record { reads = false; writes = nat_lt 0 count }
-tape_touch (WriteFilemarks count) = writing
-tape_touch (Space code distance) = reading
-tape_touch SpaceToEndOfData = reading
-tape_touch Erase = writing
-tape_touch (LoadUnload load) = no_touch
-tape_touch (Locate number) = reading
-tape_touch ReadPosition = reading
-
--- own: a store becomes honest by no command, and ceases to be so only by one that reads
-pub record IsTapeHonesty (touch : TapeTouch) (old new : Bool) : Type 0 where
-  pub back : IsTrue new → IsTrue old
-  pub kept : touch.reads ≡ false → new ≡ old
-
--- profile: where a write, a cut or a sync failed, the items before the position are left, and those behind it are lost or
--- left
-pub record KeepsFront (old : TapeState) (left : Standing) : Type 0 where
-  pub before : left.before ≡ old.before
-  pub after : (left.after ≡ []) ⊎ (left.after ≡ old.after)
+-- own: a READ and a WRITE of no byte do nothing with it, a LOCATE at the end or past it does not read it, a READ POSITION
+-- and a SPACE to the end of data never do, and what is refused (0D/0002) does not write
+abbrev pub tape_touch : TapeCommand → TapeState → TapeTouch
+tape_touch Rewind tape = no_touch
+tape_touch ReadBlockLimits tape = no_touch
+tape_touch (Read asked suppressed) tape = if nat_lt 0 asked then reading else no_touch
+tape_touch (Write count) tape =
+    if nat_lt 0 count then record no_touch { goes_by = true; writes = can_fit (count + 8) tape } else no_touch
+tape_touch (WriteFilemarks count) tape =
+    if count == 0 then record no_touch { syncs = true }
+    else record no_touch { goes_by = true; writes = can_fit (8 * count) tape; syncs = can_fit (8 * count) tape }
+tape_touch (Space code distance) tape = reading
+tape_touch SpaceToEndOfData tape = record reading { reads = false }
+tape_touch Erase tape = record no_touch { goes_by = true; writes = true }
+tape_touch (LoadUnload load) tape = no_touch
+tape_touch (Locate number) tape = record reading { reads = not tape.honest || nat_lt number (length (items tape)) }
+tape_touch ReadPosition tape = record no_touch { goes_by = true }
 
 -- own: whether no call on it fails, as long as it is honest: its store is steady, and has room for the capacity
 abbrev pub is_steady : TapeState → Bool
 is_steady tape = tape.steady && nat_le tape.capacity tape.reach
 
-abbrev CanFail : TapeState → Type 0
-CanFail tape = IsTrue tape.honest → IsTrue (is_steady tape) → ⊥
+abbrev pub can_fail : TapeState → Bool
+can_fail tape = not (tape.honest && is_steady tape)
 
--- own: how a command can come out: it fails, or tells what is not there, only by what it does with its medium, and never
--- where no call on the tape can fail
-abbrev pub IsTapePossible : TapeCame → TapeTouch → TapeState → Type 0
-IsTapePossible AsDefined touch old = Unit {0}
-IsTapePossible (Dishonest told left) touch old =
-    IsTrue (touch.reads || touch.writes) × IsTapeHonesty touch old.honest false × (length told.given ≤ most_record) × CanFail old
-IsTapePossible (ReadFailed honest) touch old = IsTrue touch.reads × IsTapeHonesty touch old.honest honest × CanFail old
-IsTapePossible (WriteFailed left) touch old = IsTrue touch.writes × (IsTrue old.honest → KeepsFront old left) × CanFail old
+-- own: how a command with this data can come out: never otherwise where no call on the tape can fail; a store is shown to
+-- lie by one that goes by the items, and begins to by one that reads; and no more is told than the longest READ gives
+abbrev pub is_tape_possible : TapeCame → TapeCommand → List ℕ → TapeState → Bool
+is_tape_possible AsDefined command bytes tape = true
+is_tape_possible (Dishonest shown left) command bytes tape =
+    let touch = tape_touch command tape in
+    can_fail tape && (touch.goes_by && ((touch.reads || not tape.honest)
+    && nat_le (length (tape_outcome command bytes (showing shown tape)).given) most_record))
+is_tape_possible (ReadFailed honest) command bytes tape =
+    can_fail tape && ((tape_touch command tape).reads && (not honest || tape.honest))
+is_tape_possible (WriteFailed left) command bytes tape =
+    can_fail tape && ((tape_touch command tape).writes || (tape_touch command tape).syncs)
 
--- own: the unit after it, where its definition leaves this tape
-abbrev pub tape_after : TapeCame → TapeState → TapeUnitState → TapeUnitState
-tape_after AsDefined defined unit = record unit { tape = defined }
-tape_after (Dishonest told left) defined unit = record unit { tape = record (with_standing left unit.tape) { honest = false } }
-tape_after (ReadFailed honest) defined unit = record unit { tape = record unit.tape { failures = risen unit.tape.failures; honest = honest } }
-tape_after (WriteFailed left) defined unit =
-    record unit { tape = record (with_standing left unit.tape) { failures = risen unit.tape.failures }; is_working = false }
+-- own: the tape behind a command whose store is not honest: the position is anywhere if it moved it, the items are open
+-- if it changed them, and they are synced as that command leaves the tape shown
+abbrev misled : TapeTouch → Standing → Bool → TapeState → TapeState
+misled touch left synced tape =
+    record tape {
+      before = if touch.moves || touch.writes then left.before else tape.before;
+      after = if touch.moves || touch.writes then left.after else tape.after;
+      tail = if touch.writes then left.tail else tape.tail;
+      synced = synced;
+      honest = false;
+    }
 
--- own: what is told of it, where its definition tells this
-abbrev pub tape_told : TapeCame → Outcome → Outcome
-tape_told AsDefined defined = defined
-tape_told (Dishonest told left) defined = told
-tape_told (ReadFailed honest) defined = check_condition unrecovered_read
-tape_told (WriteFailed left) defined = check_condition write_error
+-- profile: where a write, a cut or a sync failed, the items before the position are left, and those behind it are lost
+-- where there was something to write; of a store that is not honest any can stand there
+abbrev torn : TapeTouch → Standing → TapeState → TapeState
+torn touch left tape =
+    if touch.writes then record tape {
+      before = if tape.honest then tape.before else left.before;
+      after = if tape.honest then [] else left.after;
+      tail = left.tail;
+      synced = false;
+    } else tape
+
+-- own: the unit after a command with this data, by how it came out
+abbrev pub tape_after : TapeCame → TapeCommand → List ℕ → TapeUnitState → TapeUnitState
+tape_after AsDefined command bytes unit = record unit { tape = tape_left command bytes unit.tape }
+tape_after (Dishonest shown left) command bytes unit =
+    let seen = showing shown unit.tape in
+    record unit { tape = misled (tape_touch command seen) left (tape_left command bytes seen).synced unit.tape }
+tape_after (ReadFailed honest) command bytes unit =
+    record unit { tape = record unit.tape { failures = risen unit.tape.failures; honest = honest } }
+tape_after (WriteFailed left) command bytes unit =
+    record unit {
+      tape = record (torn (tape_touch command unit.tape) left unit.tape) { failures = risen unit.tape.failures };
+      is_working = false;
+    }
+
+-- own: what is told of it: where its store lied, what the command is told on the tape shown
+abbrev pub tape_told : TapeCame → TapeCommand → List ℕ → TapeState → Outcome
+tape_told AsDefined command bytes tape = tape_outcome command bytes tape
+tape_told (Dishonest shown left) command bytes tape = tape_outcome command bytes (showing shown tape)
+tape_told (ReadFailed honest) command bytes tape = check_condition unrecovered_read
+tape_told (WriteFailed left) command bytes tape = check_condition write_error
 
 -- own: a command with this data to a tape came out in one of the ways in which it can, and the unit and what is told are so
 pub record IsTapeDone (command : TapeCommand) (bytes : List ℕ) (old new : TapeUnitState) (done : Outcome) : Type 0 where
   pub came : TapeCame
-  pub possible : IsTapePossible came (tape_touch command) old.tape
-  pub unit : new ≡ tape_after came (tape_left command bytes old.tape) old
-  pub told : done ≡ tape_told came (tape_outcome command bytes old.tape)
+  pub possible : IsTrue (is_tape_possible came command bytes old.tape)
+  pub unit : new ≡ tape_after came command bytes old
+  pub told : done ≡ tape_told came command bytes old.tape
 
 -- own: its store is still honest, and no call of it failed
 pub record IsTrustedTape (old new : TapeState) : Type 0 where
@@ -126,7 +164,6 @@ tape_done command bytes unit = (record unit { tape = tape_left command bytes uni
 abbrev pub WereMarked : Outcome → Type 0
 WereMarked done = (done ≡ good) ⊎ (done ≡ check_condition early_warning)
 
--- own: then all is on the medium, where the store was honest
-abbrev pub AreSynced : TapeCommand → TapeState → TapeState → Outcome → Type 0
-AreSynced command old new done =
-    (count : ℕ) → command ≡ WriteFilemarks count → IsTrue old.honest → WereMarked done → new.synced ≡ true
+-- own: then all is on the medium
+abbrev pub AreSynced : TapeCommand → TapeState → Outcome → Type 0
+AreSynced command new done = (count : ℕ) → command ≡ WriteFilemarks count → WereMarked done → new.synced ≡ true

@@ -3,6 +3,7 @@
 ghost use Rattle.std.specs.Prelude.{◌≡◌, ◌+◌, ◌≤◌, ◌<◌, ℕ, List, [], length, take, drop, IsTrue, IsOk, IfOk, OnOk, OnErr};
 ghost use Rattle.media_store.specs.Failures.{counted, risen};
 ghost use Rattle.media_tape.specs.Items.{most_bytes};
+ghost use Rattle.media_tape.specs.declared.outcome.Passed.TheVariants as passed;
 ghost use Rattle.media_tape.specs.Tape.{read_told, passed_length, first_data, tape_read};
 ghost use Rattle.scsi_sense.specs.Given.{headroom};
 ghost use Rattle.scsi_sense.specs.Done.{good_with};
@@ -68,6 +69,7 @@ fn read_into<S: Store>(
     requires room { headroom + room ≤ buffer.old.spare }
     ensures length { length (drop headroom buffer.new.items) ≡ room }
     ensures passed { IfOk result (λ passed. IsTrue tape.new.honest → passed ≡ read_told room tape.old) }
+    ensures nothing { IfOk result (λ told. told ≡ passed.Nothing → room ≡ 0) }
     ensures fits { IfOk result (λ passed. passed_length passed ≤ most_bytes) }
     ensures given { OnOk result (IsTrue tape.new.honest
         → take (length (first_data tape.old.after)) (drop headroom buffer.new.items) ≡ take room (first_data tape.old.after)) }

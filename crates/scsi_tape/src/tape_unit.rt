@@ -126,7 +126,7 @@ impl<S: Store> TapeUnit<S> {
         ensures done { IsTapeDone command «data».now self.old self.new result }
         ensures exact { IsTrustedTape self.old.tape self.new.tape → (self.new, result) ≡ tape_done command «data».now self.old }
         ensures sure { IsTrue self.old.tape.honest → IsTrue (is_steady self.old.tape) → (self.new, result) ≡ tape_done command «data».now self.old }
-        ensures synced { AreSynced command self.old.tape self.new.tape result }
+        ensures synced { AreSynced command self.new.tape result }
         ensures given { length result.given ≤ most_record }
     {
         self.by_command(alloc, buffer, command, data)

@@ -1,8 +1,9 @@
 -- How a command to a disk came out, by what the calls to its medium did.
-use Rattle.std.proofs.Common.{◌≡◌, ℕ, zero, suc, ◌+◌, ◌-◌, ◌*◌, List, [], length, take, drop, replicate, Bool, true, false, IsTrue, Option, Some}
+use Rattle.std.proofs.Common.{◌≡◌, ℕ, zero, suc, ◌+◌, ◌-◌, ◌*◌, List, length, take, drop, replicate, Bool, true, false, IsTrue, Option, Some}
 use Rattle.std.proofs.Common.{None, nat_lt, refl, sym, ap, subst, ◌∙◌, arith}
-use Rattle.std.proofs.lemmas.Bool.{false≢true, ltb-false, lt-ltb}
-use Rattle.std.proofs.lemmas.List.{nil_from_length}
+use Rattle.std.specs.Prelude.{is_some}
+use Rattle.std.proofs.lemmas.Bool.{false≢true, ltb-false, lt-ltb, eq-eqb, and_from, or_left, or_right}
+use Rattle.std.proofs.lemmas.List.{nil_from_length, length-replicate}
 use Rattle.media_store.specs.Failures.{risen}
 use Rattle.media_block.specs.Blocks.{DiskState, block_length, blocks_of, data_of, replaced, first_difference}
 use Rattle.scsi_sense.specs.Done.{Outcome, good_with, good_taking, check_condition}
@@ -10,10 +11,10 @@ use Rattle.scsi_cdb.specs.Range.{Range}
 use Rattle.scsi_cdb.specs.declared.command.DiskCommand.{DiskCommand}
 use Rattle.scsi_cdb.specs.declared.command.DiskCommand.TheVariants.{Read, Write, VerifyData, SynchronizeCache, WriteSame, CompareAndWrite}
 use Rattle.scsi_unit.specs.Device.{DiskUnit}
-use Rattle.scsi_unit.specs.CameOut.{AsDefined, Dishonest, ReadFailed, WriteFailed, Shown, IsLeft, AreLeft}
-use Rattle.scsi_unit.specs.DiskCommands.{IsDiskDone, shown, compared, miscompare, told_of, disk_defined, written_range, touch_of, unrecovered_read, write_error}
+use Rattle.scsi_unit.specs.DiskCame.{AsDefined, Dishonest, ReadFailed, WriteFailed, Shown, is_below, are_shown}
+use Rattle.scsi_unit.specs.DiskCommands.{IsDiskDone, shown, compared, miscompare, told_of, disk_defined, touch_of, unrecovered_read, write_error}
 use Rattle.scsi_unit.specs.DiskWrites.{IsWritten, IsTorn}
-use Rattle.scsi_unit.proofs.CameOut.{reads_touch, writes_touch}
+use Rattle.scsi_unit.proofs.Possible.{can_be_so, may_fail, all_left, others_left}
 
 abbrev pub with_disk : DiskUnit → DiskState → DiskUnit
 with_disk unit disk = record unit { disk = disk }
@@ -30,37 +31,32 @@ module _ (command : DiskCommand) (bytes : List ℕ) (unit : DiskUnit) where
   -- ---- a command that reads
 
   -- the store failed
-  pub reading_failed : (new : DiskState) → (touch_of command).reads ≡ true
+  pub reading_failed : (new : DiskState) → is_some (touch_of command).reads ≡ true
       → new ≡ record unit.disk { failures = risen unit.disk.failures; honest = new.honest }
       → (IsTrue new.honest → IsTrue unit.disk.honest) → (IsTrue unit.disk.steady → IsTrue unit.disk.honest → ⊥)
       → IsDiskDone command bytes unit (with_disk unit new) (check_condition unrecovered_read)
   reading_failed new reads same back sure = record {
     came = ReadFailed new.honest;
-    possible = (
-      reads,
-      record { back = back; kept = λ none. absurd (false≢true (sym none ∙ reads)) },
-      λ steady. sure steady.steady steady.honest,
-    );
+    possible = and_from _ _ (may_fail unit.disk sure)
+        (and_from _ _ reads (can_be_so (touch_of command) unit.disk.honest new.honest back (λ none. absurd (false≢true (sym none ∙ reads)))));
     disk = ap (with_disk unit) same;
     told = refl;
   }
 
   -- it was shown what is not there, and wrote nothing
   pub shown_wrong : (seen : Shown) (new : DiskState) (done : Outcome) → new.honest ≡ false
-      → (touch_of command).reads ≡ true
-      → AreLeft (touch_of command).writes false unit.disk.blocks unit.disk.blocks
+      → is_some (touch_of command).reads ≡ true
+      → are_shown (touch_of command).reads seen ≡ true
       → new ≡ record unit.disk { honest = new.honest }
       → (IsTrue unit.disk.steady → IsTrue unit.disk.honest → new ≡ unit.disk)
       → disk_defined seen bytes command unit.disk ≡ unit.disk → done ≡ told_of seen unit.disk.blocks command
       → IsDiskDone command bytes unit (with_disk unit new) done
-  shown_wrong seen new done is reads left same sure defined told = record {
+  shown_wrong seen new done is reads bounded same sure defined told = record {
     came = Dishonest seen unit.disk.blocks;
-    possible = (
-      reads_touch (touch_of command).reads (touch_of command).writes reads,
-      record { back = λ honest. absurd (false≢true honest); kept = λ none. absurd (false≢true (sym none ∙ reads)) },
-      left,
-      λ steady. false≢true (sym is ∙ ap (λ (disk : DiskState). disk.honest) (sure steady.steady steady.honest) ∙ steady.honest),
-    );
+    possible = and_from _ _ (may_fail unit.disk (λ steady honest. false≢true (sym is ∙ ap (λ (disk : DiskState). disk.honest) (sure steady honest) ∙ honest)))
+        (and_from _ _ (or_left (is_some (touch_of command).reads) _ reads)
+        (and_from _ _ (can_be_so (touch_of command) unit.disk.honest false (λ honest. absurd (false≢true honest)) (λ none. absurd (false≢true (sym none ∙ reads))))
+        (and_from _ _ bounded (all_left (touch_of command).writes false unit.disk.blocks))));
     disk =
         ap (with_disk unit) (same ∙ ap (λ (h : Bool). record unit.disk { honest = h }) is)
         ∙ ap (λ (d : DiskState). record unit { disk = record d { blocks = unit.disk.blocks; honest = false } }) (sym defined);
@@ -74,29 +70,28 @@ module _ (command : DiskCommand) (bytes : List ℕ) (unit : DiskUnit) where
       → IsDiskDone command bytes unit (with_disk unit new) done
   shown_right new done same defined told = record {
     came = AsDefined;
-    possible = tt;
+    possible = refl;
     disk = ap (with_disk unit) (same ∙ sym defined);
     told = told;
   }
 
   -- ---- a command that compares: there is a first difference, or none
 
-  pub compare_given : (found : Option ℕ) (new : DiskState) (done : Outcome) (honest : Bool) → new.honest ≡ honest
-      → (touch_of command).reads ≡ true
-      → AreLeft (touch_of command).writes false unit.disk.blocks unit.disk.blocks
+  pub compare_given : (seen : Shown) (new : DiskState) (done : Outcome) (honest : Bool) → new.honest ≡ honest
+      → is_some (touch_of command).reads ≡ true
+      → are_shown (touch_of command).reads seen ≡ true
       → new ≡ record unit.disk { honest = new.honest }
       → (IsTrue new.honest → IsTrue unit.disk.honest)
       → (IsTrue unit.disk.steady → IsTrue unit.disk.honest → new ≡ unit.disk)
-      → (IsTrue new.honest → found ≡ (shown unit.disk.blocks bytes command).difference)
-      → ((seen : Shown) → found ≡ seen.difference → disk_defined seen bytes command unit.disk ≡ unit.disk)
-      → ((seen : Shown) → found ≡ seen.difference → done ≡ told_of seen unit.disk.blocks command)
+      → (IsTrue new.honest → seen.difference ≡ (shown unit.disk.blocks bytes command).difference)
+      → ((other : Shown) → seen.difference ≡ other.difference → disk_defined other bytes command unit.disk ≡ unit.disk)
+      → ((other : Shown) → seen.difference ≡ other.difference → done ≡ told_of other unit.disk.blocks command)
       → IsDiskDone command bytes unit (with_disk unit new) done
-  compare_given found new done true is reads left same back sure agreed defined told =
+  compare_given seen new done true is reads bounded same back sure agreed defined told =
       let truth = shown unit.disk.blocks bytes command in
       shown_right new done (as_before unit.disk new same (is ∙ sym (back is))) (defined truth (agreed is)) (told truth (agreed is))
-  compare_given found new done false is reads left same back sure agreed defined told =
-      let seen : Shown = record { given = []; difference = found } in
-      shown_wrong seen new done is reads left same sure (defined seen refl) (told seen refl)
+  compare_given seen new done false is reads bounded same back sure agreed defined told =
+      shown_wrong seen new done is reads bounded same sure (defined seen refl) (told seen refl)
 
   -- ---- a command that writes, on a disk of which it has read before or not
 
@@ -108,22 +103,18 @@ module _ (command : DiskCommand) (bytes : List ℕ) (unit : DiskUnit) where
 
   module _ (range : Range) (mid new : DiskState) (writes : (touch_of command).writes ≡ Some range)
       (same : mid ≡ record unit.disk { honest = mid.honest }) (back : IsTrue mid.honest → IsTrue unit.disk.honest)
-      (kept : (touch_of command).reads ≡ false → mid.honest ≡ unit.disk.honest) where
+      (kept : is_some (touch_of command).reads ≡ false → mid.honest ≡ unit.disk.honest) where
     -- the store failed
     pub writing_failed : IsTorn range.first range.count mid new → (IsTrue unit.disk.steady → IsTrue unit.disk.honest → ⊥)
         → IsDiskDone command bytes unit (record (with_disk unit new) { is_ready = false }) (check_condition write_error)
     writing_failed torn sure =
         let blocks : mid.blocks ≡ unit.disk.blocks = ap (λ (d : DiskState). d.blocks) same in
-        let left : IsLeft range mid.honest unit.disk.blocks new.blocks =
-        record { others = λ honest. rw blocks at (torn.others honest); as_many = torn.as_many ∙ ap length blocks } in
+        let left = others_left range mid.honest unit.disk.blocks new.blocks (λ honest. rw blocks at (torn.others honest)) (torn.as_many ∙ ap length blocks) in
         record {
           came = WriteFailed new.blocks new.synced mid.honest;
-          possible = (
-            rw writes refl,
-            record { back = back; kept = kept },
-            rw writes left,
-            λ steady. sure steady.steady steady.honest,
-          );
+          possible = and_from _ _ (may_fail unit.disk sure)
+              (and_from _ _ (rw writes refl)
+              (and_from _ _ (can_be_so (touch_of command) unit.disk.honest mid.honest back kept) (rw writes left)));
           disk = ap (λ (d : DiskState). record unit { disk = d; is_ready = false }) (torn.rest
               ∙ ap (λ (d : DiskState). record d { blocks = new.blocks; synced = new.synced; failures = risen d.failures }) same);
           told = refl;
@@ -131,35 +122,33 @@ module _ (command : DiskCommand) (bytes : List ℕ) (unit : DiskUnit) where
 
     -- it was written
     pub writing_given : (others : List (List ℕ)) (synced : Bool) (seen : Shown) (done : Outcome) (honest : Bool) → mid.honest ≡ honest
+        → are_shown (touch_of command).reads seen ≡ true
         → (IsTrue unit.disk.steady → IsTrue unit.disk.honest → mid ≡ unit.disk)
         → IsWritten range.first others synced mid new
         → (IsTrue mid.honest → IsThen range others synced done (shown unit.disk.blocks bytes command))
         → IsThen range others synced done seen
         → IsDiskDone command bytes unit (with_disk unit new) done
-    writing_given others synced seen done true is sure written right wrong =
+    writing_given others synced seen done true is bounded sure written right wrong =
         let unchanged : mid ≡ unit.disk = as_before unit.disk mid same (is ∙ sym (back is)) in
         let all : IsWritten range.first others synced unit.disk new =
         subst (λ (d : DiskState). IsWritten range.first others synced d new) unchanged written in
         record {
           came = AsDefined;
-          possible = tt;
+          possible = refl;
           disk = ap (with_disk unit) (all.rest
               ∙ ap (λ (blocks : List (List ℕ)). record unit.disk { blocks = blocks; synced = synced }) (all.blocks (back is))
               ∙ sym (right is).0);
           told = (right is).1;
         }
-    writing_given others synced seen done false is sure written right wrong =
+    writing_given others synced seen done false is bounded sure written right wrong =
         let blocks : mid.blocks ≡ unit.disk.blocks = ap (λ (d : DiskState). d.blocks) same in
-        let left : IsLeft range false unit.disk.blocks new.blocks =
-        record { others = λ honest. absurd (false≢true honest); as_many = written.as_many ∙ ap length blocks } in
+        let left = others_left range false unit.disk.blocks new.blocks (λ honest. absurd (false≢true honest)) (written.as_many ∙ ap length blocks) in
         record {
           came = Dishonest seen new.blocks;
-          possible = (
-            writes_touch (touch_of command).reads (touch_of command).writes (rw writes refl),
-            record { back = λ honest. absurd (false≢true honest); kept = λ none. sym is ∙ kept none },
-            rw writes left,
-            λ steady. false≢true (sym is ∙ ap (λ (disk : DiskState). disk.honest) (sure steady.steady steady.honest) ∙ steady.honest),
-          );
+          possible = and_from _ _ (may_fail unit.disk (λ steady honest. false≢true (sym is ∙ ap (λ (disk : DiskState). disk.honest) (sure steady honest) ∙ honest)))
+              (and_from _ _ (or_right (is_some (touch_of command).reads) _ (rw writes refl))
+              (and_from _ _ (can_be_so (touch_of command) unit.disk.honest false (λ honest. absurd (false≢true honest)) (λ none. sym is ∙ kept none))
+              (and_from _ _ bounded (rw writes left))));
           disk =
               ap (with_disk unit) (written.rest
               ∙ ap (λ (d : DiskState). record d { blocks = new.blocks; synced = synced }) (same ∙ ap (λ (h : Bool). record unit.disk { honest = h }) is))
@@ -193,7 +182,16 @@ read_given range bytes unit new given false honest some is long same back read n
 read_given range bytes unit new given true true some is long same back read none sure =
     shown_right (Read range) bytes unit new _ (as_before unit.disk new same (is ∙ sym (back is))) refl (ap good_with (read is))
 read_given range bytes unit new given true false some is long same back read none sure =
-    shown_wrong (Read range) bytes unit (record { given = given; difference = None }) new _ is some refl same sure refl refl
+    shown_wrong (Read range) bytes unit (record { given = given; difference = None }) new _ is (rw some refl)
+    (rw some (and_from _ _ (eq-eqb _ _ long) refl)) same sure refl refl
+
+-- what it was shown where there is this difference, or none
+abbrev pub differing : Range → Option ℕ → Shown
+differing range found = record { given = replicate (block_length * range.count) 0; difference = found }
+
+pub differing_shown : (range : Range) (found : Option ℕ) → is_below found (block_length * range.count) ≡ true
+    → are_shown (Some range) (differing range found) ≡ true
+differing_shown range found within = and_from _ _ (eq-eqb _ _ (length-replicate (block_length * range.count) 0)) within
 
 -- ---- VERIFY with data
 
@@ -201,9 +199,10 @@ pub verify_given : (range : Range) (bytes : List ℕ) (unit : DiskUnit) (new : D
     → new ≡ record unit.disk { honest = new.honest } → (IsTrue new.honest → IsTrue unit.disk.honest)
     → (IsTrue unit.disk.steady → IsTrue unit.disk.honest → new ≡ unit.disk)
     → (IsTrue new.honest → found ≡ first_difference (data_of unit.disk.blocks range.first range.count) (take (block_length * range.count) bytes))
+    → is_below found (block_length * range.count) ≡ true
     → IsDiskDone (VerifyData range) bytes unit (with_disk unit new) (compared (block_length * range.count) found)
-verify_given range bytes unit new found some same back sure agreed =
-    compare_given (VerifyData range) bytes unit found new _ new.honest refl some refl same back sure agreed
+verify_given range bytes unit new found some same back sure agreed within =
+    compare_given (VerifyData range) bytes unit (differing range found) new _ new.honest refl (rw some refl) (rw some (differing_shown range found within)) same back sure agreed
     (λ seen is. refl) (λ seen is. ap (compared (block_length * range.count)) is)
 
 -- ---- WRITE
@@ -217,7 +216,7 @@ write_given range force_unit_access bytes unit new some done =
     let truth = shown unit.disk.blocks bytes command in
     let goes : IsThen command bytes unit range others force_unit_access (good_taking (block_length * range.count)) truth = (rw some refl, refl) in
     writing_given command bytes unit range unit.disk new (rw some refl) refl (λ honest. honest) (λ none. refl)
-    others force_unit_access truth _ unit.disk.honest refl (λ steady honest. refl) done (λ honest. goes) goes
+    others force_unit_access truth _ unit.disk.honest refl refl (λ steady honest. refl) done (λ honest. goes) goes
 
 pub write_failed : (range : Range) (force_unit_access : Bool) (bytes : List ℕ) (unit : DiskUnit) (new : DiskState) → nat_lt 0 range.count ≡ true
     → IsTorn range.first range.count unit.disk new → (IsTrue unit.disk.steady → IsTrue unit.disk.honest → ⊥)
@@ -235,7 +234,7 @@ same_given range bytes unit new some done =
     let truth = shown unit.disk.blocks bytes (WriteSame range) in
     let goes : IsThen (WriteSame range) bytes unit range others false (good_taking block_length) truth = (rw some refl, refl) in
     writing_given (WriteSame range) bytes unit range unit.disk new (rw some refl) refl (λ honest. honest) (λ none. refl)
-    others false truth _ unit.disk.honest refl (λ steady honest. refl) done (λ honest. goes) goes
+    others false truth _ unit.disk.honest refl refl (λ steady honest. refl) done (λ honest. goes) goes
 
 pub same_failed : (range : Range) (bytes : List ℕ) (unit : DiskUnit) (new : DiskState) → nat_lt 0 range.count ≡ true
     → IsTorn range.first range.count unit.disk new → (IsTrue unit.disk.steady → IsTrue unit.disk.honest → ⊥)
@@ -252,16 +251,15 @@ module _ (range : Range) (force_unit_access : Bool) (bytes : List ℕ) (unit : D
   IsFound found =
       IsTrue mid.honest → found ≡ first_difference (data_of unit.disk.blocks range.first range.count) (take (block_length * range.count) bytes)
 
-  pub differs : (at : ℕ) → IsFound (Some at)
+  pub differs : (at : ℕ) → IsFound (Some at) → is_below (Some at) (block_length * range.count) ≡ true
       → IsDiskDone (CompareAndWrite range force_unit_access) bytes unit (with_disk unit mid) (check_condition (miscompare at))
-  differs at found =
-      let left : AreLeft (written_range range) false unit.disk.blocks unit.disk.blocks =
-      rw some (record { others = λ honest. absurd (false≢true honest); as_many = refl }) in
-      compare_given (CompareAndWrite range force_unit_access) bytes unit (Some at) mid _ mid.honest refl some left same back sure found
+  differs at found within =
+      compare_given (CompareAndWrite range force_unit_access) bytes unit (differing range (Some at)) mid _ mid.honest refl (rw some refl)
+      (rw some (differing_shown range (Some at) within)) same back sure found
       (λ seen is. rw (← is) refl) (λ seen is. ap (compared (2 * (block_length * range.count))) is)
 
-  reads_some : nat_lt 0 range.count ≡ false → mid.honest ≡ unit.disk.honest
-  reads_some none = absurd (false≢true (sym none ∙ some))
+  reads_some : is_some (touch_of (CompareAndWrite range force_unit_access)).reads ≡ false → mid.honest ≡ unit.disk.honest
+  reads_some none = absurd (false≢true (sym none ∙ rw some refl))
 
   pub same_written : (new : DiskState) → IsFound None
       → IsWritten range.first (blocks_of range.count (take (block_length * range.count) (drop (block_length * range.count) bytes))) force_unit_access mid new
@@ -272,9 +270,9 @@ module _ (range : Range) (force_unit_access : Bool) (bytes : List ℕ) (unit : D
       let goes : (seen : Shown) → None ≡ seen.difference
       → IsThen command bytes unit range others force_unit_access (good_taking (2 * (block_length * range.count))) seen =
       λ seen is. (rw (← is, some) refl, ap (compared (2 * (block_length * range.count))) is) in
-      let seen : Shown = record { given = []; difference = None } in
+      let seen = differing range None in
       writing_given command bytes unit range mid new (rw some refl) same back reads_some
-      others force_unit_access seen _ mid.honest refl sure done
+      others force_unit_access seen _ mid.honest refl (rw some (differing_shown range None refl)) sure done
       (λ honest. goes (shown unit.disk.blocks bytes command) (found honest)) (goes seen refl)
 
   pub same_torn : (new : DiskState) → IsTorn range.first range.count mid new → (IsTrue mid.steady → IsTrue mid.honest → ⊥)
@@ -288,7 +286,11 @@ module _ (range : Range) (force_unit_access : Bool) (bytes : List ℕ) (unit : D
 pub sync_failed : (range : Range) (bytes : List ℕ) (unit : DiskUnit) (new : DiskState) → new ≡ record unit.disk { failures = risen unit.disk.failures }
     → (IsTrue unit.disk.steady → IsTrue unit.disk.honest → ⊥)
     → IsDiskDone (SynchronizeCache range) bytes unit (record (with_disk unit new) { is_ready = false }) (check_condition write_error)
-sync_failed range bytes unit new is sure =
-    let torn : IsTorn range.first 0 unit.disk new =
-    rw is (record { others = λ honest. record { before = refl; behind = refl }; as_many = refl; rest = refl }) in
-    writing_failed (SynchronizeCache range) bytes unit (record range { count = 0 }) unit.disk new refl refl (λ honest. honest) (λ none. refl) torn sure
+sync_failed range bytes unit new is sure = record {
+  came = WriteFailed unit.disk.blocks unit.disk.synced unit.disk.honest;
+  possible = and_from _ _ (may_fail unit.disk sure)
+      (and_from _ _ refl (and_from _ _ (can_be_so (touch_of (SynchronizeCache range)) unit.disk.honest unit.disk.honest (λ honest. honest) (λ none. refl))
+      (all_left None unit.disk.honest unit.disk.blocks)));
+  disk = ap (λ (disk : DiskState). record unit { disk = disk; is_ready = false }) is;
+  told = refl;
+}

@@ -5,6 +5,7 @@ pub mod CameOut
 pub mod Possible
 pub mod DiskDone
 pub mod DiskWrites
+pub mod Performed
 pub mod Found
 pub mod Sound
 pub mod TapeDone

@@ -12,7 +12,9 @@ use Rattle.scsi_cdb.specs.declared.tape.TapeCommand.{TapeCommand}
 use Rattle.scsi_mode.specs.declared.list_fault.ListFault.{ListFault}
 use Rattle.scsi_mode.specs.declared.parameters.Parameters.{Parameters}
 use Rattle.scsi_unit.specs.Device.{DeviceState, Disk, Tape}
-use Rattle.scsi_unit.specs.CameOut.{CameOut, Touch}
+use Rattle.scsi_tape.specs.CameOut.{TapeCame}
+use Rattle.scsi_unit.specs.DiskCame.{DiskCame}
+use Rattle.scsi_unit.specs.CameOut.{CameOut, Touch, disk_came, tape_came}
 use Rattle.scsi_unit.specs.State.{UnitState}
 use Rattle.scsi_unit.specs.Checks.{judged}
 use Rattle.scsi_unit.specs.Unit.{names_unit, where_named, mode_selected, unit_done, disk_done, carried_out, done_by, performed_as, IsPerformed}
@@ -57,12 +59,12 @@ unit_same nexus bytes unit (ReportLuns fields) = refl
 unit_same nexus bytes unit (ModeSense fields) = refl
 unit_same nexus bytes unit (ModeSelect fields) = selected_same nexus unit fields.list_length _
 
-disk_same : (came : CameOut) (bytes : List ℕ) (unit : UnitState) (device : DeviceState) (command : DiskCommand)
+disk_same : (came : DiskCame) (bytes : List ℕ) (unit : UnitState) (device : DeviceState) (command : DiskCommand)
     → (disk_done came bytes unit device command).0.lun ≡ unit.lun
 disk_same came bytes unit (Disk disk) command = refl
 disk_same came bytes unit (Tape tape) command = refl
 
-tape_same : (came : CameOut) (nexus : NexusName) (bytes : List ℕ) (unit : UnitState) (device : DeviceState) (command : TapeCommand)
+tape_same : (came : TapeCame) (nexus : NexusName) (bytes : List ℕ) (unit : UnitState) (device : DeviceState) (command : TapeCommand)
     → (tape_performed came nexus bytes unit device command).0.lun ≡ unit.lun
 tape_same came nexus bytes unit (Disk disk) command = refl
 tape_same came nexus bytes unit (Tape tape) command = refl
@@ -70,8 +72,8 @@ tape_same came nexus bytes unit (Tape tape) command = refl
 carried_same : (came : CameOut) (nexus : NexusName) (bytes : List ℕ) (unit : UnitState) (command : Command)
     → (carried_out came nexus bytes unit command).0.lun ≡ unit.lun
 carried_same came nexus bytes unit (to.Unit command) = unit_same nexus bytes unit command
-carried_same came nexus bytes unit (to.Disk command) = disk_same came bytes unit unit.device command
-carried_same came nexus bytes unit (to.Tape command) = tape_same came nexus bytes unit unit.device command
+carried_same came nexus bytes unit (to.Disk command) = disk_same (disk_came came) bytes unit unit.device command
+carried_same came nexus bytes unit (to.Tape command) = tape_same (tape_came came) nexus bytes unit unit.device command
 
 done_same : (came : CameOut) (nexus : NexusName) (bytes : List ℕ) (unit : UnitState) (r : Result Command Refusal)
     → (done_by came nexus bytes unit r).0.lun ≡ unit.lun

@@ -13,8 +13,7 @@ use Rattle.scsi_unit.specs.Identity.{without_unit, is_for_target, reported_luns}
 use Rattle.scsi_unit.specs.Lun.{lun_number}
 use Rattle.scsi_unit.specs.Unit.{touch_at, joined_unit, left_unit}
 use Rattle.scsi_unit.specs.Units.{UnitStates, unit_of, numbers_of, performed_at, come_out, perform, join, leave, IsSoundStore, AreSound, IsSureStore, AreSure, IsAnsweredAt, AreAnswered, IsTrustedStore, IsTrusted}
-use Rattle.scsi_unit.proofs.CameOut.{unit_as_defined, unit_exact, unit_back, unit_sure}
-use Rattle.scsi_unit.proofs.Possible.{way_is}
+use Rattle.scsi_unit.proofs.CameOut.{way_defined, unit_as_defined, unit_exact, unit_back, unit_sure}
 
 -- ---- the unit at a place
 
@@ -31,7 +30,7 @@ at_back nexus cdb bytes at old new done lt answered sound i d below = elim (eqb_
       let long : at < length new = rw answered.units (simp length-set lt) in
       let after : IsSoundStore (store_of answered.unit.device) = subst (λ (unit : UnitState). IsSoundStore
       (store_of unit.device)) (unit_here nexus cdb bytes at old new done answered d lt) (sound at d long) in
-      let before = unit_back answered.performed after in
+      let before = unit_back nexus cdb bytes answered.performed after in
       subst (λ (k : ℕ). IsSoundStore (store_of (get_or old k d).device)) (sym same.1) (subst (λ
       (unit : UnitState). IsSoundStore (store_of unit.device)) (get_or_default old at answered.unit d lt) before))
   | inr differ ↦ (
@@ -44,7 +43,7 @@ at_back nexus cdb bytes at old new done lt answered sound i d below = elim (eqb_
 at_sure : (nexus : NexusName) (cdb bytes : List ℕ) (at : ℕ) (old new : UnitStates) (done : Outcome) → at < length old
     → IsAnsweredAt nexus cdb bytes at old new done → AreSure old → AreSure new
 at_sure nexus cdb bytes at old new done lt answered sure =
-    let after = unit_sure answered.performed (sure at answered.unit lt) in
+    let after = unit_sure nexus cdb bytes answered.performed (sure at answered.unit lt) in
     subst AreSure (sym answered.units) (All-set (λ (unit : UnitState). IsSureStore (store_of unit.device)) old at answered.unit after sure)
 
 at_exact : (nexus : NexusName) (cdb bytes : List ℕ) (at : ℕ) (old new : UnitStates) (done : Outcome) → at < length old → is_for_target cdb ≡ false
@@ -52,10 +51,10 @@ at_exact : (nexus : NexusName) (cdb bytes : List ℕ) (at : ℕ) (old new : Unit
 at_exact nexus cdb bytes at old new done lt other answered trusted =
     let u = answered.unit in
     let here : get_or new at u ≡ u = unit_here nexus cdb bytes at old new done answered u lt in
-    let exact = unit_exact answered.performed
+    let exact = unit_exact nexus cdb bytes answered.performed
     (subst (λ (unit : UnitState). touches (touch_at nexus cdb bytes (get_or old at u)) ≡ true → IsTrustedStore
     (store_of (get_or old at u).device) (store_of unit.device)) here (trusted u)) in
-    rw (slice_get-get_or old at u lt, other, ← exact, answered.units) refl
+    rw (slice_get-get_or old at u lt, other, way_defined (touch_at nexus cdb bytes (get_or old at u)), ← exact, answered.units) refl
 
 -- REPORT LUNS
 luns_exact : (units : UnitStates) (nexus : NexusName) (cdb bytes : List ℕ) (at : ℕ) (done : Outcome) → at < length units → is_for_target cdb ≡ true
@@ -136,8 +135,7 @@ at_came : (nexus : NexusName) (cdb bytes : List ℕ) (at : ℕ) (old new : UnitS
 at_came nexus cdb bytes at old new done lt other answered =
     let unit = answered.unit in
     let before = get_or old at unit in
-    let way = way_is answered.performed.came (touch_at nexus cdb bytes before) before.device answered.performed.possible in
-    rw (slice_get-get_or old at unit lt, other, way, ← answered.performed.answer, answered.units) refl
+    rw (slice_get-get_or old at unit lt, other, answered.performed.possible, ← answered.performed.answer, answered.units) refl
 
 at_as_defined : (nexus : NexusName) (cdb bytes : List ℕ) (at : ℕ) (old new : UnitStates) (done : Outcome) → at < length old
     → (answered : IsAnsweredAt nexus cdb bytes at old new done) → AreSound new → answered.performed.came ≡ AsDefined
@@ -147,7 +145,7 @@ at_as_defined nexus cdb bytes at old new done lt answered sound =
     let long : at < length new = rw answered.units (simp length-set lt) in
     let before = at_back nexus cdb bytes at old new done lt answered sound in
     let after : IsSoundStore (store_of unit.device) = subst (λ (u : UnitState). IsSoundStore (store_of u.device)) here (sound at unit long) in
-    unit_as_defined answered.performed (λ touched. sound_between _ _ (before at unit lt) after)
+    unit_as_defined nexus cdb bytes answered.performed (λ touched. sound_between _ _ (before at unit lt) after)
 
 some_came : (report : Bool) (nexus : NexusName) (cdb bytes : List ℕ) (at : ℕ) (old new : UnitStates) (done : Outcome)
     → is_for_target cdb ≡ report → at < length old → AreAnswered nexus cdb bytes (Some at) old new done

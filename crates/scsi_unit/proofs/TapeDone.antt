@@ -1,7 +1,7 @@
 -- How a command to a unit came out, by how it came out on its tape.
-use Rattle.std.proofs.Common.{◌≡◌, ℕ, ◌==◌, List, [], ◌∷◌, take, Bool, true, false, IsTrue, ◌||◌, Some, None, refl, sym, ap, subst, ◌∙◌}
-use Rattle.std.specs.Prelude.{is_some, if◌then◌else◌}
-use Rattle.std.proofs.lemmas.Bool.{false≢true}
+use Rattle.std.proofs.Common.{◌≡◌, ℕ, ◌==◌, List, [], ◌∷◌, take, Bool, true, false, refl, sym, ap, ◌∙◌}
+use Rattle.std.specs.Prelude.{if◌then◌else◌}
+use Rattle.media_store.specs.Failures.{risen}
 use Rattle.media_tape.specs.Items.{Item}
 use Rattle.media_tape.specs.Tape.{TapeState, write_told, wrote_if_told, synced_if_told, size_told}
 use Rattle.media_tape.specs.declared.outcome.Written.{Written}
@@ -9,18 +9,18 @@ use Rattle.media_tape.specs.declared.outcome.Written.TheVariants as written
 use Rattle.scsi_sense.specs.Done.{Outcome}
 use Rattle.scsi_sense.specs.Nexus.{NexusName}
 use Rattle.scsi_sense.specs.declared.condition.Attention.TheVariants.{NotReadyToReadyChange}
-use Rattle.scsi_cdb.specs.Range.{Range}
 use Rattle.scsi_cdb.specs.declared.command.Command.TheVariants as to
 use Rattle.scsi_cdb.specs.declared.tape.TapeCommand.{TapeCommand}
 use Rattle.scsi_cdb.specs.declared.tape.TapeCommand.TheVariants.{Rewind, ReadBlockLimits, Read, Write, WriteFilemarks, Space, SpaceToEndOfData}
 use Rattle.scsi_cdb.specs.declared.tape.TapeCommand.TheVariants.{Erase, LoadUnload, Locate, ReadPosition}
 use Rattle.scsi_tape.specs.State.{TapeUnitState}
 use Rattle.scsi_tape.specs.Commands.{tape_left}
-use Rattle.scsi_tape.specs.CameOut.{TapeCame, TapeTouch, tape_touch, tape_after, IsTapePossible, IsTapeDone, is_steady}
+use Rattle.scsi_tape.specs.CameOut.{TapeCame, tape_touch, tape_after, IsTapeDone, is_steady}
 use Rattle.scsi_tape.specs.CameOut as tape
-use Rattle.scsi_unit.specs.Device.{DeviceState, Tape, StoreState, store_of}
-use Rattle.scsi_unit.specs.CameOut.{CameOut, store_after, IsPossible}
-use Rattle.scsi_unit.specs.TapeCommands.{came_of, tape_came, touch_of_tape, loads, tape_performed}
+use Rattle.scsi_unit.specs.Device.{Tape, StoreState, store_of}
+use Rattle.scsi_unit.specs.CameOut.{CameOut, on_tape, tape_came, tape_store, store_after}
+use Rattle.scsi_unit.proofs.CameOut.{tape_back}
+use Rattle.scsi_unit.specs.TapeCommands.{loads, tape_performed}
 use Rattle.scsi_unit.specs.Joined.{raised_for_others}
 use Rattle.scsi_unit.specs.State.{UnitState}
 use Rattle.scsi_unit.specs.Unit.{touch_by, IsPerformed}
@@ -31,9 +31,9 @@ use Rattle.scsi_unit.specs.declared.joined.Joined.{Joined}
 abbrev facts : TapeState → StoreState
 facts tape = record { failures = tape.failures; honest = tape.honest; steady = is_steady tape }
 
-either : (is : Bool) (a b : TapeState) (same : StoreState) → facts a ≡ same → facts b ≡ same → facts (if is then a else b) ≡ same
-either true a b same one other = one
-either false a b same one other = other
+facts_by : (is : Bool) (a b : TapeState) (same : StoreState) → facts a ≡ same → facts b ≡ same → facts (if is then a else b) ≡ same
+facts_by true a b same one other = one
+facts_by false a b same one other = other
 
 wrote_facts : (told : Written) (others : List Item) (tape : TapeState) → facts (wrote_if_told told others tape) ≡ facts tape
 wrote_facts written.Refused others tape = refl
@@ -53,10 +53,10 @@ write_facts count bytes (byte ∷ rest) tape is = rw is (wrote_facts (write_told
 left_facts : (command : TapeCommand) (bytes : List ℕ) (tape : TapeState) → facts (tape_left command bytes tape) ≡ facts tape
 left_facts Rewind bytes tape = refl
 left_facts ReadBlockLimits bytes tape = refl
-left_facts (Read asked suppressed) bytes tape = either (asked == 0) tape _ (facts tape) refl refl
+left_facts (Read asked suppressed) bytes tape = facts_by (asked == 0) tape _ (facts tape) refl refl
 left_facts (Write count) bytes tape = write_facts count bytes (take count bytes) tape refl
 left_facts (WriteFilemarks count) bytes tape =
-    either (count == 0) _ _ (facts tape) refl (synced_facts (size_told _ tape) _ ∙ wrote_facts (size_told _ tape) _ tape)
+    facts_by (count == 0) _ _ (facts tape) refl (synced_facts (size_told _ tape) _ ∙ wrote_facts (size_told _ tape) _ tape)
 left_facts (Space code distance) bytes tape = refl
 left_facts SpaceToEndOfData bytes tape = refl
 left_facts Erase bytes tape = refl
@@ -64,49 +64,18 @@ left_facts (LoadUnload load) bytes tape = refl
 left_facts (Locate number) bytes tape = refl
 left_facts ReadPosition bytes tape = refl
 
+torn_facts : (writes : Bool) (left tape : TapeState) → facts left ≡ facts tape
+    → store_of (Tape (record { tape = record (if writes then left else tape) { failures = risen tape.failures }; is_working = false }))
+    ≡ record (facts tape) { failures = risen tape.failures }
+torn_facts true left tape same = ap (λ (store : StoreState). record store { failures = risen tape.failures }) same
+torn_facts false left tape same = refl
+
 store_same : (came : TapeCame) (command : TapeCommand) (bytes : List ℕ) (on : TapeUnitState)
-    → store_of (Tape (tape_after came (tape_left command bytes on.tape) on)) ≡ store_after (came_of came) (store_of (Tape on))
+    → store_of (Tape (tape_after came command bytes on)) ≡ tape_store came (store_of (Tape on))
 store_same tape.AsDefined command bytes on = left_facts command bytes on.tape
-store_same (tape.Dishonest told left) command bytes on = refl
+store_same (tape.Dishonest shown left) command bytes on = refl
 store_same (tape.ReadFailed honest) command bytes on = refl
-store_same (tape.WriteFailed left) command bytes on = refl
-
--- ---- what was possible on the tape is so on the unit
-
-either_touch : (reads writes : Bool) (range : Range) → IsTrue (reads || writes) → IsTrue (reads || is_some (if writes then Some range else None))
-either_touch true writes range is = refl
-either_touch false true range is = refl
-either_touch false false range is = absurd (false≢true is)
-
-writes_touch : (writes : Bool) (range : Range) → IsTrue writes → IsTrue (is_some (if writes then Some range else None))
-writes_touch true range is = refl
-writes_touch false range is = absurd (false≢true is)
-
-possible_on : (came : TapeCame) (touch : TapeTouch) (on : TapeUnitState) → IsTapePossible came touch on.tape
-    → IsPossible (came_of came) (touch_of_tape touch) (Tape on)
-possible_on tape.AsDefined touch on possible = tt
-possible_on (tape.Dishonest told left) touch on possible = (
-  either_touch touch.reads touch.writes _ possible.0,
-  record { back = possible.1.back; kept = possible.1.kept },
-  possible.2,
-  λ steady. possible.3 steady.honest steady.steady,
-)
-possible_on (tape.ReadFailed honest) touch on possible = (
-  possible.0,
-  record { back = possible.1.back; kept = possible.1.kept },
-  λ steady. possible.2 steady.honest steady.steady,
-)
-possible_on (tape.WriteFailed left) touch on possible = (
-  writes_touch touch.writes _ possible.0,
-  possible.1,
-  λ steady. possible.2 steady.honest steady.steady,
-)
-
-came_back : (came : TapeCame) → tape_came (came_of came) ≡ came
-came_back tape.AsDefined = refl
-came_back (tape.Dishonest told left) = refl
-came_back (tape.ReadFailed honest) = refl
-came_back (tape.WriteFailed left) = refl
+store_same (tape.WriteFailed left) command bytes on = torn_facts (tape_touch command on.tape).writes _ on.tape refl
 
 -- ---- the unit
 
@@ -117,23 +86,22 @@ told_by nexus unit command is_loaded =
 
 pub tape_did : (command : TapeCommand) (bytes : List ℕ) (nexus : NexusName) (unit : UnitState) (on after : TapeUnitState) (done : Outcome)
     → unit.device ≡ Tape on → IsTapeDone command bytes on after done
-    → IsPerformed (touch_by unit.device (to.Tape command)) (λ (came : CameOut). tape_performed came nexus bytes unit unit.device command)
+    → IsPerformed (touch_by bytes unit.device (to.Tape command)) (λ (came : CameOut). tape_performed (tape_came came) nexus bytes unit unit.device command)
     unit (record unit { device = Tape after; joined = told_by nexus unit command on.tape.is_loaded }) done
 tape_did command bytes nexus unit on after done is did =
-    let came = came_of did.came in
+    let came = on_tape did.came in
     record {
       came = came;
-      possible =
-          subst (λ (device : DeviceState). IsPossible came (touch_by device (to.Tape command)) device) (sym is)
-          (possible_on did.came (tape_touch command) on did.possible);
+      possible = rw (is, tape_back did.came, did.possible) refl;
       store =
           ap (λ (now : TapeUnitState). store_of (Tape now)) did.unit ∙ store_same did.came command bytes on
-          ∙ ap (λ (device : DeviceState). store_after came (store_of device)) (sym is);
-      answer = rw (is, came_back did.came, ← did.unit, ← did.told) refl;
+          ∙ ap (λ (c : TapeCame). tape_store c (store_of (Tape on))) (sym (tape_back did.came))
+          ∙ ap (store_after came) (sym is);
+      answer = rw (is, tape_back did.came, ← did.unit, ← did.told) refl;
     }
 
 pub tape_did_to : (command : TapeCommand) (bytes : List ℕ) (nexus : NexusName) (unit : UnitState) (on after : TapeUnitState) (new : UnitState)
     (done : Outcome) → unit.device ≡ Tape on → IsTapeDone command bytes on after done
     → new ≡ record unit { device = Tape after; joined = told_by nexus unit command on.tape.is_loaded }
-    → IsPerformed (touch_by unit.device (to.Tape command)) (λ (came : CameOut). tape_performed came nexus bytes unit unit.device command) unit new done
+    → IsPerformed (touch_by bytes unit.device (to.Tape command)) (λ (came : CameOut). tape_performed (tape_came came) nexus bytes unit unit.device command) unit new done
 tape_did_to command bytes nexus unit on after new done is did same = rw same (tape_did command bytes nexus unit on after done is did)

@@ -1,5 +1,5 @@
 -- What commands do to disks (SBC-3 "Commands for direct access block devices").
-use Rattle.std.specs.Prelude.{◌≡◌, ℕ, ◌-◌, ◌*◌, ◌^◌, min, nat_lt, List, [], ◌++◌, length, take, drop, replicate, Bool, true, false, Option, Some}
+use Rattle.std.specs.Prelude.{◌≡◌, ℕ, ◌-◌, ◌*◌, ◌^◌, min, nat_lt, List, [], ◌++◌, length, take, drop, replicate, Bool, true, false, IsTrue, Option, Some}
 use Rattle.std.specs.Prelude.{None, if◌then◌else◌}
 use Rattle.std.specs.Int.{w32, w64, to_be_bytes}
 use Rattle.media_block.specs.Blocks.{DiskState, block_length, blocks_of, data_of, replaced, first_difference}
@@ -11,8 +11,9 @@ use Rattle.scsi_cdb.specs.Range.{Range, most_blocks}
 use Rattle.scsi_cdb.specs.declared.command.DiskCommand.{DiskCommand}
 use Rattle.scsi_cdb.specs.declared.command.DiskCommand.TheVariants.{Read, ReadCapacity10, ReadCapacity16, Write, Verify, VerifyData}
 use Rattle.scsi_cdb.specs.declared.command.DiskCommand.TheVariants.{SynchronizeCache, WriteSame, CompareAndWrite}
-use Rattle.scsi_unit.specs.Device.{DiskUnit, Disk}
-use Rattle.scsi_unit.specs.CameOut.{CameOut, AsDefined, Dishonest, ReadFailed, WriteFailed, TapeDishonest, TapeWriteFailed, Shown, shown_by, disk_after, Touch, no_touch, IsPossible}
+use Rattle.scsi_unit.specs.Device.{DiskUnit}
+use Rattle.scsi_unit.specs.DiskCame.{DiskCame, AsDefined, Dishonest, ReadFailed, WriteFailed, Shown, shown_by, disk_after}
+use Rattle.scsi_unit.specs.DiskCame.{DiskTouch, no_touch, is_disk_possible}
 
 -- 03/1100
 abbrev pub unrecovered_read : Sense
@@ -106,13 +107,11 @@ abbrev pub disk_outcome : List (List ℕ) → List ℕ → DiskCommand → Outco
 disk_outcome blocks bytes command = told_of (shown blocks bytes command) blocks command
 
 -- own: what is told of a command, by how it came out, where its medium should have shown this
-abbrev pub disk_told : CameOut → Shown → List (List ℕ) → DiskCommand → Outcome
+abbrev pub disk_told : DiskCame → Shown → List (List ℕ) → DiskCommand → Outcome
 disk_told AsDefined truth blocks command = told_of truth blocks command
 disk_told (Dishonest shown left) truth blocks command = told_of shown blocks command
 disk_told (ReadFailed honest) truth blocks command = check_condition unrecovered_read
 disk_told (WriteFailed left synced honest) truth blocks command = check_condition write_error
-disk_told (TapeDishonest told left) truth blocks command = told_of truth blocks command
-disk_told (TapeWriteFailed left) truth blocks command = told_of truth blocks command
 
 -- ---- what is changed
 
@@ -144,26 +143,26 @@ disk_defined shown bytes (CompareAndWrite range force_unit_access) disk =
 
 -- ---- what may come of it
 
-abbrev pub written_range : Range → Option Range
-written_range range = if nat_lt 0 range.count then Some range else None
+-- own: a range of one block or more
+abbrev pub some_blocks : Range → Option Range
+some_blocks range = if nat_lt 0 range.count then Some range else None
 
--- own: a READ, or a comparison, of one block or more reads; a write of one block or more writes to its range, and a sync
--- to no block of it
-abbrev pub touch_of : DiskCommand → Touch
-touch_of (Read range) = record { reads = nat_lt 0 range.count; writes = None }
+-- own: a READ, or a comparison, of one block or more reads; a write of one block or more writes to its range
+abbrev pub touch_of : DiskCommand → DiskTouch
+touch_of (Read range) = record no_touch { reads = some_blocks range }
 touch_of ReadCapacity10 = no_touch
 touch_of (ReadCapacity16 allocation_length) = no_touch
-touch_of (Write range force_unit_access) = record { reads = false; writes = written_range range }
+touch_of (Write range force_unit_access) = record no_touch { writes = some_blocks range }
 touch_of (Verify range) = no_touch
-touch_of (VerifyData range) = record { reads = nat_lt 0 range.count; writes = None }
-touch_of (SynchronizeCache range) = record { reads = false; writes = Some (record range { count = 0 }) }
-touch_of (WriteSame range) = record { reads = false; writes = written_range range }
-touch_of (CompareAndWrite range force_unit_access) = record { reads = nat_lt 0 range.count; writes = written_range range }
+touch_of (VerifyData range) = record no_touch { reads = some_blocks range }
+touch_of (SynchronizeCache range) = record no_touch { syncs = true }
+touch_of (WriteSame range) = record no_touch { writes = some_blocks range }
+touch_of (CompareAndWrite range force_unit_access) = record no_touch { reads = some_blocks range; writes = some_blocks range }
 
 -- own: a command with this data to a disk came out in one of the ways in which it can, and the disk and what is told are so
 pub record IsDiskDone (command : DiskCommand) (bytes : List ℕ) (old new : DiskUnit) (done : Outcome) : Type 0 where
-  pub came : CameOut
-  pub possible : IsPossible came (touch_of command) (Disk old)
+  pub came : DiskCame
+  pub possible : IsTrue (is_disk_possible came (touch_of command) old.disk)
   pub disk :
       let shown = shown_by came (shown old.disk.blocks bytes command) in
       new ≡ disk_after came (disk_defined shown bytes command old.disk) old

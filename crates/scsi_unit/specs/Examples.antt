@@ -13,7 +13,8 @@ use Rattle.scsi_inquiry.specs.Luns.{rising}
 use Rattle.scsi_inquiry.specs.declared.peripheral.Peripheral.TheVariants as peripheral
 use Rattle.scsi_mode.specs.ParameterList.{is_page, after_page, has_page, after_pages, after_header, selected}
 use Rattle.scsi_unit.specs.Device.{DiskUnit, DeviceState, Disk, opened_tape}
-use Rattle.scsi_unit.specs.CameOut.{ReadFailed, touches}
+use Rattle.scsi_unit.specs.DiskCame.{ReadFailed}
+use Rattle.scsi_unit.specs.CameOut.{on_disk, touches}
 use Rattle.scsi_tape.specs.TapeSense.{target_failure}
 use Rattle.scsi_unit.specs.Checks.{judged, out_of_range}
 use Rattle.scsi_unit.specs.DiskCommands.{capacity_10, capacity_16, unrecovered_read}
@@ -96,7 +97,7 @@ abbrev inquiry : List ℕ
 inquiry = 0x12 ∷ 0 ∷ 0 ∷ 0 ∷ 36 ∷ replicate 11 0
 
 -- a read fails: 03/1100, and the store has one failure more
-read_fails : performed_as (ReadFailed true) a (read_10 0 0 0 1) [] (unit_with disk (a_was_told ∷ []))
+read_fails : performed_as (on_disk (ReadFailed true)) a (read_10 0 0 0 1) [] (unit_with disk (a_was_told ∷ []))
     ≡ (unit_with (Disk (record the_disk { disk = record the_disk.disk { failures = 1 } })) (a_was_told ∷ []), check_condition unrecovered_read)
 unfolding performed_as judged told
 read_fails = refl

@@ -7,7 +7,8 @@ use Rattle.media_block.specs.Blocks.{blocks_of}
 use Rattle.scsi_cdb.specs.Fault.{invalid_field}
 use Rattle.scsi_reserve.specs.Table.{empty_table}
 use Rattle.scsi_unit.specs.Device.{DiskUnit, Disk}
-use Rattle.scsi_unit.specs.CameOut.{Dishonest, ReadFailed, WriteFailed, touches}
+use Rattle.scsi_unit.specs.DiskCame.{Dishonest, ReadFailed, WriteFailed}
+use Rattle.scsi_unit.specs.CameOut.{on_disk, touches}
 use Rattle.scsi_tape.specs.TapeSense.{target_failure}
 use Rattle.scsi_unit.specs.Checks.{judged, out_of_range, write_protected}
 use Rattle.scsi_unit.specs.DiskCommands.{miscompare, unrecovered_read, write_error}
@@ -125,7 +126,7 @@ torn = zeros ∷ zeros ∷ zeros ∷ (replicate 100 0x55 ++ replicate 412 0) ∷
 abbrev failed : UnitState
 failed = unit_of (record the_disk { disk = record the_disk.disk { blocks = torn; failures = 1 }; is_ready = false })
 
-write_fails : (performed_as (WriteFailed torn false true) a (command_10 0x2a 0 3 1) fives the_unit ≡ (failed, check_condition write_error))
+write_fails : (performed_as (on_disk (WriteFailed torn false true)) a (command_10 0x2a 0 3 1) fives the_unit ≡ (failed, check_condition write_error))
     × ((perform_at a (command_10 0x28 0 0 1) [] failed).1 ≡ check_condition target_failure)
     × ((perform_at a (command_10 0x2a 0 3 1) fives failed).1 ≡ check_condition target_failure)
     × ((perform_at a (command_10 0x2f 0 0 0) [] failed).1 ≡ check_condition target_failure)
@@ -135,13 +136,13 @@ unfolding performed_as judged told unit_done
 write_fails = (refl, refl, refl, refl, refl, refl)
 
 -- the read of a COMPARE AND WRITE fails: 03/1100, and nothing is written
-compare_fails : performed_as (ReadFailed true) a (compare_and_write 3 1) (zeros ++ fives) the_unit
+compare_fails : performed_as (on_disk (ReadFailed true)) a (compare_and_write 3 1) (zeros ++ fives) the_unit
     ≡ (unit_of (record the_disk { disk = record the_disk.disk { failures = 1 } }), check_condition unrecovered_read)
 unfolding performed_as judged told unit_done
 compare_fails = refl
 
 -- a store that shows what is not there, to a COMPARE AND WRITE with FUA: it may find no difference, and write
-compare_is_misled : performed_as (Dishonest (record { given = []; difference = None }) torn) a
+compare_is_misled : performed_as (on_disk (Dishonest (record { given = []; difference = None }) torn)) a
     (0x89 ∷ 0x08 ∷ replicate 7 0 ++ 3 ∷ 0 ∷ 0 ∷ 0 ∷ 1 ∷ 0 ∷ 0 ∷ []) (fives ++ fives) the_unit
     ≡ (unit_of (record the_disk { disk = record the_disk.disk { blocks = torn; synced = true; honest = false } }), good_taking 1024)
 unfolding performed_as judged told unit_done blocks_of

@@ -24,8 +24,8 @@ pub use Rattle.scsi_mode.specs.ModeData
 pub use Rattle.scsi_mode.specs.ParameterList
 pub mod Lun
 pub mod Device
+pub mod DiskCame
 pub mod CameOut
-pub mod Possible
 pub mod DiskCommands
 pub mod DiskWrites
 pub mod Identity

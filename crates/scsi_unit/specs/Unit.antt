@@ -19,12 +19,11 @@ use Rattle.scsi_mode.specs.ModeData.{mode_data}
 use Rattle.scsi_mode.specs.ParameterList.{fault_sense, selected}
 use Rattle.scsi_mode.specs.declared.list_fault.ListFault.{ListFault}
 use Rattle.scsi_mode.specs.declared.parameters.Parameters.{Parameters}
-use Rattle.scsi_tape.specs.CameOut.{tape_touch}
 use Rattle.scsi_unit.specs.Device.{DeviceState, Disk, Tape, kind_of, parameters_of, with_parameters, store_of}
-use Rattle.scsi_unit.specs.CameOut.{CameOut, AsDefined, shown_by, store_after, disk_after, Touch, no_touch, IsPossible}
-use Rattle.scsi_unit.specs.Possible.{way}
+use Rattle.scsi_unit.specs.DiskCame.{DiskCame, shown_by, disk_after}
+use Rattle.scsi_unit.specs.CameOut.{CameOut, AsDefined, Touch, disk_came, tape_came, Nothing, OnDisk, OnTape, way, store_after}
 use Rattle.scsi_unit.specs.DiskCommands.{shown, disk_defined, disk_told, touch_of}
-use Rattle.scsi_unit.specs.TapeCommands.{touch_of_tape, tape_performed}
+use Rattle.scsi_unit.specs.TapeCommands.{tape_performed}
 use Rattle.scsi_unit.specs.Joined.{with_nexus, without_nexus, told, raised_for, raised_for_others, raised_for_all}
 use Rattle.scsi_unit.specs.Identity.{inquiry_outcome, luns_outcome, sense_outcome, pending_sense, without_unit}
 use Rattle.scsi_unit.specs.PersistentReserve.{reserve_in_outcome, reserved_out}
@@ -98,7 +97,7 @@ unit_done nexus bytes unit (ModeSelect fields) =
 
 -- ---- commands to a disk
 
-abbrev pub disk_done : CameOut → List ℕ → UnitState → DeviceState → DiskCommand → UnitState × Outcome
+abbrev pub disk_done : DiskCame → List ℕ → UnitState → DeviceState → DiskCommand → UnitState × Outcome
 disk_done came bytes unit (Disk disk) command =
     let truth = shown disk.disk.blocks bytes command in (
       record unit { device = Disk (disk_after came (disk_defined (shown_by came truth) bytes command disk.disk) disk) },
@@ -111,8 +110,8 @@ disk_done came bytes unit (Tape tape) command = (unit, check_condition invalid_o
 -- a command that no check refused, by how it came out
 abbrev pub carried_out : CameOut → NexusName → List ℕ → UnitState → Command → UnitState × Outcome
 carried_out came nexus bytes unit (to.Unit command) = unit_done nexus bytes unit command
-carried_out came nexus bytes unit (to.Disk command) = disk_done came bytes unit unit.device command
-carried_out came nexus bytes unit (to.Tape command) = tape_performed came nexus bytes unit unit.device command
+carried_out came nexus bytes unit (to.Disk command) = disk_done (disk_came came) bytes unit unit.device command
+carried_out came nexus bytes unit (to.Tape command) = tape_performed (tape_came came) nexus bytes unit unit.device command
 
 -- SAM-5 "Unit attention condition": one that is told in place of a command is then taken away
 abbrev pub refused_with : NexusName → UnitState → Refusal → UnitState × Outcome
@@ -134,31 +133,32 @@ perform_at nexus cdb bytes unit = performed_as AsDefined nexus cdb bytes unit
 
 -- ---- what may come of it
 
-abbrev pub touch_by : DeviceState → Command → Touch
-touch_by device (to.Unit command) = no_touch
-touch_by (Disk disk) (to.Disk command) = touch_of command
-touch_by (Tape tape) (to.Disk command) = no_touch
-touch_by (Disk disk) (to.Tape command) = no_touch
-touch_by (Tape tape) (to.Tape command) = touch_of_tape (tape_touch command)
+-- own: what a command with this data does with the medium of a device
+abbrev pub touch_by : List ℕ → DeviceState → Command → Touch
+touch_by bytes device (to.Unit command) = Nothing
+touch_by bytes (Disk disk) (to.Disk command) = OnDisk (touch_of command) disk.disk
+touch_by bytes (Tape tape) (to.Disk command) = Nothing
+touch_by bytes (Disk disk) (to.Tape command) = Nothing
+touch_by bytes (Tape tape) (to.Tape command) = OnTape command bytes tape.tape
 
-abbrev pub touch_where : DeviceState → Result Command Refusal → Touch
-touch_where device (Err refusal) = no_touch
-touch_where device (Ok command) = touch_by device command
+abbrev pub touch_where : List ℕ → DeviceState → Result Command Refusal → Touch
+touch_where bytes device (Err refusal) = Nothing
+touch_where bytes device (Ok command) = touch_by bytes device command
 
--- own: what a command does to the medium of a unit: nothing where a check refuses it
+-- own: .. with that of a unit: nothing where a check refuses it
 unfoldable pub touch_at : NexusName → List ℕ → List ℕ → UnitState → Touch
-touch_at nexus cdb bytes unit = touch_where unit.device (judged nexus cdb bytes unit)
+touch_at nexus cdb bytes unit = touch_where bytes unit.device (judged nexus cdb bytes unit)
 
 -- own: a command came out in one of the ways in which it can, and the unit and what is told are so
 pub record IsPerformed (touch : Touch) (should : CameOut → UnitState × Outcome) (old new : UnitState) (done : Outcome) : Type 0 where
   pub came : CameOut
-  pub possible : IsPossible came touch old.device
-  pub store : store_of new.device ≡ store_after came (store_of old.device)
+  pub possible : way came touch ≡ came
+  pub store : store_of new.device ≡ store_after came old.device
   pub answer : (new, done) ≡ should came
 
 -- a command with this data to a unit, by how it came out, as far as it can
 abbrev pub came_out_at : CameOut → NexusName → List ℕ → List ℕ → UnitState → UnitState × Outcome
-came_out_at came nexus cdb bytes unit = performed_as (way came (touch_at nexus cdb bytes unit) unit.device) nexus cdb bytes unit
+came_out_at came nexus cdb bytes unit = performed_as (way came (touch_at nexus cdb bytes unit)) nexus cdb bytes unit
 
 -- ---- the unit that a LUN names
 
@@ -181,4 +181,4 @@ perform_as came nexus lun cdb bytes unit =
 
 -- and what it does to the medium
 unfoldable pub touch_with : NexusName → List ℕ → List ℕ → List ℕ → UnitState → Touch
-touch_with nexus lun cdb bytes unit = if names_unit lun unit then touch_at nexus cdb bytes unit else no_touch
+touch_with nexus lun cdb bytes unit = if names_unit lun unit then touch_at nexus cdb bytes unit else Nothing

@@ -179,7 +179,7 @@ impl<S: Store> Unit<S> {
     ) -> Result<Done, Memory>
         requires range { IsTrue (has_range self.old.device (range_of command)) }
         requires enough { needed command ≤ length «data».now }
-        ensures done { IfOk result (IsPerformed (touch_by self.old.device command)
+        ensures done { IfOk result (IsPerformed (touch_by «data».now self.old.device command)
             (λ came. carried_out came nexus.now «data».now self.old command) self.old self.new) }
         ensures given { IfOk result (λ done. length done.given ≤ most_given) }
         ensures err { OnErr result (self.new ≡ self.old) }

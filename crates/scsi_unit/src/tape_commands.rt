@@ -6,6 +6,7 @@ ghost use Rattle.scsi_tape.specs.Commands.{bytes_needed};
 ghost use Rattle.scsi_tape.specs.CameOut.{IsTapeDone};
 ghost use Rattle.scsi_sense.specs.declared.condition.Attention.TheVariants.{NotReadyToReadyChange};
 ghost use Rattle.scsi_unit.specs.DiskCommands.{most_given};
+ghost use Rattle.scsi_unit.specs.CameOut.{tape_came};
 ghost use Rattle.scsi_unit.specs.Joined.{raised_for_others};
 ghost use Rattle.scsi_unit.specs.TapeCommands.{loads as loads_tape, tape_performed};
 ghost use Rattle.scsi_unit.specs.Unit.{touch_by, IsPerformed};
@@ -70,8 +71,8 @@ impl<S: Store> Unit<S> {
         data: &[u8],
     ) -> Result<Done, Memory>
         requires { bytes_needed command ≤ length «data».now }
-        ensures done { IfOk result (IsPerformed (touch_by self.old.device (to.Tape command))
-            (λ came. tape_performed came nexus.now «data».now self.old self.old.device command) self.old self.new) }
+        ensures done { IfOk result (IsPerformed (touch_by «data».now self.old.device (to.Tape command))
+            (λ came. tape_performed (tape_came came) nexus.now «data».now self.old self.old.device command) self.old self.new) }
         ensures given { IfOk result (λ done. length done.given ≤ most_given) }
         ensures err { OnErr result (self.new ≡ self.old) }
     {

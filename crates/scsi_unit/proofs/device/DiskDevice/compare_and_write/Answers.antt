@@ -1,5 +1,6 @@
-use Rattle.std.proofs.Common.{◌≡◌, ◌-◌, ◌*◌, true, nat_lt, arith}
-use Rattle.std.proofs.lemmas.Bool.{false≢true}
+use Rattle.std.proofs.Common.{◌≡◌, ◌-◌, ◌*◌, true, nat_lt, refl, arith}
+use Rattle.std.proofs.lemmas.Bool.{false≢true, lt-ltb}
+use Rattle.std.proofs.lemmas.List.{length-take-le}
 use Rattle.scsi_cdb.specs.declared.command.DiskCommand.TheVariants.{CompareAndWrite}
 use Rattle.scsi_unit.specs.Device.{disk_view}
 use Rattle.scsi_unit.proofs.DiskDone.{some_block, reading_failed, differs, same_written, same_torn}
@@ -12,13 +13,18 @@ returns-in-Ok-Some-clause-done g c =
     rw c.miscompare.ensures
     (differs c.args.range c.args.force_unit_access c.args.«data».now (disk_view c.args.self.now) c.compare.new.self some
     told.disk told.back (λ steady honest. (told.succeeds steady honest).1) c.in-Ok-Some.at
-    (rw (c.in-Ok-Some.field-0-is, c.from.ensures, c.count-count.ensures.value, c.first.ensures) at told.compared))
+    (rw (c.in-Ok-Some.field-0-is, c.from.ensures, c.count-count.ensures.value, c.first.ensures) at told.compared)
+    (lt-ltb c.in-Ok-Some.at (512 * c.args.range.count) (omega (
+      arith,
+      rw (c.in-Ok-Some.field-0-is, c.count-count.ensures.value) at told.within,
+      length-take-le (512 * c.args.range.count) c.args.«data».now (omega (arith, c.requires.enough)),
+    ))))
 
 pub returns-in-Err-clause-done : goal.returns-in-Err-clause-done
 returns-in-Err-clause-done g c =
     let some : nat_lt 0 c.args.range.count ≡ true = rw c.count-count.ensures.value at (some_block c.count-count.result c.if-count-eq0.false) in
     rw c.read_failed.ensures
-    (reading_failed (CompareAndWrite c.args.range c.args.force_unit_access) c.args.«data».now (disk_view c.args.self.now) c.compare.new.self some
+    (reading_failed (CompareAndWrite c.args.range c.args.force_unit_access) c.args.«data».now (disk_view c.args.self.now) c.compare.new.self (rw some refl)
     c.in-Err.ensures.disk c.in-Err.ensures.back (λ steady honest. false≢true (c.in-Err.ensures.succeeds steady honest).0))
 
 pub returns-in-Ok-clause-done : goal.returns-in-Ok-clause-done

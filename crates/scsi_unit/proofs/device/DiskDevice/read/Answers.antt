@@ -9,7 +9,7 @@ pub returns-in-Err-clause-done : goal.returns-in-Err-clause-done
 returns-in-Err-clause-done g c bytes =
     rw c.read_failed.ensures
     (reading_failed (Read c.args.range) bytes (disk_view c.args.self.now) c.read_into.new.disk
-    (some_block c.args.range.count (λ none. false≢true (c.in-Err.ensures.none none).0)) c.in-Err.ensures.disk c.in-Err.ensures.back
+    (rw (some_block c.args.range.count (λ none. false≢true (c.in-Err.ensures.none none).0)) refl) c.in-Err.ensures.disk c.in-Err.ensures.back
     (λ steady honest. false≢true (c.in-Err.ensures.succeeds steady honest).0))
 
 pub returns-in-Ok-clause-done : goal.returns-in-Ok-clause-done

@@ -1,8 +1,10 @@
 use Rattle.std.proofs.Common.{◌≡◌, true, false, refl, sym, ap, ◌∙◌}
-use Rattle.scsi_unit.specs.Device.{Tape}
+use Rattle.scsi_sense.specs.Done.{check_condition}
+use Rattle.scsi_unit.specs.Device.{Disk, Tape, disk_view}
 use Rattle.scsi_unit.specs.State.{UnitState}
 use Rattle.scsi_unit.specs.TapeCommands.{loads}
 use Rattle.scsi_unit.proofs.TapeDone.{tape_did_to}
+use Rattle.scsi_unit.proofs.Performed.{no_tape}
 use Rattle.scsi_unit.proofs.unit.Unit.carry_out_on_tape.Goals.{then-loads, else-loads}
 use Rattle.scsi_unit.proofs.unit.Unit.carry_out_on_tape.Goals as goal
 
@@ -18,3 +20,11 @@ returns-clause-done g c =
       | then-loads w ↦ (let yes : loads c.args.command on.tape.is_loaded ≡ true = sym loaded ∙ w.if-loads.true in w.self-is ∙ rw (← c.self.view_is, yes) w.medium_changed.ensures)
       | else-loads w ↦ (let no : loads c.args.command on.tape.is_loaded ≡ false = sym loaded ∙ w.if-loads.false in w.self-is ∙ rw (← c.self.view_is, no) refl)
     ])
+
+pub returns-in_default-clause-done : goal.returns-in_default-clause-done
+returns-in_default-clause-done g c =
+    let unit : UnitState = c.args.self.now in
+    let is : unit.device ≡ Disk (disk_view c.in_default.field-0) = ap (λ (u : UnitState). u.device) (sym c.self.view_is) ∙ rw c.in_default.is refl in
+    rw c.self.view_is
+    (no_tape c.args.command c.args.«data».now c.args.nexus.now unit (disk_view c.in_default.field-0) c.check_condition.result is
+    (c.check_condition.ensures ∙ ap check_condition c.no_operation.ensures))

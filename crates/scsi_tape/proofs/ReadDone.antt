@@ -1,0 +1,59 @@
+-- How READ of some bytes came out.
+use Rattle.std.proofs.Common.{◌≡◌, ◌≢◌, ℕ, zero, suc, ◌≤◌, ◌==◌, List, length, Bool, true, false, IsTrue, nat_lt, refl, sym, ap, ◌∙◌}
+use Rattle.std.proofs.lemmas.Bool.{false≢true}
+use Rattle.media_store.specs.Failures.{risen}
+use Rattle.media_tape.specs.Tape.{TapeState, read_told, first_told, first_data, tape_read}
+use Rattle.media_tape.specs.declared.outcome.Passed.{Passed}
+use Rattle.media_tape.specs.declared.outcome.Passed.TheVariants as passed
+use Rattle.scsi_sense.specs.Done.{Outcome, check_condition}
+use Rattle.scsi_cdb.specs.Record.{most_record}
+use Rattle.scsi_cdb.specs.declared.tape.TapeCommand.TheVariants.{Read}
+use Rattle.scsi_tape.specs.TapeSense.{unrecovered_read}
+use Rattle.scsi_tape.specs.State.{TapeUnitState}
+use Rattle.scsi_tape.specs.Commands.{read_outcome}
+use Rattle.scsi_tape.specs.CameOut.{IsTapeDone, Shown, standing_of, showing}
+use Rattle.scsi_tape.proofs.Came.{with_tape, answered, read_fails, moved}
+use Rattle.scsi_tape.proofs.Records.{some_byte, first_same, not_zero}
+use Rattle.scsi_tape.proofs.Shown.{empty, read_shown, record_length}
+
+-- what a READ tells of the item that it passed, it tells of the tape shown
+told_seen : (asked : ℕ) (suppressed : Bool) (seen : Passed) (got : List ℕ) → (seen ≡ passed.Nothing → ⊥)
+    → read_outcome asked suppressed seen (first_data (read_shown seen got))
+    ≡ read_outcome asked suppressed (first_told (read_shown seen got)) (first_data (read_shown seen got))
+told_seen asked suppressed passed.Nothing got some = absurd (some refl)
+told_seen asked suppressed (passed.Record n) got some =
+    ap (λ (k : ℕ). read_outcome asked suppressed (passed.Record k) (first_data (read_shown (passed.Record n) got))) (sym (record_length n got))
+told_seen asked suppressed passed.Filemark got some = refl
+told_seen asked suppressed passed.EndOfData got some = refl
+
+zero_not : (asked : ℕ) → asked ≢ 0 → (asked == 0) ≡ false
+zero_not zero any = absurd (any refl)
+zero_not (suc asked) any = not_zero asked
+
+module _ (asked : ℕ) (suppressed : Bool) (bytes : List ℕ) (unit : TapeUnitState) (new : TapeState) where
+  pub read_done : (seen : Passed) (got : List ℕ) (done : Outcome) → asked ≢ 0
+      → (IsTrue new.honest → new ≡ tape_read asked unit.tape)
+      → (IsTrue new.honest → done ≡ read_outcome asked suppressed (read_told asked unit.tape) (first_data unit.tape.after))
+      → (IsTrue unit.tape.steady → IsTrue unit.tape.honest → new.honest ≡ unit.tape.honest)
+      → new ≡ record unit.tape { before = new.before; after = new.after; honest = new.honest }
+      → done ≡ read_outcome asked suppressed seen (first_data (read_shown seen got))
+      → (seen ≡ passed.Nothing → ⊥)
+      → length done.given ≤ most_record
+      → IsTapeDone (Read asked suppressed) bytes unit (with_tape unit new) done
+  read_done seen got done any left told sure rest on_shown item few =
+      let some : nat_lt 0 asked ≡ true = some_byte asked any in
+      let none : (asked == 0) ≡ false = zero_not asked any in
+      let shown : Shown = record empty { after = read_shown seen got } in
+      answered (Read asked suppressed) bytes unit shown (standing_of new) new done
+      (rw some refl) (λ none. absurd (false≢true (sym none ∙ rw some refl))) left told sure
+      (λ wrong. rw (some, none) (moved unit new rest wrong))
+      (λ wrong. on_shown ∙ told_seen asked suppressed seen got item
+      ∙ ap (λ (p : Passed). read_outcome asked suppressed p (first_data (read_shown seen got))) (sym (first_same asked (showing shown unit.tape) any)))
+      few
+
+  pub read_failed : asked ≢ 0
+      → new ≡ record unit.tape { failures = risen unit.tape.failures; honest = new.honest }
+      → (IsTrue new.honest → IsTrue unit.tape.honest)
+      → (IsTrue unit.tape.steady → IsTrue unit.tape.honest → ⊥)
+      → IsTapeDone (Read asked suppressed) bytes unit (with_tape unit new) (check_condition unrecovered_read)
+  read_failed any same back sure = read_fails (Read asked suppressed) bytes unit new (rw (some_byte asked any) refl) same back sure
