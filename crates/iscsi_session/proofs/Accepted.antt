@@ -106,8 +106,7 @@ set_range f h v a zero i k lt at is same = absurd (omega arith)
 set_range f h v a (suc n) zero k lt at is same =
     let here : a ≡ k = omega arith in
     rw (ap h here ∙ is, same_range f h (a + 1) n (λ j le. same j (λ e. omega arith))) refl
-set_range f h v a (suc n) (suc i) k lt at is same =
-    rw (same a (λ e. omega arith), set_range f h v (a + 1) n i k (omega arith) (omega arith) is same) refl
+set_range f h v a (suc n) (suc i) k lt at is same = grind (arith, set_range f h v (a + 1) n i k (omega arith) (omega arith) is same)
 
 prefix_some : (l : List (Option Frame)) → prefix_len (λ o. is_some o) l ≡ prefix_len (λ b. b) (map is_some l)
 prefix_some [] = refl

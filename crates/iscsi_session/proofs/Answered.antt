@@ -26,9 +26,10 @@ use Rattle.iscsi_session.specs.State.{SessionState, standing, TaskLists, Transfe
 use Rattle.iscsi_session.specs.Transfers.{tag_of}
 use Rattle.iscsi_pdu.specs.declared.task_management_response.TaskResult.{TaskResult}
 use Rattle.iscsi_session.specs.Functions.{own_reach, awaited, plugs, function_result, function_answer}
+use Rattle.iscsi_session.specs.Runs.{Output, ActsAs, ActsFirst}
 use Rattle.iscsi_session.specs.declared.act.Act.{Act}
 use Rattle.iscsi_session.specs.declared.act.Act.TheVariants.{Idle, Taken, Ended}
-use Rattle.iscsi_session.specs.Acts.{acted, reach_of, ended, behind, act_answers, act_by, acted_by, answers_by, ordered, orders_by, act_answers_by, acted_answers, ends, ends_by, closes, logout_response, logout_answer, ping_answers}
+use Rattle.iscsi_session.specs.Acts.{acted, reach_of, ended, behind, act_answers, ordered, act_answers_by, acted_answers, ends, ends_by, closes, logout_response, logout_answer, ping_answers}
 use Rattle.iscsi_exchange.specs.ExchangeState.{ExchangeState}
 use Rattle.iscsi_exchange.specs.Exchange.{TextPiece, ToldState, hears}
 use Rattle.iscsi_session.specs.Texts.{is_text, exchange_behind, exchange_of, text_answer}
@@ -39,27 +40,27 @@ use Rattle.iscsi_session.proofs.Standing.{standing_kept, stands_as, stands_void}
 use Rattle.iscsi_session.proofs.Over.{removed_command}
 use Rattle.iscsi_session.proofs.Places.{Located, found_self, remove_map}
 use Rattle.iscsi_session.proofs.Feeding.{removed_is, headers_are, function_located}
-use Rattle.iscsi_session.proofs.Moved.{not_pending, due_came, stays_other, lawful_command, lawful_gone, tasks_command, tasks_gone, transfers_command, functions_command, lawful_other, tasks_other, transfers_other, functions_acted, functions_kept, functions_left, functions_of_finished, due_function, lawful_finished, tasks_finished}
+use Rattle.iscsi_session.proofs.Moved.{not_pending, due_came, stays_other, lawful_command, tasks_command, tasks_gone, transfers_command, functions_command, lawful_other, tasks_other, transfers_other, functions_acted, functions_kept, functions_left, functions_of_finished, due_function, lawful_finished, tasks_finished}
 use Rattle.iscsi_session.proofs.Pending.{functions_distinct, other_not_pending}
+
+-- what a function sees of itself
+pub seen : {past : Past} {inside now : SessionState} → inside ≡ now → Stands past now → Stands past inside
+seen {past} same s = subst (λ (x : SessionState). Stands past x) (sym same) s
 
 -- ---- a request is counted as acted
 
-same_by : (b : Bool) (past p q : Past) → p.params ≡ past.params → q.params ≡ past.params → p.answers ≡ past.answers → q.answers ≡ past.answers
-    → ((cond b p q).params ≡ past.params) × ((cond b p q).answers ≡ past.answers)
-same_by true past p q pp qp pa qa = (pp, pa)
-same_by false past p q pp qp pa qa = (qp, qa)
-
 pub moved_same : (k : ℕ) (past : Past) → ((moved k past).params ≡ past.params) × ((moved k past).answers ≡ past.answers)
-moved_same k past =
-    same_by (is_command (frame_of past.came k)) past (record past { acted = past.acted ++ k ∷ [] })
-    (record past { acted = past.acted ++ k ∷ []; finished = past.finished ++ k ∷ [] }) refl refl refl refl
+moved_same k past = grind arith
 
 -- ---- what an act leaves
 
 abbrev pub kind_of : Frame → Opcode
 kind_of frame = opcode_of (opcode_number frame.header)
 
-function_kind : (frame : Frame) → is_function frame ≡ true → kind_of frame ≡ opcodes.TaskManagement
+pub command_kind : (frame : Frame) → is_command frame ≡ true → kind_of frame ≡ opcodes.ScsiCommand
+command_kind frame e = ap opcode_of (eqb-true (opcode_number frame.header) 0x01 e)
+
+pub function_kind : (frame : Frame) → is_function frame ≡ true → kind_of frame ≡ opcodes.TaskManagement
 function_kind frame e = ap opcode_of (eqb-true (opcode_number frame.header) 0x02 e)
 
 -- a request of another kind
@@ -82,13 +83,11 @@ stands_plain luns k past state e s = subst (λ (p : Past). Stands p state) (sym 
 
 ended_same : (luns : List ℕ) (b : Bool) (k : ℕ) (past : Past) → is_function (frame_of past.came k) ≡ b
     → ((ended luns k past).params ≡ past.params) × ((ended luns k past).answers ≡ past.answers)
-ended_same luns true k past e = rw e (moved_same k past)
-ended_same luns false k past e = rw e (moved_same k past)
+ended_same luns b k past e = grind arith
 
 behind_same : (luns : List ℕ) (b : Bool) (k : ℕ) (past after : Past) → (is_function (frame_of past.came k) && plugs past (reach_of luns k past)) ≡ b
     → ((behind luns k past after).params ≡ after.params) × ((behind luns k past after).answers ≡ after.answers)
-behind_same luns true k past after e = rw e (refl, refl)
-behind_same luns false k past after e = rw e (refl, refl)
+behind_same luns b k past after e = grind arith
 
 pub statuses_behind : (luns : List ℕ) (k : ℕ) (past after : Past) → statuses (behind luns k past after) ≡ statuses after
 statuses_behind luns k past after =
@@ -109,37 +108,37 @@ acted_same luns k past =
 
 -- ---- by the opcode
 
-pub command_answers_none : (luns : List ℕ) (k : ℕ) (past : Past) → is_command (frame_of past.came k) ≡ true → act_answers luns k past ≡ []
+-- what it is answered, by its kind
+answers_of : (luns : List ℕ) (k : ℕ) (past : Past) {o : Opcode} → kind_of (frame_of past.came k) ≡ o
+    → act_answers luns k past ≡ act_answers_by o (awaited past (reach_of luns k past)) (function_result past (reach_of luns k past)) (exchange_of past)
+    (stamp (ended luns k past)) past.params (frame_of past.came k)
 unfolding act_answers
-command_answers_none luns k past e =
-    ap (λ (n : ℕ). act_answers_by (opcode_of n) (awaited past (reach_of luns k past)) (function_result past (reach_of luns k past)) (exchange_of past)
-    (stamp (ended luns k past)) past.params (frame_of past.came k))
-    (eqb-true (opcode_number (frame_of past.came k).header) 0x01 e)
+answers_of luns k past is =
+    ap (λ (o : Opcode). act_answers_by o (awaited past (reach_of luns k past)) (function_result past (reach_of luns k past)) (exchange_of past)
+    (stamp (ended luns k past)) past.params (frame_of past.came k)) is
 
-pub command_goes_on : (params : Params) (frame : Frame) → is_command frame ≡ true → ends params frame ≡ false
+-- the session goes on
+pub goes_on_act : (k : ℕ) (past : Past) {o : Opcode} → kind_of (frame_of past.came k) ≡ o → ends_by o past.params (frame_of past.came k) ≡ false
+    → Taken ≡ cond (ends past.params (frame_of past.came k)) Ended Taken
 unfolding ends
-command_goes_on params frame e = ap (λ (n : ℕ). ends_by (opcode_of n) params frame) (eqb-true (opcode_number frame.header) 0x01 e)
+goes_on_act k past is none =
+    sym (ap (λ (o : Opcode). cond (ends_by o past.params (frame_of past.came k)) Ended Taken) is ∙ ap (λ (b : Bool). cond b Ended Taken) none)
+
+pub command_answers_none : (luns : List ℕ) (k : ℕ) (past : Past) → is_command (frame_of past.came k) ≡ true → act_answers luns k past ≡ []
+command_answers_none luns k past e = answers_of luns k past (command_kind (frame_of past.came k) e)
 
 pub ping_is : (luns : List ℕ) (k : ℕ) (past : Past) → kind_of (frame_of past.came k) ≡ opcodes.NopOut
     → act_answers luns k past ≡ ping_answers (stamp (moved k past)) (moved k past).params.values (frame_of past.came k)
-unfolding act_answers
 ping_is luns k past is =
-    ap (λ (o : Opcode). act_answers_by o (awaited past (reach_of luns k past)) (function_result past (reach_of luns k past)) (exchange_of past) (stamp (ended luns k past)) past.params
-    (frame_of past.came k)) is
+    answers_of luns k past is
     ∙ ap (λ (p : Past). ping_answers (stamp p) past.params.values (frame_of past.came k))
     (ended_plain luns k past (no_function_kind (frame_of past.came k) is (λ x. absurd cc)))
     ∙ ap (λ (p : Params). ping_answers (stamp (moved k past)) p.values (frame_of past.came k)) (sym (moved_same k past).0)
 
-pub ping_goes_on : (params : Params) (frame : Frame) → kind_of frame ≡ opcodes.NopOut → ends params frame ≡ false
-unfolding ends
-ping_goes_on params frame is = ap (λ (o : Opcode). ends_by o params frame) is
-
 pub logout_is : (luns : List ℕ) (k : ℕ) (past : Past) → kind_of (frame_of past.came k) ≡ opcodes.Logout
     → act_answers luns k past ≡ logout_answer (stamp (moved k past)) (moved k past).params (frame_of past.came k) ∷ []
-unfolding act_answers
 logout_is luns k past is =
-    ap (λ (o : Opcode). act_answers_by o (awaited past (reach_of luns k past)) (function_result past (reach_of luns k past)) (exchange_of past) (stamp (ended luns k past)) past.params
-    (frame_of past.came k)) is
+    answers_of luns k past is
     ∙ ap (λ (p : Past). logout_answer (stamp p) past.params (frame_of past.came k) ∷ [])
     (ended_plain luns k past (no_function_kind (frame_of past.came k) is (λ x. absurd cc)))
     ∙ ap (λ (p : Params). logout_answer (stamp (moved k past)) p (frame_of past.came k) ∷ []) (sym (moved_same k past).0)
@@ -151,26 +150,12 @@ logout_ends params frame is = ap (λ (o : Opcode). ends_by o params frame) is
 no_text_by : (a b c d e f g : Bool) (n : ℕ)
     → cond a opcodes.NopOut (cond b opcodes.ScsiCommand (cond c opcodes.TaskManagement (cond d opcodes.Login (cond e opcodes.DataOut
     (cond f opcodes.Logout (cond g opcodes.Snack (opcodes.Other n))))))) ≡ opcodes.Text → ⊥
-no_text_by true b c d e f g n is = cc
-no_text_by false true c d e f g n is = cc
-no_text_by false false true d e f g n is = cc
-no_text_by false false false true e f g n is = cc
-no_text_by false false false false true f g n is = cc
-no_text_by false false false false false true g n is = cc
-no_text_by false false false false false false true n is = cc
-no_text_by false false false false false false false n is = cc
+no_text_by a b c d e f g n is = grind arith
 
 no_function_by : (a b c d e f g : Bool) (n : ℕ)
     → cond a opcodes.NopOut (cond b opcodes.ScsiCommand (cond c opcodes.Login (cond d opcodes.Text (cond e opcodes.DataOut
     (cond f opcodes.Logout (cond g opcodes.Snack (opcodes.Other n))))))) ≡ opcodes.TaskManagement → ⊥
-no_function_by true b c d e f g n is = cc
-no_function_by false true c d e f g n is = cc
-no_function_by false false true d e f g n is = cc
-no_function_by false false false true e f g n is = cc
-no_function_by false false false false true f g n is = cc
-no_function_by false false false false false true g n is = cc
-no_function_by false false false false false false true n is = cc
-no_function_by false false false false false false false n is = cc
+no_function_by a b c d e f g n is = grind arith
 
 is_no_function : (frame : Frame) → is_function frame ≡ false → kind_of frame ≡ opcodes.TaskManagement → ⊥
 is_no_function frame no_function e =
@@ -188,84 +173,53 @@ IsOther o =
     (o ≡ opcodes.ScsiCommand) ⊎ ((o ≡ opcodes.TaskManagement) ⊎ ((o ≡ opcodes.Text) ⊎ ((o ≡ opcodes.Login)
     ⊎ ((o ≡ opcodes.DataOut) ⊎ ((o ≡ opcodes.Snack) ⊎ ((n : ℕ) × (o ≡ opcodes.Other n)))))))
 
-other_answers : (o : Opcode) (waited : List ℕ) (result : TaskResult) (exchange : ExchangeState) (numbers_now : Stamp) (params : Params) (frame : Frame) → IsOther o → o ≢ opcodes.Text
-    → o ≢ opcodes.TaskManagement → act_answers_by o waited result exchange numbers_now params frame ≡ []
-other_answers o waited result exchange numbers_now params frame (inl e) no_text no_function = rw e refl
-other_answers o waited result exchange numbers_now params frame (inr (inl e)) no_text no_function = absurd (no_function e)
-other_answers o waited result exchange numbers_now params frame (inr (inr (inl e))) no_text no_function = absurd (no_text e)
-other_answers o waited result exchange numbers_now params frame (inr (inr (inr (inl e)))) no_text no_function = rw e refl
-other_answers o waited result exchange numbers_now params frame (inr (inr (inr (inr (inl e))))) no_text no_function = rw e refl
-other_answers o waited result exchange numbers_now params frame (inr (inr (inr (inr (inr (inl e)))))) no_text no_function = rw e refl
-other_answers o waited result exchange numbers_now params frame (inr (inr (inr (inr (inr (inr (n, e))))))) no_text no_function = rw e refl
-
-other_ends : (o : Opcode) (params : Params) (frame : Frame) → IsOther o → ends_by o params frame ≡ false
-other_ends o params frame (inl e) = rw e refl
-other_ends o params frame (inr (inl e)) = rw e refl
-other_ends o params frame (inr (inr (inl e))) = rw e refl
-other_ends o params frame (inr (inr (inr (inl e)))) = rw e refl
-other_ends o params frame (inr (inr (inr (inr (inl e))))) = rw e refl
-other_ends o params frame (inr (inr (inr (inr (inr (inl e)))))) = rw e refl
-other_ends o params frame (inr (inr (inr (inr (inr (inr (n, e))))))) = rw e refl
+-- of any of them
+other_plain : (o : Opcode) (waited : List ℕ) (result : TaskResult) (exchange : ExchangeState) (numbers_now : Stamp) (params : Params) (frame : Frame)
+    → IsOther o → o ≢ opcodes.Text → o ≢ opcodes.TaskManagement
+    → (act_answers_by o waited result exchange numbers_now params frame ≡ []) × (ends_by o params frame ≡ false)
+other_plain o waited result exchange numbers_now params frame (inl e) no_text no_function = rw e (refl, refl)
+other_plain o waited result exchange numbers_now params frame (inr (inl e)) no_text no_function = absurd (no_function e)
+other_plain o waited result exchange numbers_now params frame (inr (inr (inl e))) no_text no_function = absurd (no_text e)
+other_plain o waited result exchange numbers_now params frame (inr (inr (inr (inl e)))) no_text no_function = rw e (refl, refl)
+other_plain o waited result exchange numbers_now params frame (inr (inr (inr (inr (inl e))))) no_text no_function = rw e (refl, refl)
+other_plain o waited result exchange numbers_now params frame (inr (inr (inr (inr (inr (inl e)))))) no_text no_function = rw e (refl, refl)
+other_plain o waited result exchange numbers_now params frame (inr (inr (inr (inr (inr (inr (n, e))))))) no_text no_function = rw e (refl, refl)
 
 pub other_is : (luns : List ℕ) (k : ℕ) (past : Past) → IsOther (kind_of (frame_of past.came k)) → is_text (frame_of past.came k) ≡ false
-    → is_function (frame_of past.came k) ≡ false → act_answers luns k past ≡ []
-unfolding act_answers
+    → is_function (frame_of past.came k) ≡ false
+    → (act_answers luns k past ≡ []) × (Taken ≡ cond (ends past.params (frame_of past.came k)) Ended Taken)
 other_is luns k past is no_text no_function =
-    other_answers (kind_of (frame_of past.came k)) (awaited past (reach_of luns k past)) (function_result past (reach_of luns k past)) (exchange_of past)
-    (stamp (ended luns k past)) past.params (frame_of past.came k) is
-    (λ e. is_no_text (frame_of past.came k) no_text e) (λ e. is_no_function (frame_of past.came k) no_function e)
+    let frame = frame_of past.came k in
+    let both = other_plain (kind_of frame) (awaited past (reach_of luns k past)) (function_result past (reach_of luns k past)) (exchange_of past)
+    (stamp (ended luns k past)) past.params frame is (λ e. is_no_text frame no_text e) (λ e. is_no_function frame no_function e) in
+    (answers_of luns k past refl ∙ both.0, goes_on_act k past refl both.1)
 
 pub function_is : (luns : List ℕ) (k : ℕ) (past : Past) → is_function (frame_of past.came k) ≡ true → awaited past (reach_of luns k past) ≡ []
     → act_answers luns k past ≡ function_answer (stamp (ended luns k past)) (function_result past (reach_of luns k past)) (frame_of past.came k).header ∷ []
-unfolding act_answers
 function_is luns k past e none =
-    ap (λ (o : Opcode). act_answers_by o (awaited past (reach_of luns k past)) (function_result past (reach_of luns k past)) (exchange_of past) (stamp (ended luns k past)) past.params
-    (frame_of past.came k))
-    (function_kind (frame_of past.came k) e)
+    answers_of luns k past (function_kind (frame_of past.came k) e)
     ∙ ap (λ (l : List ℕ). acted_answers l (stamp (ended luns k past)) (function_result past (reach_of luns k past)) (frame_of past.came k).header) none
 
 -- one that waits for data is not answered
 pub function_waits : (luns : List ℕ) (k : ℕ) (past : Past) (first : ℕ) (others : List ℕ) → is_function (frame_of past.came k) ≡ true
     → awaited past (reach_of luns k past) ≡ first ∷ others → act_answers luns k past ≡ []
-unfolding act_answers
 function_waits luns k past first others e some =
-    ap (λ (o : Opcode). act_answers_by o (awaited past (reach_of luns k past)) (function_result past (reach_of luns k past)) (exchange_of past)
-    (stamp (ended luns k past)) past.params (frame_of past.came k))
-    (function_kind (frame_of past.came k) e)
+    answers_of luns k past (function_kind (frame_of past.came k) e)
     ∙ ap (λ (l : List ℕ). acted_answers l (stamp (ended luns k past)) (function_result past (reach_of luns k past)) (frame_of past.came k).header) some
-
-pub function_act : (k : ℕ) (past : Past) → is_function (frame_of past.came k) ≡ true → Taken ≡ cond (ends past.params (frame_of past.came k)) Ended Taken
-unfolding ends
-function_act k past e = ap (λ (o : Opcode). cond (ends_by o past.params (frame_of past.came k)) Ended Taken) (sym (function_kind (frame_of past.came k) e))
 
 pub text_is : (luns : List ℕ) (k : ℕ) (past : Past) → is_text (frame_of past.came k) ≡ true
     → act_answers luns k past ≡ text_answer (stamp (moved k past)) (hears (exchange_of past) (frame_of past.came k) past.params).piece
     (frame_of past.came k) ∷ []
-unfolding act_answers
 text_is luns k past e =
-    ap (λ (o : Opcode). act_answers_by o (awaited past (reach_of luns k past)) (function_result past (reach_of luns k past)) (exchange_of past) (stamp (ended luns k past)) past.params
-    (frame_of past.came k)) (text_kind (frame_of past.came k) e)
+    answers_of luns k past (text_kind (frame_of past.came k) e)
     ∙ ap (λ (p : Past). text_answer (stamp p) (hears (exchange_of past) (frame_of past.came k) past.params).piece (frame_of past.came k) ∷ [])
     (ended_plain luns k past (no_function_kind (frame_of past.came k) (text_kind (frame_of past.came k) e) (λ x. absurd cc)))
 
-pub text_goes_on : (params : Params) (frame : Frame) → is_text frame ≡ true → ends params frame ≡ false
-unfolding ends
-text_goes_on params frame e = ap (λ (o : Opcode). ends_by o params frame) (text_kind frame e)
-
-pub text_act : (k : ℕ) (past : Past) → is_text (frame_of past.came k) ≡ true → Taken ≡ cond (ends past.params (frame_of past.came k)) Ended Taken
-text_act k past e = ap (λ (b : Bool). cond b Ended Taken) (sym (text_goes_on past.params (frame_of past.came k) e))
-
 bears_piece : (numbers_now : Stamp) (piece : Option TextPiece) (frame : Frame) → bears_status (text_answer numbers_now piece frame) ≡ true
-bears_piece numbers_now None frame = refl
-bears_piece numbers_now (Some piece) frame = refl
-
-pub other_goes_on : (params : Params) (frame : Frame) → IsOther (kind_of frame) → ends params frame ≡ false
-unfolding ends
-other_goes_on params frame is = other_ends (kind_of frame) params frame is
+bears_piece numbers_now piece frame = grind arith
 
 bears_by : (b : Bool) (x y : Answer) → bears_status x ≡ true → bears_status y ≡ true → bears_status (cond b x y) ≡ true
-bears_by true x y p q = p
-bears_by false x y p q = q
+bears_by b x y p q = grind arith
 
 pub one_bearing : (x : Answer) → bears_status x ≡ true → bearing (x ∷ []) ≡ 1
 one_bearing x e = rw e refl
@@ -349,7 +303,7 @@ pub function_no_text : (frame : Frame) → is_function frame ≡ true → is_tex
 function_no_text frame e = not_text frame opcodes.TaskManagement (function_kind frame e) (λ x. absurd cc)
 
 command_no_text : (frame : Frame) → is_command frame ≡ true → is_text frame ≡ false
-command_no_text frame e = not_text frame opcodes.ScsiCommand (ap opcode_of (eqb-true (opcode_number frame.header) 0x01 e)) (λ x. absurd cc)
+command_no_text frame e = not_text frame opcodes.ScsiCommand (command_kind frame e) (λ x. absurd cc)
 
 pub text_no_command : (frame : Frame) → is_text frame ≡ true → is_command frame ≡ false
 text_no_command frame e = false_from_ne_true (is_command frame) (λ h. absurd (let no = sym (command_no_text frame h) ∙ e in cc))
@@ -367,7 +321,7 @@ stands_command luns past state k rest s is e stays =
     ∙ sym (acted_plain luns k past (command_no_function (frame_of past.came k) e)) in
     subst (λ (p : Past). Stands p
     (record state { tasks = record state.tasks { due = frames_of (standing past) rest; queue = state.tasks.queue ++ frame_of past.came k ∷ [] } })) same
-    (stands_tasks past after state _ s (lawful_command past s.lawful k rest is stays e) refl refl
+    (stands_tasks past after state _ s (lawful_command past s.lawful k rest is e) refl refl
     (ap (λ (t : TaskLists). record t { due = frames_of (standing past) rest; queue = t.queue ++ frame_of past.came k ∷ [] }) (parts past state s).tasks_is
     ∙ tasks_command past s.lawful k rest is stays e) (transfers_command past s.lawful k rest is) (functions_command past s.lawful k rest is)
     (exchange_acted past after k refl refl refl ∙ exchange_other past.params (exchange_of past) (frame_of past.came k) (command_no_text (frame_of past.came k) e)))
@@ -383,7 +337,7 @@ stands_gone past state k rest s is e gone =
     subst (λ (p : Past). Stands p (record state {
       tasks = one_fewer (frame_of (standing past) k) (record state.tasks { due = drop 1 state.tasks.due });
     })) (moved_command k past e)
-    (stands_tasks past after state _ s (lawful_gone past s.lawful k rest is gone e) refl refl
+    (stands_tasks past after state _ s (lawful_command past s.lawful k rest is e) refl refl
     (ap (λ (l : List Frame). one_fewer (frame_of (standing past) k) (record state.tasks { due = l })) dropped
     ∙ ap (λ (t : TaskLists). one_fewer (frame_of (standing past) k) (record t { due = frames_of (standing past) rest })) (parts past state s).tasks_is
     ∙ tasks_gone past s.lawful k rest is gone e) (transfers_command past s.lawful k rest is) (functions_command past s.lawful k rest is)
@@ -448,7 +402,7 @@ pub other_came : (past : Past) (state : SessionState) (k : ℕ) (rest : List ℕ
 other_came past state k rest s is e = by_case (is_in k past.removed) refl
   where
     by_case : (b : Bool) → is_in k past.removed ≡ b → IsOther (kind_of (frame_of past.came k))
-    by_case true gone = inl (ap opcode_of (eqb-true (opcode_number (frame_of past.came k).header) 0x01 (removed_command past s.lawful k gone)))
+    by_case true gone = inl (command_kind (frame_of past.came k) (removed_command past s.lawful k gone))
     by_case false stays = subst IsOther (ap kind_of (standing_kept past k (due_came past s.lawful k rest is) stays)) e
 
 pub stands_other : (past : Past) (state : SessionState) (k : ℕ) (rest : List ℕ) (headers : List (List ℕ)) → Stands past state → due past ≡ k ∷ rest
@@ -576,12 +530,6 @@ text_here past state k rest frame tasks told s is e some same hears_so =
     let no_function : is_function f ≡ false = text_no_function f e in
     (here, heard, rw (same, here, next) (stands_other past state k rest state.functions s is no_command (same_functions past state k s no_function)))
 
-pub ping_act : (k : ℕ) (past : Past) → kind_of (frame_of past.came k) ≡ opcodes.NopOut → Taken ≡ cond (ends past.params (frame_of past.came k)) Ended Taken
-ping_act k past is = ap (λ (b : Bool). cond b Ended Taken) (sym (ping_goes_on past.params (frame_of past.came k) is))
-
-pub other_act : (k : ℕ) (past : Past) → IsOther (kind_of (frame_of past.came k)) → Taken ≡ cond (ends past.params (frame_of past.came k)) Ended Taken
-other_act k past is = ap (λ (b : Bool). cond b Ended Taken) (sym (other_goes_on past.params (frame_of past.came k) is))
-
 pub logout_act : (k : ℕ) (past : Past) (frame : Frame) (params : Params) (act : Act) → frame ≡ frame_of past.came k → params ≡ past.params
     → kind_of (frame_of past.came k) ≡ opcodes.Logout
     → act ≡ cond (closes params frame) Ended Taken → act ≡ cond (ends past.params (frame_of past.came k)) Ended Taken
@@ -651,36 +599,15 @@ pub due_first : (past : Past) (state : SessionState) (frame : Frame) (others : L
     → (k : ℕ) × (rest : List ℕ) × (due past ≡ k ∷ rest) × (frame ≡ frame_of (standing past) k) × (others ≡ frames_of (standing past) rest)
 due_first past state frame others s e = some_names (standing past) (due past) frame others (sym (due_is past state s) ∙ e)
 
-pub idle_act : (past : Past) → due past ≡ [] → Idle ≡ act_by (due past) past
-idle_act past e = ap (λ (l : List ℕ). act_by l past) (sym e)
+pub none_acts : (luns : List ℕ) (past : Past) (state : SessionState) (waiting : Output) → due past ≡ []
+    → ActsFirst luns (due past) past Idle state state waiting waiting
+none_acts luns past state waiting e = subst (λ (l : List ℕ). ActsFirst luns l past Idle state state waiting waiting) (sym e) (refl, refl, refl)
 
-pub idle_stands : (luns : List ℕ) (past : Past) (state : SessionState) → due past ≡ [] → Stands past state → Stands (acted_by luns (due past) past) state
-idle_stands luns past state e s = subst (λ (l : List ℕ). Stands (acted_by luns l past) state) (sym e) s
-
-pub idle_out : (luns : List ℕ) (past : Past) (items : List ℕ) → due past ≡ [] → items ≡ items ++ flat_map spelling (answers_by luns (due past) past)
-idle_out luns past items e = none_spelled items (answers_by luns (due past) past) (ap (λ (l : List ℕ). answers_by luns l past) e)
-
-pub one_act : (past : Past) (k : ℕ) (rest : List ℕ) (act : Act) → due past ≡ k ∷ rest → act ≡ cond (ends past.params (frame_of past.came k)) Ended Taken
-    → act ≡ act_by (due past) past
-one_act past k rest act e is = is ∙ ap (λ (l : List ℕ). act_by l past) (sym e)
-
-pub one_stands : (luns : List ℕ) (past : Past) (k : ℕ) (rest : List ℕ) (state : SessionState) → due past ≡ k ∷ rest → Stands (acted luns k past) state
-    → Stands (acted_by luns (due past) past) state
-one_stands luns past k rest state e s = subst (λ (l : List ℕ). Stands (acted_by luns l past) state) (sym e) s
-
-pub one_out : (luns : List ℕ) (past : Past) (k : ℕ) (rest : List ℕ) (old new : List ℕ) → due past ≡ k ∷ rest
-    → new ≡ old ++ flat_map spelling (act_answers luns k past)
-    → new ≡ old ++ flat_map spelling (answers_by luns (due past) past)
-one_out luns past k rest old new e is = is ∙ ap (λ (l : List ℕ). old ++ flat_map spelling (answers_by luns l past)) (sym e)
+pub first_acts : (luns : List ℕ) (past : Past) (k : ℕ) (rest : List ℕ) (a : Act) (old new : SessionState) (before waiting : Output) → due past ≡ k ∷ rest
+    → ActsAs luns k past a new before waiting → ActsFirst luns (due past) past a old new before waiting
+first_acts luns past k rest a old new before waiting e acts = subst (λ (l : List ℕ). ActsFirst luns l past a old new before waiting) (sym e) acts
 
 -- ---- what it orders of its target
-
-pub idle_orders : (past : Past) (orders : List (List ℕ)) → due past ≡ [] → orders ≡ orders ++ orders_by (due past) past
-idle_orders past orders e = sym (append-nil orders) ∙ ap (λ (l : List ℕ). orders ++ orders_by l past) (sym e)
-
-pub one_ordered : (past : Past) (k : ℕ) (rest : List ℕ) (old new : List (List ℕ)) → due past ≡ k ∷ rest → new ≡ old ++ ordered k past
-    → new ≡ old ++ orders_by (due past) past
-one_ordered past k rest old new e is = is ∙ ap (λ (l : List ℕ). old ++ orders_by l past) (sym e)
 
 -- only a Task Management Function Request does
 pub none_ordered : (past : Past) (k : ℕ) (orders : List (List ℕ)) → is_function (frame_of past.came k) ≡ false → orders ≡ orders ++ ordered k past
@@ -689,9 +616,6 @@ none_ordered past k orders e = rw e (sym (append-nil orders))
 pub function_ordered : (past : Past) (k : ℕ) (header : List ℕ) (orders : List (List ℕ)) → is_function (frame_of past.came k) ≡ true
     → header ≡ (frame_of past.came k).header → orders ++ header ∷ [] ≡ orders ++ ordered k past
 function_ordered past k header orders e same = rw e (ap (λ (h : List ℕ). orders ++ h ∷ []) same)
-
-pub command_act : (k : ℕ) (past : Past) → is_command (frame_of past.came k) ≡ true → Taken ≡ cond (ends past.params (frame_of past.came k)) Ended Taken
-command_act k past e = ap (λ (b : Bool). cond b Ended Taken) (sym (command_goes_on past.params (frame_of past.came k) e))
 
 -- ---- the first of the queue is finished
 

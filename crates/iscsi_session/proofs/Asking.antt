@@ -1,29 +1,26 @@
 -- An R2T is sent, and a command of the queue is done where its data is whole.
-use Rattle.std.proofs.Common.{◌≡◌, ◌≢◌, ◌==◌, ℕ, ◌+◌, ◌%◌, ◌<◌, List, [], ◌∷◌, ◌++◌, length, map, set, Bool, true, false, Option, Some, None, refl, sym, ap, subst, ◌∙◌, arith, append-nil}
-use Rattle.std.specs.Prelude.{filter, fold, find, is_some, option_map, slice_get, slice_index_or}
+use Rattle.std.proofs.Common.{◌≡◌, ◌≢◌, ◌==◌, ℕ, ◌+◌, ◌%◌, ◌<◌, List, [], ◌∷◌, ◌++◌, length, map, set, true, false, Option, Some, None, refl, sym, ap, subst, ◌∙◌, arith, append-nil}
+use Rattle.std.specs.Prelude.{filter, fold, find, is_some, option_map, slice_get}
 use Rattle.std.proofs.lemmas.Bool.{eq-eqb, ne_eqb}
 use Rattle.std.proofs.lemmas.List.{length-append}
 use Rattle.std.proofs.lemmas.List.Elements.{All-push}
 use Rattle.iscsi_pdu.specs.DataOut.{no_transfer_tag}
-use Rattle.iscsi_pdu.specs.declared.r2t.R2t.{R2t}
 use Rattle.iscsi_pdu.specs.declared.stamp.Stamp.{Stamp}
 use Rattle.iscsi_transfer.specs.Task.{TaskState, remembered as task_of}
 use Rattle.iscsi_transfer.proofs.Standing.{remembered-asked}
 use Rattle.iscsi_session.specs.declared.transfers.Transfer.{Transfer}
 use Rattle.iscsi_session.specs.Drained.{Drained}
 use Rattle.iscsi_session.specs.Requests.{Past, SentR2t, frame_of, is_in, due, queue, unfinished, stamp, statuses, bearing, functions}
-use Rattle.iscsi_session.specs.Transfers.{outs_of, tags_of, last_tag, data_past, task_at, is_whole_of, ask_of, asking, next_transfer_tag, drains_of, r2t_for, r2t_answers, r2t_of, asked, asked_by, r2ts_by}
+use Rattle.iscsi_session.specs.Transfers.{outs_of, tags_of, last_tag, data_past, task_at, ask_of, asking, next_transfer_tag, drains_of, r2t_for, r2t_answers, r2t_of, asked, asked_by, r2ts_by}
 use Rattle.iscsi_session.specs.State.{SessionState, TransferList, AreDrained, drained_of, IsLawful, Stands, tasks_of, transfers_of, transfer_of, transfer_at, no_transfer, due_of, asking_place, r2t_at, asked_at, sent_to, functions_of, standing}
 use Rattle.iscsi_session.specs.Steps.{ready, ready_in}
 use Rattle.iscsi_order.specs.Stat.{stat_sn}
 use Rattle.iscsi_session.proofs.Left.{in_at, in_filter}
-use Rattle.iscsi_session.proofs.Places.{in_get, Located, located, index_map, set_map, first_passes, none_passes, one_more}
-use Rattle.iscsi_session.proofs.Unfinished.{drained_with, unfinished_came, unfinished_distinct}
-use Rattle.iscsi_session.proofs.Pending.{drains_all, drains_apart}
-use Rattle.iscsi_session.proofs.Drains.{same_drains}
+use Rattle.iscsi_session.proofs.Places.{in_get, Located, located, index_map, first_passes, none_passes, one_more}
+use Rattle.iscsi_session.proofs.Unfinished.{unfinished_came}
 use Rattle.iscsi_session.proofs.Exchanging.{exchange_asked}
 use Rattle.iscsi_session.proofs.Parts.{parts}
-use Rattle.iscsi_session.proofs.Feeding.{list_is}
+use Rattle.iscsi_session.proofs.Feeding.{list_is, list_changed, drains_kept}
 use Rattle.iscsi_session.proofs.Runs.{lawful_data, statuses_answering}
 
 -- ---- its tag is the last one
@@ -73,6 +70,12 @@ located_asking : (past : Past) → Located (λ transfer. is_some (due_of transfe
     (asking_place (map (transfer_of past) (unfinished past)))
 located_asking past = located (λ (transfer : Transfer). is_some (due_of transfer)) (transfer_of past) (unfinished past)
 
+asking_in : (past : Past) (state : SessionState) → Stands past state
+    → Located (λ transfer. is_some (due_of transfer)) (transfer_of past) (unfinished past) (asking_place state.transfers.list)
+asking_in past state s =
+    subst (λ (l : List Transfer). Located (λ transfer. is_some (due_of transfer)) (transfer_of past) (unfinished past) (asking_place l))
+    (sym (list_is past state s)) (located_asking past)
+
 pub asking_came : (past : Past) (k : ℕ) (rest : List ℕ) → asking past ≡ k ∷ rest → k < length past.came
 unfolding asking
 asking_came past k rest is = unfinished_came past k (in_filter k (λ a. is_some (ask_of past a)) (unfinished past)
@@ -92,18 +95,14 @@ asked_list : (past : Past) (k i : ℕ) → slice_get (unfinished past) i ≡ Som
     → set (map (transfer_of past) (unfinished past)) i (sent_to (next_transfer_tag past) (transfer_at (map (transfer_of past) (unfinished past)) i))
     ≡ map (transfer_of (asked k past)) (unfinished past)
 asked_list past k i at =
-    ap (λ (t : Transfer). set (map (transfer_of past) (unfinished past)) i (sent_to (next_transfer_tag past) t))
-    (index_map (transfer_of past) no_transfer (unfinished past) i k at)
-    ∙ ap (set (map (transfer_of past) (unfinished past)) i) (sym (asked_there past k))
-    ∙ set_map (transfer_of past) (transfer_of (asked k past)) (unfinished past) i k (unfinished_distinct past) at
+    list_changed past (asked k past) k i _ at
+    (ap (sent_to (next_transfer_tag past)) (index_map (transfer_of past) no_transfer (unfinished past) i k at) ∙ sym (asked_there past k))
     (λ j differ. asked_elsewhere past k j differ)
 
 asked_drains : (past : Past) (k i : ℕ) → AreDrained past → slice_get (unfinished past) i ≡ Some k
     → map (drained_of past) (drains_of past) ≡ map (drained_of (asked k past)) (drains_of (asked k past))
-asked_drains past k i drained at = same_drains (drained_of past) (drained_of (asked k past)) (drains_of past)
-    (drains_all (λ d. drained_of (asked k past) d ≡ drained_of past d) past (λ n none lt.
-    ap (drained_with (frame_of past.came (slice_index_or past.drains n none).function).header)
-    (asked_elsewhere past k _ (drains_apart past k drained (in_get (unfinished past) i k at) n none lt))))
+asked_drains past k i drained at =
+    drains_kept past (asked k past) k drained (in_get (unfinished past) i k at) refl (λ j differ. asked_elsewhere past k j differ)
 
 asked_transfers : (past : Past) (k i : ℕ) → AreDrained past → slice_get (unfinished past) i ≡ Some k → asked_at (transfers_of past) (Some i) ≡ transfers_of (asked k past)
 unfolding transfers_of
@@ -115,13 +114,9 @@ asked_transfers past k i drained at =
     ∙ ap (λ (l : List Transfer). record (transfers_of (asked k past)) { list = l; drains = (transfers_of past).drains }) list
     ∙ ap (λ (l : List Drained). record (transfers_of (asked k past)) { drains = l }) (asked_drains past k i drained at)
 
-none_bears_by : (r : Option R2t) → bearing (r2t_answers r) ≡ 0
-none_bears_by None = refl
-none_bears_by (Some r2t) = refl
-
 r2t_bears_none : (past : Past) (k : ℕ) → bearing (r2t_of past k) ≡ 0
 unfolding r2t_of
-r2t_bears_none past k = none_bears_by _
+r2t_bears_none past k = grind arith
 
 statuses_asked : (past : Past) (k : ℕ) → statuses (asked k past) ≡ statuses past
 statuses_asked past k =
@@ -168,8 +163,7 @@ pub stands_asked : (past : Past) (state : SessionState) → Stands past state
     → Stands (asked_by (asking past) past) (record state { transfers = asked_at state.transfers (asking_place state.transfers.list) })
 stands_asked past state s =
     stands_place past state (asking_place state.transfers.list) s
-    (subst (λ (l : List Transfer). Located (λ transfer. is_some (due_of transfer)) (transfer_of past) (unfinished past) (asking_place l))
-    (sym (list_is past state s)) (located_asking past))
+    (asking_in past state s)
 
 -- ---- what is sent
 
@@ -190,8 +184,7 @@ pub r2ts_are : (past : Past) (state : SessionState) (numbers : Stamp) → Stands
     → r2t_answers (r2t_at state.transfers numbers (asking_place state.transfers.list)) ≡ r2ts_by (asking past) past
 r2ts_are past state numbers s same =
     r2t_place past state numbers (asking_place state.transfers.list) s same
-    (subst (λ (l : List Transfer). Located (λ transfer. is_some (due_of transfer)) (transfer_of past) (unfinished past) (asking_place l))
-    (sym (list_is past state s)) (located_asking past))
+    (asking_in past state s)
 
 -- whether there is one
 there_by : (past : Past) (at : Option ℕ) → Located (λ transfer. is_some (due_of transfer)) (transfer_of past) (unfinished past) at
@@ -204,18 +197,13 @@ pub asking_there : (past : Past) (state : SessionState) → Stands past state
     × (is_some (asking_place state.transfers.list) ≡ false → asking past ≡ [])
 asking_there past state s =
     there_by past (asking_place state.transfers.list)
-    (subst (λ (l : List Transfer). Located (λ transfer. is_some (due_of transfer)) (transfer_of past) (unfinished past) (asking_place l))
-    (sym (list_is past state s)) (located_asking past))
+    (asking_in past state s)
 
 -- ---- a command that can be done is the first of the queue
 
-ready_by : (b : Bool) (past : Past) (k a : ℕ) (rest l : List ℕ) → is_whole_of past a ≡ b → ready_in past (a ∷ l) ≡ k ∷ rest → a ∷ l ≡ k ∷ rest
-ready_by true past k a rest l e is = let h = rw e at is in h
-ready_by false past k a rest l e is = absurd (let h : [] ≡ k ∷ rest = rw e at is in cc)
-
 ready_from : (past : Past) (k : ℕ) (rest l : List ℕ) → ready_in past l ≡ k ∷ rest → l ≡ k ∷ rest
 ready_from past k rest [] is = absurd cc
-ready_from past k rest (a ∷ l) is = ready_by (is_whole_of past a) past k a rest l refl is
+ready_from past k rest (a ∷ l) is = grind arith
 
 pub ready_queue : (past : Past) (k : ℕ) (rest : List ℕ) → ready past ≡ k ∷ rest → queue past ≡ k ∷ rest
 unfolding ready

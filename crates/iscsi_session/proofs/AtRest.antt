@@ -1,9 +1,9 @@
 -- Sessions between two frames: how many requests they hold, and what the calls on them add.
-use Rattle.std.proofs.Common.{◌≡◌, ℕ, zero, suc, ◌+◌, ◌-◌, ◌<◌, ◌≤◌, ◌==◌, ◌||◌, List, [], ◌∷◌, ◌++◌, length, get_or, Bool, true, false, not, Option, Some, None, Result, Ok, Err, refl, sym, ap, subst, ◌∙◌, arith, inl, inr}
+use Rattle.std.proofs.Common.{◌≡◌, ℕ, zero, suc, ◌+◌, ◌-◌, ◌<◌, ◌≤◌, ◌==◌, List, [], ◌∷◌, length, get_or, Bool, true, false, not, Option, Some, None, Result, Ok, Err, refl, sym, ap, subst, ◌∙◌, arith, inl, inr}
 use Rattle.std.specs.Prelude.{filter, flat_map, is_some, ◌⊎◌, IfOk, OnErr}
 use Rattle.std.specs.List.{range_with_len}
-use Rattle.std.proofs.lemmas.Bool.{eq-eqb, ne_eqb, cases_eq}
-use Rattle.std.proofs.lemmas.List.{length-append, length-map, nil_from_length}
+use Rattle.std.proofs.lemmas.Bool.{eq-eqb, ne_eqb, cases_eq, or_right}
+use Rattle.std.proofs.lemmas.List.{length-append, length-map}
 use Rattle.std.proofs.lemmas.List.Filters.{length-filter_both}
 use Rattle.iscsi_pdu.specs.Header.{header_length, is_immediate}
 use Rattle.iscsi_pdu.specs.Frames.{Frame}
@@ -17,21 +17,21 @@ use Rattle.scsi_unit.specs.Units.{numbers_of}
 use Rattle.iscsi_session.specs.Comings.{TargetUnits}
 use Rattle.iscsi_login.specs.Values.{AreInRange}
 use Rattle.iscsi_login.specs.declared.params.Params.{Params}
-use Rattle.iscsi_session.specs.Requests.{Past, begun, no_request, frame_of, frames_of, request_at, is_command, is_in, left, commands, others, numbers, numbered, held, due, queue, unfinished, pending as awaiting, functions, finished, removing, answering, stamp, counted, over, taken, place_of}
+use Rattle.iscsi_session.specs.Requests.{Past, begun, no_request, frame_of, request_at, is_command, is_in, left, commands, others, numbers, numbered, held, due, queue, unfinished, pending as awaiting, functions, finished, removing, answering, stamp, counted, over, taken, place_of}
 use Rattle.iscsi_session.specs.Functions.{FunctionReach, reached}
 use Rattle.iscsi_session.specs.Answers.{command_answers}
-use Rattle.iscsi_session.specs.State.{SessionState, AreDistinct, IsLawful, Stands, standing, remembered}
+use Rattle.iscsi_session.specs.State.{SessionState, AreDistinct, IsLawful, Stands, remembered}
 use Rattle.iscsi_session.specs.Steps.{Step, begun_work, answered_command, is_serving, served}
-use Rattle.iscsi_session.specs.Runs.{Output, Starts, is_failed, Runs, Stops}
+use Rattle.iscsi_session.specs.Runs.{Output, Starts, is_failed, Runs, Stops, AnswersAs}
 use Rattle.iscsi_session.specs.Weight.{pending, IsWithinLimits, IsAtRest, Eases, Loads}
-use Rattle.iscsi_session.proofs.Left.{filter_cong, in_at, in_left, in_left_back, distinct_filter, distinct_left, passes_in, below_of, in_filter, in_filter_back}
+use Rattle.iscsi_session.proofs.Answered.{none_due, queue_first}
+use Rattle.iscsi_session.proofs.Left.{filter_cong, in_at, in_left_back, distinct_filter, distinct_left, passes_in, below_of, in_filter, in_filter_back}
 use Rattle.iscsi_session.proofs.Unfinished.{unfinished_without, queue_unfinished}
-use Rattle.iscsi_session.proofs.Moved.{lawful_finished}
+use Rattle.iscsi_session.proofs.Moved.{lawful_finished, is_done}
 use Rattle.iscsi_session.proofs.Pending.{functions_without, command_not_pending}
 use Rattle.iscsi_order.proofs.Standing.{front_within}
-use Rattle.iscsi_session.proofs.Accepted.{begun_lawful, handed_is, counted_append}
+use Rattle.iscsi_session.proofs.Accepted.{begun_lawful, handed_is, counted_append, in_queue}
 use Rattle.iscsi_session.proofs.Over.{split, acted_counted}
-use Rattle.iscsi_session.proofs.Parts.{due_is, queue_is}
 use Rattle.iscsi_session.proofs.Runs.{lawful_answering}
 use Rattle.iscsi_session.proofs.Taken.{distinct_taken}
 use Rattle.iscsi_session.proofs.Left.{distinct_front}
@@ -46,11 +46,7 @@ use Rattle.iscsi_session.proofs.Adding.{served_adds}
 -- of numbers below a limit
 few_below : (p : ℕ → Bool) (limit a n : ℕ) → ((k : ℕ) → p k ≡ true → k < limit) → length (filter p (range_with_len a n)) ≤ limit - a
 few_below p limit a zero below = omega arith
-few_below p limit a (suc n) below = by_case (p a) refl (few_below p limit (a + 1) n below)
-  where
-    by_case : (b : Bool) → p a ≡ b → length (filter p (range_with_len (a + 1) n)) ≤ limit - (a + 1) → length (filter p (range_with_len a (suc n))) ≤ limit - a
-    by_case true e le = let lt = below a e in rw e (omega (arith, le, lt))
-    by_case false e le = rw e (omega (arith, le))
+few_below p limit a (suc n) below = grind (arith, few_below p limit (a + 1) n below)
 
 held_few : (past : Past) → IsLawful past → length (held past) ≤ (numbers past).finished + window - (numbers past).handed
 unfolding held
@@ -106,25 +102,14 @@ few_distinct (k ∷ some) all distinct within =
     let fewer = few_distinct some (left (k ∷ []) all) distinct.1 (λ j h. in_left_back j (k ∷ []) all (within j (behind j h)) (apart j h)) in
     omega (arith, fewer, one_out k all there)
   where
-    or_true : (b : Bool) → (b || true) ≡ true
-    or_true true = refl
-    or_true false = refl
-
     behind : (j : ℕ) → is_in j some ≡ true → is_in j (k ∷ some) ≡ true
-    behind j h = rw h (or_true (k == j))
+    behind j h = or_right (k == j) (is_in j some) h
 
     apart : (j : ℕ) → is_in j some ≡ true → is_in j (k ∷ []) ≡ false
-    apart j h = elim (cases_eq k j) [
-      | inl same ↦ absurd (let no = ap (λ (n : ℕ). is_in n some) same ∙ h in let yes = distinct.0 in cc)
-      | inr differs ↦ rw (ne_eqb k j differs) refl
-    ]
+    apart j h = grind arith
 
 queue_came : (past : Past) → IsLawful past → (k : ℕ) → is_in k (queue past) ≡ true → k < length past.came
-unfolding queue
-queue_came past lawful k e =
-    below_of (length past.came) k past.acted lawful.below
-    (in_filter k (λ a. is_command (frame_of past.came a)) past.acted
-    (in_left k past.finished (commands past.came past.acted) (in_left k past.removed (left past.finished (commands past.came past.acted)) e)))
+queue_came past lawful k e = below_of (length past.came) k past.acted lawful.below (in_queue past lawful k e)
 
 queue_distinct : (past : Past) → IsLawful past → AreDistinct (queue past)
 unfolding queue
@@ -151,8 +136,7 @@ queue_length past lawful =
     omega (arith, both, ap (λ (l : List ℕ). length l) same)
   where
     flipped : (a b : Bool) → a ≡ not b → not a ≡ b
-    flipped a true e = rw e refl
-    flipped a false e = rw e refl
+    flipped a b e = grind arith
 
 pub rest_few : (past : Past) → IsWithinLimits past → due past ≡ [] → pending_in past ≤ 40
 rest_few past w idle =
@@ -189,32 +173,16 @@ begun_rests params = record {
   remembered = refl;
 }
 
--- nothing is due where the state says so
-idle_of : (past : Past) (state : SessionState) → Stands past state → state.tasks.due ≡ [] → due past ≡ []
-idle_of past state s none =
-    nil_from_length (due past) (omega (
-      arith,
-      length-map (due past) (frame_of (standing past)),
-      ap (λ (l : List Frame). length l) (sym (due_is past state s) ∙ none),
-    ))
-
 -- ---- a command is done
 
 same_due : (past : Past) (k : ℕ) (more : List Answer) → due (answering more (finished k past)) ≡ due past
 unfolding due
 same_due past k more = refl
 
-queue_command : (past : Past) (k : ℕ) → is_in k (queue past) ≡ true → is_command (frame_of past.came k) ≡ true
-unfolding queue
-queue_command past k e =
-    passes_in k (λ a. is_command (frame_of past.came a)) past.acted
-    (in_left k past.finished (commands past.came past.acted) (in_left k past.removed (left past.finished (commands past.came past.acted)) e))
-
 finished_immediate : (past : Past) (k : ℕ) (others : List ℕ) → queue past ≡ k ∷ others → IsLawful past → immediate_of (finished k past) ≤ immediate_of past
 finished_immediate past k others is lawful =
-    let there : is_in k (queue past) ≡ true = ap (λ (l : List ℕ). is_in k l) is ∙ in_at (k ∷ others) 0 0 (omega arith) in
     immediate_less past (finished k past) (k ∷ []) refl (unfinished_without past k)
-    (functions_without past k (command_not_pending past k lawful.drained (queue_command past k there)))
+    (functions_without past k (command_not_pending past k lawful.drained (is_done past lawful k others is)))
 
 done_within : (past : Past) (k : ℕ) (others : List ℕ) (done : Outcome) → queue past ≡ k ∷ others → IsWithinLimits past
     → IsWithinLimits (answered_command done k past)
@@ -227,27 +195,18 @@ done_within past k others done is w =
       few = omega (arith, few, immediate_answering more (finished k past), finished_immediate past k others is w.lawful);
     }
 
-first_of : (past : Past) (state : SessionState) (frame : Frame) (rest : List Frame) → Stands past state → state.tasks.queue ≡ frame ∷ rest
-    → (k : ℕ) × (others : List ℕ) × (queue past ≡ k ∷ others)
-first_of past state frame rest s is = by_line (queue past) refl
-  where
-    by_line : (l : List ℕ) → queue past ≡ l → (k : ℕ) × (others : List ℕ) × (queue past ≡ k ∷ others)
-    by_line [] e = absurd (omega (arith, ap (λ (l : List Frame). length l) (sym is ∙ queue_is past state s ∙ ap (frames_of past.came) e)))
-    by_line (k ∷ others) e = (k, others, e)
-
 pub done_eases : (old new : SessionState) (frame : Frame) (rest : List Frame) (done : Outcome) (before waiting : List ℕ) → old.tasks.queue ≡ frame ∷ rest
     → AreInRange old.params.values → length done.given ≤ most_given
-    → ((past : Past) (k : ℕ) (others : List ℕ) → Stands past old → queue past ≡ k ∷ others → Stands (answered_command done k past) new)
-    → ((past : Past) (k : ℕ) (others : List ℕ) → Stands past old → queue past ≡ k ∷ others
-    → waiting ≡ before ++ flat_map spelling (command_answers (stamp (finished k past)) past.params.values (frame_of past.came k) done))
+    → ((past : Past) (k : ℕ) (others : List ℕ) → Stands past old → queue past ≡ k ∷ others → AnswersAs done k past new before waiting)
     → IsAtRest old → Eases old new before waiting
-done_eases old new frame rest done before waiting is range given stands out r =
+done_eases old new frame rest done before waiting is range given answers r =
     let past = r.past in
     let s : Stands past old = record { lawful = r.within.lawful; remembered = r.remembered } in
-    let found = first_of past old frame rest s is in
+    let found = queue_first past old frame rest s is in
     let k = found.0 in
     let more = command_answers (stamp (finished k past)) past.params.values (frame_of past.came k) done in
-    let after = stands past k found.1 s found.2 in
+    let all = answers past k found.1 s found.2 in
+    let after = all.stands in
     let in_range : AreInRange past.params.values = subst (λ (x : SessionState). AreInRange x.params.values) r.remembered range in
     record {
       rests = record {
@@ -258,7 +217,7 @@ done_eases old new frame rest done before waiting is range given stands out r =
       };
       lighter = omega (
         arith,
-        ap (λ (l : List ℕ). length l) (out past k found.1 s found.2),
+        ap (λ (l : List ℕ). length l) all.out,
         length-append before (flat_map spelling more),
         command_long (stamp (finished k past)) past.params.values (frame_of past.came k) done in_range given,
         rest_pending past old r.remembered,
@@ -329,7 +288,7 @@ run_loads frame failed goes_on old new before waiting units runs whole idle r =
       rests = λ on. record {
         past = after;
         within = adds.within;
-        idle = idle_of after new (record { lawful = leaves.lawful; remembered = leaves.remembered }) (idle on);
+        idle = none_due after new (record { lawful = leaves.lawful; remembered = leaves.remembered }) (idle on);
         remembered = leaves.remembered;
       };
       heavier = omega (

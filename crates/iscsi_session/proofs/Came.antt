@@ -1,7 +1,6 @@
 -- How commands came out, one after the other.
-use Rattle.std.proofs.Common.{◌≡◌, ℕ, suc, ◌+◌, List, [], ◌∷◌, ◌++◌, length, true, false, Option, Some, None, refl, sym, ap, ◌∙◌, subst, arith}
+use Rattle.std.proofs.Common.{◌≡◌, ℕ, suc, ◌+◌, List, [], ◌∷◌, ◌++◌, length, true, false, Option, Some, refl, sym, ap, ◌∙◌, subst, arith}
 use Rattle.std.specs.Prelude.{drop}
-use Rattle.std.proofs.lemmas.Bool.{eq-eqb}
 use Rattle.std.proofs.lemmas.List.{drop-drop, length-append}
 use Rattle.scsi_unit.specs.CameOut.{CameOut, AsDefined}
 use Rattle.scsi_unit.specs.Units.{UnitStates, AreSound}
@@ -31,8 +30,7 @@ plain_ahead [] is = tt
 plain_ahead (coming ∷ more) is = (sym is.0, plain_ahead more is.1)
 
 for_self : (target : Option ℕ) → is_for target target ≡ true
-for_self (Some target) = eq-eqb target target refl
-for_self None = refl
+for_self target = grind arith
 
 -- they come out as is said of them
 pub ahead_self : (came : List Coming) → AreAhead came came

@@ -1,5 +1,5 @@
 -- The function whose data has come: which it is, and what the session remembers behind its answer.
-use Rattle.std.proofs.Common.{◌≡◌, ℕ, ◌-◌, List, [], ◌∷◌, map, true, false, not, cond, Option, Some, None, refl, sym, ap, subst, ◌∙◌}
+use Rattle.std.proofs.Common.{◌≡◌, ℕ, ◌-◌, List, [], ◌∷◌, map, true, false, not, cond, Option, Some, None, refl, sym, ap, subst, ◌∙◌, arith}
 use Rattle.std.specs.Prelude.{filter, find, is_some}
 use Rattle.iscsi_pdu.specs.Header.{is_immediate, initiator_task_tag}
 use Rattle.iscsi_session.specs.Drained.{Drained}
@@ -107,8 +107,7 @@ pub telling_none : (past : Past) (state : SessionState) → Stands past state
 telling_none past state s is = (telling_there past state s).1 (none_by (telling_place state.transfers.drains) is)
   where
     none_by : (at : Option ℕ) → None ≡ function_at state.transfers.drains at → is_some at ≡ false
-    none_by None e = refl
-    none_by (Some i) e = absurd cc
+    none_by at e = grind arith
 
 -- ---- what it is answered
 

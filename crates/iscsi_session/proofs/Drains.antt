@@ -1,5 +1,5 @@
 -- Data that functions wait for: where that of the command with a tag stands, and what is changed there.
-use Rattle.std.proofs.Common.{◌≡◌, ◌≢◌, ℕ, zero, suc, List, [], ◌∷◌, map, set, Bool, true, false, cond, ◌&&◌, ◌==◌, Option, Some, None, inl, inr, refl, sym, ap, subst, ◌∙◌}
+use Rattle.std.proofs.Common.{◌≡◌, ◌≢◌, ℕ, zero, suc, List, [], ◌∷◌, map, set, Bool, true, false, cond, ◌&&◌, ◌==◌, Option, Some, None, inl, inr, refl, sym, ap, subst, ◌∙◌, arith}
 use Rattle.std.specs.Prelude.{All, position, find, filter, option_map, slice_get, slice_index_or}
 use Rattle.std.proofs.lemmas.Bool.{cases_eq, eq-eqb, ne_eqb}
 use Rattle.std.proofs.lemmas.List.Elements.{All-head, All-tail}
@@ -18,9 +18,7 @@ LocatedAmong a q drains (Some i) = (d : Drain) × (find q (filter a (commands_in
 
 passed_over : (x y : Bool) (a q : ℕ → Bool) (c : ℕ) (names : List ℕ) → (x && y) ≡ false → a c ≡ x → q c ≡ y
     → find q (filter a (c ∷ names)) ≡ find q (filter a names)
-passed_over true true a q c names none p q_is = absurd cc
-passed_over true false a q c names none p q_is = rw (p, q_is) refl
-passed_over false y a q c names none p q_is = rw p refl
+passed_over x y a q c names none p q_is = grind arith
 
 later : (a q : ℕ → Bool) (d : Drain) (drains : List Drain) (at : Option ℕ) → (a d.command && q d.command) ≡ false → LocatedAmong a q drains at
     → LocatedAmong a q (d ∷ drains) (option_map suc at)
@@ -28,9 +26,7 @@ later a q d drains None e found = passed_over _ _ a q d.command (commands_in dra
 later a q d drains (Some i) e found = (found.0, passed_over _ _ a q d.command (commands_in drains) e refl refl ∙ found.1, found.2)
 
 here : (x y : Bool) (a q : ℕ → Bool) (c : ℕ) (names : List ℕ) → (x && y) ≡ true → a c ≡ x → q c ≡ y → find q (filter a (c ∷ names)) ≡ Some c
-here true true a q c names both p q_is = rw (p, q_is) refl
-here true false a q c names both p q_is = absurd cc
-here false y a q c names both p q_is = absurd cc
+here x y a q c names both p q_is = grind arith
 
 either : (b : Bool) (a q : ℕ → Bool) (d : Drain) (drains : List Drain) (at : Option ℕ) → (a d.command && q d.command) ≡ b → LocatedAmong a q drains at
     → LocatedAmong a q (d ∷ drains) (cond b (Some 0) (option_map suc at))

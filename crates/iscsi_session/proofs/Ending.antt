@@ -1,8 +1,8 @@
 -- A Task Management Function Request acts: what it removes and plugs, in the code and in the past.
-use Rattle.std.proofs.Common.{◌≡◌, ℕ, zero, suc, ◌+◌, ◌-◌, ◌<◌, ◌≤◌, List, [], ◌∷◌, ◌++◌, length, get_or, map, ltb, eqb, Bool, true, false, not, cond, ◌&&◌, ◌||◌, ◌==◌, Option, None, refl, sym, ap, subst, ◌∙◌, arith, append-nil, inl, inr}
-use Rattle.std.specs.Prelude.{filter, is_some}
+use Rattle.std.proofs.Common.{◌≡◌, ℕ, zero, suc, ◌+◌, ◌-◌, ◌<◌, ◌≤◌, List, [], ◌∷◌, ◌++◌, length, get_or, map, ltb, eqb, Bool, true, false, not, cond, ◌&&◌, ◌==◌, Option, None, refl, sym, ap, subst, ◌∙◌, arith, append-nil, inl, inr}
+use Rattle.std.specs.Prelude.{filter, is_some, if◌then◌else◌}
 use Rattle.std.specs.List.{list_any, range_with_len}
-use Rattle.std.proofs.lemmas.Bool.{eqb-true, ne_eqb, ltb-true, lt-ltb, false_from_ne_true}
+use Rattle.std.proofs.lemmas.Bool.{eqb-true, false_from_ne_true}
 use Rattle.std.proofs.lemmas.Bool.Decides.{leb_tells}
 use Rattle.std.proofs.lemmas.List.{nil_from_length, length-map}
 use Rattle.std.proofs.lemmas.List.FromFn.{get_or-map-range_with_len, length-range_with_len}
@@ -10,18 +10,18 @@ use Rattle.iscsi_pdu.specs.Header.{is_immediate, opcode_number}
 use Rattle.iscsi_pdu.specs.TaskManagement.{task_function, function_code, ref_cmd_sn}
 use Rattle.iscsi_pdu.specs.declared.task_management.TaskFunction.{TaskFunction}
 use Rattle.iscsi_pdu.specs.declared.task_management.TaskFunction.TheVariants as functions
-use Rattle.iscsi_pdu.specs.declared.task_management_response.TaskResult.TheVariants as results
 use Rattle.iscsi_pdu.specs.Frames.{Frame}
 use Rattle.iscsi_order.specs.Window as order
 use Rattle.iscsi_order.specs.Window.{window, taken as taken_numbers}
 use Rattle.iscsi_order.specs.Serial.{distance}
+use Rattle.iscsi_session.specs.declared.aborted.Aborted.{Aborted}
+use Rattle.iscsi_session.specs.declared.aborted.Aborted.TheVariants.{Live, Missing, Plugged, Nothing}
 use Rattle.iscsi_session.specs.Requests.{Request, Past, Drain, draining, request_at, frame_of, is_in, is_command, is_function, numbered, place_of, unfinished, finished, moved, removing, numbers}
 use Rattle.iscsi_session.specs.declared.transfers.Transfer.{Transfer}
-use Rattle.iscsi_session.specs.Functions.{FunctionReach, waits, awaited, reaches, reached, plug, is_plug, plugged, is_plugged, refers_back, aborts_unseen, plugs, plugs_by, abort_result}
+use Rattle.iscsi_session.specs.Functions.{FunctionReach, waits, awaited, reaches, reached, plug, is_plug, plugged, is_plugged, refers_back, abort_finds, is_missing, plugs, plugs_by}
 use Rattle.iscsi_session.specs.Transfers.{is_asked_of}
 use Rattle.iscsi_session.specs.Acts.{reach_of, ended, behind}
 use Rattle.iscsi_session.specs.State.{SessionState, TaskLists, IsLawful, Stands, void, voided, standing, frame_numbered, tasks_of, transfer_of, is_vacant, one_fewer, without, transfers_without, reaches_some, holding, takes_all, held_numbered, is_some_plug}
-use Rattle.iscsi_session.proofs.Left.{and_true_both}
 use Rattle.iscsi_session.proofs.Kept.{function_no_command}
 use Rattle.iscsi_session.proofs.Unfinished.{unfinished_other}
 use Rattle.iscsi_session.proofs.Standing.{standing_at, standing_kept, numbered_standing, place_standing, length_standing}
@@ -72,20 +72,28 @@ ended_now luns past k f none =
 pub awaited_some : (past : Past) (reach : FunctionReach) (first : ℕ) (others : List ℕ) → awaited past reach ≡ first ∷ others
     → awaited past reach ≡ filter (is_asked_of past) (reached reach past)
 unfolding awaited
-awaited_some past reach first others e = by_case (waits reach) refl
-  where
-    by_case : (b : Bool) → waits reach ≡ b → awaited past reach ≡ filter (is_asked_of past) (reached reach past)
-    by_case true is = rw is refl
-    by_case false is = absurd (let none : [] ≡ first ∷ others = rw is at e in cc)
+awaited_some past reach first others e = grind arith
 
 -- ---- what it plugs
 
+-- what an ABORT TASK finds, by the tests
+abbrev pub found_by : Bool → Bool → Bool → Bool → Aborted
+found_by live back new plugged_it = if live then Live else if not back then Nothing else if new then Missing else if plugged_it then Plugged else Nothing
+
 plugs_parts : (o : TaskFunction) (past : Past) (reach : FunctionReach) → plugs_by o past reach ≡ true
     → (reached reach past ≡ []) × (order.is_new (numbers past) (ref_cmd_sn reach.function) ≡ true)
-plugs_parts functions.AbortTask past reach e =
-    let first = and_true_both _ _ e in
-    let second = and_true_both _ _ first.0 in
-    (nil_from_length (reached reach past) (eqb-true (length (reached reach past)) 0 second.0), first.1)
+plugs_parts functions.AbortTask past reach e = by_tests (length (reached reach past) == 0) _ _ refl refl e
+  where
+    by_tests : (none back new : Bool) → (length (reached reach past) == 0) ≡ none → order.is_new (numbers past) (ref_cmd_sn reach.function) ≡ new
+        → is_missing (found_by (not none) back new (is_plugged past (ref_cmd_sn reach.function))) ≡ true
+        → (reached reach past ≡ []) × (order.is_new (numbers past) (ref_cmd_sn reach.function) ≡ true)
+    by_tests true true true h is e = (nil_from_length (reached reach past) (eqb-true (length (reached reach past)) 0 h), is)
+    by_tests true true false h is e = absurd (unplugged (is_plugged past (ref_cmd_sn reach.function)) e)
+      where
+        unplugged : (b : Bool) → is_missing (found_by false true false b) ≡ true → ⊥
+        unplugged b e = grind arith
+    by_tests true false new h is e = absurd cc
+    by_tests false back new h is e = absurd cc
 plugs_parts functions.AbortTaskSet past reach e = absurd cc
 plugs_parts functions.ClearAca past reach e = absurd cc
 plugs_parts functions.ClearTaskSet past reach e = absurd cc
@@ -120,8 +128,7 @@ awaited_no_plug past reach first others e = false_from_ne_true (plugs past reach
 -- ---- a number that was plugged
 
 no_plug_void : (b : Bool) → is_plug (void b) ≡ false
-no_plug_void true = refl
-no_plug_void false = refl
+no_plug_void b = grind arith
 
 no_plug_command : (frame : Frame) → is_command frame ≡ true → is_plug frame ≡ false
 no_plug_command frame e =
@@ -188,12 +195,7 @@ plugged_is past state n s = ap (λ (t : TaskLists). is_some_plug (held_numbered 
 
 pub any_counts : (p : Transfer → Bool) (f : ℕ → Transfer) (l : List ℕ) → list_any p (map f l) ≡ not (length (filter (λ k. p (f k)) l) == 0)
 any_counts p f [] = refl
-any_counts p f (k ∷ l) = by_case (p (f k)) refl (any_counts p f l)
-  where
-    by_case : (b : Bool) → p (f k) ≡ b → list_any p (map f l) ≡ not (length (filter (λ k. p (f k)) l) == 0)
-        → list_any p (map f (k ∷ l)) ≡ not (length (filter (λ k. p (f k)) (k ∷ l)) == 0)
-    by_case true e rest = rw e (sym (ap not (ne_eqb (suc (length (filter (λ x. p (f x)) l))) 0 (λ h. absurd (omega (arith, h))))))
-    by_case false e rest = rw e rest
+any_counts p f (k ∷ l) = grind (arith, any_counts p f l)
 
 pub some_reached : (past : Past) (state : SessionState) (reach : FunctionReach) → Stands past state
     → reaches_some reach state.transfers.list ≡ not (length (reached reach past) == 0)
@@ -201,58 +203,16 @@ unfolding reached
 some_reached past state reach s =
     ap (reaches_some reach) (list_is past state s) ∙ any_counts (λ transfer. reaches reach transfer.header) (transfer_of past) (unfinished past)
 
--- ---- what an ABORT TASK comes to
+-- ---- what an ABORT TASK finds
 
-abort_complete : (past : Past) (reach : FunctionReach) → not (length (reached reach past) == 0) ≡ true → results.Complete ≡ abort_result past reach
-abort_complete past reach e = rw e refl
-
-abort_ahead : (past : Past) (reach : FunctionReach) → not (length (reached reach past) == 0) ≡ false → refers_back reach.function ≡ false
-    → results.NoTask ≡ abort_result past reach
-abort_ahead past reach e f = rw (e, f) refl
-
-abort_back : (a b : Bool) (past : Past) (reach : FunctionReach) → not (length (reached reach past) == 0) ≡ false → refers_back reach.function ≡ true
-    → order.is_new (numbers past) (ref_cmd_sn reach.function) ≡ a → is_plugged past (ref_cmd_sn reach.function) ≡ b
-    → cond (a || b) results.Complete results.NoTask ≡ abort_result past reach
-abort_back a b past reach e f g h = rw (e, f, g, h) refl
-
-pub aborts_reached : (past : Past) (state : SessionState) (reach : FunctionReach) (r : Bool) → Stands past state
-    → r ≡ reaches_some reach state.transfers.list → r ≡ true → results.Complete ≡ abort_result past reach
-aborts_reached past state reach r s is e = abort_complete past reach (sym (some_reached past state reach s) ∙ sym is ∙ e)
-
-pub aborts_ahead : (past : Past) (state : SessionState) (reach : FunctionReach) (r b : Bool) → Stands past state
-    → r ≡ reaches_some reach state.transfers.list → r ≡ false → b ≡ refers_back reach.function → b ≡ false → results.NoTask ≡ abort_result past reach
-aborts_ahead past state reach r b s is e back f =
-    abort_ahead past reach (sym (some_reached past state reach s) ∙ sym is ∙ e) (sym back ∙ f)
-
-pub aborts_back : (past : Past) (state : SessionState) (reach : FunctionReach) (r b new plugs_it : Bool) → Stands past state
-    → r ≡ reaches_some reach state.transfers.list → r ≡ false → b ≡ refers_back reach.function → b ≡ true
-    → new ≡ order.is_new (numbers past) (ref_cmd_sn reach.function) → plugs_it ≡ is_some_plug (held_numbered state.tasks (ref_cmd_sn reach.function))
-    → cond (new || plugs_it) results.Complete results.NoTask ≡ abort_result past reach
-aborts_back past state reach r b new plugs_it s is e back f is_new is_plug =
-    abort_back new plugs_it past reach (sym (some_reached past state reach s) ∙ sym is ∙ e) (sym back ∙ f) (sym is_new)
-    (sym (plugged_is past state (ref_cmd_sn reach.function) s) ∙ sym is_plug)
-
--- and whether it plugs a number
-unseen_by : (r b new : Bool) (past : Past) (reach : FunctionReach) → not (length (reached reach past) == 0) ≡ r → refers_back reach.function ≡ b
-    → order.is_new (numbers past) (ref_cmd_sn reach.function) ≡ new → (not r && b && new) ≡ aborts_unseen past reach
-unseen_by r b new past reach e f g = by_case (length (reached reach past) == 0) refl
-  where
-    by_case : (c : Bool) → (length (reached reach past) == 0) ≡ c → (not r && b && new) ≡ aborts_unseen past reach
-    by_case true h = let no : r ≡ false = sym e ∙ ap not h in rw (no, h, f, g) refl
-    by_case false h = let yes : r ≡ true = sym e ∙ ap not h in rw (yes, h) refl
-
-pub unseen_is : (past : Past) (state : SessionState) (reach : FunctionReach) (r b new : Bool) → Stands past state
-    → r ≡ reaches_some reach state.transfers.list → b ≡ refers_back reach.function → new ≡ order.is_new (numbers past) (ref_cmd_sn reach.function)
-    → (not r && b && new) ≡ aborts_unseen past reach
-unseen_is past state reach r b new s is back is_new =
-    unseen_by r b new past reach (sym (some_reached past state reach s) ∙ sym is) (sym back) (sym is_new)
+pub finds_is : {past : Past} {state : SessionState} (reach : FunctionReach) (live back new plugged_it : Bool) → Stands past state
+    → live ≡ reaches_some reach state.transfers.list → back ≡ refers_back reach.function → new ≡ order.is_new (numbers past) (ref_cmd_sn reach.function)
+    → plugged_it ≡ is_some_plug (held_numbered state.tasks (ref_cmd_sn reach.function)) → found_by live back new plugged_it ≡ abort_finds past reach
+finds_is {past} {state} reach live back new plugged_it s e f g h =
+    rw (e ∙ some_reached past state reach s, f, g, h ∙ plugged_is past state (ref_cmd_sn reach.function) s) refl
 
 vacant_by : (d u : ℕ) (o : Bool) (b : Bool) → (ltb d (window - u) && o) ≡ true → (ltb d (window - cond b u (u - 1)) && o) ≡ true
-vacant_by d u o true e = e
-vacant_by d u o false e =
-    let both = and_true_both (ltb d (window - u)) o e in
-    let less = ltb-true d (window - u) both.0 in
-    rw (lt-ltb d (window - (u - 1)) (omega arith)) both.1
+vacant_by d u o b e = grind arith
 
 -- a number that is vacant still is, where a request is finished
 pub vacant_still : (frame : Frame) (others : List Frame) (tasks : TaskLists) (n : ℕ) → is_vacant tasks n ≡ true
@@ -262,11 +222,7 @@ vacant_still frame others tasks n e =
     ∙ vacant_by (distance tasks.next n) tasks.unfinished (not (is_some (get_or tasks.held (distance tasks.next n) None))) (is_immediate frame.header) e
 
 pub behind_plain : (luns : List ℕ) (past after : Past) (k : ℕ) → plugs past (reach_of luns k past) ≡ false → behind luns k past after ≡ after
-behind_plain luns past after k e = by_case (is_function (frame_of past.came k)) refl
-  where
-    by_case : (b : Bool) → is_function (frame_of past.came k) ≡ b → behind luns k past after ≡ after
-    by_case true f = rw (f, e) refl
-    by_case false f = rw f refl
+behind_plain luns past after k e = grind arith
 
 behind_plugs : (luns : List ℕ) (past after : Past) (k : ℕ) → is_function (frame_of past.came k) ≡ true → plugs past (reach_of luns k past) ≡ true
     → behind luns k past after ≡ plugged (ref_cmd_sn (frame_of past.came k).header) after

@@ -1,5 +1,5 @@
 -- The exchange of texts, as requests come and act.
-use Rattle.std.proofs.Common.{◌≡◌, ◌≢◌, ℕ, List, [], ◌∷◌, ◌++◌, true, false, Option, Some, None, refl, sym, ap, ◌∙◌}
+use Rattle.std.proofs.Common.{◌≡◌, ◌≢◌, ℕ, List, [], ◌∷◌, ◌++◌, true, false, Option, refl, sym, ap, ◌∙◌, arith}
 use Rattle.std.specs.List.{fold}
 use Rattle.std.proofs.lemmas.Bool.{eqb-true, false_from_ne_true}
 use Rattle.std.proofs.lemmas.List.{map-append}
@@ -34,8 +34,7 @@ exchange_finished k past = refl
 
 pub exchange_fed : (c : Option ℕ) (frame : Frame) (past : Past) → exchange_of (fed c frame past) ≡ exchange_of past
 unfolding exchange_of
-exchange_fed None frame past = refl
-exchange_fed (Some k) frame past = refl
+exchange_fed c frame past = grind arith
 
 pub exchange_asked : (k : ℕ) (past : Past) → exchange_of (asked k past) ≡ exchange_of past
 unfolding exchange_of

@@ -1,7 +1,7 @@
 -- The data of the commands: where each stands, what a Data-Out and an R2T make of it.
-use Rattle.std.proofs.Common.{◌≡◌, ◌≢◌, ◌==◌, ◌+◌, ◌||◌, ℕ, ◌<◌, List, [], ◌∷◌, ◌++◌, length, map, set, ltb, Bool, ◌&&◌, true, false, not, Option, Some, None, eqb, refl, sym, ap, ◌∙◌, arith, append-nil}
+use Rattle.std.proofs.Common.{◌≡◌, ◌≢◌, ◌==◌, ◌+◌, ◌||◌, ℕ, ◌<◌, List, [], ◌∷◌, ◌++◌, length, map, set, ltb, Bool, ◌&&◌, true, false, not, Option, Some, None, refl, sym, ap, ◌∙◌, arith, append-nil, slice_index_or}
 use Rattle.std.specs.Prelude.{All, filter, find, is_some, slice_get, if◌then◌else◌}
-use Rattle.std.proofs.lemmas.Bool.{eq-eqb, ne_eqb, false_from_ne_true}
+use Rattle.std.proofs.lemmas.Bool.{eq-eqb, ne_eqb, false_from_ne_true, or_parts}
 use Rattle.std.proofs.lemmas.List.Elements.{All-push, All-nil, All-cons, All-head, All-tail}
 use Rattle.iscsi_pdu.specs.Header.{is_immediate, initiator_task_tag}
 use Rattle.iscsi_pdu.specs.Frames.{Frame}
@@ -14,7 +14,7 @@ use Rattle.iscsi_session.specs.declared.transfers.Transfer.{Transfer}
 use Rattle.iscsi_session.specs.Drained.{Drained}
 use Rattle.iscsi_session.specs.declared.verdict.Verdict.TheVariants.{Violating, Feeding}
 use Rattle.iscsi_session.specs.Functions.{function_with, immediate_in}
-use Rattle.iscsi_session.specs.Requests.{Past, Drain, DataOut, is_command, is_function, functions, frame_of, is_in, due, queue, unfinished, finished}
+use Rattle.iscsi_session.specs.Requests.{Request, Past, Drain, DataOut, is_command, is_function, functions, frame_of, is_in, due, queue, unfinished, finished}
 use Rattle.iscsi_session.specs.Judging.{is_live, is_full, data_verdict}
 use Rattle.iscsi_session.specs.Transfers.{tag_of, command_with, command_among, drains_of, drained, is_asked_of, outs_of, tags_of, last_tag, data_past, task_at, payload_of, is_whole_of, fed}
 use Rattle.iscsi_session.specs.Draining.{is_draining, drain_with, drain_for, no_drained, judged_drain, fed_drain, judged_in, fed_in, is_live_in}
@@ -54,8 +54,7 @@ drains_are past state s = ap (λ (t : TransferList). t.drains) (parts past state
 
 some_among : (a q : ℕ → Bool) (drains : List Drain) (at : Option ℕ) → LocatedAmong a q drains at
     → is_some at ≡ is_some (find q (filter a (map (λ d. d.command) drains)))
-some_among a q drains None found = ap is_some (sym found)
-some_among a q drains (Some i) found = ap is_some (sym found.1)
+some_among a q drains at found = grind arith
 
 drained_live : (past : Past) (state : SessionState) (tag : ℕ) → Stands past state
     → is_some (drain_with tag state.transfers.drains) ≡ is_some (command_among past tag (drained past))
@@ -71,8 +70,7 @@ unfinished_live past state tag s =
     ∙ found_or_not (bears tag) (transfer_of past) (unfinished past) _ (located_with past tag)
 
 either_some : (a b : Option ℕ) → (is_some a || is_some b) ≡ is_some (if is_some a then a else b)
-either_some None b = refl
-either_some (Some k) b = refl
+either_some a b = grind arith
 
 commands_live : (past : Past) (state : SessionState) (tag : ℕ) → Stands past state → is_live_in tag state.transfers ≡ is_some (command_with past tag)
 commands_live past state tag s =
@@ -118,20 +116,10 @@ full_is past state s =
     rw (a, b) refl
 
 pub none_by : {A : Type 0} (at : Option A) → is_some at ≡ false → at ≡ None
-none_by None e = refl
-none_by (Some k) e = absurd cc
-
-pub or_front : (a b : Bool) → (a || b) ≡ false → a ≡ false
-or_front true b e = absurd cc
-or_front false b e = refl
-
-pub or_behind : (a b : Bool) → (a || b) ≡ false → b ≡ false
-or_behind true b e = absurd cc
-or_behind false b e = e
+none_by at e = grind arith
 
 first_none : (a b : Option ℕ) → is_some (if is_some a then a else b) ≡ false → a ≡ None
-first_none None b e = refl
-first_none (Some k) b e = absurd cc
+first_none a b e = grind arith
 
 pub free_by_past : (past : Past) (frame : Frame) → ((is_command frame || is_function frame) ≡ true → is_live past (initiator_task_tag frame.header) ≡ false)
     → HasFreeTag past frame
@@ -140,9 +128,9 @@ free_by_past past frame free =
     record {
       command = λ h. missing (tag_of past.came) tag (unfinished past)
           (first_none (command_among past tag (unfinished past)) (command_among past tag (drained past))
-          (or_front _ (is_some (function_with past tag)) (free (ap (λ (b : Bool). b || is_function frame) h))));
+          (or_parts _ (is_some (function_with past tag)) (free (ap (λ (b : Bool). b || is_function frame) h))).0);
       function = λ h. missing (tag_of past.came) tag (functions past)
-          (none_by (function_with past tag) (or_behind (is_some (command_with past tag)) _ (free (or_known (is_command frame) (is_function frame) h))));
+          (none_by (function_with past tag) (or_parts (is_some (command_with past tag)) _ (free (or_known (is_command frame) (is_function frame) h))).1);
     }
 
 -- nothing bears its tag
@@ -181,8 +169,7 @@ judged_drained past frame (Some i) found =
 -- by the first of two where there is one, else by the second
 by_either : {Y : Type 0} (f : Option ℕ → Y) (c : Bool) (a b : Option ℕ) (x y : Y) → c ≡ is_some a → x ≡ f a → y ≡ f b
     → (if c then x else y) ≡ f (if is_some a then a else b)
-by_either f c None b x y e p q = rw e q
-by_either f c (Some k) b x y e p q = rw e p
+by_either f c a b x y e p q = grind arith
 
 pub judged_is : (past : Past) (state : SessionState) (frame : Frame) → Stands past state
     → judged_in state.transfers frame ≡ data_verdict past frame (command_with past (tag_in frame))
@@ -227,14 +214,28 @@ unfinished_fed : (past : Past) (k : ℕ) (frame : Frame) → unfinished (feeding
 unfolding unfinished
 unfinished_fed past k frame = refl
 
+-- the data of one command is changed
+pub list_changed : (past after : Past) (k i : ℕ) (t : Transfer) → slice_get (unfinished past) i ≡ Some k → t ≡ transfer_of after k
+    → ((j : ℕ) → j ≢ k → transfer_of after j ≡ transfer_of past j)
+    → set (map (transfer_of past) (unfinished past)) i t ≡ map (transfer_of after) (unfinished past)
+list_changed past after k i t at is others =
+    ap (set (map (transfer_of past) (unfinished past)) i) is
+    ∙ set_map (transfer_of past) (transfer_of after) (unfinished past) i k (unfinished_distinct past) at others
+
+pub drains_kept : (past after : Past) (k : ℕ) → AreDrained past → is_in k (unfinished past) ≡ true → after.came ≡ past.came
+    → ((j : ℕ) → j ≢ k → transfer_of after j ≡ transfer_of past j) → map (drained_of past) (drains_of past) ≡ map (drained_of after) (drains_of past)
+drains_kept past after k drained there came others = same_drains (drained_of past) (drained_of after) (drains_of past)
+    (drains_all (λ d. drained_of after d ≡ drained_of past d) past (λ i none lt.
+    (let d = slice_index_or past.drains i none in
+    ap (λ (l : List Request). drained_with (frame_of l d.function).header (transfer_of after d.command)) came
+    ∙ ap (drained_with (frame_of past.came d.function).header) (others d.command (drains_apart past k drained there i none lt)))))
+
 fed_list : (past : Past) (k i : ℕ) (frame : Frame) → slice_get (unfinished past) i ≡ Some k
     → fed_at (map (transfer_of past) (unfinished past)) frame (Some i) ≡ map (transfer_of (feeding k frame past)) (unfinished past)
 fed_list past k i frame at =
-    ap (λ (t : Transfer). set (map (transfer_of past) (unfinished past)) i (record t { task = with_data t.task frame }))
-    (index_map (transfer_of past) no_transfer (unfinished past) i k at)
-    ∙ ap (set (map (transfer_of past) (unfinished past)) i) (sym (fed_there past k frame))
-    ∙ set_map (transfer_of past) (transfer_of (feeding k frame past)) (unfinished past) i k (unfinished_distinct past) at
-    (λ j differ. fed_elsewhere past k j frame differ)
+    list_changed past (feeding k frame past) k i _ at
+    (ap (λ (t : Transfer). record t { task = with_data t.task frame }) (index_map (transfer_of past) no_transfer (unfinished past) i k at)
+    ∙ sym (fed_there past k frame)) (λ j differ. fed_elsewhere past k j frame differ)
 
 -- the others are as they were
 fed_others : (past : Past) (k : ℕ) (frame : Frame) → is_in k (unfinished past) ≡ false
@@ -244,12 +245,6 @@ fed_others past k frame none =
 
 drain_elsewhere : (past : Past) (k : ℕ) (frame : Frame) (d : Drain) → d.command ≢ k → drained_of (feeding k frame past) d ≡ drained_of past d
 drain_elsewhere past k frame d differ = ap (drained_with (frame_of past.came d.function).header) (fed_elsewhere past k d.command frame differ)
-
-fed_drains : (past : Past) (k : ℕ) (frame : Frame) → AreDrained past → is_in k (unfinished past) ≡ true
-    → map (drained_of past) (drains_of past) ≡ map (drained_of (feeding k frame past)) (drains_of past)
-fed_drains past k frame drained there = same_drains (drained_of past) (drained_of (feeding k frame past)) (drains_of past)
-    (drains_all (λ d. drained_of (feeding k frame past) d ≡ drained_of past d) past
-    (λ i none lt. drain_elsewhere past k frame _ (drains_apart past k drained there i none lt)))
 
 -- it is of a command that is not finished
 fed_place : (past : Past) (frame : Frame) (at : Option ℕ) → AreDrained past → Located (bears (tag_in frame)) (transfer_of past) (unfinished past) at
@@ -262,7 +257,7 @@ fed_place past frame (Some i) drained found =
     ap (λ (l : List Transfer). record (transfers_of past) { list = l }) (fed_list past k i frame found.2
     ∙ ap (map (transfer_of (feeding k frame past))) (sym (unfinished_fed past k frame)))
     ∙ ap (λ (l : List Drained). record (transfers_of (feeding k frame past)) { drains = l })
-    (fed_drains past k frame drained (in_get (unfinished past) i k found.2))
+    (drains_kept past (feeding k frame past) k drained (in_get (unfinished past) i k found.2) refl (λ j differ. fed_elsewhere past k j frame differ))
     ∙ ap (λ (c : Option ℕ). transfers_of (fed c frame past)) (sym found.1)
 
 -- or of one whose data is drained
@@ -311,11 +306,7 @@ lawful_fed_at past k frame lt lawful =
 
 pub found_in : (q : ℕ → Bool) (k : ℕ) (names : List ℕ) → find q names ≡ Some k → is_in k names ≡ true
 found_in q k [] e = absurd cc
-found_in q k (a ∷ names) e = found_in_with (q a) refl (λ h. found_in q k names h)
-  where
-    found_in_with : (b : Bool) → q a ≡ b → (find q names ≡ Some k → is_in k names ≡ true) → is_in k (a ∷ names) ≡ true
-    found_in_with true is rest = let same : Some a ≡ Some k = rw is at e in let here : a ≡ k = cc in rw (eq-eqb a k here) refl
-    found_in_with false is rest = let h = rw is at e in or_known (eqb a k) (is_in k names) (rest h)
+found_in q k (a ∷ names) e = grind (arith, found_in q k names)
 
 drained_came : (past : Past) (k : ℕ) → IsLawful past → is_in k (drained past) ≡ true → k < length past.came
 unfolding drained
@@ -349,8 +340,7 @@ pub lawful_fed : (past : Past) (frame : Frame) → IsLawful past → IsLawful (f
 lawful_fed past frame lawful = lawful_fed_by past frame _ refl lawful
 
 pub fed_same : (past : Past) (frame : Frame) (c : Option ℕ) → ((fed c frame past).params ≡ past.params) × ((fed c frame past).answers ≡ past.answers)
-fed_same past frame None = (refl, refl)
-fed_same past frame (Some k) = (refl, refl)
+fed_same past frame c = grind arith
 
 fed_tasks : (past : Past) (frame : Frame) (c : Option ℕ) → tasks_of past ≡ tasks_of (fed c frame past)
 unfolding tasks_of due queue standing
@@ -359,8 +349,7 @@ fed_tasks past frame (Some k) = refl
 
 fed_functions : (past : Past) (frame : Frame) (c : Option ℕ) → functions_of past ≡ functions_of (fed c frame past)
 unfolding functions_of functions
-fed_functions past frame None = refl
-fed_functions past frame (Some k) = refl
+fed_functions past frame c = grind arith
 
 pub stands_fed : (past : Past) (state : SessionState) (frame : Frame) → Stands past state
     → Stands (fed (command_with past (initiator_task_tag frame.header)) frame past)

@@ -24,8 +24,7 @@ come_by true r came k e rest = (λ h. rw e (omega arith), λ h. absurd (no_numbe
   where
     no_number : (n : Option ℕ) → has_number k n ≡ true → order.has_come (filter_map (λ (r : Request). r.number)
         (record { number = n; frame = r.frame } ∷ came)) k ≡ false → ⊥
-    no_number None e h = cc
-    no_number (Some n) e h = let g = rw e at h in cc
+    no_number n e h = grind arith
 come_by false r came k e rest = by_number r.number e
   where
     by_number : (n : Option ℕ) → has_number k n ≡ false
@@ -33,12 +32,7 @@ come_by false r came k e rest = by_number r.number e
         → place_of (record { number = n; frame = r.frame } ∷ came) k < suc (length came))
         × (order.has_come (numbered (record { number = n; frame = r.frame } ∷ came)) k ≡ false
         → place_of (record { number = n; frame = r.frame } ∷ came) k ≡ suc (length came))
-    by_number None f = (λ h. let lt = rest.0 h in omega arith, λ h. let same = rest.1 h in omega arith)
-    by_number (Some n) f = (
-      λ h. let g = rw f at h in let lt = rest.0 g in rw f (omega arith),
-      λ h. let g = rw f at h in let same = rest.1 g
-          in rw f (omega arith),
-    )
+    by_number n f = grind arith
 
 come_place : (came : List Request)
     (k : ℕ) → (order.has_come (numbered came) k ≡ true → place_of came k < length came) × (order.has_come (numbered came) k ≡ false
@@ -76,11 +70,7 @@ moment_above came j (suc k) le = elim (cases_eq j (suc k)) [
 
 pub numbered_length : (came : List Request) → length (numbered came) ≤ length came
 numbered_length [] = omega arith
-numbered_length (r ∷ came) = by_number r.number (numbered_length came)
-  where
-    by_number : (n : Option ℕ) → length (numbered came) ≤ length came → length (numbered (record { number = n; frame = r.frame } ∷ came)) ≤ suc (length came)
-    by_number None le = omega arith
-    by_number (Some n) le = omega arith
+numbered_length (r ∷ came) = grind (arith, numbered_length came)
 
 -- the numbers that are taken before it, and with it
 abbrev pub first_of : List Request → ℕ
@@ -138,32 +128,14 @@ module _ (came : List Request) (x : Request) (grows : first_of came ≤ first_of
 
 -- ---- the requests with numbers
 
-find_place : (b : Bool) (r : Request) (came : List Request) (k : ℕ) → has_number k r.number ≡ b
-    → (place_of came k < length came → frame_numbered came k ≡ Some (frame_of came (place_of came k)))
-    → place_of (r ∷ came) k < suc (length came) → frame_numbered (r ∷ came) k ≡ Some (frame_of (r ∷ came) (place_of (r ∷ came) k))
-find_place true r came k e rest lt = rw e refl
-find_place false r came k e rest lt =
-    let next : place_of (r ∷ came) k ≡ suc (place_of came k) = rw e (omega arith) in
-    let skipped : frame_numbered (r ∷ came) k ≡ frame_numbered came k = rw e refl in
-    skipped ∙ rest (omega arith) ∙ ap (λ (p : ℕ). Some (frame_of (r ∷ came) p)) (sym next)
-
 -- the request with a number that has come stands at its place
 pub frame_come : (came : List Request) (k : ℕ) → place_of came k < length came → frame_numbered came k ≡ Some (frame_of came (place_of came k))
 frame_come [] k lt = absurd (omega arith)
-frame_come (r ∷ came) k lt = find_place (has_number k r.number) r came k refl (frame_come came k) lt
+frame_come (r ∷ came) k lt = grind (arith, frame_come came k)
 
 pub frame_missing : (came : List Request) (k : ℕ) → order.has_come (numbered came) k ≡ false → frame_numbered came k ≡ None
 frame_missing [] k h = refl
-frame_missing (r ∷ came) k h = by_number r.number h (frame_missing came k)
-  where
-    by_number : (n : Option ℕ) → order.has_come (numbered (record { number = n; frame = r.frame } ∷ came)) k ≡ false
-        → (order.has_come (numbered came) k ≡ false → frame_numbered came k ≡ None)
-        → frame_numbered (record { number = n; frame = r.frame } ∷ came) k ≡ None
-    by_number None g rest = rest g
-    by_number (Some n) g rest = elim (cases_eq n k) [
-      | inl same ↦ absurd (let e = rw (eq-eqb n k same) at g in cc)
-      | inr differs ↦ let e = rw (ne_eqb n k differs) at g in rw (ne_eqb n k differs) (rest e)
-    ]
+frame_missing (r ∷ came) k h = grind (arith, frame_missing came k)
 
 marked_by : (b : Bool) (came : List Request) (k : ℕ) → order.has_come (numbered came) k ≡ b → is_some (frame_numbered came k) ≡ b
 marked_by true came k h = rw (frame_come came k (place_come came k h)) refl
@@ -193,23 +165,12 @@ frames_come came a (suc n) come =
 
 -- ---- one more request with a number
 
-find_before_with : (b : Bool) (r x : Request) (came : List Request) (k : ℕ) → has_number k r.number ≡ b
-    → frame_numbered (came ++ x ∷ []) k ≡ frame_numbered came k → frame_numbered (r ∷ (came ++ x ∷ [])) k ≡ frame_numbered (r ∷ came) k
-find_before_with true r x came k e rest = rw e refl
-find_before_with false r x came k e rest = rw e rest
-
 -- the others are as they were
 pub frame_other : (came : List Request) (x : Request) (k : ℕ) → has_number k x.number ≡ false → frame_numbered (came ++ x ∷ []) k ≡ frame_numbered came k
 frame_other [] x k e = rw e refl
-frame_other (r ∷ came) x k e = find_before_with (has_number k r.number) r x came k refl (frame_other came x k e)
-
-find_new_with : (b : Bool) (r x : Request) (came : List Request) (k : ℕ) → has_number k r.number ≡ b → frame_numbered (r ∷ came) k ≡ None
-    → (frame_numbered came k ≡ None → frame_numbered (came ++ x ∷ []) k ≡ Some x.frame)
-    → frame_numbered (r ∷ (came ++ x ∷ [])) k ≡ Some x.frame
-find_new_with true r x came k e none rest = absurd (let h = rw e at none in cc)
-find_new_with false r x came k e none rest = let h = rw e at none in rw e (rest h)
+frame_other (r ∷ came) x k e = grind (arith, frame_other came x k e)
 
 pub frame_now : (came : List Request) (x : Request) (k : ℕ) → has_number k x.number ≡ true → frame_numbered came k ≡ None
     → frame_numbered (came ++ x ∷ []) k ≡ Some x.frame
 frame_now [] x k e none = rw e refl
-frame_now (r ∷ came) x k e none = find_new_with (has_number k r.number) r x came k refl none (frame_now came x k e)
+frame_now (r ∷ came) x k e none = grind (arith, frame_now came x k e)

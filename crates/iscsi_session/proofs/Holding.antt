@@ -52,11 +52,7 @@ held_voids reach (Some frame ∷ l) = ap suc (held_voids reach l)
 
 pub filter_fewer : {A : Type 0} (q : A → Bool) (l : List A) → length (filter q l) ≤ length l
 filter_fewer q [] = omega arith
-filter_fewer q (x ∷ l) = by_case (q x) refl (filter_fewer q l)
-  where
-    by_case : (b : Bool) → q x ≡ b → length (filter q l) ≤ length l → length (filter q (x ∷ l)) ≤ length (x ∷ l)
-    by_case true e le = rw e (omega (arith, le))
-    by_case false e le = rw e (omega (arith, le))
+filter_fewer q (x ∷ l) = grind (arith, filter_fewer q l)
 
 pub pending_without : (reach : FunctionReach) (tasks : TaskLists) → pending (without reach tasks) ≤ pending tasks
 pending_without reach tasks =

@@ -1,14 +1,10 @@
 -- Every past that the steps can reach is lawful, and what a lawful past says of the order.
-use Rattle.std.proofs.Common.{◌≡◌, ℕ, zero, suc, ◌^◌, ◌<◌, ◌≤◌, ◌&&◌, List, [], ◌∷◌, ◌++◌, length, Bool, true, false, not, cond, refl, sym, ap, subst, ◌∙◌, arith, append_assoc}
+use Rattle.std.proofs.Common.{◌≡◌, ℕ, ◌^◌, ◌<◌, ◌≤◌, ◌&&◌, List, [], ◌∷◌, ◌++◌, Bool, true, false, not, refl, sym, ap, subst, ◌∙◌, arith, append_assoc}
 use Rattle.std.specs.Prelude.{filter}
-use Rattle.std.proofs.lemmas.Bool.{ltb-true}
+use Rattle.std.proofs.lemmas.Bool.{and_parts}
 use Rattle.std.proofs.lemmas.List.Elements.{filter-append}
 use Rattle.iscsi_pdu.specs.Header.{is_immediate, cmd_sn}
 use Rattle.iscsi_pdu.specs.Frames.{Frame}
-use Rattle.iscsi_order.specs.Window as order
-use Rattle.iscsi_order.specs.Window.{taken as taken_numbers, window}
-use Rattle.iscsi_order.specs.Serial.{distance}
-use Rattle.iscsi_order.proofs.Standing.{window_is}
 use Rattle.scsi_unit.specs.Units.{numbers_of}
 use Rattle.iscsi_session.specs.declared.verdict.Verdict.{Verdict}
 use Rattle.iscsi_session.specs.declared.verdict.Verdict.TheVariants.{Ignored, Dropped, Rejected, Violating, Accepted, Feeding}
@@ -20,24 +16,24 @@ use Rattle.iscsi_session.specs.Acts.{reach_of, act_answers, ended, behind}
 use Rattle.iscsi_session.specs.State.{IsLawful}
 use Rattle.iscsi_session.proofs.Telling.{lawful_told}
 use Rattle.iscsi_session.proofs.Waits.{lawful_waits}
-use Rattle.iscsi_session.specs.Steps.{Step, Judging, Taking, Asking, Answering, Doing, Work, reaches, take_step, judge, act, ask, finish, first_steps, one_by_one, waiting_in, act_all, ask_due, tell, tell_due, taken_in, asked_in, served, ready, settled}
+use Rattle.iscsi_session.specs.Steps.{Step, Work, judge, act, ask, finish, tell, served, ready, settled}
 use Rattle.iscsi_session.specs.Transfers.{asking}
 use Rattle.iscsi_session.proofs.Asking.{lawful_asked, asking_came, ready_queue}
 use Rattle.iscsi_session.specs.Laws.{TakenOnce, FinishedAsTaken, DueInOrder, DoneInOrder, StepsAreLawful}
+use Rattle.iscsi_session.proofs.Steps.{served_keeps, settled_keeps}
 use Rattle.iscsi_session.proofs.Left.{left_append, in_filter, in_at}
 use Rattle.iscsi_session.proofs.Taken.{distinct_taken}
-use Rattle.iscsi_session.proofs.Accepted.{begun_lawful, HasFreeTag, IsAhead, lawful_now, lawful_with}
-use Rattle.iscsi_session.proofs.Moved.{due_after, due_other, stays_other, not_pending, lawful_command, lawful_gone, lawful_other, lawful_finished, queue_after}
-use Rattle.iscsi_session.proofs.Parts.{both_true, fresh_is, accepted_now, accepted_with}
+use Rattle.iscsi_session.proofs.Accepted.{begun_lawful, HasFreeTag, lawful_now, lawful_with}
+use Rattle.iscsi_session.proofs.Moved.{due_after, due_other, stays_other, not_pending, lawful_command, lawful_other, lawful_finished, queue_after}
+use Rattle.iscsi_session.proofs.Parts.{fresh_is, accepted_now, accepted_with}
 use Rattle.iscsi_session.proofs.Verdicts.{IsFree, accepted_free}
 use Rattle.iscsi_session.proofs.Feeding.{free_by_past, lawful_fed}
 use Rattle.iscsi_session.proofs.Runs.{lawful_answering}
-use Rattle.iscsi_session.proofs.Left.{and_true_both}
 use Rattle.iscsi_session.proofs.Kept.{function_no_command}
 use Rattle.iscsi_session.proofs.Over.{over_other}
 use Rattle.iscsi_session.proofs.Answered.{moved_other}
 use Rattle.iscsi_session.proofs.Removing.{lawful_removing, removing_over}
-use Rattle.iscsi_session.proofs.Plugging.{plugged_lawful}
+use Rattle.iscsi_session.proofs.Plugging.{new_ahead, plugged_lawful}
 use Rattle.iscsi_session.proofs.Ending.{reached_moved, ended_now, plugs_unasked, plugs_new}
 
 -- ---- the order
@@ -74,45 +70,31 @@ done_in_order past k rest lawful is = queue_after past lawful k rest is
 
 pub moved_by : (b : Bool) (past : Past) (k : ℕ) (rest : List ℕ) → is_command (frame_of past.came k) ≡ b → IsLawful past → due past ≡ k ∷ rest
     → IsLawful (moved k past)
-moved_by true past k rest e lawful is = rw e (commands_by (is_in k past.removed) refl)
-  where
-    commands_by : (b : Bool) → is_in k past.removed ≡ b → IsLawful (record past { acted = past.acted ++ k ∷ [] })
-    commands_by true gone = lawful_gone past lawful k rest is gone e
-    commands_by false stays = lawful_command past lawful k rest is stays e
+moved_by true past k rest e lawful is = rw e (lawful_command past lawful k rest is e)
 moved_by false past k rest e lawful is = rw e (lawful_other past lawful k rest is e)
-
--- a new number is ahead of those taken
-new_ahead : (past : Past) (lawful : IsLawful past) (n : ℕ) → n < 2 ^ 32 → order.is_new (numbers past) n ≡ true
-    → IsAhead past lawful (order.index_of (numbers past) n) (distance (order.exp_cmd_sn (numbers past)) n)
-unfolding taken_numbers
-new_ahead past lawful n fits new =
-    let both = both_true (order.in_window (numbers past) n) (order.has_come (numbers past).came (order.index_of (numbers past) n)) new in
-    let near = ltb-true _ _ (sym (window_is (numbers past) n lawful.window fits) ∙ both.0) in
-    let few = lawful.window.finished in
-    record { number = refl; near = omega arith; missing = both.1 }
 
 free_of : (past : Past) (frame : Frame) → IsFree past frame → HasFreeTag past frame
 free_of past frame free = free_by_past past frame free.tag
 
-accepted_by : (b : Bool) (past : Past) (frame : Frame) → is_immediate frame.header ≡ b → cmd_sn frame.header < 2 ^ 32 → IsFree past frame
+accepted_by : (b : Bool) (past : Past) (frame : Frame) → is_immediate frame.header ≡ b → IsFree past frame
     → IsLawful past → IsLawful (accepted frame past)
-accepted_by true past frame h fits free lawful = subst IsLawful (accepted_now past frame h) (lawful_now past lawful frame h (free_of past frame free))
-accepted_by false past frame h fits free lawful =
+accepted_by true past frame h free lawful = subst IsLawful (accepted_now past frame h) (lawful_now past lawful frame h (free_of past frame free))
+accepted_by false past frame h free lawful =
     subst IsLawful (accepted_with past frame h)
-    (lawful_with past lawful _ _ frame h (new_ahead past lawful (cmd_sn frame.header) fits (sym (fresh_is past frame h) ∙ free.fresh))
+    (lawful_with past lawful _ _ frame h (new_ahead (cmd_sn frame.header) past past refl refl lawful lawful (omega arith) (sym (fresh_is past frame h) ∙ free.fresh))
     (free_of past frame free))
 
-judged_by : (v : Verdict) (past : Past) (frame : Frame) → verdict past frame ≡ v → cmd_sn frame.header < 2 ^ 32 → IsLawful past → IsLawful (judged v frame past)
-judged_by Accepted past frame e fits lawful = accepted_by _ past frame refl fits (accepted_free past frame e) lawful
-judged_by Feeding past frame e fits lawful = lawful_fed past frame lawful
-judged_by (Rejected reason) past frame e fits lawful = lawful_answering _ past lawful
-judged_by Ignored past frame e fits lawful = lawful
-judged_by Dropped past frame e fits lawful = lawful
-judged_by Violating past frame e fits lawful = lawful
+judged_by : (v : Verdict) (past : Past) (frame : Frame) → verdict past frame ≡ v → IsLawful past → IsLawful (judged v frame past)
+judged_by Accepted past frame e lawful = accepted_by _ past frame refl (accepted_free past frame e) lawful
+judged_by Feeding past frame e lawful = lawful_fed past frame lawful
+judged_by (Rejected reason) past frame e lawful = lawful_answering _ past lawful
+judged_by Ignored past frame e lawful = lawful
+judged_by Dropped past frame e lawful = lawful
+judged_by Violating past frame e lawful = lawful
 
-judge_lawful : (frame : Frame) (work : Work) → cmd_sn frame.header < 2 ^ 32 → IsLawful work.past → IsLawful (judge frame work).past
+judge_lawful : (frame : Frame) (work : Work) → IsLawful work.past → IsLawful (judge frame work).past
 unfolding judge
-judge_lawful frame work fits lawful = judged_by _ work.past frame refl fits lawful
+judge_lawful frame work lawful = judged_by _ work.past frame refl lawful
 
 -- what a function removes
 pub ended_lawful : (luns : List ℕ) (b : Bool) (past : Past) (k : ℕ) (rest : List ℕ) → is_function (frame_of past.came k) ≡ b → IsLawful past → due past ≡ k ∷ rest
@@ -150,7 +132,7 @@ behind_lawful : (luns : List ℕ) (b : Bool) (past : Past) (k : ℕ) (rest : Lis
     → due past ≡ k ∷ rest → IsLawful past → IsLawful (ended luns k past) → IsLawful (behind luns k past (ended luns k past))
 behind_lawful luns false past k rest e is lawful ends = rw e ends
 behind_lawful luns true past k rest e is lawful ends =
-    let both = and_true_both (is_function (frame_of past.came k)) (plugs past (reach_of luns k past)) e in
+    let both = and_parts (is_function (frame_of past.came k)) (plugs past (reach_of luns k past)) e in
     let unasked = plugs_unasked past (reach_of luns k past) both.1 in
     let m = more_over luns past k rest both.0 unasked lawful is (moved_by _ past k rest refl lawful is) in
     rw e (plugged_lawful (ref_cmd_sn (frame_of past.came k).header) past (ended luns k past) m.1 m.2 lawful ends m.0
@@ -170,38 +152,6 @@ finish_lawful work k rest is lawful = lawful_answering _ (finished k work.past) 
 
 -- ---- runs
 
-step_by : (on fail : Bool) (step : Step) (does : Work → Work) (work : Work) → IsLawful work.past → IsLawful (does (reaches step work)).past
-    → IsLawful (cond (not on) work (cond fail (record (reaches step work) { goes_on = false }) (does (reaches step work)))).past
-step_by false fail step does work lawful next = lawful
-step_by true true step does work lawful next = lawful
-step_by true false step does work lawful next = next
-
-step_lawful : (fails : Step → Bool) (step : Step) (does : Work → Work) (work : Work) → IsLawful work.past → IsLawful (does (reaches step work)).past
-    → IsLawful (take_step fails step does work).past
-unfolding take_step
-step_lawful fails step does work lawful next = step_by work.goes_on (fails step) step does work lawful next
-
-abbrev Keeps : (Past → List ℕ) → (ℕ → Work → Work) → Type 0
-Keeps line does = (work : Work) (k : ℕ) (rest : List ℕ) → line work.past ≡ k ∷ rest → IsLawful work.past → IsLawful (does k work).past
-
-first_lawful : (fails : Step → Bool) (step : Step) (line : Past → List ℕ) (does : ℕ → Work → Work) (l : List ℕ) (work : Work) → line work.past ≡ l
-    → Keeps line does → IsLawful work.past
-    → IsLawful (first_steps fails step does l work).past
-first_lawful fails step line does [] work is keeps lawful = lawful
-first_lawful fails step line does (k ∷ rest) work is keeps lawful = step_lawful fails step (does k) work lawful (keeps (reaches step work) k rest is lawful)
-
-all_lawful : (fails : Step → Bool) (step : ℕ → Step) (line : Past → List ℕ) (does : ℕ → Work → Work) (turn most : ℕ) (work : Work) → Keeps line does
-    → IsLawful work.past
-    → IsLawful (one_by_one fails step line does turn most work).past
-all_lawful fails step line does turn zero work keeps lawful = lawful
-all_lawful fails step line does turn (suc most) work keeps lawful =
-    all_lawful fails step line does (suc turn) most (first_steps fails (step turn) does (line work.past) work) keeps
-    (first_lawful fails (step turn) line does (line work.past) work refl keeps lawful)
-
-act_all_lawful : (fails : Step → Bool) (place : ℕ) (work : Work) → IsLawful work.past → IsLawful (act_all fails place work).past
-unfolding act_all
-act_all_lawful fails place work lawful = all_lawful fails (Taking place) due act 0 (waiting_in work.past) work act_lawful lawful
-
 pub ask_lawful : (work : Work) (k : ℕ) (rest : List ℕ) → asking work.past ≡ k ∷ rest → IsLawful work.past → IsLawful (ask k work).past
 unfolding ask
 ask_lawful work k rest is lawful = lawful_asked work.past k (asking_came work.past k rest is) lawful
@@ -213,26 +163,14 @@ tell_lawful work k rest is lawful =
     (ap (λ (l : List ℕ). is_in k l) is ∙ in_at (k ∷ rest) 0 0 (omega arith)) in
     lawful_answering (told_answers work.past k) (told k work.past) (lawful_told work.past lawful k there)
 
-asked_lawful : (fails : Step → Bool) (place : ℕ) (frame : Frame) (work : Work) → cmd_sn frame.header < 2 ^ 32 → IsLawful work.past
-    → IsLawful (asked_in fails place frame work).past
-unfolding asked_in taken_in ask_due
-asked_lawful fails place frame work fits lawful =
-    let next = taken_in fails place frame work in
-    first_lawful fails (Asking place) asking ask (asking next.past) next refl ask_lawful
-    (act_all_lawful fails place (take_step fails (Judging place) (judge frame) work)
-    (step_lawful fails (Judging place) (judge frame) work lawful (judge_lawful frame (reaches (Judging place) work) fits lawful)))
-
 served_lawful : (fails : Step → Bool) (place : ℕ) (frame : Frame) (work : Work) → cmd_sn frame.header < 2 ^ 32 → IsLawful work.past
     → IsLawful (served fails place frame work).past
-unfolding served tell_due
 served_lawful fails place frame work fits lawful =
-    let next = asked_in fails place frame work in
-    first_lawful fails (Answering place) drained_functions tell (drained_functions next.past) next refl tell_lawful
-    (asked_lawful fails place frame work fits lawful)
+    served_keeps (λ w. IsLawful w.past) (λ step on w ok. ok) fails place frame work (λ w ok. judge_lawful frame w ok) act_lawful ask_lawful tell_lawful
+    lawful
 
 settled_lawful : (fails : Step → Bool) (place : ℕ) (work : Work) → IsLawful work.past → IsLawful (settled fails place work).past
-unfolding settled
-settled_lawful fails place work lawful = all_lawful fails (Doing place) ready finish 0 (length (queue work.past)) work finish_lawful lawful
+settled_lawful fails place work lawful = settled_keeps (λ w. IsLawful w.past) (λ step on w ok. ok) fails place work finish_lawful lawful
 
 pub steps_are_lawful : StepsAreLawful
 steps_are_lawful = record { begun = begun_lawful; served = served_lawful; settled = settled_lawful }

@@ -1,11 +1,11 @@
 -- What some names that are gone leave of a list of names, and lists in which no name stands twice.
-use Rattle.std.proofs.Common.{◌≡◌, ◌≢◌, ℕ, zero, suc, ◌+◌, ◌<◌, ◌≤◌, List, [], ◌∷◌, ◌++◌, length, map, get_or, Bool, true, false, not, ◌||◌, ◌&&◌, eqb, refl, sym, ap, ◌∙◌, inl, inr, arith, add-one}
+use Rattle.std.proofs.Common.{◌≡◌, ◌≢◌, ℕ, zero, suc, ◌+◌, ◌<◌, ◌≤◌, List, [], ◌∷◌, ◌++◌, length, map, get_or, Bool, true, false, not, ◌||◌, ◌&&◌, eqb, refl, sym, ap, ◌∙◌, inl, inr, arith, subst}
 use Rattle.std.specs.Prelude.{filter, All}
 use Rattle.std.specs.List.{range_with_len}
-use Rattle.std.proofs.lemmas.Bool.{cases_eq, eq-eqb, ne_eqb}
+use Rattle.std.proofs.lemmas.Bool.{cases_eq, eq-eqb, ne_eqb, not-true, or_parts, or_right, false_from_ne_true}
 use Rattle.std.proofs.lemmas.List.FromFn.{get_or-range_with_len, length-range_with_len}
 use Rattle.std.proofs.lemmas.List.Elements.{filter-append, All-tail, All-head, filter_passes}
-use Rattle.std.proofs.lemmas.List.Folds.{list_any-append}
+use Rattle.std.proofs.lemmas.List.Folds.{list_any-append, list_any_at}
 use Rattle.iscsi_session.specs.Requests.{is_in, left}
 use Rattle.iscsi_session.specs.State.{AreDistinct}
 
@@ -15,22 +15,12 @@ pub filter_cong : {A : Type 0} (p q : A → Bool) (xs : List A) → All (λ x. p
 filter_cong p q [] same = refl
 filter_cong p q (x ∷ xs) same = rw (All-head (λ x. p x ≡ q x) x xs same, filter_cong p q xs (All-tail (λ x. p x ≡ q x) x xs same)) refl
 
-filter_filter_with : {A : Type 0} (b : Bool) (p q : A → Bool) (x : A) (xs : List A) → q x ≡ b → filter p (filter q xs) ≡ filter (λ x. q x && p x) xs
-    → filter p (filter q (x ∷ xs)) ≡ filter (λ x. q x && p x) (x ∷ xs)
-filter_filter_with true p q x xs e rest = rw (e, rest) refl
-filter_filter_with false p q x xs e rest = rw (e, rest) refl
-
 pub filter_filter : {A : Type 0} (p q : A → Bool) (xs : List A) → filter p (filter q xs) ≡ filter (λ x. q x && p x) xs
 filter_filter p q [] = refl
-filter_filter p q (x ∷ xs) = filter_filter_with (q x) p q x xs refl (filter_filter p q xs)
+filter_filter p q (x ∷ xs) = grind (arith, filter_filter p q xs)
 
 not_or : (a b : Bool) → not a && not b ≡ not (a || b)
-not_or true b = refl
-not_or false b = refl
-
-or_true : (b : Bool) → (b || true) ≡ true
-or_true true = refl
-or_true false = refl
+not_or a b = grind arith
 
 pub map_cong : {A B : Type 0} (f g : A → B) (xs : List A) → All (λ x. f x ≡ g x) xs → map f xs ≡ map g xs
 map_cong f g [] same = refl
@@ -45,15 +35,11 @@ left_more gone more names =
     ∙ filter_cong _ _ names (λ i d lt. not_or (is_in (get_or names i d) gone) (is_in (get_or names i d) more)
     ∙ ap not (sym (list_any-append (λ a. eqb a (get_or names i d)) gone more))))
 
-pub and_true_both : (a b : Bool) → (a && b) ≡ true → (a ≡ true) × (b ≡ true)
-and_true_both true b e = (refl, e)
-and_true_both false b e = absurd cc
+pub both_true : (a b : Bool) → (a && not b) ≡ true → (a ≡ true) × (b ≡ false)
+both_true a b e = grind arith
 
 pub and_swap : (a b : Bool) → (a && b) ≡ (b && a)
-and_swap true true = refl
-and_swap true false = refl
-and_swap false true = refl
-and_swap false false = refl
+and_swap a b = grind arith
 
 pub left_swap : (a b names : List ℕ) → left a (left b names) ≡ left b (left a names)
 unfolding left
@@ -76,38 +62,29 @@ pub left_none : (gone names : List ℕ) → gone ≡ [] → left gone names ≡ 
 left_none gone names e = ap (λ (g : List ℕ). left g names) e ∙ left_all [] names (λ i d lt. refl)
 
 -- the first is gone
-out_of : (k : ℕ) (ks : List ℕ) → is_in k ks ≡ false → left (k ∷ []) ks ≡ ks
+pub left_one : (k : ℕ) (ks : List ℕ) → is_in k ks ≡ false → left (k ∷ []) ks ≡ ks
 unfolding left
-out_of k [] none = refl
-out_of k (a ∷ ks) none = elim (cases_eq a k) [
+left_one k [] none = refl
+left_one k (a ∷ ks) none = elim (cases_eq a k) [
   | inl same ↦ absurd (let e = rw (eq-eqb a k same) at none in cc)
   | inr differs ↦
       let back : k ≢ a = λ e. differs (sym e) in
       let rest = rw (ne_eqb a k differs) at none in
-      rw (ne_eqb k a back) (ap (λ (l : List ℕ). a ∷ l) (out_of k ks rest))
+      rw (ne_eqb k a back) (ap (λ (l : List ℕ). a ∷ l) (left_one k ks rest))
 ]
 
 pub left_first : (k : ℕ) (ks : List ℕ) → AreDistinct (k ∷ ks) → left (k ∷ []) (k ∷ ks) ≡ ks
 unfolding left
-left_first k ks distinct = rw (eq-eqb k k refl) (out_of k ks distinct.0)
-
-pub left_one : (k : ℕ) (ks : List ℕ) → is_in k ks ≡ false → left (k ∷ []) ks ≡ ks
-left_one k ks none = out_of k ks none
-
-not_is : (b : Bool) → not b ≡ true → b ≡ false
-not_is true e = absurd cc
-not_is false e = refl
+left_first k ks distinct = rw (eq-eqb k k refl) (left_one k ks distinct.0)
 
 pub left_passes : (gone names : List ℕ) → All (λ k. is_in k gone ≡ false) (left gone names)
 unfolding left
-left_passes gone names = λ i d lt. not_is _ (filter_passes (λ k. not (is_in k gone)) names i d lt)
+left_passes gone names = λ i d lt. not-true _ (filter_passes (λ k. not (is_in k gone)) names i d lt)
 
 -- ---- a name that stands in a list
 
 pub in_at : (names : List ℕ) (i d : ℕ) → i < length names → is_in (get_or names i d) names ≡ true
-in_at [] i d lt = absurd (omega arith)
-in_at (k ∷ ks) zero d lt = rw (eq-eqb k k refl) refl
-in_at (k ∷ ks) (suc i) d lt = ap (λ (b : Bool). eqb k (get_or ks i d) || b) (in_at ks i d (omega arith)) ∙ or_true (eqb k (get_or ks i d))
+in_at names i d lt = list_any_at (λ a. eqb a (get_or names i d)) names i d lt (eq-eqb _ _ refl)
 
 pub is_in_append : (k : ℕ) (a b : List ℕ) → is_in k (a ++ b) ≡ (is_in k a || is_in k b)
 is_in_append k a b = list_any-append (λ n. eqb n k) a b
@@ -116,43 +93,34 @@ pub in_front : (k : ℕ) (a b : List ℕ) → is_in k a ≡ true → is_in k (a 
 in_front k a b e = is_in_append k a b ∙ rw e refl
 
 pub in_back : (k : ℕ) (a b : List ℕ) → is_in k b ≡ true → is_in k (a ++ b) ≡ true
-in_back k a b e = is_in_append k a b ∙ rw e (or_true (is_in k a))
+in_back k a b e = is_in_append k a b ∙ or_right (is_in k a) (is_in k b) e
+
+-- what holds of all holds of one of them
+pub all_in : (P : ℕ → Type 0) (k : ℕ) (names : List ℕ) → All P names → is_in k names ≡ true → P k
+all_in P k [] all e = absurd cc
+all_in P k (a ∷ names) all e = elim (cases_eq a k) [
+  | inl same ↦ subst P same (All-head P a names all)
+  | inr differs ↦ let rest = rw (ne_eqb a k differs) at e in all_in P k names (All-tail P a names all) rest
+]
 
 -- what is not in all is not in some of them
 pub not_in : (k : ℕ) (some all : List ℕ) → All (λ a. is_in a all ≡ true) some → is_in k all ≡ false → is_in k some ≡ false
-not_in k [] all known none = refl
-not_in k (a ∷ rest) all known none =
-    let here : is_in a all ≡ true = All-head (λ a. is_in a all ≡ true) a rest known in
-    let ne : a ≢ k = λ e. let h = sym here ∙ ap (λ (n : ℕ). is_in n all) e ∙ none in cc in
-    rw (ne_eqb a k ne) (not_in k rest all (All-tail (λ a. is_in a all ≡ true) a rest known) none)
+not_in k some all known none =
+    false_from_ne_true (is_in k some) (λ e. let h = sym (all_in (λ a. is_in a all ≡ true) k some known e) ∙ none in cc)
 
 pub below_of : (n k : ℕ) (names : List ℕ) → All (λ a. a < n) names → is_in k names ≡ true → k < n
-below_of n k [] below e = absurd cc
-below_of n k (a ∷ names) below e = elim (cases_eq a k) [
-  | inl same ↦ let lt : a < n = All-head (λ a. a < n) a names below in omega arith
-  | inr differs ↦ let rest = rw (ne_eqb a k differs) at e in below_of n k names (All-tail (λ a. a < n) a names below) rest
-]
-
-is_in_filter_with : (b c : Bool) (k a : ℕ) (q : ℕ → Bool) (names : List ℕ) → eqb a k ≡ b → q a ≡ c
-    → (is_in k (filter q names) ≡ true → is_in k names ≡ true) → is_in k (filter q (a ∷ names)) ≡ true → is_in k (a ∷ names) ≡ true
-is_in_filter_with true c k a q names e f rest h = rw e refl
-is_in_filter_with false true k a q names e f rest h = let g = rw (f, e) at h in rw e (rest g)
-is_in_filter_with false false k a q names e f rest h = let g = rw f at h in rw e (rest g)
+below_of n k names below e = all_in (λ a. a < n) k names below e
 
 pub in_filter : (k : ℕ) (q : ℕ → Bool) (names : List ℕ) → is_in k (filter q names) ≡ true → is_in k names ≡ true
 in_filter k q [] e = absurd cc
-in_filter k q (a ∷ names) e = is_in_filter_with (eqb a k) (q a) k a q names refl refl (in_filter k q names) e
+in_filter k q (a ∷ names) e = grind (arith, in_filter k q names)
 
 pub in_left : (k : ℕ) (gone names : List ℕ) → is_in k (left gone names) ≡ true → is_in k names ≡ true
 unfolding left
 in_left k gone names e = in_filter k (λ a. not (is_in a gone)) names e
 
-bool_false : (b : Bool) → (b ≡ true → ⊥) → b ≡ false
-bool_false true h = absurd (h refl)
-bool_false false h = refl
-
 pub not_by : (k : ℕ) (some all : List ℕ) → (is_in k some ≡ true → is_in k all ≡ true) → is_in k all ≡ false → is_in k some ≡ false
-not_by k some all sub none = bool_false (is_in k some) (λ e. let h = sym (sub e) ∙ none in cc)
+not_by k some all sub none = false_from_ne_true (is_in k some) (λ e. let h = sym (sub e) ∙ none in cc)
 
 -- ---- distinct names
 
@@ -185,17 +153,9 @@ distinct_append (k ∷ a) b da db apart = (
       (All-tail (λ k. is_in k b ≡ false) k a apart),
 )
 
-or_front : (a b : Bool) → (a || b) ≡ false → a ≡ false
-or_front true b e = absurd cc
-or_front false b e = refl
-
-or_back : (a b : Bool) → (a || b) ≡ false → b ≡ false
-or_back true b e = absurd cc
-or_back false b e = e
-
 pub distinct_front : (a b : List ℕ) → AreDistinct (a ++ b) → AreDistinct a
 distinct_front [] b distinct = tt
-distinct_front (k ∷ a) b distinct = (or_front _ _ (sym (is_in_append k a b) ∙ distinct.0), distinct_front a b distinct.1)
+distinct_front (k ∷ a) b distinct = ((or_parts _ _ (sym (is_in_append k a b) ∙ distinct.0)).0, distinct_front a b distinct.1)
 
 pub distinct_back : (a b : List ℕ) → AreDistinct (a ++ b) → AreDistinct b
 distinct_back [] b distinct = distinct
@@ -205,13 +165,13 @@ distinct_back (k ∷ a) b distinct = distinct_back a b distinct.1
 pub distinct_apart : (k : ℕ) (a b : List ℕ) → AreDistinct (a ++ b) → is_in k a ≡ true → is_in k b ≡ false
 distinct_apart k [] b distinct there = absurd cc
 distinct_apart k (n ∷ a) b distinct there = elim (cases_eq n k) [
-  | inl same ↦ or_back _ _ (sym (is_in_append k a b) ∙ ap (λ (m : ℕ). is_in m (a ++ b)) (sym same) ∙ distinct.0)
+  | inl same ↦ (or_parts _ _ (sym (is_in_append k a b) ∙ ap (λ (m : ℕ). is_in m (a ++ b)) (sym same) ∙ distinct.0)).1
   | inr differs ↦ let rest = rw (ne_eqb n k differs) at there in distinct_apart k a b distinct.1 rest
 ]
 
 -- what stands behind does not stand in the front
 pub apart_behind : (k : ℕ) (a b : List ℕ) → AreDistinct (a ++ b) → is_in k b ≡ true → is_in k a ≡ false
-apart_behind k a b distinct there = bool_false (is_in k a) (λ e. let h = sym there ∙ distinct_apart k a b distinct e in cc)
+apart_behind k a b distinct there = false_from_ne_true (is_in k a) (λ e. let h = sym there ∙ distinct_apart k a b distinct e in cc)
 
 -- ---- ranges
 
@@ -220,17 +180,14 @@ range_below n = λ i d lt. let e = get_or-range_with_len 0 n i d (omega (arith, 
 
 pub range_more : (a n j : ℕ) → a + n ≡ j → range_with_len a (n + 1) ≡ range_with_len a n ++ j ∷ []
 range_more a zero j at = let e : a ≡ j = omega arith in ap (λ (k : ℕ). k ∷ []) e
-range_more a (suc n) j at =
-    rw (add-one (suc n)) (ap (λ (l : List ℕ). a ∷ l) (ap (range_with_len (a + 1)) (sym (add-one n)) ∙ range_more (a + 1) n j (omega arith)))
+range_more a (suc n) j at = grind (arith, range_more (a + 1) n j (omega arith))
 
 pub range_split : (a n m j : ℕ) → n + m ≡ j → range_with_len a j ≡ range_with_len a n ++ range_with_len (a + n) m
 range_split a zero m j at =
     let e : j ≡ m = omega arith in let f : a ≡ a + 0 = omega arith in
     ap (range_with_len a) e ∙ ap (λ (k : ℕ). range_with_len k m) f
 range_split a (suc n) m zero at = absurd (omega arith)
-range_split a (suc n) m (suc j) at =
-    let e : a + 1 + n ≡ a + suc n = omega arith in
-    ap (λ (l : List ℕ). a ∷ l) (range_split (a + 1) n m j (omega arith) ∙ ap (λ (k : ℕ). range_with_len (a + 1) n ++ range_with_len k m) e)
+range_split a (suc n) m (suc j) at = grind (arith, range_split (a + 1) n m j (omega arith))
 
 -- those of a range for which this holds are a part of it
 pub filter_none : (q : ℕ → Bool) (a n : ℕ) → ((k : ℕ) → a ≤ k → k < a + n → q k ≡ false) → filter q (range_with_len a n) ≡ []
@@ -246,13 +203,12 @@ filter_every q a (suc n) all = rw (all a (omega arith) (omega arith))
 
 in_map_filter_with : (b : Bool) {A : Type 0} (f : A → ℕ) (q : A → Bool) (n : ℕ) (a : A) (names : List A) → q a ≡ b → eqb (f a) n ≡ false
     → is_in n (map f (filter q names)) ≡ false → is_in n (map f (filter q (a ∷ names))) ≡ false
-in_map_filter_with true f q n a names e here rest = rw (e, here) rest
-in_map_filter_with false f q n a names e here rest = rw e rest
+in_map_filter_with b f q n a names e here rest = grind arith
 
 in_map_filter : {A : Type 0} (f : A → ℕ) (q : A → Bool) (n : ℕ) (names : List A) → is_in n (map f names) ≡ false → is_in n (map f (filter q names)) ≡ false
 in_map_filter f q n [] none = refl
 in_map_filter f q n (a ∷ names) none =
-    in_map_filter_with (q a) f q n a names refl (or_front _ _ none) (in_map_filter f q n names (or_back _ _ none))
+    let parts = or_parts _ _ none in in_map_filter_with (q a) f q n a names refl parts.0 (in_map_filter f q n names parts.1)
 
 distinct_map_filter_with : (b : Bool) {A : Type 0} (f : A → ℕ) (q : A → Bool) (a : A) (names : List A) → q a ≡ b → is_in (f a) (map f (filter q names)) ≡ false
     → AreDistinct (map f (filter q names)) → AreDistinct (map f (filter q (a ∷ names)))
@@ -276,14 +232,7 @@ distinct_push names n distinct missing = distinct_append names (n ∷ []) distin
 
 in_filter_back_with : (b : Bool) (k a : ℕ) (q : ℕ → Bool) (names : List ℕ) → q a ≡ b → q k ≡ true
     → (is_in k names ≡ true → is_in k (filter q names) ≡ true) → is_in k (a ∷ names) ≡ true → is_in k (filter q (a ∷ names)) ≡ true
-in_filter_back_with true k a q names e pass rest h = elim (cases_eq a k) [
-  | inl same ↦ rw (e, eq-eqb a k same) refl
-  | inr apart ↦ let there = rw (ne_eqb a k apart) at h in rw (e, ne_eqb a k apart) (rest there)
-]
-in_filter_back_with false k a q names e pass rest h = elim (cases_eq a k) [
-  | inl same ↦ absurd (let no = sym pass ∙ ap q (sym same) ∙ e in cc)
-  | inr apart ↦ let there = rw (ne_eqb a k apart) at h in rw e (rest there)
-]
+in_filter_back_with b k a q names e pass rest h = grind arith
 
 pub in_filter_back : (k : ℕ) (q : ℕ → Bool) (names : List ℕ) → is_in k names ≡ true → q k ≡ true → is_in k (filter q names) ≡ true
 in_filter_back k q [] e pass = absurd cc
@@ -301,21 +250,12 @@ in_range k a (suc n) le lt = elim (cases_eq a k) [
 ]
 
 not_left_with : (b : Bool) (gone : List ℕ) (k : ℕ) → is_in k gone ≡ b → not b ≡ true → is_in k gone ≡ false
-not_left_with true gone k e h = absurd cc
-not_left_with false gone k e h = e
-
-passes_with : (b : Bool) (k a : ℕ) (q : ℕ → Bool) (names : List ℕ) → q a ≡ b → (is_in k (filter q names) ≡ true → q k ≡ true)
-    → is_in k (filter q (a ∷ names)) ≡ true → q k ≡ true
-passes_with true k a q names e rest h = elim (cases_eq a k) [
-  | inl same ↦ ap q (sym same) ∙ e
-  | inr apart ↦ let there = rw (e, ne_eqb a k apart) at h in rest there
-]
-passes_with false k a q names e rest h = let there = rw e at h in rest there
+not_left_with b gone k e h = grind arith
 
 -- what stands there passes
 pub passes_in : (k : ℕ) (q : ℕ → Bool) (names : List ℕ) → is_in k (filter q names) ≡ true → q k ≡ true
 passes_in k q [] e = absurd cc
-passes_in k q (a ∷ names) e = passes_with (q a) k a q names refl (passes_in k q names) e
+passes_in k q (a ∷ names) e = grind (arith, passes_in k q names)
 
 pub not_gone : (k : ℕ) (gone names : List ℕ) → is_in k (left gone names) ≡ true → is_in k gone ≡ false
 unfolding left

@@ -1,12 +1,12 @@
 -- How many bytes the answers of a session take at most.
-use Rattle.std.proofs.Common.{◌≡◌, ℕ, zero, suc, ◌+◌, ◌*◌, ◌/◌, ◌%◌, ◌<◌, ◌≤◌, ◌==◌, ◌&&◌, min, List, [], ◌∷◌, ◌++◌, length, take, drop, Bool, true, false, not, Option, Some, None, refl, ap, arith, append-nil}
-use Rattle.std.specs.Prelude.{flat_map, option_map}
+use Rattle.std.proofs.Common.{◌≡◌, ℕ, zero, suc, ◌+◌, ◌*◌, ◌/◌, ◌%◌, ◌<◌, ◌≤◌, ◌==◌, min, List, [], ◌∷◌, ◌++◌, length, take, Bool, true, false, Option, Some, None, refl, ap, arith, append-nil}
+use Rattle.std.specs.Prelude.{flat_map}
 use Rattle.std.specs.Int.{div_ceil}
 use Rattle.std.proofs.lemmas.Grind.{div_ceil_times, flat_map-append}
 use Rattle.std.proofs.lemmas.Nat.{div-add-mod'}
 use Rattle.std.proofs.Math.Nat.{suc-mul, mul-le-mul_left}
 use Rattle.std.proofs.lemmas.List.{length-append, length-take}
-use Rattle.iscsi_pdu.specs.Header.{header_length, initiator_task_tag, lun_field}
+use Rattle.iscsi_pdu.specs.Header.{header_length, initiator_task_tag}
 use Rattle.iscsi_pdu.specs.Frames.{Frame}
 use Rattle.iscsi_pdu.specs.Segment.{segment, most_data}
 use Rattle.iscsi_pdu.specs.Answer.{spelling}
@@ -24,10 +24,7 @@ use Rattle.iscsi_login.specs.declared.params.Params.{Params}
 use Rattle.iscsi_login.specs.declared.values.Values.{Values}
 use Rattle.iscsi_login.specs.Values.{AreInRange}
 use Rattle.iscsi_transfer.specs.DataIn.{piece_count}
-use Rattle.iscsi_transfer.specs.declared.progress.Ask.{Ask}
-use Rattle.iscsi_pdu.specs.ScsiCommand.{is_read, is_write}
 use Rattle.scsi_sense.specs.Done.{Outcome}
-use Rattle.scsi_sense.specs.declared.sense.Sense.{Sense}
 use Rattle.scsi_unit.specs.DiskCommands.{most_given}
 use Rattle.iscsi_exchange.specs.ExchangeState.{ExchangeState}
 use Rattle.iscsi_exchange.specs.Exchange.{TextPiece, IsShort, hears}
@@ -35,8 +32,8 @@ use Rattle.iscsi_exchange.proofs.Short.{hears_short}
 use Rattle.iscsi_session.specs.Judging.{reserved_tag, reject}
 use Rattle.iscsi_session.specs.Texts.{text_answer}
 use Rattle.iscsi_session.specs.Acts.{ping_answers, closes, logout_answer, act_answers_by}
-use Rattle.iscsi_session.specs.Requests.{Past, frame_of, stamp}
-use Rattle.iscsi_session.specs.Transfers.{ask_of, next_transfer_tag, r2t_for, r2t_answers, r2t_of}
+use Rattle.iscsi_session.specs.Requests.{Past}
+use Rattle.iscsi_session.specs.Transfers.{r2t_of}
 use Rattle.iscsi_session.specs.Answers.{data_sent, sent_pieces, data_answers, scsi_answer, command_answers}
 use Rattle.iscsi_session.specs.Room.{most_sent}
 use Rattle.iscsi_session.specs.Weight.{request_weight}
@@ -103,11 +100,7 @@ most_answered (opcodes.Other n) waited result exchange numbers params frame whol
 
 response_long : (numbers : Stamp) (frame : Frame) (done : Outcome) (data_ins : ℕ) → length (spelling (scsi_answer numbers frame done data_ins)) ≤ 68
 unfolding scsi_answer
-response_long numbers frame done data_ins = by_sense done.sense refl
-  where
-    by_sense : (o : Option Sense) → done.sense ≡ o → length (spelling (scsi_answer numbers frame done data_ins)) ≤ 68
-    by_sense None e = rw e (omega arith)
-    by_sense (Some sense) e = rw e (omega arith)
+response_long numbers frame done data_ins = grind arith
 
 -- a burst is cut into pieces of which only the last is short
 pieces_of_burst : (burst segment : ℕ) → 512 ≤ burst → 512 ≤ segment → 512 * div_ceil burst segment ≤ 2 * burst
@@ -148,11 +141,7 @@ few_pieces n burst segment long some =
         omega (arith, above, is, next, wide, e)
 
 most_sent_fits : (frame : Frame) → most_sent frame ≤ most_given
-most_sent_fits frame = by_kind (is_read frame.header && not (is_write frame.header)) refl
-  where
-    by_kind : (b : Bool) → (is_read frame.header && not (is_write frame.header)) ≡ b → most_sent frame ≤ most_given
-    by_kind true e = rw e (omega arith)
-    by_kind false e = rw e (omega arith)
+most_sent_fits frame = grind arith
 
 -- all that a command is answered is less than it counts for
 pub command_long : (numbers : Stamp) (values : Values) (frame : Frame) (done : Outcome) → AreInRange values → length done.given ≤ most_given
@@ -194,12 +183,4 @@ r2t_long lun r is short = by_lun lun is short
 
 pub ask_long : (past : Past) (k : ℕ) → length (flat_map spelling (r2t_of past k)) ≤ 48
 unfolding r2t_of
-ask_long past k = by_ask (ask_of past k)
-  where
-    by_ask : (o : Option Ask) → length (flat_map spelling (r2t_answers (option_map (r2t_for (frame_of past.came k).header (next_transfer_tag past) (stamp past)) o)))
-        ≤ 48
-    by_ask None = omega arith
-    by_ask (Some ask) =
-        let header = (frame_of past.came k).header in
-        let r = r2t_for header (next_transfer_tag past) (stamp past) ask in
-        omega (arith, one_spelled (answers.R2t r), r2t_long (lun_field header) r refl (omega (arith, length-take 8 (drop 8 header))))
+ask_long past k = grind arith

@@ -42,7 +42,6 @@ pub mod Came
 pub mod Calm
 pub mod Runs
 mod InPlace
-mod Asked
+mod Stages
 mod Blanked
 mod Drained
-mod Told

@@ -1,7 +1,6 @@
 -- What a session may hold stays small: each step keeps its past within limits, and adds little.
-use Rattle.std.proofs.Common.{◌≡◌, ℕ, ◌+◌, ◌≤◌, ◌&&◌, ◌||◌, List, [], ◌∷◌, ◌++◌, length, Bool, true, false, cond, not, refl, sym, ap, subst, ◌∙◌, arith}
+use Rattle.std.proofs.Common.{◌≡◌, ℕ, ◌+◌, ◌≤◌, ◌&&◌, List, [], ◌∷◌, ◌++◌, length, Bool, true, false, cond, refl, sym, ap, subst, ◌∙◌, arith}
 use Rattle.std.specs.Prelude.{filter}
-use Rattle.std.proofs.lemmas.Bool.{ltb-true}
 use Rattle.std.proofs.lemmas.List.{length-append}
 use Rattle.std.proofs.lemmas.List.Elements.{filter-append}
 use Rattle.iscsi_pdu.specs.Header.{is_immediate, cmd_sn}
@@ -14,13 +13,13 @@ use Rattle.iscsi_session.specs.Functions.{immediate_in}
 use Rattle.iscsi_session.specs.State.{IsLawful, tasks_of}
 use Rattle.iscsi_session.specs.Weight.{pending}
 use Rattle.iscsi_session.proofs.Taken.{request_new}
-use Rattle.iscsi_session.proofs.Kept.{joined, Below, of_kind, kept_of, kept_joined, below_kept, kind_same, command_no_function}
+use Rattle.iscsi_session.proofs.Kept.{joined, Below, of_kind, kept_of, kept_joined, below_kept, kind_same}
 use Rattle.iscsi_session.proofs.Pending.{settled, settled_below}
-use Rattle.iscsi_session.proofs.Accepted.{finished_below, removed_below, now, with, IsAhead, lawful_now, admitted, lawful_with, held_now}
-use Rattle.iscsi_session.proofs.Parts.{both_true, fresh_is, accepted_now, accepted_with}
+use Rattle.iscsi_session.proofs.Accepted.{finished_below, removed_below, now, with, lawful_now, admitted, lawful_with, held_now}
+use Rattle.iscsi_session.proofs.Parts.{fresh_is, accepted_now, accepted_with}
 use Rattle.iscsi_session.proofs.Verdicts.{IsFree}
 use Rattle.iscsi_session.proofs.Feeding.{free_by_past}
-use Rattle.iscsi_session.proofs.Plugging.{near_window}
+use Rattle.iscsi_session.proofs.Plugging.{new_ahead}
 use Rattle.iscsi_session.proofs.Holding.{pending_in, pending_is, pending_held}
 
 -- ---- the requests for immediate delivery that are not finished
@@ -30,14 +29,7 @@ immediate_of past = immediate_in past (unfinished past) + immediate_in past (fun
 
 fewer_still : (p q : ℕ → Bool) (names : List ℕ) → length (filter q (filter p names)) ≤ length (filter q names)
 fewer_still p q [] = omega arith
-fewer_still p q (k ∷ names) = by_case (p k) (q k) refl refl (fewer_still p q names)
-  where
-    by_case : (a b : Bool) → p k ≡ a → q k ≡ b → length (filter q (filter p names)) ≤ length (filter q names)
-        → length (filter q (filter p (k ∷ names))) ≤ length (filter q (k ∷ names))
-    by_case true true e f le = rw (e, f) (omega (arith, le))
-    by_case true false e f le = rw (e, f) le
-    by_case false true e f le = rw (e, f) (omega (arith, le))
-    by_case false false e f le = rw (e, f) le
+fewer_still p q (k ∷ names) = grind (arith, fewer_still p q names)
 
 pub left_few : (q : ℕ → Bool) (gone names : List ℕ) → length (filter q (left gone names)) ≤ length (filter q names)
 unfolding left
@@ -105,15 +97,6 @@ immediate_joined c f i past x lawful a b h =
 
 -- ---- a request is accepted
 
-new_ahead : (past : Past) (lawful : IsLawful past) (n : ℕ) → order.is_new (numbers past) n ≡ true
-    → IsAhead past lawful (order.index_of (numbers past) n) (distance (order.exp_cmd_sn (numbers past)) n)
-unfolding taken_numbers
-new_ahead past lawful n new =
-    let both = both_true (order.in_window (numbers past) n) (order.has_come (numbers past).came (order.index_of (numbers past) n)) new in
-    let near = near_window (numbers past) n lawful.window both.0 in
-    let few = lawful.window.finished in
-    record { number = refl; near = omega arith; missing = both.1 }
-
 next_there : (past : Past) (n : ℕ) → distance (order.exp_cmd_sn (numbers past)) n ≡ distance (tasks_of past).next n
 unfolding tasks_of taken_numbers
 next_there past n = refl
@@ -123,17 +106,8 @@ pub record Comes (past after : Past) : Type 0 where
   pub pending : pending_in after ≤ pending_in past + 1
   pub immediate : immediate_of after ≤ 8
 
-or_true : (b : Bool) → (b || true) ≡ true
-or_true true = refl
-or_true false = refl
-
-was_not : (b : Bool) → not b ≡ false → b ≡ true
-was_not true e = refl
-was_not false e = absurd cc
-
 none_more : (b : Bool) → cond {A = ℕ} (b && false) 1 0 ≡ 0
-none_more true = refl
-none_more false = refl
+none_more b = grind arith
 
 came_now : (past : Past) (frame : Frame) → is_immediate frame.header ≡ true → IsFree past frame → IsLawful past → immediate_of past ≤ 8
     → Comes past (accepted frame past)
@@ -151,14 +125,7 @@ came_now past frame h free lawful few =
     by_kind : (c f : Bool) → is_command frame ≡ c → is_function frame ≡ f
         → immediate_of (joined (now frame) past) ≡ immediate_of past + (cond (is_command frame && true) 1 0 + cond (is_function frame && true) 1 0)
         → immediate_of (joined (now frame) past) ≤ 8
-    by_kind false false a b is = let at = rw (a, b) at is in omega (arith, at)
-    by_kind true f a b is =
-        let no = command_no_function frame a in
-        let room = ltb-true (immediate_of past) 8 (was_not _ (free.room (ap (λ (x : Bool). x || is_function frame) a) h)) in
-        let at = rw (a, no) at is in omega (arith, at, room)
-    by_kind false true a b is =
-        let room = ltb-true (immediate_of past) 8 (was_not _ (free.room (ap (λ (x : Bool). is_command frame || x) b ∙ or_true (is_command frame)) h)) in
-        let at = rw (a, b) at is in omega (arith, at, room)
+    by_kind c f a b is = grind arith
 
 came_with : (past : Past) (frame : Frame) → is_immediate frame.header ≡ false → IsFree past frame → IsLawful past → immediate_of past ≤ 8
     → Comes past (accepted frame past)
@@ -166,7 +133,7 @@ came_with past frame h free lawful few =
     let n = cmd_sn frame.header in
     let tag = free_by_past past frame free.tag in
     let k = order.index_of (numbers past) n in
-    let at = new_ahead past lawful n (sym (fresh_is past frame h) ∙ free.fresh) in
+    let at = new_ahead n past past refl refl lawful lawful (omega arith) (sym (fresh_is past frame h) ∙ free.fresh) in
     let after = joined (with k frame) past in
     let joins = immediate_joined _ _ false past (with k frame) lawful refl refl h in
     let tasks = held_now past lawful k (distance (order.exp_cmd_sn (numbers past)) n) n frame at (next_there past n) in

@@ -17,6 +17,7 @@ use Rattle.std.proofs.lemmas.List.Sums.{prefix_len-le-length}
 use Rattle.std.proofs.lemmas.List.{map-set, length-set}
 use Rattle.std.proofs.Math.ListN.{get_or-map}
 use Rattle.iscsi_session.specs.State.{is_vacant, holding, takes_next, takes, takes_all}
+use Rattle.iscsi_session.proofs.Left.{both_true}
 use Rattle.iscsi_session.specs.Tasks.{requests_at, held_at, keys_in, times, holds, AreLines, lists_of, moves, moves_all}
 
 -- ---- how often a key stands in a line
@@ -146,8 +147,7 @@ marks_kept requests (Some k ∷ keys) there =
     ) refl
 
 there_by : (slot : Option Frame) (n : ℕ) → n ≡ cond (is_some slot) 1 0 → 0 < n → is_some slot ≡ true
-there_by None n e some = absurd (omega arith)
-there_by (Some frame) n e some = refl
+there_by slot n e some = grind arith
 
 pub marks_same : (requests : Slab Frame) (keys : List (Option ℕ)) (due queue : List ℕ)
     → ((key : ℕ) → times key (keys_in keys) + times key due + times key queue ≡ holds requests key)
@@ -284,14 +284,8 @@ vacant_same requests w due queue n once =
     ∙ get_or-map is_some w.keys i None in
     ap (λ (b : Bool). ltb i (order.window - w.unfinished) && not b) same
 
-both_true : (a b : Bool) → (a && not b) ≡ true → (a ≡ true) × (b ≡ false)
-both_true true true e = absurd cc
-both_true true false e = (refl, refl)
-both_true false b e = absurd cc
-
 none_at : (slot : Option ℕ) → is_some slot ≡ false → slot ≡ None
-none_at None e = refl
-none_at (Some k) e = absurd cc
+none_at slot e = grind arith
 
 pub record Held (old new : Slab Frame) (n : ℕ) (frame : Frame) (w after : WindowKeys) (due queue : List ℕ) : Type 0 where
   pub count : length after.keys ≡ length w.keys

@@ -1,9 +1,8 @@
 -- A request acts, and a command is finished: what the session remembers, and that its past stays lawful.
-use Rattle.std.proofs.Common.{◌≡◌, ℕ, ◌+◌, ◌<◌, ◌≤◌, List, [], ◌∷◌, ◌++◌, length, map, get_or, true, false, not, refl, sym, ap, subst, ◌∙◌, arith, append_assoc}
+use Rattle.std.proofs.Common.{◌≡◌, ℕ, ◌+◌, ◌<◌, List, [], ◌∷◌, ◌++◌, length, map, get_or, true, false, not, refl, sym, ap, subst, ◌∙◌, arith, append_assoc}
 use Rattle.std.specs.Prelude.{All}
 use Rattle.std.proofs.lemmas.List.{append-nil, map-append}
 use Rattle.std.proofs.lemmas.List.Elements.{filter-append, All-push, All-nil, All-cons}
-use Rattle.iscsi_order.specs.WindowState as windows
 use Rattle.iscsi_order.specs.Window.{taken as taken_numbers}
 use Rattle.iscsi_session.specs.Requests.{Past, pending, frame_of, is_in, left, is_command, commands, others, counted, over, taken, numbers, due, queue, unfinished, is_function, functions, frames_of, finished}
 use Rattle.iscsi_session.specs.Transfers.{tag_of, task_at, outs_of, tags_of}
@@ -14,8 +13,8 @@ use Rattle.iscsi_session.proofs.Kept.{tags_left, command_no_function, function_n
 use Rattle.iscsi_session.proofs.Pending.{functions_without, functions_other, in_functions, open_not_pending, command_not_pending, drained_finished}
 use Rattle.iscsi_session.proofs.Unfinished.{unfinished_without, unfinished_other}
 use Rattle.iscsi_session.proofs.Standing.{standing_immediate}
-use Rattle.iscsi_session.proofs.Accepted.{handed_le, counted_append, due_is, queue_is, in_queue}
-use Rattle.iscsi_session.proofs.Over.{not_removed, few_over, one_fewer_by, unfinished_less, over_same, over_gone, over_other, over_finished}
+use Rattle.iscsi_session.proofs.Accepted.{counted_append, due_is, queue_is, in_queue}
+use Rattle.iscsi_session.proofs.Over.{not_removed, lawful_step, one_fewer_by, unfinished_less, over_same, over_gone, over_other, over_finished, over_more}
 
 -- ---- Task Management Function Requests
 
@@ -33,22 +32,6 @@ functions_kept past k free e = ap (map (λ a. (frame_of past.came a).header)) (f
 module _ (past : Past) (lawful : IsLawful past) where
   pub distinct_acted : AreDistinct past.acted
   distinct_acted = distinct_front past.acted (due past) (subst AreDistinct lawful.in_order (distinct_taken past.came))
-
-  -- ---- the numbers that are taken are the same
-
-  pub handed_with : (acted finished : List ℕ) → (numbers (record past { acted = acted; finished = finished })).handed ≡ (numbers past).handed
-  unfolding taken_numbers
-  handed_with acted finished = refl
-
-  -- the window, where more is over
-  window_with : (acted finished : List ℕ) → counted past.came (over past) ≤ counted past.came (over (record past { acted = acted; finished = finished }))
-      → counted past.came (over (record past { acted = acted; finished = finished })) ≤ (numbers past).handed
-      → windows.IsLawful (numbers (record past { acted = acted; finished = finished }))
-  window_with acted finished more few = record {
-    finished = (let same = handed_with acted finished in omega arith);
-    handed = handed_le (record past { acted = acted; finished = finished });
-    within = λ j come. (let lt = lawful.window.within j come in omega arith);
-  }
 
   -- ---- the first that is due acts
 
@@ -131,34 +114,34 @@ module _ (past : Past) (lawful : IsLawful past) where
     unfolding functions_of functions
     functions_command = refl
 
-    lawful_by : is_command (frame_of past.came k) ≡ true → windows.IsLawful (numbers with_command) → IsLawful with_command
-    lawful_by e window = record {
-      window = window;
-      distinct = lawful.distinct;
-      delivered = lawful.delivered;
-      in_order = in_order_after ∙ ap (λ (l : List ℕ). (past.acted ++ k ∷ []) ++ l) (sym due_after);
-      below = below_after;
-      acted = acted_after;
-      queued = ap (λ (l : List ℕ). commands past.came past.finished ++ l) (queue_by e)
-          ∙ sym (append_assoc (commands past.came past.finished) (queue past) (left past.removed (k ∷ [])))
-          ∙ ap (λ (l : List ℕ). l ++ left past.removed (k ∷ [])) lawful.queued ∙ sym (left_commands e);
-      at_once = lawful.at_once ∙ sym (others_none e);
-      handed = lawful.handed ∙ sym (handed_with (past.acted ++ k ∷ []) past.finished);
-      fed = lawful.fed;
-      asked = lawful.asked;
-      tags = subst (λ (l : List ℕ). AreDistinct (map (tag_of past.came) l)) (sym unfinished_with_command) lawful.tags;
-      function_tags = subst (λ (l : List ℕ). AreDistinct (map (tag_of past.came) l)) (sym functions_with_command) lawful.function_tags;
-      removed_below = lawful.removed_below;
-      removed_commands = lawful.removed_commands;
-      apart = lawful.apart;
-      drained = record {
-        functions = lawful.drained.functions;
-        acted = lawful.drained.acted;
-        answered = lawful.drained.answered;
-        removed = lawful.drained.removed;
-        once = lawful.drained.once;
-      };
-    }
+    pub lawful_command : is_command (frame_of past.came k) ≡ true → IsLawful with_command
+    lawful_command e =
+        let in_order = in_order_after ∙ ap (λ (l : List ℕ). (past.acted ++ k ∷ []) ++ l) (sym due_after) in
+        let queued : commands past.came past.finished ++ queue with_command ≡ left past.removed (commands past.came (past.acted ++ k ∷ [])) =
+        ap (λ (l : List ℕ). commands past.came past.finished ++ l) (queue_by e)
+        ∙ sym (append_assoc (commands past.came past.finished) (queue past) (left past.removed (k ∷ [])))
+        ∙ ap (λ (l : List ℕ). l ++ left past.removed (k ∷ [])) lawful.queued ∙ sym (left_commands e) in
+        let at_once = lawful.at_once ∙ sym (others_none e) in
+        lawful_step past (past.acted ++ k ∷ []) past.finished past.removed past.drains past.answered lawful (record {
+          over = over_more past k;
+          in_order = in_order;
+          below = below_after;
+          acted = acted_after;
+          queued = queued;
+          at_once = at_once;
+          tags = subst (λ (l : List ℕ). AreDistinct (map (tag_of past.came) l)) (sym unfinished_with_command) lawful.tags;
+          function_tags = subst (λ (l : List ℕ). AreDistinct (map (tag_of past.came) l)) (sym functions_with_command) lawful.function_tags;
+          removed_below = lawful.removed_below;
+          removed_commands = lawful.removed_commands;
+          apart = lawful.apart;
+          drained = record {
+            functions = lawful.drained.functions;
+            acted = lawful.drained.acted;
+            answered = lawful.drained.answered;
+            removed = lawful.drained.removed;
+            once = lawful.drained.once;
+          };
+        })
 
     -- one that is not removed
     module _ (stays : is_in k past.removed ≡ false) where
@@ -167,11 +150,6 @@ module _ (past : Past) (lawful : IsLawful past) where
 
       pub queue_joined : is_command (frame_of past.came k) ≡ true → queue with_command ≡ queue past ++ k ∷ []
       queue_joined e = queue_by e ∙ ap (λ (l : List ℕ). queue past ++ l) kept_one
-
-      pub lawful_command : is_command (frame_of past.came k) ≡ true → IsLawful with_command
-      lawful_command e =
-          let same = ap (counted past.came) (over_same past k stays) in
-          lawful_by e (window_with (past.acted ++ k ∷ []) past.finished (omega arith) (let few = lawful.window.finished in omega arith))
 
       pub tasks_command : is_command (frame_of past.came k) ≡ true
           → record (tasks_of past) { due = frames_of (standing past) rest; queue = (tasks_of past).queue ++ frame_of past.came k ∷ [] } ≡ tasks_of with_command
@@ -190,23 +168,8 @@ module _ (past : Past) (lawful : IsLawful past) where
       pub queue_gone : is_command (frame_of past.came k) ≡ true → queue with_command ≡ queue past
       queue_gone e = queue_by e ∙ ap (λ (l : List ℕ). queue past ++ l) dropped_one ∙ append-nil (queue past)
 
-      over_more : counted past.came (over with_command) ≡ counted past.came (over past) + counted past.came (k ∷ [])
-      over_more = ap (counted past.came) (over_gone past k gone) ∙ counted_append past.came (over past) (k ∷ [])
-
-      queued_gone : is_command (frame_of past.came k) ≡ true
-          → commands past.came past.finished ++ queue with_command ≡ left past.removed (commands past.came (past.acted ++ k ∷ []))
-      queued_gone e =
-          ap (λ (l : List ℕ). commands past.came past.finished ++ l) (queue_gone e) ∙ lawful.queued
-          ∙ sym (append-nil (left past.removed (commands past.came past.acted)))
-          ∙ ap (λ (l : List ℕ). left past.removed (commands past.came past.acted) ++ l) (sym dropped_one) ∙ sym (left_commands e)
-
-      pub lawful_gone : is_command (frame_of past.came k) ≡ true → IsLawful with_command
-      lawful_gone e =
-          let few = few_over with_command (in_order_after ∙ ap (λ (l : List ℕ). (past.acted ++ k ∷ []) ++ l) (sym due_after)) (queued_gone e)
-          (lawful.at_once ∙ sym (others_none e)) lawful.removed_commands
-          (lawful.handed ∙ sym (handed_with (past.acted ++ k ∷ []) past.finished)) in
-          lawful_by e (window_with (past.acted ++ k ∷ []) past.finished (omega (arith, over_more))
-          (let same = handed_with (past.acted ++ k ∷ []) past.finished in omega arith))
+      one_over : counted past.came (over with_command) ≡ counted past.came (over past) + counted past.came (k ∷ [])
+      one_over = ap (counted past.came) (over_gone past k gone) ∙ counted_append past.came (over past) (k ∷ [])
 
       pub tasks_gone : is_command (frame_of past.came k) ≡ true
           → one_fewer (frame_of (standing past) k) (record (tasks_of past) { due = frames_of (standing past) rest }) ≡ tasks_of with_command
@@ -214,7 +177,7 @@ module _ (past : Past) (lawful : IsLawful past) where
       tasks_gone e =
           one_fewer_by _ (frame_of (standing past) k) (record (tasks_of past) { due = frames_of (standing past) rest })
           (standing_immediate past k due_came)
-          ∙ rw (unfinished_less past (numbers past).handed _ _ k lawful due_came over_more, due_after, queue_gone e) refl
+          ∙ rw (unfinished_less past (numbers past).handed _ _ k lawful due_came one_over, due_after, queue_gone e) refl
 
     -- ---- every other request is finished at once
 
@@ -281,23 +244,14 @@ module _ (past : Past) (lawful : IsLawful past) where
         rw (commands_none past.finished e, queue_other e, commands_none past.acted e) lawful.queued in
         let at_once : others past.came (past.finished ++ k ∷ []) ≡ others past.came (past.acted ++ k ∷ []) = rw
         (others_one past.finished e, others_one past.acted e) (ap (λ (l : List ℕ). l ++ k ∷ []) lawful.at_once) in
-        let handed : counted past.came (taken past.came) ≡ (numbers with_other).handed = lawful.handed
-        ∙ sym (handed_with (past.acted ++ k ∷ []) (past.finished ++ k ∷ [])) in
-        let few = few_over with_other in_order queued at_once lawful.removed_commands handed in
-        record {
-          window = window_with (past.acted ++ k ∷ []) (past.finished ++ k ∷ []) (omega (arith, over_other past k (stays_other e) not_pending))
-              (let same = handed_with (past.acted ++ k ∷ []) (past.finished ++ k ∷ []) in omega arith);
-          distinct = lawful.distinct;
-          delivered = lawful.delivered;
+        lawful_step past (past.acted ++ k ∷ []) (past.finished ++ k ∷ []) past.removed past.drains past.answered lawful (record {
+          over = omega (arith, over_other past k (stays_other e) not_pending);
           in_order = in_order;
           below = below_after;
           acted = All-push (λ a. is_in a (past.acted ++ k ∷ []) ≡ true) past.finished k acted_after
               (in_back k past.acted (k ∷ []) (in_at (k ∷ []) 0 0 (omega arith)));
           queued = queued;
           at_once = at_once;
-          handed = handed;
-          fed = lawful.fed;
-          asked = lawful.asked;
           tags = subst (λ (l : List ℕ). AreDistinct (map (tag_of past.came) l)) (sym (unfinished_with_other e)) lawful.tags;
           function_tags = subst (λ (l : List ℕ). AreDistinct (map (tag_of past.came) l)) (sym functions_with_other)
               (tags_left past k (functions past) lawful.function_tags);
@@ -305,7 +259,7 @@ module _ (past : Past) (lawful : IsLawful past) where
           removed_commands = lawful.removed_commands;
           apart = All-push (λ a. is_in a past.removed ≡ false) past.finished k lawful.apart (stays_other e);
           drained = drained_finished past (past.acted ++ k ∷ []) k lawful.drained;
-        }
+        })
 
     pub tasks_other : is_command (frame_of past.came k) ≡ false
         → one_fewer (frame_of past.came k) (record (tasks_of past) { due = frames_of (standing past) rest }) ≡ tasks_of with_other
@@ -372,22 +326,13 @@ module _ (past : Past) (lawful : IsLawful past) where
         rw (one, queue_after) (append_assoc (commands past.came past.finished) (k ∷ []) rest
         ∙ ap (λ (l : List ℕ). commands past.came past.finished ++ l) (sym is) ∙ lawful.queued) in
         let at_once : others past.came (past.finished ++ k ∷ []) ≡ others past.came past.acted = none ∙ lawful.at_once in
-        let handed : counted past.came (taken past.came) ≡ (numbers (finished k past)).handed = lawful.handed
-        ∙ sym (handed_with past.acted (past.finished ++ k ∷ [])) in
-        let few = few_over (finished k past) in_order queued at_once lawful.removed_commands handed in
-        record {
-          window = window_with past.acted (past.finished ++ k ∷ []) (omega (arith, over_finished past k is_not_pending))
-              (let same = handed_with past.acted (past.finished ++ k ∷ []) in omega arith);
-          distinct = lawful.distinct;
-          delivered = lawful.delivered;
+        lawful_step past past.acted (past.finished ++ k ∷ []) past.removed past.drains past.answered lawful (record {
+          over = omega (arith, over_finished past k is_not_pending);
           in_order = in_order;
           below = lawful.below;
           acted = All-push (λ a. is_in a past.acted ≡ true) past.finished k lawful.acted has_acted;
           queued = queued;
           at_once = at_once;
-          handed = handed;
-          fed = lawful.fed;
-          asked = lawful.asked;
           tags = subst (λ (l : List ℕ). AreDistinct (map (tag_of past.came) l)) (sym (unfinished_without past k))
               (tags_left past k (unfinished past) lawful.tags);
           function_tags = subst (λ (l : List ℕ). AreDistinct (map (tag_of past.came) l)) (sym functions_finished) lawful.function_tags;
@@ -395,7 +340,7 @@ module _ (past : Past) (lawful : IsLawful past) where
           removed_commands = lawful.removed_commands;
           apart = All-push (λ a. is_in a past.removed ≡ false) past.finished k lawful.apart queue_stays;
           drained = drained_finished past past.acted k lawful.drained;
-        }
+        })
 
     pub transfers_finished : transfers_of (finished k past) ≡ record (transfers_of past) { list = map (transfer_of past) (left (k ∷ []) (unfinished past)) }
     unfolding transfers_of task_at outs_of tags_of

@@ -1,60 +1,43 @@
 -- How many numbers are over: of the requests that are finished, and of those that were removed and whose turn has come.
-use Rattle.std.proofs.Common.{◌≡◌, ℕ, zero, ◌+◌, ◌-◌, ◌<◌, ◌≤◌, List, [], ◌∷◌, ◌++◌, length, get_or, Bool, true, false, not, cond, refl, sym, ap, ◌∙◌, inl, inr, arith, append_assoc}
+use Rattle.std.proofs.Common.{◌≡◌, ℕ, zero, ◌+◌, ◌-◌, ◌<◌, ◌≤◌, List, [], ◌∷◌, ◌++◌, length, get_or, Bool, true, false, not, cond, refl, sym, ap, ◌∙◌, arith, append_assoc, map}
 use Rattle.std.specs.Prelude.{is_some, All, filter}
-use Rattle.std.proofs.lemmas.Bool.{cases_eq, ne_eqb, false_from_ne_true}
+use Rattle.std.proofs.lemmas.Bool.{false_from_ne_true, not-true}
 use Rattle.std.proofs.lemmas.List.{append-nil}
-use Rattle.std.proofs.lemmas.List.Elements.{filter-append, filter_passes, All-head, All-tail}
+use Rattle.std.proofs.lemmas.List.Elements.{filter-append, filter_passes}
 use Rattle.iscsi_pdu.specs.Header.{is_immediate}
 use Rattle.iscsi_pdu.specs.Frames.{Frame}
-use Rattle.iscsi_session.specs.Requests.{Request, Past, request_at, frame_of, is_in, left, is_command, commands, others, counted, over, pending, taken, numbers, due, queue}
-use Rattle.iscsi_session.specs.State.{TaskLists, IsDelivered, IsLawful, one_fewer}
-use Rattle.iscsi_session.proofs.Left.{filter_filter, filter_cong, and_swap, left_all}
+use Rattle.iscsi_order.specs.Window.{taken as taken_numbers}
+use Rattle.iscsi_session.specs.Requests.{Request, Past, request_at, frame_of, is_in, left, is_command, commands, others, counted, over, pending, taken, numbers, due, queue, Drain, functions, unfinished}
+use Rattle.iscsi_session.specs.State.{TaskLists, IsDelivered, IsLawful, one_fewer, AreDistinct, AreDrained}
+use Rattle.iscsi_session.proofs.Left.{filter_filter, filter_cong, and_swap, left_all, all_in}
 use Rattle.iscsi_session.proofs.Pending.{left_push}
-use Rattle.iscsi_session.proofs.Accepted.{counted_append}
+use Rattle.iscsi_session.specs.Transfers.{tag_of}
+use Rattle.iscsi_session.proofs.Accepted.{counted_append, handed_le}
 
 filter_swap : (p q : ℕ → Bool) (names : List ℕ) → filter p (filter q names) ≡ filter q (filter p names)
 filter_swap p q names =
     filter_filter p q names ∙ filter_cong _ _ names (λ i d lt. and_swap (q (get_or names i d)) (p (get_or names i d)))
     ∙ sym (filter_filter q p names)
 
-split_with : (n c : Bool) (q : ℕ → Bool) (came : List Request) (k : ℕ) (names : List ℕ) → is_some (request_at came k).number ≡ n → q k ≡ c
-    → counted came names ≡ counted came (filter q names) + counted came (filter (λ a. not (q a)) names)
-    → counted came (k ∷ names) ≡ counted came (filter q (k ∷ names)) + counted came (filter (λ a. not (q a)) (k ∷ names))
-split_with true true q came k names e f rest = rw (e, f, e) (omega arith)
-split_with true false q came k names e f rest = rw (e, f, e) (omega arith)
-split_with false true q came k names e f rest = rw (e, f, e) rest
-split_with false false q came k names e f rest = rw (e, f, e) rest
-
 -- those for which it holds, and the others
 pub split : (q : ℕ → Bool) (came : List Request) (names : List ℕ) → counted came names ≡ counted came (filter q names) + counted came (filter (λ a. not (q a)) names)
 split q came [] = refl
-split q came (k ∷ names) = split_with _ _ q came k names refl refl (split q came names)
-
-holds_of : (q : ℕ → Bool) (k : ℕ) (names : List ℕ) → All (λ a. q a ≡ true) names → is_in k names ≡ true → q k ≡ true
-holds_of q k [] every h = absurd cc
-holds_of q k (a ∷ rest) every h = elim (cases_eq a k) [
-  | inl same ↦ ap q (sym same) ∙ All-head (λ a. q a ≡ true) a rest every
-  | inr differs ↦ let there = rw (ne_eqb a k differs) at h in holds_of q k rest (All-tail (λ a. q a ≡ true) a rest every) there
-]
+split q came (k ∷ names) = grind (arith, split q came names)
 
 -- what was removed is a SCSI Command
 pub removed_command : (past : Past) → IsLawful past → (k : ℕ) → is_in k past.removed ≡ true → is_command (frame_of past.came k) ≡ true
-removed_command past lawful k e = holds_of (λ a. is_command (frame_of past.came a)) k past.removed lawful.removed_commands e
+removed_command past lawful k e = all_in (λ a. is_command (frame_of past.came a) ≡ true) k past.removed lawful.removed_commands e
 
 pub not_removed : (past : Past) (k : ℕ) → All (λ a. is_command (frame_of past.came a) ≡ true) past.removed → is_command (frame_of past.came k) ≡ false
     → is_in k past.removed ≡ false
-not_removed past k all e = false_from_ne_true (is_in k past.removed) (λ h. let yes = holds_of (λ a. is_command (frame_of past.came a)) k past.removed all h
+not_removed past k all e = false_from_ne_true (is_in k past.removed) (λ h. let yes = all_in (λ a. is_command (frame_of past.came a) ≡ true) k past.removed all h
     in absurd (let no = sym yes ∙ e in cc))
 
 others_stay : (past : Past) (names : List ℕ) → All (λ a. is_command (frame_of past.came a) ≡ true) past.removed
     → left past.removed (others past.came names) ≡ others past.came names
 others_stay past names all = left_all past.removed (others past.came names) (λ i d lt. not_removed past _ all
-    (was_not (is_command (frame_of past.came (get_or (others past.came names) i d)))
+    (not-true (is_command (frame_of past.came (get_or (others past.came names) i d)))
     (filter_passes (λ k. not (is_command (frame_of past.came k))) names i d lt)))
-  where
-    was_not : (b : Bool) → not b ≡ true → b ≡ false
-    was_not true e = absurd cc
-    was_not false e = refl
 
 -- of those that acted: the removed ones, the SCSI Commands that were not removed, and the other requests
 pub acted_counted : (past : Past) → All (λ a. is_command (frame_of past.came a) ≡ true) past.removed
@@ -97,19 +80,14 @@ few_over past in_order queued at_once all handed =
 
 -- one that has no number is for immediate delivery
 fewer_by : (n i : Bool) (handed done : ℕ) → n ≡ not i → cond i (handed - done) (handed - done - 1) ≡ handed - (done + length (cond n (zero ∷ []) []))
-fewer_by true true handed done e = absurd cc
-fewer_by true false handed done e = omega arith
-fewer_by false true handed done e = omega arith
-fewer_by false false handed done e = absurd cc
+fewer_by n i handed done e = grind arith
 
 one_counted : (b : Bool) (came : List Request) (k : ℕ) → is_some (request_at came k).number ≡ b → counted came (k ∷ []) ≡ length (cond b (zero ∷ []) [])
-one_counted true came k e = rw e refl
-one_counted false came k e = rw e refl
+one_counted b came k e = grind arith
 
 pub one_fewer_by : (b : Bool) (frame : Frame) (tasks : TaskLists) → is_immediate frame.header ≡ b
     → one_fewer frame tasks ≡ record tasks { unfinished = cond b tasks.unfinished (tasks.unfinished - 1) }
-one_fewer_by true frame tasks e = rw e refl
-one_fewer_by false frame tasks e = rw e refl
+one_fewer_by b frame tasks e = grind arith
 
 -- of so many that are handed over, one more is over
 pub unfinished_less : (past : Past) (handed n m k : ℕ) → IsLawful past → k < length past.came → m ≡ n + counted past.came (k ∷ [])
@@ -130,6 +108,12 @@ over_by true past k finished e =
 over_by false past k finished e =
     ap (λ (l : List ℕ). finished ++ l) (filter-append (λ a. is_in a past.removed) past.acted (k ∷ []) ∙ rw e refl)
     ∙ sym (append_assoc finished (filter (λ a. is_in a past.removed) past.acted) [])
+
+pub over_more : (past : Past) (k : ℕ) → counted past.came (over past) ≤ counted past.came (over (record past { acted = past.acted ++ k ∷ [] }))
+over_more past k =
+    let e = ap (counted past.came) (over_by _ past k (left (pending past) past.finished) refl) in
+    let f = counted_append past.came (over past) (cond (is_in k past.removed) (k ∷ []) []) in
+    omega arith
 
 -- one that is not removed
 pub over_same : (past : Past) (k : ℕ) → is_in k past.removed ≡ false → over (record past { acted = past.acted ++ k ∷ [] }) ≡ over past
@@ -166,3 +150,48 @@ over_finished past k free =
     let c = counted_append came done (k ∷ []) in
     let d = counted_append came done gone in
     omega arith
+
+-- ---- a step in which no request comes
+
+-- what is to be shown of it
+pub record IsLawfulStep (past after : Past) : Type 0 where
+  pub over : counted past.came (over past) ≤ counted past.came (over after)
+  pub in_order : taken past.came ≡ after.acted ++ due after
+  pub below : All (λ k. k < length past.came) after.acted
+  pub acted : All (λ k. is_in k after.acted ≡ true) after.finished
+  pub queued : commands past.came after.finished ++ queue after ≡ left after.removed (commands past.came after.acted)
+  pub at_once : others past.came after.finished ≡ others past.came after.acted
+  pub tags : AreDistinct (map (tag_of past.came) (unfinished after))
+  pub function_tags : AreDistinct (map (tag_of past.came) (functions after))
+  pub removed_below : All (λ k. k < length past.came) after.removed
+  pub removed_commands : All (λ k. is_command (frame_of past.came k) ≡ true) after.removed
+  pub apart : All (λ k. is_in k after.removed ≡ false) after.finished
+  pub drained : AreDrained after
+
+pub lawful_step : (past : Past) (acted finished removed : List ℕ) (drains : List Drain) (answered : List ℕ) → IsLawful past
+    → IsLawfulStep past (record past { acted = acted; finished = finished; removed = removed; drains = drains; answered = answered })
+    → IsLawful (record past { acted = acted; finished = finished; removed = removed; drains = drains; answered = answered })
+unfolding taken_numbers
+lawful_step past acted finished removed drains answered lawful step =
+    let after : Past = record past { acted = acted; finished = finished; removed = removed; drains = drains; answered = answered } in
+    let more = step.over in
+    let few = few_over after step.in_order step.queued step.at_once step.removed_commands lawful.handed in
+    record {
+      window = record { finished = few; handed = handed_le after; within = λ j come. (let lt = lawful.window.within j come in omega arith) };
+      distinct = lawful.distinct;
+      delivered = lawful.delivered;
+      in_order = step.in_order;
+      below = step.below;
+      acted = step.acted;
+      queued = step.queued;
+      at_once = step.at_once;
+      handed = lawful.handed;
+      fed = lawful.fed;
+      asked = lawful.asked;
+      tags = step.tags;
+      function_tags = step.function_tags;
+      removed_below = step.removed_below;
+      removed_commands = step.removed_commands;
+      apart = step.apart;
+      drained = step.drained;
+    }

@@ -1,5 +1,5 @@
 -- What a session remembers of its past, part by part.
-use Rattle.std.proofs.Common.{◌≡◌, ℕ, suc, ◌+◌, ◌-◌, ◌^◌, ◌%◌, ◌<◌, List, [], ◌∷◌, ◌++◌, map, get_or, ltb, Bool, true, false, not, cond, ◌&&◌, None, refl, sym, ap, ◌∙◌, subst, arith, append-nil}
+use Rattle.std.proofs.Common.{◌≡◌, ℕ, suc, ◌+◌, ◌-◌, ◌^◌, ◌%◌, ◌<◌, List, [], ◌∷◌, ◌++◌, map, get_or, ltb, Bool, true, false, cond, None, refl, sym, ap, ◌∙◌, subst, arith, append-nil}
 use Rattle.std.specs.Prelude.{is_some, Result, Ok, Err, OnOk, OnErr}
 use Rattle.std.specs.Result.{is_err}
 use Rattle.std.specs.List.{range_with_len}
@@ -30,6 +30,7 @@ use Rattle.iscsi_session.proofs.Fronts.{frame_marked}
 use Rattle.iscsi_session.proofs.Kept.{joined}
 use Rattle.iscsi_session.proofs.Unfinished.{transfers_joined}
 use Rattle.iscsi_session.proofs.Accepted.{HasFreeTag, marks_are, finished_below, removed_below, functions_of_joined, now, with, IsAhead, lawful_now, admitted, lawful_with, held_now}
+use Rattle.iscsi_session.proofs.Left.{both_true}
 use Rattle.iscsi_session.proofs.Runs.{lawful_answering, statuses_answering, tasks_answering, transfers_answering, functions_answering}
 
 pub on_err_known : {T E P : Type 0} (r : Result T E) → P → OnErr r P
@@ -131,11 +132,6 @@ accepted_now past frame h = rw h refl
 pub accepted_with : (past : Past) (frame : Frame) → is_immediate frame.header ≡ false
     → joined (with (order.index_of (numbers past) (cmd_sn frame.header)) frame) past ≡ accepted frame past
 accepted_with past frame h = rw h refl
-
-pub both_true : (a b : Bool) → (a && not b) ≡ true → (a ≡ true) × (b ≡ false)
-both_true true true e = absurd cc
-both_true true false e = (refl, refl)
-both_true false b e = absurd cc
 
 -- what is vacant is ahead of those taken
 pub ahead_of : (past : Past) (lawful : IsLawful past) (n : ℕ) → is_vacant (tasks_of past) n ≡ true

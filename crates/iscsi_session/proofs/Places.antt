@@ -2,7 +2,7 @@
 use Rattle.std.proofs.Common.{◌≡◌, ◌≢◌, ℕ, zero, suc, ◌<◌, List, [], ◌∷◌, ◌++◌, length, map, set, ltb, Bool, true, false, cond, ◌||◌, Option, Some, None, ◌==◌, eqb, refl, sym, ap, ◌∙◌, inl, inr, arith}
 use Rattle.std.specs.Prelude.{All, position, find, filter, remove, option_map, is_some, slice_get, slice_index_or}
 use Rattle.std.specs.List.{position_or_len}
-use Rattle.std.proofs.lemmas.Bool.{cases_eq, eq-eqb, eqb-true, ne_eqb, ltb-true, ltb-false, lt-ltb, le-ltb}
+use Rattle.std.proofs.lemmas.Bool.{cases_eq, eq-eqb, eqb-true, ne_eqb}
 use Rattle.std.proofs.lemmas.List.{map-append}
 use Rattle.std.proofs.lemmas.List.Elements.{filter-append, All-head, All-tail}
 use Rattle.iscsi_session.specs.Requests.{is_in, left}
@@ -12,25 +12,17 @@ use Rattle.iscsi_session.proofs.Left.{left_first}
 -- ---- a search
 
 ltb_by : (b : Bool) (n m : ℕ) → ltb n m ≡ b → ltb (suc n) (suc m) ≡ b
-ltb_by true n m e = let lt = ltb-true n m e in lt-ltb (suc n) (suc m) (omega arith)
-ltb_by false n m e = let le = ltb-false n m e in le-ltb (suc n) (suc m) (omega arith)
+ltb_by b n m e = grind arith
 
 later : (found : Bool) (n : ℕ) → cond found (Some (suc n)) None ≡ option_map suc (cond found (Some n) None)
-later true n = refl
-later false n = refl
+later found n = grind arith
 
 position_later : {Y : Type 0} (p : Y → Bool) (y : Y) (ys : List Y) → p y ≡ false → position_or_len p (y ∷ ys) ≡ suc (position_or_len p ys)
 position_later p y ys e = rw e (omega arith)
 
 pub position_with : {Y : Type 0} (b : Bool) (p : Y → Bool) (y : Y) (ys : List Y) → p y ≡ b
     → position p (y ∷ ys) ≡ cond b (Some 0) (option_map suc (position p ys))
-position_with true p y ys e =
-    let first : position_or_len p (y ∷ ys) ≡ 0 = rw e refl in
-    ap (λ (m : ℕ). cond (ltb m (suc (length ys))) (Some m) None) first ∙ ap (λ (b : Bool). cond b (Some 0) None) (lt-ltb 0 (suc (length ys)) (omega arith))
-position_with false p y ys e =
-    let n = position_or_len p ys in
-    ap (λ (m : ℕ). cond (ltb m (suc (length ys))) (Some m) None) (position_later p y ys e)
-    ∙ ap (λ (b : Bool). cond b (Some (suc n)) None) (ltb_by _ n (length ys) refl) ∙ later (ltb n (length ys)) n
+position_with b p y ys e = grind arith
 
 -- what a search among what f makes of names finds
 abbrev pub Located : {Y : Type 0} → (Y → Bool) → (ℕ → Y) → List ℕ → Option ℕ → Type 0
@@ -59,8 +51,7 @@ index_map f d (a ∷ names) zero k e = let same : a ≡ k = cc in ap f same
 index_map f d (a ∷ names) (suc i) k e = index_map f d names i k e
 
 pub or_known : (a b : Bool) → b ≡ true → (a || b) ≡ true
-or_known true b e = refl
-or_known false b e = e
+or_known a b e = grind arith
 
 pub in_get : (names : List ℕ) (i k : ℕ) → slice_get names i ≡ Some k → is_in k names ≡ true
 in_get [] i k e = absurd cc
@@ -110,23 +101,17 @@ remove_map {Y = Y} f (a ∷ names) (suc i) k distinct at =
 
 pub missing : (f : ℕ → ℕ) (n : ℕ) (names : List ℕ) → find (λ k. f k == n) names ≡ None → is_in n (map f names) ≡ false
 missing f n [] e = refl
-missing f n (a ∷ names) e = missing_with (f a == n) refl (λ h. missing f n names h)
-  where
-    missing_with : (b : Bool) → (f a == n) ≡ b → (find (λ k. f k == n) names ≡ None → is_in n (map f names) ≡ false) → is_in n (map f (a ∷ names)) ≡ false
-    missing_with true is rest = absurd (let h : Some a ≡ None = rw is at e in cc)
-    missing_with false is rest = let h = rw is at e in rw is (rest h)
+missing f n (a ∷ names) e = grind (arith, missing f n names)
 
 -- ---- what was found
 
 pub found_or_not : {Y : Type 0} (p : Y → Bool) (f : ℕ → Y) (names : List ℕ) (at : Option ℕ) → Located p f names at
     → is_some at ≡ is_some (find (λ k. p (f k)) names)
-found_or_not p f names None found = ap is_some (sym found)
-found_or_not p f names (Some i) found = ap is_some (sym found.1)
+found_or_not p f names at found = grind arith
 
 self_with : (b : Bool) (f : ℕ → ℕ) (k a : ℕ) (names : List ℕ) → (f a == f k) ≡ b → (b ≡ true → a ≡ k) → (b ≡ false → find (λ j. f j == f k) names ≡ Some k)
     → find (λ j. f j == f k) (a ∷ names) ≡ Some k
-self_with true f k a names e here rest = rw e (ap (λ (n : ℕ). Some n) (here refl))
-self_with false f k a names e here rest = rw e (rest refl)
+self_with b f k a names e here rest = grind arith
 
 in_map : (f : ℕ → ℕ) (k : ℕ) (names : List ℕ) → is_in k names ≡ true → is_in (f k) (map f names) ≡ true
 in_map f k [] e = absurd cc
@@ -159,21 +144,11 @@ first_passes q k (a ∷ names) e = first_with (q a) refl (λ h. first_passes q k
 
 pub none_passes : (q : ℕ → Bool) (names : List ℕ) → find q names ≡ None → filter q names ≡ []
 none_passes q [] e = refl
-none_passes q (a ∷ names) e = none_with (q a) refl (λ h. none_passes q names h)
-  where
-    none_with : (b : Bool) → q a ≡ b → (find q names ≡ None → filter q names ≡ []) → filter q (a ∷ names) ≡ []
-    none_with true is rest = absurd (let h : Some a ≡ None = rw is at e in cc)
-    none_with false is rest = let h = rw is at e in rw is (rest h)
-
-count_map_with : {Y : Type 0} (b : Bool) (p : Y → Bool) (f : ℕ → Y) (a : ℕ) (names : List ℕ) → p (f a) ≡ b
-    → length (filter p (map f names)) ≡ length (filter (λ k. p (f k)) names)
-    → length (filter p (map f (a ∷ names))) ≡ length (filter (λ k. p (f k)) (a ∷ names))
-count_map_with true p f a names e rest = rw (e, rest) refl
-count_map_with false p f a names e rest = rw e rest
+none_passes q (a ∷ names) e = grind (arith, none_passes q names)
 
 pub count_map : {Y : Type 0} (p : Y → Bool) (f : ℕ → Y) (names : List ℕ) → length (filter p (map f names)) ≡ length (filter (λ k. p (f k)) names)
 count_map p f [] = refl
-count_map p f (a ∷ names) = count_map_with (p (f a)) p f a names refl (count_map p f names)
+count_map p f (a ∷ names) = grind (arith, count_map p f names)
 
 -- ---- what is told of one name
 

@@ -1,7 +1,7 @@
 -- A number is plugged: what the session remembers, and that its past stays lawful.
-use Rattle.std.proofs.Common.{◌≡◌, ℕ, ◌+◌, ◌-◌, ◌^◌, ◌<◌, ◌≤◌, List, length, Bool, true, false, ◌&&◌, ◌==◌, ltb, refl, sym, ap, subst, ◌∙◌, arith, append-nil, inl, inr}
+use Rattle.std.proofs.Common.{◌≡◌, ℕ, ◌+◌, ◌-◌, ◌^◌, ◌<◌, ◌≤◌, List, length, true, false, ◌&&◌, ◌==◌, refl, sym, ap, subst, ◌∙◌, arith, append-nil, inl, inr}
 use Rattle.std.specs.Prelude.{◌⊎◌}
-use Rattle.std.proofs.lemmas.Bool.{eqb-true, ltb-true, lt-ltb}
+use Rattle.std.proofs.lemmas.Bool.{ltb-true, lt-ltb, and_parts}
 use Rattle.std.proofs.lemmas.Bool.Decides.{leb_tells}
 use Rattle.iscsi_order.specs.Window as order
 use Rattle.iscsi_order.specs.Window.{taken as taken_numbers, window}
@@ -12,13 +12,13 @@ use Rattle.iscsi_session.specs.Requests.{Past, numbers}
 use Rattle.iscsi_session.specs.declared.transfers.Transfer.{Transfer}
 use Rattle.iscsi_session.specs.Functions.{plug, plugged}
 use Rattle.iscsi_session.specs.State.{SessionState, TaskLists, IsLawful, Stands, tasks_of, transfers_of, functions_of, is_vacant, holding, takes_all}
-use Rattle.iscsi_session.proofs.Left.{and_true_both}
+use Rattle.iscsi_session.proofs.Left.{both_true}
 use Rattle.iscsi_session.proofs.Kept.{joined}
 use Rattle.iscsi_session.proofs.Exchanging.{exchange_joined}
 use Rattle.iscsi_session.proofs.Unfinished.{transfers_joined}
 use Rattle.iscsi_session.proofs.Places.{or_known}
-use Rattle.iscsi_session.proofs.Accepted.{HasFreeTag, finished_below, removed_below, functions_of_joined, with, lawful_with, held_now}
-use Rattle.iscsi_session.proofs.Parts.{parts, stands_tasks, ahead_of, both_true}
+use Rattle.iscsi_session.proofs.Accepted.{HasFreeTag, IsAhead, finished_below, removed_below, functions_of_joined, with, lawful_with, held_now}
+use Rattle.iscsi_session.proofs.Parts.{parts, stands_tasks, ahead_of}
 
 -- it bears no tag
 free_plug : (past : Past) → HasFreeTag past plug
@@ -40,14 +40,7 @@ stands_plugged n past state s free =
 -- ---- a number inside the window, whatever its size
 
 at_most_cases : (a b : ℕ) → is_at_most a b ≡ true → (a ≡ b) ⊎ ((0 < distance a b) × (distance a b < 2 ^ 31))
-at_most_cases a b e = by_case (a == b) refl
-  where
-    by_case : (c : Bool) → (a == b) ≡ c → (a ≡ b) ⊎ ((0 < distance a b) × (distance a b < 2 ^ 31))
-    by_case true h = inl (eqb-true a b h)
-    by_case false h =
-        let rest : (ltb 0 (distance a b) && ltb (distance a b) (2 ^ 31)) ≡ true = rw h at e in
-        let both = and_true_both (ltb 0 (distance a b)) (ltb (distance a b) (2 ^ 31)) rest in
-        inr (ltb-true 0 (distance a b) both.0, ltb-true (distance a b) (2 ^ 31) both.1)
+at_most_cases a b e = grind arith
 
 at_most_of : (a b : ℕ) → 0 < distance a b → distance a b < 2 ^ 31 → is_at_most a b ≡ true
 at_most_of a b some few = or_known (a == b) _ (rw (lt-ltb 0 (distance a b) some) (lt-ltb (distance a b) (2 ^ 31) few))
@@ -76,7 +69,7 @@ unfolding taken_numbers
 near_window past n lawful inside = elim (leb_tells (2 ^ 32) n) [
   | inr less ↦ ltb-true _ _ (sym (window_is past n lawful less.1) ∙ inside)
   | inl great ↦
-      let both = and_true_both (is_at_most (order.exp_cmd_sn past) n) (is_at_most n (order.max_cmd_sn past)) inside in
+      let both = and_parts (is_at_most (order.exp_cmd_sn past) n) (is_at_most n (order.max_cmd_sn past)) inside in
       let w = wrapped (order.exp_cmd_sn past) (order.max_cmd_sn past) n (omega arith) (omega arith) great.1 both.0 both.1 in
       let near = ltb-true _ _ (sym (window_is past (n - 2 ^ 32) lawful w.0) ∙ w.2) in
       subst (λ (d : ℕ). d < past.finished + window - length (taken_numbers past)) w.1 near
@@ -110,25 +103,23 @@ module _ (n : ℕ) (past after : Past) (came : after.came ≡ past.came) (params
   unfolding tasks_of taken_numbers
   place_now = refl
 
-  pub plugged_lawful : IsLawful past → IsLawful after → (numbers past).finished ≤ (numbers after).finished → order.is_new (numbers past) n ≡ true
-      → IsLawful (plugged n after)
-  plugged_lawful lawful lawful_after more new =
+  pub new_ahead : IsLawful past → (lawful_after : IsLawful after) → (numbers past).finished ≤ (numbers after).finished → order.is_new (numbers past) n ≡ true
+      → IsAhead after lawful_after (order.index_of (numbers after) n) (distance (order.exp_cmd_sn (numbers after)) n)
+  new_ahead lawful lawful_after more new =
       let both = both_true (order.in_window (numbers past) n) (order.has_come (numbers past).came (order.index_of (numbers past) n)) new in
       let near = near_window (numbers past) n lawful.window both.0 in
       let few = lawful_after.window.finished in
       let near_now : distance (order.exp_cmd_sn (numbers after)) n + ((numbers after).handed - (numbers after).finished) < window =
       omega (arith, near, same_distance, same_handed, same_length, more, few) in
-      lawful_with after lawful_after _ (distance (order.exp_cmd_sn (numbers after)) n) plug refl
-      (record { number = handed_at; near = near_now; missing = missing_now both.1 }) (free_plug after)
+      record { number = handed_at; near = near_now; missing = missing_now both.1 }
+
+  pub plugged_lawful : IsLawful past → IsLawful after → (numbers past).finished ≤ (numbers after).finished → order.is_new (numbers past) n ≡ true
+      → IsLawful (plugged n after)
+  plugged_lawful lawful lawful_after more new =
+      lawful_with after lawful_after _ (distance (order.exp_cmd_sn (numbers after)) n) plug refl (new_ahead lawful lawful_after more new) (free_plug after)
 
   -- what is remembered then
   pub plugged_tasks : IsLawful past → IsLawful after → (numbers past).finished ≤ (numbers after).finished → order.is_new (numbers past) n ≡ true
       → takes_all (holding n plug (tasks_of after)) ≡ tasks_of (plugged n after)
   plugged_tasks lawful lawful_after more new =
-      let both = both_true (order.in_window (numbers past) n) (order.has_come (numbers past).came (order.index_of (numbers past) n)) new in
-      let near = near_window (numbers past) n lawful.window both.0 in
-      let few = lawful_after.window.finished in
-      let near_now : distance (order.exp_cmd_sn (numbers after)) n + ((numbers after).handed - (numbers after).finished) < window =
-      omega (arith, near, same_distance, same_handed, same_length, more, few) in
-      held_now after lawful_after _ (distance (order.exp_cmd_sn (numbers after)) n) n plug
-      (record { number = handed_at; near = near_now; missing = missing_now both.1 }) place_now
+      held_now after lawful_after _ (distance (order.exp_cmd_sn (numbers after)) n) n plug (new_ahead lawful lawful_after more new) place_now

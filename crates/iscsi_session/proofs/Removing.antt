@@ -24,8 +24,8 @@ use Rattle.iscsi_session.proofs.Unfinished.{unfinished_came, unfinished_command,
 use Rattle.iscsi_session.proofs.Standing.{numbered_standing, place_standing, length_standing, standing_at}
 use Rattle.iscsi_session.proofs.Taken.{beyond_not_taken, taken_below}
 use Rattle.iscsi_session.proofs.Fronts.{first_of, frame_come, frame_missing, place_come, place_missing, moment_above}
-use Rattle.iscsi_session.proofs.Accepted.{handed_is, handed_le, counted_append, due_is, in_queue}
-use Rattle.iscsi_session.proofs.Over.{split, acted_counted, few_over}
+use Rattle.iscsi_session.proofs.Accepted.{handed_is, counted_append, due_is, in_queue}
+use Rattle.iscsi_session.proofs.Over.{split, acted_counted, lawful_step}
 use Rattle.iscsi_session.proofs.Parts.{parts, stands_parts}
 
 pub filter_map_names : {X Y : Type 0} (p : Y → Bool) (f : X → Y) (names : List X) → filter p (map f names) ≡ map f (filter (λ k. p (f k)) names)
@@ -34,24 +34,20 @@ filter_map_names {Y = Y} p f (k ∷ names) = by_case (p (f k)) refl (filter_map_
   where
     by_case : (b : Bool) → p (f k) ≡ b → filter p (map f names) ≡ map f (filter (λ k. p (f k)) names)
         → filter p (map f (k ∷ names)) ≡ map f (filter (λ k. p (f k)) (k ∷ names))
-    by_case true e rest = rw e (ap (λ (l : List Y). f k ∷ l) rest)
-    by_case false e rest = rw e rest
+    by_case b e rest = grind arith
 
 pub map_map_names : {Y Z : Type 0} (g : Y → Z) (f : ℕ → Y) (names : List ℕ) → map g (map f names) ≡ map (λ k. g (f k)) names
 map_map_names g f [] = refl
 map_map_names {Z = Z} g f (k ∷ names) = ap (λ (l : List Z). g (f k) ∷ l) (map_map_names g f names)
 
 pub void_kept : (reach : FunctionReach) (b : Bool) → void_if reach (void b) ≡ void b
-void_kept reach true = refl
-void_kept reach false = refl
+void_kept reach b = grind arith
 
 and_true : (a b : Bool) → a ≡ true → (a && b) ≡ b
-and_true true b e = refl
-and_true false b e = absurd cc
+and_true a b e = grind arith
 
 and_false : (a b : Bool) → (a ≡ true → b ≡ false) → (a && b) ≡ false
-and_false true b e = e refl
-and_false false b e = refl
+and_false a b e = grind arith
 
 module _ (reach : FunctionReach) (past : Past) (lawful : IsLawful past) where
   abbrev hit : ℕ → Bool
@@ -178,24 +174,13 @@ module _ (reach : FunctionReach) (past : Past) (lawful : IsLawful past) where
   pub lawful_removing : IsLawful after
   lawful_removing =
       let in_order : taken past.came ≡ past.acted ++ due after = lawful.in_order ∙ ap (λ (l : List ℕ). past.acted ++ l) (sym due_same) in
-      let handed : counted past.came (taken past.came) ≡ (numbers after).handed = lawful.handed ∙ sym handed_same in
-      let few = few_over after in_order (sym commands_left) lawful.at_once all_commands handed in
-      record {
-        window = record {
-          finished = few;
-          handed = handed_le after;
-          within = λ j come. (let lt = lawful.window.within j come in let more = over_more in omega arith);
-        };
-        distinct = lawful.distinct;
-        delivered = lawful.delivered;
+      lawful_step past past.acted past.finished (past.removed ++ gone) past.drains past.answered lawful (record {
+        over = omega (arith, over_more);
         in_order = in_order;
         below = lawful.below;
         acted = lawful.acted;
         queued = sym commands_left;
         at_once = lawful.at_once;
-        handed = handed;
-        fed = lawful.fed;
-        asked = lawful.asked;
         tags = subst (λ (l : List ℕ). AreDistinct (map (tag_of past.came) l)) (sym unfinished_hit)
             (distinct_map_filter (tag_of past.came) (λ k. not (hit k)) (unfinished past) lawful.tags);
         function_tags = subst (λ (l : List ℕ). AreDistinct (map (tag_of past.came) l)) (sym functions_same) lawful.function_tags;
@@ -204,7 +189,7 @@ module _ (reach : FunctionReach) (past : Past) (lawful : IsLawful past) where
         apart = λ i d lt. is_in_append _ past.removed gone
             ∙ rw (lawful.apart i d lt, finished_apart _ (in_at past.finished i d lt)) refl;
         drained = drained_removing past gone lawful.drained;
-      }
+      })
 
   -- ---- as they stand
 

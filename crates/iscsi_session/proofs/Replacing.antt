@@ -1,7 +1,6 @@
 -- The first request that is due is taken out of the slab, and a plug stands at its key for a number of the window.
-use Rattle.std.proofs.Common.{◌≡◌, ℕ, ◌+◌, ◌-◌, ◌<◌, List, ◌∷◌, length, drop, get_or, ltb, remove, Bool, true, false, not, cond, ◌&&◌, Option, Some, None, refl, sym, ap, subst, ◌∙◌, arith}
+use Rattle.std.proofs.Common.{◌≡◌, ℕ, ◌+◌, ◌-◌, ◌<◌, List, ◌∷◌, length, drop, get_or, ltb, remove, Bool, true, not, cond, ◌&&◌, Option, Some, None, refl, sym, ap, subst, ◌∙◌, arith}
 use Rattle.std.specs.Prelude.{is_some, if◌then◌else◌}
-use Rattle.std.proofs.lemmas.Bool.{ltb-true, lt-ltb}
 use Rattle.slab.specs.Slab.{Slab, get, Updates}
 use Rattle.iscsi_pdu.specs.Header.{is_immediate}
 use Rattle.iscsi_pdu.specs.Frames.{Frame}
@@ -13,7 +12,6 @@ use Rattle.iscsi_order.specs.Serial.{distance}
 use Rattle.iscsi_session.specs.Functions.{plug}
 use Rattle.iscsi_session.specs.State.{one_fewer, holding, takes_all, window_of}
 use Rattle.iscsi_session.specs.Tasks.{requests_at, keys_in, times, holds, AreLines, lists_of, moves_all}
-use Rattle.iscsi_session.proofs.Left.{and_true_both}
 use Rattle.iscsi_session.proofs.Over.{one_fewer_by}
 use Rattle.iscsi_session.proofs.Lines.{first_out, once-remove, marks_same, holds_key}
 
@@ -23,15 +21,10 @@ counted_out frame w = if is_immediate frame.header then w else record w { unfini
 
 counted_by : (b : Bool) (frame : Frame) (w : WindowKeys) → is_immediate frame.header ≡ b
     → counted_out frame w ≡ record w { unfinished = cond b w.unfinished (w.unfinished - 1) }
-counted_by true frame w e = rw e refl
-counted_by false frame w e = rw e refl
+counted_by b frame w e = grind arith
 
 vacant_by : (d u : ℕ) (o b : Bool) → (ltb d (window - u) && o) ≡ true → (ltb d (window - cond b u (u - 1)) && o) ≡ true
-vacant_by d u o true e = e
-vacant_by d u o false e =
-    let both = and_true_both (ltb d (window - u)) o e in
-    let less = ltb-true d (window - u) both.0 in
-    rw (lt-ltb d (window - (u - 1)) (omega arith)) both.1
+vacant_by d u o b e = grind arith
 
 vacant_after : (frame : Frame) (w : WindowKeys) (n : ℕ) → windows.is_vacant w n ≡ true → windows.is_vacant (counted_out frame w) n ≡ true
 vacant_after frame w n e =

@@ -1,5 +1,5 @@
 -- The answers of a command fit into the room that is made for them.
-use Rattle.std.proofs.Common.{◌≡◌, ℕ, ◌+◌, ◌-◌, ◌*◌, ◌<◌, ◌≤◌, ◌==◌, min, replicate, List, [], ◌∷◌, ◌++◌, length, map, take, get_or, Bool, true, false, cond, ◌&&◌, ◌||◌, not, Some, refl, sym, ap, subst, ◌∙◌, arith}
+use Rattle.std.proofs.Common.{◌≡◌, ℕ, ◌+◌, ◌-◌, ◌*◌, ◌<◌, ◌≤◌, ◌==◌, min, replicate, List, [], ◌∷◌, ◌++◌, length, map, take, get_or, Bool, cond, ◌&&◌, ◌||◌, not, Some, refl, sym, ap, subst, ◌∙◌, arith}
 use Rattle.std.specs.Prelude.{flat_map}
 use Rattle.std.specs.List.{enumerate_from, slice_get}
 use Rattle.std.proofs.lemmas.Option.{slice_get-get_or, slice_get_within}
@@ -85,8 +85,7 @@ answers_long numbers values frame sent range =
     omega (arith, long, same)
 
 sent_by : (b : Bool) (n e most : ℕ) → n ≤ most → min (cond ((n == 0) || b) e 0) n ≤ cond b (min most e) 0
-sent_by true n e most le = grind arith
-sent_by false n e most le = grind arith
+sent_by b n e most le = grind arith
 
 pub sent_short : (frame : Frame) (done : Outcome) → length done.given ≤ most_given → length (data_sent frame done) ≤ most_sent frame
 sent_short frame done le =

@@ -194,6 +194,9 @@ grows_then before waiting items a b = (a.0 ++ b.0, b.1 ∙ ap (λ (l : List ℕ)
 
 -- ---- one step
 
+abbrev pub Run : Type 0
+Run = (Step → Bool) → ℕ → Work → Work
+
 pub step_done : (fails : Step → Bool) (step : Step) (does : Work → Work) (work : Work) → work.goes_on ≡ true → fails step ≡ false
     → take_step fails step does work ≡ does (reaches step work)
 unfolding take_step
@@ -207,6 +210,26 @@ step_fails fails step does work on un = rw (on, un) refl
 pub step_stopped : (fails : Step → Bool) (step : Step) (does : Work → Work) (work : Work) → work.goes_on ≡ false → take_step fails step does work ≡ work
 unfolding take_step
 step_stopped fails step does work off = rw off refl
+
+-- ---- where a run leads
+
+pub record LeadsTo (run : Run) (failed : Option (ℕ → Step)) (goes_on : Bool) (new : SessionState) (before waiting : Output) (after : TargetUnits)
+    (place : ℕ) (fails : Step → Bool) (work : Work) : Type 0 where
+  pub to : Work
+  pub is : run fails place work ≡ to
+  pub on : to.goes_on ≡ goes_on
+  pub leaves : Leaves work to new before waiting after
+  pub reached : IsReached failed place to
+
+pub runs_by : {run : Run} {failed : Option (ℕ → Step)} {goes_on : Bool} {old new : SessionState} {before waiting : Output} {units after : TargetUnits}
+    → ((place : ℕ) (fails : Step → Bool) (work : Work) → FailsAs failed place fails → Starts work old units
+    → LeadsTo run failed goes_on new before waiting after place fails work) → Runs run failed goes_on old new before waiting units after
+runs_by {run} {failed} {goes_on} {old} {new} {before} {waiting} {units} {after} there = record {
+  leads = λ place fails work told s.
+      (let t = there place fails work told s in subst (λ (v : Work). Leaves work v new before waiting after) (sym t.is) t.leaves);
+  ends = λ place fails work told s. (let t = there place fails work told s in ap (λ (v : Work). v.goes_on) t.is ∙ t.on);
+  reached = λ place fails work told s. (let t = there place fails work told s in subst (λ (v : Work). IsReached failed place v) (sym t.is) t.reached);
+}
 
 -- ---- a line that is empty, and a session that does not go on
 
@@ -225,9 +248,7 @@ stopped fails step line does turn (suc most) work off =
 pub idle : (fails : Step → Bool) (step : ℕ → Step) (line : Past → List ℕ) (does : ℕ → Work → Work) (turn most : ℕ) (work : Work) → line work.past ≡ []
     → one_by_one fails step line does turn most work ≡ work
 idle fails step line does turn zero work none = refl
-idle fails step line does turn (suc most) work none =
-    ap (λ (l : List ℕ). one_by_one fails step line does (suc turn) most (first_steps fails (step turn) does l work)) none
-    ∙ idle fails step line does (suc turn) most work none
+idle fails step line does turn (suc most) work none = grind (arith, idle fails step line does (suc turn) most work none)
 
 -- ---- one after the other
 
@@ -351,55 +372,34 @@ module _ (kind : ℕ → ℕ → Step) (line : Past → List ℕ) (does : ℕ �
     pub none : (work : Work) → Starts work now units → line work.past ≡ []
     pub leaves : (work : Work) → Starts work now units → Leaves work work next before waiting after
 
-  idle_to : (facts : IsKind kind) (turns place : ℕ) (fails : Step
-      → Bool) (given : Work) (old now next : SessionState) (before waiting items : Output) (units middle after : TargetUnits)
-      → Ran turns old now before waiting units middle → IsIdle now next waiting items middle after → FailsAs None place fails → Starts given old units
-      → (work : Work) × (all_of fails place given ≡ work) × (work.goes_on ≡ true) × Leaves given work next before items after
-  unfolding all_of
-  idle_to facts turns place fails given old now next before waiting items units middle after ran none told s =
-      let r = ran.runs place fails given (size given.past) (λ turn lt. told (kind place turn) (facts.of place turn)) s (begins given old units s) in
-      let starts = starts_again given r.work now before waiting middle r.leaves r.goes_on in (
-        r.work,
-        r.same ∙ idle fails (kind place) line does turns r.left r.work (none.none r.work starts),
-        r.goes_on,
-        leaves_then given r.work r.work now
-            next before waiting items middle after r.leaves (none.leaves r.work starts),
-      )
-
-  pub ran_idle : (facts : IsKind kind) (turns : ℕ) (old now next : SessionState) (before waiting items : Output) (units middle after : TargetUnits)
+  pub ran_idle : (facts : IsKind kind) {turns : ℕ} {old now next : SessionState} {before waiting items : Output} {units middle after : TargetUnits}
       → Ran turns old now before waiting units middle → IsIdle now next waiting items middle after → Runs all_of None true old next before items units after
-  ran_idle facts turns old now next before waiting items units middle after ran none = record {
-    leads = λ place fails given told s. (let t = idle_to facts turns place fails given old now next before waiting items units middle after ran none told s
-        in subst (λ (v : Work). Leaves given v next before items after) (sym t.1) t.3);
-    ends = λ place fails given told s. (let t = idle_to facts turns place fails given old now next before waiting items units middle after ran none told s
-        in ap (λ (v : Work). v.goes_on) t.1 ∙ t.2);
-    reached = λ place fails given told s. tt;
-  }
+  unfolding all_of
+  ran_idle facts {turns} {old} {now} {next} {before} {waiting} {items} {units} {middle} {after} ran none = runs_by (λ place fails given told s.
+      (let r = ran.runs place fails given (size given.past) (λ turn lt. told (kind place turn) (facts.of place turn)) s (begins given old units s) in
+      let starts = starts_again given r.work now before waiting middle r.leaves r.goes_on in record {
+        to = r.work;
+        is = r.same ∙ idle fails (kind place) line does turns r.left r.work (none.none r.work starts);
+        on = r.goes_on;
+        leaves = leaves_then given r.work r.work now next before waiting items middle after r.leaves (none.leaves r.work starts);
+        reached = tt;
+      }))
 
   -- the session ended
-  ended_to : (facts : IsKind kind) (turns place : ℕ) (fails : Step
-      → Bool) (given : Work) (old now next : SessionState) (before waiting items : Output) (units middle after : TargetUnits)
-      → Ran turns old now before waiting units middle → StepsTo false now next waiting items middle after → FailsAs None place fails → Starts given old units
-      → (work : Work) × (all_of fails place given ≡ work) × (work.goes_on ≡ false) × Leaves given work next before items after
-  unfolding all_of
-  ended_to facts turns place fails given old now next before waiting items units middle after ran steps told s =
-      let r = ran.runs place fails given (size given.past) (λ turn lt. told (kind place turn) (facts.of place turn)) s (begins given old units s) in
-      let n = stepped_by r.left turns place fails given (size given.past) false now next before waiting items middle after r refl
-      (told (kind place turns) (facts.of place turns)) steps in
-      (n.work, n.same ∙ stopped fails (kind place) line does (suc turns) n.left n.work n.goes_on, n.goes_on, n.leaves)
-
-  pub ran_ended : (facts : IsKind kind) (turns : ℕ) (old now next : SessionState) (before waiting items : Output) (units middle after : TargetUnits)
+  pub ran_ended : (facts : IsKind kind) {turns : ℕ} {old now next : SessionState} {before waiting items : Output} {units middle after : TargetUnits}
       → Ran turns old now before waiting units middle → StepsTo false now next waiting items middle after
       → Runs all_of None false old next before items units after
-  ran_ended facts turns old now next before waiting items units middle after ran steps = record {
-    leads = λ place fails given told s.
-        (let t = ended_to facts turns place fails given old now next before waiting items units middle after ran steps told s
-        in subst (λ (v : Work). Leaves given v next before items after) (sym t.1) t.3);
-    ends = λ place fails given told s.
-        (let t = ended_to facts turns place fails given old now next before waiting items units middle after ran steps told s
-        in ap (λ (v : Work). v.goes_on) t.1 ∙ t.2);
-    reached = λ place fails given told s. tt;
-  }
+  unfolding all_of
+  ran_ended facts {turns} {old} {now} {next} {before} {waiting} {items} {units} {middle} {after} ran steps = runs_by (λ place fails given told s.
+      (let r = ran.runs place fails given (size given.past) (λ turn lt. told (kind place turn) (facts.of place turn)) s (begins given old units s) in
+      let n = stepped_by r.left turns place fails given (size given.past) false now next before waiting items middle after r refl
+      (told (kind place turns) (facts.of place turns)) steps in record {
+        to = n.work;
+        is = n.same ∙ stopped fails (kind place) line does (suc turns) n.left n.work n.goes_on;
+        on = n.goes_on;
+        leaves = n.leaves;
+        reached = tt;
+      }))
 
   -- an allocation failed before the next step
   pub record HasMore (now : SessionState) (units : TargetUnits) : Type 0 where
@@ -415,43 +415,33 @@ module _ (kind : ℕ → ℕ → Step) (line : Past → List ℕ) (does : ℕ �
       ∙ ap (one_by_one fails (kind place) line does (suc turn) left) (step_fails fails (kind place turn) (does request) work on fail)
       ∙ stopped fails (kind place) line does (suc turn) left (record (reaches (kind place turn) work) { goes_on = false }) refl
 
-  failed_to : (facts : IsKind kind) (turns place : ℕ) (fails : Step
-      → Bool) (given : Work) (old now : SessionState) (before waiting : Output) (units after : TargetUnits) → Ran turns old now before waiting units after
-      → HasMore now after → FailsAs (Some (λ place. kind place turns)) place fails → Starts given old units
-      → (work : Work) × (all_of fails place given ≡ record (reaches (kind place turns) work) { goes_on = false }) × Leaves given work now before waiting after
+  pub ran_failed : (facts : IsKind kind) {turns : ℕ} {old now : SessionState} {before waiting : Output} {units after : TargetUnits}
+      → Ran turns old now before waiting units after → HasMore now after
+      → Runs all_of (Some (λ place. kind place turns)) false old now before waiting units after
   unfolding all_of
-  failed_to facts turns place fails given old now before waiting units after ran has told s =
-      let r = ran.runs place fails given (size given.past) (λ turn lt. told (kind place turn) (facts.of place turn)
+  ran_failed facts {turns} {old} {now} {before} {waiting} {units} {after} ran has = runs_by (λ place fails given told s.
+      (let r = ran.runs place fails given (size given.past) (λ turn lt. told (kind place turn) (facts.of place turn)
       ∙ facts.apart place turns turn (λ e. absurd (omega arith))) s (begins given old units s) in
       let starts = starts_again given r.work now before waiting after r.leaves r.goes_on in
       let found = has.more r.work starts in
-      let fail : fails (kind place turns) ≡ true = told (kind place turns) (facts.of place turns) ∙ facts.same place turns in (
-        r.work,
-        r.same ∙ failing_at r.left turns place fails r.work found.0 found.1 found.2 (let some = has.some r.work starts in let enough = r.enough
-            in omega arith) r.goes_on fail,
-        r.leaves,
-      )
-
-  pub ran_failed : (facts : IsKind kind) (turns : ℕ) (old now : SessionState) (before waiting : Output) (units after : TargetUnits)
-      → Ran turns old now before waiting units after → HasMore now after
-      → Runs all_of (Some (λ place. kind place turns)) false old now before waiting units after
-  ran_failed facts turns old now before waiting units after ran has = record {
-    leads = λ place fails given told s.
-        (let t = failed_to facts turns place fails given old now before waiting units after ran has told s in
-        subst (λ (v : Work). Leaves given v now before waiting after) (sym t.1) (leaves_stopped (kind place turns) given t.0 now before waiting after t.2));
-    ends = λ place fails given told s. (let t = failed_to facts turns place fails given old now before waiting units after ran has told s
-        in ap (λ (v : Work). v.goes_on) t.1);
-    reached = λ place fails given told s. (let t = failed_to facts turns place fails given old now before waiting units after ran has told s
-        in reached_last (kind place turns) t.0 (all_of fails place given) t.1);
-  }
+      let fail : fails (kind place turns) ≡ true = told (kind place turns) (facts.of place turns) ∙ facts.same place turns in record {
+        to = record (reaches (kind place turns) r.work) { goes_on = false };
+        is = r.same ∙ failing_at r.left turns place fails r.work found.0 found.1 found.2 (let some = has.some r.work starts in let enough = r.enough
+            in omega arith) r.goes_on fail;
+        on = refl;
+        leaves = leaves_stopped (kind place turns) given r.work now before waiting after r.leaves;
+        reached = (r.work.reached, refl);
+      }))
 
 -- ---- the same by another name
 
-pub runs_as : (run all : (Step → Bool) → ℕ → Work → Work) (failed : Option (ℕ → Step)) (goes_on : Bool) (old new : SessionState) (before waiting : Output)
-    (units after : TargetUnits) → ((fails : Step → Bool) (place : ℕ) (work : Work) → all fails place work ≡ run fails place work)
+pub runs_as : {run all : Run} {failed : Option (ℕ → Step)} {goes_on : Bool} {old new : SessionState} {before waiting : Output} {units after : TargetUnits}
+    → ((fails : Step → Bool) (place : ℕ) (work : Work) → all fails place work ≡ run fails place work)
     → Runs all failed goes_on old new before waiting units after → Runs run failed goes_on old new before waiting units after
-runs_as run all failed goes_on old new before waiting units after same r = record {
-  leads = λ place fails work told s. subst (λ (v : Work). Leaves work v new before waiting after) (same fails place work) (r.leads place fails work told s);
-  ends = λ place fails work told s. ap (λ (v : Work). v.goes_on) (sym (same fails place work)) ∙ r.ends place fails work told s;
-  reached = λ place fails work told s. subst (λ (v : Work). IsReached failed place v) (same fails place work) (r.reached place fails work told s);
-}
+runs_as {run} {all} same r = runs_by (λ place fails work told s. record {
+  to = all fails place work;
+  is = sym (same fails place work);
+  on = r.ends place fails work told s;
+  leaves = r.leads place fails work told s;
+  reached = r.reached place fails work told s;
+})

@@ -1,6 +1,6 @@
 -- A command that is done, and a request that acts, as steps of a session's work.
 use Rattle.std.proofs.Common.{◌≡◌, ◌≤◌, ℕ, suc, ◌<◌, List, [], ◌∷◌, ◌++◌, length, map, Bool, true, false, not, Some, None, refl, sym, ap, ◌∙◌, subst, arith, append-nil, Option}
-use Rattle.std.specs.Prelude.{flat_map, filter, drop}
+use Rattle.std.specs.Prelude.{filter, drop}
 use Rattle.std.specs.List.{enumerate_from}
 use Rattle.std.proofs.lemmas.List.{length-map}
 use Rattle.std.proofs.lemmas.List.Elements.{filter-append}
@@ -10,7 +10,6 @@ use Rattle.scsi_unit.specs.CameOut.{CameOut}
 use Rattle.scsi_unit.specs.Units.{UnitStates}
 use Rattle.iscsi_session.specs.Comings.{Coming, TargetUnits, CameAs, lend, next_coming}
 use Rattle.iscsi_pdu.specs.Frames.{Frame}
-use Rattle.iscsi_pdu.specs.Answer.{spelling}
 use Rattle.iscsi_pdu.specs.declared.answer.Answer.{Answer}
 use Rattle.iscsi_pdu.specs.declared.stamp.Stamp.{Stamp}
 use Rattle.iscsi_login.specs.declared.params.Params.{Params}
@@ -22,7 +21,7 @@ use Rattle.iscsi_session.specs.Answers.{data_sent, sent_pieces, data_in, data_an
 use Rattle.iscsi_session.specs.Commands.{carried_out}
 use Rattle.iscsi_session.specs.Transfers.{payload_of, is_whole_of}
 use Rattle.iscsi_session.specs.Steps.{is_doing, Step, Doing, Work, answered_command, finish, ready, ready_in, settled}
-use Rattle.iscsi_session.specs.Runs.{Output, output, Starts, Leaves, StepsFirst, Runs, Stops, IsSettled}
+use Rattle.iscsi_session.specs.Runs.{Output, output, Starts, Leaves, StepsFirst, Runs, Stops, IsSettled, AnswersAs}
 use Rattle.iscsi_session.proofs.Came.{came_none}
 use Rattle.iscsi_session.proofs.Feeding.{whole_is, payload_is, first_unfinished}
 use Rattle.iscsi_session.proofs.Parts.{parts, queue_is}
@@ -54,8 +53,7 @@ none_steps does (request ∷ others) work state waiting units none same = absurd
 -- ---- the first of the queue waits for data, or does not
 
 waits_by : (b : Bool) (past : Past) (k : ℕ) (l : List ℕ) → is_whole_of past k ≡ b → not b ≡ true → ready_in past (k ∷ l) ≡ []
-waits_by true past k l e h = absurd cc
-waits_by false past k l e h = rw e refl
+waits_by b past k l e h = grind arith
 
 none_ready_in : (past : Past) (state : SessionState) (l : List ℕ) → Stands past state → queue past ≡ l
     → is_waiting_by (frames_of past.came l) state.transfers.list ≡ true → ready_in past l ≡ []
@@ -71,8 +69,7 @@ none_ready work state units s e =
     (ap (λ (l : List Frame). is_waiting_by l state.transfers.list) (sym (queue_is work.past state st)) ∙ e)
 
 goes_by : (b : Bool) (past : Past) (k : ℕ) (l : List ℕ) → is_whole_of past k ≡ b → not b ≡ false → ready_in past (k ∷ l) ≡ k ∷ l
-goes_by true past k l e h = rw e refl
-goes_by false past k l e h = absurd cc
+goes_by b past k l e h = grind arith
 
 all_ready_in : (past : Past) (state : SessionState) (l : List ℕ) → Stands past state → queue past ≡ l
     → is_waiting_by (frames_of past.came l) state.transfers.list ≡ false → (k : ℕ) × (others : List ℕ) × (l ≡ k ∷ others) × (ready_in past l ≡ l)
@@ -103,30 +100,29 @@ not_waiting state frame rest first whole =
 -- ---- a command is done
 
 -- what the call that answers it leaves
-pub record Answers (old new : SessionState) (before waiting : Output) (done : Outcome) : Type 0 where
-  pub stands : (past : Past) (k : ℕ) (others : List ℕ) → Stands past old → queue past ≡ k ∷ others → Stands (answered_command done k past) new
-  pub out : (past : Past) (k : ℕ) (others : List ℕ) → Stands past old → queue past ≡ k ∷ others
-      → waiting.bytes ≡ before.bytes ++ flat_map spelling (command_answers (stamp (finished k past)) past.params.values (frame_of past.came k) done)
-  pub orders : waiting.orders ≡ before.orders
+abbrev Answers : SessionState → SessionState → List ℕ → List ℕ → Outcome → Type 0
+Answers old new before waiting done = (past : Past) (k : ℕ) (others : List ℕ) → Stands past old → queue past ≡ k ∷ others
+    → AnswersAs done k past new before waiting
 
-finish_leaves : (work : Work) (k : ℕ) (others : List ℕ) (old new : SessionState) (before waiting : Output) (units after : UnitStates)
+finish_leaves : (work : Work) (k : ℕ) (others : List ℕ) (old new : SessionState) (before waiting : List ℕ) (units after : UnitStates)
     (comings : List Coming) (came : CameOut) (done : Outcome)
     → Starts work old (lend units comings) → queue work.past ≡ k ∷ others → next_coming work.past.params.target comings ≡ came
     → (after, done) ≡ carried_out came units work.past.params.nexus (frame_of work.past.came k) (payload_of work.past k) → Answers old new before waiting done
-    → Leaves work (finish k work) new before waiting (lend after (drop 1 comings))
+    → Leaves work (finish k work) new (output before []) (output waiting []) (lend after (drop 1 comings))
 unfolding finish
 finish_leaves work k others old new before waiting units after comings came done s is next carried answers =
     let past = work.past in
     let standing = stands_of work old (lend units comings) s in
+    let given = answers past k others standing is in
     let more = command_answers (stamp (finished k past)) past.params.values (frame_of past.came k) done in
     let does : TargetUnits → UnitStates × Outcome =
     λ u. carried_out (next_coming past.params.target u.comings) u.states past.params.nexus (frame_of past.came k) (payload_of past k) in
     let all : does work.units ≡ (after, done) = ap does s.units
     ∙ ap (λ (c : CameOut). carried_out c units past.params.nexus (frame_of past.came k) (payload_of past k)) next ∙ sym carried in
     let same : (finish k work).past ≡ answered_command done k past = ap (λ (p : UnitStates × Outcome). answered_command p.1 k past) all in
-    leaves_answering work (finish k work) new before waiting (lend after (drop 1 comings)) more
-    (subst (λ (p : Past). Stands p new) (sym same) (answers.stands past k others standing is))
-    (ap (λ (p : Past). p.params) same) (ap (λ (p : Past). p.answers) same) (answers.out past k others standing is) answers.orders refl
+    leaves_answering work (finish k work) new (output before []) (output waiting []) (lend after (drop 1 comings)) more
+    (subst (λ (p : Past). Stands p new) (sym same) given.stands)
+    (ap (λ (p : Past). p.params) same) (ap (λ (p : Past). p.answers) same) given.out refl refl
     (ap (λ (p : UnitStates × Outcome). lend p.0 (drop 1 work.units.comings)) all
     ∙ ap (λ (u : TargetUnits). lend after (drop 1 u.comings)) s.units)
 
@@ -134,13 +130,13 @@ finish_leaves work k others old new before waiting units after comings came done
 abbrev payload_in : SessionState → Frame → List ℕ
 payload_in state frame = payload_at state.transfers.list (place_for frame state.transfers.list)
 
-finish_first : (l : List ℕ) (work : Work) (old new : SessionState) (before waiting : Output) (units after : UnitStates)
+finish_first : (l : List ℕ) (work : Work) (old new : SessionState) (before waiting : List ℕ) (units after : UnitStates)
     (comings : List Coming) (came : CameOut) (frame : Frame) (rest : List Frame)
     (nexus : NexusName) (done : Outcome) → queue work.past ≡ l → Starts work old (lend units comings)
     → old.tasks.queue ≡ frame ∷ rest → nexus ≡ old.params.nexus → next_coming old.params.target comings ≡ came
     → (after, done) ≡ carried_out came units nexus frame (payload_in old frame)
     → Answers old new before waiting done
-    → StepsFirst finish l work true old new before waiting (lend after (drop 1 comings))
+    → StepsFirst finish l work true old new (output before []) (output waiting []) (lend after (drop 1 comings))
 finish_first [] work old new before waiting units after comings came frame rest nexus done is s first named next carried answers =
     absurd (let none = sym first ∙ queue_is work.past old (stands_of work old (lend units comings) s) ∙ ap (frames_of work.past.came) is in cc)
 finish_first (k ∷ others) work old new before waiting units after comings came frame rest nexus done is s first named next carried answers =
@@ -160,16 +156,16 @@ finish_first (k ∷ others) work old new before waiting units after comings came
           ∙ ap (carried_out came units work.past.params.nexus (frame_of work.past.came k)) payload) answers,
     )
 
-pub finish_steps : (work : Work) (old new : SessionState) (before waiting : Output) (units after : UnitStates)
+pub finish_steps : (work : Work) (old new : SessionState) (before waiting : List ℕ) (units after : UnitStates)
     (comings : List Coming) (came : CameOut) (frame : Frame) (rest : List Frame)
     (nexus : NexusName) (done : Outcome) → Starts work old (lend units comings)
     → old.tasks.queue ≡ frame ∷ rest → whole_at old.transfers.list (place_for frame old.transfers.list) ≡ true
     → nexus ≡ old.params.nexus → next_coming old.params.target comings ≡ came
     → (after, done) ≡ carried_out came units nexus frame (payload_in old frame) → Answers old new before waiting done
-    → StepsFirst finish (ready work.past) work true old new before waiting (lend after (drop 1 comings))
+    → StepsFirst finish (ready work.past) work true old new (output before []) (output waiting []) (lend after (drop 1 comings))
 finish_steps work old new before waiting units after comings came frame rest nexus done s first whole named next carried answers =
     let r = all_ready work old (lend units comings) s (not_waiting old frame rest first whole) in
-    subst (λ (l : List ℕ). StepsFirst finish l work true old new before waiting (lend after (drop 1 comings))) (sym r.3)
+    subst (λ (l : List ℕ). StepsFirst finish l work true old new (output before []) (output waiting []) (lend after (drop 1 comings))) (sym r.3)
     (finish_first (queue work.past) work old new before waiting units after comings came frame rest nexus done refl s first named next carried answers)
 
 -- ---- settling
@@ -238,8 +234,8 @@ pub all_settled : (turns : ℕ) (more : Bool) (old now next : SessionState) (bef
 all_settled turns more old now next before waiting items units middle after ran steps is =
     let F : Bool → Type 0 = λ b. FinishesOne b now next waiting items middle after in
     let one = subst F is steps in
-    runs_as settled (all_of Doing ready finish queue_count queued_in queue_fits) None true old next before items units after settles_all
-    (ran_idle Doing ready finish queue_count queued_in queue_fits doing_kind turns old now next before waiting items units middle after ran (record {
+    runs_as settles_all
+    (ran_idle Doing ready finish queue_count queued_in queue_fits doing_kind ran (record {
       none = λ work s. (found_none (ready work.past) work now next waiting items middle after s (one work s)).0;
       leaves = λ work s. (found_none (ready work.past) work now next waiting items middle after s (one work s)).1;
     }))
@@ -248,9 +244,8 @@ pub settling_stops : (turns : ℕ) (old now : SessionState) (before waiting : Ou
     → Ran Doing ready finish queue_count queued_in queue_fits turns old now before waiting units after → is_waiting now ≡ false
     → Runs settled (Some (λ place. Doing place turns)) false old now before waiting units after
 settling_stops turns old now before waiting units after ran more =
-    runs_as settled (all_of Doing ready finish queue_count queued_in queue_fits) (Some (λ place. Doing place turns)) false old now before waiting units
-    after settles_all
-    (ran_failed Doing ready finish queue_count queued_in queue_fits doing_kind turns old now before waiting units after ran (record {
+    runs_as settles_all
+    (ran_failed Doing ready finish queue_count queued_in queue_fits doing_kind ran (record {
       more = λ work s. (let r = all_ready work now after s more in (r.0, r.1, r.3 ∙ r.2));
       some = λ work s. some_queued now more;
     }))

@@ -3,14 +3,13 @@ use Rattle.std.proofs.Common.{◌≡◌, ℕ, zero, suc, ◌+◌, ◌<◌, List,
 use Rattle.std.specs.Prelude.{All, filter_map, Option}
 use Rattle.std.proofs.lemmas.Bool.{false_from_ne_true}
 use Rattle.std.proofs.lemmas.List.Elements.{filter_map-append}
-use Rattle.iscsi_session.specs.Requests.{Request, Past, request_at, frame_of, frames_of, is_in, numbered, has_number, place_of}
+use Rattle.iscsi_session.specs.Requests.{Request, Past, request_at, frame_of, frames_of, is_in, numbered, place_of}
 use Rattle.iscsi_pdu.specs.Header.{opcode_number, is_immediate}
 use Rattle.iscsi_session.specs.State.{void, voided, standing_from, standing}
 use Rattle.iscsi_session.proofs.Left.{below_of, map_cong}
 
 if_number : (b : Bool) (r : Request) → (cond b (voided r) r).number ≡ r.number
-if_number true r = refl
-if_number false r = refl
+if_number b r = grind arith
 
 numbered_with : (s r : Request) (more came : List Request) → s.number ≡ r.number → numbered more ≡ numbered came → numbered (s ∷ more) ≡ numbered (r ∷ came)
 numbered_with s r more came e rest =
@@ -21,28 +20,15 @@ numbered_with s r more came e rest =
 -- the numbers are the same
 numbered_from : (removed : List ℕ) (k : ℕ) (came : List Request) → numbered (standing_from removed k came) ≡ numbered came
 numbered_from removed k [] = refl
-numbered_from removed k (r ∷ came) =
-    numbered_with (cond (is_in k removed) (voided r) r) r (standing_from removed (suc k) came) came (if_number (is_in k removed) r)
-    (numbered_from removed (suc k) came)
+numbered_from removed k (r ∷ came) = grind (arith, numbered_from removed (suc k) came)
 
 pub numbered_standing : (past : Past) → numbered (standing past) ≡ numbered past.came
 unfolding standing
 numbered_standing past = numbered_from past.removed 0 past.came
 
-place_with : (b : Bool) (r s : Request) (came more : List Request) (n : ℕ) → has_number n r.number ≡ b → s.number ≡ r.number
-    → place_of more n ≡ place_of came n → place_of (s ∷ more) n ≡ place_of (r ∷ came) n
-place_with true r s came more n e same rest = rw (same, e) refl
-place_with false r s came more n e same rest =
-    let here : has_number n s.number ≡ false = ap (has_number n) same ∙ e in
-    let a : place_of (s ∷ more) n ≡ suc (place_of more n) = rw here (omega arith) in
-    let b : place_of (r ∷ came) n ≡ suc (place_of came n) = rw e (omega arith) in
-    a ∙ ap suc rest ∙ sym b
-
 place_from : (removed : List ℕ) (k : ℕ) (came : List Request) (n : ℕ) → place_of (standing_from removed k came) n ≡ place_of came n
 place_from removed k [] n = refl
-place_from removed k (r ∷ came) n =
-    place_with (has_number n r.number) r (cond (is_in k removed) (voided r) r) came (standing_from removed (suc k) came) n refl
-    (if_number (is_in k removed) r) (place_from removed (suc k) came n)
+place_from removed k (r ∷ came) n = grind (arith, place_from removed (suc k) came n)
 
 pub place_standing : (past : Past) (n : ℕ) → place_of (standing past) n ≡ place_of past.came n
 unfolding standing
@@ -62,8 +48,7 @@ push_from : (removed : List ℕ) (k n : ℕ) (came : List Request) (x : Request)
 push_from removed k n [] x at fresh =
     let same : n ≡ k = omega arith in
     ap (λ (b : Bool). cond b (voided x) x ∷ []) (ap (λ (m : ℕ). is_in m removed) (sym same) ∙ fresh)
-push_from removed k n (r ∷ came) x at fresh =
-    ap (λ (l : List Request). cond (is_in k removed) (voided r) r ∷ l) (push_from removed (suc k) n came x (omega arith) fresh)
+push_from removed k n (r ∷ came) x at fresh = grind (arith, push_from removed (suc k) n came x (omega arith) fresh)
 
 pub standing_joined : (past : Past) (x : Request) → All (λ a. a < length past.came) past.removed
     → standing (record past { came = past.came ++ x ∷ [] }) ≡ standing past ++ x ∷ []
@@ -77,9 +62,7 @@ standing_joined past x below =
 at_from : (removed : List ℕ) (k i n : ℕ) (came : List Request) → i < length came → n ≡ k + i
     → request_at (standing_from removed k came) i ≡ cond (is_in n removed) (voided (request_at came i)) (request_at came i)
 at_from removed k i n [] lt at = absurd (omega arith)
-at_from removed k zero n (r ∷ came) lt at =
-    let same : n ≡ k = omega arith in
-    ap (λ (m : ℕ). cond (is_in m removed) (voided r) r) (sym same)
+at_from removed k zero n (r ∷ came) lt at = grind arith
 at_from removed k (suc i) n (r ∷ came) lt at = at_from removed (suc k) i n came (omega arith) (omega arith)
 
 pub standing_at : (past : Past) (k : ℕ) → k < length past.came
@@ -96,12 +79,10 @@ pub frames_kept : (past : Past) (names : List ℕ) → All (λ k. k < length pas
 frames_kept past names below none = map_cong _ _ names (λ i d lt. standing_kept past (get_or names i d) (below i d lt) (none i d lt))
 
 void_immediate : (b : Bool) → is_immediate (void b).header ≡ b
-void_immediate true = refl
-void_immediate false = refl
+void_immediate b = grind arith
 
 immediate_by : (b : Bool) (r : Request) → is_immediate (cond b (voided r) r).frame.header ≡ is_immediate r.frame.header
-immediate_by true r = void_immediate (is_immediate r.frame.header)
-immediate_by false r = refl
+immediate_by b r = grind arith
 
 -- it is for immediate delivery, or not, as it was
 pub standing_immediate : (past : Past) (k : ℕ) → k < length past.came → is_immediate (frame_of (standing past) k).header ≡ is_immediate (frame_of past.came k).header
@@ -111,8 +92,7 @@ standing_immediate past k lt =
 -- ---- of which kind it is
 
 void_opcode : (b : Bool) → opcode_number (void b).header ≡ 0x3F
-void_opcode true = refl
-void_opcode false = refl
+void_opcode b = grind arith
 
 -- a request of any other opcode was not removed
 pub stands_as : (past : Past) (k : ℕ) → k < length past.came → (opcode_number (frame_of (standing past) k).header ≡ 0x3F → ⊥)

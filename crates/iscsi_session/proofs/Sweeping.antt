@@ -1,7 +1,7 @@
 -- The queue of a session, one after the other, and the data of its commands, where some leave.
-use Rattle.std.proofs.Common.{◌≡◌, ℕ, zero, suc, ◌+◌, ◌-◌, ◌<◌, List, [], ◌∷◌, ◌++◌, length, take, drop, get_or, remove, Bool, true, false, not, cond, Option, Some, None, refl, sym, ap, ◌∙◌, arith, append_assoc, append-nil}
+use Rattle.std.proofs.Common.{◌≡◌, ℕ, zero, suc, ◌+◌, ◌-◌, ◌<◌, List, [], ◌∷◌, ◌++◌, length, take, drop, get_or, remove, Bool, true, false, not, cond, Option, refl, sym, ap, ◌∙◌, arith, append_assoc, append-nil}
 use Rattle.std.specs.Prelude.{All, filter, is_some}
-use Rattle.std.proofs.lemmas.List.Elements.{All-head, All-tail}
+use Rattle.std.proofs.lemmas.List.Elements.{All-tail}
 use Rattle.slab.specs.Slab.{Slab, get}
 use Rattle.iscsi_pdu.specs.Header.{is_immediate}
 use Rattle.iscsi_pdu.specs.Frames.{Frame}
@@ -15,8 +15,7 @@ use Rattle.iscsi_session.proofs.Voiding.{in_times}
 -- ---- as many requests as keys
 
 there_by : (slot : Option Frame) (n others : ℕ) → n + others ≡ cond (is_some slot) 1 0 → 0 < n → is_some slot ≡ true
-there_by None n others e some = absurd (omega arith)
-there_by (Some frame) n others e some = refl
+there_by slot n others e some = grind arith
 
 all_there : (requests : Slab Frame) (keys : List ℕ) → ((key : ℕ) → (others : ℕ) × (times key keys + others ≡ holds requests key))
     → All (λ k. is_some (get requests k) ≡ true) keys
@@ -30,8 +29,7 @@ line_length_of requests (k ∷ keys) there =
   where
     by_slot : (slot : Option Frame) → get requests k ≡ slot → length (requests_at requests keys) ≡ length keys
         → length (requests_at requests (k ∷ keys)) ≡ suc (length keys)
-    by_slot None e rest = absurd (let no = sym (All-head (λ k. is_some (get requests k) ≡ true) k keys there) ∙ ap is_some e in cc)
-    by_slot (Some frame) e rest = rw e (ap suc rest)
+    by_slot slot e rest = grind arith
 
 pub line_length : (requests : Slab Frame) (held due queue : List ℕ)
     → ((key : ℕ) → times key held + times key due + times key queue ≡ holds requests key) → length (requests_at requests queue) ≡ length queue
@@ -79,16 +77,10 @@ left_out b reach frame others tasks e i = rw e (one_fewer_by b frame (record tas
 
 counted_out : (b : Bool) (reach : FunctionReach) (frame : Frame) (rest : List Frame) → reaches_frame reach frame ≡ true → is_immediate frame.header ≡ b
     → length (filter (counts_out reach) (frame ∷ rest)) ≡ cond b 0 1 + length (filter (counts_out reach) rest)
-counted_out true reach frame rest e i =
-    ap (λ (l : List Frame). length l) (filter_false (counts_out reach) frame rest (rw (e, i) refl))
-    ∙ (let z : length (filter (counts_out reach) rest) ≡ 0 + length (filter (counts_out reach) rest) = omega arith in z)
-counted_out false reach frame rest e i =
-    ap (λ (l : List Frame). length l) (filter_true (counts_out reach) frame rest (rw (e, i) refl))
-    ∙ (let z : suc (length (filter (counts_out reach) rest)) ≡ 1 + length (filter (counts_out reach) rest) = omega arith in z)
+counted_out b reach frame rest e i = grind arith
 
 less_by : (b : Bool) (u n : ℕ) → cond b u (u - 1) - n ≡ u - (cond b 0 1 + n)
-less_by true u n = omega arith
-less_by false u n = omega arith
+less_by b u n = grind arith
 
 sweeps_by : (b c : Bool) (reach : FunctionReach) (given now next : TaskLists) (left : ℕ) (frame : Frame) (rest done : List Frame)
     → reaches_frame reach frame ≡ b

@@ -86,23 +86,15 @@ taken_more came x =
 place_next : (f : Request) (came : List Request) (k : ℕ) → has_number k f.number ≡ false → place_of (f ∷ came) k ≡ suc (place_of came k)
 place_next f came k e = rw e (omega arith)
 
-place_has_with : (b : Bool) (f : Request) (came : List Request) (k : ℕ) → has_number k f.number ≡ b → place_of (f ∷ came) k < suc (length came)
-    → (place_of came k < length came → has_number k (request_at came (place_of came k)).number ≡ true)
-    → has_number k (request_at (f ∷ came) (place_of (f ∷ came) k)).number ≡ true
-place_has_with true f came k e lt rest = rw e e
-place_has_with false f came k e lt rest = let next = place_next f came k e in rw next (rest (omega arith))
-
 pub place_has : (came : List Request) (k : ℕ) → place_of came k < length came → has_number k (request_at came (place_of came k)).number ≡ true
 place_has [] k lt = absurd (omega arith)
-place_has (f ∷ came) k lt = place_has_with (has_number k f.number) f came k refl lt (place_has came k)
+place_has (f ∷ came) k lt = grind (arith, place_has came k)
 
 same_number : (n : Option ℕ) (j k : ℕ) → has_number j n ≡ true → has_number k n ≡ true → j ≡ k
-same_number None j k a b = absurd cc
-same_number (Some n) j k a b = sym (eqb-true n j a) ∙ eqb-true n k b
+same_number n j k a b = grind arith
 
 pub has_some : (n : Option ℕ) (k : ℕ) → has_number k n ≡ true → is_some n ≡ true
-has_some None k e = absurd cc
-has_some (Some n) k e = refl
+has_some n k e = grind arith
 
 place_injective : (came : List Request) (j k : ℕ) → place_of came k < length came → place_of came j ≡ place_of came k → j ≡ k
 place_injective came j k lt e = same_number (request_at came (place_of came k)).number j k
@@ -233,8 +225,7 @@ beyond_not_taken came n lt le =
 
 -- what is taken came
 below_with : (b : Bool) (n p : ℕ) → p < n → All (λ a. a < n) (cond b [] (p ∷ []))
-below_with true n p lt = All-nil (λ a. a < n)
-below_with false n p lt = All-cons (λ a. a < n) p [] lt (All-nil (λ a. a < n))
+below_with b n p lt = grind arith
 
 below_at : (came : List Request) (p : ℕ) → p < length came → All (λ a. a < length came) (taken_at came p)
 unfolding taken_at numbers_at

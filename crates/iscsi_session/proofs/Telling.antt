@@ -3,7 +3,7 @@ use Rattle.std.proofs.Common.{◌≡◌, ℕ, ◌+◌, ◌-◌, ◌<◌, List, [
 use Rattle.std.specs.Prelude.{All, filter, find, Some}
 use Rattle.std.specs.List.{list_any, range_with_len}
 use Rattle.std.proofs.lemmas.Bool.{cases_eq, eq-eqb, ne_eqb, eqb-true, false_from_ne_true}
-use Rattle.std.proofs.lemmas.List.Elements.{All-head, All-tail, All-nil, All-cons, All-push}
+use Rattle.std.proofs.lemmas.List.Elements.{All-head, All-tail, All-nil, All-push}
 use Rattle.iscsi_pdu.specs.Header.{is_immediate}
 use Rattle.iscsi_order.specs.Window.{taken as taken_numbers}
 use Rattle.iscsi_session.specs.Drained.{Drained}
@@ -14,11 +14,11 @@ use Rattle.iscsi_session.specs.Texts.{exchange_of}
 use Rattle.iscsi_session.specs.Functions.{lacks, told}
 use Rattle.iscsi_session.specs.State.{AreDistinct, IsLawful, standing, tasks_of, drained_of, transfer_of, transfers_of, functions_of}
 use Rattle.iscsi_session.specs.Draining.{function_tag, lacks_for, drains_without}
-use Rattle.iscsi_session.proofs.Left.{filter_cong, filter_filter, left_more, left_swap, in_left, in_left_back, not_gone, below_of, is_in_append}
-use Rattle.iscsi_session.proofs.Places.{or_known, found_self}
+use Rattle.iscsi_session.proofs.Left.{filter_cong, filter_filter, left_more, left_swap, in_left, in_left_back, not_gone, below_of, is_in_append, all_in}
+use Rattle.iscsi_session.proofs.Places.{found_self}
 use Rattle.iscsi_session.proofs.Kept.{function_no_command}
-use Rattle.iscsi_session.proofs.Accepted.{handed_le, counted_append, finished_below}
-use Rattle.iscsi_session.proofs.Over.{split, few_over, not_removed, unfinished_less}
+use Rattle.iscsi_session.proofs.Accepted.{counted_append, finished_below}
+use Rattle.iscsi_session.proofs.Over.{split, lawful_step, not_removed, unfinished_less}
 use Rattle.iscsi_session.proofs.Pending.{pending_holds, in_functions}
 use Rattle.iscsi_session.proofs.Moved.{distinct_acted}
 use Rattle.iscsi_session.proofs.Removing.{filter_map_names}
@@ -35,10 +35,7 @@ in_left_is a gone names = by_case (is_in a names) (is_in a gone) refl refl
     by_case false g e f = false_from_ne_true (is_in a (left gone names)) (λ h. let no = sym (in_left a gone names h) ∙ e in absurd cc) ∙ sym (rw e refl)
 
 in_one : (a k : ℕ) → is_in a (k ∷ []) ≡ (a == k)
-in_one a k = elim (cases_eq a k) [
-  | inl same ↦ rw (eq-eqb k a (sym same), eq-eqb a k same) refl
-  | inr differs ↦ rw (ne_eqb k a (λ e. differs (sym e)), ne_eqb a k differs) refl
-]
+in_one a k = grind arith
 
 none_of : (k : ℕ) (names : List ℕ) → is_in k names ≡ false → filter (λ a. a == k) names ≡ []
 none_of k [] e = refl
@@ -57,29 +54,16 @@ once_in k (a ∷ names) distinct e = elim (cases_eq a k) [
 ]
 
 first_kind : (p q e : Bool) → q ≡ (p && not e) → (not q && e) ≡ e
-first_kind true q true is = rw is refl
-first_kind false q true is = rw is refl
-first_kind p true false is = refl
-first_kind p false false is = refl
+first_kind p q e is = grind arith
 
 second_kind : (p q e : Bool) → q ≡ (p && not e) → (e ≡ true → p ≡ true) → (not q && not e) ≡ not p
-second_kind true q true is known = rw is refl
-second_kind false q true is known = absurd (let h = known refl in cc)
-second_kind true q false is known = rw is refl
-second_kind false q false is known = rw is refl
+second_kind p q e is known = grind arith
 
 third_kind : (f p e : Bool) → (e ≡ true → p ≡ true) → (e ≡ true → f ≡ true) → (f && not (p && not e)) ≡ ((f && not p) || e)
-third_kind true true true known there = refl
-third_kind true true false known there = refl
-third_kind true false true known there = absurd (let h = known refl in cc)
-third_kind true false false known there = refl
-third_kind false p true known there = absurd (let h = there refl in cc)
-third_kind false p false known there = refl
+third_kind f p e known there = grind arith
 
 others_by : (c e : Bool) → (e ≡ true → c ≡ false) → (not c && e) ≡ e
-others_by true true known = absurd (let h = known refl in cc)
-others_by true false known = refl
-others_by false e known = refl
+others_by c e known = grind arith
 
 -- ---- the functions that wait
 
@@ -89,8 +73,7 @@ pending_named past = filter_map_names (λ k. not (is_in k past.answered)) (λ (d
 
 all_named : (l : List Drain) → All (λ d. is_in d.function (map (λ d. d.function) l) ≡ true) l
 all_named [] = All-nil (λ (d : Drain). is_in d.function [] ≡ true)
-all_named (d ∷ l) = All-cons (λ (x : Drain). is_in x.function (d.function ∷ map (λ d. d.function) l) ≡ true) d l (rw (eq-eqb d.function d.function refl) refl)
-    (λ i none lt. or_known (d.function == (get_or l i none).function) _ (all_named l i none lt))
+all_named (d ∷ l) = grind (arith, all_named l)
 
 module _ (past : Past) (lawful : IsLawful past) where
   pub pending_function : (k : ℕ) → is_in k (pending past) ≡ true → is_function (frame_of past.came k) ≡ true
@@ -147,14 +130,7 @@ module _ (past : Past) (lawful : IsLawful past) where
         ∙ filter_cong _ _ names (λ i d lt. others_by _ _ (no_command (get_or names i d)))
 
     has_acted : is_in k past.acted ≡ true
-    has_acted = all_at past.finished k lawful.acted (pending_finished k waits)
-      where
-        all_at : (names : List ℕ) (k : ℕ) → All (λ a. is_in a past.acted ≡ true) names → is_in k names ≡ true → is_in k past.acted ≡ true
-        all_at [] k all e = absurd cc
-        all_at (a ∷ names) k all e = elim (cases_eq a k) [
-          | inl same ↦ ap (λ (n : ℕ). is_in n past.acted) (sym same) ∙ All-head (λ a. is_in a past.acted ≡ true) a names all
-          | inr differs ↦ let there = rw (ne_eqb a k differs) at e in all_at names k (All-tail (λ a. is_in a past.acted ≡ true) a names all) there
-        ]
+    has_acted = all_in (λ a. is_in a past.acted ≡ true) k past.finished lawful.acted (pending_finished k waits)
 
     once_finished : filter (λ a. a == k) past.finished ≡ k ∷ []
     once_finished =
@@ -222,32 +198,17 @@ module _ (past : Past) (lawful : IsLawful past) where
     unfolding unfinished
     unfinished_told = refl
 
-    handed_told : (numbers (told k past)).handed ≡ (numbers past).handed
-    unfolding taken_numbers
-    handed_told = refl
-
     pub lawful_told : IsLawful (told k past)
     lawful_told =
         let in_order : taken past.came ≡ past.acted ++ due (told k past) = lawful.in_order ∙ ap (λ (l : List ℕ). past.acted ++ l) (sym due_told) in
         let queued = ap (λ (l : List ℕ). commands past.came past.finished ++ l) queue_told ∙ lawful.queued in
-        let handed = lawful.handed ∙ sym handed_told in
-        let few = few_over (told k past) in_order queued lawful.at_once lawful.removed_commands handed in
-        record {
-          window = record {
-            finished = few;
-            handed = handed_le (told k past);
-            within = λ j come. (let lt = lawful.window.within j come in let more_over = over_told in omega arith);
-          };
-          distinct = lawful.distinct;
-          delivered = lawful.delivered;
+        lawful_step past past.acted past.finished past.removed past.drains (past.answered ++ k ∷ []) lawful (record {
+          over = omega (arith, over_told);
           in_order = in_order;
           below = lawful.below;
           acted = lawful.acted;
           queued = queued;
           at_once = lawful.at_once;
-          handed = handed;
-          fed = lawful.fed;
-          asked = lawful.asked;
           tags = subst (λ (l : List ℕ). AreDistinct (map (tag_of past.came) l)) (sym unfinished_told) lawful.tags;
           function_tags = subst (λ (l : List ℕ). AreDistinct (map (tag_of past.came) l)) (sym functions_told)
               (tags_left past k (functions past) lawful.function_tags);
@@ -261,7 +222,7 @@ module _ (past : Past) (lawful : IsLawful past) where
             removed = lawful.drained.removed;
             once = lawful.drained.once;
           };
-        }
+        })
 
     -- ---- what is remembered
 
@@ -273,8 +234,7 @@ module _ (past : Past) (lawful : IsLawful past) where
         by_case : (b : Bool) → cond b ((numbers past).handed - counted past.came (over past)) ((numbers past).handed - counted past.came (over past) - 1)
             ≡ (numbers past).handed - counted past.came (over (told k past))
             → cond b (tasks_of past) (record (tasks_of past) { unfinished = (tasks_of past).unfinished - 1 }) ≡ tasks_of (told k past)
-        by_case true e = rw e refl
-        by_case false e = rw e refl
+        by_case b e = grind arith
 
     drain_is : drains_without (tag_of past.came k) (map (drained_of past) (drains_of past)) ≡ map (drained_of past) (drains_of (told k past))
     drain_is =
@@ -282,8 +242,7 @@ module _ (past : Past) (lawful : IsLawful past) where
         ∙ ap (map (drained_of past)) (filter_cong _ _ (drains_of past) (λ i none lt. ap not (same_tag _ k (drains_pending i none lt) waits)) ∙ again)
       where
         by_bool : (a b : Bool) → (not a && not b) ≡ not (a || b)
-        by_bool true b = refl
-        by_bool false b = refl
+        by_bool a b = grind arith
 
         one_more : (a : ℕ) → (not (is_in a past.answered) && not (a == k)) ≡ not (is_in a (past.answered ++ k ∷ []))
         one_more a = by_bool (is_in a past.answered) (a == k) ∙ ap (λ (b : Bool). not (is_in a past.answered || b)) (sym (in_one a k))

@@ -1,7 +1,7 @@
 -- What a frame is judged to be, case by case.
-use Rattle.std.proofs.Common.{◌≡◌, ◌≢◌, ◌==◌, ℕ, Bool, true, false, not, ◌&&◌, ◌||◌, inl, inr, refl, sym, ap, ◌∙◌}
+use Rattle.std.proofs.Common.{◌≡◌, ◌≢◌, ◌==◌, ℕ, Bool, true, false, not, ◌&&◌, ◌||◌, inl, inr, refl, sym, ap, ◌∙◌, arith}
 use Rattle.std.specs.Prelude.{◌⊎◌, Option, Some, None, is_some, if◌then◌else◌}
-use Rattle.std.proofs.lemmas.Bool.{eq-eqb, eqb-true, ne_eqb}
+use Rattle.std.proofs.lemmas.Bool.{eq-eqb, ne_eqb, or_right, or_parts}
 use Rattle.iscsi_pdu.specs.Header.{opcode_of, opcode_number, is_immediate, initiator_task_tag}
 use Rattle.iscsi_pdu.specs.Frames.{Frame}
 use Rattle.iscsi_pdu.specs.declared.header.Opcode.{Opcode}
@@ -10,57 +10,22 @@ use Rattle.iscsi_pdu.specs.declared.reject.RejectReason.TheVariants as reasons
 use Rattle.iscsi_login.specs.declared.values.Values.{Values}
 use Rattle.iscsi_transfer.specs.Task.{command_fault}
 use Rattle.iscsi_session.specs.declared.verdict.Verdict.{Verdict}
-use Rattle.iscsi_session.specs.declared.verdict.Verdict.TheVariants.{Ignored, Rejected, Violating, Accepted, Feeding}
+use Rattle.iscsi_session.specs.declared.verdict.Verdict.TheVariants.{Ignored, Rejected, Violating, Accepted}
 use Rattle.iscsi_session.specs.Requests.{Past, is_command, is_function}
-use Rattle.iscsi_session.specs.Transfers.{command_with, data_fault_of}
-use Rattle.iscsi_session.specs.Judging.{reserved_tag, is_fresh, is_live, is_full, is_faulty, task_verdict, data_verdict, is_refused, verdict_by, request_verdict, verdict}
+use Rattle.iscsi_session.specs.Transfers.{command_with}
+use Rattle.iscsi_session.specs.Judging.{reserved_tag, is_fresh, is_live, is_full, is_faulty, task_verdict, data_verdict, is_refused, verdict_by, request_verdict, verdict, is_over, is_taken}
 
 -- ---- a command, test by test
-
--- its tag is reserved, or live
-abbrev pub is_taken : Past → ℕ → Bool
-is_taken past tag = tag == reserved_tag || is_live past tag
-
-or_true : (b : Bool) → (b || true) ≡ true
-or_true true = refl
-or_true false = refl
-
-and_false : (b : Bool) → (b && false) ≡ false
-and_false true = refl
-and_false false = refl
-
-pub over_limit : (now full : Bool) → now ≡ true → full ≡ true → (now && full) ≡ true
-over_limit now full e h = rw (e, h) refl
-
-pub numbered_below : (now full : Bool) → now ≡ false → (now && full) ≡ false
-numbered_below now full e = rw e refl
-
-pub below_limit : (now full : Bool) → full ≡ false → (now && full) ≡ false
-below_limit now full e = rw e (and_false now)
-
-pub tag_reserved : (past : Past) (tag : ℕ) → tag ≡ reserved_tag → is_taken past tag ≡ true
-tag_reserved past tag e = ap (λ (b : Bool). b || is_live past tag) (eq-eqb tag reserved_tag e)
-
-pub tag_live : (past : Past) (tag : ℕ) → is_live past tag ≡ true → is_taken past tag ≡ true
-tag_live past tag h = ap (λ (b : Bool). tag == reserved_tag || b) h ∙ or_true (tag == reserved_tag)
-
-pub tag_free : (past : Past) (tag : ℕ) → tag ≢ reserved_tag → is_live past tag ≡ false → is_taken past tag ≡ false
-tag_free past tag ne h = ap (λ (b : Bool). b || is_live past tag) (ne_eqb tag reserved_tag ne) ∙ h
 
 abbrev pub by_tests : Bool → Bool → Bool → Bool → Verdict
 by_tests fresh over taken faulty =
     if not fresh then Ignored else if over then Rejected reasons.TooManyImmediate else if taken then Violating else if faulty then Violating else Accepted
 
 pub task_told : (past : Past) (frame : Frame) (fresh over taken faulty : Bool) → is_fresh past frame ≡ fresh
-    → (is_immediate frame.header && is_full past) ≡ over → is_taken past (initiator_task_tag frame.header) ≡ taken
+    → is_over past frame ≡ over → is_taken past frame ≡ taken
     → is_faulty past.params.values frame ≡ faulty → task_verdict past frame ≡ by_tests fresh over taken faulty
 unfolding task_verdict
-task_told past frame fresh over taken faulty fresh_is over_is taken_is faulty_is =
-    ap (λ (b : Bool). by_tests b (is_immediate frame.header && is_full past) (is_taken past (initiator_task_tag frame.header))
-    (is_faulty past.params.values frame)) fresh_is
-    ∙ ap (λ (b : Bool). by_tests fresh b (is_taken past (initiator_task_tag frame.header)) (is_faulty past.params.values frame)) over_is
-    ∙ ap (λ (b : Bool). by_tests fresh over b (is_faulty past.params.values frame)) taken_is
-    ∙ ap (by_tests fresh over taken) faulty_is
+task_told past frame fresh over taken faulty fresh_is over_is taken_is faulty_is = rw (fresh_is, over_is, taken_is, faulty_is) refl
 
 -- the data of a SCSI Command is as agreed
 pub faultless_agreed : (values : Values) (frame : Frame) → is_command frame ≡ true → is_faulty values frame ≡ false → is_some (command_fault values frame) ≡ false
@@ -113,44 +78,25 @@ pub record IsFree (past : Past) (frame : Frame) : Type 0 where
 
 data_not_accepted : (past : Past) (frame : Frame) (at : Option ℕ) → data_verdict past frame at ≡ Accepted → ⊥
 data_not_accepted past frame None e = cc
-data_not_accepted past frame (Some k) e = by_fault (is_some (data_fault_of past k frame)) e
-  where
-    by_fault : (b : Bool) → (if b then Violating else Feeding) ≡ Accepted → ⊥
-    by_fault true e = cc
-    by_fault false e = cc
+data_not_accepted past frame (Some k) e = grind arith
 
 tests_passed : (fresh over taken faulty : Bool) → by_tests fresh over taken faulty ≡ Accepted → (fresh ≡ true) × (taken ≡ false) × (over ≡ false)
-tests_passed false over taken faulty e = absurd cc
-tests_passed true true taken faulty e = absurd cc
-tests_passed true false true faulty e = absurd cc
-tests_passed true false false faulty e = (refl, refl, refl)
-
-or_back : (a b : Bool) → (a || b) ≡ false → b ≡ false
-or_back true b e = absurd cc
-or_back false b e = e
+tests_passed fresh over taken faulty e = grind arith
 
 fresh_passed : (fresh : Bool) → (if fresh then Accepted else Ignored) ≡ Accepted → fresh ≡ true
-fresh_passed true e = refl
-fresh_passed false e = absurd cc
+fresh_passed fresh e = grind arith
 
 no_task : (frame : Frame) (opcode : Opcode) → opcode_of (opcode_number frame.header) ≡ opcode → opcode ≢ opcodes.ScsiCommand → opcode ≢ opcodes.TaskManagement
     → (is_command frame || is_function frame) ≡ true → ⊥
-no_task frame opcode is other another e = elim (either (is_command frame) (is_function frame) e) [
-  | inl h ↦ other (sym is ∙ ap opcode_of (eqb-true (opcode_number frame.header) 0x01 h))
-  | inr h ↦ another (sym is ∙ ap opcode_of (eqb-true (opcode_number frame.header) 0x02 h))
-]
-  where
-    either : (a b : Bool) → (a || b) ≡ true → (a ≡ true) ⊎ (b ≡ true)
-    either true b e = inl refl
-    either false b e = inr e
+no_task frame opcode is other another e = grind arith
 
 tests_free : (past : Past) (frame : Frame) → task_verdict past frame ≡ Accepted → IsFree past frame
 unfolding task_verdict
 tests_free past frame e =
-    let t = tests_passed (is_fresh past frame) _ (is_taken past (initiator_task_tag frame.header)) _ e in
+    let t = tests_passed (is_fresh past frame) _ (is_taken past frame) _ e in
     record {
       fresh = t.0;
-      tag = λ h. or_back _ _ t.1;
+      tag = λ h. (or_parts _ _ t.1).1;
       room = λ h immediate. ap (λ (b : Bool). b && is_full past) (sym immediate) ∙ t.2;
     }
 

@@ -6,36 +6,26 @@ use Rattle.std.proofs.lemmas.List.Elements.{filter_map-append}
 use Rattle.std.proofs.lemmas.List.Sums.{sum_by-cons}
 use Rattle.slab.specs.Slab.{Slab, get}
 use Rattle.iscsi_pdu.specs.Frames.{Frame}
-use Rattle.iscsi_pdu.specs.Header.{is_immediate}
 use Rattle.iscsi_order.specs.WindowState.{WindowKeys}
 use Rattle.iscsi_session.specs.Requests.{is_in}
 use Rattle.iscsi_session.specs.Functions.{FunctionReach}
-use Rattle.iscsi_session.specs.State.{void_if, reaches_frame}
+use Rattle.iscsi_session.specs.State.{void_if}
 use Rattle.iscsi_session.specs.Tasks.{requests_at, held_at, keys_in, times, holds, AreLines, Voids, lists_of}
 use Rattle.iscsi_session.proofs.Left.{in_at, is_in_append}
 use Rattle.iscsi_session.proofs.Places.{or_known}
-use Rattle.iscsi_session.proofs.Removing.{void_kept}
 
 twice : (reach : FunctionReach) (frame : Frame) → void_if reach (void_if reach frame) ≡ void_if reach frame
-twice reach frame = by_case (reaches_frame reach frame) refl
-  where
-    by_case : (b : Bool) → reaches_frame reach frame ≡ b → void_if reach (void_if reach frame) ≡ void_if reach frame
-    by_case true e = rw e (void_kept reach (is_immediate frame.header))
-    by_case false e = ap (void_if reach) (let same : void_if reach frame ≡ frame = rw e refl in same)
+twice reach frame = grind arith
 
 abbrev voids : FunctionReach → Option Frame → Option Frame
 voids reach slot = option_map (void_if reach) slot
 
 twice_slot : (reach : FunctionReach) (slot : Option Frame) → voids reach (voids reach slot) ≡ voids reach slot
-twice_slot reach None = refl
-twice_slot reach (Some frame) = ap (λ (f : Frame). Some f) (twice reach frame)
+twice_slot reach slot = grind arith
 
 both_ways : (a b : Bool) (reach : FunctionReach) (slot : Option Frame)
     → cond b (voids reach (cond a (voids reach slot) slot)) (cond a (voids reach slot) slot) ≡ cond (a || b) (voids reach slot) slot
-both_ways true true reach slot = twice_slot reach slot
-both_ways true false reach slot = refl
-both_ways false true reach slot = refl
-both_ways false false reach slot = refl
+both_ways a b reach slot = grind arith
 
 pub voids_none : (reach : FunctionReach) (requests : Slab Frame) → Voids reach [] requests requests
 voids_none reach requests = record { at = λ key. refl }
@@ -71,9 +61,7 @@ keys_more l i lt = ap keys_in (take_more l i None lt) ∙ filter_map-append (λ 
 -- ---- the lines
 
 slot_by : (b : Bool) (reach : FunctionReach) (slot : Option Frame) → is_some (cond b (voids reach slot) slot) ≡ is_some slot
-slot_by true reach None = refl
-slot_by true reach (Some frame) = refl
-slot_by false reach slot = refl
+slot_by b reach slot = grind arith
 
 holds_same : (reach : FunctionReach) (keys : List ℕ) (old new : Slab Frame) (key : ℕ) → Voids reach keys old new → holds new key ≡ holds old key
 holds_same reach keys old new key voided =
@@ -90,10 +78,7 @@ line_voids reach all old new (k ∷ keys) voided there =
 
     by_slot : (slot : Option Frame) → get old k ≡ slot → requests_at new keys ≡ map (void_if reach) (requests_at old keys)
         → requests_at new (k ∷ keys) ≡ map (void_if reach) (requests_at old (k ∷ keys))
-    by_slot None e rest = let now : get new k ≡ None = here ∙ ap (voids reach) e in rw (now, e) rest
-    by_slot (Some frame) e rest =
-        let now : get new k ≡ Some (void_if reach frame) = here ∙ ap (voids reach) e in
-        rw (now, e) (ap (λ (l : List Frame). void_if reach frame ∷ l) rest)
+    by_slot slot e rest = grind arith
 
 line_same : (reach : FunctionReach) (all : List ℕ) (old new : Slab Frame) (keys : List ℕ) → Voids reach all old new → All (λ k. is_in k all ≡ false) keys
     → requests_at new keys ≡ requests_at old keys
@@ -106,8 +91,7 @@ held_voids : (reach : FunctionReach) (all : List ℕ) (old new : Slab Frame) (ke
     → All (λ k. is_in k all ≡ true) (keys_in keys)
     → map (held_at new) keys ≡ map (option_map (void_if reach)) (map (held_at old) keys)
 held_voids reach all old new [] voided there = refl
-held_voids reach all old new (None ∷ keys) voided there =
-    ap (λ (l : List (Option Frame)). None ∷ l) (held_voids reach all old new keys voided there)
+held_voids reach all old new (None ∷ keys) voided there = grind (arith, held_voids reach all old new keys voided there)
 held_voids reach all old new (Some k ∷ keys) voided there =
     let here : get new k ≡ voids reach (get old k) = voided.at k
     ∙ ap (λ (b : Bool). cond b (voids reach (get old k)) (get old k)) (there 0 k (omega arith)) in
@@ -131,11 +115,7 @@ in_times k keys e = by_case (times k keys) refl
     by_case (suc n) some = omega arith
 
 holds_one : (requests : Slab Frame) (key : ℕ) → holds requests key ≤ 1
-holds_one requests key = by_case (is_some (get requests key)) refl
-  where
-    by_case : (b : Bool) → is_some (get requests key) ≡ b → holds requests key ≤ 1
-    by_case true e = rw e (omega arith)
-    by_case false e = rw e (omega arith)
+holds_one requests key = grind arith
 
 pub record VoidedLines (reach : FunctionReach) (old new : Slab Frame) (w : WindowKeys) (due queue : List ℕ) : Type 0 where
   pub lists : lists_of new w due queue ≡ record (lists_of old w due queue) {

@@ -7,7 +7,7 @@ use Rattle.std.proofs.lemmas.List.Elements.{filter-append, All-append, All-nil, 
 use Rattle.iscsi_pdu.specs.Frames.{Frame}
 use Rattle.iscsi_order.specs.Window.{taken as taken_numbers}
 use Rattle.iscsi_session.specs.Drained.{Drained}
-use Rattle.iscsi_session.specs.Requests.{Past, Drain, drain_for, draining, frame_of, frames_of, is_in, left, is_command, is_function, commands, counted, over, pending, taken, numbers, due, queue, unfinished, functions}
+use Rattle.iscsi_session.specs.Requests.{Past, Drain, drain_for, draining, frame_of, frames_of, is_in, left, is_command, is_function, commands, counted, over, pending, taken, due, queue, unfinished, functions}
 use Rattle.iscsi_session.specs.Transfers.{tag_of, task_at, outs_of, tags_of, drains_of}
 use Rattle.iscsi_session.specs.Texts.{exchange_of}
 use Rattle.iscsi_session.specs.State.{SessionState, TaskLists, TransferList, AreDistinct, IsLawful, Stands, standing, tasks_of, transfer_of, drained_of, transfers_of, functions_of}
@@ -15,8 +15,7 @@ use Rattle.iscsi_session.proofs.Left.{filter_cong, left_append, in_at, in_left, 
 use Rattle.iscsi_session.proofs.Places.{or_known}
 use Rattle.iscsi_session.proofs.Kept.{kept_of, function_no_command}
 use Rattle.iscsi_session.proofs.Unfinished.{unfinished_other}
-use Rattle.iscsi_session.proofs.Accepted.{handed_le}
-use Rattle.iscsi_session.proofs.Over.{few_over, over_same}
+use Rattle.iscsi_session.proofs.Over.{lawful_step, over_same}
 use Rattle.iscsi_session.proofs.Moved.{due_after, queue_other, not_finished, stays_other, lawful_other}
 use Rattle.iscsi_session.proofs.Exchanging.{exchange_acted, exchange_other}
 use Rattle.iscsi_session.proofs.Parts.{parts, stands_parts}
@@ -79,8 +78,7 @@ module _ (past : Past) (lawful : IsLawful past) (k : ℕ) (rest : List ℕ) (is 
       ∙ ap (λ (b : Bool). is_in a (pending past) || b) none ∙ or_none (is_in a (pending past))
     where
       or_none : (b : Bool) → (b || false) ≡ b
-      or_none true = refl
-      or_none false = refl
+      or_none b = grind arith
 
   done_after : left (pending after) (past.finished ++ k ∷ []) ≡ left (pending past) past.finished
   unfolding left
@@ -115,10 +113,6 @@ module _ (past : Past) (lawful : IsLawful past) (k : ℕ) (rest : List ℕ) (is 
   unfolding unfinished
   unfinished_after = unfinished_other past k no_command
 
-  handed_after : (numbers after).handed ≡ (numbers past).handed
-  unfolding taken_numbers
-  handed_after = refl
-
   due_acted : due after ≡ due acted_past
   unfolding due
   due_acted = refl
@@ -140,24 +134,13 @@ module _ (past : Past) (lawful : IsLawful past) (k : ℕ) (rest : List ℕ) (is 
       let in_order : taken past.came ≡ (past.acted ++ k ∷ []) ++ due after = l.in_order
       ∙ ap (λ (x : List ℕ). (past.acted ++ k ∷ []) ++ x) (sym due_acted) in
       let queued = ap (λ (x : List ℕ). commands past.came (past.finished ++ k ∷ []) ++ x) queue_acted ∙ l.queued in
-      let handed = lawful.handed ∙ sym handed_after in
-      let few = few_over after in_order queued l.at_once lawful.removed_commands handed in
-      record {
-        window = record {
-          finished = few;
-          handed = handed_le after;
-          within = λ j come. (let lt = lawful.window.within j come in let same = ap (counted past.came) over_after in omega arith);
-        };
-        distinct = l.distinct;
-        delivered = l.delivered;
+      lawful_step past (past.acted ++ k ∷ []) (past.finished ++ k ∷ []) past.removed (past.drains ++ map (drain_for k) names) past.answered lawful (record {
+        over = omega (arith, ap (counted past.came) over_after);
         in_order = in_order;
         below = l.below;
         acted = l.acted;
         queued = queued;
         at_once = l.at_once;
-        handed = handed;
-        fed = l.fed;
-        asked = l.asked;
         tags = subst (λ (x : List ℕ). AreDistinct (map (tag_of past.came) x)) (sym unfinished_acted) l.tags;
         function_tags = subst (λ (x : List ℕ). AreDistinct (map (tag_of past.came) x)) (sym functions_after) lawful.function_tags;
         removed_below = l.removed_below;
@@ -173,7 +156,7 @@ module _ (past : Past) (lawful : IsLawful past) (k : ℕ) (rest : List ℕ) (is 
               (all_for (λ d. is_in d.command past.removed ≡ true) k names removed);
           once = once;
         };
-      }
+      })
     where
       last_in : is_in k (past.finished ++ k ∷ []) ≡ true
       last_in = is_in_append k past.finished (k ∷ []) ∙ or_known (is_in k past.finished) _ (rw (eq-eqb k k refl) refl)

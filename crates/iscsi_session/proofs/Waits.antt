@@ -159,8 +159,7 @@ module _ (luns : List ℕ) (past : Past) (lawful : IsLawful past) (k : ℕ) (res
 awaited_by : (b : Bool) (past : Past) (reach : FunctionReach) → waits reach ≡ b
     → not (length (awaited past reach) == 0) ≡ (b && not (length (filter (is_asked_of past) (reached reach past)) == 0))
 unfolding awaited
-awaited_by true past reach e = rw e refl
-awaited_by false past reach e = rw e refl
+awaited_by b past reach e = grind arith
 
 asked_any : (past : Past) (state : SessionState) (reach : FunctionReach) → Stands past state
     → list_any (is_awaited reach) state.transfers.list ≡ not (length (filter (is_asked_of past) (reached reach past)) == 0)

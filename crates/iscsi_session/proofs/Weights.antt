@@ -1,41 +1,29 @@
 -- How many acts can follow at most.
 use Rattle.std.proofs.Common.{◌≡◌, ℕ, zero, suc, ◌+◌, ◌*◌, ◌<◌, ◌≤◌, List, [], ◌∷◌, ◌++◌, length, map, set, take, drop, Bool, true, false, cond, Option, Some, None, refl, sym, ap, ◌∙◌, arith, append-nil}
-use Rattle.std.specs.Prelude.{filter, filter_map, option_map, is_some}
+use Rattle.std.specs.Prelude.{filter, filter_map, option_map, is_some, IfSome, IfNone}
 use Rattle.std.specs.List.{range_with_len, prefix_len}
 use Rattle.std.proofs.lemmas.List.{length-map}
 use Rattle.std.proofs.lemmas.List.Elements.{filter_map-append}
-use Rattle.iscsi_pdu.specs.Header.{is_immediate}
 use Rattle.iscsi_pdu.specs.Frames.{Frame}
 use Rattle.iscsi_order.specs.Window as order
 use Rattle.iscsi_order.specs.Window.{window}
 use Rattle.iscsi_order.specs.Serial.{distance}
-use Rattle.iscsi_session.specs.Requests.{Past, is_command, is_function, frame_of, frames_of, numbered, numbers, held, due, place_of}
-use Rattle.iscsi_session.specs.Functions.{FunctionReach, plug, reaches}
-use Rattle.iscsi_session.specs.State.{TaskLists, standing, frame_numbered, tasks_of, one_fewer, holding, takes_next, takes, takes_all, void, void_if, reaches_frame, plugged_behind, without, weight, weigh, waiting}
+use Rattle.iscsi_session.specs.Requests.{Past, is_function, frame_of, frames_of, numbered, numbers, held, due, place_of}
+use Rattle.iscsi_session.specs.Functions.{FunctionReach, plug}
+use Rattle.iscsi_session.specs.State.{TaskLists, standing, frame_numbered, tasks_of, one_fewer, holding, takes_next, takes, takes_all, void, void_if, plugged_behind, without, weight, weigh, waiting}
 use Rattle.iscsi_session.specs.Steps.{waiting_in}
-use Rattle.iscsi_session.proofs.Left.{and_true_both}
-use Rattle.iscsi_session.proofs.Kept.{command_no_function}
 use Rattle.iscsi_session.proofs.Standing.{numbered_standing}
 use Rattle.iscsi_session.proofs.Fronts.{frame_marked}
 use Rattle.iscsi_session.proofs.Over.{one_fewer_by}
 
 weight_by : (b : Bool) (frame : Frame) → is_function frame ≡ b → weight frame ≡ cond b 2 1
-weight_by true frame e = rw e refl
-weight_by false frame e = rw e refl
+weight_by b frame e = grind arith
 
 pub weight_some : (frame : Frame) → 1 ≤ weight frame
-weight_some frame = by_case (is_function frame) refl
-  where
-    by_case : (b : Bool) → is_function frame ≡ b → 1 ≤ weight frame
-    by_case true e = let w = weight_by true frame e in omega arith
-    by_case false e = let w = weight_by false frame e in omega arith
+weight_some frame = grind arith
 
 weight_few : (frame : Frame) → weight frame ≤ 2
-weight_few frame = by_case (is_function frame) refl
-  where
-    by_case : (b : Bool) → is_function frame ≡ b → weight frame ≤ 2
-    by_case true e = let w = weight_by true frame e in omega arith
-    by_case false e = let w = weight_by false frame e in omega arith
+weight_few frame = grind arith
 
 weigh_append : (a b : List Frame) → weigh (a ++ b) ≡ weigh a + weigh b
 weigh_append [] b = omega arith
@@ -116,17 +104,10 @@ waiting_plugged n frame others tasks is function =
 -- ---- SCSI Commands are removed
 
 void_weight : (b : Bool) → weight (void b) ≡ 1
-void_weight true = refl
-void_weight false = refl
+void_weight b = grind arith
 
 same_weight : (reach : FunctionReach) (frame : Frame) → weight (void_if reach frame) ≡ weight frame
-same_weight reach frame = by_case (reaches_frame reach frame) refl
-  where
-    by_case : (b : Bool) → reaches_frame reach frame ≡ b → weight (void_if reach frame) ≡ weight frame
-    by_case true e =
-        rw e (void_weight (is_immediate frame.header)
-        ∙ sym (weight_by false frame (command_no_function frame (and_true_both (is_command frame) (reaches reach frame.header) e).0)))
-    by_case false e = rw e refl
+same_weight reach frame = grind arith
 
 weigh_voids : (reach : FunctionReach) (l : List Frame) → weigh (map (void_if reach) l) ≡ weigh l
 weigh_voids reach [] = refl
@@ -144,11 +125,7 @@ waiting_without reach tasks = omega (arith, weigh_held_voids reach tasks.held, w
 
 length_there : (f : ℕ → Option Frame) (q : ℕ → Bool) (l : List ℕ) → ((k : ℕ) → is_some (f k) ≡ q k) → length (there (map f l)) ≡ length (filter q l)
 length_there f q [] same = refl
-length_there f q (k ∷ l) same = by_case (f k) refl (length_there f q l same)
-  where
-    by_case : (o : Option Frame) → f k ≡ o → length (there (map f l)) ≡ length (filter q l) → length (there (map f (k ∷ l))) ≡ length (filter q (k ∷ l))
-    by_case None e rest = let no : q k ≡ false = sym (same k) ∙ ap is_some e in rw (e, no) rest
-    by_case (Some frame) e rest = let yes : q k ≡ true = sym (same k) ∙ ap is_some e in rw (e, yes) (ap suc rest)
+length_there f q (k ∷ l) same = grind (arith, length_there f q l same)
 
 pub held_length : (past : Past) → length (there (map (frame_numbered (standing past)) (range_with_len (numbers past).handed window))) ≡ length (held past)
 unfolding held
@@ -167,3 +144,9 @@ waiting_fits past =
       weigh_few (frames_of (standing past) (due past)),
       length-map (due past) (frame_of (standing past)),
     )
+
+-- a line that has some has a first
+pub given_frame : (r : Option Frame) (line : List Frame) {P Q : Frame → Type 0} → IfSome r P → IfSome r Q → IfNone r (line ≡ []) → 0 < length line
+    → (frame : Frame) × P frame × Q frame
+given_frame None line p q none some = absurd (omega (arith, some, ap (λ (l : List Frame). length l) none))
+given_frame (Some frame) line p q none some = (frame, p, q)

@@ -22,8 +22,6 @@ use Rattle.iscsi_session.specs.Judging.{reserved_tag, reject}
 use Rattle.iscsi_session.specs.Texts.{exchange_of, text_answer_in}
 use Rattle.iscsi_session.specs.Functions.{FunctionReach, own_reach, reached, awaited, plugs, plugged, function_result, function_answer}
 use Rattle.iscsi_exchange.specs.ExchangeState.{ExchangeState}
-use Rattle.iscsi_session.specs.declared.act.Act.{Act}
-use Rattle.iscsi_session.specs.declared.act.Act.TheVariants.{Idle, Taken, Ended}
 
 -- RFC 7143 §11.18, §11.19: the ping data is returned, as much of it as the initiator takes in one PDU
 -- and no more than a PDU of this target bears; the reserved tag asks for no answer
@@ -113,21 +111,3 @@ ends_by (opcodes.Other n) params frame = false
 -- the session ends with this request
 unfoldable pub ends : Params → Frame → Bool
 ends params frame = ends_by (opcode_of (opcode_number frame.header)) params frame
-
--- ---- the next act
-
-abbrev pub act_by : List ℕ → Past → Act
-act_by [] past = Idle
-act_by (k ∷ others) past = if ends past.params (frame_of past.came k) then Ended else Taken
-
-abbrev pub acted_by : List ℕ → List ℕ → Past → Past
-acted_by luns [] past = past
-acted_by luns (k ∷ others) past = acted luns k past
-
-abbrev pub answers_by : List ℕ → List ℕ → Past → List Answer
-answers_by luns [] past = []
-answers_by luns (k ∷ others) past = act_answers luns k past
-
-abbrev pub orders_by : List ℕ → Past → List (List ℕ)
-orders_by [] past = []
-orders_by (k ∷ others) past = ordered k past

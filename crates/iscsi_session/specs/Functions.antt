@@ -14,6 +14,8 @@ use Rattle.iscsi_pdu.specs.declared.answer.Answer.TheVariants as answers
 use Rattle.iscsi_pdu.specs.declared.stamp.Stamp.{Stamp}
 use Rattle.iscsi_order.specs.Window as order
 use Rattle.iscsi_order.specs.Serial.{is_before}
+use Rattle.iscsi_session.specs.declared.aborted.Aborted.{Aborted}
+use Rattle.iscsi_session.specs.declared.aborted.Aborted.TheVariants.{Live, Missing, Plugged, Nothing}
 use Rattle.iscsi_session.specs.Requests.{Past, frame_of, place_of, numbers, unfinished, pending, functions as unfinished_functions, stamp, answering}
 use Rattle.iscsi_session.specs.Transfers.{tag_of, is_asked_of, drains_of}
 
@@ -103,13 +105,23 @@ is_plugged past n = is_plug (frame_of past.came (place_of past.came (order.index
 abbrev pub refers_back : List ℕ → Bool
 refers_back function = is_before (ref_cmd_sn function) (cmd_sn function)
 
--- an ABORT TASK refers to a task that has not come, though its number may
-abbrev pub aborts_unseen : Past → FunctionReach → Bool
-aborts_unseen past reach =
-    length (reached reach past) == 0 && refers_back reach.function && order.is_new (numbers past) (ref_cmd_sn reach.function)
+-- what an ABORT TASK finds (RFC 7143 §11.6.1): its task, the number of one that has not come, or a number that was plugged
+abbrev pub abort_finds : Past → FunctionReach → Aborted
+abort_finds past reach =
+    let n = ref_cmd_sn reach.function in
+    if not (length (reached reach past) == 0) then Live
+    else if not (refers_back reach.function) then Nothing
+    else if order.is_new (numbers past) n then Missing
+    else if is_plugged past n then Plugged else Nothing
+
+abbrev pub is_missing : Aborted → Bool
+is_missing Live = false
+is_missing Missing = true
+is_missing Plugged = false
+is_missing Nothing = false
 
 abbrev pub plugs_by : TaskFunction → Past → FunctionReach → Bool
-plugs_by functions.AbortTask past reach = aborts_unseen past reach
+plugs_by functions.AbortTask past reach = is_missing (abort_finds past reach)
 plugs_by functions.AbortTaskSet past reach = false
 plugs_by functions.ClearAca past reach = false
 plugs_by functions.ClearTaskSet past reach = false
@@ -124,19 +136,18 @@ plugs past reach = plugs_by (task_function (function_code reach.function)) past 
 
 -- ---- what a function comes to (RFC 7143 §11.6.1)
 
-abbrev pub abort_result : Past → FunctionReach → TaskResult
-abort_result past reach =
-    let n = ref_cmd_sn reach.function in
-    if not (length (reached reach past) == 0) then results.Complete
-    else if refers_back reach.function && (order.is_new (numbers past) n || is_plugged past n) then results.Complete
-    else results.NoTask
+abbrev pub abort_result : Aborted → TaskResult
+abort_result Live = results.Complete
+abort_result Missing = results.Complete
+abort_result Plugged = results.Complete
+abort_result Nothing = results.NoTask
 
 -- of one that is for all commands of a unit
 abbrev pub set_result : FunctionReach → TaskResult
 set_result reach = if is_some (unit_named reach.luns reach.function) then results.Complete else results.NoUnit
 
 abbrev pub result_by : TaskFunction → Past → FunctionReach → TaskResult
-result_by functions.AbortTask past reach = abort_result past reach
+result_by functions.AbortTask past reach = abort_result (abort_finds past reach)
 result_by functions.AbortTaskSet past reach = set_result reach
 result_by functions.ClearAca past reach = results.NotSupported
 result_by functions.ClearTaskSet past reach = set_result reach

@@ -40,6 +40,14 @@ most_immediate = 8
 abbrev pub is_full : Past → Bool
 is_full past = not (nat_lt (immediate_in past (unfinished past) + immediate_in past (functions past)) most_immediate)
 
+-- too many of these for immediate delivery
+abbrev pub is_over : Past → Frame → Bool
+is_over past frame = is_immediate frame.header && is_full past
+
+-- it bears the reserved tag, or a live one
+abbrev pub is_taken : Past → Frame → Bool
+is_taken past frame = initiator_task_tag frame.header == reserved_tag || is_live past (initiator_task_tag frame.header)
+
 -- the data that a SCSI Command brings is not as agreed
 abbrev pub is_faulty : Values → Frame → Bool
 is_faulty values frame = is_command frame && is_some (command_fault values frame)
@@ -48,8 +56,8 @@ is_faulty values frame = is_command frame && is_some (command_fault values frame
 unfoldable pub task_verdict : Past → Frame → Verdict
 task_verdict past frame =
     if not (is_fresh past frame) then Ignored
-    else if is_immediate frame.header && is_full past then Rejected reasons.TooManyImmediate
-    else if initiator_task_tag frame.header == reserved_tag || is_live past (initiator_task_tag frame.header) then Violating
+    else if is_over past frame then Rejected reasons.TooManyImmediate
+    else if is_taken past frame then Violating
     else if is_faulty past.params.values frame then Violating
     else Accepted
 

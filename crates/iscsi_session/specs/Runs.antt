@@ -1,11 +1,17 @@
 -- What a call of a session comes to: its steps, all done, or done up to one that failed.
-use Rattle.std.specs.Prelude.{◌≡◌, ℕ, List, [], ◌∷◌, ◌++◌, flat_map, Bool, true, false, Option, Some, None, ⊤}
+use Rattle.std.specs.Prelude.{◌≡◌, ℕ, List, [], ◌∷◌, ◌++◌, flat_map, Bool, true, false, Option, Some, None, if◌then◌else◌, ⊤}
 use Rattle.scsi_unit.specs.Units.{UnitStates}
 use Rattle.iscsi_session.specs.Comings.{TargetUnits, CameAs}
 use Rattle.iscsi_pdu.specs.Answer.{spelling}
 use Rattle.iscsi_pdu.specs.declared.answer.Answer.{Answer}
-use Rattle.iscsi_session.specs.State.{SessionState, IsLawful, remembered}
-use Rattle.iscsi_session.specs.Steps.{Step, is_step, is_of, Work, settled}
+use Rattle.iscsi_session.specs.Requests.{Past, frame_of, stamp, finished}
+use Rattle.iscsi_session.specs.Acts.{ordered, acted, act_answers, ends}
+use Rattle.iscsi_session.specs.declared.act.Act.{Act}
+use Rattle.iscsi_session.specs.declared.act.Act.TheVariants.{Idle, Taken, Ended}
+use Rattle.iscsi_session.specs.State.{SessionState, IsLawful, Stands, remembered}
+use Rattle.iscsi_session.specs.Answers.{command_answers}
+use Rattle.scsi_sense.specs.Done.{Outcome}
+use Rattle.iscsi_session.specs.Steps.{Step, is_step, is_of, Work, settled, answered_command}
 
 -- the code stands where this work does, and its session goes on
 pub record Starts (work : Work) (state : SessionState) (target : TargetUnits) : Type 0 where
@@ -81,3 +87,20 @@ pub record Stops (is_kind : Step → Bool) (Leads : Option (ℕ → Step) → Ty
 abbrev pub StepsFirst : (ℕ → Work → Work) → List ℕ → Work → Bool → SessionState → SessionState → Output → Output → TargetUnits → Type 0
 StepsFirst does [] work more old new before waiting after = (more ≡ false) × (new ≡ old) × (waiting ≡ before) × (after ≡ work.units)
 StepsFirst does (k ∷ others) work more old new before waiting after = (more ≡ true) × Leaves work (does k work) new before waiting after
+
+-- What the act of this request leaves, where these are the numbers of the target's units.
+pub record ActsAs (luns : List ℕ) (k : ℕ) (past : Past) (a : Act) (new : SessionState) (before waiting : Output) : Type 0 where
+  pub act : a ≡ (if ends past.params (frame_of past.came k) then Ended else Taken)
+  pub stands : Stands (acted luns k past) new
+  pub out : waiting.bytes ≡ before.bytes ++ flat_map spelling (act_answers luns k past)
+  pub orders : waiting.orders ≡ before.orders ++ ordered k past
+
+-- the first of these acts, where there is one
+abbrev pub ActsFirst : List ℕ → List ℕ → Past → Act → SessionState → SessionState → Output → Output → Type 0
+ActsFirst luns [] past a old new before waiting = (a ≡ Idle) × (new ≡ old) × (waiting ≡ before)
+ActsFirst luns (k ∷ others) past a old new before waiting = ActsAs luns k past a new before waiting
+
+-- What the doing of this command leaves, which came out so.
+pub record AnswersAs (done : Outcome) (k : ℕ) (past : Past) (new : SessionState) (before waiting : List ℕ) : Type 0 where
+  pub stands : Stands (answered_command done k past) new
+  pub out : waiting ≡ before ++ flat_map spelling (command_answers (stamp (finished k past)) past.params.values (frame_of past.came k) done)

@@ -6,11 +6,11 @@ ghost use Rattle.iscsi_session.specs.Comings.{TargetUnits};
 ghost use Rattle.iscsi_pdu.specs.Answer.{spelling};
 ghost use Rattle.iscsi_pdu.specs.Frames as pdu;
 ghost use Rattle.iscsi_session.specs.Requests.{Past, is_command, is_function as is_function_in, frame_of, due, stamp, answering};
-ghost use Rattle.iscsi_session.specs.Acts.{acted, act_answers, act_by, acted_by, answers_by, orders_by, closes, ends, logout_answer, ping_answers};
+ghost use Rattle.iscsi_session.specs.Acts.{closes, logout_answer, ping_answers};
 ghost use Rattle.iscsi_session.specs.Room.{room_to_act};
 ghost use Rattle.iscsi_session.specs.State.{Stands, standing, waiting};
 ghost use Rattle.iscsi_session.specs.Steps.{Taking, act_all};
-ghost use Rattle.iscsi_session.specs.Runs.{Runs, output};
+ghost use Rattle.iscsi_session.specs.Runs.{Runs, ActsAs, ActsFirst, output};
 ghost use Rattle.iscsi_session.specs.Texts.{is_text as is_text_in};
 
 use crate::act::Act;
@@ -73,11 +73,8 @@ impl Session {
         out: &mut BytesMut,
         orders: &mut Vec<Header>,
     ) -> Result<Act, Memory>
-        ensures act { IfOk result (λ a. (past : Past) → Stands past self.old → a ≡ act_by (due past) past) }
-        ensures stands { OnOk result ((past : Past) → Stands past self.old → Stands (acted_by luns.now (due past) past) self.new) }
-        ensures out { OnOk result ((past : Past) → Stands past self.old
-            → out.new.items ≡ out.old.items ++ flat_map spelling (answers_by luns.now (due past) past)) }
-        ensures orders { OnOk result ((past : Past) → Stands past self.old → orders.new.items ≡ orders.old.items ++ orders_by (due past) past) }
+        ensures acts { IfOk result (λ a. (past : Past) → Stands past self.old → ActsFirst luns.now (due past) past a self.old self.new
+            (output out.old.items orders.old.items) (output out.new.items orders.new.items)) }
         ensures grows { (more : List ℕ) × (out.new.items ≡ out.old.items ++ more) }
         ensures fewer { IfOk result (λ a. a ≡ Act.Taken → waiting self.new.tasks < waiting self.old.tasks) }
         ensures idle { IfOk result (λ a. a ≡ Act.Idle → self.new.tasks.due ≡ []) }
@@ -106,14 +103,9 @@ impl Session {
     /// answered. There must be room for the answer, so it takes no memory.
     fn answer(&mut self, out: &mut BytesMut) -> Act
         requires { (frame : pdu.Frame) (others : List pdu.Frame) → self.old.tasks.due ≡ frame ∷ others → room_to_act frame ≤ out.old.spare }
-        ensures act { (past : Past) (k : ℕ) (others : List ℕ) → Stands past self.old → due past ≡ k ∷ others
-            → is_command (frame_of (standing past) k) ≡ false → is_text_in (frame_of past.came k) ≡ false → is_function_in (frame_of past.came k) ≡ false → result ≡ (if ends past.params (frame_of past.came k) then Act.Ended else Act.Taken) }
-        ensures stands { (luns : List ℕ) (past : Past) (k : ℕ) (others : List ℕ) → Stands past self.old → due past ≡ k ∷ others
+        ensures acts { (luns : List ℕ) (past : Past) (k : ℕ) (others : List ℕ) → Stands past self.old → due past ≡ k ∷ others
             → is_command (frame_of (standing past) k) ≡ false → is_text_in (frame_of past.came k) ≡ false → is_function_in (frame_of past.came k) ≡ false
-            → Stands (acted luns k past) self.new }
-        ensures out { (luns : List ℕ) (past : Past) (k : ℕ) (others : List ℕ) → Stands past self.old → due past ≡ k ∷ others
-            → is_command (frame_of (standing past) k) ≡ false → is_text_in (frame_of past.came k) ≡ false → is_function_in (frame_of past.came k) ≡ false
-            → out.new.items ≡ out.old.items ++ flat_map spelling (act_answers luns k past) }
+            → (orders : List (List ℕ)) → ActsAs luns k past result self.new (output out.old.items orders) (output out.new.items orders) }
         ensures grows { (more : List ℕ) × (out.new.items ≡ out.old.items ++ more) }
         ensures fewer { result ≡ Act.Taken → waiting self.new.tasks < waiting self.old.tasks }
         ensures idle { result ≡ Act.Idle → self.new.tasks.due ≡ [] }
@@ -186,7 +178,14 @@ impl Session {
     {
         let stamp = self.next_stamp();
         put(out, &self.logout_answer(stamp, frame));
-        if self.closes(&frame.header) {
+        self.act_of(&frame.header)
+    }
+
+    /// Whether the session ends with this Logout.
+    fn act_of(&self, header: &Header) -> Act
+        ensures { (frame : pdu.Frame) → frame.header ≡ header.now → result ≡ (if closes self.now.params frame then Act.Ended else Act.Taken) }
+    {
+        if self.closes(header) {
             Act::Ended
         } else {
             Act::Taken

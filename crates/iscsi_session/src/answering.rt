@@ -5,11 +5,10 @@ ghost use Rattle.scsi_unit.specs.DiskCommands.{most_given};
 ghost use Rattle.iscsi_pdu.specs.Answer.{spelling};
 ghost use Rattle.iscsi_pdu.specs.Frames as pdu;
 ghost use Rattle.iscsi_login.specs.Values.{AreInRange};
-ghost use Rattle.iscsi_session.specs.Requests.{Past, frame_of, queue, stamp, finished};
-ghost use Rattle.iscsi_session.specs.Answers.{command_answers};
+ghost use Rattle.iscsi_session.specs.Requests.{Past, queue};
 ghost use Rattle.iscsi_session.specs.Room.{room_for};
 ghost use Rattle.iscsi_session.specs.State.{Stands};
-ghost use Rattle.iscsi_session.specs.Steps.{answered_command};
+ghost use Rattle.iscsi_session.specs.Runs.{AnswersAs};
 
 use crate::answers::put_answers;
 use crate::session::Session;
@@ -25,10 +24,8 @@ impl Session {
         requires given { length done.given ≤ most_given }
         requires room { (frame : pdu.Frame) (others : List pdu.Frame) → self.old.tasks.queue ≡ frame ∷ others
             → room_for self.old.params.values frame ≤ out.old.spare }
-        ensures stands { (past : Past) (k : ℕ) (others : List ℕ) → Stands past self.old → queue past ≡ k ∷ others
-            → Stands (answered_command done k past) self.new }
-        ensures out { (past : Past) (k : ℕ) (others : List ℕ) → Stands past self.old → queue past ≡ k ∷ others
-            → out.new.items ≡ out.old.items ++ flat_map spelling (command_answers (stamp (finished k past)) past.params.values (frame_of past.came k) done) }
+        ensures answers { (past : Past) (k : ℕ) (others : List ℕ) → Stands past self.old → queue past ≡ k ∷ others
+            → AnswersAs done k past self.new out.old.items out.new.items }
         ensures grows { (more : List ℕ) × (out.new.items ≡ out.old.items ++ more) }
         ensures queue { self.new.tasks.queue ≡ drop 1 self.old.tasks.queue }
         ensures params { self.new.params ≡ self.old.params }

@@ -1,13 +1,15 @@
 //! The functions that wait for data are answered.
 
-ghost use Rattle.std.specs.Prelude.{◌≡◌, ◌++◌, ◌∷◌, ◌<◌, ℕ, List, flat_map, is_some, true, OnOk, OnErr};
-ghost use Rattle.iscsi_pdu.specs.Answer.{spelling};
+ghost use Rattle.std.specs.Prelude.{◌≡◌, ◌++◌, ◌∷◌, ◌<◌, ℕ, List, None, Some, true, false, OnOk, OnErr};
 ghost use Rattle.iscsi_pdu.specs.Frames as pdu;
 ghost use Rattle.iscsi_session.specs.Requests.{Past, frame_of, due, is_function};
 ghost use Rattle.iscsi_session.specs.Acts.{ended};
-ghost use Rattle.iscsi_session.specs.Functions.{own_reach, drained_functions, answered_by, told_by};
-ghost use Rattle.iscsi_session.specs.Draining.{telling_place, awaits_in};
+ghost use Rattle.iscsi_session.specs.Functions.{own_reach};
+ghost use Rattle.iscsi_session.specs.Draining.{awaits_in};
 ghost use Rattle.iscsi_session.specs.State.{Stands, waiting};
+ghost use Rattle.iscsi_session.specs.Comings.{TargetUnits};
+ghost use Rattle.iscsi_session.specs.Steps.{Answering, tell_due};
+ghost use Rattle.iscsi_session.specs.Runs.{Runs, output};
 
 use crate::answers::put;
 use crate::fault::Memory;
@@ -38,15 +40,13 @@ impl Session {
     /// The function whose data has come is finished, and answered at the end of the buffer. Where an allocation fails
     /// nothing changes.
     pub(crate) fn tell_due(&mut self, out: &mut BytesMut) -> Result<(), Memory>
-        ensures stands { OnOk result ((past : Past) → Stands past self.old → Stands (answered_by (drained_functions past) past) self.new) }
-        ensures out { OnOk result ((past : Past) → Stands past self.old
-            → out.new.items ≡ out.old.items ++ flat_map spelling (told_by (drained_functions past) past)) }
+        ensures ok { OnOk result ((orders : List (List ℕ)) (units : TargetUnits) → Runs tell_due None true self.old self.new
+            (output out.old.items orders) (output out.new.items orders) units units) }
+        ensures stops { OnErr result ((orders : List (List ℕ)) (units : TargetUnits) → Runs tell_due (Some (λ place. Answering place)) false self.old self.new
+            (output out.old.items orders) (output out.new.items orders) units units) }
         ensures grows { (more : List ℕ) × (out.new.items ≡ out.old.items ++ more) }
         ensures line { self.new.tasks.due ≡ self.old.tasks.due }
         ensures params { self.new.params ≡ self.old.params }
-        ensures due { OnErr result (is_some (telling_place self.old.transfers.drains) ≡ true) }
-        ensures err { OnErr result (self.new ≡ self.old) }
-        ensures out_err { OnErr result (out.new.items ≡ out.old.items) }
     {
         let Some(function) = self.transfers.drained() else {
             return Ok(());

@@ -6,10 +6,12 @@ ghost use Rattle.iscsi_pdu.specs.Frames as pdu;
 ghost use Rattle.iscsi_pdu.specs.TaskManagement.{ref_cmd_sn};
 ghost use Rattle.iscsi_order.specs.Window as order;
 ghost use Rattle.iscsi_session.specs.Requests.{Past, frame_of, due, numbers as numbers_in, removing, is_function as is_function_in};
-ghost use Rattle.iscsi_session.specs.Functions.{own_reach, reached, awaited, is_plug as is_plug_in, refers_back, aborts_unseen, plugs as plugs_in, abort_result, function_result, function_answer};
-ghost use Rattle.iscsi_session.specs.Acts.{acted, ordered, ended, behind, act_answers};
+ghost use Rattle.iscsi_session.specs.Functions.{own_reach, reached, awaited, is_plug as is_plug_in, refers_back, abort_finds, plugs as plugs_in, abort_result, function_result, function_answer};
+ghost use Rattle.iscsi_session.specs.Acts.{ended, behind};
+ghost use Rattle.iscsi_session.specs.Runs.{ActsAs, output};
 ghost use Rattle.iscsi_session.specs.State.{Stands, function_place, immediate_functions, function_removed, is_vacant, waiting};
 
+use crate::aborted::Aborted;
 use crate::act::Act;
 use crate::answers::put;
 use crate::fault::Memory;
@@ -46,6 +48,16 @@ fn refers_back(function: &Header) -> bool
     ensures { result ≡ refers_back function.now }
 {
     is_before(function.ref_cmd_sn(), function.cmd_sn())
+}
+
+/// What an ABORT TASK comes to that finds this.
+fn abort_result(found: Aborted) -> TaskResult
+    ensures { result ≡ abort_result found }
+{
+    match found {
+        Aborted::Live | Aborted::Missing | Aborted::Plugged => TaskResult::Complete,
+        Aborted::Nothing => TaskResult::NoTask,
+    }
 }
 
 /// What a function is answered.
@@ -149,13 +161,10 @@ impl Session {
         out: &mut BytesMut,
         orders: &mut Vec<Header>,
     ) -> Result<Act, Memory>
-        ensures act { IfOk result (λ a. 0 < length self.old.tasks.due → a ≡ Act.Taken) }
-        ensures stands { OnOk result ((past : Past) (k : ℕ) (others : List ℕ) → Stands past self.old → due past ≡ k ∷ others
-            → is_function_in (frame_of past.came k) ≡ true → Stands (acted luns.now k past) self.new) }
-        ensures out { OnOk result ((past : Past) (k : ℕ) (others : List ℕ) → Stands past self.old → due past ≡ k ∷ others
-            → is_function_in (frame_of past.came k) ≡ true → out.new.items ≡ out.old.items ++ flat_map spelling (act_answers luns.now k past)) }
-        ensures orders { OnOk result ((past : Past) (k : ℕ) (others : List ℕ) → Stands past self.old → due past ≡ k ∷ others
-            → is_function_in (frame_of past.came k) ≡ true → orders.new.items ≡ orders.old.items ++ ordered k past) }
+        ensures taken { IfOk result (λ a. 0 < length self.old.tasks.due → a ≡ Act.Taken) }
+        ensures acts { IfOk result (λ a. (past : Past) (k : ℕ) (others : List ℕ) → Stands past self.old → due past ≡ k ∷ others
+            → is_function_in (frame_of past.came k) ≡ true → ActsAs luns.now k past a self.new
+            (output out.old.items orders.old.items) (output out.new.items orders.new.items)) }
         ensures grows { (more : List ℕ) × (out.new.items ≡ out.old.items ++ more) }
         ensures fewer { IfOk result (λ a. (frame : pdu.Frame) (others : List pdu.Frame) → self.old.tasks.due ≡ frame ∷ others → is_function_in frame ≡ true
             → waiting self.new.tasks < waiting self.old.tasks) }
@@ -237,7 +246,7 @@ impl Session {
         ensures vacant { IsTrue result → is_vacant self.now.tasks (ref_cmd_sn reach.now.function) ≡ true }
     {
         match reach.function.task_function() {
-            TaskFunction::AbortTask => self.aborts_unseen(reach),
+            TaskFunction::AbortTask => matches!(self.abort_finds(reach), Aborted::Missing),
             TaskFunction::AbortTaskSet
             | TaskFunction::ClearAca
             | TaskFunction::ClearTaskSet
@@ -249,18 +258,25 @@ impl Session {
         }
     }
 
-    /// An ABORT TASK refers to a task that has not come, though its number may.
-    fn aborts_unseen(&self, reach: &Reach) -> bool
-        ensures past { (past : Past) → Stands past self.now → result ≡ aborts_unseen past reach.now }
-        ensures vacant { IsTrue result → is_vacant self.now.tasks (ref_cmd_sn reach.now.function) ≡ true }
+    /// What an ABORT TASK finds.
+    fn abort_finds(&self, reach: &Reach) -> Aborted
+        ensures past { (past : Past) → Stands past self.now → result ≡ abort_finds past reach.now }
+        ensures vacant { result ≡ Aborted.Missing → is_vacant self.now.tasks (ref_cmd_sn reach.now.function) ≡ true }
     {
         if self.transfers.has_reached(reach) {
-            return false;
+            return Aborted::Live;
         }
         if !refers_back(&reach.function) {
-            return false;
+            return Aborted::Nothing;
         }
-        self.tasks.is_new(reach.function.ref_cmd_sn())
+        let number = reach.function.ref_cmd_sn();
+        if self.tasks.is_new(number) {
+            return Aborted::Missing;
+        }
+        if self.tasks.is_plugged(number) {
+            return Aborted::Plugged;
+        }
+        Aborted::Nothing
     }
 
     /// What a function comes to (RFC 7143 §11.6.1).
@@ -269,7 +285,7 @@ impl Session {
         ensures { (past : Past) → Stands past self.now → result ≡ function_result past reach.now }
     {
         match reach.function.task_function() {
-            TaskFunction::AbortTask => self.abort_result(reach),
+            TaskFunction::AbortTask => abort_result(self.abort_finds(reach)),
             TaskFunction::AbortTaskSet
             | TaskFunction::ClearTaskSet
             | TaskFunction::LogicalUnitReset => reach.set_result(),
@@ -279,25 +295,5 @@ impl Session {
                 TaskResult::NotSupported
             }
         }
-    }
-
-    /// What an ABORT TASK comes to.
-    fn abort_result(&self, reach: &Reach) -> TaskResult
-        ensures { (past : Past) → Stands past self.now → result ≡ abort_result past reach.now }
-    {
-        if self.transfers.has_reached(reach) {
-            return TaskResult::Complete;
-        }
-        if !refers_back(&reach.function) {
-            return TaskResult::NoTask;
-        }
-        let number = reach.function.ref_cmd_sn();
-        if self.tasks.is_new(number) {
-            return TaskResult::Complete;
-        }
-        if self.tasks.is_plugged(number) {
-            return TaskResult::Complete;
-        }
-        TaskResult::NoTask
     }
 }

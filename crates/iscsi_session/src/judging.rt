@@ -1,12 +1,12 @@
 //! The judging of a frame.
 
-ghost use Rattle.std.specs.Prelude.{◌≡◌, ◌≢◌, ◌≤◌, ◌||◌, is_some, ◌++◌, ◌∷◌, ℕ, List, [], true, flat_map, IfOk, OnOk, OnErr};
+ghost use Rattle.std.specs.Prelude.{◌≡◌, ◌≢◌, ◌≤◌, ◌||◌, is_some, ◌++◌, ◌∷◌, ℕ, List, [], true, false, flat_map, IfOk, OnOk, OnErr};
 ghost use Rattle.iscsi_pdu.specs.Answer.{spelling};
 ghost use Rattle.iscsi_pdu.specs.Frames as pdu;
 ghost use Rattle.iscsi_pdu.specs.Header.{initiator_task_tag};
 ghost use Rattle.iscsi_session.specs.Requests.{Past, is_command as is_command_in, is_function as is_function_in, accepted, answering, stamp};
 ghost use Rattle.iscsi_session.specs.Transfers.{command_with, fed};
-ghost use Rattle.iscsi_session.specs.Judging.{verdict, request_verdict, is_refused, is_fresh, is_full, is_live, is_faulty, task_verdict, judged, judged_answers, reject};
+ghost use Rattle.iscsi_session.specs.Judging.{verdict, request_verdict, is_refused, is_fresh, is_full, is_live, is_over, is_taken, is_faulty, task_verdict, judged, judged_answers, reject};
 ghost use Rattle.iscsi_session.specs.Draining.{judged_in, is_live_in};
 ghost use Rattle.iscsi_session.specs.State.{Stands, is_vacant_for, function_place, IsAcceptable, IsLawfulTask};
 
@@ -82,6 +82,7 @@ impl Session {
     }
 
     /// What a frame is judged to be that the session serves.
+    #[tactic(auto, using(crate::proofs::Verdicts::verdict_at), unfolding(crate::specs::Judging::verdict_by))]
     fn judge_request(&self, frame: &Frame) -> Verdict
         ensures verdict { (past : Past) → Stands past self.now → result ≡ request_verdict past frame.now }
         ensures vacant { result ≡ Verdict.Accepted → is_vacant_for self.now.tasks frame.now ≡ true }
@@ -120,21 +121,36 @@ impl Session {
         ensures acceptable { result ≡ Verdict.Accepted → IsLawfulTask self.now frame.now }
         ensures no_data { result ≢ Verdict.Feeding }
     {
-        let header = &frame.header;
         if !self.is_fresh(frame) {
             return Verdict::Ignored;
         }
-        if header.is_immediate() && self.is_full() {
+        if self.is_over(frame) {
             return Verdict::Rejected(RejectReason::TooManyImmediate);
         }
-        let tag = header.initiator_task_tag();
-        if tag == RESERVED_TAG || self.is_live(tag) {
+        if self.is_taken(frame) {
             return Verdict::Violating;
         }
         if self.is_faulty(frame) {
             return Verdict::Violating;
         }
         Verdict::Accepted
+    }
+
+    /// Too many SCSI Commands and Task Management Function Requests for immediate delivery are not finished.
+    fn is_over(&self, frame: &Frame) -> bool
+        ensures { (past : Past) → Stands past self.now → result ≡ is_over past frame.now }
+    {
+        frame.header.is_immediate() && self.is_full()
+    }
+
+    /// It bears the reserved tag, or a live one.
+    fn is_taken(&self, frame: &Frame) -> bool
+        ensures taken { (past : Past) → Stands past self.now → result ≡ is_taken past frame.now }
+        ensures places { result ≡ false → (is_live_in (initiator_task_tag frame.now.header) self.now.transfers
+            || is_some (function_place (initiator_task_tag frame.now.header) self.now.functions)) ≡ false }
+    {
+        let tag = frame.header.initiator_task_tag();
+        tag == RESERVED_TAG || self.is_live(tag)
     }
 
     /// The data that a SCSI Command brings is not as agreed.

@@ -18,6 +18,7 @@
 //! those before an allocation that failed. What holds of every past is in [`laws`].
 #![tactic(auto)]
 
+mod aborted;
 mod act;
 mod acting;
 mod answering;

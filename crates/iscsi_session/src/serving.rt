@@ -1,17 +1,14 @@
 //! A frame of a session, and the commands that were taken.
 
-ghost use Rattle.std.specs.Prelude.{◌≡◌, ◌<◌, ◌≤◌, ◌++◌, ℕ, List, [], None, length, flat_map, is_some, true, false, IfOk, OnOk, OnErr};
+ghost use Rattle.std.specs.Prelude.{◌≡◌, ◌<◌, ◌≤◌, ◌++◌, ℕ, List, [], None, Some, length, true, false, IfOk, OnOk, OnErr};
 ghost use Rattle.scsi_unit.specs.CameOut.{CameOut, AsDefined};
 ghost use Rattle.scsi_unit.specs.DiskCommands.{most_given};
 ghost use Rattle.scsi_unit.specs.Units.{numbers_of, AreSound, AreSure};
 ghost use Rattle.iscsi_login.specs.Values.{AreInRange};
-ghost use Rattle.iscsi_pdu.specs.Answer.{spelling};
-ghost use Rattle.iscsi_session.specs.Requests.{Past};
-ghost use Rattle.iscsi_session.specs.Transfers.{asking, asked_by, r2ts_by};
-ghost use Rattle.iscsi_session.specs.State.{Stands, asking_place, is_waiting};
+ghost use Rattle.iscsi_session.specs.State.{is_waiting};
 ghost use Rattle.iscsi_session.specs.Comings.{TargetUnits, CameAs};
 ghost use Rattle.iscsi_session.specs.Commands.{carried_out};
-ghost use Rattle.iscsi_session.specs.Steps.{Work, is_doing, is_serving, ready, finish, taken_in, asked_in, served, settled};
+ghost use Rattle.iscsi_session.specs.Steps.{Work, Asking, is_doing, is_serving, ready, finish, ask_due, taken_in, served, settled};
 ghost use Rattle.iscsi_session.specs.Weight.{IsAtRest, Eases};
 ghost use Rattle.iscsi_session.specs.Runs.{output, Starts, Runs, Stops, StepsFirst, IsSettled};
 
@@ -80,37 +77,11 @@ impl Session {
         ensures idle { IfOk result (λ goes_on. goes_on ≡ true → self.new.tasks.due ≡ []) }
         ensures params { self.new.params ≡ self.old.params }
     {
-        if !self.ask_in(frame, luns, out, orders)? {
-            return Ok(false);
-        }
-        self.tell_due(out)?;
-        Ok(true)
-    }
-
-    /// A frame is judged, the requests that it lets be taken act, and the R2T that it makes due is sent. It tells
-    /// whether the session goes on. Where an allocation fails the steps before it were done.
-    fn ask_in(
-        &mut self,
-        frame: Frame,
-        luns: &[u8],
-        out: &mut BytesMut,
-        orders: &mut Vec<Header>,
-    ) -> Result<bool, Memory>
-        requires { AreInRange self.old.params.values }
-        ensures ok { IfOk result (λ goes_on. (units : TargetUnits) → luns.now ≡ numbers_of units.states
-            → Runs (λ fails place. asked_in fails place frame) None goes_on self.old self.new
-            (output out.old.items orders.old.items) (output out.new.items orders.new.items) units units) }
-        ensures err { OnErr result (Stops is_serving (λ failed. (units : TargetUnits) → luns.now ≡ numbers_of units.states
-            → Runs (λ fails place. asked_in fails place frame) failed false self.old self.new
-            (output out.old.items orders.old.items) (output out.new.items orders.new.items) units units)) }
-        ensures grows { (more : List ℕ) × (out.new.items ≡ out.old.items ++ more) }
-        ensures idle { IfOk result (λ goes_on. goes_on ≡ true → self.new.tasks.due ≡ []) }
-        ensures params { self.new.params ≡ self.old.params }
-    {
         if !self.take_in(frame, luns, out, orders)? {
             return Ok(false);
         }
         self.ask_due(out)?;
+        self.tell_due(out)?;
         Ok(true)
     }
 
@@ -142,14 +113,13 @@ impl Session {
 
     /// The R2T that is due is added at the end of the buffer. Where an allocation fails nothing changes.
     fn ask_due(&mut self, out: &mut BytesMut) -> Result<(), Memory>
-        ensures stands { OnOk result ((past : Past) → Stands past self.old → Stands (asked_by (asking past) past) self.new) }
-        ensures out { OnOk result ((past : Past) → Stands past self.old → out.new.items ≡ out.old.items ++ flat_map spelling (r2ts_by (asking past) past)) }
+        ensures ok { OnOk result ((orders : List (List ℕ)) (units : TargetUnits) → Runs ask_due None true self.old self.new
+            (output out.old.items orders) (output out.new.items orders) units units) }
+        ensures stops { OnErr result ((orders : List (List ℕ)) (units : TargetUnits) → Runs ask_due (Some (λ place. Asking place)) false self.old self.new
+            (output out.old.items orders) (output out.new.items orders) units units) }
         ensures grows { (more : List ℕ) × (out.new.items ≡ out.old.items ++ more) }
         ensures tasks { self.new.tasks ≡ self.old.tasks }
         ensures params { self.new.params ≡ self.old.params }
-        ensures due { OnErr result (is_some (asking_place self.old.transfers.list) ≡ true) }
-        ensures err { OnErr result (self.new ≡ self.old) }
-        ensures out_err { OnErr result (out.new.items ≡ out.old.items) }
     {
         if !self.transfers.is_asking() {
             return Ok(());

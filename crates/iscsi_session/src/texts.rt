@@ -5,10 +5,10 @@ ghost use Rattle.iscsi_pdu.specs.Answer.{spelling};
 ghost use Rattle.iscsi_pdu.specs.Segment.{most_data};
 ghost use Rattle.iscsi_exchange.specs.Exchange.{IsShort, hears};
 ghost use Rattle.iscsi_session.specs.Requests.{Past, frame_of, due};
-ghost use Rattle.iscsi_session.specs.Acts.{acted, act_answers};
 ghost use Rattle.iscsi_session.specs.Texts.{is_text as is_text_in, text_answer};
 ghost use Rattle.iscsi_session.specs.Room.{room_to_tell};
 ghost use Rattle.iscsi_session.specs.State.{Stands, waiting};
+ghost use Rattle.iscsi_session.specs.Runs.{ActsAs, output};
 
 use crate::act::Act;
 use crate::answers::{put, rejected};
@@ -67,11 +67,10 @@ impl Session {
     /// The first request that is due, a Text, is answered at the end of the buffer, and its exchange goes on
     /// or is over. Where an allocation fails nothing changes.
     pub(crate) fn answer_text(&mut self, out: &mut BytesMut) -> Result<Act, Memory>
-        ensures act { IfOk result (λ a. 0 < length self.old.tasks.due → a ≡ Act.Taken) }
-        ensures stands { OnOk result ((luns : List ℕ) (past : Past) (k : ℕ) (others : List ℕ) → Stands past self.old → due past ≡ k ∷ others
-            → is_text_in (frame_of past.came k) ≡ true → Stands (acted luns k past) self.new) }
-        ensures out { OnOk result ((luns : List ℕ) (past : Past) (k : ℕ) (others : List ℕ) → Stands past self.old → due past ≡ k ∷ others
-            → is_text_in (frame_of past.came k) ≡ true → out.new.items ≡ out.old.items ++ flat_map spelling (act_answers luns k past)) }
+        ensures taken { IfOk result (λ a. 0 < length self.old.tasks.due → a ≡ Act.Taken) }
+        ensures acts { IfOk result (λ a. (luns : List ℕ) (past : Past) (k : ℕ) (others : List ℕ) → Stands past self.old → due past ≡ k ∷ others
+            → is_text_in (frame_of past.came k) ≡ true
+            → (orders : List (List ℕ)) → ActsAs luns k past a self.new (output out.old.items orders) (output out.new.items orders)) }
         ensures grows { (more : List ℕ) × (out.new.items ≡ out.old.items ++ more) }
         ensures fewer { IfOk result (λ a. a ≡ Act.Taken → waiting self.new.tasks < waiting self.old.tasks) }
         ensures params { self.new.params ≡ self.old.params }
@@ -91,13 +90,10 @@ impl Session {
     fn tell(&mut self, out: &mut BytesMut, told: Told) -> Act
         requires short { IsShort told.piece }
         requires room { room_to_tell told.piece ≤ out.old.spare }
-        ensures act { 0 < length self.old.tasks.due → result ≡ Act.Taken }
-        ensures stands { (luns : List ℕ) (past : Past) (k : ℕ) (others : List ℕ) → Stands past self.old → due past ≡ k ∷ others
+        ensures taken { 0 < length self.old.tasks.due → result ≡ Act.Taken }
+        ensures acts { (luns : List ℕ) (past : Past) (k : ℕ) (others : List ℕ) → Stands past self.old → due past ≡ k ∷ others
             → is_text_in (frame_of past.came k) ≡ true → told ≡ hears self.old.exchange (frame_of past.came k) self.old.params
-            → Stands (acted luns k past) self.new }
-        ensures out { (luns : List ℕ) (past : Past) (k : ℕ) (others : List ℕ) → Stands past self.old → due past ≡ k ∷ others
-            → is_text_in (frame_of past.came k) ≡ true → told ≡ hears self.old.exchange (frame_of past.came k) self.old.params
-            → out.new.items ≡ out.old.items ++ flat_map spelling (act_answers luns k past) }
+            → (orders : List (List ℕ)) → ActsAs luns k past result self.new (output out.old.items orders) (output out.new.items orders) }
         ensures grows { (more : List ℕ) × (out.new.items ≡ out.old.items ++ more) }
         ensures fewer { result ≡ Act.Taken → waiting self.new.tasks < waiting self.old.tasks }
         ensures params { self.new.params ≡ self.old.params }

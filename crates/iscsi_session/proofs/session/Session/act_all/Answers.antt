@@ -3,7 +3,7 @@ use Rattle.iscsi_session.specs.Requests.{due}
 use Rattle.iscsi_session.specs.Steps.{Taking, act}
 use Rattle.iscsi_session.proofs.Parts.{on_err_known}
 use Rattle.iscsi_session.proofs.Runs.{same_output, none_ran, grows_none, grows_then, tasks_count}
-use Rattle.iscsi_session.proofs.Served.{acted_more, all_acted, acting_ends, acting_stops, act_stops}
+use Rattle.iscsi_session.proofs.Served.{acted_more, all_acted, acting_ends, acting_stops, act_stops, acts}
 use Rattle.iscsi_session.specs.Steps.{waiting_in}
 use Rattle.iscsi_session.proofs.Served.{due_fits}
 use Rattle.iscsi_session.proofs.session.Session.act_all.Goals as goal
@@ -24,23 +24,17 @@ returns-in_err-act-clause-err c = on_err_known _
 
 pub returns-in-Idle-clause-ok : goal.returns-in-Idle-clause-ok
 returns-in-Idle-clause-ok c units numbers =
-    all_acted c.args.luns.now _ _ _ _ _ _ _ _ units numbers (c.loop.invariant.ran units numbers)
-    (record { act = c.in_ok-act.ensures.act; stands = c.in_ok-act.ensures.stands; out = c.in_ok-act.ensures.out; orders = c.in_ok-act.ensures.orders })
-    c.in-Idle.is
+    all_acted c.args.luns.now _ _ _ _ _ _ _ units numbers (c.loop.invariant.ran units numbers) (rw c.in-Idle.is at (acts c.in_ok-act.ensures.acts))
 
 pub loop-preserved : goal.loop-preserved
 loop-preserved c = record {
   turns = suc c.loop.invariant.turns;
-  ran = λ units numbers. acted_more c.args.luns.now _ _ _ _ _ _ _ _ units numbers (c.loop.invariant.ran units numbers)
-      (record { act = c.in_ok-act.ensures.act; stands = c.in_ok-act.ensures.stands; out = c.in_ok-act.ensures.out; orders = c.in_ok-act.ensures.orders })
-      c.in-Taken.is
-      (c.in_ok-act.ensures.fewer c.in-Taken.is);
+  ran = λ units numbers. acted_more c.args.luns.now _ _ _ _ _ _ _ units numbers (c.loop.invariant.ran units numbers)
+      (rw c.in-Taken.is at (acts c.in_ok-act.ensures.acts)) (c.in_ok-act.ensures.fewer c.in-Taken.is);
   grows = grows_then _ _ _ c.loop.invariant.grows c.in_ok-act.ensures.grows;
   params = c.in_ok-act.ensures.params ∙ c.loop.invariant.params;
 }
 
 pub returns-in-Ended-clause-ok : goal.returns-in-Ended-clause-ok
 returns-in-Ended-clause-ok c units numbers =
-    acting_ends c.args.luns.now _ _ _ _ _ _ _ _ units numbers (c.loop.invariant.ran units numbers)
-    (record { act = c.in_ok-act.ensures.act; stands = c.in_ok-act.ensures.stands; out = c.in_ok-act.ensures.out; orders = c.in_ok-act.ensures.orders })
-    c.in-Ended.is
+    acting_ends c.args.luns.now _ _ _ _ _ _ _ units numbers (c.loop.invariant.ran units numbers) (rw c.in-Ended.is at (acts c.in_ok-act.ensures.acts))

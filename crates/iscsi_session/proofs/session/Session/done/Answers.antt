@@ -7,22 +7,15 @@ use Rattle.iscsi_login.specs.declared.params.Params.{Params}
 use Rattle.iscsi_session.specs.Requests.{frame_of, stamp, finished}
 use Rattle.iscsi_session.specs.Answers.{command_answers}
 use Rattle.iscsi_session.specs.Room.{room_for}
-use Rattle.iscsi_session.specs.State.{SessionState, Stands, removed_at, place_with}
+use Rattle.iscsi_session.specs.State.{SessionState, removed_at, place_with}
 use Rattle.iscsi_pdu.specs.Header.{initiator_task_tag}
 use Rattle.iscsi_session.proofs.Parts.{parts}
-use Rattle.iscsi_session.proofs.Answered.{done_here, some_queued}
+use Rattle.iscsi_session.proofs.Answered.{seen, done_here, some_queued}
 use Rattle.iscsi_session.proofs.Settled.{command_bears}
 use Rattle.iscsi_session.proofs.session.Session.done.Goals as goal
 
-pub returns-in_default-clause-stands : goal.returns-in_default-clause-stands
-returns-in_default-clause-stands c past k rest s is =
-    let known = subst (λ (x : SessionState). Stands past x) (sym c.self.view_is) s in
-    absurd (some_queued past _ k rest known is c.in_default.ensures.none)
-
-pub returns-in_default-clause-out : goal.returns-in_default-clause-out
-returns-in_default-clause-out c past k rest s is =
-    let known = subst (λ (x : SessionState). Stands past x) (sym c.self.view_is) s in
-    absurd (some_queued past _ k rest known is c.in_default.ensures.none)
+pub returns-in_default-clause-answers : goal.returns-in_default-clause-answers
+returns-in_default-clause-answers c past k rest s is = absurd (some_queued past _ k rest (seen c.self.view_is s) is c.in_default.ensures.none)
 
 pub put_answers-requires-clause-room : goal.put_answers-requires-clause-room
 put_answers-requires-clause-room c =
@@ -31,28 +24,24 @@ put_answers-requires-clause-room c =
     let same : c.self-2.inside.params ≡ c.self.inside.params = ap (λ (x : SessionState). x.params) (c.self-2.view_is ∙ c.next_stamp-stamp.ensures.same) in
     subst (λ (p : Params). room_for p.values c.in-Some.frame ≤ c.args.out.now.spare) (sym same) (known _ _ c.in-Some.ensures.some)
 
-pub returns-clause-stands : goal.returns-clause-stands
-returns-clause-stands c past k rest s is =
-    let known = subst (λ (x : SessionState). Stands past x) (sym c.self.view_is) s in
-    let f = done_here past _ k rest c.in-Some.frame _ _ known is c.in-Some.ensures.some c.in-Some.ensures.same
-    (c.finish-2.ensures ∙ ap (λ (t : ℕ). record c.self.inside.transfers
-    { list = removed_at c.self.inside.transfers.list (place_with t c.self.inside.transfers.list) })
-    (c.initiator_task_tag.ensures ∙ ap (λ (f : Frame). initiator_task_tag f.header) c.frame.view_is)) in
-    c.next_stamp-stamp.ensures.stands (finished k past)
-    (command_answers (stamp (finished k past)) past.params.values (frame_of past.came k) c.args.done) f.1
-    (command_bears (stamp (finished k past)) past.params.values (frame_of past.came k) c.args.done)
-
-pub returns-clause-out : goal.returns-clause-out
-returns-clause-out c past k rest s is =
-    let known = subst (λ (x : SessionState). Stands past x) (sym c.self.view_is) s in
+pub returns-clause-answers : goal.returns-clause-answers
+returns-clause-answers c past k rest s is =
+    let known = seen c.self.view_is s in
+    let done = c.args.done in
+    let items = c.args.out.now.items in
     let f = done_here past _ k rest c.in-Some.frame _ _ known is c.in-Some.ensures.some c.in-Some.ensures.same
     (c.finish-2.ensures ∙ ap (λ (t : ℕ). record c.self.inside.transfers
     { list = removed_at c.self.inside.transfers.list (place_with t c.self.inside.transfers.list) })
     (c.initiator_task_tag.ensures ∙ ap (λ (f : Frame). initiator_task_tag f.header) c.frame.view_is)) in
     let same : c.self-2.inside.params ≡ past.params = ap (λ (x : SessionState). x.params) (c.self-2.view_is ∙ c.next_stamp-stamp.ensures.same)
     ∙ (parts past _ known).params_is in
-    c.put_answers.ensures
-    ∙ ap (λ (x : Stamp). c.args.out.now.items ++ flat_map spelling (command_answers x c.self-2.inside.params.values c.in-Some.frame c.args.done))
-    (c.next_stamp-stamp.ensures.stamp (finished k past) f.1)
-    ∙ ap (λ (p : Params). c.args.out.now.items ++ flat_map spelling (command_answers (stamp (finished k past)) p.values c.in-Some.frame c.args.done)) same
-    ∙ ap (λ (x : Frame). c.args.out.now.items ++ flat_map spelling (command_answers (stamp (finished k past)) past.params.values x c.args.done)) f.0
+    let now = stamp (finished k past) in
+    record {
+      stands = c.next_stamp-stamp.ensures.stands (finished k past) (command_answers now past.params.values (frame_of past.came k) done) f.1
+          (command_bears now past.params.values (frame_of past.came k) done);
+      out = c.put_answers.ensures
+          ∙ ap (λ (x : Stamp). items ++ flat_map spelling (command_answers x c.self-2.inside.params.values c.in-Some.frame done))
+          (c.next_stamp-stamp.ensures.stamp (finished k past) f.1)
+          ∙ ap (λ (p : Params). items ++ flat_map spelling (command_answers now p.values c.in-Some.frame done)) same
+          ∙ ap (λ (x : Frame). items ++ flat_map spelling (command_answers now past.params.values x done)) f.0;
+    }

@@ -1,5 +1,4 @@
-use Rattle.std.proofs.Common.{◌≡◌, ◌++◌, ◌<◌, length, drop, List, [], Option, Some, None, sym, ap, subst, ◌∙◌, arith}
-use Rattle.std.specs.Prelude.{IfSome, IfNone}
+use Rattle.std.proofs.Common.{◌≡◌, ◌++◌, ◌<◌, length, drop, List, sym, ap, subst, ◌∙◌, arith}
 use Rattle.std.proofs.lemmas.List.{length-map}
 use Rattle.iscsi_pdu.specs.Frames.{Frame}
 use Rattle.iscsi_session.specs.Requests.{frames_of}
@@ -8,14 +7,9 @@ use Rattle.iscsi_session.specs.Acts.{reach_of}
 use Rattle.iscsi_session.specs.State.{SessionState, TaskLists, Stands, standing, without, transfers_without, void_if, waiting}
 use Rattle.iscsi_session.specs.Draining.{awaited_in, awaits_in}
 use Rattle.iscsi_session.proofs.Parts.{due_is}
-use Rattle.iscsi_session.proofs.Weights.{queues_one, waiting_without}
+use Rattle.iscsi_session.proofs.Weights.{queues_one, waiting_without, given_frame}
 use Rattle.iscsi_session.proofs.Waits.{awaits_is, some_of, stands_waits}
 use Rattle.iscsi_session.proofs.session.Session.drain.Goals as goal
-
-given_frame : (r : Option Frame) (line : List Frame) {P Q : Frame → Type 0} → IfSome r P → IfSome r Q → IfNone r (line ≡ []) → 0 < length line
-    → (frame : Frame) × P frame × Q frame
-given_frame None line p q none some = absurd (omega (arith, some, ap (λ (l : List Frame). length l) none))
-given_frame (Some frame) line p q none some = (frame, p, q)
 
 still_due : (reach : FunctionReach) (tasks left : TaskLists) → left ≡ without reach tasks → 0 < length tasks.due → 0 < length left.due
 still_due reach tasks left same some =

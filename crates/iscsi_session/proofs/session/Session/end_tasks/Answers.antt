@@ -1,5 +1,4 @@
-use Rattle.std.proofs.Common.{◌≡◌, ◌<◌, List, [], ◌∷◌, length, drop, true, false, Option, Some, None, refl, sym, ap, subst, ◌∙◌, arith}
-use Rattle.std.specs.Prelude.{IfSome, IfNone}
+use Rattle.std.proofs.Common.{◌≡◌, ◌<◌, List, [], ◌∷◌, length, drop, true, false, refl, sym, ap, subst, ◌∙◌, arith}
 use Rattle.iscsi_pdu.specs.Frames.{Frame}
 use Rattle.iscsi_pdu.specs.Header.{initiator_task_tag}
 use Rattle.iscsi_pdu.specs.TaskManagement.{ref_cmd_sn}
@@ -10,14 +9,9 @@ use Rattle.iscsi_session.specs.State.{SessionState, TaskLists, Stands, one_fewer
 use Rattle.iscsi_session.proofs.Kept.{function_no_command}
 use Rattle.iscsi_session.proofs.Parts.{window_stands}
 use Rattle.iscsi_session.proofs.Answered.{first_drops, function_here}
-use Rattle.iscsi_session.proofs.Weights.{waiting_plugged, waiting_without, finishes_one}
+use Rattle.iscsi_session.proofs.Weights.{waiting_plugged, waiting_without, finishes_one, given_frame}
 use Rattle.iscsi_session.proofs.Ending.{vacant_still, stands_ended, stands_behind, stands_unreached, stands_plugged_behind}
 use Rattle.iscsi_session.proofs.session.Session.end_tasks.Goals as goal
-
-given_frame : (r : Option Frame) (line : List Frame) {P Q : Frame → Type 0} → IfSome r P → IfSome r Q → IfNone r (line ≡ []) → 0 < length line
-    → (frame : Frame) × P frame × Q frame
-given_frame None line p q none some = absurd (omega (arith, some, ap (λ (l : List Frame). length l) none))
-given_frame (Some frame) line p q none some = (frame, p, q)
 
 -- ---- a number is plugged
 

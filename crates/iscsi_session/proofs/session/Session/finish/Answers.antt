@@ -1,8 +1,4 @@
-use Rattle.std.proofs.Common.{◌≡◌, ◌++◌, ℕ, List, [], refl, sym, ap, ◌∙◌, append-nil}
-use Rattle.std.specs.Prelude.{flat_map}
-use Rattle.iscsi_pdu.specs.Answer.{spelling}
-use Rattle.iscsi_session.specs.Requests.{frame_of, stamp, finished}
-use Rattle.iscsi_session.specs.Answers.{command_answers}
+use Rattle.std.proofs.Common.{◌≡◌, ℕ, [], sym, ap, ◌∙◌, append-nil}
 use Rattle.iscsi_session.specs.State.{SessionState, payload_at, place_for, place_with}
 use Rattle.iscsi_pdu.specs.Frames.{Frame}
 use Rattle.iscsi_pdu.specs.Header.{initiator_task_tag}
@@ -31,13 +27,7 @@ returns-clause-steps g c =
     (ap (λ (x : SessionState). x.params.nexus) c.self.view_is)
     next
     (came.1 ∙ ap (carried_out came.0 c.args.units.now c.self.inside.params.nexus c.in-Some.frame.now) payload)
-    (record {
-      stands = c.done-buffer.ensures.stands;
-      out = λ past k others st is. c.done-buffer.ensures.out past k others st is
-          ∙ ap (λ (bytes : List ℕ). bytes ++ flat_map spelling
-          (command_answers (stamp (finished k past)) past.params.values (frame_of past.came k) c.in_ok-done.done)) c.make_room.ensures.same;
-      orders = refl;
-    })) came.2)
+    (rw c.make_room.ensures.same at c.done-buffer.ensures.answers)) came.2)
 
 pub returns-clause-back : goal.returns-clause-back
 returns-clause-back g c = rw c.give_back.ensures c.carry_out.ensures.back
@@ -54,7 +44,4 @@ returns-clause-sure g c = rw c.give_back.ensures c.carry_out.ensures.sure
 pub returns-clause-eases : goal.returns-clause-eases
 returns-clause-eases g c r =
     done_eases c.args.self.now c.done-buffer.new.self c.in-Some.frame.now _ c.in_ok-done.done c.args.out.now.items c.done-buffer.new.out.items
-    c.in-Some.ensures.some c.requires c.in_ok-done.ensures.given c.done-buffer.ensures.stands
-    (λ past k others st is. c.done-buffer.ensures.out past k others st is
-    ∙ ap (λ (bytes : List ℕ). bytes ++ flat_map spelling
-    (command_answers (stamp (finished k past)) past.params.values (frame_of past.came k) c.in_ok-done.done)) c.make_room.ensures.same) r
+    c.in-Some.ensures.some c.requires c.in_ok-done.ensures.given (rw c.make_room.ensures.same at c.done-buffer.ensures.answers) r

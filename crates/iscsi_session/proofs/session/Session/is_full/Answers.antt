@@ -1,12 +1,10 @@
-use Rattle.std.proofs.Common.{◌≡◌, ◌+◌, ◌-◌, ◌^◌, min, leb, ltb, not, ℕ, Bool, true, false, refl, sym, subst, ◌∙◌, arith}
-use Rattle.std.proofs.lemmas.Bool.{ltb-true, ltb-false, le-leb, lt-leb}
+use Rattle.std.proofs.Common.{◌≡◌, ◌+◌, ◌-◌, ◌^◌, min, leb, ltb, not, ℕ, Bool, refl, sym, subst, ◌∙◌, arith}
 use Rattle.iscsi_session.specs.State.{SessionState, Stands, immediate_transfers, immediate_functions}
 use Rattle.iscsi_session.proofs.Feeding.{full_is}
 use Rattle.iscsi_session.proofs.session.Session.is_full.Goals as goal
 
 most_by : (b : Bool) (n r : ℕ) → ltb n 8 ≡ b → r ≡ min n (2 ^ 64 - 1) → leb 8 r ≡ not b
-most_by true n r e is = let lt = ltb-true n 8 e in lt-leb 8 r (omega arith)
-most_by false n r e is = let le = ltb-false n 8 e in le-leb 8 r (omega arith)
+most_by b n r e is = grind arith
 
 pub returns : goal.returns
 returns c past s =

@@ -10,28 +10,15 @@ use Rattle.iscsi_session.proofs.Answered.{logout_bears}
 use Rattle.iscsi_session.proofs.Parts.{parts}
 use Rattle.iscsi_session.proofs.session.Session.log_out.Goals as goal
 
-pub returns-then-closes-clause-out : goal.returns-then-closes-clause-out
-returns-then-closes-clause-out c past s =
+pub returns-clause-out : goal.returns-clause-out
+returns-clause-out c past s =
     let agreed : c.next_stamp-stamp.new.self.params ≡ past.params = ap (λ (x : SessionState). x.params) c.next_stamp-stamp.ensures.same
     ∙ (parts past _ s).params_is in
     c.put.ensures.written ∙ ap (λ (a : Answer). c.args.out.now.items ++ spelling a) (c.logout_answer.ensures.value
     ∙ ap (λ (x : Stamp). logout_answer x c.next_stamp-stamp.new.self.params c.args.frame.now) (c.next_stamp-stamp.ensures.stamp past s)
     ∙ ap (λ (p : Params). logout_answer (stamp past) p c.args.frame.now) agreed)
 
-pub returns-else-closes-clause-out : goal.returns-else-closes-clause-out
-returns-else-closes-clause-out c past s =
-    let agreed : c.next_stamp-stamp.new.self.params ≡ past.params = ap (λ (x : SessionState). x.params) c.next_stamp-stamp.ensures.same
-    ∙ (parts past _ s).params_is in
-    c.put.ensures.written ∙ ap (λ (a : Answer). c.args.out.now.items ++ spelling a) (c.logout_answer.ensures.value
-    ∙ ap (λ (x : Stamp). logout_answer x c.next_stamp-stamp.new.self.params c.args.frame.now) (c.next_stamp-stamp.ensures.stamp past s)
-    ∙ ap (λ (p : Params). logout_answer (stamp past) p c.args.frame.now) agreed)
-
-pub returns-then-closes-clause-stands : goal.returns-then-closes-clause-stands
-returns-then-closes-clause-stands c past s =
-    c.next_stamp-stamp.ensures.stands past (logout_answer (stamp past) past.params c.args.frame.now ∷ []) s
-    (logout_bears (stamp past) past.params c.args.frame.now)
-
-pub returns-else-closes-clause-stands : goal.returns-else-closes-clause-stands
-returns-else-closes-clause-stands c past s =
+pub returns-clause-stands : goal.returns-clause-stands
+returns-clause-stands c past s =
     c.next_stamp-stamp.ensures.stands past (logout_answer (stamp past) past.params c.args.frame.now ∷ []) s
     (logout_bears (stamp past) past.params c.args.frame.now)

@@ -1,37 +1,34 @@
-use Rattle.std.proofs.Common.{Bool, refl, subst, ◌∙◌}
-use Rattle.std.specs.Prelude.{None}
-use Rattle.iscsi_session.specs.Runs.{Runs, output}
-use Rattle.iscsi_session.specs.Steps.{asked_in}
+use Rattle.std.proofs.Common.{refl}
+use Rattle.std.proofs.lemmas.Bool.{eq-eqb}
+use Rattle.iscsi_session.specs.Steps.{Asking, Answering}
 use Rattle.iscsi_session.proofs.Parts.{on_err_known}
-use Rattle.iscsi_session.proofs.Runs.{same_output}
-use Rattle.iscsi_session.proofs.Told.{served_ended, stops_served, served_on, telling_stops}
+use Rattle.iscsi_session.proofs.Stages.{taken_ended, asked_then, asked_ended, told_then, served_stops, taken_stops}
 use Rattle.iscsi_session.proofs.session.Session.serve.Goals as goal
 
-pub returns-in_err-ask_in-clause-err : goal.returns-in_err-ask_in-clause-err
-returns-in_err-ask_in-clause-err c = on_err_known _ (stops_served c.args.luns.now c.args.frame _ _ _ _ c.in_err-ask_in.ensures.err)
+pub returns-in_err-take_in-clause-err : goal.returns-in_err-take_in-clause-err
+returns-in_err-take_in-clause-err c = on_err_known _ (taken_stops c.args.luns.now c.args.frame _ _ _ _ c.in_err-take_in.ensures.err)
 
 pub returns-then-not-branch-clause-ok : goal.returns-then-not-branch-clause-ok
 returns-then-not-branch-clause-ok c units numbers =
-    served_ended c.args.frame None _ _ _ _ units
-    (subst (λ (on : Bool). Runs (λ fails place. asked_in fails place c.args.frame) None on c.args.self.now c.ask_in.new.self
-    (output c.args.out.now.items c.args.orders.now.items) (output c.ask_in.new.out.items c.ask_in.new.orders.items) units units)
-    c.if-not-branch.true (c.in_ok-ask_in.ensures.ok units numbers))
+    taken_ended c.args.frame (rw c.if-not-branch.true at (c.in_ok-take_in.ensures.ok units numbers))
+
+pub returns-in_err-ask_due-clause-err : goal.returns-in_err-ask_due-clause-err
+returns-in_err-ask_due-clause-err c =
+    on_err_known _ (served_stops c.args.luns.now c.args.frame _ _ _ _ Asking (λ place. eq-eqb place place refl) (λ place. refl) (λ units numbers.
+    asked_ended c.args.frame (asked_then c.args.frame (λ place. refl) (λ place turn. refl)
+    (rw c.if-not-branch.false at (c.in_ok-take_in.ensures.ok units numbers)) (c.in_err-ask_due.ensures.stops _ units))))
 
 pub returns-in_err-tell_due-clause-err : goal.returns-in_err-tell_due-clause-err
 returns-in_err-tell_due-clause-err c =
-    on_err_known _
-    (telling_stops c.args.luns.now c.args.frame _ _ _ _ _ _ c.in_err-tell_due.ensures.err (same_output _ _ _ _ c.in_err-tell_due.ensures.out_err refl)
-    (λ units numbers. subst (λ (on : Bool). Runs (λ fails place. asked_in fails place c.args.frame) None on c.args.self.now c.ask_in.new.self
-    (output c.args.out.now.items c.args.orders.now.items) (output c.ask_in.new.out.items c.ask_in.new.orders.items) units units)
-    c.if-not-branch.false (c.in_ok-ask_in.ensures.ok units numbers)) c.in_err-tell_due.ensures.due)
+    on_err_known _ (served_stops c.args.luns.now c.args.frame _ _ _ _ Answering (λ place. eq-eqb place place refl) (λ place. refl) (λ units numbers.
+    told_then c.args.frame (λ place. refl) (λ place turn. refl) (λ place. refl)
+    (asked_then c.args.frame (λ place. refl) (λ place turn. refl)
+    (rw c.if-not-branch.false at (c.in_ok-take_in.ensures.ok units numbers)) (c.in_ok-ask_due.ensures.ok _ units))
+    (c.in_err-tell_due.ensures.stops _ units)))
 
 pub returns-clause-ok : goal.returns-clause-ok
 returns-clause-ok c units numbers =
-    served_on c.args.frame _ _ _ _ _ _ units
-    (subst (λ (on : Bool). Runs (λ fails place. asked_in fails place c.args.frame) None on c.args.self.now c.ask_in.new.self
-    (output c.args.out.now.items c.args.orders.now.items) (output c.ask_in.new.out.items c.ask_in.new.orders.items) units units)
-    c.if-not-branch.false (c.in_ok-ask_in.ensures.ok units numbers))
-    (record { stands = c.in_ok-tell_due.ensures.stands; out = c.in_ok-tell_due.ensures.out; orders = refl })
-
-pub returns-clause-idle : goal.returns-clause-idle
-returns-clause-idle c = λ on. c.in_ok-tell_due.ensures.line ∙ c.in_ok-ask_in.ensures.idle (c.if-not-branch.false)
+    told_then c.args.frame (λ place. refl) (λ place turn. refl) (λ place. refl)
+    (asked_then c.args.frame (λ place. refl) (λ place turn. refl)
+    (rw c.if-not-branch.false at (c.in_ok-take_in.ensures.ok units numbers)) (c.in_ok-ask_due.ensures.ok _ units))
+    (c.in_ok-tell_due.ensures.ok _ units)

@@ -1,16 +1,15 @@
 use Rattle.std.proofs.Common.{refl}
 use Rattle.iscsi_session.proofs.Parts.{on_err_known}
-use Rattle.iscsi_session.proofs.Runs.{same_output}
-use Rattle.iscsi_session.proofs.Served.{judging_stop, judging_ends, taken_ok, taken_err}
+use Rattle.iscsi_session.proofs.Stages.{judging_stops, judging_ends, taken_ok, taken_err}
 use Rattle.iscsi_session.proofs.session.Session.take_in.Goals as goal
 
 pub returns-in_err-take-clause-err : goal.returns-in_err-take-clause-err
-returns-in_err-take-clause-err c = on_err_known _
-    (judging_stop c.args.luns.now c.args.frame _ _ _ _ c.in_err-take.ensures.err (same_output _ _ _ _ c.in_err-take.ensures.out_err refl))
+returns-in_err-take-clause-err c =
+    on_err_known _ (judging_stops c.args.luns.now c.args.frame _ _ _ _ _ c.in_err-take.ensures.err c.in_err-take.ensures.out_err)
 
 pub returns-in-Violating-clause-ok : goal.returns-in-Violating-clause-ok
 returns-in-Violating-clause-ok c units numbers =
-    judging_ends _ c.args.frame _ _ _ _ units
+    judging_ends c.args.frame
     (record { judged_is = c.in_ok-take.ensures.verdict; stands = c.in_ok-take.ensures.stands; out = c.in_ok-take.ensures.out; orders = refl }) c.in-Violating.is
 
 pub returns-clause-ok : goal.returns-clause-ok

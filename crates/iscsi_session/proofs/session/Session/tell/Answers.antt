@@ -1,4 +1,4 @@
-use Rattle.std.proofs.Common.{◌++◌, List, [], ◌∷◌, sym, ap, subst, ◌∙◌}
+use Rattle.std.proofs.Common.{◌++◌, List, [], ◌∷◌, refl, sym, ap, subst, ◌∙◌}
 use Rattle.iscsi_pdu.specs.Answer.{spelling}
 use Rattle.iscsi_pdu.specs.declared.answer.Answer.{Answer}
 use Rattle.iscsi_pdu.specs.declared.stamp.Stamp.{Stamp}
@@ -6,36 +6,29 @@ use Rattle.iscsi_exchange.specs.Exchange.{ToldState, hears}
 use Rattle.iscsi_session.specs.Requests.{frame_of, moved, answering, stamp}
 use Rattle.iscsi_session.specs.Texts.{text_answer}
 use Rattle.iscsi_session.specs.State.{SessionState, Stands}
-use Rattle.iscsi_session.proofs.Answered.{text_here, text_same, text_bears, some_due, one_spelled, stands_plain, text_no_function}
+use Rattle.iscsi_session.proofs.Exchanging.{text_kind}
+use Rattle.iscsi_session.proofs.Answered.{seen, text_here, text_same, text_bears, goes_on_act, some_due, one_spelled, none_ordered, stands_plain, text_no_function}
 use Rattle.iscsi_session.proofs.session.Session.tell.Goals as goal
 
-pub returns-in_default-clause-stands : goal.returns-in_default-clause-stands
-returns-in_default-clause-stands c luns past k rest s is e heard =
-    let known = subst (λ (x : SessionState). Stands past x) (sym c.self.view_is) s in
-    absurd (some_due past _ k rest known is c.in_default.ensures.none)
+pub returns-in_default-clause-acts : goal.returns-in_default-clause-acts
+returns-in_default-clause-acts c luns past k rest s is e heard orders =
+    absurd (some_due past _ k rest (seen c.self.view_is s) is c.in_default.ensures.none)
 
-pub returns-in_default-clause-out : goal.returns-in_default-clause-out
-returns-in_default-clause-out c luns past k rest s is e heard =
-    let known = subst (λ (x : SessionState). Stands past x) (sym c.self.view_is) s in
-    absurd (some_due past _ k rest known is c.in_default.ensures.none)
-
-pub returns-clause-stands : goal.returns-clause-stands
-returns-clause-stands c luns past k rest s is e heard =
-    let known = subst (λ (x : SessionState). Stands past x) (sym c.self.view_is) s in
+pub returns-clause-acts : goal.returns-clause-acts
+returns-clause-acts c luns past k rest s is e heard orders =
+    let known = seen c.self.view_is s in
     let given : ToldState = record { exchange = c.told.inside.exchange; piece = c.told.inside.piece } in
     let told = c.told.view_is ∙ heard ∙ ap (λ (x : SessionState). hears x.exchange (frame_of past.came k) x.params) (sym c.self.view_is) in
     let t = text_here past _ k rest c.in-Some.frame _ given known is e c.in-Some.ensures.some c.in-Some.ensures.same told in
-    stands_plain luns k past _ (text_no_function (frame_of past.came k) e)
-    (subst (λ (l : List Answer). Stands (answering l (moved k past)) c.next_stamp-stamp.new.self) (text_same luns k past c.in-Some.frame given t.0 t.1 e)
-    (c.next_stamp-stamp.ensures.stands (moved k past) (text_answer (stamp (moved k past)) given.piece c.in-Some.frame ∷ []) t.2
-    (text_bears (stamp (moved k past)) given.piece c.in-Some.frame)))
-
-pub returns-clause-out : goal.returns-clause-out
-returns-clause-out c luns past k rest s is e heard =
-    let known = subst (λ (x : SessionState). Stands past x) (sym c.self.view_is) s in
-    let given : ToldState = record { exchange = c.told.inside.exchange; piece = c.told.inside.piece } in
-    let told = c.told.view_is ∙ heard ∙ ap (λ (x : SessionState). hears x.exchange (frame_of past.came k) x.params) (sym c.self.view_is) in
-    let t = text_here past _ k rest c.in-Some.frame _ given known is e c.in-Some.ensures.some c.in-Some.ensures.same told in
-    c.put_told.ensures
-    ∙ ap (λ (x : Stamp). c.args.out.now.items ++ spelling (text_answer x given.piece c.in-Some.frame)) (c.next_stamp-stamp.ensures.stamp (moved k past) t.2)
-    ∙ one_spelled c.args.out.now.items _ _ (text_same luns k past c.in-Some.frame given t.0 t.1 e)
+    let same = text_same luns k past c.in-Some.frame given t.0 t.1 e in
+    record {
+      act = goes_on_act k past (text_kind (frame_of past.came k) e) refl;
+      stands = stands_plain luns k past _ (text_no_function (frame_of past.came k) e)
+          (subst (λ (l : List Answer). Stands (answering l (moved k past)) c.next_stamp-stamp.new.self) same
+          (c.next_stamp-stamp.ensures.stands (moved k past) (text_answer (stamp (moved k past)) given.piece c.in-Some.frame ∷ []) t.2
+          (text_bears (stamp (moved k past)) given.piece c.in-Some.frame)));
+      out = c.put_told.ensures
+          ∙ ap (λ (x : Stamp). c.args.out.now.items ++ spelling (text_answer x given.piece c.in-Some.frame))
+          (c.next_stamp-stamp.ensures.stamp (moved k past) t.2) ∙ one_spelled c.args.out.now.items _ _ same;
+      orders = none_ordered past k orders (text_no_function (frame_of past.came k) e);
+    }

@@ -1,49 +1,40 @@
-use Rattle.std.proofs.Common.{◌≡◌, ◌++◌, ℕ, List, sym, ap, subst, ◌∙◌}
+use Rattle.std.proofs.Common.{◌≡◌, ◌++◌, ℕ, List, refl, sym, ap, subst, ◌∙◌}
+use Rattle.std.proofs.lemmas.Bool.{eq-eqb}
 use Rattle.iscsi_pdu.specs.Answer.{spelling}
 use Rattle.iscsi_pdu.specs.Header.{initiator_task_tag}
 use Rattle.iscsi_pdu.specs.declared.answer.Answer.{Answer}
 use Rattle.iscsi_pdu.specs.declared.stamp.Stamp.{Stamp}
 use Rattle.iscsi_pdu.specs.declared.task_management_response.TaskResult.TheVariants.{Complete}
 use Rattle.iscsi_session.specs.Requests.{stamp}
-use Rattle.iscsi_session.specs.Functions.{function_answer, told, told_answers, answered_by, told_by}
+use Rattle.iscsi_session.specs.Functions.{drained_functions, function_answer, told, told_answers, answered_by, told_by}
 use Rattle.iscsi_session.specs.Draining.{drains_without}
 use Rattle.iscsi_session.specs.State.{SessionState, Stands, function_removed, function_place}
-use Rattle.iscsi_session.proofs.Answered.{none_spelled, one_spelled}
+use Rattle.iscsi_session.proofs.Parts.{on_err_known}
+use Rattle.iscsi_session.proofs.Answered.{one_spelled}
 use Rattle.iscsi_session.proofs.Drained.{telling_none, telling_here, told_bears, told_same}
+use Rattle.iscsi_session.specs.Steps.{Answering, tell, tell_due}
+use Rattle.iscsi_session.proofs.Stages.{none_runs, first_stops, sent_runs, tells}
 use Rattle.iscsi_session.proofs.session.Session.tell_due.Goals as goal
 
-pub returns-in_default-clause-stands : goal.returns-in_default-clause-stands
-returns-in_default-clause-stands c past s =
-    let known = subst (λ (x : SessionState). Stands past x) (sym c.self.view_is) s in
-    subst (λ (l : List ℕ). Stands (answered_by l past) c.args.self.now) (sym (telling_none past _ known c.in_default.ensures)) s
+pub returns-in_default-clause-ok : goal.returns-in_default-clause-ok
+unfolding tell_due
+returns-in_default-clause-ok c orders units =
+    none_runs Answering (λ place. eq-eqb place place refl) drained_functions tell
+    (λ past s. telling_none past _ (subst (λ (x : SessionState). Stands past x) (sym c.self.view_is) s) c.in_default.ensures)
 
-pub returns-in_default-clause-out : goal.returns-in_default-clause-out
-returns-in_default-clause-out c past s =
-    let known = subst (λ (x : SessionState). Stands past x) (sym c.self.view_is) s in
-    none_spelled c.args.out.now.items _ (ap (λ (l : List ℕ). told_by l past) (telling_none past _ known c.in_default.ensures))
+pub returns-in_err-reserve-clause-stops : goal.returns-in_err-reserve-clause-stops
+unfolding tell_due
+returns-in_err-reserve-clause-stops c = on_err_known _
+    (first_stops Answering (λ place. eq-eqb place place refl) drained_functions tell c.in_err-reserve.ensures.items (λ place. eq-eqb place place refl) (λ past s.
+    (let t = telling_here past _ c.in-Some.function (subst (λ (x : SessionState). Stands past x) (sym c.self.view_is) s) c.in-Some.ensures in
+    (t.function, t.others, t.first))))
 
-pub returns-clause-stands : goal.returns-clause-stands
-returns-clause-stands c past s =
-    let known = subst (λ (x : SessionState). Stands past x) (sym c.self.view_is) s in
-    let t = telling_here past _ c.in-Some.function known c.in-Some.ensures in
-    let tag : c.initiator_task_tag-tag.result ≡ initiator_task_tag c.in-Some.function = c.initiator_task_tag-tag.ensures in
-    let transfers = c.forget.ensures
-    ∙ ap (λ (n : ℕ). record c.self.inside.transfers { drains = drains_without n c.self.inside.transfers.drains }) tag in
-    let functions = c.finish.ensures ∙ ap (λ (n : ℕ). function_removed c.self.inside.functions (function_place n c.self.inside.functions)) tag in
-    let there : Stands (told t.function past) (record {
-      params = c.self.inside.params;
-      stat = c.self.inside.stat;
-      tasks = c.finish_function.new.self;
-      transfers = c.forget.new.self;
-      functions = c.finish.new.self;
-      exchange = c.self.inside.exchange;
-    }) = rw (c.finish_function.ensures, transfers, functions) t.stands in
-    subst (λ (l : List ℕ). Stands (answered_by l past) c.next_stamp-stamp.new.self) (sym t.first)
-    (c.next_stamp-stamp.ensures.stands (told t.function past) (told_answers past t.function) there (told_bears past t.function))
-
-pub returns-clause-out : goal.returns-clause-out
-returns-clause-out c past s =
-    let known = subst (λ (x : SessionState). Stands past x) (sym c.self.view_is) s in
+pub returns-clause-ok : goal.returns-clause-ok
+unfolding tell_due
+returns-clause-ok c orders units =
+    sent_runs Answering (λ place. eq-eqb place place refl) drained_functions tell answered_by told_by tells _ _ _ _ orders units
+    (λ past s.
+    (let known = subst (λ (x : SessionState). Stands past x) (sym c.self.view_is) s in
     let t = telling_here past _ c.in-Some.function known c.in-Some.ensures in
     let tag : c.initiator_task_tag-tag.result ≡ initiator_task_tag c.in-Some.function = c.initiator_task_tag-tag.ensures in
     let transfers = c.forget.ensures
@@ -59,7 +50,10 @@ returns-clause-out c past s =
     }) = rw (c.finish_function.ensures, transfers, functions) t.stands in
     let answer : c.answer_to.result ≡ function_answer (stamp (told t.function past)) Complete c.in-Some.function =
     c.answer_to.ensures.value
-    ∙ ap (λ (n : Stamp). function_answer n Complete c.in-Some.function) (c.next_stamp-stamp.ensures.stamp (told t.function past) there) in
-    c.put.ensures.written ∙ ap (λ (bytes : List ℕ). bytes ++ spelling c.answer_to.result) c.in_ok-reserve.ensures.items
-    ∙ ap (λ (a : Answer). c.args.out.now.items ++ spelling a) answer
-    ∙ one_spelled c.args.out.now.items _ _ (told_same past _ c.in-Some.function t)
+    ∙ ap (λ (n : Stamp). function_answer n Complete c.in-Some.function) (c.next_stamp-stamp.ensures.stamp (told t.function past) there) in (
+      subst (λ (l : List ℕ). Stands (answered_by l past) c.next_stamp-stamp.new.self) (sym t.first)
+          (c.next_stamp-stamp.ensures.stands (told t.function past) (told_answers past t.function) there (told_bears past t.function)),
+      c.put.ensures.written ∙ ap (λ (bytes : List ℕ). bytes ++ spelling c.answer_to.result) c.in_ok-reserve.ensures.items
+          ∙ ap (λ (a : Answer). c.args.out.now.items ++ spelling a) answer
+          ∙ one_spelled c.args.out.now.items _ _ (told_same past _ c.in-Some.function t),
+    )))

@@ -1,0 +1,311 @@
+-- The stages of a frame: each is a run, and so are they one after the other.
+use Rattle.std.proofs.Common.{◌≡◌, ◌≢◌, ℕ, List, [], ◌∷◌, ◌++◌, Bool, true, false, not, Option, Some, None, refl, sym, ap, ◌∙◌, subst, append-nil}
+use Rattle.std.specs.Prelude.{flat_map, Result, Ok, Err, IfOk, OnErr}
+use Rattle.std.proofs.lemmas.Bool.{eq-eqb}
+use Rattle.scsi_unit.specs.Units.{numbers_of}
+use Rattle.iscsi_session.specs.Comings.{TargetUnits}
+use Rattle.iscsi_pdu.specs.Frames.{Frame}
+use Rattle.iscsi_pdu.specs.Answer.{spelling}
+use Rattle.iscsi_pdu.specs.declared.answer.Answer.{Answer}
+use Rattle.iscsi_session.specs.Requests.{Past, due}
+use Rattle.iscsi_session.specs.declared.verdict.Verdict.{Verdict}
+use Rattle.iscsi_session.specs.declared.verdict.Verdict.TheVariants.{Ignored, Dropped, Rejected, Violating, Accepted, Feeding}
+use Rattle.iscsi_session.specs.Judging.{verdict, judged, judged_answers, violates}
+use Rattle.iscsi_session.specs.Transfers.{asking, asked_by, r2ts_by}
+use Rattle.iscsi_session.specs.Functions.{drained_functions, answered_by, told_by}
+use Rattle.iscsi_session.specs.State.{SessionState, Stands}
+use Rattle.iscsi_session.specs.Steps.{Step, Judging, Taking, Asking, Answering, is_of, is_step, is_serving, Work, reaches, take_step, judge, act, act_all, waiting_in, ask, tell, first_steps, ask_due, tell_due, taken_in, asked_in, served}
+use Rattle.iscsi_session.specs.Runs.{Output, output, Starts, Leaves, FailsAs, Runs, is_failed, Stops}
+use Rattle.iscsi_session.proofs.Steps.{judged_agrees, taken_agrees, asked_agrees}
+use Rattle.iscsi_session.proofs.Served.{judged_same}
+use Rattle.iscsi_session.proofs.Runs.{Run, LeadsTo, runs_by, stands_of, starts_again, starts_reaching, leaves_nothing, leaves_then, leaves_answering, leaves_as, leaves_reaching, leaves_stopped, step_done, step_fails, first_stopped, stopped, taking_kind}
+
+-- ---- the first of a line takes a step, where there is one
+
+module _ (kind : ℕ → Step) (of : (place : ℕ) → is_of place (kind place) ≡ true) (line : Past → List ℕ) (does : ℕ → Work → Work) where
+  abbrev pub first_of : Run
+  first_of fails place work = first_steps fails (kind place) does (line work.past) work
+
+  -- what it leaves
+  abbrev pub LeavesFirst : Bool → List ℕ → Work → SessionState → Output → Output → TargetUnits → Type 0
+  LeavesFirst goes_on [] work new before waiting after = (goes_on ≡ true) × Leaves work work new before waiting after
+  LeavesFirst goes_on (k ∷ others) work new before waiting after = ((does k work).goes_on ≡ goes_on) × Leaves work (does k work) new before waiting after
+
+  first_leads : (goes_on : Bool) (l : List ℕ) (old new : SessionState) (before waiting : Output) (units after : TargetUnits) (place : ℕ)
+      (fails : Step → Bool) (work : Work) → line work.past ≡ l → fails (kind place) ≡ false → Starts work old units
+      → LeavesFirst goes_on l (reaches (kind place) work) new before waiting after → LeadsTo first_of None goes_on new before waiting after place fails work
+  first_leads goes_on [] old new before waiting units after place fails work e un s left = record {
+    to = work;
+    is = ap (λ (x : List ℕ). first_steps fails (kind place) does x work) e;
+    on = s.goes_on ∙ sym left.0;
+    leaves = leaves_as (reaches (kind place) work) (reaches (kind place) work) work work new before waiting after refl refl refl refl refl left.1;
+    reached = tt;
+  }
+  first_leads goes_on (k ∷ others) old new before waiting units after place fails work e un s left = record {
+    to = does k (reaches (kind place) work);
+    is = ap (λ (x : List ℕ). first_steps fails (kind place) does x work) e ∙ step_done fails (kind place) (does k) work s.goes_on un;
+    on = left.0;
+    leaves = leaves_reaching (kind place) work (does k (reaches (kind place) work)) new before waiting after left.1;
+    reached = tt;
+  }
+
+  pub first_runs : {goes_on : Bool} {old new : SessionState} {before waiting : Output} {units after : TargetUnits}
+      → ((work : Work) → Starts work old units → LeavesFirst goes_on (line work.past) work new before waiting after)
+      → Runs first_of None goes_on old new before waiting units after
+  first_runs {goes_on} {old} {new} {before} {waiting} {units} {after} left = runs_by (λ place fails work told s.
+      first_leads goes_on (line work.past) old new before waiting units after place fails work refl (told (kind place) (of place)) s
+      (left (reaches (kind place) work) (starts_reaching (kind place) work old units s)))
+
+  -- there is none
+  pub none_runs : {state : SessionState} {before : Output} {units : TargetUnits} → ((past : Past) → Stands past state → line past ≡ [])
+      → Runs first_of None true state state before before units units
+  none_runs {state} {before} {units} none = first_runs (λ work s.
+      subst (λ (l : List ℕ). LeavesFirst true l work state before before units) (sym (none work.past (stands_of work state units s)))
+      (refl, leaves_nothing work state before units s))
+
+  -- an allocation fails before it
+  pub first_stops : {state : SessionState} {bytes items : List ℕ} → items ≡ bytes → ((place : ℕ) → is_step (kind place) (kind place) ≡ true)
+      → ((past : Past) → Stands past state → (k : ℕ) × (others : List ℕ) × (line past ≡ k ∷ others))
+      → (orders : List (List ℕ)) (units : TargetUnits) → Runs first_of (Some kind) false state state (output bytes orders) (output items orders) units units
+  first_stops {state} {bytes} unchanged same there orders units = rw unchanged (runs_by (λ place fails work told s.
+      (let found = there work.past (stands_of work state units s) in
+      let before = output bytes orders in record {
+        to = record (reaches (kind place) work) { goes_on = false };
+        is = ap (λ (x : List ℕ). first_steps fails (kind place) does x work) found.2
+            ∙ step_fails fails (kind place) (does found.0) work s.goes_on (told (kind place) (of place) ∙ same place);
+        on = refl;
+        leaves = leaves_stopped (kind place) work work state before before units (leaves_nothing work state before units s);
+        reached = (work.reached, refl);
+      })))
+
+  -- a step that answers this much
+  pub record Sends (by : List ℕ → Past → Past) (answers : List ℕ → Past → List Answer) : Type 0 where
+    pub none : (past : Past) → by [] past ≡ past
+    pub does_so : (k : ℕ) (others : List ℕ) (work : Work) → does k work ≡ record work { past = by (k ∷ others) work.past }
+    pub kept : (l : List ℕ) (past : Past) → ((by l past).params ≡ past.params) × ((by l past).answers ≡ past.answers ++ answers l past)
+
+  sends_first : (by : List ℕ → Past → Past) (answers : List ℕ → Past → List Answer) (sends : Sends by answers) (l : List ℕ) (work : Work)
+      (new : SessionState) (bytes items : List ℕ) (orders : List (List ℕ)) (units : TargetUnits) → work.units ≡ units → work.goes_on ≡ true
+      → Stands (by l work.past) new → items ≡ bytes ++ flat_map spelling (answers l work.past) → LeavesFirst true l work new (output bytes orders) (output items orders) units
+  sends_first by answers sends [] work new bytes items orders units same on s out = (
+    refl,
+    leaves_answering work work new (output bytes orders) (output items orders) units (answers [] work.past)
+        (subst (λ (p : Past). Stands p new) (sends.none work.past) s) refl
+        (ap (λ (p : Past). p.answers) (sym (sends.none work.past)) ∙ (sends.kept [] work.past).1) out refl refl same,
+  )
+  sends_first by answers sends (k ∷ others) work new bytes items orders units same on s out =
+      let kept = sends.kept (k ∷ others) work.past in
+      subst (λ (v : Work). (v.goes_on ≡ true) × Leaves work v new (output bytes orders) (output items orders) units)
+      (sym (sends.does_so k others work)) (
+        on,
+        leaves_answering work (record work { past = by (k ∷ others) work.past }) new (output bytes orders) (output items orders) units
+            (answers (k ∷ others) work.past) s kept.0 kept.1 out refl refl same,
+      )
+
+  pub sent_runs : (by : List ℕ → Past → Past) (answers : List ℕ → Past → List Answer) → Sends by answers → (old new : SessionState) (bytes items : List ℕ)
+      (orders : List (List ℕ)) (units : TargetUnits)
+      → ((past : Past) → Stands past old → Stands (by (line past) past) new × (items ≡ bytes ++ flat_map spelling (answers (line past) past)))
+      → Runs first_of None true old new (output bytes orders) (output items orders) units units
+  sent_runs by answers sends old new bytes items orders units sent = first_runs (λ work s.
+      (let now = sent work.past (stands_of work old units s) in
+      sends_first by answers sends (line work.past) work new bytes items orders units s.units s.goes_on now.0 now.1))
+
+pub asks : Sends Asking (λ place. eq-eqb place place refl) asking ask asked_by r2ts_by
+unfolding ask
+asks = record { none = λ past. refl; does_so = λ k others work. refl; kept = kept }
+  where
+    kept : (l : List ℕ) (past : Past) → ((asked_by l past).params ≡ past.params) × ((asked_by l past).answers ≡ past.answers ++ r2ts_by l past)
+    kept [] past = (refl, sym (append-nil past.answers))
+    kept (k ∷ others) past = (refl, refl)
+
+pub tells : Sends Answering (λ place. eq-eqb place place refl) drained_functions tell answered_by told_by
+unfolding tell
+tells = record { none = λ past. refl; does_so = λ k others work. refl; kept = kept }
+  where
+    kept : (l : List ℕ) (past : Past) → ((answered_by l past).params ≡ past.params) × ((answered_by l past).answers ≡ past.answers ++ told_by l past)
+    kept [] past = (refl, sym (append-nil past.answers))
+    kept (k ∷ others) past = (refl, refl)
+
+-- ---- one run behind another
+
+abbrev no_failure : Step → Bool
+no_failure step = false
+
+pub runs_then : {first second : Run} {failed : Option (ℕ → Step)} {goes_on : Bool} {old middle new : SessionState} {before waiting items : Output}
+    {units : TargetUnits}
+    → ((place : ℕ) (fails : Step → Bool) (work : Work) → FailsAs failed place fails → first fails place work ≡ first no_failure place work)
+    → Runs first None true old middle before waiting units units → Runs second failed goes_on middle new waiting items units units
+    → Runs (λ fails place work. second fails place (first fails place work)) failed goes_on old new before items units units
+runs_then {first} {second} {failed} {goes_on} {old} {middle} {new} {before} {waiting} {items} {units} same a b = runs_by (λ place fails work told s.
+    (let none : FailsAs None place no_failure = λ step of. refl in
+    let next = first no_failure place work in
+    let l = a.leads place no_failure work none s in
+    let starts = starts_again work next middle before waiting units l (a.ends place no_failure work none s) in record {
+      to = second fails place next;
+      is = ap (second fails place) (same place fails work told);
+      on = b.ends place fails next told starts;
+      leaves = leaves_then work next (second fails place next) middle new before waiting items units units l (b.leads place fails next told starts);
+      reached = b.reached place fails next told starts;
+    }))
+
+-- the session has ended before it
+pub runs_ended : {first second : Run} {failed : Option (ℕ → Step)} {old new : SessionState} {before waiting : Output} {units : TargetUnits}
+    → ((fails : Step → Bool) (place : ℕ) (work : Work) → work.goes_on ≡ false → second fails place work ≡ work)
+    → Runs first failed false old new before waiting units units
+    → Runs (λ fails place work. second fails place (first fails place work)) failed false old new before waiting units units
+runs_ended {first} stops a = runs_by (λ place fails work told s. record {
+  to = first fails place work;
+  is = stops fails place (first fails place work) (a.ends place fails work told s);
+  on = a.ends place fails work told s;
+  leaves = a.leads place fails work told s;
+  reached = a.reached place fails work told s;
+})
+
+pub same_place : (place : ℕ) → is_of place (Judging place) ≡ true
+same_place place = eq-eqb place place refl
+
+-- ---- a frame is judged
+
+pub record Judges (v : Verdict) (frame : Frame) (old new : SessionState) (before waiting : Output) : Type 0 where
+  pub judged_is : (past : Past) → Stands past old → v ≡ verdict past frame
+  pub stands : (past : Past) → Stands past old → Stands (judged (verdict past frame) frame past) new
+  pub out : (past : Past) → Stands past old → waiting.bytes ≡ before.bytes ++ flat_map spelling (judged_answers (verdict past frame) past frame)
+  pub orders : waiting.orders ≡ before.orders
+
+judge_leaves : (v : Verdict) (frame : Frame) (work : Work) (old new : SessionState) (before waiting : Output) (units : TargetUnits)
+    → Judges v frame old new before waiting → Starts work old units
+    → Leaves work (judge frame work) new before waiting units × ((judge frame work).goes_on ≡ not (violates v))
+unfolding judge
+judge_leaves v frame work old new before waiting units judges s =
+    let st = stands_of work old units s in
+    let is = verdict work.past frame in
+    let kept = judged_same is frame work.past in (
+      leaves_answering work (judge frame work) new before waiting units (judged_answers is work.past frame) (judges.stands work.past st) kept.0 kept.1
+          (judges.out work.past st) judges.orders refl s.units,
+      ap (λ (x : Verdict). not (violates x)) (sym (judges.judged_is work.past st)),
+    )
+
+judged_runs : {v : Verdict} (frame : Frame) {old new : SessionState} {before waiting : Output} {units : TargetUnits} → Judges v frame old new before waiting
+    → Runs (λ fails place. take_step fails (Judging place) (judge frame)) None (not (violates v)) old new before waiting units units
+judged_runs {v} frame {old} {new} {before} {waiting} {units} judges =
+    first_runs Judging same_place (λ past. 0 ∷ []) (λ k. judge frame) (λ work s.
+    (let l = judge_leaves v frame work old new before waiting units judges s in (l.1, l.0)))
+
+act_stopped : (fails : Step → Bool) (place : ℕ) (work : Work) → work.goes_on ≡ false → act_all fails place work ≡ work
+unfolding act_all
+act_stopped fails place work off = stopped fails (Taking place) due act 0 (waiting_in work.past) work off
+
+-- an allocation failed before it
+pub judging_stops : (luns : List ℕ) (frame : Frame) (old new : SessionState) (bytes items : List ℕ) (orders : List (List ℕ)) → new ≡ old → items ≡ bytes
+    → Stops is_serving (λ failed. (units : TargetUnits) → luns ≡ numbers_of units.states
+    → Runs (λ fails place. taken_in fails place frame) failed false old new (output bytes orders) (output items orders) units units)
+unfolding taken_in
+judging_stops luns frame old new bytes items orders same unchanged = record {
+  step = λ place. Judging place;
+  of_frame = same_place;
+  of_kind = λ place. refl;
+  leads = λ units numbers. rw same (runs_ended act_stopped
+      (first_stops Judging same_place (λ past. 0 ∷ []) (λ k. judge frame) unchanged same_place (λ past s. (0, [], refl)) orders units));
+}
+
+-- the session ends with it
+pub judging_ends : {v : Verdict} (frame : Frame) {old new : SessionState} {before waiting : Output} {units : TargetUnits} → Judges v frame old new before waiting
+    → v ≡ Violating → Runs (λ fails place. taken_in fails place frame) None false old new before waiting units units
+unfolding taken_in
+judging_ends frame {units = units} judges is = runs_ended act_stopped (rw is at (judged_runs frame {units = units} judges))
+
+goes_on_by : (v : Verdict) → v ≢ Violating → not (violates v) ≡ true
+goes_on_by Accepted differ = refl
+goes_on_by Feeding differ = refl
+goes_on_by (Rejected reason) differ = refl
+goes_on_by Ignored differ = refl
+goes_on_by Dropped differ = refl
+goes_on_by Violating differ = absurd (differ refl)
+
+-- the requests that are due act behind it
+taken_on : (v : Verdict) (frame : Frame) {failed : Option (ℕ → Step)} {goes_on : Bool} {old middle new : SessionState} {before waiting items : Output}
+    {units : TargetUnits} → Judges v frame old middle before waiting → v ≢ Violating → ((place : ℕ) → is_failed failed place (Judging place) ≡ false)
+    → Runs act_all failed goes_on middle new waiting items units units
+    → Runs (λ fails place. taken_in fails place frame) failed goes_on old new before items units units
+unfolding taken_in
+taken_on v frame {units = units} judges differ later acts =
+    runs_then (λ place fails work told. judged_agrees fails no_failure place frame work (told (Judging place) (same_place place) ∙ later place))
+    (rw (goes_on_by v differ) at (judged_runs frame {units = units} judges)) acts
+
+pub taken_ok : {E : Type 0} (luns : List ℕ) (r : Result Bool E) (v : Verdict) (frame : Frame) (old middle new : SessionState) (before waiting items : Output)
+    → Judges v frame old middle before waiting → v ≢ Violating
+    → IfOk r (λ goes_on. (units : TargetUnits) → luns ≡ numbers_of units.states → Runs act_all None goes_on middle new waiting items units units)
+    → IfOk r (λ goes_on. (units : TargetUnits) → luns ≡ numbers_of units.states
+    → Runs (λ fails place. taken_in fails place frame) None goes_on old new before items units units)
+taken_ok luns (Ok goes_on) v frame old middle new before waiting items judges differ acts =
+    λ units numbers. taken_on v frame judges differ (λ place. refl) (acts units numbers)
+taken_ok luns (Err fault) v frame old middle new before waiting items judges differ acts = tt
+
+pub taken_err : {T E : Type 0} (luns : List ℕ) (r : Result T E) (v : Verdict) (frame : Frame) (old middle new : SessionState) (before waiting items : Output)
+    → Judges v frame old middle before waiting → v ≢ Violating
+    → OnErr r ((turn : ℕ) × ((units : TargetUnits) → luns ≡ numbers_of units.states
+    → Runs act_all (Some (λ place. Taking place turn)) false middle new waiting items units units))
+    → OnErr r (Stops is_serving (λ failed. (units : TargetUnits) → luns ≡ numbers_of units.states
+    → Runs (λ fails place. taken_in fails place frame) failed false old new before items units units))
+taken_err luns (Ok x) v frame old middle new before waiting items judges differ acts = tt
+taken_err luns (Err fault) v frame old middle new before waiting items judges differ acts = record {
+  step = λ place. Taking place acts.0;
+  of_frame = λ place. taking_kind.of place acts.0;
+  of_kind = λ place. refl;
+  leads = λ units numbers. taken_on v frame judges differ (λ place. refl) (acts.1 units numbers);
+}
+
+-- ---- a frame
+
+asks_nothing : (fails : Step → Bool) (place : ℕ) (work : Work) → work.goes_on ≡ false → ask_due fails place work ≡ work
+unfolding ask_due
+asks_nothing fails place work off = first_stopped fails (Asking place) ask (asking work.past) work off
+
+tells_nothing : (fails : Step → Bool) (place : ℕ) (work : Work) → work.goes_on ≡ false → tell_due fails place work ≡ work
+unfolding tell_due
+tells_nothing fails place work off = first_stopped fails (Answering place) tell (drained_functions work.past) work off
+
+module _ (frame : Frame) {failed : Option (ℕ → Step)} {old new : SessionState} {before items : Output} {units : TargetUnits} where
+  pub taken_ended : Runs (λ fails place. taken_in fails place frame) failed false old new before items units units
+      → Runs (λ fails place. served fails place frame) failed false old new before items units units
+  unfolding served asked_in
+  taken_ended r = runs_ended tells_nothing (runs_ended asks_nothing r)
+
+  pub asked_then : {goes_on : Bool} {middle : SessionState} {waiting : Output} → ((place : ℕ) → is_failed failed place (Judging place) ≡ false)
+      → ((place turn : ℕ) → is_failed failed place (Taking place turn) ≡ false)
+      → Runs (λ fails place. taken_in fails place frame) None true old middle before waiting units units
+      → Runs ask_due failed goes_on middle new waiting items units units
+      → Runs (λ fails place. asked_in fails place frame) failed goes_on old new before items units units
+  unfolding asked_in
+  asked_then judged acted = runs_then (λ place fails work told. taken_agrees fails no_failure place frame work
+      (told (Judging place) (same_place place) ∙ judged place) (λ k. told (Taking place k) (taking_kind.of place k) ∙ acted place k))
+
+  pub asked_ended : Runs (λ fails place. asked_in fails place frame) failed false old new before items units units
+      → Runs (λ fails place. served fails place frame) failed false old new before items units units
+  unfolding served
+  asked_ended r = runs_ended tells_nothing r
+
+  pub told_then : {goes_on : Bool} {middle : SessionState} {waiting : Output} → ((place : ℕ) → is_failed failed place (Judging place) ≡ false)
+      → ((place turn : ℕ) → is_failed failed place (Taking place turn) ≡ false) → ((place : ℕ) → is_failed failed place (Asking place) ≡ false)
+      → Runs (λ fails place. asked_in fails place frame) None true old middle before waiting units units
+      → Runs tell_due failed goes_on middle new waiting items units units
+      → Runs (λ fails place. served fails place frame) failed goes_on old new before items units units
+  unfolding served
+  told_then judged acted asked = runs_then (λ place fails work told. asked_agrees fails no_failure place frame work
+      (told (Judging place) (same_place place) ∙ judged place) (λ k. told (Taking place k) (taking_kind.of place k) ∙ acted place k)
+      (told (Asking place) (eq-eqb place place refl) ∙ asked place))
+
+-- an allocation failed before one of its steps
+module _ (luns : List ℕ) (frame : Frame) (old new : SessionState) (before items : Output) where
+  abbrev pub Stopped : Option (ℕ → Step) → Type 0
+  Stopped failed = (units : TargetUnits) → luns ≡ numbers_of units.states
+      → Runs (λ fails place. served fails place frame) failed false old new before items units units
+
+  pub served_stops : (kind : ℕ → Step) → ((place : ℕ) → is_of place (kind place) ≡ true) → ((place : ℕ) → is_serving (kind place) ≡ true)
+      → Stopped (Some kind) → Stops is_serving Stopped
+  served_stops kind of serving leads = record { step = kind; of_frame = of; of_kind = serving; leads = leads }
+
+  pub taken_stops : Stops is_serving (λ failed. (units : TargetUnits) → luns ≡ numbers_of units.states
+      → Runs (λ fails place. taken_in fails place frame) failed false old new before items units units) → Stops is_serving Stopped
+  taken_stops stops =
+      served_stops stops.step stops.of_frame stops.of_kind (λ units numbers. taken_ended frame (stops.leads units numbers))

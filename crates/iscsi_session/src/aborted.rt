@@ -1,0 +1,14 @@
+//! What an ABORT TASK finds.
+
+/// What stands where an ABORT TASK points (RFC 7143 §11.6.1).
+#[derive(Clone, Copy)]
+pub(crate) enum Aborted {
+    /// A command that is not finished.
+    Live,
+    /// No command, and the number that it refers to has not come.
+    Missing,
+    /// A number that was plugged.
+    Plugged,
+    /// None of these.
+    Nothing,
+}
