@@ -1,15 +1,15 @@
 -- What is done for a session stays within its target's part.
-use Rattle.std.proofs.Common.{◌≡◌, ◌≢◌, ℕ, ◌<◌, List, [], length, Bool, true, false, Result, Ok, Err, refl, sym, ap, ◌∙◌, subst, arith, inl, inr, Option, Some, None}
-use Rattle.std.specs.Prelude.{◌⊎◌, slice_index_or, slice_set}
-use Rattle.std.proofs.lemmas.Bool.{eqb-true, eq-eqb}
+use Rattle.std.proofs.Common.{◌≡◌, ◌≢◌, ℕ, ◌<◌, List, [], length, Bool, true, false, Result, Ok, refl, sym, ap, ◌∙◌, subst, inl, inr, Option, Some, None}
+use Rattle.std.specs.Prelude.{◌⊎◌, slice_index_or}
+use Rattle.std.proofs.lemmas.Bool.{eqb-true}
 use Rattle.std.proofs.lemmas.Bool.Decides.{eqb_tells}
-use Rattle.std.proofs.lemmas.List.{length-set, get_or-set_same, get_or-set_other}
-use Rattle.iscsi_session.specs.State.{SessionState}
+use Rattle.std.proofs.lemmas.List.{get_or-set_other}
 use Rattle.scsi_unit.specs.Units.{UnitStates, leave}
 use Rattle.iscsi_login.specs.Session.{is_same_target}
-use Rattle.iscsi_target.specs.World.{left, changed_units}
-use Rattle.iscsi_target.specs.Machine.{LinkState, Machine, KeepsApart, KeepsPart, link_at, with_link, free_link, shut_link, closed, session_in_phase, is_with, is_reading, is_closing, is_logging_in}
+use Rattle.iscsi_target.specs.World.{left, units_at, with_units, changed_units}
+use Rattle.iscsi_target.specs.Machine.{LinkState, Machine, KeepsApart, KeepsPart, link_at, with_link, shut_link, closed, session_in_phase, is_with, is_reading, is_closing, is_logging_in}
 use Rattle.iscsi_target.specs.Serving.{ended_unless}
+use Rattle.iscsi_target.specs.SessionCalls.{called}
 use Rattle.iscsi_target.specs.declared.phase.Phase.{Phase}
 use Rattle.iscsi_target.specs.declared.phase.Phase.TheVariants as phases
 use Rattle.iscsi_target.proofs.Moving.{link_set, link_other}
@@ -20,10 +20,8 @@ pub apart_none : (target : ℕ) (machine : Machine) → KeepsApart target machin
 apart_none target machine = record { links = λ d e. refl; units = λ at differ. refl; same = λ d e. inl e }
 
 closing_without : (target : ℕ) (phase : Phase) → is_closing phase ≡ true → is_with target phase ≡ false
-closing_without target phases.Free e = refl
-closing_without target (phases.Login login) e = refl
 closing_without target (phases.FullFeature session) e = absurd cc
-closing_without target phases.Closing e = refl
+closing_without target _ e = refl
 
 pub apart_then : (target : ℕ) (given now after : Machine) → KeepsApart target given now → KeepsApart target now after → KeepsApart target given after
 apart_then target given now after a b = record {
@@ -37,9 +35,6 @@ apart_then target given now after a b = record {
 
 pub apart_as : (target : ℕ) (given now after : Machine) → after ≡ now → KeepsApart target given now → KeepsApart target given after
 apart_as target given now after e k = let P : Machine → Type 0 = λ m. KeepsApart target given m in subst P (sym e) k
-
-pub apart_from : (target : ℕ) (given now after : Machine) → given ≡ now → KeepsApart target now after → KeepsApart target given after
-apart_from target given now after e k = let P : Machine → Type 0 = λ m. KeepsApart target m after in subst P (sym e) k
 
 -- ---- one connection changes
 
@@ -63,12 +58,16 @@ apart_set target machine units c link lt own then_ others = record {
 }
 
 -- its session's call on its target's units
-pub session_apart : (target : ℕ) (machine : Machine) (units : UnitStates) (c : ℕ) (link : LinkState) → c < length machine.links
-    → is_with target (link_at machine c).phase ≡ true → is_with target link.phase ≡ true
-    → KeepsApart target machine (record machine { units = slice_set machine.units target units; links = slice_set machine.links c link })
-session_apart target machine units c link lt own then_ =
-    apart_set target machine (slice_set machine.units target units) c link lt own (inl then_)
-    (λ at differ. get_or-set_other machine.units target at units [] differ)
+others_stay : (units : UnitStates) (o : Option ℕ) (target : ℕ) (all : List UnitStates) → is_same_target o (Some target) ≡ true
+    → (at : ℕ) → at ≢ target → slice_index_or (with_units o units all) at [] ≡ slice_index_or all at []
+others_stay units None target all e at differ = absurd cc
+others_stay units (Some t) target all e at differ = get_or-set_other all t at units [] (λ same. differ (same ∙ eqb-true t target e))
+
+pub target_apart : (at : ℕ) (target : Option ℕ) (machine : Machine) (units : UnitStates) (c : ℕ) (link : LinkState) → c < length machine.links
+    → is_same_target target (Some at) ≡ true → is_with at (link_at machine c).phase ≡ true → is_with at link.phase ≡ true
+    → KeepsApart at machine (called machine c target units link)
+target_apart at target machine units c link lt same own then_ =
+    apart_set at machine (with_units target units machine.units) c link lt own (inl then_) (others_stay units target at machine.units same)
 
 -- no units were touched
 pub link_apart : (target : ℕ) (machine : Machine) (c : ℕ) (link : LinkState) → c < length machine.links
@@ -78,18 +77,13 @@ link_apart target machine c link lt own then_ = apart_set target machine machine
 
 -- ---- it closes
 
-changed_apart : (f : UnitStates → UnitStates) (o : Option ℕ) (target : ℕ) (all : List UnitStates) → is_same_target o (Some target) ≡ true
-    → (at : ℕ) → at ≢ target → slice_index_or (changed_units f o all) at [] ≡ slice_index_or all at []
-unfolding changed_units
-changed_apart f None target all e at differ = absurd cc
-changed_apart f (Some t) target all e at differ = get_or-set_other all t at _ [] (λ same. differ (same ∙ eqb-true t target e))
-
 left_apart : (target : ℕ) (phase : Phase) (all : List UnitStates) → is_with target phase ≡ true → (at : ℕ) → at ≢ target
     → slice_index_or (left (session_in_phase phase) all) at [] ≡ slice_index_or all at []
 unfolding changed_units
 left_apart target phases.Free all e at differ = refl
 left_apart target (phases.Login login) all e at differ = refl
-left_apart target (phases.FullFeature session) all e at differ = changed_apart (leave session.params.nexus) session.params.target target all e at differ
+left_apart target (phases.FullFeature session) all e at differ =
+    others_stay (leave session.params.nexus (units_at session.params.target all)) session.params.target target all e at differ
 left_apart target phases.Closing all e at differ = refl
 
 pub closed_apart : (target : ℕ) (machine : Machine) (c : ℕ) → c < length machine.links → is_with target (link_at machine c).phase ≡ true
@@ -99,32 +93,12 @@ closed_apart target machine c lt own =
     apart_set target machine (left (session_in_phase (link_at machine c).phase) machine.units) c (shut_link (link_at machine c)) lt own (inr refl)
     (left_apart target (link_at machine c).phase machine.units own)
 
--- ---- a frame
+-- ---- one that does not go on is closed
 
-is_session : (target : ℕ) (phase : Phase) (state : SessionState) → phase ≡ phases.FullFeature state → state.params.target ≡ Some target → is_with target phase ≡ true
-is_session target phase state is same = ap (is_with target) is ∙ ap (λ (t : Option ℕ). is_same_target t (Some target)) same ∙ eq-eqb target target refl
-
-pub with_session : (target : ℕ) (link : LinkState) (phase : Phase) (state : SessionState) → phase ≡ link.phase → phase ≡ phases.FullFeature state
-    → state.params.target ≡ Some target → is_with target link.phase ≡ true
-with_session target link phase state at is same = ap (is_with target) (sym at) ∙ is_session target phase state is same
-
-ended_apart : {E : Type 0} (r : Result Bool E) (target : ℕ) (machine : Machine) (c : ℕ) → c < length machine.links
+pub ended_apart : {E : Type 0} (r : Result Bool E) (target : ℕ) (machine : Machine) (c : ℕ) → c < length machine.links
     → is_with target (link_at machine c).phase ≡ true → KeepsApart target machine (ended_unless r c machine)
 ended_apart (Ok true) target machine c lt own = apart_none target machine
-ended_apart (Ok false) target machine c lt own = closed_apart target machine c lt own
-ended_apart (Err e) target machine c lt own = closed_apart target machine c lt own
-
--- its session served it, and the commands of its target's sessions were done
-pub served_apart : {E : Type 0} (r : Result Bool E) (target : ℕ) (machine middle after : Machine) (c : ℕ) (link : LinkState)
-    → c < length machine.links → is_with target (link_at machine c).phase ≡ true
-    → is_with target link.phase ≡ true → middle ≡ ended_unless r c (with_link machine c link) → KeepsApart target middle after → KeepsApart target machine after
-served_apart r target machine middle after c link lt own then_ e settles =
-    let now = with_link machine c link in
-    let here : link_at now c ≡ link = get_or-set_same machine.links c link free_link lt in
-    let ended_ = ended_apart r target now c (omega (arith, lt, length-set machine.links c link))
-    (ap (λ (l : LinkState). is_with target l.phase) here ∙ then_) in
-    apart_then target machine now after (link_apart target machine c link lt own then_)
-    (apart_from target now now after refl (apart_then target now middle after (apart_as target now (ended_unless r c now) middle e ended_) settles))
+ended_apart _ target machine c lt own = closed_apart target machine c lt own
 
 -- ---- so many frames
 
@@ -143,9 +117,7 @@ part_as c given now after e k = λ target own. apart_as target given now after e
 
 reading_or_closing : (phase : Phase) → is_reading phase ≡ true → is_closing phase ≡ true → ⊥
 reading_or_closing phases.Free r e = absurd cc
-reading_or_closing (phases.Login login) r e = absurd cc
-reading_or_closing (phases.FullFeature session) r e = absurd cc
-reading_or_closing phases.Closing r e = absurd cc
+reading_or_closing _ r e = absurd cc
 
 pub part_then : (c : ℕ) (given now after : Machine) → is_reading (link_at now c).phase ≡ true → KeepsPart c given now → KeepsPart c now after
     → KeepsPart c given after
@@ -155,10 +127,8 @@ part_then c given now after reads a b = λ target own. elim ((a target own).same
 ]
 
 no_session : (target : ℕ) (phase : Phase) → is_logging_in phase ≡ true → is_with target phase ≡ false
-no_session target phases.Free e = refl
-no_session target (phases.Login login) e = refl
 no_session target (phases.FullFeature session) e = absurd cc
-no_session target phases.Closing e = refl
+no_session target _ e = refl
 
 -- a login is no session
 pub part_login : (c : ℕ) (given after : Machine) → is_logging_in (link_at given c).phase ≡ true → KeepsPart c given after

@@ -1,6 +1,6 @@
 -- A Login request at one connection of the code, before its answer is sent.
 use Rattle.std.specs.Result.{OnErr, OnOk}
-use Rattle.std.proofs.Common.{◌≡◌, ℕ, zero, suc, ◌<◌, List, [], ◌∷◌, Result, Ok, Err, is_err, false, arith, length, set, get_or, true, Option, Some, None, refl, sym, ap, ◌∙◌}
+use Rattle.std.proofs.Common.{◌≡◌, ℕ, ◌<◌, List, Result, Ok, Err, is_err, false, length, set, get_or, true, Option, Some, None, refl, sym, ap, ◌∙◌}
 use Rattle.std.proofs.lemmas.List.{length-map, get_or-map, get_or-set_same, map-set, set-set, set-get_or}
 use Rattle.iscsi_pdu.specs.Frames.{Frame}
 use Rattle.iscsi_pdu.specs.declared.answer.Answer.{Answer}
@@ -11,32 +11,26 @@ use Rattle.iscsi_login.specs.Session.{older}
 use Rattle.iscsi_login.specs.Login.{reply_of}
 use Rattle.iscsi_login.specs.declared.params.Params.{Params}
 use Rattle.iscsi_login.specs.declared.reply.Reply.{Reply}
-use Rattle.iscsi_login.specs.declared.reply.Reply.TheVariants.{GoOn, Full, Refused}
+use Rattle.iscsi_login.specs.declared.reply.Reply.TheVariants.{Full}
 use Rattle.scsi_unit.specs.Units.{UnitStates, join}
 use Rattle.iscsi_target.specs.World.{left, changed_units, lookup_for}
 use Rattle.iscsi_target.specs.Machine.{LinkState, Machine, link_at, with_link, closed, begun, begun_link, shut_link, shut_older, logged_in, is_logging_in, is_reading, session_in_phase, sessions, free_link, IsAnswered}
 use Rattle.iscsi_target.specs.declared.phase.Phase.{Phase}
-use Rattle.iscsi_target.specs.declared.phase.Phase.TheVariants.{Free, Login, FullFeature, Closing}
+use Rattle.iscsi_target.specs.declared.phase.Phase.TheVariants.{Login, Closing}
 
 -- ---- phases
 
 pub login_there : (phase : Phase) → is_logging_in phase ≡ true → (login : LoginState) × (phase ≡ Login login)
-login_there Free e = absurd cc
 login_there (Login login) e = (login, refl)
-login_there (FullFeature session) e = absurd cc
-login_there Closing e = absurd cc
+login_there _ e = absurd cc
 
 pub no_session : (phase : Phase) → is_logging_in phase ≡ true → session_in_phase phase ≡ None
-no_session Free e = absurd cc
 no_session (Login login) e = refl
-no_session (FullFeature session) e = absurd cc
-no_session Closing e = absurd cc
+no_session _ e = absurd cc
 
 pub still_reading : (phase : Phase) → is_logging_in phase ≡ true → is_reading phase ≡ true
-still_reading Free e = absurd cc
 still_reading (Login login) e = refl
-still_reading (FullFeature session) e = absurd cc
-still_reading Closing e = absurd cc
+still_reading _ e = absurd cc
 
 -- ---- a connection whose session has still to begin
 
@@ -50,14 +44,13 @@ some_is x y e = cc
 
 pub waits : (reply : Reply) (after : LoginState) (old new : LinkState) (response : LoginResponse) (session : Params)
     → IsAnswered reply after old (Some (response, session)) new → IsWaiting reply old response session new
-waits (GoOn r) after old new response session h = let no = h.0 in absurd cc
-waits (Refused r) after old new response session h = let no = h.0 in absurd cc
 waits (Full r s) after old new response session h = record {
   reply_is =
       ap (λ (p : LoginResponse × Params). Full p.0 p.1) (some_is (r, s) (response, session) (sym h.0));
   same = h.1;
   logging_in = h.2;
 }
+waits _ after old new response session h = let no = h.0 in absurd cc
 
 -- ---- the machine with that connection
 
@@ -122,11 +115,6 @@ begun_by_request machine c login request session response e = rw e refl
 pub on_err : {X E P : Type 0} (r : Result X E) → P → OnErr r P
 on_err (Ok x) p = tt
 on_err (Err e) p = p
-
-pub get_or_any : {X : Type 0} (xs : List X) (i : ℕ) (d e : X) → i < length xs → get_or xs i d ≡ get_or xs i e
-get_or_any [] i d e lt = absurd (omega arith)
-get_or_any (x ∷ xs) zero d e lt = refl
-get_or_any (x ∷ xs) (suc i) d e lt = get_or_any xs i d e (omega arith)
 
 pub ok_known : {T E P : Type 0} (r : Result T E) → is_err r ≡ false → OnOk r P → P
 ok_known (Ok x) e known = known

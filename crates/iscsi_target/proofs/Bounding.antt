@@ -1,16 +1,17 @@
 -- How heavy a connection is after a call.
-use Rattle.std.proofs.Common.{◌≡◌, ℕ, ◌+◌, ◌≤◌, List, [], length, Bool, true, cond, refl, sym, ap, subst, arith}
+use Rattle.std.proofs.Common.{◌≡◌, ℕ, ◌+◌, ◌≤◌, length, Bool, true, false, refl, sym, ap, subst, arith}
 use Rattle.iscsi_session.specs.State.{SessionState}
 use Rattle.iscsi_session.specs.Weight.{weight_with, IsAtRest, Eases, Loads}
-use Rattle.iscsi_target.specs.Machine.{LinkState, is_reading, shut_link}
-use Rattle.iscsi_target.specs.Bounded.{weight_in, weight, Rests, Adds}
+use Rattle.iscsi_target.specs.Machine.{LinkState, shut_link}
+use Rattle.iscsi_target.specs.SessionCalls.{ended_link}
+use Rattle.iscsi_target.specs.Bounded.{weight_in, weight, Rests, AddsAtMost}
 use Rattle.iscsi_target.specs.declared.phase.Phase.{Phase}
 use Rattle.iscsi_target.specs.declared.phase.Phase.TheVariants as phases
 
-pub adds_none : (n : ℕ) (link : LinkState) → Adds n link link
+pub adds_none : (n : ℕ) (link : LinkState) → AddsAtMost n link link
 adds_none n link r = record { fits = omega arith; rests = r }
 
-pub adds_then : (n m : ℕ) (old middle new : LinkState) → Adds n old middle → Adds m middle new → Adds (n + m) old new
+pub adds_then : (n m : ℕ) (old middle new : LinkState) → AddsAtMost n old middle → AddsAtMost m middle new → AddsAtMost (n + m) old new
 adds_then n m old middle new a b r =
     let first = a r in
     let second = b first.rests in
@@ -18,63 +19,45 @@ adds_then n m old middle new a b r =
     let two = second.fits in
     record { fits = omega (arith, one, two); rests = second.rests }
 
-pub adds_more : (n m : ℕ) (old new : LinkState) → n ≤ m → Adds n old new → Adds m old new
+pub adds_more : (n m : ℕ) (old new : LinkState) → n ≤ m → AddsAtMost n old new → AddsAtMost m old new
 adds_more n m old new le a r = let one = (a r).fits in record { fits = omega (arith, le, one); rests = (a r).rests }
 
 -- ---- a connection closes
 
 pub waiting_least : (waiting : ℕ) (phase : Phase) → waiting ≤ weight_in waiting phase
 waiting_least waiting phases.Free = omega arith
-waiting_least waiting (phases.Login login) = omega arith
-waiting_least waiting (phases.FullFeature session) = omega arith
-waiting_least waiting phases.Closing = omega arith
+waiting_least waiting _ = omega arith
 
-pub adds_shut : (n : ℕ) (link : LinkState) → Adds n link (shut_link link)
+pub adds_shut : (n : ℕ) (link : LinkState) → AddsAtMost n link (shut_link link)
 adds_shut n link r = record { fits = omega (arith, waiting_least (length link.waiting) link.phase); rests = tt }
 
 -- ---- a session's call
 
-abbrev viewed : List ℕ → Phase → List ℕ → LinkState
-viewed framer phase waiting = record { half = cond (is_reading phase) framer []; phase = phase; waiting = waiting }
+session_weight : (link : LinkState) (session : SessionState) → link.phase ≡ phases.FullFeature session
+    → weight link ≡ weight_with (length link.waiting) session.tasks
+session_weight link session is = ap (weight_in (length link.waiting)) is
 
-at_rest : (state : SessionState) (phase : Phase) → phase ≡ phases.FullFeature state → Rests phase → IsAtRest state
-at_rest state phase is r = subst Rests is r
-
-weight_was : (waiting : ℕ) (state : SessionState) (phase : Phase) → phase ≡ phases.FullFeature state → weight_in waiting phase ≡ weight_with waiting state.tasks
-weight_was waiting state phase is = ap (weight_in waiting) is
-
-pub session_adds : (link : LinkState) (framer : List ℕ) (phase : Phase) (before waiting : List ℕ) (state then_ : SessionState) → viewed framer phase before ≡ link
-    → phase ≡ phases.FullFeature state → (IsAtRest state → Eases state then_ before waiting) → Adds 0 link (viewed framer (phases.FullFeature then_) waiting)
-session_adds link framer phase before waiting state then_ here is eases r =
-    let rests : Rests phase = subst (λ (l : LinkState). Rests l.phase) (sym here) r in
-    let e = eases (at_rest state phase is rests) in
+pub session_eases : (old new : LinkState) (given session : SessionState) → old.phase ≡ phases.FullFeature given → new.phase ≡ phases.FullFeature session
+    → (IsAtRest given → Eases given session old.waiting new.waiting) → AddsAtMost 0 old new
+session_eases old new given session was is eases r =
+    let e = eases (subst Rests was r) in
     let lighter = e.lighter in
     record {
-      fits = omega (arith, lighter, weight_was (length before) state phase is, ap weight here);
-      rests = e.rests;
-    }
-
-pub session_loads : (link : LinkState) (framer : List ℕ) (phase : Phase) (before waiting : List ℕ) (state then_ : SessionState) → viewed framer phase before ≡ link
-    → phase ≡ phases.FullFeature state → (IsAtRest state → Loads true state then_ before waiting) → Adds 1 link (viewed framer (phases.FullFeature then_) waiting)
-session_loads link framer phase before waiting state then_ here is loads r =
-    let rests : Rests phase = subst (λ (l : LinkState). Rests l.phase) (sym here) r in
-    let e = loads (at_rest state phase is rests) in
-    let heavier = e.heavier in
-    record {
-      fits = omega (arith, heavier, weight_was (length before) state phase is, ap weight here);
-      rests = e.rests refl;
+      fits = omega (arith, lighter, session_weight old given was, session_weight new session is);
+      rests = subst Rests (sym is) e.rests;
     }
 
 -- one that does not go on is closed
-pub ended_loads : (link : LinkState) (framer : List ℕ) (phase : Phase) (before waiting : List ℕ) (state then_ : SessionState) (goes_on : Bool)
-    → viewed framer phase before ≡ link
-    → phase ≡ phases.FullFeature state → (IsAtRest state → Loads goes_on state then_ before waiting)
-    → Adds 1 link (shut_link (viewed framer (phases.FullFeature then_) waiting))
-ended_loads link framer phase before waiting state then_ goes_on here is loads r =
-    let rests : Rests phase = subst (λ (l : LinkState). Rests l.phase) (sym here) r in
-    let e = loads (at_rest state phase is rests) in
+pub session_loads : (goes_on : Bool) (old new : LinkState) (given session : SessionState) → old.phase ≡ phases.FullFeature given
+    → new.phase ≡ phases.FullFeature session → (IsAtRest given → Loads goes_on given session old.waiting new.waiting)
+    → AddsAtMost 1 old (ended_link goes_on new)
+session_loads true old new given session was is loads r =
+    let e = loads (subst Rests was r) in
     let heavier = e.heavier in
     record {
-      fits = omega (arith, heavier, weight_was (length before) state phase is, ap weight here);
-      rests = tt;
+      fits = omega (arith, heavier, session_weight old given was, session_weight new session is);
+      rests = subst Rests (sym is) (e.rests refl);
     }
+session_loads false old new given session was is loads r =
+    let heavier = (loads (subst Rests was r)).heavier in
+    record { fits = omega (arith, heavier, session_weight old given was); rests = tt }

@@ -7,30 +7,28 @@ use Rattle.std.proofs.lemmas.List.{append-nil, get_or-set_other, take_all, take_
 use Rattle.std.proofs.lemmas.List.Sums.{fold-append}
 use Rattle.iscsi_pdu.specs.Header.{lun_field}
 use Rattle.iscsi_login.specs.Session.{is_same_target}
-use Rattle.iscsi_login.specs.Directory.{KnownTargets}
 use Rattle.scsi_unit.specs.Units.{UnitStates}
 use Rattle.iscsi_session.specs.Comings.{Coming, TargetUnits, lend}
 use Rattle.iscsi_session.specs.Requests.{Past, removing}
-use Rattle.iscsi_session.specs.State.{SessionState, Stands, remembered}
+use Rattle.iscsi_session.specs.State.{SessionState, Stands}
 use Rattle.iscsi_session.specs.Steps.{Work}
 use Rattle.iscsi_session.specs.Runs.{output, Starts, Leaves, Runs}
 use Rattle.iscsi_target.specs.History.{connection_limit, connections}
-use Rattle.iscsi_target.specs.Life.{Life, Phase, LoggingIn, FullFeature, Closing, Over, past_in}
 use Rattle.iscsi_target.specs.World.{Setting, World, present, past_of, units_at, changed_units, work_of, worked, worked_on, function_of, reaches_others, lost, told_by, told_loss, losing, lost_by, lose_one, reset_by, reset, carry_out}
-use Rattle.iscsi_target.specs.Machine.{LinkState, Machine, KeepsApart, link_at}
-use Rattle.iscsi_target.specs.Stands.{phase_for, link_of, machine_with}
-use Rattle.iscsi_target.specs.Serving.{Serves, Moves, CarriesOut, kept, is_of_none}
-use Rattle.iscsi_target.specs.declared.phase.Phase.{Phase as CodePhase}
-use Rattle.iscsi_target.specs.declared.phase.Phase.TheVariants as phases
+use Rattle.iscsi_target.specs.Machine.{Machine, KeepsApart, link_at, is_with}
+use Rattle.iscsi_target.specs.SessionCalls.{LeavesSession, LosesCommands}
+use Rattle.iscsi_target.specs.Stands.{machine_with}
+use Rattle.iscsi_target.specs.Serving.{Serves, Preserves, CarriesOut, kept, is_of_none}
 use Rattle.iscsi_target.proofs.Choices.{cond_true, cond_false}
 use Rattle.iscsi_target.proofs.Lists.{range_next}
 use Rattle.iscsi_target.proofs.Lives.{present-lives}
-use Rattle.iscsi_target.proofs.Linked.{link_is, serves_world, units_with}
-use Rattle.iscsi_target.proofs.Keeping.{Goes, on-lose_one, on-reset, on-carry_out}
+use Rattle.iscsi_target.proofs.Linked.{serves_world, units_with}
+use Rattle.iscsi_target.proofs.Walks.{on-lose_one, on-carry_out}
+use Rattle.iscsi_target.proofs.Keeping.{Goes, goes, on-reset}
 use Rattle.iscsi_target.proofs.Comings.{comings_reset}
 use Rattle.iscsi_target.proofs.Doing.{does_nothing, does_as, does_on, does_then}
-use Rattle.iscsi_target.proofs.AtWork.{call_does}
-use Rattle.iscsi_target.proofs.Held.{viewed, IsOther, not_same, target_is, session_calls, called, called_at}
+use Rattle.iscsi_target.proofs.AtWork.{IsCalled, call_does}
+use Rattle.iscsi_target.proofs.SessionCalls.{IsElsewhere, elsewhere}
 use Rattle.iscsi_target.proofs.Moving.{moves_none}
 use Rattle.iscsi_target.proofs.Sound.{reset_back, reset_sure, reset_units}
 
@@ -82,37 +80,22 @@ loses_own machine header target c d e = does_nothing is_of_none (λ s marks plac
     (λ s sent half w place marks agree h.
     (serves_world s sent half w _ machine (own_same header target c d w e) h, ap (λ (v : World). v.comings) (own_same header target c d w e)))
 
-other_in : (directory : KnownTargets) (header : List ℕ) (target d : ℕ) (w : World) (life : Life) (phase : Phase)
-    → IsOther target (phase_for directory life phase) → lost_by (past_in phase) header target d w ≡ w
-other_in directory header target d w life LoggingIn other = refl
-other_in directory header target d w life (FullFeature past) other =
-    cond_false (is_same_target past.params.target (Some target)) _ w
-    (not_same past.params.target target (λ same. other (remembered past) refl (target_is past ∙ same)))
-other_in directory header target d w life Closing other = refl
-other_in directory header target d w life Over other = refl
+unreached : (o : Option Past) (header : List ℕ) (target d : ℕ) (w : World) → IsElsewhere target o → lost_by o header target d w ≡ w
+unreached None header target d w e = refl
+unreached (Some past) header target d w e = cond_false (is_same_target past.params.target (Some target)) _ w e
 
-other_of : (directory : KnownTargets) (sent : ℕ) (half : List ℕ) (header : List ℕ) (target d : ℕ) (w : World) (o : Option Life)
-    → IsOther target (link_of directory sent half o).phase → lost_by (past_of o) header target d w ≡ w
-other_of directory sent half header target d w None other = refl
-other_of directory sent half header target d w (Some life) other = other_in directory header target d w life life.phase other
-
-other_by : (b : Bool) (header : List ℕ) (target c d : ℕ) (w : World) → eqb d c ≡ b → lost_by (past_of (present d w)) header target d w ≡ w
+lose_other : (b : Bool) (header : List ℕ) (target c d : ℕ) (w : World) → eqb d c ≡ b → lost_by (past_of (present d w)) header target d w ≡ w
     → lose_one header target c w d ≡ w
 unfolding lose_one
-other_by true header target c d w e same = cond_true (eqb d c) w (lost_by (past_of (present d w)) header target d w) e
-other_by false header target c d w e same = cond_false (eqb d c) w (lost_by (past_of (present d w)) header target d w) e ∙ same
+lose_other true header target c d w e same = cond_true (eqb d c) w (lost_by (past_of (present d w)) header target d w) e
+lose_other false header target c d w e same = cond_false (eqb d c) w (lost_by (past_of (present d w)) header target d w) e ∙ same
 
-other_same : (s : Setting) (sent : ℕ → ℕ) (half : ℕ → List ℕ) (w : World) (machine : Machine) (header : List ℕ) (target c d : ℕ)
-    → d < connection_limit → Serves s sent half w machine → IsOther target (link_at machine d).phase → lose_one header target c w d ≡ w
-other_same s sent half w machine header target c d lt h other =
-    let P : LinkState → Type 0 = λ l. IsOther target l.phase in
-    other_by (eqb d c) header target c d w refl
-    (other_of s.directory (sent d) (half d) header target d w (present d w) (subst P (link_is s sent half w machine d lt h) other))
-
-pub loses_none : (machine : Machine) (header : List ℕ) (target c d : ℕ) → d < connection_limit → IsOther target (link_at machine d).phase
+pub loses_none : (machine : Machine) (header : List ℕ) (target c d : ℕ) → d < connection_limit → is_with target (link_at machine d).phase ≡ false
     → CarriesOut (λ w. lose_one header target c w d) machine machine
 loses_none machine header target c d lt other = does_nothing is_of_none (λ s marks place w. lose_one header target c w d) kept machine machine
-    (λ s sent half w place marks agree h. (let same = other_same s sent half w machine header target c d lt h other in
+    (λ s sent half w place marks agree h.
+    (let same = lose_other (eqb d c) header target c d w refl
+    (unreached (past_of (present d w)) header target d w (elsewhere s sent half w machine d target lt h other)) in
     (serves_world s sent half w _ machine same h, ap (λ (v : World). v.comings) same)))
 
 -- ---- another session of the target
@@ -126,28 +109,28 @@ lose_acts header target c d w past other at same =
     ∙ cond_true (is_same_target past.params.target (Some target)) (worked_on d (losing header (work_of past w)) w) w
     (ap (λ (t : Option ℕ). is_same_target t (Some target)) same ∙ eq-eqb target target refl)
 
-pub loses_does : (header : List ℕ) (target c d : ℕ) (machine after : Machine) (framer : List ℕ) (phase : CodePhase) (waiting : List ℕ)
-    (state then_ : SessionState) (units units_then : UnitStates) → d < connection_limit → eqb d c ≡ false → viewed framer phase waiting ≡ link_at machine d
-    → phase ≡ phases.FullFeature state → state.params.target ≡ Some target → units_at state.params.target machine.units ≡ units
-    → ((comings : List Coming) → Runs (λ fails place work. losing header work) None true state then_ (output waiting []) (output waiting [])
-    (lend units comings) (lend units_then comings))
-    → after ≡ called machine d (Some target) units_then (viewed framer (phases.FullFeature then_) waiting)
-    → CarriesOut (λ w. lose_one header target c w d) machine after
-unfolding session_calls
-loses_does header target c d machine after framer phase waiting state then_ units units_then lt other link is same at runs e =
-    call_does is_of_none (λ s marks place w. lose_one header target c w d) (λ fails place work. losing header work) None true d machine after
-    (session_calls (λ fails place work. losing header work) None true d machine after framer phase waiting waiting [] state then_ units units_then lt link is at
-    (record { came = []; own = tt; leads = λ comings ahead. runs comings; plain = λ sound. tt }) (λ sound. tt) (λ at sound. tt) (e ∙ called_at machine d (Some target) state.params.target units_then (viewed framer (phases.FullFeature then_) waiting) (sym same)))
-    (λ s marks place w past there params. lose_acts header target c d w past other there (ap (λ p. p.target) params ∙ same))
+pub loses_called : (header : List ℕ) (target c d : ℕ) (given after : Machine) (k : IsCalled d (Some target) given after) → eqb d c ≡ false
+    → LeavesSession (λ then_ waiting. LosesCommands header (units_at (Some target) given.units) (units_at (Some target) after.units) k.session then_
+    (link_at given d).waiting waiting) k.session (link_at given d) (link_at after d)
+    → CarriesOut (λ w. lose_one header target c w d) given after
+loses_called header target c d given after k other l =
+    call_does (λ fails place. losing header) None true [] d (Some target) given after after k (record {
+      session = l.session;
+      is = l.is;
+      params = l.params;
+      grows = l.grows;
+      does = record { came = []; own = tt; leads = λ comings ahead. l.does comings; plain = λ sound. tt };
+    }) refl is_of_none (λ s marks place w. lose_one header target c w d)
+    (λ s marks place w past there own. lose_acts header target c d w past other there own)
     (λ place marks work agree. refl) (λ place. refl)
 
 -- ---- one after the other
 
-pub carried_then : (f g : World → World) (given middle after : Machine) → ((w : World) → Goes w (g w)) → Moves 0 None middle after
+pub carried_then : (f g : World → World) (given middle after : Machine) → ((w : World) → Goes w (g w)) → Preserves 0 None middle after
     → CarriesOut f given middle → CarriesOut g middle after → CarriesOut (λ w. g (f w)) given after
-carried_then f g given middle after goes moves first second =
+carried_then f g given middle after further moves first second =
     does_then is_of_none is_of_none is_of_none (λ s marks place w. f w) (λ s marks place w. g w) kept kept None None given middle after
-    (λ place mark e. refl) (λ place mark e. refl) (λ place mark e. e) (λ place mark e. e) moves.back (λ s marks place w. goes w) first second
+    (λ place mark e. refl) (λ place mark e. refl) (λ place mark e. e) (λ place mark e. e) moves.back (λ s marks place w. further w) first second
 
 pub carried_as : (f g : World → World) (given after : Machine) → ((w : World) → g w ≡ f w) → CarriesOut f given after → CarriesOut g given after
 carried_as f g given after same d =
@@ -166,14 +149,14 @@ lost_below header target c n w = fold (lose_one header target c) w (range_with_l
 pub none_lost : (header : List ℕ) (target c : ℕ) (machine : Machine) → CarriesOut (lost_below header target c 0) machine machine
 none_lost header target c machine = carried_none machine
 
-pub lost_next : (header : List ℕ) (target c d : ℕ) (given middle after : Machine) → Moves 0 None middle after
+pub lost_next : (header : List ℕ) (target c d : ℕ) (given middle after : Machine) → Preserves 0 None middle after
     → CarriesOut (lost_below header target c d) given middle → CarriesOut (λ w. lose_one header target c w d) middle after
     → CarriesOut (lost_below header target c (d + 1)) given after
 lost_next header target c d given middle after moves so_far one =
     carried_as (λ w. lose_one header target c (lost_below header target c d w) d) (lost_below header target c (d + 1)) given after
     (λ w. ap (fold (lose_one header target c) w) (range_next d) ∙ fold-append (lose_one header target c) w (range_with_len 0 d) (d ∷ []))
     (carried_then (lost_below header target c d) (λ w. lose_one header target c w d) given middle after
-    (λ w. on-lose_one header target c w d) moves so_far one)
+    (λ w. on-lose_one goes.walk header target c w d tt) moves so_far one)
 
 -- ---- a reset is told
 
@@ -204,7 +187,7 @@ pub reset_does : (machine : Machine) (header : List ℕ) (target : ℕ) → Carr
 reset_does machine header target = does_nothing is_of_none (λ s marks place w. reset header target w) kept machine (reset_machine header target machine)
     (λ s sent half w place marks agree h. (reset_serves s sent half w machine header target h, comings_reset header target w))
 
-pub reset_moves : (b : ℕ) (machine : Machine) (header : List ℕ) (target : ℕ) → Moves b None machine (reset_machine header target machine)
+pub reset_moves : (b : ℕ) (machine : Machine) (header : List ℕ) (target : ℕ) → Preserves b None machine (reset_machine header target machine)
 reset_moves b machine header target = record {
   back = reset_back header target machine;
   sure = reset_sure header target machine;
@@ -230,7 +213,7 @@ reset_apart machine header target = record {
 
 -- ---- a function
 
-pub carried_reset : (header : List ℕ) (c target : ℕ) (given middle after : Machine) → reaches_others (function_of header) ≡ true → Moves 0 None middle after
+pub carried_reset : (header : List ℕ) (c target : ℕ) (given middle after : Machine) → reaches_others (function_of header) ≡ true → Preserves 0 None middle after
     → CarriesOut (λ w. fold (lose_one header target c) w connections) given middle → CarriesOut (reset header target) middle after
     → CarriesOut (λ w. carry_out c target w header) given after
 unfolding carry_out
@@ -250,7 +233,7 @@ not_carried header c target machine other =
 -- ---- one after the other
 
 pub carried_next : (c target : ℕ) (headers : List (List ℕ)) (i : ℕ) (header : List ℕ) (given middle after : Machine) → i < length headers
-    → header ≡ get_or headers i header → Moves 0 None middle after → CarriesOut (λ w. fold (carry_out c target) w (take i headers)) given middle
+    → header ≡ get_or headers i header → Preserves 0 None middle after → CarriesOut (λ w. fold (carry_out c target) w (take i headers)) given middle
     → CarriesOut (λ w. carry_out c target w header) middle after
     → CarriesOut (λ w. fold (carry_out c target) w (take (i + 1) headers)) given after
 carried_next c target headers i header given middle after lt is moves so_far one =
@@ -259,7 +242,7 @@ carried_next c target headers i header given middle after lt is moves so_far one
     (λ w. ap (fold (carry_out c target) w) (take_more headers i header lt
     ∙ ap (λ (h : List ℕ). take i headers ++ h ∷ []) (sym is)) ∙ fold-append (carry_out c target) w (take i headers) (header ∷ []))
     (carried_then (λ w. fold (carry_out c target) w (take i headers)) (λ w. carry_out c target w header) given middle after
-    (λ w. on-carry_out c target header w) moves so_far one)
+    (λ w. on-carry_out goes.walk c target w header tt) moves so_far one)
 
 pub carried_all : (c target : ℕ) (headers : List (List ℕ)) (i : ℕ) (given after : Machine) → length headers ≤ i
     → CarriesOut (λ w. fold (carry_out c target) w (take i headers)) given after → CarriesOut (λ w. fold (carry_out c target) w headers) given after

@@ -7,9 +7,8 @@ use Rattle.iscsi_session.specs.Comings.{AreAhead}
 use Rattle.iscsi_session.proofs.Came.{ahead_of, ahead_behind, left_behind, plain_both, calm_both}
 use Rattle.iscsi_target.specs.History.{Mark, is_same}
 use Rattle.iscsi_target.specs.World.{Setting, World}
-use Rattle.iscsi_target.specs.Machine.{Machine, LeadsBack}
-use Rattle.iscsi_target.specs.Stands.{are_reached}
-use Rattle.iscsi_target.specs.Stands.{Begins}
+use Rattle.iscsi_target.specs.Machine.{Machine, ReflectsSoundness}
+use Rattle.iscsi_target.specs.Stands.{are_reached, Begins}
 use Rattle.iscsi_target.specs.Serving.{Serves, Agrees, Does, first_of}
 use Rattle.iscsi_target.proofs.Choices.{and_true}
 use Rattle.iscsi_target.proofs.Sound.{sound_back}
@@ -93,7 +92,7 @@ does_starved kind act halves a b given after e d = let P : Option ℕ → Type 0
 unfoldable pub does_then : (one two both : ℕ → Mark → Bool) (act_one act_two : Act) (halves_one halves_two : Halves) (a b : Option ℕ) (given middle after : Machine)
     → ((place : ℕ) → Apart (one place) (two place)) → ((place : ℕ) → Apart (two place) (one place)) → ((place : ℕ) → Wider (one place) (both place))
     → ((place : ℕ) → Wider (two place) (both place))
-    → LeadsBack middle after → ((s : Setting) (marks : List Mark) (place : ℕ) (w : World) → Goes w (act_two s marks place w))
+    → ReflectsSoundness middle after → ((s : Setting) (marks : List Mark) (place : ℕ) (w : World) → Goes w (act_two s marks place w))
     → Does one act_one halves_one a given middle → Does two act_two halves_two b middle after
     → Does both (λ s marks place w. act_two s marks place (act_one s marks place w)) (λ half. halves_two (halves_one half)) (first_of a b) given after
 does_then one two both act_one act_two halves_one halves_two a b given middle after one_two two_one wide_one wide_two back goes first second = record {

@@ -12,11 +12,10 @@ use Rattle.iscsi_login.specs.Directory.{KnownTargets}
 use Rattle.iscsi_session.specs.Comings.{Coming, AreAhead, ArePlain, IsCalm}
 use Rattle.iscsi_session.proofs.Came.{plain_ahead, ahead_self}
 use Rattle.iscsi_target.specs.History.{Bytes, Arriving, AtEnd, Point, Mark, History, Arrival, arrivals, new_arrivals, happening, plain, marked, connection_limit}
-use Rattle.iscsi_target.specs.Life.{Life, Phase, LoggingIn, FullFeature, Closing, Over, reads}
+use Rattle.iscsi_target.specs.Life.{Life, Phase, LoggingIn, reads}
 use Rattle.iscsi_target.specs.World.{Setting, World, present, changed, reads_life, is_marked, close, reaching, take_step, arrive, brought, longer, bring, begun_event, world}
 use Rattle.iscsi_target.specs.Machine.{LinkState, Machine, IsSound, IsSoundAt, WhereSound, Feeds, link_at, with_link, closed, is_reading, is_open_at, free_link}
-use Rattle.iscsi_target.specs.Stands.{phase_for, link_of, half_of, IsShort, IsStarved, StandsAt, Stands, StandsAfter, are_reached}
-use Rattle.iscsi_target.specs.Stands.{Begins}
+use Rattle.iscsi_target.specs.Stands.{phase_for, link_of, half_of, IsShort, IsStarved, StandsAt, Stands, StandsAfter, are_reached, Begins}
 use Rattle.iscsi_target.specs.Serving.{Serves, first_starved, with_half, is_among, TakesAll}
 use Rattle.iscsi_target.specs.declared.fault.Starved.{Starved}
 use Rattle.iscsi_target.proofs.Arrivals.{new_is}
@@ -25,7 +24,8 @@ use Rattle.iscsi_target.proofs.Sound.{sound_back}
 use Rattle.iscsi_target.proofs.Choices.{eqb_self, cond_true, cond_false}
 use Rattle.iscsi_target.proofs.Lives.{present-changed, present-changed_other, present_is}
 use Rattle.iscsi_target.proofs.Marks.{mark_at, marked_one, marked_none, unmarked}
-use Rattle.iscsi_target.proofs.Keeping.{Goes, Stays, on-close, on-reaching, on-fold, on-arrive, on-then, on-same, out-longer}
+use Rattle.iscsi_target.proofs.Walks.{any_arrivals, on-arrivals}
+use Rattle.iscsi_target.proofs.Keeping.{Goes, Stays, goes, on-close, on-reaching, on-then, on-same, out-longer}
 use Rattle.iscsi_target.proofs.Linked.{reads_there, some_reads, closes, present-close, serves_as, serves_reaching, present-reaching}
 use Rattle.iscsi_target.proofs.Comings.{comings_changed}
 use Rattle.iscsi_target.proofs.Standing.{fresh, present-begun, present-fresh, stands_as, machine_same, serving, link_stands, is_open_there, count_stands}
@@ -38,9 +38,7 @@ use Rattle.iscsi_target.proofs.Taking.{halving, rehalved, halves_idle, half_twic
 
 phase_longer : (directory : KnownTargets) (life : Life) (piece : List ℕ) (phase : Phase) → phase_for directory (longer piece life) phase ≡ phase_for directory life phase
 phase_longer directory life piece LoggingIn = refl
-phase_longer directory life piece (FullFeature session) = refl
-phase_longer directory life piece Closing = refl
-phase_longer directory life piece Over = refl
+phase_longer directory life piece _ = refl
 
 abbrev pub piece_came : List Coming → ℕ → List ℕ → World → World
 piece_came comings c piece w = changed (longer piece) c (begun_event comings w)
@@ -228,13 +226,14 @@ comes s sent w machine first now comings c piece starved f takes ahead =
     let whole : bring s marks c piece (begun_event comings w) ≡ e.last =
     brings s marks comings c piece w life there.1 short ∙ ap (λ (b : List ℕ). take_step marks c AtEnd (λ u. u)
     (fold (arrive s marks c) v0 (enumerate_from n (arrivals b)))) (sym new_half) ∙ e.is in
-    let goes = on-then v0 v e.last (on-fold (arrive s marks c) v0 (enumerate_from n (arrivals (link_at first c).half)) (on-arrive s marks c)) e.goes in
+    let all = enumerate_from n (arrivals (link_at first c).half) in
+    let followed = on-then v0 v e.last (on-arrivals goes s marks c v0 all (any_arrivals c all)) e.goes in
     let behind : rest (life.bytes ++ piece) ≡ left_ = rest_in_pieces life.bytes piece ∙ ap rest (sym new_half) in
     record {
       marks = marks;
       first = takes.takes.first n;
       reached = ap (are_reached marks) whole ∙ still_reached marks v e.last e.goes at.1;
-      stands = rw whole (stands_again s sent w e.last machine now comings c piece left_ life f.in_range f.stands there.1 goes behind
+      stands = rw whole (stands_again s sent w e.last machine now comings c piece left_ life f.in_range f.stands there.1 followed behind
           (λ r. takes.short (reads_there s sent (with_half c left_ half) v now c f.in_range serves_v ∙ sym e.reads_same ∙ r)) e.serves);
     }
 
@@ -360,26 +359,6 @@ kept_reads machine first c piece lt r is =
     let link = record (link_at machine c) { half = (link_at machine c).half ++ piece } in
     ap (λ (m : Machine). is_reading (link_at m c).phase) is ∙ ap (λ (l : LinkState). is_reading l.phase) (get_or-set_same machine.links c link free_link lt) ∙ r
 
-first_sound : (machine first now : Machine) (c : ℕ) (piece : List ℕ) (starved : Option ℕ) → first ≡ kept_as machine c piece
-    → TakesAll c starved first now → IsSound now → IsSound machine
-first_sound machine first now c piece starved is takes sound = subst (λ (us : List UnitStates). All AreSound us) (ap (λ (m : Machine). m.units) is)
-    (sound_back first now takes.back sound)
-
--- whatever its stores did
-came_any : (s : Setting) (sent : ℕ → ℕ) (h : History) (machine first now : Machine) (comings : List Coming) (c : ℕ) (piece : List ℕ) (starved : Option ℕ)
-    → c < connection_limit → is_reading (link_at machine c).phase ≡ true → first ≡ kept_as machine c piece
-    → (takes : TakesAll c starved first now) → AreAhead takes.takes.came comings → Stands s sent machine h → Came s sent (world s h) comings c piece starved now
-came_any s sent h machine first now comings c piece starved lt r is takes ahead at =
-    comes s sent (world s h) machine first now comings c piece starved (record { in_range = lt; stands = at; reads_so = r; is = is }) takes ahead
-
--- where all units are sound after it, no store failed
-came : (s : Setting) (sent : ℕ → ℕ) (h : History) (machine first now : Machine) (c : ℕ) (piece : List ℕ) (starved : Option ℕ) → c < connection_limit
-    → is_reading (link_at machine c).phase ≡ true → first ≡ kept_as machine c piece
-    → TakesAll c starved first now → (IsSound machine → Stands s sent machine h) → IsSound now → Came s sent (world s h) [] c piece starved now
-came s sent h machine first now c piece starved lt r is takes at sound =
-    came_any s sent h machine first now [] c piece starved lt r is takes (plain_ahead takes.takes.came (takes.takes.plain sound))
-    (at (first_sound machine first now c piece starved is takes sound))
-
 stands_after : (s : Setting) (sent : ℕ → ℕ) (h : History) (now : Machine) (comings : List Coming) (c : ℕ) (piece : List ℕ) (starved : Option ℕ)
     → (IsSound now → ArePlain comings) → ((target : ℕ) → IsSoundAt target now → IsCalm target comings)
     → Came s sent (world s h) comings c piece starved now → StandsAfter s sent h (Bytes c piece) starved now
@@ -393,25 +372,10 @@ stands_after s sent h now comings c piece starved plain_ calm k = record {
   stands = stands_as s sent now h (happening k.marks comings (Bytes c piece)) _ refl k.stands;
 }
 
-pub all_came : (r : Result (Unit {0}) Starved) (machine first now : Machine) (c : ℕ) (piece : List ℕ) → c < connection_limit
-    → is_reading (link_at machine c).phase ≡ true → first ≡ kept_as machine c piece → TakesAll c (first_starved r) first now
-    → (s : Setting) (sent : ℕ → ℕ) (h : History) → Stands s sent machine h → StandsAfter s sent h (Bytes c piece) (first_starved r) now
-all_came r machine first now c piece lt reads_so is takes s sent h at =
-    stands_after s sent h now takes.takes.came c piece (first_starved r) takes.takes.plain takes.takes.calm
-    (came_any s sent h machine first now takes.takes.came c piece (first_starved r) lt reads_so is takes (ahead_self takes.takes.came) at)
-
 plain_marks : (s : Setting) (sent : ℕ → ℕ) (h : History) (now : Machine) (c : ℕ) (piece : List ℕ) → Came s sent (world s h) [] c piece None now
     → Stands s sent now (h ++ plain (Bytes c piece) ∷ [])
 plain_marks s sent h now c piece k = stands_as s sent now h (plain (Bytes c piece)) _ refl
     (subst (λ (marks : List Mark). StandsAt s sent (bring s marks c piece (fresh (world s h))) now) k.first k.stands)
-
-pub ok_came : (r : Result (Unit {0}) Starved) (machine first now : Machine) (c : ℕ) (piece : List ℕ) → c < connection_limit
-    → is_reading (link_at machine c).phase ≡ true → first ≡ kept_as machine c piece → TakesAll c (first_starved r) first now
-    → OnOk r ((s : Setting) (sent : ℕ → ℕ) (h : History) → WhereSound machine (Stands s sent machine h)
-    → WhereSound now (Stands s sent now (h ++ plain (Bytes c piece) ∷ [])))
-ok_came (Ok u) machine first now c piece lt reads_so is takes = λ s sent h at sound. plain_marks s sent h now c piece
-    (came s sent h machine first now c piece None lt reads_so is takes at sound)
-ok_came (Err e) machine first now c piece lt reads_so is takes = tt
 
 starved_marks : (s : Setting) (sent : ℕ → ℕ) (h : History) (now : Machine) (c d : ℕ) (piece : List ℕ) → Came s sent (world s h) [] c piece (Some d) now
     → (marks : List Mark) × IsStarved s (world s h) (Bytes c piece) d marks × Stands s sent now (h ++ marked marks (Bytes c piece) ∷ [])
@@ -421,14 +385,41 @@ starved_marks s sent h now c d piece k = (
   stands_as s sent now h (marked k.marks (Bytes c piece)) _ refl k.stands,
 )
 
-pub err_came : (r : Result (Unit {0}) Starved) (machine first now : Machine) (c : ℕ) (piece : List ℕ) → c < connection_limit
-    → is_reading (link_at machine c).phase ≡ true → first ≡ kept_as machine c piece → TakesAll c (first_starved r) first now
-    → IfErr r (λ starved. (s : Setting) (sent : ℕ → ℕ) (h : History) → WhereSound machine (Stands s sent machine h)
-    → WhereSound now ((marks : List Mark) × IsStarved s (world s h) (Bytes c piece) starved.connection marks
-    × Stands s sent now (h ++ marked marks (Bytes c piece) ∷ [])))
-err_came (Ok u) machine first now c piece lt reads_so is takes = tt
-err_came (Err e) machine first now c piece lt reads_so is takes = λ s sent h at sound. starved_marks s sent h now c e.connection piece
-    (came s sent h machine first now c piece (Some e.connection) lt reads_so is takes at sound)
+module _ (machine first now : Machine) (c : ℕ) (piece : List ℕ) (lt : c < connection_limit)
+    (reads_so : is_reading (link_at machine c).phase ≡ true) (is : first ≡ kept_as machine c piece) where
+  first_sound : (starved : Option ℕ) → TakesAll c starved first now → IsSound now → IsSound machine
+  first_sound starved takes sound = subst (λ (us : List UnitStates). All AreSound us) (ap (λ (m : Machine). m.units) is)
+      (sound_back first now takes.leaves.back sound)
+
+  -- whatever its stores did
+  came_any : (s : Setting) (sent : ℕ → ℕ) (h : History) (comings : List Coming) (starved : Option ℕ) (takes : TakesAll c starved first now)
+      → AreAhead takes.takes.came comings → Stands s sent machine h → Came s sent (world s h) comings c piece starved now
+  came_any s sent h comings starved takes ahead at =
+      comes s sent (world s h) machine first now comings c piece starved (record { in_range = lt; stands = at; reads_so = reads_so; is = is }) takes ahead
+
+  -- where all units are sound after it, no store failed
+  came : (s : Setting) (sent : ℕ → ℕ) (h : History) (starved : Option ℕ) → TakesAll c starved first now
+      → (IsSound machine → Stands s sent machine h) → IsSound now → Came s sent (world s h) [] c piece starved now
+  came s sent h starved takes at sound = came_any s sent h [] starved takes (plain_ahead takes.takes.came (takes.takes.plain sound))
+      (at (first_sound starved takes sound))
+
+  pub all_came : (r : Result (Unit {0}) Starved) → TakesAll c (first_starved r) first now
+      → (s : Setting) (sent : ℕ → ℕ) (h : History) → Stands s sent machine h → StandsAfter s sent h (Bytes c piece) (first_starved r) now
+  all_came r takes s sent h at = stands_after s sent h now takes.takes.came c piece (first_starved r) takes.takes.plain takes.takes.calm
+      (came_any s sent h takes.takes.came (first_starved r) takes (ahead_self takes.takes.came) at)
+
+  pub ok_came : (r : Result (Unit {0}) Starved) → TakesAll c (first_starved r) first now
+      → OnOk r ((s : Setting) (sent : ℕ → ℕ) (h : History) → WhereSound machine (Stands s sent machine h)
+      → WhereSound now (Stands s sent now (h ++ plain (Bytes c piece) ∷ [])))
+  ok_came (Ok u) takes = λ s sent h at sound. plain_marks s sent h now c piece (came s sent h None takes at sound)
+  ok_came (Err e) takes = tt
+
+  pub err_came : (r : Result (Unit {0}) Starved) → TakesAll c (first_starved r) first now
+      → IfErr r (λ starved. (s : Setting) (sent : ℕ → ℕ) (h : History) → WhereSound machine (Stands s sent machine h)
+      → WhereSound now ((marks : List Mark) × IsStarved s (world s h) (Bytes c piece) starved.connection marks
+      × Stands s sent now (h ++ marked marks (Bytes c piece) ∷ [])))
+  err_came (Ok u) takes = tt
+  err_came (Err e) takes = λ s sent h at sound. starved_marks s sent h now c e.connection piece (came s sent h (Some e.connection) takes at sound)
 
 pub none_after : (s : Setting) (sent : ℕ → ℕ) (h : History) (now : Machine) (c : ℕ) (piece : List ℕ)
     → StandsAt s sent (bring s [] c piece (fresh (world s h))) now → StandsAfter s sent h (Bytes c piece) None now

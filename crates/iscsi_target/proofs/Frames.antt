@@ -7,14 +7,12 @@ use Rattle.std.proofs.lemmas.Bool.{ltb-true, lt-ltb, le-ltb, eqb-true, ne_eqb}
 use Rattle.iscsi_pdu.specs.Frames.{Frame}
 use Rattle.iscsi_login.specs.Login.{remembered}
 use Rattle.iscsi_login.specs.LoginState.{LoginState}
-use Rattle.iscsi_session.specs.Requests.{Past}
-use Rattle.iscsi_session.specs.State.{SessionState, remembered as session_remembered}
 use Rattle.iscsi_session.specs.Steps.{Step, served}
 use Rattle.iscsi_login.specs.Directory.{KnownTargets}
 use Rattle.iscsi_target.specs.History.{Point, Arriving, Mark, Arrival, Whole, connection_limit}
-use Rattle.iscsi_target.specs.Life.{Life, Phase, LoggingIn, FullFeature, Closing, Over, reads}
+use Rattle.iscsi_target.specs.Life.{Life, Phase, LoggingIn, FullFeature, reads}
 use Rattle.iscsi_target.specs.World.{Setting, World, present, reads_life, is_marked, close, reaching, take_step, log_in, take_in, settle_one, settle, serve, is_login, taken_in, taken_by, comes, arrive, settle_for, carry_out_for, orders_in}
-use Rattle.iscsi_target.specs.Machine.{LinkState, Machine, LeadsBack, link_at, is_reading, closed, logged_in}
+use Rattle.iscsi_target.specs.Machine.{LinkState, Machine, ReflectsSoundness, link_at, is_reading, closed, logged_in}
 use Rattle.iscsi_target.specs.Stands.{phase_for, link_of, are_reached}
 use Rattle.iscsi_target.specs.Serving.{Serves, Agrees, Does, CarriesOut, kept, is_of_none, first_of, is_of_frame, is_taken_at, is_done_at, is_done_by, is_done_below, Takes, Settles, SettlesOne, SettlesFor}
 use Rattle.iscsi_target.specs.declared.phase.Phase.TheVariants as phases
@@ -23,12 +21,13 @@ use Rattle.iscsi_target.proofs.Lists.{range_next}
 use Rattle.iscsi_target.proofs.Linked.{link_is, reads_there, some_reads, closes, present-reaching, serves_as, serves_world, serves_reaching}
 use Rattle.iscsi_target.proofs.LoggingIn.{Entering, logs_in}
 use Rattle.iscsi_target.proofs.Marks.{mark_at, marked_one, marked_none, unmarked, Apart, Wider, agrees_left, all_wider, is_step_at, taken_done, done_taken, taken_step, done_step, step_within}
-use Rattle.iscsi_target.proofs.Working.{at_work}
+use Rattle.iscsi_target.proofs.Working.{at_work, left_by}
 use Rattle.iscsi_session.proofs.Came.{ahead_of}
 use Rattle.iscsi_target.proofs.Comings.{comings_close, comings_log_in}
-use Rattle.iscsi_target.proofs.Keeping.{on-then, on-close, on-settle_one, on-settle_for, on-carry_out_for}
+use Rattle.iscsi_target.proofs.Walks.{on-settle_one, on-settle_for, on-carry_out_for}
+use Rattle.iscsi_target.proofs.Keeping.{goes, on-then, on-close}
 use Rattle.iscsi_target.proofs.Doing.{still_reached, does_nothing, does_as, does_then}
-use Rattle.iscsi_target.proofs.AtWork.{last_there, marks_of, starved_if, Calls, call_does, serves_does, served_orders}
+use Rattle.iscsi_target.proofs.AtWork.{IsCalled, CallDoes, last_there, marks_of, starved_if, call_does, own_past, served_orders, serve_acts, serve_agrees}
 
 -- ---- a connection that does not read
 
@@ -40,13 +39,6 @@ idle_step marks c point act w e = rw e refl
 pub idle : (s : Setting) (marks : List Mark) (c : ℕ) (w : World) (arrival : ℕ × Arrival) → reads_life (present c w) ≡ false → arrive s marks c w arrival ≡ w
 unfolding arrive
 idle s marks c w arrival e = idle_step marks c (Arriving arrival.0) (comes s marks c arrival.0 arrival.1) w e
-
-pub takes_idle : (machine : Machine) (c : ℕ) (frame : Frame) → c < connection_limit → is_reading (link_at machine c).phase ≡ false
-    → Takes c frame None machine machine
-takes_idle machine c frame lt idle_ = does_nothing is_of_frame (λ s marks place w. arrive s marks c w (place, Whole frame)) kept machine machine
-    (λ s sent half w place marks agree h.
-    (let same = idle s marks c w (place, Whole frame) (sym (reads_there s sent half w machine c lt h) ∙ idle_) in
-    (serves_world s sent half w _ machine same h, ap (λ (v : World). v.comings) same)))
 
 -- ---- a login is under way
 
@@ -60,9 +52,7 @@ record IsLoggingIn (directory : KnownTargets) (login : LoginState) (o : Option L
 logging_in_for : (directory : KnownTargets) (login : LoginState) (life : Life) (ph : Phase) → life.phase ≡ ph
     → phase_for directory life ph ≡ phases.Login login → IsLoggingIn directory login (Some life)
 logging_in_for directory login life LoggingIn e same = record { life = life; at = refl; phase = e; known = cc }
-logging_in_for directory login life (FullFeature session) e same = absurd cc
-logging_in_for directory login life Closing e same = absurd cc
-logging_in_for directory login life Over e same = absurd cc
+logging_in_for directory login life _ e same = absurd cc
 
 logging_in_of : (directory : KnownTargets) (sent : ℕ) (half : List ℕ) (login : LoginState) (o : Option Life)
     → (link_of directory sent half o).phase ≡ phases.Login login → IsLoggingIn directory login o
@@ -186,35 +176,35 @@ takes_starved given after c frame lt r is = starves given after c (Whole frame) 
 
 -- ---- a session
 
-target_same : (past : Past) → (session_remembered past).params.target ≡ past.params.target
-target_same past = refl
-
 -- the functions that acted were carried out, and then the sessions of the target were settled
 abbrev pub Finishes : ℕ → Option ℕ → List (List ℕ) → Option ℕ → Machine → Machine → Type 0
 Finishes c target orders starved middle after =
     Does is_done_at (λ s marks place w. settle_for marks place target (carry_out_for c target orders w)) kept starved middle after
 
-pub finishes : (c : ℕ) (target : Option ℕ) (orders : List (List ℕ)) (starved : Option ℕ) (middle carried after : Machine) → LeadsBack carried after
+pub finishes : (c : ℕ) (target : Option ℕ) (orders : List (List ℕ)) (starved : Option ℕ) (middle carried after : Machine) → ReflectsSoundness carried after
     → CarriesOut (carry_out_for c target orders) middle carried → SettlesFor target starved carried after → Finishes c target orders starved middle after
 finishes c target orders starved middle carried after back carries settles =
     does_then is_of_none is_done_at is_done_at (λ s marks place w. carry_out_for c target orders w) (λ s marks place w. settle_for marks place target w)
     kept kept None starved middle carried after (λ place mark e. absurd cc) (λ place mark e. refl) (λ place mark e. absurd cc) (λ place mark e. e) back
-    (λ s marks place w. on-settle_for marks place target w) carries settles
+    (λ s marks place w. on-settle_for goes.walk marks place target w (λ t e. tt)) carries settles
 
 -- its session served the frame
-pub takes_served : (c : ℕ) (target : Option ℕ) (frame : Frame) (orders : List (List ℕ)) (given middle after : Machine) (failed : Option (ℕ → Step))
-    (goes_on : Bool) (starved : Option ℕ)
-    → (k : Calls (λ f place. served f place frame) failed goes_on c given middle)
-    → k.orders ≡ orders → k.state.params.target ≡ target → ((place : ℕ) → list_all (is_taken_at place) (marks_of c failed place) ≡ true)
-    → LeadsBack middle after → Finishes c target orders starved middle after
-    → Takes c frame (first_of (starved_if failed c) starved) given after
-unfolding serve does_then serves_does call_does
-takes_served c target frame orders given middle after failed goes_on starved k ordered same of_kind back second =
+pub takes_served : (failed : Option (ℕ → Step)) (goes_on : Bool) (orders : List (List ℕ)) (c : ℕ) (target : Option ℕ) (frame : Frame)
+    (given middle ended after : Machine) (starved : Option ℕ) (k : IsCalled c target given middle)
+    (l : CallDoes (λ f place. served f place frame) failed goes_on orders c target given middle k) → ended ≡ left_by goes_on c middle
+    → ((place : ℕ) → list_all (is_taken_at place) (marks_of c failed place) ≡ true) → ReflectsSoundness ended after
+    → Finishes c target orders starved ended after → Takes c frame (first_of (starved_if failed c) starved) given after
+unfolding serve does_then call_does
+takes_served failed goes_on orders c target frame given middle ended after starved k l e of_kind back second =
+    let run = λ (f : Step → Bool) (place : ℕ). served f place frame in
+    let first = call_does run failed goes_on orders c target given middle ended k l e is_taken_at (λ s marks place w. take_in marks c place frame w)
+    (λ s marks place w past at own. serve_acts c frame marks place w past at)
+    (λ place marks work agree. serve_agrees failed c frame place marks work agree) of_kind in
     let both = does_then is_taken_at is_done_at is_step_at (λ s marks place w. take_in marks c place frame w)
-    (λ s marks place w. settle_for marks place target (carry_out_for c target orders w)) kept kept (starved_if failed c) starved given middle after
+    (λ s marks place w. settle_for marks place target (carry_out_for c target orders w)) kept kept (starved_if failed c) starved given ended after
     taken_done done_taken taken_step done_step back (λ s marks place w. on-then w (carry_out_for c target orders w) _
-    (on-carry_out_for c target orders w) (on-settle_for marks place target (carry_out_for c target orders w)))
-    (serves_does failed goes_on c frame given middle k of_kind) second in
+    (on-carry_out_for goes.walk c target orders w (λ t e. tt)) (on-settle_for goes.walk marks place target (carry_out_for c target orders w) (λ t e. tt)))
+    first second in
     record {
       failed = both.failed;
       first = both.first;
@@ -223,22 +213,23 @@ takes_served c target frame orders given middle after failed goes_on starved k o
       plain = both.plain;
       calm = both.calm;
       stands = λ s sent half w place marks agree ahead h.
-          (let there = at_work s sent half w given c k.state k.in_range h k.phase in
+          (let there = at_work s sent half w given c k.session k.in_range h k.phase in
           let a = there.1 in
           let v = reaching c (Arriving place ∷ []) w in
-          let target_is : there.0.params.target ≡ target = sym (ap (λ (x : SessionState). x.params.target) there.2 ∙ target_same there.0) ∙ same in
           let free : is_marked marks c (Arriving place) ≡ false =
           agree (mark_at c (Arriving place)) (eqb_self place) ∙ unmarked (is_step_at place) (both.failed place) (mark_at c (Arriving place))
           (both.of_kind place) (and_false (eqb place place)) in
           let here = serves_reaching s sent half w given c (Arriving place ∷ []) h in
           let inner : Agrees (is_step_at place) marks (both.failed place) = λ mark is. agree mark (step_within place mark is) in
           let acted : orders_in marks c place frame v ≡ orders =
-          served_orders s sent half v given middle c frame failed goes_on place marks k (ahead_of k.runs.came second.came v.comings ahead)
+          served_orders run failed goes_on orders c target given middle ended k l e frame s sent half v place marks (λ fails work. refl)
+          (ahead_of l.does.came second.came v.comings ahead)
           (agrees_left (is_taken_at place) (is_done_at place) (is_step_at place) marks (marks_of c failed place) (second.failed place)
-          (taken_done place) (taken_step place) (second.of_kind place) inner) here ∙ ordered in
+          (taken_done place) (taken_step place) (second.of_kind place) inner) here in
           let step = arrived_free s marks c w place (Whole frame) (ap reads_life a.at ∙ ap reads a.phase) free
           ∙ arrived_in s marks c w place frame a.life (FullFeature there.0) a.at a.phase
-          ∙ ap (λ (t : Option ℕ). settle_for marks place t (carry_out_for c t (orders_in marks c place frame v) (take_in marks c place frame v))) target_is
+          ∙ ap (λ (t : Option ℕ). settle_for marks place t (carry_out_for c t (orders_in marks c place frame v) (take_in marks c place frame v)))
+          (own_past (λ f place. served f place frame) failed goes_on orders c target given middle ended k l e there.0 there.2)
           ∙ ap (λ (os : List (List ℕ)). settle_for marks place target (carry_out_for c target os (take_in marks c place frame v))) acted in
           rw step (both.stands s sent half v place marks inner ahead here));
     }
@@ -287,7 +278,7 @@ fold_next : (marks : List Mark) (place target c : ℕ) (w : World) → fold (set
 fold_next marks place target c w = ap (fold (settle_one marks place target) w) (range_next c)
     ∙ fold-append (settle_one marks place target) w (range_with_len 0 c) (c ∷ [])
 
-pub settled_next : (target c : ℕ) (a b : Option ℕ) (given middle after : Machine) → LeadsBack middle after
+pub settled_next : (target c : ℕ) (a b : Option ℕ) (given middle after : Machine) → ReflectsSoundness middle after
     → SettledBelow target c a given middle → SettlesOne target c b middle after → SettledBelow target (c + 1) (first_of a b) given after
 settled_next target c a b given middle after back so_far one =
     does_as (is_done_below (c + 1)) (λ s marks place w. settle_one marks place target (fold (settle_one marks place target) w (range_with_len 0 c)) c)
@@ -296,7 +287,7 @@ settled_next target c a b given middle after back so_far one =
     (does_then (is_done_below c) (is_done_by c) (is_done_below (c + 1))
     (λ s marks place w. fold (settle_one marks place target) w (range_with_len 0 c)) (λ s marks place w. settle_one marks place target w c)
     kept kept a b given middle after (below_here c) (here_below c) (below_more c) (here_more c) back
-    (λ s marks place w. on-settle_one marks place target w c) so_far one)
+    (λ s marks place w. on-settle_one goes.walk marks place target w c tt) so_far one)
 
 pub all_settled : (target : ℕ) (starved : Option ℕ) (given after : Machine) → SettledBelow target connection_limit starved given after
     → Settles target starved given after

@@ -1,5 +1,5 @@
 -- How heavy the connection is that a frame came on.
-use Rattle.std.proofs.Common.{◌≡◌, ◌≢◌, ℕ, suc, ◌+◌, ◌-◌, ◌<◌, ◌≤◌, ◌&&◌, List, [], ◌∷◌, ◌++◌, length, take, drop, replicate, Bool, true, false, Option, Some, None, Result, Ok, Err, refl, sym, ap, ◌∙◌, subst, arith, inl, inr}
+use Rattle.std.proofs.Common.{◌≡◌, ◌≢◌, ℕ, suc, ◌+◌, ◌-◌, ◌<◌, ◌≤◌, ◌&&◌, List, ◌∷◌, ◌++◌, length, take, drop, replicate, Bool, true, false, Option, Some, None, refl, sym, ap, ◌∙◌, subst, arith, inl, inr}
 use Rattle.std.proofs.lemmas.Bool.Decides.{eqb_tells}
 use Rattle.std.proofs.lemmas.Bool.{leb-true}
 use Rattle.std.proofs.lemmas.List.{length-append, length-take, length-set, length-replicate}
@@ -21,54 +21,25 @@ use Rattle.iscsi_login.specs.Login.{brought, step_of, begun_by, accepted, handle
 use Rattle.iscsi_login.specs.Rules.{refusal_of}
 use Rattle.iscsi_login.specs.declared.reply.Reply.{Reply}
 use Rattle.iscsi_login.specs.declared.reply.Reply.TheVariants.{GoOn, Full, Refused}
-use Rattle.iscsi_session.specs.State.{SessionState}
-use Rattle.iscsi_session.specs.Weight.{IsAtRest, Loads}
-use Rattle.iscsi_session.proofs.AtRest.{goes_on_by, begun_rests, begun_pending}
+use Rattle.iscsi_session.proofs.AtRest.{begun_rests, begun_pending}
 use Rattle.iscsi_target.specs.World.{lookup_for}
 use Rattle.iscsi_target.specs.Machine.{LinkState, Machine, link_at, with_link, shut_link, closed, sessions, gone_on_link, refused_link, begun_link, shut_older, joined_session, replied, logged_in}
-use Rattle.iscsi_target.specs.Serving.{ended_unless}
-use Rattle.iscsi_target.specs.Bounded.{weight, Rests, Adds}
-use Rattle.iscsi_target.specs.declared.phase.Phase.{Phase}
-use Rattle.iscsi_target.specs.declared.phase.Phase.TheVariants as phases
-use Rattle.iscsi_target.proofs.Held.{viewed}
+use Rattle.iscsi_target.specs.Bounded.{weight, Rests, AddsAtMost}
 use Rattle.iscsi_target.proofs.Moving.{link_set, link_other}
-use Rattle.iscsi_target.proofs.Bounding.{adds_none, adds_then, adds_shut, waiting_least, session_loads, ended_loads}
+use Rattle.iscsi_target.proofs.Bounding.{adds_none, adds_then, adds_shut, waiting_least}
 
 -- ---- a connection closes
 
-closed_link : (machine : Machine) (c : ℕ) → c < length machine.links → link_at (closed machine c) c ≡ shut_link (link_at machine c)
+pub closed_link : (machine : Machine) (c : ℕ) → c < length machine.links → link_at (closed machine c) c ≡ shut_link (link_at machine c)
 unfolding closed
 closed_link machine c lt = link_set machine machine.units c (shut_link (link_at machine c)) lt
 
-pub closed_loads : (n : ℕ) (old new : Machine) (c : ℕ) → c < length old.links → new ≡ closed old c → Adds n (link_at old c) (link_at new c)
+pub closed_loads : (n : ℕ) (old new : Machine) (c : ℕ) → c < length old.links → new ≡ closed old c → AddsAtMost n (link_at old c) (link_at new c)
 closed_loads n old new c lt is =
-    subst (Adds n (link_at old c)) (sym (ap (λ (m : Machine). link_at m c) is ∙ closed_link old c lt)) (adds_shut n (link_at old c))
+    subst (AddsAtMost n (link_at old c)) (sym (ap (λ (m : Machine). link_at m c) is ∙ closed_link old c lt)) (adds_shut n (link_at old c))
 
-pub halved_adds : (n : ℕ) (old new : LinkState) (half : List ℕ) → Adds n (record old { half = half }) new → Adds n old new
+pub halved_adds : (n : ℕ) (old new : LinkState) (half : List ℕ) → AddsAtMost n (record old { half = half }) new → AddsAtMost n old new
 halved_adds n old new half a = a
-
--- ---- a frame of a session
-
-pub serve_heavier : {E : Type 0} (r : Result Bool E) (c : ℕ) (machine middle : Machine) (framer : List ℕ) (phase : Phase) (before waiting : List ℕ)
-    (state then_ : SessionState) → c < length machine.links → viewed framer phase before ≡ link_at machine c → phase ≡ phases.FullFeature state
-    → (IsAtRest state → Loads (goes_on_by r) state then_ before waiting)
-    → middle ≡ ended_unless r c (with_link machine c (viewed framer (phases.FullFeature then_) waiting)) → Adds 1 (link_at machine c) (link_at middle c)
-serve_heavier (Ok true) c machine middle framer phase before waiting state then_ lt link is loads e =
-    let new = viewed framer (phases.FullFeature then_) waiting in
-    subst (Adds 1 (link_at machine c)) (sym (ap (λ (m : Machine). link_at m c) e ∙ link_set machine machine.units c new lt))
-    (session_loads (link_at machine c) framer phase before waiting state then_ link is loads)
-serve_heavier (Ok false) c machine middle framer phase before waiting state then_ lt link is loads e =
-    let new = viewed framer (phases.FullFeature then_) waiting in
-    let there = link_set machine machine.units c new lt in
-    subst (Adds 1 (link_at machine c)) (sym (ap (λ (m : Machine). link_at m c) e
-    ∙ closed_link (with_link machine c new) c (omega (arith, lt, length-set machine.links c new)) ∙ ap shut_link there))
-    (ended_loads (link_at machine c) framer phase before waiting state then_ false link is loads)
-serve_heavier (Err x) c machine middle framer phase before waiting state then_ lt link is loads e =
-    let new = viewed framer (phases.FullFeature then_) waiting in
-    let there = link_set machine machine.units c new lt in
-    subst (Adds 1 (link_at machine c)) (sym (ap (λ (m : Machine). link_at m c) e
-    ∙ closed_link (with_link machine c new) c (omega (arith, lt, length-set machine.links c new)) ∙ ap shut_link there))
-    (ended_loads (link_at machine c) framer phase before waiting state then_ false link is loads)
 
 pub apart_next : (c : ℕ) → c ≢ suc c
 apart_next c e = absurd (omega (arith, e))
@@ -107,14 +78,8 @@ segment_long bytes =
 
 response_long : (isid : List ℕ) (r : LoginResponse) → r.isid ≡ isid → length isid ≤ 6 → length (login_text r.reply) ≤ 8192
     → length (spelling (answers.LoginResponse r)) ≤ 9000
-response_long [] r e le short = rw e (omega (arith, short, segment_long (login_text r.reply)))
-response_long (a ∷ []) r e le short = rw e (omega (arith, short, segment_long (login_text r.reply)))
-response_long (a ∷ b ∷ []) r e le short = rw e (omega (arith, short, segment_long (login_text r.reply)))
-response_long (a ∷ b ∷ c ∷ []) r e le short = rw e (omega (arith, short, segment_long (login_text r.reply)))
-response_long (a ∷ b ∷ c ∷ d ∷ []) r e le short = rw e (omega (arith, short, segment_long (login_text r.reply)))
-response_long (a ∷ b ∷ c ∷ d ∷ f ∷ []) r e le short = rw e (omega (arith, short, segment_long (login_text r.reply)))
-response_long (a ∷ b ∷ c ∷ d ∷ f ∷ g ∷ []) r e le short = rw e (omega (arith, short, segment_long (login_text r.reply)))
 response_long (a ∷ b ∷ c ∷ d ∷ f ∷ g ∷ h ∷ more) r e le short = absurd (omega (arith, le))
+response_long _ r e le short = rw e (omega (arith, short, segment_long (login_text r.reply)))
 
 abbrev IsShortReply : Reply → Type 0
 IsShortReply (GoOn response) = length (spelling (answers.LoginResponse response)) ≤ 9000
@@ -144,7 +109,7 @@ reply_short login lookup request = by_refusal (refusal_of login lookup request)
 
 -- more waits
 more_waits : (old new : LinkState) (more : List ℕ) → new.waiting ≡ old.waiting ++ more → length more ≤ 9000 → weight new ≡ length new.waiting → Rests new.phase
-    → Adds 1 old new
+    → AddsAtMost 1 old new
 more_waits old new more is short plain rests r = record {
   fits = omega (
     arith,
@@ -157,36 +122,36 @@ more_waits old new more is short plain rests r = record {
   rests = rests;
 }
 
-older_loads : (o : Option ℕ) (machine : Machine) (c : ℕ) → c < length machine.links → Adds 0 (link_at machine c) (link_at (shut_older o machine) c)
+older_loads : (o : Option ℕ) (machine : Machine) (c : ℕ) → c < length machine.links → AddsAtMost 0 (link_at machine c) (link_at (shut_older o machine) c)
 older_loads None machine c lt = adds_none 0 (link_at machine c)
 older_loads (Some d) machine c lt = elim (eqb_tells c d) [
-  | inl same ↦ subst (λ (k : ℕ). Adds 0 (link_at machine c) (link_at (with_link machine k (shut_link (link_at machine k))) c)) same.1
-      (subst (Adds 0 (link_at machine c)) (sym (link_set machine machine.units c (shut_link (link_at machine c)) lt)) (adds_shut 0 (link_at machine c)))
-  | inr differ ↦ subst (Adds 0 (link_at machine c)) (sym (link_other machine machine.units d c (shut_link (link_at machine d)) differ.1)) (adds_none 0 (link_at machine c))
+  | inl same ↦ subst (λ (k : ℕ). AddsAtMost 0 (link_at machine c) (link_at (with_link machine k (shut_link (link_at machine k))) c)) same.1
+      (subst (AddsAtMost 0 (link_at machine c)) (sym (link_set machine machine.units c (shut_link (link_at machine c)) lt)) (adds_shut 0 (link_at machine c)))
+  | inr differ ↦ subst (AddsAtMost 0 (link_at machine c)) (sym (link_other machine machine.units d c (shut_link (link_at machine d)) differ.1)) (adds_none 0 (link_at machine c))
 ]
 
 replied_loads : (reply : Reply) (login : LoginState) (c : ℕ) (machine : Machine) → c < length machine.links → IsShortReply reply
-    → Adds 1 (link_at machine c) (link_at (replied reply login c machine) c)
+    → AddsAtMost 1 (link_at machine c) (link_at (replied reply login c machine) c)
 replied_loads (GoOn response) login c machine lt short =
     let link = gone_on_link login (answers.LoginResponse response) (link_at machine c) in
-    subst (Adds 1 (link_at machine c)) (sym (link_set machine machine.units c link lt))
+    subst (AddsAtMost 1 (link_at machine c)) (sym (link_set machine machine.units c link lt))
     (more_waits (link_at machine c) link (spelling (answers.LoginResponse response)) refl short refl tt)
 replied_loads (Refused response) login c machine lt short =
     let link = refused_link (answers.LoginResponse response) (link_at machine c) in
-    subst (Adds 1 (link_at machine c)) (sym (link_set machine machine.units c link lt))
+    subst (AddsAtMost 1 (link_at machine c)) (sym (link_set machine machine.units c link lt))
     (more_waits (link_at machine c) link (spelling (answers.LoginResponse response)) refl short refl tt)
 replied_loads (Full response session) login c machine lt short =
     let answer = answers.LoginResponse response in
     let link = begun_link session answer (link_at machine c) in
     let now = joined_session session answer c machine in
-    let first : Adds 1 (link_at machine c) (link_at now c) = subst (Adds 1 (link_at machine c)) (sym (link_set machine now.units c link lt))
+    let first : AddsAtMost 1 (link_at machine c) (link_at now c) = subst (AddsAtMost 1 (link_at machine c)) (sym (link_set machine now.units c link lt))
     (more_waits (link_at machine c) link (spelling answer) refl short (omega (arith, begun_pending session)) (begun_rests session)) in
     adds_then 1 0 (link_at machine c) (link_at now c) _ first (older_loads (older session (sessions machine.links)) now c (omega (arith, lt, length-set machine.links c link)))
 
 pub logged_in_loads : (machine new : Machine) (c : ℕ) (login : LoginState) (request : Frame) → c < length machine.links → new ≡ logged_in machine c login request
-    → Adds 1 (link_at machine c) (link_at new c)
+    → AddsAtMost 1 (link_at machine c) (link_at new c)
 unfolding logged_in
 logged_in_loads machine new c login request lt is =
-    subst (λ (m : Machine). Adds 1 (link_at machine c) (link_at m c)) (sym is)
+    subst (λ (m : Machine). AddsAtMost 1 (link_at machine c) (link_at m c)) (sym is)
     (replied_loads (reply_of login (lookup_for machine.directory (sessions machine.links) request) request) (advanced machine.directory login request) c
     machine lt (reply_short login (lookup_for machine.directory (sessions machine.links) request) request))

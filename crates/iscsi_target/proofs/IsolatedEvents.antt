@@ -13,15 +13,17 @@ use Rattle.iscsi_target.specs.History.{Point, Arriving, AtEnd, Arrival, Whole, T
 use Rattle.iscsi_target.specs.Life.{Life, Phase, LoggingIn, FullFeature, Closing, Over, session_in}
 use Rattle.iscsi_target.specs.World.{Setting, World, present, changed, reads_life, session_of, live, close, reaching, is_marked, take_step, asked, requests_of, lookup_for, replied, log_in, is_login, taken_in, taken_by, comes, arrive, brought, longer, bring}
 use Rattle.iscsi_target.specs.Isolation.{named_in}
-use Rattle.iscsi_target.proofs.Lives.{present-changed, present_is}
+use Rattle.iscsi_target.proofs.Lives.{some_is, present-changed, present_is}
 use Rattle.iscsi_target.proofs.IsolatedLives.{AllFrom, Selection, HasTarget, Fits, on_it, number_of, found_fits, all_both}
 use Rattle.iscsi_target.proofs.IsolatedLogin.{target_of, named_asked, full_target, reply_alike}
-use Rattle.iscsi_target.proofs.IsolatedAsking.{Named, AreNamed, named_before, adds-replied, adds-fold, adds-arrive}
+use Rattle.iscsi_target.proofs.Walks.{LogsIn, any_arrivals, on-arrivals}
+use Rattle.iscsi_target.proofs.Keeping.{goes, on-replied, asked_logs}
+use Rattle.iscsi_target.proofs.IsolatedAsking.{Named, AreNamed, named_before, adds-goes}
 use Rattle.iscsi_target.proofs.IsolatedWorlds.{Agree, present_in, session_target, named_same}
 use Rattle.iscsi_target.proofs.IsolatedFits.{keeps_asked, keeps_longer}
-use Rattle.iscsi_target.proofs.IsolatedOutside.{out_changed, out_close, out_log_in}
+use Rattle.iscsi_target.proofs.IsolatedOutside.{out_changed, out_close, out_log_in, out_serve}
 use Rattle.iscsi_target.proofs.IsolatedInside.{in_changed, in_close, in_replied}
-use Rattle.iscsi_target.proofs.IsolatedServing.{in_serve, out_serve}
+use Rattle.iscsi_target.proofs.IsolatedServing.{in_serve}
 
 -- ---- a Login request
 
@@ -68,44 +70,49 @@ same_reply g s c w v life request at on agree own =
     (some_target g true _ session.target (ap target_of e) own) agree))
     ∙ sym (ap (λ (o : Option Life). login (c + 1) (requests_of o) (lookup_for s.directory (live w) request) request) at)
 
-in_log_in : (g : Selection) (s : Setting) (c : ℕ) (request : Frame) (w v : World) (life : Life) → present c w ≡ Some life → g.keeps_on c ≡ true
+in_log_in : (g : Selection) (s : Setting) (c : ℕ) (request : Frame) (w v : World) (life : Life) → present c w ≡ Some life → LogsIn c w → g.keeps_on c ≡ true
     → AreNamed g s.directory (log_in s c request w) → Agree g w v → Agree g (log_in s c request w) (log_in s c request v)
 unfolding log_in
-in_log_in g s c request w v life at on named agree =
+in_log_in g s c request w v life at logs on named agree =
     let reply = login (c + 1) (requests_of (present c w)) (lookup_for s.directory (live w) request) request in
     let u = changed (asked request) c w in
     let x = changed (asked request) c v in
     let next : Agree g u x = in_changed g (asked request) c w v on (keeps_asked g request c w) agree in
-    let target = asked_target g s.directory c w life request at next.fits (named_before g s.directory u (replied reply c u) (adds-replied reply c u) named) in
+    let target = asked_target g s.directory c w life request at next.fits (named_before g s.directory u (replied reply c u) (adds-goes u _ (on-replied reply c u
+    (asked_logs c request w logs))) named) in
     let own = subst (λ (b : Bool). HasTarget g b (target_of (advanced s.directory (remembered s.directory
     (c + 1) life.requests) request).session)) on target in
     subst (λ (r : Reply). Agree g (replied reply c u) (replied r c x)) (sym (same_reply g s c w v life request at on agree own))
     (in_replied g reply c u x on (full_own g true s c w life request at own) next)
 
-other_log_in : (g : Selection) (s : Setting) (c : ℕ) (request : Frame) (w v : World) (life : Life) → present c w ≡ Some life → g.keeps_on c ≡ false
+other_log_in : (g : Selection) (s : Setting) (c : ℕ) (request : Frame) (w v : World) (life : Life) → present c w ≡ Some life → LogsIn c w → g.keeps_on c ≡ false
     → AreNamed g s.directory (log_in s c request w) → Agree g w v → Agree g (log_in s c request w) v
 unfolding log_in
-other_log_in g s c request w v life at on named agree =
+other_log_in g s c request w v life at logs on named agree =
     let reply = login (c + 1) (requests_of (present c w)) (lookup_for s.directory (live w) request) request in
     let u = changed (asked request) c w in
     let next : Agree g u v = out_changed g (asked request) c w v on (keeps_asked g request c w) agree in
-    let target = asked_target g s.directory c w life request at next.fits (named_before g s.directory u (replied reply c u) (adds-replied reply c u) named) in
+    let target = asked_target g s.directory c w life request at next.fits (named_before g s.directory u (replied reply c u) (adds-goes u _ (on-replied reply c u
+    (asked_logs c request w logs))) named) in
     let other = subst (λ (b : Bool). HasTarget g b (target_of (advanced s.directory (remembered s.directory
     (c + 1) life.requests) request).session)) on target in
     out_log_in g s c request w v on (full_own g false s c w life request at other) agree
 
 -- ---- one arrival
 
-in_enter : (b : Bool) (g : Selection) (s : Setting) (c : ℕ) (frame : Frame) (w v : World) (life : Life) → present c w ≡ Some life → g.keeps_on c ≡ true
+logs_there : (c : ℕ) (w : World) (life : Life) → present c w ≡ Some life → life.phase ≡ LoggingIn → LogsIn c w
+logs_there c w life at e = λ other there. ap (λ (l : Life). l.phase) (some_is other life (sym there ∙ at)) ∙ e
+
+in_enter : (b : Bool) (g : Selection) (s : Setting) (c : ℕ) (frame : Frame) (w v : World) (life : Life) → present c w ≡ Some life → LogsIn c w → g.keeps_on c ≡ true
     → AreNamed g s.directory (cond b (log_in s c frame w) (close c w)) → Agree g w v
     → Agree g (cond b (log_in s c frame w) (close c w)) (cond b (log_in s c frame v) (close c v))
-in_enter true g s c frame w v life at on named agree = in_log_in g s c frame w v life at on named agree
-in_enter false g s c frame w v life at on named agree = in_close g c w v on agree
+in_enter true g s c frame w v life at logs on named agree = in_log_in g s c frame w v life at logs on named agree
+in_enter false g s c frame w v life at logs on named agree = in_close g c w v on agree
 
-out_enter : (b : Bool) (g : Selection) (s : Setting) (c : ℕ) (frame : Frame) (w v : World) (life : Life) → present c w ≡ Some life → g.keeps_on c ≡ false
+out_enter : (b : Bool) (g : Selection) (s : Setting) (c : ℕ) (frame : Frame) (w v : World) (life : Life) → present c w ≡ Some life → LogsIn c w → g.keeps_on c ≡ false
     → AreNamed g s.directory (cond b (log_in s c frame w) (close c w)) → Agree g w v → Agree g (cond b (log_in s c frame w) (close c w)) v
-out_enter true g s c frame w v life at on named agree = other_log_in g s c frame w v life at on named agree
-out_enter false g s c frame w v life at on named agree = out_close g c w v on agree
+out_enter true g s c frame w v life at logs on named agree = other_log_in g s c frame w v life at logs on named agree
+out_enter false g s c frame w v life at logs on named agree = out_close g c w v on agree
 
 -- the target of the session of a present life
 phase_target : (g : Selection) (b : Bool) (c : ℕ) (w v : World) (life : Life) (p : Params) → present c w ≡ Some life → session_in life.phase ≡ Some p
@@ -116,7 +123,8 @@ phase_target g b c w v life p at e on agree =
 in_taken_in : (g : Selection) (s : Setting) (c place : ℕ) (frame : Frame) (phase : Phase) (w v : World) (life : Life) → present c w ≡ Some life
     → life.phase ≡ phase → g.keeps_on c ≡ true → AreNamed g s.directory (taken_in s [] c place frame phase w) → Agree g w v
     → Agree g (taken_in s [] c place frame phase w) (taken_in s [] c place frame phase v)
-in_taken_in g s c place frame LoggingIn w v life at e on named agree = in_enter (is_login frame) g s c frame w v life at on named agree
+in_taken_in g s c place frame LoggingIn w v life at e on named agree =
+    in_enter (is_login frame) g s c frame w v life at (logs_there c w life at e) on named agree
 in_taken_in g s c place frame (FullFeature session) w v life at e on named agree =
     in_serve g [] c place session.params.target frame w v on (phase_target g true c w v life session.params at (ap session_in e) on agree) agree
 in_taken_in g s c place frame Closing w v life at e on named agree = agree
@@ -125,7 +133,8 @@ in_taken_in g s c place frame Over w v life at e on named agree = agree
 out_taken_in : (g : Selection) (s : Setting) (c place : ℕ) (frame : Frame) (phase : Phase) (w v : World) (life : Life) → present c w ≡ Some life
     → life.phase ≡ phase → g.keeps_on c ≡ false → AreNamed g s.directory (taken_in s [] c place frame phase w) → Agree g w v
     → Agree g (taken_in s [] c place frame phase w) v
-out_taken_in g s c place frame LoggingIn w v life at e on named agree = out_enter (is_login frame) g s c frame w v life at on named agree
+out_taken_in g s c place frame LoggingIn w v life at e on named agree =
+    out_enter (is_login frame) g s c frame w v life at (logs_there c w life at e) on named agree
 out_taken_in g s c place frame (FullFeature session) w v life at e on named agree =
     out_serve g [] c place session.params.target frame w v on (phase_target g false c w v life session.params at (ap session_in e) on agree) agree
 out_taken_in g s c place frame Closing w v life at e on named agree = agree
@@ -214,7 +223,7 @@ out_arrive g s c w v arrival on named agree = out_step g s.directory c (Arriving
 
 named_at_first : (g : Selection) (s : Setting) (c : ℕ) (w : World) (all : List (ℕ × Arrival)) → AreNamed g s.directory (fold (arrive s [] c) w all)
     → AreNamed g s.directory w
-named_at_first g s c w all named = named_before g s.directory w (fold (arrive s [] c) w all) (adds-fold (arrive s [] c) w all (adds-arrive s [] c)) named
+named_at_first g s c w all named = named_before g s.directory w (fold (arrive s [] c) w all) (adds-goes w _ (on-arrivals goes s [] c w all (any_arrivals c all))) named
 
 in_arrivals : (g : Selection) (s : Setting) (c : ℕ) (w v : World) (all : List (ℕ × Arrival)) → g.keeps_on c ≡ true
     → AreNamed g s.directory (fold (arrive s [] c) w all) → Agree g w v → Agree g (fold (arrive s [] c) w all) (fold (arrive s [] c) v all)

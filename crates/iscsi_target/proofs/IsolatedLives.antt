@@ -91,9 +91,6 @@ first_later : (f : Life → Life) (c : ℕ) (x : Life) (lives : List Life) → i
     → changed_first (is_present c) f (x ∷ lives) ≡ x ∷ changed_first (is_present c) f lives
 first_later f c x lives e = cond_false (is_present c x) (f x ∷ lives) (x ∷ changed_first (is_present c) f lives) e
 
-over_here : (c : ℕ) (x : Life) → is_present c x ≡ true → over c x ≡ ended_in Over x
-over_here c x e = cond_true (is_present c x) (ended_in Over x) x e
-
 over_elsewhere : (c : ℕ) (x : Life) → is_present c x ≡ false → over c x ≡ x
 over_elsewhere c x e = cond_false (is_present c x) (ended_in Over x) x e
 

@@ -1,6 +1,5 @@
 -- What happens on a connection whose last life is not kept leaves the kept lives and the target's units as they are.
-use Rattle.std.proofs.Common.{◌≡◌, ℕ, ◌+◌, List, [], ◌∷◌, Bool, true, false, cond, Option, Some, None, refl, sym, ◌∙◌, subst}
-use Rattle.std.specs.List.{fold}
+use Rattle.std.proofs.Common.{◌≡◌, ℕ, ◌+◌, List, Bool, true, false, cond, Option, Some, None, refl, sym, ◌∙◌, subst}
 use Rattle.iscsi_pdu.specs.Frames.{Frame}
 use Rattle.iscsi_pdu.specs.declared.answer.Answer.{Answer}
 use Rattle.iscsi_pdu.specs.declared.answer.Answer.TheVariants as answers
@@ -15,9 +14,10 @@ use Rattle.iscsi_session.proofs.Calm.{calm_served, calm_settled}
 use Rattle.iscsi_session.specs.Requests.{Past}
 use Rattle.iscsi_session.specs.Steps.{Work, served, settled}
 use Rattle.iscsi_session.proofs.Steps.{served_extends, settled_extends}
-use Rattle.iscsi_target.specs.History.{Mark, connections}
+use Rattle.iscsi_target.specs.History.{Mark}
 use Rattle.iscsi_target.specs.Life.{Life, Closing, ended_in}
-use Rattle.iscsi_target.specs.World.{Setting, World, present, changed, session_of, past_of, live, changed_units, left, close, answered, asked, begun, begins, requests_of, lookup_for, end_older, replied, log_in, fails, work_of, with_past, worked_on, worked, served_by, settled_by, settle_one, settle, settle_for}
+use Rattle.iscsi_target.specs.World.{Setting, World, present, changed, session_of, past_of, live, changed_units, left, close, answered, asked, begun, begins, requests_of, lookup_for, end_older, replied, log_in, work_of, with_past, worked_on, worked, losing, reset, serve}
+use Rattle.iscsi_target.proofs.Walks.{Walk, on-serve}
 use Rattle.iscsi_target.proofs.IsolatedLives.{Selection, HasTarget, changed_out}
 use Rattle.iscsi_target.proofs.IsolatedWorlds.{UnitsAgree, with_other, Agree, session_target, past_target, session_of_past, older_on, one_target}
 use Rattle.iscsi_target.proofs.IsolatedFits.{Keeps, keeps_ended, keeps_answered, keeps_asked, keeps_begun, keeps_worked, fits_changed}
@@ -57,7 +57,7 @@ out_close g c w v on agree =
       silent = next.silent;
     }
 
-pub out_cond : (g : Selection) (b : Bool) (w u v : World) → Agree g w v → Agree g u v → Agree g (cond b w u) v
+out_cond : (g : Selection) (b : Bool) (w u v : World) → Agree g w v → Agree g u v → Agree g (cond b w u) v
 out_cond g true w u v a b = a
 out_cond g false w u v a b = b
 
@@ -104,7 +104,7 @@ out_log_in g s c request w v on other agree =
 
 -- ---- a session
 
-pub out_worked_on : (g : Selection) (c : ℕ) (past : Past) (work : Work) (w v : World) → g.keeps_on c ≡ false → past_of (present c w) ≡ Some past
+out_worked_on : (g : Selection) (c : ℕ) (past : Past) (work : Work) (w v : World) → g.keeps_on c ≡ false → past_of (present c w) ≡ Some past
     → work.past.params ≡ past.params → IsCalm g.target work.units.comings → Agree g w v → Agree g (worked_on c work w) v
 out_worked_on g c past work w v on at same calm agree =
     let other : HasTarget g false work.past.params.target =
@@ -125,41 +125,38 @@ out_worked g c past work w v on at same calm agree =
     let here = out_worked_on g c past work w v on at same calm agree in
     out_cond g work.goes_on (worked_on c work w) (close c (worked_on c work w)) v here (out_close g c (worked_on c work w) v on here)
 
-pub out_served_by : (g : Selection) (o : Option Past) (marks : List Mark) (c place : ℕ) (frame : Frame) (w v : World) → g.keeps_on c ≡ false
-    → past_of (present c w) ≡ o → Agree g w v → Agree g (served_by o marks c place frame w) v
-out_served_by g None marks c place frame w v on at agree = agree
-out_served_by g (Some past) marks c place frame w v on at agree =
-    out_worked g c past (served (fails marks c) place frame (work_of past w)) w v on at
-    (served_extends (fails marks c) place frame (work_of past w)).params
-    (calm_served g.target (fails marks c) place frame (work_of past w) agree.calm) agree
+-- a session of another target is not kept
+not_kept : (g : Selection) (c target : ℕ) (past : Past) (w v : World) → past_of (present c w) ≡ Some past
+    → is_same_target past.params.target (Some target) ≡ true → HasTarget g false (Some target) → Agree g w v → g.keeps_on c ≡ false
+not_kept g c target past w v at same other agree =
+    one_target g (g.keeps_on c) false past.params.target (Some target) (past_target g c w v past agree at) other same
 
-out_settled : (g : Selection) (past : Past) (marks : List Mark) (place t c : ℕ) (w v : World) (here kept : Bool) → HasTarget g false (Some t)
-    → is_same_target past.params.target (Some t) ≡ here → g.keeps_on c ≡ kept
-    → past_of (present c w) ≡ Some past → Agree g w v
-    → Agree g (cond here (worked c (settled (fails marks c) place (work_of past w)) w) w) v
-out_settled g past marks place t c w v false kept other e on at agree = agree
-out_settled g past marks place t c w v true true other e on at agree =
-    let never : g.keeps_on c ≡ false = one_target g (g.keeps_on c) false past.params.target (Some t) (past_target g c w v past agree at) other e in
-    absurd cc
-out_settled g past marks place t c w v true false other e on at agree =
-    out_worked g c past (settled (fails marks c) place (work_of past w)) w v on at (settled_extends (fails marks c) place (work_of past w)).params
-    (calm_settled g.target (fails marks c) place (work_of past w) agree.calm) agree
+out_reset : (g : Selection) (header : List ℕ) (target : ℕ) (w v : World) → HasTarget g false (Some target) → Agree g w v → Agree g (reset header target w) v
+unfolding reset changed_units
+out_reset g header target w v other agree = record {
+  lives = agree.lives;
+  units = with_other g (Some target) _ w.units v.units other agree.units;
+  fits = agree.fits;
+  calm = agree.calm;
+  silent = agree.silent;
+}
 
-out_settled_by : (g : Selection) (o : Option Past) (marks : List Mark) (place t c : ℕ) (w v : World) → HasTarget g false (Some t) → past_of (present c w) ≡ o
-    → Agree g w v → Agree g (settled_by o marks place t c w) v
-out_settled_by g None marks place t c w v other at agree = agree
-out_settled_by g (Some past) marks place t c w v other at agree =
-    out_settled g past marks place t c w v (is_same_target past.params.target (Some t)) (g.keeps_on c) other refl refl at agree
+out : (g : Selection) (v : World)
+    → Walk (λ w u. Agree g w v → Agree g u v) (λ c frame. g.keeps_on c ≡ false) (λ target. HasTarget g false (Some target))
+out g v = record {
+  same = λ w agree. agree;
+  then_ = λ w x u first second agree. second (first agree);
+  serves = λ c past frame fails place w at on agree. out_worked g c past (served fails place frame (work_of past w)) w v on at
+      (served_extends fails place frame (work_of past w)).params (calm_served g.target fails place frame (work_of past w) agree.calm) agree;
+  settles = λ c target past fails place w at same other agree. out_worked g c past (settled fails place (work_of past w)) w v
+      (not_kept g c target past w v at same other agree) at (settled_extends fails place (work_of past w)).params
+      (calm_settled g.target fails place (work_of past w) agree.calm) agree;
+  loses = λ d target past header w at same other agree. out_worked_on g d past (losing header (work_of past w)) w v
+      (not_kept g d target past w v at same other agree) at refl agree.calm agree;
+  resets = λ header target w other agree. out_reset g header target w v other agree;
+}
 
-out_settle_all : (g : Selection) (marks : List Mark) (place t : ℕ) (w v : World) (cs : List ℕ) → HasTarget g false (Some t) → Agree g w v
-    → Agree g (fold (settle_one marks place t) w cs) v
-unfolding settle_one
-out_settle_all g marks place t w v [] other agree = agree
-out_settle_all g marks place t w v (c ∷ cs) other agree =
-    out_settle_all g marks place t (settle_one marks place t w c) v cs other (out_settled_by g (past_of (present c w)) marks place t c w v other refl agree)
-
-pub out_settle_for : (g : Selection) (marks : List Mark) (place : ℕ) (o : Option ℕ) (w v : World) → HasTarget g false o → Agree g w v
-    → Agree g (settle_for marks place o w) v
-unfolding settle
-out_settle_for g marks place None w v other agree = agree
-out_settle_for g marks place (Some t) w v other agree = out_settle_all g marks place t w v connections other agree
+pub out_serve : (g : Selection) (marks : List Mark) (c place : ℕ) (o : Option ℕ) (frame : Frame) (w v : World) → g.keeps_on c ≡ false → HasTarget g false o
+    → Agree g w v → Agree g (serve marks c place o frame w) v
+out_serve g marks c place o frame w v on other agree =
+    on-serve (out g v) marks c place o frame w on (λ target e. subst (HasTarget g false) e other) agree

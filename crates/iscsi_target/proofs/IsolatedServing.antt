@@ -8,61 +8,10 @@ use Rattle.iscsi_session.specs.Requests.{Past}
 use Rattle.iscsi_session.specs.Steps.{Work}
 use Rattle.iscsi_target.specs.History.{Mark, connections}
 use Rattle.iscsi_target.specs.Life.{Life}
-use Rattle.iscsi_target.specs.World.{World, present, past_of, changed_units, work_of, worked_on, take_in, orders_by, orders_in, function_of, reaches_others, losing, lost_by, lose_one, reset_by, reset, carry_out, carry_out_for, settle_for, serve}
+use Rattle.iscsi_target.specs.World.{World, present, past_of, work_of, worked_on, take_in, orders_by, orders_in, function_of, reaches_others, losing, lost_by, lose_one, reset_by, reset, carry_out, carry_out_for, settle_for, serve}
 use Rattle.iscsi_target.proofs.IsolatedLives.{Selection, HasTarget}
-use Rattle.iscsi_target.proofs.IsolatedWorlds.{Agree, with_other, present_in, present_out, past_target, one_target}
-use Rattle.iscsi_target.proofs.IsolatedOutside.{out_cond, out_worked_on, out_served_by, out_settle_for}
+use Rattle.iscsi_target.proofs.IsolatedWorlds.{Agree, present_in, present_out, past_target, one_target}
 use Rattle.iscsi_target.proofs.IsolatedInside.{in_cond, in_worked_on, own_changed, same_work, same_served, in_take_in, in_settle_for}
-
--- ---- of another target
-
-out_lost : (here kept : Bool) (g : Selection) (past : Past) (header : List ℕ) (t d : ℕ) (w v : World) → is_same_target past.params.target (Some t) ≡ here
-    → g.keeps_on d ≡ kept → HasTarget g false (Some t) → past_of (present d w) ≡ Some past → Agree g w v
-    → Agree g (cond here (worked_on d (losing header (work_of past w)) w) w) v
-out_lost false kept g past header t d w v e on other at agree = agree
-out_lost true true g past header t d w v e on other at agree =
-    let never : g.keeps_on d ≡ false = one_target g (g.keeps_on d) false past.params.target (Some t) (past_target g d w v past agree at) other e in
-    absurd cc
-out_lost true false g past header t d w v e on other at agree = out_worked_on g d past (losing header (work_of past w)) w v on at refl agree.calm agree
-
-out_lost_by : (g : Selection) (o : Option Past) (header : List ℕ) (t d : ℕ) (w v : World) → HasTarget g false (Some t) → past_of (present d w) ≡ o
-    → Agree g w v → Agree g (lost_by o header t d w) v
-out_lost_by g None header t d w v other at agree = agree
-out_lost_by g (Some past) header t d w v other at agree =
-    out_lost (is_same_target past.params.target (Some t)) (g.keeps_on d) g past header t d w v refl refl other at agree
-
-out_lose_all : (g : Selection) (header : List ℕ) (t c : ℕ) (w v : World) (ds : List ℕ) → HasTarget g false (Some t) → Agree g w v
-    → Agree g (fold (lose_one header t c) w ds) v
-unfolding lose_one
-out_lose_all g header t c w v [] other agree = agree
-out_lose_all g header t c w v (d ∷ ds) other agree =
-    out_lose_all g header t c (lose_one header t c w d) v ds other
-    (out_cond g (eqb d c) w (lost_by (past_of (present d w)) header t d w) v agree (out_lost_by g (past_of (present d w)) header t d w v other refl agree))
-
-out_reset : (g : Selection) (header : List ℕ) (t : ℕ) (w v : World) → HasTarget g false (Some t) → Agree g w v → Agree g (reset header t w) v
-unfolding reset changed_units
-out_reset g header t w v other agree = record {
-  lives = agree.lives;
-  units = with_other g (Some t) _ w.units v.units other agree.units;
-  fits = agree.fits;
-  calm = agree.calm;
-  silent = agree.silent;
-}
-
-out_carry_out_all : (g : Selection) (c t : ℕ) (w v : World) (headers : List (List ℕ)) → HasTarget g false (Some t) → Agree g w v
-    → Agree g (fold (carry_out c t) w headers) v
-unfolding carry_out
-out_carry_out_all g c t w v [] other agree = agree
-out_carry_out_all g c t w v (header ∷ headers) other agree =
-    let u = fold (lose_one header t c) w connections in
-    out_carry_out_all g c t (carry_out c t w header) v headers other
-    (out_cond g (reaches_others (function_of header)) (reset header t u) w v
-    (out_reset g header t u v other (out_lose_all g header t c w v connections other agree)) agree)
-
-pub out_carry_out_for : (g : Selection) (c : ℕ) (o : Option ℕ) (headers : List (List ℕ)) (w v : World) → HasTarget g false o → Agree g w v
-    → Agree g (carry_out_for c o headers w) v
-out_carry_out_for g c None headers w v other agree = agree
-out_carry_out_for g c (Some t) headers w v other agree = out_carry_out_all g c t w v headers other agree
 
 -- ---- of this target
 
@@ -149,15 +98,6 @@ in_orders g marks c place frame w v on agree =
     ∙ orders_same g (past_of (present c w)) marks c place frame w v on refl agree
 
 -- ---- a frame of a session, and what it makes of its target's sessions
-
-pub out_serve : (g : Selection) (marks : List Mark) (c place : ℕ) (o : Option ℕ) (frame : Frame) (w v : World) → g.keeps_on c ≡ false → HasTarget g false o
-    → Agree g w v → Agree g (serve marks c place o frame w) v
-unfolding serve take_in
-out_serve g marks c place o frame w v on other agree =
-    let taken = take_in marks c place frame w in
-    let orders = orders_in marks c place frame w in
-    out_settle_for g marks place o (carry_out_for c o orders taken) v other
-    (out_carry_out_for g c o orders taken v other (out_served_by g (past_of (present c w)) marks c place frame w v on refl agree))
 
 pub in_serve : (g : Selection) (marks : List Mark) (c place : ℕ) (o : Option ℕ) (frame : Frame) (w v : World) → g.keeps_on c ≡ true → HasTarget g true o
     → Agree g w v → Agree g (serve marks c place o frame w) (serve marks c place o frame v)

@@ -12,7 +12,7 @@ use Rattle.iscsi_login.specs.declared.params.Params.{Params}
 use Rattle.iscsi_session.specs.Comings.{IsCalm}
 use Rattle.iscsi_session.specs.Requests.{Past}
 use Rattle.iscsi_target.specs.History.{connection_limit, connections}
-use Rattle.iscsi_target.specs.Life.{Life, Phase, LoggingIn, FullFeature, Closing, Over, past_in, session_in}
+use Rattle.iscsi_target.specs.Life.{Life, Phase, FullFeature, past_in, session_in}
 use Rattle.iscsi_target.specs.World.{World, is_present, present, session_of, past_of, live, units_at, with_units}
 use Rattle.iscsi_target.specs.Isolation.{kept_from}
 use Rattle.iscsi_target.proofs.Choices.{and_true, and_false}
@@ -41,10 +41,6 @@ units_own g None all some own agree = refl
 units_own g (Some t) all some own agree =
     let same : t ≡ g.target = eqb-true t g.target (sym (own t refl)) in
     ap (λ (i : ℕ). slice_index_or some i []) same ∙ agree.units ∙ ap (λ (i : ℕ). slice_index_or all i []) (sym same)
-
-count_with : (o : Option ℕ) (units : UnitStates) (all : List UnitStates) → length (with_units o units all) ≡ length all
-count_with None units all = refl
-count_with (Some t) units all = length-set all t units
 
 -- units of the target itself are put in both
 pub with_own : (g : Selection) (o : Option ℕ) (units : UnitStates) (all some : List UnitStates) → HasTarget g true o → UnitsAgree g all some
@@ -108,10 +104,8 @@ pub session_target : (g : Selection) (c : ℕ) (w v : World) (p : Params) → Ag
 session_target g c w v p agree e = session_target_by g c w v (present c w) p agree refl e
 
 session_past : (phase : Phase) (past : Past) → past_in phase ≡ Some past → session_in phase ≡ Some past.params
-session_past LoggingIn past e = absurd cc
 session_past (FullFeature session) past e = let same : session ≡ past = cc in ap (λ (x : Past). Some x.params) same
-session_past Closing past e = absurd cc
-session_past Over past e = absurd cc
+session_past _ past e = absurd cc
 
 pub session_of_past : (o : Option Life) (past : Past) → past_of o ≡ Some past → session_of o ≡ Some past.params
 session_of_past None past e = absurd cc
@@ -125,9 +119,8 @@ past_target g c w v past agree e = session_target g c w v past.params agree (ses
 
 -- of two targets
 pub same_targets : (o : Option ℕ) (p : Option ℕ) → is_same_target o p ≡ true → (t : ℕ) × (o ≡ Some t) × (p ≡ Some t)
-same_targets None p e = absurd cc
-same_targets (Some t) None e = absurd cc
 same_targets (Some t) (Some u) e = (t, refl, ap Some (sym (eqb-true t u e)))
+same_targets _ _ e = absurd cc
 
 pub one_target : (g : Selection) (a b : Bool) (o p : Option ℕ) → HasTarget g a o → HasTarget g b p → is_same_target o p ≡ true → a ≡ b
 unfolding HasTarget

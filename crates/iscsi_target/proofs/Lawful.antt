@@ -1,6 +1,6 @@
 -- Each session of a World has a lawful past, whatever has happened.
-use Rattle.std.proofs.Common.{◌≡◌, ◌≢◌, ℕ, zero, suc, ◌+◌, ◌^◌, ◌<◌, List, [], ◌∷◌, ◌++◌, length, map, take, drop, get_or, Bool, true, false, cond, not, eqb, Option, Some, None, refl, sym, ap, ◌∙◌, subst, arith}
-use Rattle.std.specs.Prelude.{find, ⊤}
+use Rattle.std.proofs.Common.{◌≡◌, ℕ, zero, suc, ◌+◌, ◌^◌, ◌<◌, List, [], ◌∷◌, ◌++◌, length, map, take, drop, get_or, Bool, true, false, cond, Option, Some, None, refl, sym, ap, ◌∙◌, subst, arith}
+use Rattle.std.specs.Prelude.{find}
 use Rattle.std.specs.List.{AllByRecursion, fold, enumerate_from}
 use Rattle.iscsi_pdu.specs.Header.{cmd_sn, header_length}
 use Rattle.iscsi_pdu.specs.Frames.{Frame, frames, frames_within, first_frame, frame_length, has_frame, rest, is_long}
@@ -16,16 +16,17 @@ use Rattle.iscsi_session.specs.State.{IsLawful}
 use Rattle.iscsi_session.specs.Steps.{Work, served, settled}
 use Rattle.iscsi_session.proofs.Removing.{lawful_removing}
 use Rattle.iscsi_session.proofs.Lawful.{taken_once, finished_as_taken, steps_are_lawful}
-use Rattle.iscsi_login.specs.Session.{is_same_target}
-use Rattle.iscsi_target.specs.History.{Event, Open, Bytes, Gone, Mark, Point, Arriving, AtEnd, Arrival, Whole, TooLong, arrivals, new_arrivals, connections, History, marked}
+use Rattle.iscsi_target.specs.History.{Event, Open, Bytes, Gone, Mark, Arrival, Whole, arrivals, new_arrivals, History, marked}
 use Rattle.iscsi_target.specs.Life.{Life, Phase, LoggingIn, FullFeature, Closing, Over, born, past_in, ended_in}
-use Rattle.iscsi_target.specs.World.{Setting, World, is_present, present, changed_first, changed, reads_life, past_of, live, close, over, end, reaching, is_marked, take_step, answered, asked, begun, begins, requests_of, lookup_for, end_older, replied, log_in, fails, work_of, with_past, worked_on, worked, served_by, take_in, settled_by, settle_one, settle, serve, is_login, taken_in, taken_by, comes, arrive, brought, longer, bring, happen, begun_event, happened, new_world, world, settle_for, function_of, reaches_others, reach_from, losing, lost_by, lose_one, reset, carry_out, carry_out_for, orders_in}
+use Rattle.iscsi_target.specs.World.{Setting, World, is_present, present, changed_first, changed, past_of, live, close, over, end, answered, asked, begun, begins, requests_of, lookup_for, end_older, replied, log_in, work_of, with_past, worked_on, worked, brought, longer, bring, happen, begun_event, happened, new_world, world, reach_from, losing, reset}
 use Rattle.iscsi_target.specs.Stands.{IsQuietIn}
 use Rattle.iscsi_target.specs.Laws.{HasBytes, FinishesAsTaken, SessionsFinishAsTaken, OthersStay}
 use Rattle.iscsi_target.proofs.Arrivals.{long_end}
+use Rattle.iscsi_target.proofs.Walks.{EventWalk, KnownArrival, on-brought}
 use Rattle.iscsi_target.proofs.Choices.{cond_true, cond_false}
 use Rattle.iscsi_target.proofs.Keeping.{world-push}
-use Rattle.iscsi_target.proofs.Lives.{present-changed_other, present-end_other, present-lives}
+use Rattle.iscsi_target.proofs.Linked.{present-close_other}
+use Rattle.iscsi_target.proofs.Lives.{some_is, present-end_other, present-lives}
 
 -- ---- bytes
 
@@ -56,12 +57,11 @@ number_fits header a = omega (arith, byte_at header 24 a, byte_at header 25 a, b
 
 -- ---- frames of bytes
 
-abbrev IsFramed : ℕ × Arrival → Type 0
-IsFramed (place, Whole frame) = cmd_sn frame.header < 2 ^ 32
-IsFramed (place, TooLong) = ⊤
-
 abbrev Fits : Frame → Type 0
 Fits frame = cmd_sn frame.header < 2 ^ 32
+
+abbrev IsFramed : ℕ × Arrival → Type 0
+IsFramed arrival = KnownArrival (λ c frame. Fits frame) 0 arrival
 
 frames_by : (b : Bool) (n : ℕ) (bytes : List ℕ) → has_frame bytes ≡ b → AreBytes bytes
     → ((more : List ℕ) → AreBytes more → AllByRecursion Fits (frames_within n more)) → AllByRecursion Fits (frames_within (suc n) bytes)
@@ -109,9 +109,6 @@ found_by : (b : Bool) (c : ℕ) (x : Life) (lives : List Life) (life : Life) →
 found_by true c x lives life e at fit further =
     let same : Some x ≡ Some life = sym (cond_true (is_present c x) (Some x) (find (is_present c) lives) e) ∙ at in
     subst IsFit (some_is x life same) fit
-  where
-    some_is : (x y : Life) → Some x ≡ Some y → x ≡ y
-    some_is x y e = cc
 found_by false c x lives life e at fit further = further (sym (cond_false (is_present c x) (Some x) (find (is_present c) lives) e) ∙ at)
 
 found_fit : (c : ℕ) (lives : List Life) (life : Life) → AllByRecursion IsFit lives → find (is_present c) lives ≡ Some life → IsFit life
@@ -148,14 +145,6 @@ fit-close c w a = fit-changed (ended_in Closing) c w (λ life fit. (fit.0, tt)) 
 fit-cond : (b : Bool) (v u : World) → AreFit v → AreFit u → AreFit (cond b v u)
 fit-cond true v u a b = a
 fit-cond false v u a b = b
-
-fit-take_step : (marks : List Mark) (c : ℕ) (point : Point) (act : World → World) (w : World) → ((v : World) → AreFit v → AreFit (act v)) → AreFit w
-    → AreFit (take_step marks c point act w)
-unfolding take_step
-fit-take_step marks c point act w acts a =
-    fit-cond (not (reads_life (present c w))) w _ a
-    (fit-cond (is_marked marks c point) (close c (reaching c (point ∷ []) w)) (act (reaching c (point ∷ []) w))
-    (fit-close c (reaching c (point ∷ []) w) a) (acts (reaching c (point ∷ []) w) a))
 
 -- ---- a login
 
@@ -200,111 +189,37 @@ fit-worked c work w lawful a =
     let on : AreFit (worked_on c work w) = fit-changed (with_past work.past) c w (λ life fit. (fit.0, lawful)) a in
     fit-cond work.goes_on (worked_on c work w) (close c (worked_on c work w)) on (fit-close c (worked_on c work w) on)
 
-fit-served_by : (o : Option Past) (marks : List Mark) (c place : ℕ) (frame : Frame) (w : World) → past_of (present c w) ≡ o → Fits frame → AreFit w
-    → AreFit (served_by o marks c place frame w)
-fit-served_by None marks c place frame w at fits a = a
-fit-served_by (Some past) marks c place frame w at fits a =
-    fit-worked c (served (fails marks c) place frame (work_of past w)) w
-    (steps_are_lawful.served (fails marks c) place frame (work_of past w) fits (lawful_of (present c w) c w past refl a at)) a
-
-fit-take_in : (marks : List Mark) (c place : ℕ) (frame : Frame) (w : World) → Fits frame → AreFit w → AreFit (take_in marks c place frame w)
-unfolding take_in
-fit-take_in marks c place frame w fits a = fit-served_by (past_of (present c w)) marks c place frame w refl fits a
-
--- ---- Task Management
+-- ---- a session that loses commands
 
 lost_lawful : (header : List ℕ) (work : Work) → IsLawful work.past → IsLawful (losing header work).past
 lost_lawful header work lawful = lawful_removing (reach_from header work.units.states) work.past lawful
 
-fit-lost_by : (o : Option Past) (header : List ℕ) (target d : ℕ) (w : World) → past_of (present d w) ≡ o → AreFit w → AreFit (lost_by o header target d w)
-fit-lost_by None header target d w at a = a
-fit-lost_by (Some past) header target d w at a =
-    let work = losing header (work_of past w) in
-    let lawful : IsLawful work.past = lost_lawful header (work_of past w) (lawful_of (present d w) d w past refl a at) in
-    fit-cond (is_same_target past.params.target (Some target)) (worked_on d work w) w
-    (fit-changed (with_past work.past) d w (λ life fit. (fit.0, lawful)) a) a
+fit-reset : (header : List ℕ) (target : ℕ) (w : World) → AreFit w → AreFit (reset header target w)
+unfolding reset
+fit-reset header target w a = a
 
-fit-lose_one : (header : List ℕ) (target c : ℕ) (w : World) (d : ℕ) → AreFit w → AreFit (lose_one header target c w d)
-unfolding lose_one
-fit-lose_one header target c w d a =
-    fit-cond (eqb d c) w (lost_by (past_of (present d w)) header target d w) a (fit-lost_by (past_of (present d w)) header target d w refl a)
+-- ---- all that a piece of bytes sets off
 
-fit-lose_all : (header : List ℕ) (target c : ℕ) (w : World) (ds : List ℕ) → AreFit w → AreFit (fold (lose_one header target c) w ds)
-fit-lose_all header target c w [] a = a
-fit-lose_all header target c w (d ∷ ds) a = fit-lose_all header target c (lose_one header target c w d) ds (fit-lose_one header target c w d a)
+past_lawful : (c : ℕ) (w : World) (past : Past) → AreFit w → past_of (present c w) ≡ Some past → IsLawful past
+past_lawful c w past a at = lawful_of (present c w) c w past refl a at
 
-fit-carry_out : (c target : ℕ) (w : World) (header : List ℕ) → AreFit w → AreFit (carry_out c target w header)
-unfolding carry_out reset
-fit-carry_out c target w header a =
-    fit-cond (reaches_others (function_of header)) (reset header target (fold (lose_one header target c) w connections)) w
-    (fit-lose_all header target c w connections a) a
-
-fit-carry_all : (c target : ℕ) (w : World) (headers : List (List ℕ)) → AreFit w → AreFit (fold (carry_out c target) w headers)
-fit-carry_all c target w [] a = a
-fit-carry_all c target w (header ∷ headers) a = fit-carry_all c target (carry_out c target w header) headers (fit-carry_out c target w header a)
-
-fit-carry_out_for : (c : ℕ) (target : Option ℕ) (headers : List (List ℕ)) (w : World) → AreFit w → AreFit (carry_out_for c target headers w)
-fit-carry_out_for c None headers w a = a
-fit-carry_out_for c (Some target) headers w a = fit-carry_all c target w headers a
-
--- ---- the commands of all sessions
-
-fit-settled_by : (o : Option Past) (marks : List Mark) (place target c : ℕ) (w : World) → past_of (present c w) ≡ o → AreFit w
-    → AreFit (settled_by o marks place target c w)
-fit-settled_by None marks place target c w at a = a
-fit-settled_by (Some past) marks place target c w at a =
-    fit-cond (is_same_target past.params.target (Some target)) _ w
-    (fit-worked c (settled (fails marks c) place (work_of past w)) w (steps_are_lawful.settled (fails marks c) place (work_of past w)
-    (lawful_of (present c w) c w past refl a at)) a) a
-
-fit-settle_one : (marks : List Mark) (place target : ℕ) (w : World) (c : ℕ) → AreFit w → AreFit (settle_one marks place target w c)
-unfolding settle_one
-fit-settle_one marks place target w c a = fit-settled_by (past_of (present c w)) marks place target c w refl a
-
-fit-all : (marks : List Mark) (place target : ℕ) (w : World) (cs : List ℕ) → AreFit w → AreFit (fold (settle_one marks place target) w cs)
-fit-all marks place target w [] a = a
-fit-all marks place target w (c ∷ cs) a = fit-all marks place target (settle_one marks place target w c) cs (fit-settle_one marks place target w c a)
-
-fit-settle_for : (marks : List Mark) (place : ℕ) (target : Option ℕ) (w : World) → AreFit w → AreFit (settle_for marks place target w)
-unfolding settle
-fit-settle_for marks place None w a = a
-fit-settle_for marks place (Some target) w a = fit-all marks place target w connections a
-
-fit-serve : (marks : List Mark) (c place : ℕ) (target : Option ℕ) (frame : Frame) (w : World) → Fits frame → AreFit w → AreFit (serve marks c place target frame w)
-unfolding serve
-fit-serve marks c place target frame w fits a =
-    let orders = orders_in marks c place frame w in
-    fit-settle_for marks place target (carry_out_for c target orders (take_in marks c place frame w))
-    (fit-carry_out_for c target orders (take_in marks c place frame w) (fit-take_in marks c place frame w fits a))
-
--- ---- one event
-
-fit-taken_in : (s : Setting) (marks : List Mark) (c place : ℕ) (frame : Frame) (phase : Phase) (w : World) → Fits frame → AreFit w
-    → AreFit (taken_in s marks c place frame phase w)
-fit-taken_in s marks c place frame LoggingIn w fits a = fit-cond (is_login frame) (log_in s c frame w) (close c w) (fit-log_in s c frame w a) (fit-close c w a)
-fit-taken_in s marks c place frame (FullFeature session) w fits a = fit-serve marks c place session.params.target frame w fits a
-fit-taken_in s marks c place frame Closing w fits a = a
-fit-taken_in s marks c place frame Over w fits a = a
-
-fit-taken_by : (s : Setting) (marks : List Mark) (c place : ℕ) (frame : Frame) (o : Option Life) (w : World) → Fits frame → AreFit w
-    → AreFit (taken_by s marks c place frame o w)
-fit-taken_by s marks c place frame None w fits a = a
-fit-taken_by s marks c place frame (Some life) w fits a = fit-taken_in s marks c place frame life.phase w fits a
-
-fit-comes : (s : Setting) (marks : List Mark) (c place : ℕ) (arrival : Arrival) (w : World) → IsFramed (place, arrival) → AreFit w
-    → AreFit (comes s marks c place arrival w)
-fit-comes s marks c place (Whole frame) w fits a = fit-taken_by s marks c place frame (present c w) w fits a
-fit-comes s marks c place TooLong w fits a = fit-close c w a
-
-fit-arrive : (s : Setting) (marks : List Mark) (c : ℕ) (w : World) (arrival : ℕ × Arrival) → IsFramed arrival → AreFit w → AreFit (arrive s marks c w arrival)
-unfolding arrive
-fit-arrive s marks c w arrival fits a =
-    fit-take_step marks c (Arriving arrival.0) (comes s marks c arrival.0 arrival.1) w (λ v b. fit-comes s marks c arrival.0 arrival.1 v fits b) a
-
-fit-arrivals : (s : Setting) (marks : List Mark) (c : ℕ) (w : World) (all : List (ℕ × Arrival)) → AllByRecursion IsFramed all → AreFit w
-    → AreFit (fold (arrive s marks c) w all)
-fit-arrivals s marks c w [] framed a = a
-fit-arrivals s marks c w (arrival ∷ all) framed a = fit-arrivals s marks c (arrive s marks c w arrival) all framed.1 (fit-arrive s marks c w arrival framed.0 a)
+fit : EventWalk (λ w v. AreFit w → AreFit v) (λ c frame. Fits frame)
+fit = record {
+  walk = record {
+    same = λ w a. a;
+    then_ = λ w v u first second a. second (first a);
+    serves = λ c past frame fails place w at fits a. fit-worked c (served fails place frame (work_of past w)) w
+        (steps_are_lawful.served fails place frame (work_of past w) fits (past_lawful c w past a at)) a;
+    settles = λ c target past fails place w at same own a. fit-worked c (settled fails place (work_of past w)) w
+        (steps_are_lawful.settled fails place (work_of past w) (past_lawful c w past a at)) a;
+    loses = λ d target past header w at same own a. fit-changed (with_past (losing header (work_of past w)).past) d w
+        (λ life is. (is.0, lost_lawful header (work_of past w) (past_lawful d w past a at))) a;
+    resets = λ header target w own a. fit-reset header target w a;
+  };
+  closes = fit-close;
+  reaches = λ c points w a. a;
+  logs_in = λ s c request w logs a. fit-log_in s c request w a;
+}
 
 brought_framed : (o : Option Life) (c : ℕ) (w : World) (piece : List ℕ) → present c w ≡ o → AreFit w → AreBytes piece
     → AllByRecursion IsFramed (brought o piece)
@@ -316,8 +231,7 @@ unfolding bring
 fit-bring s marks c piece w bytes a =
     let longer_ : AreFit (changed (longer piece) c w) = fit-changed (longer piece) c w (λ life fit. (all_append _ life.bytes piece fit.0 bytes, fit.1)) a in
     let all = brought (present c w) piece in
-    fit-take_step marks c AtEnd (λ v. v) (fold (arrive s marks c) (changed (longer piece) c w) all) (λ v b. b)
-    (fit-arrivals s marks c (changed (longer piece) c w) all (brought_framed (present c w) c w piece refl a bytes) longer_)
+    on-brought fit s marks c (changed (longer piece) c w) all (brought_framed (present c w) c w piece refl a bytes) longer_
 
 over_by : (b : Bool) (c : ℕ) (x : Life) → is_present c x ≡ b → IsFit x → IsFit (over c x)
 over_by true c x e fit = subst IsFit (sym (cond_true (is_present c x) (ended_in Over x) x e)) (fit.0, tt)
@@ -354,14 +268,9 @@ pub sessions_finish_as_taken : SessionsFinishAsTaken
 sessions_finish_as_taken s h c bytes = finishes (past_of (present c (world s h)))
     (λ past is. lawful_of (present c (world s h)) c (world s h) past refl (fit-world s h bytes) is)
 
-closed_other : (c d : ℕ) (w : World) → d ≢ c → present d (close c w) ≡ present d w
-unfolding close
-closed_other c d w differ = present-lives d (close c w) (changed (ended_in Closing) c w) refl
-    ∙ present-changed_other (ended_in Closing) c d w (λ life. refl) differ
-
 pub others_stay : OthersStay
 others_stay = record {
-  closed = closed_other;
+  closed = present-close_other;
   gone = λ s h marks c d differ.
       ap (present d) (world-push s h (marked marks (Gone c))) ∙ present-end_other c d (begun_event [] (world s h)) differ
       ∙ present-lives d (begun_event [] (world s h)) (world s h) refl;

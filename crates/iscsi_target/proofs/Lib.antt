@@ -1,4 +1,5 @@
 pub mod Choices
+mod Lending
 mod Lists
 mod Arrivals
 pub mod Lives
@@ -6,6 +7,7 @@ pub mod Linked
 mod Working
 mod LoggingIn
 mod Marks
+pub mod Walks
 pub mod Keeping
 mod Lawful
 mod IsolatedLives
@@ -28,7 +30,7 @@ mod Moving
 mod Apart
 mod Asking
 mod Frames
-mod Held
+mod SessionCalls
 mod Marked
 mod Heavier
 mod Carrying

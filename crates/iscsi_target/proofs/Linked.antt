@@ -1,6 +1,6 @@
 -- What the code remembers of a World, where one connection changes.
 use Rattle.std.proofs.Common.{◌≡◌, ◌≢◌, ℕ, ◌<◌, ◌≤◌, List, [], ◌++◌, length, map, drop, set, get_or, true, not, eqb, Option, Some, None, refl, sym, ap, ◌∙◌, subst, arith, inl, inr}
-use Rattle.std.specs.Prelude.{flat_map}
+use Rattle.std.specs.Prelude.{flat_map, if◌then◌else◌}
 use Rattle.std.specs.List.{range_with_len}
 use Rattle.std.proofs.lemmas.Bool.Decides.{eqb_tells}
 use Rattle.std.proofs.lemmas.List.{append-nil, length-map, get_or-map, length-set, length-append, get_or-set_same, get_or-set_other, drop-append-le, ext_get_or}
@@ -12,14 +12,13 @@ use Rattle.scsi_unit.specs.Units.{UnitStates}
 use Rattle.iscsi_login.specs.declared.params.Params.{Params}
 use Rattle.iscsi_login.specs.Directory.{KnownTargets}
 use Rattle.iscsi_target.specs.History.{Point, connection_limit}
-use Rattle.iscsi_target.specs.Life.{Life, Phase, LoggingIn, FullFeature, Closing, Over, is_over, reads, session_in, session_answers, answers_of, out_of, ended_in}
+use Rattle.iscsi_target.specs.Life.{Life, Phase, LoggingIn, Closing, is_over, reads, session_in, session_answers, answers_of, out_of, ended_in}
 use Rattle.iscsi_target.specs.World.{Setting, World, present, changed, reads_life, session_of, live, left, close, reaching}
 use Rattle.iscsi_target.specs.Output.{out_now}
-use Rattle.iscsi_target.specs.Machine.{LinkState, Machine, link_at, with_link, free_link, shut_link, is_reading, session_in_phase, sessions, closed}
-use Rattle.iscsi_target.specs.declared.phase.Phase.TheVariants as phases
-use Rattle.iscsi_target.specs.Stands.{phase_for, link_of, machine_with, IsQuiet}
+use Rattle.iscsi_target.specs.Machine.{LinkState, Machine, link_at, with_link, free_link, is_reading, session_in_phase, sessions, closed}
+use Rattle.iscsi_target.specs.Stands.{phase_for, link_of, machine_with, IsQuiet, IsQuietIn}
 use Rattle.iscsi_target.specs.Serving.{Serves}
-use Rattle.iscsi_target.proofs.Choices.{and_true}
+use Rattle.iscsi_target.proofs.Choices.{cond_true, and_true}
 use Rattle.iscsi_target.proofs.Lives.{present-changed, present-changed_other, present-lives, present_is}
 
 -- ---- the links
@@ -79,9 +78,7 @@ relinked s sent sent_then half half_then w v c lt same =
 
 pub session_same : (directory : KnownTargets) (life : Life) (phase : Phase) → session_in_phase (phase_for directory life phase) ≡ session_in phase
 session_same directory life LoggingIn = refl
-session_same directory life (FullFeature session) = refl
-session_same directory life Closing = refl
-session_same directory life Over = refl
+session_same directory life _ = refl
 
 session_there : (directory : KnownTargets) (sent : ℕ) (half : List ℕ) (o : Option Life) → session_in_phase (link_of directory sent half o).phase ≡ session_of o
 session_there directory sent half None = refl
@@ -97,9 +94,7 @@ session_at s sent half w machine c lt h =
 
 reading_same : (directory : KnownTargets) (life : Life) (phase : Phase) → is_reading (phase_for directory life phase) ≡ reads phase
 reading_same directory life LoggingIn = refl
-reading_same directory life (FullFeature session) = refl
-reading_same directory life Closing = refl
-reading_same directory life Over = refl
+reading_same directory life _ = refl
 
 reading_of : (directory : KnownTargets) (sent : ℕ) (half : List ℕ) (o : Option Life) → is_reading (link_of directory sent half o).phase ≡ reads_life o
 reading_of directory sent half None = refl
@@ -165,6 +160,32 @@ serves_one s sent half half_then w v machine c units link lt h other halves le q
       ];
     }
 
+-- what is remembered of a life on which this waits
+abbrev pub life_link : KnownTargets → List ℕ → Life → List ℕ → LinkState
+life_link directory half life waiting =
+    record { half = if reads life.phase then half else []; phase = phase_for directory life life.phase; waiting = waiting }
+
+-- its life has become another one, which was answered more
+pub serves_life : (s : Setting) (sent : ℕ → ℕ) (half : ℕ → List ℕ) (w v : World) (machine : Machine) (c : ℕ) (units : List UnitStates)
+    (life now : Life) (more : List ℕ) → c < connection_limit → Serves s sent half w machine → present c w ≡ Some life → present c v ≡ Some now
+    → ((d : ℕ) → d ≢ c → present d v ≡ present d w) → out_of now ≡ out_of life ++ more → IsQuietIn now.phase → v.units ≡ units
+    → Serves s sent half v (record (with_link machine c (life_link s.directory (half c) now ((link_at machine c).waiting ++ more))) { units = units })
+serves_life s sent half w v machine c units life now more lt h was is other out quiet u =
+    let le : sent c ≤ length (out_of life) = (let n = h.answered c lt in rw was at n) in
+    let waiting : drop (sent c) (out_of now) ≡ (link_at machine c).waiting ++ more =
+    ap (drop (sent c)) out ∙ sym (says (sent c) (drop (sent c) (out_of life)) (out_of life) more le refl)
+    ∙ ap (λ (l : LinkState). l.waiting ++ more) (sym (link_is s sent half w machine c lt h ∙ ap (link_of s.directory (sent c) (half c)) was)) in
+    serves_one s sent half half w v machine c units (life_link s.directory (half c) now ((link_at machine c).waiting ++ more)) lt h other
+    (λ d differ. refl) (rw is (still_sent (sent c) life now more out le)) (rw is quiet) u
+    (ap (link_of s.directory (sent c) (half c)) is ∙ ap (life_link s.directory (half c) now) waiting)
+
+-- the bytes that are kept of one that reads
+pub half_there : (s : Setting) (sent : ℕ → ℕ) (half : ℕ → List ℕ) (w : World) (machine : Machine) (c : ℕ) (life : Life) → c < connection_limit
+    → Serves s sent half w machine → present c w ≡ Some life → reads life.phase ≡ true → (link_at machine c).half ≡ half c
+half_there s sent half w machine c life lt h at r =
+    ap (λ (l : LinkState). l.half) (link_is s sent half w machine c lt h ∙ ap (link_of s.directory (sent c) (half c)) at)
+    ∙ cond_true (reads life.phase) (half c) [] r
+
 -- ---- a connection closes
 
 pub present-close : (c : ℕ) (w : World) (life : Life) → present c w ≡ Some life → present c (close c w) ≡ Some (ended_in Closing life)
@@ -187,17 +208,14 @@ pub closes : (s : Setting) (sent : ℕ → ℕ) (half : ℕ → List ℕ) (w : W
     → Serves s sent half w machine → present c w ≡ Some life → Serves s sent half (close c w) (closed machine c)
 unfolding closed
 closes s sent half w machine c life lt h at =
-    let now = present-close c w life at in
-    let link = link_is s sent half w machine c lt h ∙ ap (link_of s.directory (sent c) (half c)) at in
-    let out = out-ended life Closing refl in
-    let units : (close c w).units ≡ left (session_in_phase (link_at machine c).phase) machine.units =
-    units_close c w ∙ ap (λ (o : Option Params). left o w.units) (sym (session_at s sent half w machine c lt h))
-    ∙ ap (left (session_in_phase (link_at machine c).phase)) (sym (ap (λ (m : Machine). m.units) h.is ∙ units_with s sent half w)) in
-    let le : sent c ≤ length (out_of life) = (let was = h.answered c lt in rw at at was) in
-    serves_one s sent half half w (close c w) machine c (left (session_in_phase (link_at machine c).phase) machine.units) (shut_link (link_at machine c)) lt h
-    (λ d differ. present-close_other c d w differ) (λ d differ. refl) (rw (now, out) le) (rw now tt) units
-    (rw now (ap (λ (o : List ℕ). let l : LinkState = record { half = []; phase = phases.Closing; waiting = drop (sent c) o } in l) out
-    ∙ sym (ap shut_link link)))
+    let link = link_at machine c in
+    let all = left (session_in_phase link.phase) machine.units in
+    let units : (close c w).units ≡ all = units_close c w ∙ ap (λ (o : Option Params). left o w.units) (sym (session_at s sent half w machine c lt h))
+    ∙ ap (left (session_in_phase link.phase)) (sym (ap (λ (m : Machine). m.units) h.is ∙ units_with s sent half w)) in
+    let P : List ℕ → Type 0 = λ bytes. Serves s sent half (close c w)
+    (record (with_link machine c (life_link s.directory (half c) (ended_in Closing life) bytes)) { units = all }) in
+    subst P (append-nil link.waiting) (serves_life s sent half w (close c w) machine c all life (ended_in Closing life) [] lt h at
+    (present-close c w life at) (λ d differ. present-close_other c d w differ) (out-ended life Closing refl ∙ sym (append-nil (out_of life))) tt units)
 
 -- ---- what was reached does not count
 

@@ -8,7 +8,7 @@ use Rattle.iscsi_target.specs.Life.{Life, Over, is_over, born, ended_in}
 use Rattle.iscsi_target.specs.World.{World, is_present, present, changed_first, changed, over, end}
 use Rattle.iscsi_target.proofs.Choices.{cond_true, cond_false, and_true, and_false}
 
-some_is : (x y : Life) → Some x ≡ Some y → x ≡ y
+pub some_is : (x y : Life) → Some x ≡ Some y → x ≡ y
 some_is x y e = cc
 
 abbrev found : ℕ → List Life → Option Life

@@ -1,9 +1,9 @@
 -- What marks do: which points they name, and which a call looks at.
-use Rattle.std.proofs.Common.{◌≡◌, ◌≢◌, ℕ, List, [], ◌∷◌, ◌++◌, Bool, true, false, ◌&&◌, ◌||◌, eqb, refl, sym, ap, ◌∙◌}
+use Rattle.std.proofs.Common.{◌≡◌, ℕ, List, [], ◌∷◌, ◌++◌, Bool, true, false, ◌&&◌, ◌||◌, eqb, refl, ap, ◌∙◌}
 use Rattle.std.specs.List.{list_any, list_all}
-use Rattle.std.proofs.lemmas.Bool.{eqb-true, ne_eqb}
+use Rattle.std.proofs.lemmas.Bool.{eqb-true}
 use Rattle.std.proofs.lemmas.List.Folds.{list_any-append}
-use Rattle.iscsi_session.specs.Steps.{Step, Judging, Taking, Asking, Answering, Doing, is_step, is_of, is_doing, is_serving}
+use Rattle.iscsi_session.specs.Steps.{Step, Judging, Taking, Asking, Answering, Doing, is_step, is_doing, is_serving}
 use Rattle.iscsi_target.specs.History.{Point, Arriving, Before, AtEnd, Mark, is_point, is_same, is_within}
 use Rattle.iscsi_target.specs.World.{is_marked}
 use Rattle.iscsi_target.specs.Serving.{Agrees, is_of_frame, has_step, is_done_at, is_taken_at}
@@ -13,41 +13,17 @@ use Rattle.iscsi_target.proofs.Choices.{and_true, and_false, eqb_self}
 
 step_true : (a b : Step) → is_step a b ≡ true → a ≡ b
 step_true (Judging p) (Judging q) e = ap Judging (eqb-true p q e)
-step_true (Judging p) (Taking q j) e = absurd cc
-step_true (Judging p) (Asking q) e = absurd cc
-step_true (Judging p) (Answering q) e = absurd cc
-step_true (Judging p) (Doing q j) e = absurd cc
-step_true (Taking p i) (Judging q) e = absurd cc
 step_true (Taking p i) (Taking q j) e = let both = and_true (eqb p q) (eqb i j) e in cc (eqb-true p q both.0, eqb-true i j both.1)
-step_true (Taking p i) (Asking q) e = absurd cc
-step_true (Taking p i) (Answering q) e = absurd cc
-step_true (Taking p i) (Doing q j) e = absurd cc
-step_true (Asking p) (Judging q) e = absurd cc
-step_true (Asking p) (Taking q j) e = absurd cc
 step_true (Asking p) (Asking q) e = ap Asking (eqb-true p q e)
-step_true (Asking p) (Answering q) e = absurd cc
-step_true (Asking p) (Doing q j) e = absurd cc
-step_true (Answering p) (Judging q) e = absurd cc
-step_true (Answering p) (Taking q j) e = absurd cc
-step_true (Answering p) (Asking q) e = absurd cc
 step_true (Answering p) (Answering q) e = ap Answering (eqb-true p q e)
-step_true (Answering p) (Doing q j) e = absurd cc
-step_true (Doing p i) (Judging q) e = absurd cc
-step_true (Doing p i) (Taking q j) e = absurd cc
-step_true (Doing p i) (Asking q) e = absurd cc
-step_true (Doing p i) (Answering q) e = absurd cc
 step_true (Doing p i) (Doing q j) e = let both = and_true (eqb p q) (eqb i j) e in cc (eqb-true p q both.0, eqb-true i j both.1)
+step_true _ _ e = absurd cc
 
 point_true : (a b : Point) → is_point a b ≡ true → a ≡ b
 point_true (Arriving p) (Arriving q) e = ap Arriving (eqb-true p q e)
-point_true (Arriving p) (Before b) e = absurd cc
-point_true (Arriving p) AtEnd e = absurd cc
-point_true (Before a) (Arriving q) e = absurd cc
 point_true (Before a) (Before b) e = ap Before (step_true a b e)
-point_true (Before a) AtEnd e = absurd cc
-point_true AtEnd (Arriving q) e = absurd cc
-point_true AtEnd (Before b) e = absurd cc
 point_true AtEnd AtEnd e = refl
+point_true _ _ e = absurd cc
 
 step_self : (a : Step) → is_step a a ≡ true
 step_self (Judging p) = eqb_self p
@@ -76,10 +52,6 @@ marked_one c point = rw (same_self (mark_at c point)) refl
 pub marked_none : (c : ℕ) (point : Point) → is_marked [] c point ≡ false
 unfolding is_marked
 marked_none c point = refl
-
-pub marked_elsewhere : (c d : ℕ) (a b : Point) → c ≢ d → is_marked (mark_at c a ∷ []) d b ≡ false
-unfolding is_marked
-marked_elsewhere c d a b differ = rw (ne_eqb c d differ) refl
 
 pub marked_as : (c : ℕ) (a b : Point) → is_marked (mark_at c a ∷ []) c b ≡ is_point a b
 unfolding is_marked
@@ -152,26 +124,15 @@ all_append p (m ∷ a) b x y = let both = and_true (p m) (list_all p a) x in rw 
 
 -- ---- the kinds
 
-abbrev of_step : (Step → Bool) → Mark → Bool
-of_step p mark = has_step p mark.point
-
 apart_steps : (a b : Bool) (point : Point) → (a && has_step is_serving point) ≡ true → (b && has_step is_doing point) ≡ false
-apart_steps a b (Before (Judging p)) e = and_false b
-apart_steps a b (Before (Taking p i)) e = and_false b
-apart_steps a b (Before (Asking p)) e = and_false b
-apart_steps a b (Before (Answering p)) e = and_false b
 apart_steps a b (Before (Doing p i)) e = absurd (cc (e, and_false a))
 apart_steps a b (Arriving p) e = absurd (cc (e, and_false a))
 apart_steps a b AtEnd e = absurd (cc (e, and_false a))
+apart_steps a b _ e = and_false b
 
 steps_apart : (a b : Bool) (point : Point) → (a && has_step is_doing point) ≡ true → (b && has_step is_serving point) ≡ false
-steps_apart a b (Before (Judging p)) e = absurd (cc (e, and_false a))
-steps_apart a b (Before (Taking p i)) e = absurd (cc (e, and_false a))
-steps_apart a b (Before (Asking p)) e = absurd (cc (e, and_false a))
-steps_apart a b (Before (Answering p)) e = absurd (cc (e, and_false a))
 steps_apart a b (Before (Doing p i)) e = and_false b
-steps_apart a b (Arriving p) e = absurd (cc (e, and_false a))
-steps_apart a b AtEnd e = absurd (cc (e, and_false a))
+steps_apart a b _ e = absurd (cc (e, and_false a))
 
 pub taken_done : (place : ℕ) → Apart (is_taken_at place) (is_done_at place)
 taken_done place mark e = apart_steps (is_within place mark.point) (is_within place mark.point) mark.point e
@@ -187,9 +148,8 @@ abbrev pub is_step_at : ℕ → Mark → Bool
 is_step_at place mark = is_within place mark.point && has_step any_step mark.point
 
 wider_step : (p : Step → Bool) (a : Bool) (point : Point) → (a && has_step p point) ≡ true → (a && has_step any_step point) ≡ true
-wider_step p a (Arriving q) e = absurd (cc (e, and_false a))
 wider_step p a (Before step) e = rw (and_true a (p step) e).0 refl
-wider_step p a AtEnd e = absurd (cc (e, and_false a))
+wider_step p a _ e = absurd (cc (e, and_false a))
 
 pub taken_step : (place : ℕ) → Wider (is_taken_at place) (is_step_at place)
 taken_step place mark e = wider_step is_serving (is_within place mark.point) mark.point e
@@ -199,16 +159,3 @@ done_step place mark e = wider_step is_doing (is_within place mark.point) mark.p
 
 pub step_within : (place : ℕ) → Wider (is_step_at place) (is_of_frame place)
 step_within place mark e = (and_true (is_within place mark.point) (has_step any_step mark.point) e).0
-
-of_two : (p q : ℕ) (step : Step) → p ≢ q → is_of p step ≡ true → is_of q step ≡ false
-of_two p q (Judging r) differ e = ne_eqb r q (λ same. differ (sym (eqb-true r p e) ∙ same))
-of_two p q (Taking r i) differ e = ne_eqb r q (λ same. differ (sym (eqb-true r p e) ∙ same))
-of_two p q (Asking r) differ e = ne_eqb r q (λ same. differ (sym (eqb-true r p e) ∙ same))
-of_two p q (Answering r) differ e = ne_eqb r q (λ same. differ (sym (eqb-true r p e) ∙ same))
-of_two p q (Doing r i) differ e = ne_eqb r q (λ same. differ (sym (eqb-true r p e) ∙ same))
-
--- points of two frames are two points
-pub within_two : (p q : ℕ) (point : Point) → p ≢ q → is_within p point ≡ true → is_within q point ≡ false
-within_two p q (Arriving r) differ e = ne_eqb r q (λ same. differ (sym (eqb-true r p e) ∙ same))
-within_two p q (Before step) differ e = of_two p q step differ e
-within_two p q AtEnd differ e = absurd cc

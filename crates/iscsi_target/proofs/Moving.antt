@@ -7,17 +7,16 @@ use Rattle.scsi_unit.specs.Units.{UnitStates, AreSound, AreSure, join}
 use Rattle.std.proofs.lemmas.List.Quantifiers.{position-Some}
 use Rattle.iscsi_pdu.specs.Frames.{Frame}
 use Rattle.iscsi_pdu.specs.declared.answer.Answer.TheVariants as answers
-use Rattle.iscsi_login.specs.LoginState.{LoginState}
+use Rattle.iscsi_login.specs.LoginState.{LoginState, IsTargetBelow}
 use Rattle.iscsi_login.specs.Session.{is_of, older}
 use Rattle.iscsi_login.specs.Login.{advanced, reply_of}
 use Rattle.iscsi_login.specs.declared.params.Params.{Params}
 use Rattle.iscsi_login.specs.declared.reply.Reply.{Reply}
 use Rattle.iscsi_login.specs.declared.reply.Reply.TheVariants.{GoOn, Full, Refused}
-use Rattle.iscsi_login.specs.LoginState.{IsTargetBelow}
 use Rattle.iscsi_target.specs.World.{left, units_at, with_units, changed_units, lookup_for}
-use Rattle.iscsi_target.specs.Machine.{LinkState, Machine, IsSure, Feeds, link_at, with_link, is_free, is_reading, is_closing, free_link, shut_link, closed, session_in_phase, sessions, is_logging_in, gone_on_link, refused_link, begun_link, shut_older, replied, logged_in, LeadsBack}
-use Rattle.iscsi_target.specs.Bounded.{Adds}
-use Rattle.iscsi_target.specs.Serving.{KeepsHalf, Moves, IsClosed, first_of, first_starved}
+use Rattle.iscsi_target.specs.Machine.{LinkState, Machine, IsSure, Feeds, link_at, with_link, is_free, is_reading, is_closing, free_link, shut_link, closed, session_in_phase, sessions, is_logging_in, gone_on_link, refused_link, begun_link, shut_older, replied, logged_in, ReflectsSoundness}
+use Rattle.iscsi_target.specs.Bounded.{AddsAtMost}
+use Rattle.iscsi_target.specs.Serving.{KeepsHalf, Preserves, IsClosed, first_of, first_starved, ended_unless}
 use Rattle.iscsi_target.specs.declared.fault.Starved.{Starved}
 use Rattle.iscsi_target.specs.declared.phase.Phase.{Phase}
 use Rattle.iscsi_target.specs.declared.phase.Phase.TheVariants as phases
@@ -29,7 +28,7 @@ use Rattle.iscsi_target.proofs.Sound.{set_back, sure_set, closed_back, closed_su
 keeps_same : (link : LinkState) → is_reading link.phase ≡ true → KeepsHalf link.half link
 keeps_same link r = record { reading = λ e. refl; idle = λ e. absurd (cc (r, e)) }
 
-pub moves_none : (b : ℕ) (machine : Machine) → Moves b None machine machine
+pub moves_none : (b : ℕ) (machine : Machine) → Preserves b None machine machine
 moves_none b machine = record {
   back = λ target sound. sound;
   sure = λ sure. sure;
@@ -62,10 +61,9 @@ feeds_then k given now after a b = record {
 }
 
 closing_idle : (phase : Phase) → is_closing phase ≡ true → is_reading phase ≡ false
-closing_idle phases.Free e = refl
 closing_idle (phases.Login login) e = absurd cc
 closing_idle (phases.FullFeature session) e = absurd cc
-closing_idle phases.Closing e = refl
+closing_idle _ e = refl
 
 -- one that is closing stays so
 pub closed_then : (x y : Option ℕ) (b : ℕ) (now after : Machine) → IsClosed x now → Feeds b now after → IsClosed y after → IsClosed (first_of x y) after
@@ -77,7 +75,7 @@ pub closing_if : (r : Result (Unit {0}) Starved) (machine : Machine) → IsClose
 closing_if (Ok u) machine closed_ = tt
 closing_if (Err e) machine closed_ = closed_
 
-pub moves_then : (b : ℕ) (x y : Option ℕ) (given now after : Machine) → Moves b x given now → Moves b y now after → Moves b (first_of x y) given after
+pub moves_then : (b : ℕ) (x y : Option ℕ) (given now after : Machine) → Preserves b x given now → Preserves b y now after → Preserves b (first_of x y) given after
 moves_then k x y given now after a b = record {
   back = λ target sound. a.back target (b.back target sound);
   sure = λ sure. b.sure (a.sure sure);
@@ -89,15 +87,12 @@ moves_then k x y given now after a b = record {
   eases = λ d other. adds_then 0 0 (link_at given d) (link_at now d) (link_at after d) (a.eases d other) (b.eases d other);
 }
 
-pub moves_as : (b : ℕ) (x : Option ℕ) (given now after : Machine) → after ≡ now → Moves b x given now → Moves b x given after
-moves_as b x given now after e m = let P : Machine → Type 0 = λ after. Moves b x given after in subst P (sym e) m
-
-pub moves_from : (b : ℕ) (x : Option ℕ) (given now after : Machine) → given ≡ now → Moves b x now after → Moves b x given after
-moves_from b x given now after e m = let P : Machine → Type 0 = λ given. Moves b x given after in subst P (sym e) m
+pub moves_as : (b : ℕ) (x : Option ℕ) (given now after : Machine) → after ≡ now → Preserves b x given now → Preserves b x given after
+moves_as b x given now after e m = let P : Machine → Type 0 = λ after. Preserves b x given after in subst P (sym e) m
 
 -- however the first starved is written
-pub moves_starved : (b : ℕ) (x y : Option ℕ) (given after : Machine) → x ≡ y → Moves b x given after → Moves b y given after
-moves_starved b x y given after e m = let P : Option ℕ → Type 0 = λ x. Moves b x given after in subst P e m
+pub moves_starved : (b : ℕ) (x y : Option ℕ) (given after : Machine) → x ≡ y → Preserves b x given after → Preserves b y given after
+moves_starved b x y given after e m = let P : Option ℕ → Type 0 = λ x. Preserves b x given after in subst P e m
 
 -- ---- one connection changes
 
@@ -108,10 +103,9 @@ pub record Changes (old new : LinkState) : Type 0 where
   pub waits : (more : List ℕ) × (new.waiting ≡ old.waiting ++ more)
 
 pub reading_open : (phase : Phase) → is_reading phase ≡ true → is_free phase ≡ false
-reading_open phases.Free e = absurd cc
 reading_open (phases.Login login) e = refl
 reading_open (phases.FullFeature session) e = refl
-reading_open phases.Closing e = absurd cc
+reading_open _ e = absurd cc
 
 pub link_set : (machine : Machine) (units : List UnitStates) (c : ℕ) (link : LinkState) → c < length machine.links
     → link_at (record (with_link machine c link) { units = units }) c ≡ link
@@ -156,9 +150,9 @@ changes_feeds b machine units c link lt ch own =
 
 pub changes_moves : (b : ℕ) (machine : Machine) (units : List UnitStates) (c : ℕ) (link : LinkState) → c < length machine.links
     → Changes (link_at machine c) link → IsOwn b machine c
-    → KeepsHalf (link_at machine c).half link → length units ≡ length machine.units → (c ≢ b → Adds 0 (link_at machine c) link)
-    → let after : Machine = record (with_link machine c link) { units = units } in LeadsBack machine after
-    → (IsSure machine → IsSure after) → Moves b None machine after
+    → KeepsHalf (link_at machine c).half link → length units ≡ length machine.units → (c ≢ b → AddsAtMost 0 (link_at machine c) link)
+    → let after : Machine = record (with_link machine c link) { units = units } in ReflectsSoundness machine after
+    → (IsSure machine → IsSure after) → Preserves b None machine after
 changes_moves b machine units c link lt ch own half count light back sure = record {
   back = back;
   sure = sure;
@@ -170,8 +164,8 @@ changes_moves b machine units c link lt ch own half count light back sure = reco
     | inr differ ↦ subst (KeepsHalf (link_at machine d).half) (sym (link_other machine units c d link differ.1)) (keeps_same (link_at machine d) reads)
   ];
   eases = λ d other. elim (eqb_tells d c) [
-    | inl same ↦ rw same.1 (subst (Adds 0 (link_at machine c)) (sym (link_set machine units c link lt)) (light (λ here. other (same.1 ∙ here))))
-    | inr differ ↦ subst (Adds 0 (link_at machine d)) (sym (link_other machine units c d link differ.1)) (adds_none 0 (link_at machine d))
+    | inl same ↦ rw same.1 (subst (AddsAtMost 0 (link_at machine c)) (sym (link_set machine units c link lt)) (light (λ here. other (same.1 ∙ here))))
+    | inr differ ↦ subst (AddsAtMost 0 (link_at machine d)) (sym (link_other machine units c d link differ.1)) (adds_none 0 (link_at machine d))
   ];
 }
 
@@ -184,7 +178,7 @@ shut_half : (half : List ℕ) (link : LinkState) → KeepsHalf half (shut_link l
 shut_half half link = record { reading = λ e. absurd cc; idle = λ e. refl }
 
 shut_moves : (b : ℕ) (machine : Machine) (c : ℕ) → c < length machine.links → is_reading (link_at machine c).phase ≡ true → IsOwn b machine c
-    → Moves b None machine (with_link machine c (shut_link (link_at machine c)))
+    → Preserves b None machine (with_link machine c (shut_link (link_at machine c)))
 shut_moves b machine c lt r own =
     changes_moves b machine machine.units c (shut_link (link_at machine c)) lt (shuts (link_at machine c) r) own
     (shut_half (link_at machine c).half (link_at machine c)) refl (λ other. adds_shut 0 (link_at machine c)) (λ target sound. sound) (λ sure. sure)
@@ -202,7 +196,7 @@ unfolding closed
 closed_keeps machine c lt r d reads = (shut_moves c machine c lt r (own_self c machine)).keeps d reads
 
 closed_eases : (b : ℕ) (machine : Machine) (c : ℕ) → c < length machine.links → is_reading (link_at machine c).phase ≡ true → IsOwn b machine c → (d : ℕ) → d ≢ b
-    → Adds 0 (link_at machine d) (link_at (closed machine c) d)
+    → AddsAtMost 0 (link_at machine d) (link_at (closed machine c) d)
 unfolding closed
 closed_eases b machine c lt r own d other = (shut_moves b machine c lt r own).eases d other
 
@@ -212,7 +206,7 @@ closed_closing machine c lt = ap (λ (l : LinkState). is_closing l.phase) (get_o
 
 closed_when : (x : Option ℕ) (b : ℕ) (machine : Machine) (c : ℕ) → c < length machine.links → is_reading (link_at machine c).phase ≡ true
     → IsOwn b machine c → IsClosed x (closed machine c)
-    → Moves b x machine (closed machine c)
+    → Preserves b x machine (closed machine c)
 closed_when x b machine c lt r own closing = record {
   back = closed_back machine c;
   sure = λ sure. closed_sure machine c sure;
@@ -224,17 +218,21 @@ closed_when x b machine c lt r own closing = record {
 }
 
 pub closed_moves : (b : ℕ) (machine : Machine) (c : ℕ) → c < length machine.links → is_reading (link_at machine c).phase ≡ true → IsOwn b machine c
-    → Moves b None machine (closed machine c)
+    → Preserves b None machine (closed machine c)
 closed_moves b machine c lt r own = closed_when None b machine c lt r own tt
 
 -- an allocation failed
 pub starved_moves : (b : ℕ) (machine : Machine) (c : ℕ) → c < length machine.links → is_reading (link_at machine c).phase ≡ true → IsOwn b machine c
-    → Moves b (Some c) machine (closed machine c)
+    → Preserves b (Some c) machine (closed machine c)
 starved_moves b machine c lt r own = closed_when (Some c) b machine c lt r own (closed_closing machine c lt)
 
 pub closed_count : (machine : Machine) (c : ℕ) → length (closed machine c).links ≡ length machine.links
 unfolding closed
 closed_count machine c = length-set machine.links c (shut_link (link_at machine c))
+
+pub ended_units : {E : Type 0} (r : Result Bool E) (c : ℕ) (machine : Machine) → length (ended_unless r c machine).units ≡ length machine.units
+ended_units (Ok true) c machine = refl
+ended_units _ c machine = closed_units machine c
 
 -- ---- a session's link
 
@@ -248,7 +246,7 @@ session_half old new reads half = record { reading = λ e. half; idle = λ e. ab
 -- the units of a session's target were worked on
 pub units_back : (machine : Machine) (links : List LinkState) (target : Option ℕ) (units : UnitStates) → IsTargetBelow (length machine.units) target
     → (AreSound units → AreSound (units_at target machine.units))
-    → let after : Machine = record machine { units = with_units target units machine.units; links = links } in LeadsBack machine after
+    → let after : Machine = record machine { units = with_units target units machine.units; links = links } in ReflectsSoundness machine after
 units_back machine links None units lt back at sound = sound
 units_back machine links (Some target) units lt back at sound = set_back machine.units target units lt back at sound
 
@@ -264,12 +262,6 @@ length_with (Some target) units all = length-set all target units
 
 -- ---- a Login request
 
-logs_open : (phase : Phase) → is_logging_in phase ≡ true → is_reading phase ≡ true
-logs_open phases.Free e = absurd cc
-logs_open (phases.Login login) e = refl
-logs_open (phases.FullFeature session) e = absurd cc
-logs_open phases.Closing e = absurd cc
-
 -- what neither adds nor takes away soundness
 plain_moves : (machine : Machine) (units : List UnitStates) (c : ℕ) (link : LinkState) → c < length machine.links → Changes (link_at machine c) link
     → KeepsHalf (link_at machine c).half link
@@ -280,7 +272,7 @@ plain_moves machine units c link lt ch half d reads =
     (λ other. absurd (other refl)) (λ target sound. sound) (λ sure. sure)).keeps d reads
 
 plain_eases : (machine : Machine) (units : List UnitStates) (c : ℕ) (link : LinkState) → c < length machine.links → Changes (link_at machine c) link
-    → KeepsHalf (link_at machine c).half link → (d : ℕ) → d ≢ c → Adds 0 (link_at machine d) (link_at (record (with_link machine c link) { units = units }) d)
+    → KeepsHalf (link_at machine c).half link → (d : ℕ) → d ≢ c → AddsAtMost 0 (link_at machine d) (link_at (record (with_link machine c link) { units = units }) d)
 plain_eases machine units c link lt ch half d other =
     (changes_moves c (record machine { units = units }) units c link lt ch (own_self c (record machine { units = units })) half refl
     (λ differs. absurd (differs refl)) (λ target sound. sound) (λ sure. sure)).eases d other
@@ -289,7 +281,7 @@ plain_eases machine units c link lt ch half d other =
 pub record Alters (b : ℕ) (given after : Machine) : Type 0 where
   pub feeds : Feeds b given after
   pub keeps : (c : ℕ) → is_reading (link_at given c).phase ≡ true → KeepsHalf (link_at given c).half (link_at after c)
-  pub eases : (d : ℕ) → d ≢ b → Adds 0 (link_at given d) (link_at after d)
+  pub eases : (d : ℕ) → d ≢ b → AddsAtMost 0 (link_at given d) (link_at after d)
 
 alters_then : (b : ℕ) (given now after : Machine) → Alters b given now → Alters b now after → Alters b given after
 alters_then k given now after a b = record {
@@ -316,16 +308,12 @@ is_of_none session None e n = absurd cc
 is_of_none session (Some x) e n = absurd cc
 
 session_reads : (session : Params) (phase : Phase) → is_of session.nexus session.target (session_in_phase phase) ≡ true → is_reading phase ≡ true
-session_reads session phases.Free e = absurd (is_of_none session None e refl)
-session_reads session (phases.Login login) e = absurd (is_of_none session None e refl)
 session_reads session (phases.FullFeature other) e = refl
-session_reads session phases.Closing e = absurd (is_of_none session None e refl)
+session_reads session _ e = absurd (is_of_none session None e refl)
 
 session_past_login : (session : Params) (phase : Phase) → is_of session.nexus session.target (session_in_phase phase) ≡ true → is_logging_in phase ≡ false
-session_past_login session phases.Free e = refl
 session_past_login session (phases.Login login) e = absurd (is_of_none session None e refl)
-session_past_login session (phases.FullFeature other) e = refl
-session_past_login session phases.Closing e = refl
+session_past_login session _ e = refl
 
 older_reads : (machine : Machine) (session : Params) (d : ℕ) → older session (sessions machine.links) ≡ Some d → (d < length machine.links)
     × (is_of session.nexus session.target (session_in_phase (link_at machine d).phase) ≡ true)
@@ -380,7 +368,7 @@ logged_in_alters machine c login request lt reads =
     machine lt reads
 
 pub logged_in_moves : (machine : Machine) (c : ℕ) (login : LoginState) (request : Frame) → c < length machine.links
-    → is_reading (link_at machine c).phase ≡ true → Moves c None machine (logged_in machine c login request)
+    → is_reading (link_at machine c).phase ≡ true → Preserves c None machine (logged_in machine c login request)
 logged_in_moves machine c login request lt reads =
     let a = logged_in_alters machine c login request lt reads in
     record {

@@ -22,24 +22,9 @@ use Rattle.iscsi_login.specs.Session.{older}
 use Rattle.iscsi_login.specs.Login.{advanced, reply_of}
 use Rattle.iscsi_login.specs.declared.params.Params.{Params}
 use Rattle.iscsi_login.specs.declared.reply.Reply.{Reply}
-use Rattle.iscsi_login.specs.declared.reply.Reply.TheVariants.{GoOn, Full, Refused}
+use Rattle.iscsi_login.specs.declared.reply.Reply.TheVariants.{Full}
 use Rattle.iscsi_target.specs.World.{left, changed_units, lookup_for, function_of, told_by, reset_by}
-use Rattle.iscsi_target.specs.Machine.{Machine, IsSound, IsSoundAt, LeadsBack, IsSure, link_at, with_link, begun_link, closed, session_in_phase, sessions, shut_older, begun, replied, logged_in}
-
--- one target's units are set to others, which are sound only where they were
-pub sound_set : (all : List UnitStates) (at : ℕ) (units : UnitStates) → (at < length all → AreSound units → AreSound (slice_index_or all at []))
-    → All AreSound (slice_set all at units) → All AreSound all
-sound_set all at units back sound k d lt = elim (eqb_tells k at) [
-  | inl same ↦ (
-      let below : at < length all = subst (λ (n : ℕ). n < length all) same.1 lt in
-      let here : get_or (set all at units) at d ≡ units = get_or-set_same all at units d below in
-      let after : AreSound units = subst AreSound here (sound at d (omega (arith, below, length-set all at units))) in
-      let before : AreSound (get_or all at d) = subst AreSound (get_or_default all at [] d below) (back below after) in
-      subst (λ (n : ℕ). AreSound (get_or all n d)) (sym same.1) before)
-  | inr differ ↦ (
-      let there : get_or (set all at units) k d ≡ get_or all k d = get_or-set_other all at k units d differ.1 in
-      subst AreSound there (sound k d (omega (arith, lt, length-set all at units))))
-]
+use Rattle.iscsi_target.specs.Machine.{Machine, IsSound, IsSoundAt, ReflectsSoundness, IsSure, link_at, with_link, begun_link, closed, session_in_phase, sessions, shut_older, begun, replied, logged_in}
 
 -- ---- one target, and all
 
@@ -51,7 +36,7 @@ each_sound (units ∷ all) sound (suc target) = each_sound all (λ i d lt. sound
 pub sound_at : (machine : Machine) → IsSound machine → (target : ℕ) → IsSoundAt target machine
 sound_at machine sound target = each_sound machine.units sound target
 
-pub sound_back : (old new : Machine) → LeadsBack old new → IsSound new → IsSound old
+pub sound_back : (old new : Machine) → ReflectsSoundness old new → IsSound new → IsSound old
 sound_back old new back sound = λ i d lt. subst AreSound (get_or_default old.units i [] d lt) (back i (sound_at new sound i))
 
 -- one target's units are set to others, which are sound only where they were
@@ -98,9 +83,8 @@ media_begun session answer c machine =
     ∙ media_changed (join session.nexus) session.target machine.units (λ units. media_map (joined_unit session.nexus) units (λ unit. refl))
 
 media_replied : (reply : Reply) (login : LoginState) (c : ℕ) (machine : Machine) → map media (replied reply login c machine).units ≡ map media machine.units
-media_replied (GoOn response) login c machine = refl
-media_replied (Refused response) login c machine = refl
 media_replied (Full response session) login c machine = media_begun session (answers.LoginResponse response) c machine
+media_replied _ login c machine = refl
 
 media_logged_in : (machine : Machine) (c : ℕ) (login : LoginState) (request : Frame)
     → map media (logged_in machine c login request).units ≡ map media machine.units
@@ -134,27 +118,14 @@ media_where lun f units same = media_map (where_named lun f) units (λ unit. med
 
 media_told : (kind : TaskFunction) (lun : List ℕ) (nexus : NexusName) (units : UnitStates) → media (told_by kind lun nexus units) ≡ media units
 unfolding raised_at
-media_told functions.AbortTask lun nexus units = refl
-media_told functions.AbortTaskSet lun nexus units = refl
-media_told functions.ClearAca lun nexus units = refl
 media_told functions.ClearTaskSet lun nexus units = media_where lun (raised_unit nexus CommandsClearedByAnotherInitiator) units (λ unit. refl)
-media_told functions.LogicalUnitReset lun nexus units = refl
-media_told functions.TargetWarmReset lun nexus units = refl
-media_told functions.TargetColdReset lun nexus units = refl
-media_told functions.TaskReassign lun nexus units = refl
-media_told (functions.Other n) lun nexus units = refl
+media_told _ lun nexus units = refl
 
 media_reset : (kind : TaskFunction) (lun : List ℕ) (units : UnitStates) → media (reset_by kind lun units) ≡ media units
 unfolding raised_for_all_at raised_everywhere
-media_reset functions.AbortTask lun units = refl
-media_reset functions.AbortTaskSet lun units = refl
-media_reset functions.ClearAca lun units = refl
-media_reset functions.ClearTaskSet lun units = refl
 media_reset functions.LogicalUnitReset lun units = media_where lun (raised_unit_for_all BusDeviceResetFunctionOccurred) units (λ unit. refl)
 media_reset functions.TargetWarmReset lun units = media_map (raised_unit_for_all BusDeviceResetFunctionOccurred) units (λ unit. refl)
-media_reset functions.TargetColdReset lun units = refl
-media_reset functions.TaskReassign lun units = refl
-media_reset (functions.Other n) lun units = refl
+media_reset _ lun units = refl
 
 -- ---- so what holds of each medium stays
 
@@ -189,10 +160,6 @@ media_target : (header : List ℕ) (target : ℕ) (all : List UnitStates)
 media_target header target all = media_changed (reset_by (function_of header) (lun_field header)) (Some target) all
     (λ units. media_reset (function_of header) (lun_field header) units)
 
-pub reset_sound : (header : List ℕ) (target : ℕ) (machine : Machine)
-    → All AreSound (changed_units (reset_by (function_of header) (lun_field header)) (Some target) machine.units) → IsSound machine
-reset_sound header target machine sound = over_media IsSoundDevice _ machine.units (media_target header target machine.units) sound
-
 pub reset_back : (header : List ℕ) (target : ℕ) (machine : Machine) (at : ℕ)
     → AreSound (slice_index_or (changed_units (reset_by (function_of header) (lun_field header)) (Some target) machine.units) at []) → IsSoundAt at machine
 reset_back header target machine at sound = media_back _ machine.units (media_target header target machine.units) at sound
@@ -219,17 +186,13 @@ told_sure header nexus units sure = over_units IsSureDevice units _ (sym (media_
 pub closed_sound : (machine : Machine) (c : ℕ) → IsSound (closed machine c) → IsSound machine
 closed_sound machine c sound = over_media IsSoundDevice (closed machine c).units machine.units (media_closed machine c) sound
 
-pub closed_back : (machine : Machine) (c : ℕ) → LeadsBack machine (closed machine c)
+pub closed_back : (machine : Machine) (c : ℕ) → ReflectsSoundness machine (closed machine c)
 closed_back machine c target sound = media_back (closed machine c).units machine.units (media_closed machine c) target sound
 
 pub closed_sure : (machine : Machine) (c : ℕ) → IsSure machine → IsSure (closed machine c)
 closed_sure machine c sure = over_media IsSureDevice machine.units (closed machine c).units (sym (media_closed machine c)) sure
 
-pub logged_in_sound : (machine : Machine) (c : ℕ) (login : LoginState) (request : Frame) → IsSound (logged_in machine c login request) → IsSound machine
-logged_in_sound machine c login request sound =
-    over_media IsSoundDevice (logged_in machine c login request).units machine.units (media_logged_in machine c login request) sound
-
-pub logged_in_back : (machine : Machine) (c : ℕ) (login : LoginState) (request : Frame) → LeadsBack machine (logged_in machine c login request)
+pub logged_in_back : (machine : Machine) (c : ℕ) (login : LoginState) (request : Frame) → ReflectsSoundness machine (logged_in machine c login request)
 logged_in_back machine c login request target sound =
     media_back (logged_in machine c login request).units machine.units (media_logged_in machine c login request) target sound
 

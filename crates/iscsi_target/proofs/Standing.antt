@@ -13,7 +13,7 @@ use Rattle.scsi_unit.specs.Units.{UnitStates}
 use Rattle.iscsi_login.specs.Directory.{KnownTargets}
 use Rattle.iscsi_session.specs.Comings.{Coming}
 use Rattle.iscsi_target.specs.History.{Open, Gone, Happening, History, plain, connection_limit}
-use Rattle.iscsi_target.specs.Life.{Life, Phase, LoggingIn, FullFeature, Closing, Over, born, is_over, out_of}
+use Rattle.iscsi_target.specs.Life.{Life, Phase, Over, born, is_over, out_of}
 use Rattle.iscsi_target.specs.World.{Setting, World, present, session_of, left, end, begun_event, happened, new_world, world}
 use Rattle.iscsi_target.specs.Output.{out_now}
 use Rattle.iscsi_target.specs.Machine.{LinkState, Machine, link_at, with_link, closed, is_free, is_open_at, free_link, opened_link, shut_link, sent_link, session_in_phase, new_machine}
@@ -82,10 +82,8 @@ count_stands s sent w machine h = count_there s sent (λ c. half_of (present c w
 -- ---- which connections are open
 
 over_is_free : (directory : KnownTargets) (life : Life) (phase : Phase) → is_over phase ≡ false → is_free (phase_for directory life phase) ≡ false
-over_is_free directory life LoggingIn e = refl
-over_is_free directory life (FullFeature session) e = refl
-over_is_free directory life Closing e = refl
 over_is_free directory life Over e = absurd cc
+over_is_free directory life _ e = refl
 
 pub present_open : (directory : KnownTargets) (c : ℕ) (w : World) (life : Life) → present c w ≡ Some life → is_free (phase_for directory life life.phase) ≡ false
 present_open directory c w life e = over_is_free directory life life.phase (not_true (is_over life.phase)
@@ -198,10 +196,6 @@ new_stands s = record {
 pub nothing_long : is_long [] ≡ false
 unfolding is_long
 nothing_long = refl
-
-no_answers : (c : ℕ) → out_of (born c) ≡ []
-unfolding out_of
-no_answers c = refl
 
 born_link : (directory : KnownTargets) (c : ℕ) → link_of directory 0 (half_of (Some (born c))) (Some (born c)) ≡ opened_link c
 unfolding remembered out_of

@@ -14,16 +14,17 @@ use Rattle.iscsi_login.specs.Directory.{KnownTargets}
 use Rattle.iscsi_target.specs.History.{Point, Arriving, Before, AtEnd, Mark, Arrival, Whole, TooLong, arrivals, is_within, connection_limit}
 use Rattle.iscsi_target.specs.Life.{Life, reads}
 use Rattle.iscsi_target.specs.World.{Setting, World, present, reads_life, close, reaching, arrive}
-use Rattle.iscsi_target.specs.Machine.{LinkState, Machine, IsSure, Feeds, KeepsPart, link_at, with_link, is_reading, closed, free_link, shut_link, GivesFrame, LeadsBack}
-use Rattle.iscsi_target.specs.Bounded.{Adds}
+use Rattle.iscsi_target.specs.Machine.{LinkState, Machine, Feeds, KeepsPart, link_at, with_link, is_reading, closed, free_link, shut_link, GivesFrame}
+use Rattle.iscsi_target.specs.Bounded.{AddsAtMost}
 use Rattle.iscsi_target.specs.Stands.{link_of}
-use Rattle.iscsi_target.specs.Serving.{Serves, IsClosed, Does, is_of_frame, has_place, place_of, is_among, first_of, with_half, KeepsHalf, Moves, Takes, TakesOne, TakesSome, TakesAll}
+use Rattle.iscsi_target.specs.Serving.{Serves, Does, is_of_frame, has_place, place_of, is_among, first_of, with_half, KeepsHalf, Preserves, Takes, Leaves, TakesOne, TakesSome, TakesAll}
 use Rattle.iscsi_target.proofs.Arrivals.{long_end, fold-places}
 use Rattle.iscsi_target.proofs.Choices.{eqb_self, cond_true, cond_false, and_true, and_false}
 use Rattle.iscsi_target.proofs.Linked.{link_is, reads_there, some_reads, serves_one, serves_as, serves_world, serves_reaching, closes, present-close, present-reaching, units_with}
 use Rattle.iscsi_target.proofs.Standing.{nothing_long, machine_same}
 use Rattle.iscsi_target.proofs.Marks.{Apart, Wider, all_wider}
-use Rattle.iscsi_target.proofs.Keeping.{on-arrive}
+use Rattle.iscsi_target.proofs.Walks.{any_arrival, on-arrive}
+use Rattle.iscsi_target.proofs.Keeping.{goes}
 use Rattle.iscsi_target.proofs.Doing.{Act, Halves, does_nothing, does_then}
 use Rattle.iscsi_target.proofs.Comings.{comings_close}
 use Rattle.iscsi_target.proofs.Frames.{idle, arrived, starves}
@@ -121,17 +122,26 @@ closed_idle : (machine : Machine) (c : ℕ) → c < length machine.links → is_
 unfolding closed
 closed_idle machine c lt = ap (λ (l : LinkState). is_reading l.phase) (get_or-set_same machine.links c (shut_link (link_at machine c)) free_link lt)
 
+halved_link : (old given : Machine) (c : ℕ) (half : List ℕ) → c < connection_limit → length old.links ≡ connection_limit
+    → given ≡ with_link old c (record (link_at old c) { half = half }) → link_at given c ≡ record (link_at old c) { half = half }
+halved_link old given c half lt count is = ap (λ (m : Machine). link_at m c) is
+    ∙ get_or-set_same old.links c (record (link_at old c) { half = half }) free_link (omega (arith, lt, count))
+
+pub halved_reads : (old given : Machine) (c : ℕ) (half : List ℕ) → c < connection_limit → length old.links ≡ connection_limit
+    → given ≡ with_link old c (record (link_at old c) { half = half }) → is_reading (link_at old c).phase ≡ true
+    → is_reading (link_at given c).phase ≡ true
+halved_reads old given c half lt count is r = ap (λ (l : LinkState). is_reading l.phase) (halved_link old given c half lt count is) ∙ r
+
 -- a frame that was given
 pub takes_frame : (old given new : Machine) (c : ℕ) (frame : Frame) (starved : Option ℕ) → c < connection_limit
     → length old.links ≡ connection_limit → is_reading (link_at old c).phase ≡ true
     → GivesFrame frame (link_at old c).half (link_at given c).half → given ≡ with_link old c (record (link_at old c) { half = (link_at given c).half })
-    → Takes c frame starved given new → Moves c starved given new → KeepsPart c given new → Adds 1 (link_at given c) (link_at new c)
+    → Takes c frame starved given new → Preserves c starved given new → KeepsPart c given new → AddsAtMost 1 (link_at given c) (link_at new c)
     → TakesOne c starved old new
 takes_frame old given new c frame starved lt count r gives is takes moves part loads =
     let more = (link_at given c).half in
-    let link : link_at given c ≡ record (link_at old c) { half = more } = ap (λ (m : Machine). link_at m c) is
-    ∙ get_or-set_same old.links c (record (link_at old c) { half = more }) free_link (omega (arith, count)) in
-    let reads_given : is_reading (link_at given c).phase ≡ true = ap (λ (l : LinkState). is_reading l.phase) link ∙ r in
+    let link = halved_link old given c more lt count is in
+    let reads_given = halved_reads old given c more lt count is r in
     let fed : Feeds c old given = (let P : Machine → Type 0 = λ m. Feeds c old m in subst P (sym is)
     (changes_feeds c old old.units c (record (link_at old c) { half = more }) (omega (arith, count)) (halving (link_at old c) more r) (own_self c old))) in
     record {
@@ -153,17 +163,32 @@ takes_frame old given new c frame starved lt count r gives is takes moves part l
             (serves_as s sent (with_half c more half) w (with_link old c (record (link_at old c) { half = more })) given is
             (rehalved s sent half w old c more lt r h));
       };
-      back = λ target sound. subst (λ (us : List UnitStates). AreSound (slice_index_or us target [])) (ap (λ (m : Machine). m.units) is)
-          (moves.back target sound);
-      sure = λ sure. moves.sure (subst (λ (us : List UnitStates). All AreSure us) (sym (ap (λ (m : Machine). m.units) is)) sure);
-      feeds = feeds_then c old given new fed moves.feeds;
-      closing = moves.closing;
-      part = part_then c old given new reads_given (part_as c old (with_link old c (record (link_at old c) { half = more })) given is
-          (part_halved old c more (omega (arith, count)))) part;
-      eases = λ d other. subst (λ (l : LinkState). Adds 0 l (link_at new d)) (ap (λ (m : Machine). link_at m d) is
-          ∙ link_other old old.units c d (record (link_at old c) { half = more }) other) (moves.eases d other);
-      loads = halved_adds 1 (link_at old c) (link_at new c) more (subst (λ (l : LinkState). Adds 1 l (link_at new c)) link loads);
+      leaves = record {
+        back = λ target sound. subst (λ (us : List UnitStates). AreSound (slice_index_or us target [])) (ap (λ (m : Machine). m.units) is)
+            (moves.back target sound);
+        sure = λ sure. moves.sure (subst (λ (us : List UnitStates). All AreSure us) (sym (ap (λ (m : Machine). m.units) is)) sure);
+        feeds = feeds_then c old given new fed moves.feeds;
+        closing = moves.closing;
+        part = part_then c old given new reads_given (part_as c old (with_link old c (record (link_at old c) { half = more })) given is
+            (part_halved old c more (omega (arith, count)))) part;
+        eases = λ d other. subst (λ (l : LinkState). AddsAtMost 0 l (link_at new d)) (ap (λ (m : Machine). link_at m d) is
+            ∙ link_other old old.units c d (record (link_at old c) { half = more }) other) (moves.eases d other);
+        loads = halved_adds 1 (link_at old c) (link_at new c) more (subst (λ (l : LinkState). AddsAtMost 1 l (link_at new c)) link loads);
+      };
     }
+
+-- it is closed
+closes_leaves : (c : ℕ) (starved : Option ℕ) (old new : Machine) → c < length old.links → new ≡ closed old c → Preserves c starved old new
+    → Leaves c 1 starved old new
+closes_leaves c starved old new lt is moves = record {
+  back = moves.back;
+  sure = moves.sure;
+  feeds = moves.feeds;
+  closing = moves.closing;
+  part = part_as c old (closed old c) new is (part_closed old c lt);
+  eases = moves.eases;
+  loads = closed_loads 1 old new c lt is;
+}
 
 -- a header that names too much data
 pub takes_long : (old new : Machine) (c : ℕ) → c < connection_limit → length old.links ≡ connection_limit → is_reading (link_at old c).phase ≡ true
@@ -190,13 +215,7 @@ takes_long old new c lt count r long is =
                 (serves_reaching s sent half w old c (Arriving place ∷ []) h) at))),
             ap (λ (u : World). u.comings) step ∙ comings_close c v,
           )));
-      back = moves.back;
-      sure = moves.sure;
-      feeds = moves.feeds;
-      closing = moves.closing;
-      part = part_as c old (closed old c) new is (part_closed old c below);
-      eases = moves.eases;
-      loads = closed_loads 1 old new c below is;
+      leaves = closes_leaves c None old new below is moves;
     }
 
 -- an allocation failed before a frame was given
@@ -228,13 +247,7 @@ takes_none old new c lt count r whole is =
             let v = arrive s marks c w (place, Whole (first_frame half)) in
             (halves_idle s sent bytes v new c more (sym (reads_there s sent bytes v new c lt at.0) ∙ shut_) at.0, at.1, at.2));
       };
-      back = moves.back;
-      sure = moves.sure;
-      feeds = moves.feeds;
-      closing = moves.closing;
-      part = part_as c old (closed old c) new is (part_closed old c below);
-      eases = moves.eases;
-      loads = closed_loads 1 old new c below is;
+      leaves = closes_leaves c (Some c) old new below is moves;
     }
 
 -- ---- so many
@@ -247,13 +260,7 @@ pub record Progress (c : ℕ) (starved : Option ℕ) (first machine : Machine) :
   pub behind : is_reading (link_at machine c).phase ≡ true → rest (link_at first c).half ≡ rest more
   pub kept : KeepsHalf more (link_at machine c)
   pub takes : TakesSome c done more starved first machine
-  pub back : LeadsBack first machine
-  pub sure : IsSure first → IsSure machine
-  pub feeds : Feeds c first machine
-  pub closing : IsClosed starved machine
-  pub part : KeepsPart c first machine
-  pub eases : (d : ℕ) → d ≢ c → Adds 0 (link_at first d) (link_at machine d)
-  pub loads : Adds (length done) (link_at first c) (link_at machine c)
+  pub leaves : Leaves c (length done) starved first machine
 
 keeps_own : (link : LinkState) → is_reading link.phase ≡ true → KeepsHalf link.half link
 keeps_own link r = record { reading = λ e. refl; idle = λ e. absurd (cc (r, e)) }
@@ -277,13 +284,15 @@ begins machine c lt r = record {
   takes = does_nothing (is_among 0) (λ s marks place w. fold (arrive s marks c) w (enumerate_from place [])) (with_half c (link_at machine c).half)
       machine machine
       (λ s sent half w place marks agree h. (own_half s sent half w machine c lt r h, refl));
-  back = λ target sound. sound;
-  sure = λ sure. sure;
-  feeds = (moves_none c machine).feeds;
-  closing = tt;
-  part = part_none c machine;
-  eases = (moves_none c machine).eases;
-  loads = adds_none 0 (link_at machine c);
+  leaves = record {
+    back = λ target sound. sound;
+    sure = λ sure. sure;
+    feeds = (moves_none c machine).feeds;
+    closing = tt;
+    part = part_none c machine;
+    eases = (moves_none c machine).eases;
+    loads = adds_none 0 (link_at machine c);
+  };
 }
 
 -- ---- one more
@@ -392,8 +401,8 @@ takes_more c a b first machine new done more so_far one =
     let both = does_then (is_among n) (λ place. is_of_frame (place + n)) (is_among (n + 1))
     (λ s marks place w. fold (arrive s marks c) w (enumerate_from place done)) (λ s marks place w. arrive s marks c w (place + n, one.arrival))
     (with_half c more) (with_half c one.more) a b first machine new (among_here n) (here_among n)
-    (λ place. among_more n (n + 1) place (omega arith)) (here_more n) one.back
-    (λ s marks place w. on-arrive s marks c w (place + n, one.arrival)) so_far second in
+    (λ place. among_more n (n + 1) place (omega arith)) (here_more n) one.leaves.back
+    (λ s marks place w. on-arrive goes s marks c w (place + n, one.arrival) (any_arrival c (place + n, one.arrival))) so_far second in
     let P : ℕ → Type 0 = λ k. Does (is_among k) (λ s marks place w. fold (arrive s marks c) w (enumerate_from place (done ++ one.arrival ∷ [])))
     (with_half c one.more) (first_of a b) first new in
     subst P (sym count) (record {
@@ -409,6 +418,18 @@ takes_more c a b first machine new done more so_far one =
           (serves_halves s sent (with_half c one.more (with_half c more half)) (with_half c one.more half) _ new (half_twice c more one.more half) at.0, at.1, at.2));
     })
 
+leaves_then : (c n m : ℕ) (a b : Option ℕ) (first machine new : Machine) → is_reading (link_at machine c).phase ≡ true
+    → Leaves c n a first machine → Leaves c m b machine new → Leaves c (n + m) (first_of a b) first new
+leaves_then c n m a b first machine new r p one = record {
+  back = λ target sound. p.back target (one.back target sound);
+  sure = λ sure. one.sure (p.sure sure);
+  feeds = feeds_then c first machine new p.feeds one.feeds;
+  closing = closed_then a b c machine new p.closing one.feeds one.closing;
+  part = part_then c first machine new r p.part one.part;
+  eases = λ d other. adds_then 0 0 (link_at first d) (link_at machine d) (link_at new d) (p.eases d other) (one.eases d other);
+  loads = adds_then n m (link_at first c) (link_at machine c) (link_at new c) p.loads one.loads;
+}
+
 pub goes_on : (c : ℕ) (a b : Option ℕ) (first machine new : Machine) → is_reading (link_at machine c).phase ≡ true → Progress c a first machine
     → TakesOne c b machine new → Progress c (first_of a b) first new
 goes_on c a b first machine new r p one =
@@ -421,14 +442,8 @@ goes_on c a b first machine new r p one =
       behind = λ e. p.behind r ∙ ap rest (sym half) ∙ one.behind e;
       kept = one.kept;
       takes = takes_more c a b first machine new p.done p.more p.takes one;
-      back = λ target sound. p.back target (one.back target sound);
-      sure = λ sure. one.sure (p.sure sure);
-      feeds = feeds_then c first machine new p.feeds one.feeds;
-      closing = closed_then a b c machine new p.closing one.feeds one.closing;
-      part = part_then c first machine new r p.part one.part;
-      eases = λ d other. adds_then 0 0 (link_at first d) (link_at machine d) (link_at new d) (p.eases d other) (one.eases d other);
-      loads = subst (λ (n : ℕ). Adds n (link_at first c) (link_at new c)) (sym (length-append p.done (one.arrival ∷ [])))
-          (adds_then (length p.done) 1 (link_at first c) (link_at machine c) (link_at new c) p.loads one.loads);
+      leaves = subst (λ (n : ℕ). Leaves c n (first_of a b) first new) (sym (length-append p.done (one.arrival ∷ [])))
+          (leaves_then c (length p.done) 1 a b first machine new r p.leaves one.leaves);
     }
 
 -- ---- all
@@ -472,13 +487,15 @@ ends_idle c starved first machine lt r p =
               at.2,
             ));
       };
-      back = p.back;
-      sure = p.sure;
-      feeds = p.feeds;
-      closing = p.closing;
-      part = p.part;
-      eases = p.eases;
-      loads = adds_more (length p.done) (length (arrivals half0)) (link_at first c) (link_at machine c) count p.loads;
+      leaves = record {
+        back = p.leaves.back;
+        sure = p.leaves.sure;
+        feeds = p.leaves.feeds;
+        closing = p.leaves.closing;
+        part = p.leaves.part;
+        eases = p.leaves.eases;
+        loads = adds_more (length p.done) (length (arrivals half0)) (link_at first c) (link_at machine c) count p.leaves.loads;
+      };
     }
 
 -- nothing whole is left
@@ -508,13 +525,7 @@ ends_whole c starved first machine r none p =
       kept = subst (λ (bytes : List ℕ). KeepsHalf bytes (link_at machine c)) (sym left_) p.kept;
       short = λ e. ap is_long left_ ∙ short_by (is_long p.more) p.more refl no;
       takes = subst P (sym all) (subst Q (sym left_) p.takes);
-      back = p.back;
-      sure = p.sure;
-      feeds = p.feeds;
-      closing = p.closing;
-      part = p.part;
-      eases = p.eases;
-      loads = subst (λ (l : List Arrival). Adds (length l) (link_at first c) (link_at machine c)) (sym all) p.loads;
+      leaves = subst (λ (l : List Arrival). Leaves c (length l) starved first machine) (sym all) p.leaves;
     }
 
 -- however the first starved is written

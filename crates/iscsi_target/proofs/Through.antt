@@ -5,7 +5,7 @@ use Rattle.iscsi_session.specs.Comings.{Coming, IsCalm}
 use Rattle.iscsi_target.specs.History.{Event, Open, Bytes, Gone, Happening, History, Mark, happening, plain, open_after}
 use Rattle.iscsi_target.specs.Isolation.{AreUnmarked, AreCalm}
 use Rattle.iscsi_target.specs.World.{Setting}
-use Rattle.iscsi_target.specs.Machine.{Machine, IsSoundAt, LeadsBack}
+use Rattle.iscsi_target.specs.Machine.{Machine, IsSoundAt, ReflectsSoundness}
 use Rattle.iscsi_target.specs.Stands.{Stands, StandsAfter, with_sent}
 use Rattle.iscsi_target.specs.Runs.{MayCome, RowState, open_row, ended, Runs, RunsThrough}
 use Rattle.iscsi_target.proofs.Running.{open_runs, bytes_runs, gone_runs}
@@ -21,7 +21,7 @@ calm_more target (x ∷ history) comings event are calm = (are.0, calm_more targ
 
 -- one more event
 through_more : (s : Setting) (machine after : Machine) (rows later : List RowState) (before opened : List ℕ) (events : List Event) (event : Event)
-    (comings : List Coming) → (r : RunsThrough s machine rows before events) → LeadsBack machine after
+    (comings : List Coming) → (r : RunsThrough s machine rows before events) → ReflectsSoundness machine after
     → ((target : ℕ) → IsSoundAt target after → IsCalm target comings) → Runs s after later opened (r.history ++ happening [] comings event ∷ [])
     → RunsThrough s after later opened (events ++ event ∷ [])
 through_more s machine after rows later before opened events event comings r back calm runs = record {
@@ -33,7 +33,7 @@ through_more s machine after rows later before opened events event comings r bac
 }
 
 pub open_through : (s : Setting) (machine after : Machine) (rows : List RowState) (before : List ℕ) (events : List Event) (c : ℕ)
-    → RunsThrough s machine rows before events → MayCome machine (Open c) → LeadsBack machine after
+    → RunsThrough s machine rows before events → MayCome machine (Open c) → ReflectsSoundness machine after
     → ((sent : ℕ → ℕ) (h : History) → Stands s sent machine h → Stands s (with_sent sent c 0) after (h ++ plain (Open c) ∷ []))
     → RunsThrough s after (rows ++ open_row c ∷ []) (open_after before (Open c)) (events ++ Open c ∷ [])
 open_through s machine after rows before events c r may back stands =
@@ -41,7 +41,7 @@ open_through s machine after rows before events c r may back stands =
     (open_runs s machine after rows before r.history c r.runs may (stands (λ k. 0) r.history r.runs.stands))
 
 pub bytes_through : (s : Setting) (machine after : Machine) (rows : List RowState) (before : List ℕ) (events : List Event) (c : ℕ) (piece : List ℕ)
-    → RunsThrough s machine rows before events → LeadsBack machine after
+    → RunsThrough s machine rows before events → ReflectsSoundness machine after
     → ((sent : ℕ → ℕ) (h : History) → Stands s sent machine h → StandsAfter s sent h (Bytes c piece) None after)
     → RunsThrough s after rows before (events ++ Bytes c piece ∷ [])
 bytes_through s machine after rows before events c piece r back stands =
@@ -51,7 +51,7 @@ bytes_through s machine after rows before events c piece r back stands =
     (bytes_runs s machine after rows before r.history k.comings c piece r.runs now)
 
 pub gone_through : (s : Setting) (machine after : Machine) (rows : List RowState) (before : List ℕ) (events : List Event) (c : ℕ)
-    → RunsThrough s machine rows before events → LeadsBack machine after
+    → RunsThrough s machine rows before events → ReflectsSoundness machine after
     → ((sent : ℕ → ℕ) (h : History) → Stands s sent machine h → Stands s (with_sent sent c 0) after (h ++ plain (Gone c) ∷ []))
     → RunsThrough s after (map (ended machine c) rows) (open_after before (Gone c)) (events ++ Gone c ∷ [])
 gone_through s machine after rows before events c r back stands =

@@ -17,7 +17,7 @@ use Rattle.iscsi_target.specs.World.{Setting, present, world}
 use Rattle.iscsi_target.specs.Machine.{LinkState, Machine, link_at, with_link, free_link, shut_link, opened_link, sent_link, closed, new_machine, is_reading, is_closing, most_waiting, want_of}
 use Rattle.iscsi_target.specs.Stands.{Stands, IsShort, link_of, half_of}
 use Rattle.iscsi_target.specs.Serving.{Serves, TakesAll}
-use Rattle.iscsi_target.specs.Bounded.{most_weight, weight_in, Rests, Weighs, Bounded, Adds, CallsKeepBounded}
+use Rattle.iscsi_target.specs.Bounded.{most_weight, weight_in, Rests, WeighsAtMost, Bounded, AddsAtMost, CallsKeepBounded}
 use Rattle.iscsi_target.specs.declared.phase.Phase.{Phase}
 use Rattle.iscsi_target.specs.declared.phase.Phase.TheVariants as phases
 use Rattle.iscsi_target.proofs.Linked.{link_is}
@@ -124,13 +124,11 @@ half_there s sent h machine c lt at reads_ =
 -- ---- as heavy as it may be
 
 least_of : (waiting : ℕ) (phase : Phase) → Rests phase → weight_in waiting phase ≤ waiting + 40 * request_weight
-least_of waiting phases.Free r = omega arith
-least_of waiting (phases.Login login) r = omega arith
 least_of waiting (phases.FullFeature session) r = omega (arith, few_pending session r)
-least_of waiting phases.Closing r = omega arith
+least_of waiting _ r = omega arith
 
 weighs_by : (b : Bool) (old new : LinkState) (piece : List ℕ) → ltb most_waiting (length old.waiting) ≡ b → IsHalf old → is_closing old.phase ≡ false
-    → length piece ≤ want_of old → Adds (length (arrivals (old.half ++ piece))) old new → Weighs most_weight old → Weighs most_weight new
+    → length piece ≤ want_of old → AddsAtMost (length (arrivals (old.half ++ piece))) old new → WeighsAtMost most_weight old → WeighsAtMost most_weight new
 weighs_by true old new piece much half open_ le adds w =
     let none : want_of old ≡ 0 = rw (open_, much) refl in
     let empty : piece ≡ [] = nil_from_length piece (omega (arith, le, none)) in
@@ -151,12 +149,10 @@ weighs_by false old new piece few half open_ le adds w =
     }
 
 reading_no_closing : (phase : Phase) → is_reading phase ≡ true → is_closing phase ≡ false
-reading_no_closing phases.Free e = refl
-reading_no_closing (phases.Login login) e = refl
-reading_no_closing (phases.FullFeature session) e = refl
 reading_no_closing phases.Closing e = absurd cc
+reading_no_closing _ e = refl
 
-pub eased : (old new : LinkState) → Adds 0 old new → Weighs most_weight old → Weighs most_weight new
+pub eased : (old new : LinkState) → AddsAtMost 0 old new → WeighsAtMost most_weight old → WeighsAtMost most_weight new
 eased old new adds w = let a = adds w.rests in let fits = a.fits in let was = w.fits in record { fits = omega (arith, fits, was); rests = a.rests }
 
 -- a piece that is no longer than what is wanted, and what is whole is taken
@@ -168,24 +164,24 @@ fed_bounded old kept new c piece starved lt reads_ half is takes le bounded d = 
   | inl same ↦
       let link = record (link_at old c) { half = (link_at old c).half ++ piece } in
       let there : link_at kept c ≡ link = ap (λ (m : Machine). link_at m c) is ∙ link_set old old.units c link lt in
-      let P : LinkState → Type 0 = λ l. Adds (length (arrivals l.half)) l (link_at new c) in
-      subst (λ (k : ℕ). Weighs most_weight (link_at new k)) (sym same.1)
+      let P : LinkState → Type 0 = λ l. AddsAtMost (length (arrivals l.half)) l (link_at new c) in
+      subst (λ (k : ℕ). WeighsAtMost most_weight (link_at new k)) (sym same.1)
       (weighs_by (ltb most_waiting (length (link_at old c).waiting)) (link_at old c) (link_at new c) piece refl half
-      (reading_no_closing (link_at old c).phase reads_) le (subst P there takes.loads) (bounded c))
+      (reading_no_closing (link_at old c).phase reads_) le (subst P there takes.leaves.loads) (bounded c))
   | inr differ ↦
       let link = record (link_at old c) { half = (link_at old c).half ++ piece } in
       let there : link_at kept d ≡ link_at old d = ap (λ (m : Machine). link_at m d) is ∙ link_other old old.units c d link differ.1 in
-      eased (link_at old d) (link_at new d) (subst (λ (l : LinkState). Adds 0 l (link_at new d)) there (takes.eases d differ.1)) (bounded d)
+      eased (link_at old d) (link_at new d) (subst (λ (l : LinkState). AddsAtMost 0 l (link_at new d)) there (takes.leaves.eases d differ.1)) (bounded d)
 ]
 
 -- ---- the other calls
 
-pub with_bounded : (machine : Machine) (c : ℕ) (link : LinkState) → c < length machine.links → Bounded machine → Weighs most_weight link
+pub with_bounded : (machine : Machine) (c : ℕ) (link : LinkState) → c < length machine.links → Bounded machine → WeighsAtMost most_weight link
     → Bounded (with_link machine c link)
 with_bounded machine c link lt bounded w d = elim (eqb_tells d c) [
-  | inl same ↦ subst (λ (k : ℕ). Weighs most_weight (link_at (with_link machine c link) k)) (sym same.1)
-      (subst (Weighs most_weight) (sym (link_set machine machine.units c link lt)) w)
-  | inr differ ↦ subst (Weighs most_weight) (sym (link_other machine machine.units c d link differ.1)) (bounded d)
+  | inl same ↦ subst (λ (k : ℕ). WeighsAtMost most_weight (link_at (with_link machine c link) k)) (sym same.1)
+      (subst (WeighsAtMost most_weight) (sym (link_set machine machine.units c link lt)) w)
+  | inr differ ↦ subst (WeighsAtMost most_weight) (sym (link_other machine machine.units c d link differ.1)) (bounded d)
 ]
 
 closed_links : (machine : Machine) (c d : ℕ) → link_at (closed machine c) d ≡ link_at (with_link machine c (shut_link (link_at machine c))) d
@@ -194,7 +190,7 @@ closed_links machine c d = refl
 
 pub closed_bounded : (machine : Machine) (c : ℕ) → c < length machine.links → Bounded machine → Bounded (closed machine c)
 closed_bounded machine c lt bounded d =
-    subst (Weighs most_weight) (sym (closed_links machine c d))
+    subst (WeighsAtMost most_weight) (sym (closed_links machine c d))
     (with_bounded machine c (shut_link (link_at machine c)) lt bounded (eased (link_at machine c) _ (adds_shut 0 (link_at machine c)) (bounded c)) d)
 
 pub opened_bounded : (machine : Machine) (c : ℕ) → c < length machine.links → Bounded machine → Bounded (with_link machine c (opened_link c))
@@ -206,10 +202,8 @@ gone_bounded machine c lt bounded =
     (record { fits = omega arith; rests = tt })
 
 sent_weight : (waiting less : ℕ) (phase : Phase) → less ≤ waiting → weight_in less phase ≤ weight_in waiting phase
-sent_weight waiting less phases.Free le = le
-sent_weight waiting less (phases.Login login) le = le
 sent_weight waiting less (phases.FullFeature session) le = omega (arith, le)
-sent_weight waiting less phases.Closing le = le
+sent_weight waiting less _ le = le
 
 pub sent_bounded : (machine : Machine) (c n : ℕ) → c < length machine.links → Bounded machine → Bounded (with_link machine c (sent_link (link_at machine c) n))
 sent_bounded machine c n lt bounded =
@@ -227,7 +221,7 @@ all_free (suc n) zero = refl
 all_free (suc n) (suc c) = all_free n c
 
 pub new_bounded : (directory : KnownTargets) (units : List UnitStates) → Bounded (new_machine directory units)
-new_bounded directory units c = subst (Weighs most_weight) (sym (all_free connection_limit c)) (record { fits = omega arith; rests = tt })
+new_bounded directory units c = subst (WeighsAtMost most_weight) (sym (all_free connection_limit c)) (record { fits = omega arith; rests = tt })
 
 pub bounded_as : (a b : Machine) → b ≡ a → Bounded a → Bounded b
 bounded_as a b e bounded = subst Bounded (sym e) bounded
@@ -237,5 +231,5 @@ calls_keep_bounded = record { made = new_bounded; opened = opened_bounded; gone 
 
 -- a machine with the connections of this one
 pub bounded_links : (machine : Machine) (links : List LinkState) → machine.links ≡ links → Bounded machine → (c : ℕ)
-    → Weighs most_weight (get_or links c free_link)
-bounded_links machine links e bounded c = subst (λ (l : List LinkState). Weighs most_weight (get_or l c free_link)) e (bounded c)
+    → WeighsAtMost most_weight (get_or links c free_link)
+bounded_links machine links e bounded c = subst (λ (l : List LinkState). WeighsAtMost most_weight (get_or l c free_link)) e (bounded c)

@@ -1,25 +1,25 @@
 -- What the steps of a session make of the code and of the World.
-use Rattle.std.proofs.Common.{◌≡◌, ◌≢◌, ℕ, ◌<◌, ◌≤◌, List, [], ◌++◌, length, drop, Bool, true, false, not, cond, eqb, Option, Some, None, refl, sym, ap, ◌∙◌, append_assoc}
+use Rattle.std.proofs.Common.{◌≡◌, ◌≢◌, ℕ, ◌<◌, List, [], ◌++◌, Bool, true, false, not, cond, eqb, Option, Some, None, refl, sym, ap, ◌∙◌, append_assoc, subst}
 use Rattle.std.specs.Prelude.{flat_map}
 use Rattle.iscsi_pdu.specs.Answer.{spelling}
 use Rattle.iscsi_pdu.specs.declared.answer.Answer.{Answer}
 use Rattle.scsi_unit.specs.Units.{UnitStates}
 use Rattle.iscsi_session.specs.Comings.{Coming, TargetUnits, lend}
 use Rattle.iscsi_session.specs.Requests.{Past}
-use Rattle.iscsi_session.specs.State.{SessionState, IsLawful, remembered}
+use Rattle.iscsi_session.specs.State.{SessionState, remembered}
 use Rattle.iscsi_session.specs.Steps.{Work}
 use Rattle.iscsi_session.specs.Runs.{output, Leaves}
 use Rattle.iscsi_login.specs.Directory.{KnownTargets}
 use Rattle.iscsi_target.specs.History.{connection_limit}
-use Rattle.iscsi_target.specs.Life.{Life, Phase, LoggingIn, FullFeature, Closing, Over, is_over, past_in, session_answers, answers_of, out_of}
+use Rattle.iscsi_target.specs.Life.{Life, Phase, reads, FullFeature, is_over, past_in, session_answers, answers_of}
 use Rattle.iscsi_target.specs.World.{Setting, World, present, changed, past_of, work_of, with_past, worked_on, worked, with_units}
 use Rattle.iscsi_target.specs.Machine.{LinkState, Machine, link_at, with_link, closed}
-use Rattle.iscsi_target.specs.Stands.{phase_for, link_of, IsQuietIn}
+use Rattle.iscsi_target.specs.Stands.{phase_for, link_of}
 use Rattle.iscsi_target.specs.Serving.{Serves}
 use Rattle.iscsi_target.specs.declared.phase.Phase.TheVariants as phases
 use Rattle.iscsi_target.proofs.Choices.{and_true}
 use Rattle.iscsi_target.proofs.Lives.{present-changed, present-changed_other, present-lives, present_is}
-use Rattle.iscsi_target.proofs.Linked.{link_is, units_with, out-more, says, still_sent, serves_one, closes}
+use Rattle.iscsi_target.proofs.Linked.{link_is, units_with, out-more, closes, life_link, serves_life, half_there}
 
 -- ---- a connection in full feature phase
 
@@ -32,10 +32,8 @@ pub record IsAtWork (w : World) (c : ℕ) (past : Past) : Type 0 where
 at_work_in : (w : World) (c : ℕ) (life : Life) (phase : Phase) → present c w ≡ Some life → life.phase ≡ phase
     → (state : SessionState) (directory : KnownTargets) → phase_for directory life phase ≡ phases.FullFeature state
     → (past : Past) × IsAtWork w c past × (state ≡ remembered past)
-at_work_in w c life LoggingIn at e state directory same = absurd cc
 at_work_in w c life (FullFeature past) at e state directory same = (past, record { life = life; at = at; phase = e }, cc)
-at_work_in w c life Closing at e state directory same = absurd cc
-at_work_in w c life Over at e state directory same = absurd cc
+at_work_in w c life _ at e state directory same = absurd cc
 
 at_work_of : (w : World) (c : ℕ) (o : Option Life) → present c w ≡ o → (s : Setting) (sent : ℕ) (half : List ℕ) (state : SessionState)
     → (link_of s.directory sent half o).phase ≡ phases.FullFeature state
@@ -75,20 +73,6 @@ answers_grow life phase past then_ more e grow =
 abbrev pub session_link : SessionState → List ℕ → LinkState → LinkState
 session_link state waiting link = record link { phase = phases.FullFeature state; waiting = waiting }
 
-quiet_past : (life : Life) (past : Past) → IsLawful past → IsQuietIn (with_past past life).phase
-quiet_past life past lawful = lawful
-
-link_worked : (directory : KnownTargets) (sent : ℕ) (half : List ℕ) (life : Life) (past then_ : Past) (more : List Answer) (state : SessionState)
-    (waiting : List ℕ)
-    → life.phase ≡ FullFeature past → then_.answers ≡ past.answers ++ more → sent ≤ length (out_of life) → state ≡ remembered then_
-    → waiting ≡ drop sent (out_of life) ++ flat_map spelling more
-    → link_of directory sent half (Some (with_past then_ life)) ≡ session_link state waiting (link_of directory sent half (Some life))
-link_worked directory sent half life past then_ more state waiting e grow le is spelled =
-    let out = out-more life (with_past then_ life) more (answers_grow life life.phase past then_ more e grow) in
-    let now : waiting ≡ drop sent (out_of (with_past then_ life)) = spelled
-    ∙ says sent (drop sent (out_of life)) (out_of life) (flat_map spelling more) le refl ∙ ap (drop sent) (sym out) in
-    rw (is, now, e) refl
-
 -- the units of a session's target
 units_set : (w : World) (machine : Machine) (units : UnitStates) (target : Option ℕ) → machine.units ≡ w.units
     → with_units target units w.units ≡ with_units target units machine.units
@@ -102,25 +86,21 @@ works : (s : Setting) (sent : ℕ → ℕ) (half : ℕ → List ℕ) (w : World)
     → Serves s sent half (worked_on c work w) (record (with_link machine c (session_link state waiting (link_at machine c)))
     { units = with_units past.params.target after machine.units })
 works s sent half w machine c past work state waiting orders after comings lt h a l =
-    let now = present_worked w c past work a in
-    let link = link_is s sent half w machine c lt h ∙ ap (link_of s.directory (sent c) (half c)) a.at in
-    let le : sent c ≤ length (out_of a.life) = (let was = h.answered c lt in rw a.at at was) in
-    let spelled : waiting ≡ drop (sent c) (out_of a.life) ++ flat_map spelling l.more = l.spelled
-    ∙ ap (λ (x : LinkState). x.waiting ++ flat_map spelling l.more) link in
-    let out = out-more a.life (with_past work.past a.life) l.more (answers_grow a.life a.life.phase past work.past l.more a.phase l.answers) in
-    let us = h.is in
+    let life = a.life in
+    let then_ = with_past work.past life in
+    let old = link_at machine c in
+    let all = with_units past.params.target after machine.units in
     let same_units : machine.units ≡ w.units = ap (λ (m : Machine). m.units) h.is ∙ units_with s sent half w in
-    let units : with_units work.past.params.target work.units.states w.units ≡ with_units past.params.target after machine.units =
+    let units : with_units work.past.params.target work.units.states w.units ≡ all =
     ap (λ (t : Option ℕ). with_units t work.units.states w.units) (ap (λ p. p.target) l.params)
     ∙ ap (λ (units : TargetUnits). with_units past.params.target units.states w.units) l.units
     ∙ units_set w machine after past.params.target same_units in
-    serves_one s sent half half w (worked_on c work w) machine c (with_units past.params.target after machine.units)
-    (session_link state waiting (link_at machine c)) lt h
-    (λ d differ. present_worked_other w c d work differ) (λ d differ. refl)
-    (rw now (still_sent (sent c) a.life (with_past work.past a.life) (flat_map spelling l.more) out le))
-    (rw now l.lawful) units
-    (rw now (link_worked s.directory (sent c) (half c) a.life past work.past l.more state waiting a.phase l.answers le l.remembered spelled
-    ∙ ap (session_link state waiting) (sym link)))
+    let link : life_link s.directory (half c) then_ (old.waiting ++ flat_map spelling l.more) ≡ session_link state waiting old =
+    rw (l.remembered, l.spelled, half_there s sent half w machine c life lt h a.at (ap reads a.phase)) refl in
+    subst (λ (x : LinkState). Serves s sent half (worked_on c work w) (record (with_link machine c x) { units = all })) link
+    (serves_life s sent half w (worked_on c work w) machine c all life then_ (flat_map spelling l.more) lt h a.at (present_worked w c past work a)
+    (λ d differ. present_worked_other w c d work differ)
+    (out-more life then_ l.more (answers_grow life life.phase past work.past l.more a.phase l.answers)) l.lawful units)
 
 -- what is left of a session that may go on, or not
 abbrev pub left_by : Bool → ℕ → Machine → Machine

@@ -29,17 +29,17 @@ Rests (Login login) = ⊤
 Rests Closing = ⊤
 
 -- so heavy at most
-pub record Weighs (most : ℕ) (link : LinkState) : Type 0 where
+pub record WeighsAtMost (most : ℕ) (link : LinkState) : Type 0 where
   pub fits : weight link ≤ most
   pub rests : Rests link.phase
 
 -- each connection is
 abbrev pub Bounded : Machine → Type 0
-Bounded machine = (c : ℕ) → Weighs most_weight (link_at machine c)
+Bounded machine = (c : ℕ) → WeighsAtMost most_weight (link_at machine c)
 
 -- what so many frames make of a connection: with none it is no heavier
-abbrev pub Adds : ℕ → LinkState → LinkState → Type 0
-Adds n old new = Rests old.phase → Weighs (weight old + n * most_added) new
+abbrev pub AddsAtMost : ℕ → LinkState → LinkState → Type 0
+AddsAtMost n old new = Rests old.phase → WeighsAtMost (weight old + n * most_added) new
 
 -- a new target is bounded, and the calls that bring no bytes keep it so
 pub record CallsKeepBounded : Type 0 where

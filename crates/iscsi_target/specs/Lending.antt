@@ -2,8 +2,8 @@
 use Rattle.std.specs.Prelude.{ℕ, List, slice_set}
 use Rattle.std.specs.Borrow.{Lends, MutBor, Fml}
 use Rattle.iscsi_target.specs.Machine.{LinkState}
-use Rattle.iscsi_target.specs.contracts.links.Links.{the_row}
-use Rattle.iscsi_target.specs.contracts.link.Link.{the_row as link_row}
+use Rattle.iscsi_target.specs.contracts.connections.Connections.{the_row}
+use Rattle.iscsi_target.specs.contracts.connection.Connection.{the_row as link_row}
 
 -- the list ends with this connection as it was left
 abbrev pub LendsLink : MutBor (List LinkState) → ℕ → MutBor LinkState → Fml

@@ -31,8 +31,9 @@ pub mod World
 pub mod Output
 pub mod Events
 pub mod Machine
-pub mod Links
+pub mod Connections
 pub mod Lending
+pub mod SessionCalls
 pub mod Bounded
 pub mod Stands
 pub mod Serving

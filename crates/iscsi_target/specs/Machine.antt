@@ -44,8 +44,8 @@ abbrev pub IsSoundAt : ℕ → Machine → Type 0
 IsSoundAt target machine = AreSound (slice_index_or machine.units target [])
 
 -- each target that is sound in the second was so in the first
-abbrev pub LeadsBack : Machine → Machine → Type 0
-LeadsBack old new = (target : ℕ) → IsSoundAt target new → IsSoundAt target old
+abbrev pub ReflectsSoundness : Machine → Machine → Type 0
+ReflectsSoundness old new = (target : ℕ) → IsSoundAt target new → IsSoundAt target old
 
 abbrev pub WhereSound : Machine → Type 0 → Type 0
 WhereSound machine P = IsSound machine → P
@@ -97,6 +97,13 @@ is_logging_in Free = false
 is_logging_in (FullFeature session) = false
 is_logging_in Closing = false
 
+-- it has a session in full feature phase
+abbrev pub is_in_session : Phase → Bool
+is_in_session (FullFeature session) = true
+is_in_session Free = false
+is_in_session (Login login) = false
+is_in_session Closing = false
+
 -- the connection was opened and its Gone has not come
 abbrev pub is_open_at : Machine → ℕ → Bool
 is_open_at machine c = not (is_free (link_at machine c).phase)
@@ -136,12 +143,16 @@ pub record Feeds (c : ℕ) (old new : Machine) : Type 0 where
   pub still : (d : ℕ) → is_reading (link_at old d).phase ≡ false → link_at new d ≡ link_at old d
   pub others : (d : ℕ) → d ≢ c → is_logging_in (link_at old d).phase ≡ true → link_at new d ≡ link_at old d
 
+-- the target of its session, where it has one
+abbrev pub target_in : Phase → Option ℕ
+target_in (FullFeature session) = session.params.target
+target_in Free = None
+target_in (Login login) = None
+target_in Closing = None
+
 -- a session with this target
 abbrev pub is_with : ℕ → Phase → Bool
-is_with target (FullFeature session) = is_same_target session.params.target (Some target)
-is_with target Free = false
-is_with target (Login login) = false
-is_with target Closing = false
+is_with target phase = is_same_target (target_in phase) (Some target)
 
 -- What is no part of a target stays as it is: the connections that have no session with it, and the units of others; and a
 -- session with it stays so until it ends.

@@ -6,8 +6,8 @@ use Rattle.iscsi_session.specs.Comings.{Coming, AreAhead, ArePlain, IsCalm}
 use Rattle.iscsi_session.specs.Steps.{Step, Judging, Taking, Asking, Answering, Doing, is_doing, is_serving}
 use Rattle.iscsi_target.specs.History.{Point, Arriving, Before, AtEnd, Mark, is_within, Arrival, Whole, arrivals, connection_limit}
 use Rattle.iscsi_target.specs.World.{Setting, World, present, is_marked, arrive, settle_one, settle, settle_for}
-use Rattle.iscsi_target.specs.Machine.{LinkState, Machine, IsSound, IsSoundAt, LeadsBack, IsSure, Feeds, KeepsPart, link_at, is_reading, is_closing, closed}
-use Rattle.iscsi_target.specs.Bounded.{Adds}
+use Rattle.iscsi_target.specs.Machine.{LinkState, Machine, IsSound, IsSoundAt, ReflectsSoundness, IsSure, Feeds, KeepsPart, link_at, is_reading, is_closing, closed}
+use Rattle.iscsi_target.specs.Bounded.{AddsAtMost}
 use Rattle.iscsi_target.specs.Stands.{IsQuiet, IsSent, Begins, machine_with, are_reached}
 use Rattle.iscsi_target.specs.declared.fault.Starved.{Starved}
 
@@ -77,8 +77,8 @@ pub record KeepsHalf (half : List ℕ) (link : LinkState) : Type 0 where
   pub idle : is_reading link.phase ≡ false → link.half ≡ []
 
 -- What any such call, for a connection, makes of every target.
-pub record Moves (c : ℕ) (starved : Option ℕ) (given after : Machine) : Type 0 where
-  pub back : LeadsBack given after
+pub record Preserves (c : ℕ) (starved : Option ℕ) (given after : Machine) : Type 0 where
+  pub back : ReflectsSoundness given after
   pub sure : IsSure given → IsSure after
   pub feeds : Feeds c given after
   pub closing : IsClosed starved after
@@ -86,7 +86,7 @@ pub record Moves (c : ℕ) (starved : Option ℕ) (given after : Machine) : Type
   pub units : length after.units ≡ length given.units
   pub keeps : (d : ℕ) → is_reading (link_at given d).phase ≡ true → KeepsHalf (link_at given d).half (link_at after d)
   -- no other connection is heavier than before
-  pub eases : (d : ℕ) → d ≢ c → Adds 0 (link_at given d) (link_at after d)
+  pub eases : (d : ℕ) → d ≢ c → AddsAtMost 0 (link_at given d) (link_at after d)
 
 -- own: a call that takes no memory sets no step off
 abbrev pub is_of_none : ℕ → Mark → Bool
@@ -130,6 +130,16 @@ Takes c frame starved given after = Does is_of_frame (λ s marks place w. arrive
 abbrev pub with_half : ℕ → List ℕ → (ℕ → List ℕ) → ℕ → List ℕ
 with_half c bytes half d = if d == c then bytes else half d
 
+-- what so many frames of a connection leave of every target, and how heavy they make the connections
+pub record Leaves (c n : ℕ) (starved : Option ℕ) (old new : Machine) : Type 0 where
+  pub back : ReflectsSoundness old new
+  pub sure : IsSure old → IsSure new
+  pub feeds : Feeds c old new
+  pub closing : IsClosed starved new
+  pub part : KeepsPart c old new
+  pub eases : (d : ℕ) → d ≢ c → AddsAtMost 0 (link_at old d) (link_at new d)
+  pub loads : AddsAtMost n (link_at old c) (link_at new c)
+
 -- the first of what is whole is taken
 pub record TakesOne (c : ℕ) (starved : Option ℕ) (old new : Machine) : Type 0 where
   pub arrival : Arrival
@@ -140,13 +150,7 @@ pub record TakesOne (c : ℕ) (starved : Option ℕ) (old new : Machine) : Type 
   pub shorter : length more < length (link_at old c).half
   pub kept : KeepsHalf more (link_at new c)
   pub does : Does is_of_frame (λ s marks place w. arrive s marks c w (place, arrival)) (with_half c more) starved old new
-  pub back : LeadsBack old new
-  pub sure : IsSure old → IsSure new
-  pub feeds : Feeds c old new
-  pub closing : IsClosed starved new
-  pub part : KeepsPart c old new
-  pub eases : (d : ℕ) → d ≢ c → Adds 0 (link_at old d) (link_at new d)
-  pub loads : Adds 1 (link_at old c) (link_at new c)
+  pub leaves : Leaves c 1 starved old new
 
 abbrev pub place_of : Step → ℕ
 place_of (Judging place) = place
@@ -174,13 +178,7 @@ pub record TakesAll (c : ℕ) (starved : Option ℕ) (old new : Machine) : Type 
   pub kept : KeepsHalf (rest (link_at old c).half) (link_at new c)
   pub short : is_reading (link_at new c).phase ≡ true → is_long (rest (link_at old c).half) ≡ false
   pub takes : TakesSome c (arrivals (link_at old c).half) (rest (link_at old c).half) starved old new
-  pub back : LeadsBack old new
-  pub sure : IsSure old → IsSure new
-  pub feeds : Feeds c old new
-  pub closing : IsClosed starved new
-  pub part : KeepsPart c old new
-  pub eases : (d : ℕ) → d ≢ c → Adds 0 (link_at old d) (link_at new d)
-  pub loads : Adds (length (arrivals (link_at old c).half)) (link_at old c) (link_at new c)
+  pub leaves : Leaves c (length (arrivals (link_at old c).half)) starved old new
 
 -- the commands of the sessions of a target are done, or those of one connection
 abbrev pub Settles : ℕ → Option ℕ → Machine → Machine → Type 0

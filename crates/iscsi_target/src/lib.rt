@@ -9,16 +9,19 @@
 #![tactic(auto)]
 
 mod config;
+mod connection;
+mod connections;
 mod event;
 mod fault;
 mod history;
+mod incoming;
 pub mod laws;
-mod link;
-mod links;
+mod logging_in;
 mod orders;
 mod phase;
 mod run;
 mod serve;
+mod session_calls;
 mod sessions;
 mod target;
 

@@ -10,15 +10,15 @@ ghost use Rattle.iscsi_login.specs.Session.{is_same_target as is_same};
 ghost use Rattle.iscsi_session.specs.Comings.{Coming, lend};
 ghost use Rattle.iscsi_session.specs.Runs.{output, Runs};
 ghost use Rattle.iscsi_session.specs.Weight.{IsAtRest, Eases};
-ghost use Rattle.iscsi_target.specs.World.{units_at, function_of, reaches_others as reaches_others_by, told_by, losing, lose_one, reset_by, reset as reset_in, carry_out, carry_out_for};
+ghost use Rattle.iscsi_target.specs.World.{units_at, changed_units, function_of, reaches_others as reaches_others_by, told_by, losing, lose_one, reset_by, reset as reset_in, carry_out, carry_out_for};
 ghost use Rattle.iscsi_target.specs.History.{connections};
-ghost use Rattle.iscsi_target.specs.Machine.{Machine, KeepsApart};
-ghost use Rattle.iscsi_target.specs.Serving.{Moves, CarriesOut};
+ghost use Rattle.iscsi_target.specs.Machine.{Machine, KeepsApart, link_at};
+ghost use Rattle.iscsi_target.specs.Bounded.{AddsAtMost};
+ghost use Rattle.iscsi_target.specs.Serving.{Preserves, CarriesOut};
+ghost use Rattle.iscsi_target.specs.SessionCalls.{InSession, LeavesSession, LosesCommands, ChangesOne};
 
-use crate::links::CONNECTIONS;
-use crate::phase::Phase;
+use crate::connections::CONNECTIONS;
 use crate::target::Target;
-use iscsi_login::is_same_target;
 use iscsi_pdu::{Header, TaskFunction};
 use iscsi_session::{Reach, Session};
 use media_store::Store;
@@ -71,7 +71,7 @@ fn reset<S: Store>(units: &mut Units<S>, function: &Header)
 }
 
 /// A session loses the commands that the function of another one reaches.
-fn lose<S: Store>(session: &mut Session, units: &mut Units<S>, function: &Header)
+pub(crate) fn lose<S: Store>(session: &mut Session, units: &mut Units<S>, function: &Header)
     ensures runs { (waiting : List ℕ) (comings : List Coming) → Runs (λ fails place. losing function.now) None true session.old session.new
         (output waiting []) (output waiting []) (lend units.old comings) (lend units.new comings) }
     ensures back { AreSound units.new → AreSound units.old }
@@ -96,7 +96,7 @@ impl<S: Store> Target<S> {
         requires { IsTargetBelow (length self.old.units) target }
         ensures carries { CarriesOut (carry_out_for c target functions.now) self.old self.new }
         ensures apart { (t : ℕ) → is_same target (Some t) ≡ true → KeepsApart t self.old self.new }
-        ensures moves { (b : ℕ) → Moves b None self.old self.new }
+        ensures moves { (b : ℕ) → Preserves b None self.old self.new }
     {
         match target {
             Some(target) => self.carry_out_all(c, target, functions),
@@ -109,7 +109,7 @@ impl<S: Store> Target<S> {
         requires { target < length self.old.units }
         ensures carries { CarriesOut (λ w. fold (carry_out c target) w functions.now) self.old self.new }
         ensures apart { KeepsApart target self.old self.new }
-        ensures moves { (b : ℕ) → Moves b None self.old self.new }
+        ensures moves { (b : ℕ) → Preserves b None self.old self.new }
     {
         for function in functions {
             self.carry_out(c, target, function);
@@ -122,7 +122,7 @@ impl<S: Store> Target<S> {
         requires { target < length self.old.units }
         ensures carries { CarriesOut (λ w. carry_out c target w function.now) self.old self.new }
         ensures apart { KeepsApart target self.old self.new }
-        ensures moves { (b : ℕ) → Moves b None self.old self.new }
+        ensures moves { (b : ℕ) → Preserves b None self.old self.new }
     {
         if reaches_others(function) {
             self.lose_all(c, target, function);
@@ -135,7 +135,7 @@ impl<S: Store> Target<S> {
         requires { target < length self.old.units }
         ensures carries { CarriesOut (λ w. fold (lose_one function.now target c) w connections) self.old self.new }
         ensures apart { KeepsApart target self.old self.new }
-        ensures moves { (b : ℕ) → Moves b None self.old self.new }
+        ensures moves { (b : ℕ) → Preserves b None self.old self.new }
     {
         for d in 0..CONNECTIONS {
             self.lose_one(c, d, target, function);
@@ -148,19 +148,33 @@ impl<S: Store> Target<S> {
         requires target { target < length self.old.units }
         ensures carries { CarriesOut (λ w. lose_one function.now target c w d) self.old self.new }
         ensures apart { KeepsApart target self.old self.new }
-        ensures moves { (b : ℕ) → Moves b None self.old self.new }
+        ensures moves { (b : ℕ) → Preserves b None self.old self.new }
     {
         if d == c {
             return;
         }
-        let link = self.links.at_mut(d);
-        let Phase::FullFeature(session) = &mut link.phase else {
+        if !self.is_with(d, target) {
             return;
-        };
-        if is_same_target(session.params().target, Some(target)) {
-            let units = &mut self.units[target];
-            lose(session, units, function);
         }
+        self.lose_session(d, target, function);
+    }
+
+    /// The session of a connection loses what the function reaches.
+    fn lose_session(&mut self, d: usize, target: usize, function: &Header)
+        requires in_range { d < 64 }
+        requires target { target < length self.old.units }
+        ensures changes { ChangesOne d (Some target) self.old self.new }
+        ensures leaves { InSession (link_at self.old d).phase (λ session. LeavesSession (λ after waiting.
+            LosesCommands function.now (units_at (Some target) self.old.units) (units_at (Some target) self.new.units) session after
+            (link_at self.old d).waiting waiting) session (link_at self.old d) (link_at self.new d)) }
+        ensures eases { AddsAtMost 0 (link_at self.old d) (link_at self.new d) }
+        ensures back { AreSound (units_at (Some target) self.new.units) → AreSound (units_at (Some target) self.old.units) }
+        ensures sure { AreSure (units_at (Some target) self.old.units) → AreSure (units_at (Some target) self.new.units) }
+        ensures count { length self.old.links ≡ 64 }
+    {
+        let units = &mut self.units[target];
+        let connection = self.connections.at_mut(d);
+        connection.lose(units, function);
     }
 
     /// Every nexus is to be told of a reset.
@@ -168,7 +182,16 @@ impl<S: Store> Target<S> {
         requires { target < length self.old.units }
         ensures carries { CarriesOut (reset_in function.now target) self.old self.new }
         ensures apart { KeepsApart target self.old self.new }
-        ensures moves { (b : ℕ) → Moves b None self.old self.new }
+        ensures moves { (b : ℕ) → Preserves b None self.old self.new }
+    {
+        self.reset_units(target, function);
+    }
+
+    /// The units of a target tell every nexus of a reset.
+    #[tactic(auto, unfolding(crate::specs::World::changed_units))]
+    fn reset_units(&mut self, target: usize, function: &Header)
+        requires { target < length self.old.units }
+        ensures { self.new ≡ record self.old { units = changed_units (reset_by (function_of function.now) (lun_field function.now)) (Some target) self.old.units } }
     {
         let units = &mut self.units[target];
         reset(units, function);

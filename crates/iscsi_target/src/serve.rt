@@ -1,17 +1,23 @@
 //! A frame of a session: it is judged, the requests that it lets be taken act, and the commands that the
 //! sessions of its target have taken are done.
 
-ghost use Rattle.std.specs.Prelude.{◌≡◌, ℕ, ◌<◌, Some, true, length};
-ghost use Rattle.iscsi_target.specs.Machine.{Machine, KeepsApart, link_at, closed};
+ghost use Rattle.std.specs.Prelude.{◌≡◌, ℕ, ◌<◌, [], Some, true, length};
+ghost use Rattle.iscsi_pdu.specs.Header.{header_length};
 ghost use Rattle.iscsi_login.specs.LoginState.{IsTargetBelow};
 ghost use Rattle.iscsi_login.specs.Session.{is_same_target as is_same};
-ghost use Rattle.iscsi_target.specs.Serving.{Settles, SettlesFor, SettlesOne, Moves, first_starved, first_of};
+ghost use Rattle.scsi_unit.specs.Units.{AreSound, AreSure, numbers_of};
+ghost use Rattle.iscsi_session.specs.Steps.{is_doing, is_serving};
+ghost use Rattle.iscsi_target.specs.World.{units_at};
+ghost use Rattle.iscsi_target.specs.Machine.{Machine, KeepsApart, KeepsPart, link_at, with_link, target_in, is_in_session};
+ghost use Rattle.iscsi_target.specs.Bounded.{AddsAtMost};
+ghost use Rattle.iscsi_target.specs.Serving.{Takes, Settles, SettlesFor, SettlesOne, Preserves, first_starved, first_of, goes_on_by};
+ghost use Rattle.iscsi_target.specs.SessionCalls.{InSession, LeavesSession, Ends, ServesFrame, SettlesUnits, ChangesOne, ended_link};
 
+use crate::connections::CONNECTIONS;
 use crate::fault::Starved;
-use crate::links::CONNECTIONS;
-use crate::phase::Phase;
+use crate::orders::luns_of;
 use crate::target::Target;
-use iscsi_login::is_same_target;
+use iscsi_pdu::{Frame, Header};
 use iscsi_session::Memory;
 use media_store::Store;
 
@@ -33,7 +39,7 @@ impl<S: Store> Target<S> {
         requires { target < length self.old.units }
         ensures settles { Settles target (first_starved result) self.old self.new }
         ensures apart { KeepsApart target self.old self.new }
-        ensures moves { (b : ℕ) → Moves b (first_starved result) self.old self.new }
+        ensures moves { (b : ℕ) → Preserves b (first_starved result) self.old self.new }
     {
         let mut outcome = Ok(());
         for c in 0..CONNECTIONS {
@@ -48,7 +54,7 @@ impl<S: Store> Target<S> {
         requires { IsTargetBelow (length self.old.units) target }
         ensures settles { SettlesFor target (first_starved result) self.old self.new }
         ensures apart { (t : ℕ) → is_same target (Some t) ≡ true → KeepsApart t self.old self.new }
-        ensures moves { (b : ℕ) → Moves b (first_starved result) self.old self.new }
+        ensures moves { (b : ℕ) → Preserves b (first_starved result) self.old self.new }
     {
         match target {
             Some(target) => self.settle(target),
@@ -63,22 +69,74 @@ impl<S: Store> Target<S> {
         requires target { target < length self.old.units }
         ensures settles { SettlesOne target c (first_starved result) self.old self.new }
         ensures apart { KeepsApart target self.old self.new }
-        ensures moves { (b : ℕ) → Moves b (first_starved result) self.old self.new }
+        ensures moves { (b : ℕ) → Preserves b (first_starved result) self.old self.new }
     {
-        if self.links.is_settled(c) {
+        if !self.can_settle(c, target) {
             return Ok(());
         }
-        let link = self.links.at_mut(c);
-        let Phase::FullFeature(session) = &mut link.phase else {
-            return Ok(());
-        };
-        if is_same_target(session.params().target, Some(target)) {
-            let units = &mut self.units[target];
-            return match session.settle(self.alloc, &mut link.waiting, units) {
-                Ok(()) => Ok(()),
-                Err(Memory) => Err(self.starve(c)),
-            };
-        }
-        Ok(())
+        let goes_on = self.settle_session(c, target);
+        self.end_unless(c, goes_on)
+    }
+
+    /// The commands that a connection's session has taken are done and answered: whether it goes on.
+    fn settle_session(&mut self, c: usize, target: usize) -> Result<bool, Memory>
+        requires in_range { c < 64 }
+        requires target { target < length self.old.units }
+        ensures changes { ChangesOne c (Some target) self.old self.new }
+        ensures leaves { InSession (link_at self.old c).phase (λ session. LeavesSession (λ after waiting. Ends is_doing (λ failed goes_on.
+            SettlesUnits (units_at (Some target) self.old.units) (units_at (Some target) self.new.units) failed goes_on session after
+            (link_at self.old c).waiting waiting) result) session (link_at self.old c) (link_at self.new c)) }
+        ensures eases { AddsAtMost 0 (link_at self.old c) (link_at self.new c) }
+        ensures back { AreSound (units_at (Some target) self.new.units) → AreSound (units_at (Some target) self.old.units) }
+        ensures sure { AreSure (units_at (Some target) self.old.units) → AreSure (units_at (Some target) self.new.units) }
+        ensures count { length self.old.links ≡ 64 }
+    {
+        let units = &mut self.units[target];
+        let connection = self.connections.at_mut(c);
+        connection.settle(self.alloc, units)
+    }
+
+    /// A frame of a session: it is judged and acts, and then its target's sessions are settled. Where an allocation
+    /// fails that connection is closed, as just before one of the frame's steps.
+    pub(crate) fn serve(&mut self, c: usize, frame: Frame) -> Result<(), Starved>
+        requires in_range { c < 64 }
+        requires session { is_in_session (link_at self.old c).phase ≡ true }
+        ensures takes { Takes c frame (first_starved result) self.old self.new }
+        ensures moves { Preserves c (first_starved result) self.old self.new }
+        ensures part { KeepsPart c self.old self.new }
+        ensures loads { length frame.header ≡ header_length → AddsAtMost 1 (link_at self.old c) (link_at self.new c) }
+    {
+        let target = self.target_at(c);
+        let mut orders = Vec::new(self.alloc);
+        let goes_on = self.serve_session(c, target, frame, &mut orders);
+        let served = self.end_unless(c, goes_on);
+        self.carry_out_for(c, target, orders.as_slice());
+        let settled = self.settle_for(target);
+        earlier_of(served, settled)
+    }
+
+    /// A frame is judged, and the requests that it lets be taken act: whether the session goes on.
+    fn serve_session(
+        &mut self,
+        c: usize,
+        target: Option<usize>,
+        frame: Frame,
+        orders: &mut Vec<Header>,
+    ) -> Result<bool, Memory>
+        requires in_range { c < 64 }
+        requires own { target ≡ target_in (link_at self.old c).phase }
+        requires fresh { orders.old.items ≡ [] }
+        ensures changes { self.new ≡ with_link self.old c (link_at self.new c) }
+        ensures leaves { InSession (link_at self.old c).phase (λ session. LeavesSession (λ after waiting. Ends is_serving (λ failed goes_on.
+            ServesFrame frame (numbers_of (units_at target self.old.units)) orders.new.items failed goes_on session after
+            (link_at self.old c).waiting waiting) result) session (link_at self.old c) (link_at self.new c)) }
+        ensures loads { length frame.header ≡ header_length
+            → AddsAtMost 1 (link_at self.old c) (ended_link (goes_on_by result) (link_at self.new c)) }
+        ensures below { IsTargetBelow (length self.old.units) target }
+        ensures count { length self.old.links ≡ 64 }
+    {
+        let luns = luns_of(self.units.as_slice(), target);
+        let connection = self.connections.at_mut(c);
+        connection.serve(frame, luns, orders)
     }
 }

@@ -4,16 +4,16 @@ ghost use Rattle.std.specs.Prelude.{◌≡◌, ◌<◌, length, IfOk, IfSome};
 ghost use Rattle.iscsi_login.specs.Session.{is_of as is_session_of, named_by, older as older_of};
 ghost use Rattle.iscsi_target.specs.Machine.{session_in_phase, sessions};
 
+use crate::connection::Connection;
 use crate::fault::Memory;
-use crate::link::Link;
 use crate::phase::Phase;
 use iscsi_login::{Params, is_same_target};
 
 /// The connection has a session of the same nexus with the same target.
-fn is_of(link: &Link, session: &Params) -> bool
-    ensures { result ≡ is_session_of session.now.nexus session.now.target (session_in_phase link.now.phase) }
+fn is_of(connection: &Connection, session: &Params) -> bool
+    ensures { result ≡ is_session_of session.now.nexus session.now.target (session_in_phase connection.now.phase) }
 {
-    match &link.phase {
+    match &connection.phase {
         Phase::FullFeature(other) => {
             let other = other.params();
             other.nexus.is_same(&session.nexus) && is_same_target(other.target, session.target)
@@ -24,18 +24,20 @@ fn is_of(link: &Link, session: &Params) -> bool
 
 /// The connection of an older session of the same nexus with the same target.
 #[tactic(auto, unfolding(iscsi_login::specs::Session::older))]
-pub(crate) fn older(links: &[Link], session: &Params) -> Option<usize>
-    ensures value { result ≡ older_of session.now (sessions links.now) }
-    ensures bound { IfSome result (λ at. at < length links.now) }
+pub(crate) fn older(connections: &[Connection], session: &Params) -> Option<usize>
+    ensures value { result ≡ older_of session.now (sessions connections.now) }
+    ensures bound { IfSome result (λ at. at < length connections.now) }
 {
-    links.iter().position(|link| is_of(link, session))
+    connections
+        .iter()
+        .position(|connection| is_of(connection, session))
 }
 
 /// A copy of the session of a connection, where it has one.
-fn copy_of(link: &Link) -> Result<Option<Params>, Memory>
-    ensures { IfOk result (λ session. session ≡ session_in_phase link.now.phase) }
+fn copy_of(connection: &Connection) -> Result<Option<Params>, Memory>
+    ensures { IfOk result (λ session. session ≡ session_in_phase connection.now.phase) }
 {
-    match &link.phase {
+    match &connection.phase {
         Phase::FullFeature(session) => Ok(Some(session.params().clone()?)),
         _ => Ok(None),
     }
@@ -43,14 +45,14 @@ fn copy_of(link: &Link) -> Result<Option<Params>, Memory>
 
 /// A copy of the session that a TSIH names: that of connection c has TSIH c + 1 (RFC 7143
 /// §11.12.6).
-pub(crate) fn named(links: &[Link], tsih: u16) -> Result<Option<Params>, Memory>
-    ensures { IfOk result (λ session. session ≡ named_by tsih (sessions links.now)) }
+pub(crate) fn named(connections: &[Connection], tsih: u16) -> Result<Option<Params>, Memory>
+    ensures { IfOk result (λ session. session ≡ named_by tsih (sessions connections.now)) }
 {
     if tsih == 0 {
         return Ok(None);
     }
-    match links.get(usize::from(tsih) - 1) {
-        Some(link) => copy_of(link),
+    match connections.get(usize::from(tsih) - 1) {
+        Some(connection) => copy_of(connection),
         None => Ok(None),
     }
 }

@@ -11,5 +11,5 @@ unfolding older
 returns-clause-value c =
     let test = is_of c.args.session.now.nexus c.args.session.now.target in
     position_from_yields_List (λ link. test (session_in_phase link.phase)) _ _ c.position.result c.position.ensures.ran
-    (YieldsList-from_slice c.args.links.now c.iter.ensures.rest) (λ x b q k. search (rules, tests))
-    ∙ sym (position_of_map test (λ link. session_in_phase link.phase) c.args.links.now)
+    (YieldsList-from_slice c.args.connections.now c.iter.ensures.rest) (λ x b q k. search (rules, tests))
+    ∙ sym (position_of_map test (λ link. session_in_phase link.phase) c.args.connections.now)

@@ -97,23 +97,23 @@ returns-in-Err-clause-open g c = (returns-in-Err-clause-feeds g c).opens
 
 pub returns-clause-came : goal.returns-clause-came
 returns-clause-came g c =
-    all_came c.take_frames.result c.args.self.now c.keep.new.self c.take_frames.new.self c.args.c c.args.piece.now c.requires.in_range
-    (sym c.reads.ensures.value ∙ c.if-not-reads.false) c.in_default.ensures.ok c.take_frames.ensures.takes
+    all_came c.args.self.now c.keep.new.self c.take_frames.new.self c.args.c c.args.piece.now c.requires.in_range
+    (sym c.reads.ensures.value ∙ c.if-not-reads.false) c.in_default.ensures.ok c.take_frames.result c.take_frames.ensures.takes
 
 pub returns-clause-stands : goal.returns-clause-stands
 returns-clause-stands g c =
-    ok_came c.take_frames.result c.args.self.now c.keep.new.self c.take_frames.new.self c.args.c c.args.piece.now c.requires.in_range
-    (sym c.reads.ensures.value ∙ c.if-not-reads.false) c.in_default.ensures.ok c.take_frames.ensures.takes
+    ok_came c.args.self.now c.keep.new.self c.take_frames.new.self c.args.c c.args.piece.now c.requires.in_range
+    (sym c.reads.ensures.value ∙ c.if-not-reads.false) c.in_default.ensures.ok c.take_frames.result c.take_frames.ensures.takes
 
 pub returns-clause-starved : goal.returns-clause-starved
 returns-clause-starved g c =
-    err_came c.take_frames.result c.args.self.now c.keep.new.self c.take_frames.new.self c.args.c c.args.piece.now c.requires.in_range
-    (sym c.reads.ensures.value ∙ c.if-not-reads.false) c.in_default.ensures.ok c.take_frames.ensures.takes
+    err_came c.args.self.now c.keep.new.self c.take_frames.new.self c.args.c c.args.piece.now c.requires.in_range
+    (sym c.reads.ensures.value ∙ c.if-not-reads.false) c.in_default.ensures.ok c.take_frames.result c.take_frames.ensures.takes
 
 pub returns-clause-each : goal.returns-clause-each
 returns-clause-each g c = λ target sound.
     at_units c.keep.new.self.units c.args.self.now target (ap (λ (m : Machine). m.units) c.in_default.ensures.ok)
-    (c.take_frames.ensures.takes.back target sound)
+    (c.take_frames.ensures.takes.leaves.back target sound)
 
 pub returns-clause-sound : goal.returns-clause-sound
 returns-clause-sound g c = sound_back c.args.self.now c.take_frames.new.self (returns-clause-each g c)
@@ -123,17 +123,17 @@ returns-clause-feeds g c =
     let lt : c.args.c < length c.args.self.now.links = (let below = c.requires.in_range in omega (arith, c.reads.ensures.count)) in
     feeds_then c.args.c c.args.self.now c.keep.new.self c.take_frames.new.self
     (kept_feeds c.args.self.now c.keep.new.self c.args.c c.args.piece.now lt (sym c.reads.ensures.value ∙ c.if-not-reads.false)
-    c.in_default.ensures.ok) c.take_frames.ensures.takes.feeds
+    c.in_default.ensures.ok) c.take_frames.ensures.takes.leaves.feeds
 
 pub returns-clause-closing : goal.returns-clause-closing
-returns-clause-closing g c = closing_if c.take_frames.result c.take_frames.new.self c.take_frames.ensures.takes.closing
+returns-clause-closing g c = closing_if c.take_frames.result c.take_frames.new.self c.take_frames.ensures.takes.leaves.closing
 
 pub returns-clause-part : goal.returns-clause-part
 returns-clause-part g c =
     let lt : c.args.c < length c.args.self.now.links = (let below = c.requires.in_range in omega (arith, c.reads.ensures.count)) in
     part_then c.args.c c.args.self.now c.keep.new.self c.take_frames.new.self
     (kept_reads c.args.self.now c.keep.new.self c.args.c c.args.piece.now lt (sym c.reads.ensures.value ∙ c.if-not-reads.false) c.in_default.ensures.ok)
-    (part_as c.args.c c.args.self.now _ c.keep.new.self c.in_default.ensures.ok (part_halved c.args.self.now c.args.c _ lt)) c.take_frames.ensures.takes.part
+    (part_as c.args.c c.args.self.now _ c.keep.new.self c.in_default.ensures.ok (part_halved c.args.self.now c.args.c _ lt)) c.take_frames.ensures.takes.leaves.part
 
 pub returns-then-is_empty-clause-part : goal.returns-then-is_empty-clause-part
 returns-then-is_empty-clause-part g c = part_none c.args.c c.args.self.now
@@ -160,6 +160,6 @@ returns-clause-bounded g c = λ s sent h at le bounded sound.
     (let lt : c.args.c < length c.args.self.now.links = (let below = c.requires.in_range in omega (arith, c.reads.ensures.count)) in
     let reading : is_reading (link_at c.args.self.now c.args.c).phase ≡ true = sym c.reads.ensures.value ∙ c.if-not-reads.false in
     let sound_old : IsSound c.args.self.now = sound_as c.keep.new.self _ c.in_default.ensures.ok
-    (sound_back c.keep.new.self c.take_frames.new.self c.take_frames.ensures.takes.back sound) in
+    (sound_back c.keep.new.self c.take_frames.new.self c.take_frames.ensures.takes.leaves.back sound) in
     fed_bounded c.args.self.now c.keep.new.self c.take_frames.new.self c.args.c c.args.piece.now _ lt reading
     (half_there s sent h c.args.self.now c.args.c c.requires.in_range (at sound_old) reading) c.in_default.ensures.ok c.take_frames.ensures.takes le bounded)

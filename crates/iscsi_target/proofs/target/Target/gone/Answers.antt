@@ -13,10 +13,10 @@ pub invariant_of-self : goal.invariant_of-self
 invariant_of-self g c =
     let free : IsWithin (length c.self.inside.units.items) c.free.result.phase =
     subst (λ (l : LinkState). IsWithin (length c.self.inside.units.items) l.phase) (sym c.free.ensures) tt in (
-      ap (λ (links : List LinkState). length links) c.put.ensures ∙ length-set c.self.inside.links c.args.c c.free.result ∙ c.self.invariant.0,
+      ap (λ (links : List LinkState). length links) c.put.ensures ∙ length-set c.self.inside.connections c.args.c c.free.result ∙ c.self.invariant.0,
       c.self.invariant.1,
       subst (λ (links : List LinkState). All (λ (l : LinkState). IsWithin (length c.self.inside.units.items) l.phase) links) (sym c.put.ensures)
-          (All-set (λ (l : LinkState). IsWithin (length c.self.inside.units.items) l.phase) c.self.inside.links c.args.c c.free.result free c.self.invariant.2),
+          (All-set (λ (l : LinkState). IsWithin (length c.self.inside.units.items) l.phase) c.self.inside.connections c.args.c c.free.result free c.self.invariant.2),
     )
 
 pub returns-clause-sound : goal.returns-clause-sound

@@ -1,6 +1,4 @@
-use Rattle.std.proofs.Common.{◌≡◌, ℕ, ◌<◌, List, length, true, Option, arith, subst, sym, ap, ◌∙◌}
-use Rattle.std.proofs.lemmas.List.{length-set}
-use Rattle.std.proofs.lemmas.List.Elements.{All-set}
+use Rattle.std.proofs.Common.{◌≡◌, ℕ, ◌<◌, List, length, true, Option, refl, arith, subst, sym, ap, ◌∙◌}
 use Rattle.std.proofs.lemmas.Result.{on_ok_weaker, on_err_weaker}
 use Rattle.iscsi_pdu.specs.Frames.{Frame}
 use Rattle.iscsi_pdu.specs.LoginRequest.{tsih}
@@ -11,7 +9,8 @@ use Rattle.iscsi_login.specs.Session.{named_by}
 use Rattle.iscsi_login.specs.declared.params.Params.{Params}
 use Rattle.iscsi_target.specs.World.{lookup_for}
 use Rattle.iscsi_target.specs.Machine.{LinkState, Machine, link_at, closed, free_link, IsWithin, is_logging_in, is_reading, logged_in, sessions}
-use Rattle.iscsi_target.proofs.Asking.{login_there, no_session, still_reading, waits, link_there, closed_alike, begun_alike, begun_by_request, on_err, get_or_any}
+use Rattle.iscsi_target.proofs.Asking.{login_there, no_session, still_reading, waits, link_there, closed_alike, begun_alike, begun_by_request, on_err}
+use Rattle.iscsi_target.proofs.Lending.{get_or_any, lent_holds}
 use Rattle.iscsi_target.proofs.target.Target.log_in.Goals as goal
 
 pub returns-in_err-response-clause-err : goal.returns-in_err-response-clause-err
@@ -19,11 +18,11 @@ returns-in_err-response-clause-err g c =
     let machine : Machine = record {
       directory = c.self.inside.directory;
       units = c.self.inside.units.items;
-      links = c.self.inside.links;
+      links = c.self.inside.connections;
     } in
-    let lt : c.args.c < length c.self.inside.links = (let below = c.requires.in_range in let count = c.self.invariant.0 in omega arith) in
-    let old : c.at_mut-link.result.now ≡ link_at machine c.args.c = c.at_mut-link.ensures.value
-    ∙ get_or_any c.self.inside.links c.args.c _ free_link lt in
+    let lt : c.args.c < length c.self.inside.connections = (let below = c.requires.in_range in let count = c.self.invariant.0 in omega arith) in
+    let old : c.at_mut-connection.result.now ≡ link_at machine c.args.c = c.at_mut-connection.ensures.value
+    ∙ get_or_any c.self.inside.connections c.args.c _ free_link lt in
     let logs : is_logging_in (link_at machine c.args.c).phase ≡ true = ap (λ (m : Machine). is_logging_in (link_at m c.args.c).phase) c.self.view_is
     ∙ c.requires.logs_in in
     on_err c.from_residual-in_err-response.result
@@ -33,33 +32,25 @@ returns-in_err-response-clause-err g c =
 
 pub invariant_of-self-in-Some : goal.invariant_of-self-in-Some
 invariant_of-self-in-Some g c =
-    let lt : c.args.c < length c.self.inside.links = (let below = c.requires.in_range in let count = c.self.invariant.0 in omega arith) in
-    let old : c.at_mut-link.result.now ≡ _ = c.at_mut-link.ensures.value ∙ get_or_any c.self.inside.links c.args.c _ free_link lt in
-    let count : length c.self.inside.directory.names ≡ length c.self.inside.units.items = sym c.self.invariant.1 in
-    let was : IsWithin (length c.self.inside.units.items) c.at_mut-link.result.now.phase =
-    subst (λ (l : LinkState). IsWithin (length c.self.inside.units.items) l.phase) (sym old) (c.self.invariant.2 c.args.c free_link lt) in
-    let is : IsWithin (length c.self.inside.units.items) c.log_in.new.self.phase =
-    subst (λ (n : ℕ). IsWithin n c.at_mut-link.result.now.phase → IsWithin n c.log_in.new.self.phase) count c.in_ok-response.ensures.target was
-    in (
-      length-set c.self.inside.links c.args.c c.log_in.new.self ∙ c.self.invariant.0,
-      c.self.invariant.1,
-      All-set (λ (l : LinkState). IsWithin (length c.self.inside.units.items) l.phase) c.self.inside.links c.args.c c.log_in.new.self is
-          c.self.invariant.2,
-    )
+    let units = c.self.inside.units.items in
+    lent_holds c.self.inside.connections units units _ c.args.c _ _ c.log_in.new.self c.requires.in_range c.self.invariant
+    c.at_mut-connection.ensures.value refl
+    (subst (λ (n : ℕ). IsWithin n c.at_mut-connection.result.now.phase → IsWithin n c.log_in.new.self.phase) (sym c.self.invariant.1)
+    c.in_ok-response.ensures.target)
 
 pub begin-requires-clause-reads : goal.begin-requires-clause-reads
 begin-requires-clause-reads g c =
     let machine : Machine = record {
       directory = c.self.inside.directory;
       units = c.self.inside.units.items;
-      links = c.self.inside.links;
+      links = c.self.inside.connections;
     } in
-    let lt : c.args.c < length c.self.inside.links = (let below = c.requires.in_range in let count = c.self.invariant.0 in omega arith) in
-    let old : c.at_mut-link.result.now ≡ link_at machine c.args.c = c.at_mut-link.ensures.value
-    ∙ get_or_any c.self.inside.links c.args.c _ free_link lt in
+    let lt : c.args.c < length c.self.inside.connections = (let below = c.requires.in_range in let count = c.self.invariant.0 in omega arith) in
+    let old : c.at_mut-connection.result.now ≡ link_at machine c.args.c = c.at_mut-connection.ensures.value
+    ∙ get_or_any c.self.inside.connections c.args.c _ free_link lt in
     let logs : is_logging_in (link_at machine c.args.c).phase ≡ true = ap (λ (m : Machine). is_logging_in (link_at m c.args.c).phase) c.self.view_is
     ∙ c.requires.logs_in in
-    let there = login_there c.at_mut-link.result.now.phase (ap (λ (l : LinkState). is_logging_in l.phase) old ∙ logs) in
+    let there = login_there c.at_mut-connection.result.now.phase (ap (λ (l : LinkState). is_logging_in l.phase) old ∙ logs) in
     let waiting = waits _ _ _ _ _ _ (rw c.in-Some.is at (c.in_ok-response.ensures.answered there.0 there.1)) in
     ap (λ (l : LinkState). is_reading l.phase) (link_there machine c.args.c c.log_in.new.self lt) ∙ still_reading c.log_in.new.self.phase waiting.logging_in
 
@@ -68,20 +59,20 @@ returns-in-Some-clause-ok g c =
     let machine : Machine = record {
       directory = c.self.inside.directory;
       units = c.self.inside.units.items;
-      links = c.self.inside.links;
+      links = c.self.inside.connections;
     } in
-    let lt : c.args.c < length c.self.inside.links = (let below = c.requires.in_range in let count = c.self.invariant.0 in omega arith) in
-    let old : c.at_mut-link.result.now ≡ link_at machine c.args.c = c.at_mut-link.ensures.value
-    ∙ get_or_any c.self.inside.links c.args.c _ free_link lt in
+    let lt : c.args.c < length c.self.inside.connections = (let below = c.requires.in_range in let count = c.self.invariant.0 in omega arith) in
+    let old : c.at_mut-connection.result.now ≡ link_at machine c.args.c = c.at_mut-connection.ensures.value
+    ∙ get_or_any c.self.inside.connections c.args.c _ free_link lt in
     let logs : is_logging_in (link_at machine c.args.c).phase ≡ true = ap (λ (m : Machine). is_logging_in (link_at m c.args.c).phase) c.self.view_is
     ∙ c.requires.logs_in in
-    let named : c.in_ok-named.named ≡ named_by (tsih c.args.request.now.header) (sessions c.self.inside.links) =
+    let named : c.in_ok-named.named ≡ named_by (tsih c.args.request.now.header) (sessions c.self.inside.connections) =
     c.in_ok-named.ensures ∙ ap (λ (ls : List LinkState). named_by c.tsih.result (sessions ls)) c.as_slice.ensures.value
-    ∙ ap (λ (n : ℕ). named_by n (sessions c.self.inside.links)) (c.tsih.ensures ∙ ap (λ (f : Frame). tsih f.header) c.request.view_is) in
+    ∙ ap (λ (n : ℕ). named_by n (sessions c.self.inside.connections)) (c.tsih.ensures ∙ ap (λ (f : Frame). tsih f.header) c.request.view_is) in
     let looked_up : lookup_in c.self.inside.directory c.in_ok-named.named ≡ lookup_for machine.directory (sessions machine.links) c.args.request.now =
     ap (λ (o : Option Params). lookup_in c.self.inside.directory o) named in
     on_ok_weaker c.begin.result (λ e login h.
-    (let is_so : c.at_mut-link.result.now.phase ≡ _ = ap (λ (l : LinkState). l.phase) old
+    (let is_so : c.at_mut-connection.result.now.phase ≡ _ = ap (λ (l : LinkState). l.phase) old
     ∙ ap (λ (m : Machine). (link_at m c.args.c).phase) c.self.view_is ∙ h in
     let waiting = waits _ _ _ _ _ _ (rw c.in-Some.is at (c.in_ok-response.ensures.answered login is_so)) in
     let reply : reply_of login (lookup_for machine.directory (sessions machine.links) c.args.request.now) c.args.request.now ≡ _ =
@@ -96,14 +87,14 @@ returns-in-Some-clause-err g c =
     let machine : Machine = record {
       directory = c.self.inside.directory;
       units = c.self.inside.units.items;
-      links = c.self.inside.links;
+      links = c.self.inside.connections;
     } in
-    let lt : c.args.c < length c.self.inside.links = (let below = c.requires.in_range in let count = c.self.invariant.0 in omega arith) in
-    let old : c.at_mut-link.result.now ≡ link_at machine c.args.c = c.at_mut-link.ensures.value
-    ∙ get_or_any c.self.inside.links c.args.c _ free_link lt in
+    let lt : c.args.c < length c.self.inside.connections = (let below = c.requires.in_range in let count = c.self.invariant.0 in omega arith) in
+    let old : c.at_mut-connection.result.now ≡ link_at machine c.args.c = c.at_mut-connection.ensures.value
+    ∙ get_or_any c.self.inside.connections c.args.c _ free_link lt in
     let logs : is_logging_in (link_at machine c.args.c).phase ≡ true = ap (λ (m : Machine). is_logging_in (link_at m c.args.c).phase) c.self.view_is
     ∙ c.requires.logs_in in
-    let there = login_there c.at_mut-link.result.now.phase (ap (λ (l : LinkState). is_logging_in l.phase) old ∙ logs) in
+    let there = login_there c.at_mut-connection.result.now.phase (ap (λ (l : LinkState). is_logging_in l.phase) old ∙ logs) in
     let waiting = waits _ _ _ _ _ _ (rw c.in-Some.is at (c.in_ok-response.ensures.answered there.0 there.1)) in
     on_err_weaker c.begin.result (λ e. ap (λ (m : Machine). closed m c.args.c) e
     ∙ closed_alike machine c.args.c c.log_in.new.self lt (ap (λ (l : LinkState). l.waiting) waiting.same ∙ ap (λ (l : LinkState). l.waiting) old)

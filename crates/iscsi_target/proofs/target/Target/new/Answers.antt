@@ -10,9 +10,9 @@ use Rattle.iscsi_target.proofs.target.Target.new.Goals as goal
 
 pub invariant_of-result : goal.invariant_of-result
 invariant_of-result g c = (
-  rw c.in_ok-links.ensures (length-replicate 64 free_link),
+  rw c.in_ok-connections.ensures (length-replicate 64 free_link),
   c.requires ∙ sym (length-map c.args.config.targets.items string_bytes),
-  rw c.in_ok-links.ensures (All-replicate (λ (link : LinkState). IsWithin (length c.args.units.items) link.phase) 64 free_link tt),
+  rw c.in_ok-connections.ensures (All-replicate (λ (link : LinkState). IsWithin (length c.args.units.items) link.phase) 64 free_link tt),
 )
 
 pub returns-clause-stands : goal.returns-clause-stands
@@ -21,9 +21,9 @@ returns-clause-stands g c =
       directory = known_in c.args.config;
       units = c.args.units.items;
       links = links;
-    }) (sym c.in_ok-links.ensures))
+    }) (sym c.in_ok-connections.ensures))
     (new_stands (record { directory = known_in c.args.config; units = c.args.units.items }))
 
 pub returns-clause-bounded : goal.returns-clause-bounded
 returns-clause-bounded g c =
-    bounded_links (new_machine (known_in c.args.config) c.args.units.items) _ (sym c.in_ok-links.ensures) (new_bounded (known_in c.args.config) c.args.units.items)
+    bounded_links (new_machine (known_in c.args.config) c.args.units.items) _ (sym c.in_ok-connections.ensures) (new_bounded (known_in c.args.config) c.args.units.items)

@@ -1,6 +1,6 @@
 use Rattle.std.proofs.Common.{ℕ, Option, None, sym, subst}
 use Rattle.iscsi_target.specs.Serving.{SettlesFor, first_starved}
-use Rattle.iscsi_target.proofs.Held.{settles_for_none}
+use Rattle.iscsi_target.proofs.SessionCalls.{settles_for_none}
 use Rattle.iscsi_target.proofs.target.Target.settle_for.Goals as goal
 
 pub returns-in-Some-clause-settles : goal.returns-in-Some-clause-settles

@@ -1,8 +1,12 @@
 use Rattle.std.proofs.Common.{refl, sym, ap, ◌∙◌}
 use Rattle.iscsi_target.specs.Machine.{Machine, link_at, closed, GivesFrame}
 use Rattle.iscsi_target.proofs.Heavier.{header_whole}
-use Rattle.iscsi_target.proofs.Taking.{none_whole, takes_frame, takes_long, takes_none, takes_as}
+use Rattle.iscsi_target.proofs.Taking.{none_whole, halved_reads, takes_frame, takes_long, takes_none, takes_as}
 use Rattle.iscsi_target.proofs.target.Target.take_next.Goals as goal
+
+pub take_frame-requires-clause-reads : goal.take_frame-requires-clause-reads
+take_frame-requires-clause-reads g c = halved_reads c.args.self.now c.next_frame.new.self c.args.c _ c.requires.in_range c.next_frame.ensures.count
+    (rw c.in-Ok-Some.field-0-is at c.in-Ok-Some.ensures.same) c.requires.reads
 
 pub returns-in-Ok-Some-clause-takes : goal.returns-in-Ok-Some-clause-takes
 returns-in-Ok-Some-clause-takes g c =

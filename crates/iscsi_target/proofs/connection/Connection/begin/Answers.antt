@@ -2,7 +2,7 @@ use Rattle.std.proofs.Common.{◌≡◌, ◌++◌, ◌∙◌, true, refl, sym, a
 use Rattle.iscsi_pdu.specs.Answer.{spelling}
 use Rattle.iscsi_target.specs.Machine.{LinkState, is_reading}
 use Rattle.iscsi_target.proofs.Asking.{ok_known}
-use Rattle.iscsi_target.proofs.link.Link.begin.Goals as goal
+use Rattle.iscsi_target.proofs.connection.Connection.begin.Goals as goal
 
 pub returns-clause-ok : goal.returns-clause-ok
 returns-clause-ok g c =

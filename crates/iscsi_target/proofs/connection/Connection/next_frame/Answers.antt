@@ -1,18 +1,17 @@
-use Rattle.std.proofs.Common.{◌≡◌, ◌<◌, ◌∙◌, List, ℕ, length, drop, true, Option, Some, None, Result, Ok, Err, IfOk, IfSome, sym, ap}
+use Rattle.std.proofs.Common.{◌≡◌, ◌<◌, ◌∙◌, List, ℕ, length, drop, true, Option, Some, Result, Ok, IfOk, IfSome, sym, ap}
 use Rattle.iscsi_pdu.specs.Frames.{Frame, has_frame, frame_length}
 use Rattle.iscsi_pdu.specs.declared.fault.PduFault.{PduFault}
 use Rattle.iscsi_pdu.proofs.Frames.{drop_shorter}
 use Rattle.iscsi_target.specs.Machine.{LinkState, is_reading}
 use Rattle.iscsi_target.proofs.Choices.{cond_true}
-use Rattle.iscsi_target.proofs.link.Link.next_frame.Goals as goal
+use Rattle.iscsi_target.proofs.connection.Connection.next_frame.Goals as goal
 
 -- where a frame was taken from the front, fewer bytes are left
 shorter : (r : Result (Option Frame) PduFault) (old new : List ℕ) → IfOk r (λ o. IfSome o (λ _. has_frame old ≡ true))
     → IfOk r (λ o. IfSome o (λ _. new ≡ drop (frame_length old) old))
     → IfOk r (λ o. IfSome o (λ _. length new < length old))
 shorter (Ok (Some frame)) old new there taken = rw taken (drop_shorter old there)
-shorter (Ok None) old new there taken = tt
-shorter (Err fault) old new there taken = tt
+shorter _ old new there taken = tt
 
 pub returns-clause-shorter : goal.returns-clause-shorter
 returns-clause-shorter c =

@@ -5,8 +5,8 @@ ghost use Rattle.std.specs.Borrow.{sem};
 ghost use Rattle.iscsi_target.specs.Lending.{LendsLink};
 ghost use Rattle.iscsi_target.specs.Machine.{free_link, is_settled, is_silent};
 
+use crate::connection::Connection;
 use crate::fault::Memory;
-use crate::link::Link;
 use std::alloc::Global;
 use std::marker::Model;
 
@@ -17,45 +17,45 @@ pub(crate) const CONNECTIONS: usize = 64;
 ///
 /// Most of them have nothing to do at most times, so what is found of one is remembered until it is lent to be changed.
 #[derive(Drop)]
-pub(crate) struct Links {
-    items: Vec<Link>,
+pub(crate) struct Connections {
+    items: Vec<Connection>,
     /// Settling their sessions does nothing.
     settled: [bool; CONNECTIONS],
     /// Nothing waits to be sent on them, and they are not closing.
     silent: [bool; CONNECTIONS],
 }
 
-impl Model for Links {
+impl Model for Connections {
     ghost use Rattle.std.specs.Prelude.{◌≡◌, length, true, List};
-    ghost use Rattle.iscsi_target.specs.Links.{Tells};
+    ghost use Rattle.iscsi_target.specs.Connections.{MarksAreTrue};
     ghost use Rattle.iscsi_target.specs.Machine.{LinkState, is_settled, is_silent};
 
     ghost Value = { List LinkState };
 
     ghost view = { λ l. l.items.items };
 
-    ghost invariant = { λ l. (length l.items.items ≡ 64) × Tells (λ (link : LinkState). is_settled link.phase) l.settled l.items.items
-        × Tells is_silent l.silent l.items.items };
+    ghost invariant = { λ l. (length l.items.items ≡ 64) × MarksAreTrue (λ (link : LinkState). is_settled link.phase) l.settled l.items.items
+        × MarksAreTrue is_silent l.silent l.items.items };
 }
 
 /// Every connection, none of them open.
-fn free_links(alloc: Global) -> Result<Vec<Link>, Memory>
-    ensures { IfOk result (λ links. links.items ≡ replicate 64 free_link) }
+fn free_connections(alloc: Global) -> Result<Vec<Connection>, Memory>
+    ensures { IfOk result (λ connections. connections.items ≡ replicate 64 free_link) }
 {
-    let mut links = Vec::with_capacity(alloc, CONNECTIONS)?;
+    let mut connections = Vec::with_capacity(alloc, CONNECTIONS)?;
     for _ in 0..CONNECTIONS {
-        links.push(Link::free(alloc))?;
+        connections.push(Connection::free(alloc))?;
     }
-    Ok(links)
+    Ok(connections)
 }
 
-impl Links {
+impl Connections {
     /// No connection is open.
-    pub(crate) fn free(alloc: Global) -> Result<Links, Memory>
-        ensures { IfOk result (λ links. links ≡ replicate 64 free_link) }
+    pub(crate) fn free(alloc: Global) -> Result<Connections, Memory>
+        ensures { IfOk result (λ connections. connections ≡ replicate 64 free_link) }
     {
-        let items = free_links(alloc)?;
-        Ok(Links {
+        let items = free_connections(alloc)?;
+        Ok(Connections {
             items,
             settled: [false; CONNECTIONS],
             silent: [false; CONNECTIONS],
@@ -64,7 +64,7 @@ impl Links {
 
     /// All of them, in their order.
     #[inline]
-    pub(crate) fn as_slice(&self) -> &[Link]
+    pub(crate) fn as_slice(&self) -> &[Connection]
         ensures value { result.now ≡ self.now }
     {
         self.items.as_slice()
@@ -72,7 +72,7 @@ impl Links {
 
     /// The connection with this number.
     #[inline]
-    pub(crate) fn at(&self, c: usize) -> &Link
+    pub(crate) fn at(&self, c: usize) -> &Connection
         requires { c < 64 }
         ensures { result.now ≡ slice_index_or self.now c free_link }
     {
@@ -81,7 +81,7 @@ impl Links {
 
     /// The connection with this number, to be changed.
     #[inline]
-    pub(crate) fn at_mut(&mut self, c: usize) -> &mut Link
+    pub(crate) fn at_mut(&mut self, c: usize) -> &mut Connection
         requires { c < 64 }
         ensures* writes_back { sem 𝓛 (LendsLink self.entry c result) }
         ensures value { result.now ≡ slice_index_or self.old c result.now }
@@ -92,11 +92,11 @@ impl Links {
     }
 
     /// Another connection under this number.
-    pub(crate) fn put(&mut self, c: usize, link: Link)
+    pub(crate) fn put(&mut self, c: usize, connection: Connection)
         requires { c < 64 }
-        ensures { self.new ≡ slice_set self.old c link }
+        ensures { self.new ≡ slice_set self.old c connection }
     {
-        *self.at_mut(c) = link;
+        *self.at_mut(c) = connection;
     }
 
     /// No command of the connection's session can be done, or it has none.
@@ -122,9 +122,9 @@ impl Links {
         requires { c < 64 }
         ensures { self.new ≡ self.old }
     {
-        let link = &mut self.items[c];
-        link.rest(alloc);
-        self.settled[c] = link.is_settled();
-        self.silent[c] = link.is_silent();
+        let connection = &mut self.items[c];
+        connection.rest(alloc);
+        self.settled[c] = connection.is_settled();
+        self.silent[c] = connection.is_silent();
     }
 }

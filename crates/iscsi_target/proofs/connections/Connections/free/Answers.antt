@@ -1,8 +1,8 @@
-use Rattle.std.proofs.Common.{◌≡◌, List, length, replicate, ap, sym, ◌∙◌}
+use Rattle.std.proofs.Common.{List, length, ap, ◌∙◌}
 use Rattle.std.proofs.lemmas.List.{length-replicate}
 use Rattle.iscsi_target.specs.Machine.{LinkState, is_settled, is_silent, free_link}
 use Rattle.iscsi_target.proofs.Marked.{none_marked}
-use Rattle.iscsi_target.proofs.links.Links.free.Goals as goal
+use Rattle.iscsi_target.proofs.connections.Connections.free.Goals as goal
 
 pub invariant_of-result : goal.invariant_of-result
 invariant_of-result c =

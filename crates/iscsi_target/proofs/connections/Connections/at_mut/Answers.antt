@@ -1,8 +1,8 @@
-use Rattle.std.proofs.Common.{◌≡◌, length, rules, ◌∙◌}
+use Rattle.std.proofs.Common.{rules, ◌∙◌}
 use Rattle.std.proofs.lemmas.List.{length-set}
 use Rattle.iscsi_target.specs.Machine.{LinkState, is_settled, is_silent}
 use Rattle.iscsi_target.proofs.Marked.{lent_unmarked}
-use Rattle.iscsi_target.proofs.links.Links.at_mut.Goals as goal
+use Rattle.iscsi_target.proofs.connections.Connections.at_mut.Goals as goal
 
 pub invariant_of-self-lent : goal.invariant_of-self-lent
 invariant_of-self-lent c w =

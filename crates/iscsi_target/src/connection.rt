@@ -28,13 +28,13 @@ const MOST_ROOM_KEPT: usize = 65_536;
 
 /// A connection.
 #[derive(Drop)]
-pub(crate) struct Link {
+pub(crate) struct Connection {
     framer: Framer,
     pub phase: Phase,
     pub waiting: BytesMut,
 }
 
-impl Model for Link {
+impl Model for Connection {
     ghost use Rattle.std.specs.Prelude.{[], if◌then◌else◌};
     ghost use Rattle.iscsi_target.specs.Machine.{LinkState, is_reading};
 
@@ -43,12 +43,12 @@ impl Model for Link {
     ghost view = { λ l. record { half = if is_reading l.phase then l.framer else []; phase = l.phase; waiting = l.waiting.items } };
 }
 
-impl Link {
+impl Connection {
     /// A connection that is not open. It takes no memory.
-    pub(crate) fn free(alloc: Global) -> Link
+    pub(crate) fn free(alloc: Global) -> Connection
         ensures { result ≡ free_link }
     {
-        Link {
+        Connection {
             framer: Framer::new(alloc),
             phase: Phase::Free,
             waiting: BytesMut::new(alloc),
@@ -56,11 +56,11 @@ impl Link {
     }
 
     /// A connection that has just been opened. It takes no memory.
-    pub(crate) fn opened(alloc: Global, c: usize) -> Link
+    pub(crate) fn opened(alloc: Global, c: usize) -> Connection
         requires { c < 64 }
         ensures { result ≡ opened_link c }
     {
-        Link {
+        Connection {
             framer: Framer::new(alloc),
             phase: Phase::Login(Login::new(alloc, c)),
             waiting: BytesMut::new(alloc),

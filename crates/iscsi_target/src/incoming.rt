@@ -1,0 +1,121 @@
+//! The bytes of a connection: the frames that become whole are taken, one after the other.
+
+ghost use Rattle.std.specs.Prelude.{◌≡◌, ◌<◌, ◌++◌, [], true, false, length, IfOk, IfSome, IfNone, OnOk, OnErr};
+ghost use Rattle.std.specs.Result.{IsErrOf};
+ghost use Rattle.iscsi_pdu.specs.Frames.{has_frame, is_long};
+ghost use Rattle.iscsi_pdu.specs.Header.{header_length};
+ghost use Rattle.iscsi_target.specs.Bounded.{AddsAtMost};
+ghost use Rattle.iscsi_target.specs.History.{arrivals};
+ghost use Rattle.iscsi_target.specs.Machine.{KeepsPart, GivesFrame, link_at, with_link, is_logging_in, is_reading};
+ghost use Rattle.iscsi_target.specs.Serving.{Takes, TakesOne, TakesAll, Preserves, first_starved};
+
+use crate::fault::{Memory, Starved};
+use crate::phase::Phase;
+use crate::serve::earlier_of;
+use crate::target::Target;
+use iscsi_pdu::{Frame, Opcode, PduFault};
+use media_store::Store;
+
+impl<S: Store> Target<S> {
+    /// Keeps a further piece of a connection's bytes.
+    pub(crate) fn keep(&mut self, c: usize, piece: &[u8]) -> Result<(), Memory>
+        requires in_range { c < 64 }
+        requires reads { is_reading (link_at self.old c).phase ≡ true }
+        ensures ok { OnOk result (self.new ≡ with_link self.old c (record (link_at self.old c) { half = (link_at self.old c).half ++ piece.now })) }
+        ensures err { OnErr result (self.new ≡ self.old) }
+    {
+        let connection = self.connections.at_mut(c);
+        connection.keep(piece)
+    }
+
+    /// The first whole frame of a connection, taken from the front of its bytes.
+    fn next_frame(&mut self, c: usize) -> Result<Option<Frame>, PduFault>
+        requires in_range { c < 64 }
+        requires reads { is_reading (link_at self.old c).phase ≡ true }
+        ensures given { IfOk result (λ o. IfSome o (λ f. GivesFrame f (link_at self.old c).half (link_at self.new c).half)) }
+        ensures same { IfOk result (λ o. IfSome o (λ _. self.new ≡ with_link self.old c (record (link_at self.old c) { half = (link_at self.new c).half }))) }
+        ensures none { IfOk result (λ o. IfNone o (has_frame (link_at self.old c).half ≡ false)) }
+        ensures not_long { IfOk result (λ o. IfNone o (is_long (link_at self.old c).half ≡ false)) }
+        ensures waits { IfOk result (λ o. IfNone o (self.new ≡ self.old)) }
+        ensures too_long { IsErrOf result PduFault.TooLong → is_long (link_at self.old c).half ≡ true }
+        ensures memory { IsErrOf result PduFault.Memory → has_frame (link_at self.old c).half ≡ true }
+        ensures err { OnErr result (self.new ≡ self.old) }
+        ensures count { length self.old.links ≡ 64 }
+    {
+        let connection = self.connections.at_mut(c);
+        connection.next_frame()
+    }
+
+    /// The whole frames of a connection are taken, one after the other.
+    pub(crate) fn take_frames(&mut self, c: usize) -> Result<(), Starved>
+        requires in_range { c < 64 }
+        requires reads { is_reading (link_at self.old c).phase ≡ true }
+        ensures takes { TakesAll c (first_starved result) self.old self.new }
+    {
+        let mut outcome = Ok(());
+        while self.reads(c) {
+            let Some(taken) = self.take_next(c) else {
+                break;
+            };
+            outcome = earlier_of(outcome, taken);
+        }
+        outcome
+    }
+
+    /// The first whole frame of a connection is taken, where there is one. A header that names too much
+    /// data is a violation.
+    fn take_next(&mut self, c: usize) -> Option<Result<(), Starved>>
+        requires in_range { c < 64 }
+        requires reads { is_reading (link_at self.old c).phase ≡ true }
+        ensures takes { IfSome result (λ taken. TakesOne c (first_starved taken) self.old self.new) }
+        ensures none { IfNone result (self.new ≡ self.old) }
+        ensures whole { IfNone result (arrivals (link_at self.old c).half ≡ []) }
+    {
+        match self.next_frame(c) {
+            Ok(Some(frame)) => Some(self.take_frame(c, frame)),
+            Ok(None) => None,
+            Err(PduFault::TooLong) => {
+                self.close(c);
+                Some(Ok(()))
+            }
+            Err(PduFault::Memory) => Some(Err(self.starve(c))),
+        }
+    }
+
+    /// One frame of a connection, in its phase. Where an allocation fails that connection is closed, as just
+    /// before one of the frame's steps.
+    fn take_frame(&mut self, c: usize, frame: Frame) -> Result<(), Starved>
+        requires in_range { c < 64 }
+        requires reads { is_reading (link_at self.old c).phase ≡ true }
+        ensures takes { Takes c frame (first_starved result) self.old self.new }
+        ensures moves { Preserves c (first_starved result) self.old self.new }
+        ensures part { KeepsPart c self.old self.new }
+        ensures loads { length frame.header ≡ header_length → AddsAtMost 1 (link_at self.old c) (link_at self.new c) }
+    {
+        match &self.connections.at(c).phase {
+            Phase::Free | Phase::Closing => Ok(()),
+            Phase::Login(_) => self.enter(c, &frame),
+            Phase::FullFeature(_) => self.serve(c, frame),
+        }
+    }
+
+    /// The first frame of a connection is a Login request, or a violation.
+    #[tactic(auto, unfolding(crate::specs::World::is_login))]
+    fn enter(&mut self, c: usize, frame: &Frame) -> Result<(), Starved>
+        requires in_range { c < 64 }
+        requires logs_in { is_logging_in (link_at self.old c).phase ≡ true }
+        ensures takes { Takes c frame.now (first_starved result) self.old self.new }
+        ensures moves { Preserves c (first_starved result) self.old self.new }
+        ensures part { KeepsPart c self.old self.new }
+        ensures loads { AddsAtMost 1 (link_at self.old c) (link_at self.new c) }
+    {
+        if frame.header.opcode() == Opcode::Login {
+            return match self.log_in(c, frame) {
+                Ok(()) => Ok(()),
+                Err(Memory) => Err(self.starve(c)),
+            };
+        }
+        self.close(c);
+        Ok(())
+    }
+}

@@ -1,0 +1,96 @@
+//! The calls on the session of a connection: it serves a frame, its commands are done, and it loses commands to the
+//! function of another one. Where the connection has no session nothing is done.
+
+ghost use Rattle.std.specs.Prelude.{◌≡◌, ℕ, List, [], length};
+ghost use Rattle.iscsi_pdu.specs.Header.{header_length};
+ghost use Rattle.iscsi_login.specs.Values.{AreInRange};
+ghost use Rattle.scsi_unit.specs.Units.{UnitStates, AreSound, AreSure, numbers_of};
+ghost use Rattle.iscsi_session.specs.Steps.{is_doing, is_serving};
+ghost use Rattle.iscsi_target.specs.Bounded.{AddsAtMost};
+ghost use Rattle.iscsi_target.specs.Machine.{IsWithin, target_in};
+ghost use Rattle.iscsi_target.specs.Serving.{goes_on_by};
+ghost use Rattle.iscsi_target.specs.SessionCalls.{InSession, LeavesSession, Ends, ServesFrame, SettlesUnits, LosesCommands, ended_link};
+
+use crate::connection::Connection;
+use crate::orders::lose;
+use crate::phase::Phase;
+use iscsi_pdu::{Frame, Header};
+use iscsi_session::Memory;
+use media_store::Store;
+use scsi_unit::Units;
+use std::alloc::Global;
+
+impl Connection {
+    /// The target of its session, where it has one.
+    pub(crate) fn target(&self) -> Option<usize>
+        ensures { result ≡ target_in self.now.phase }
+    {
+        match &self.phase {
+            Phase::FullFeature(session) => session.params().target,
+            _ => None,
+        }
+    }
+
+    /// Its session serves a frame, where its target has units with these numbers: whether it goes on. The Task
+    /// Management Functions that acted are orders to the target.
+    pub(crate) fn serve(
+        &mut self,
+        frame: Frame,
+        luns: &[u8],
+        orders: &mut Vec<Header>,
+    ) -> Result<bool, Memory>
+        requires values { InSession self.old.phase (λ session. AreInRange session.params.values) }
+        requires fresh { orders.old.items ≡ [] }
+        ensures leaves { InSession self.old.phase (λ session. LeavesSession (λ after waiting. Ends is_serving (λ failed goes_on.
+            ServesFrame frame luns.now orders.new.items failed goes_on session after self.old.waiting waiting) result)
+            session self.old self.new) }
+        ensures within { (count : ℕ) → IsWithin count self.old.phase → IsWithin count self.new.phase }
+        ensures loads { (units : UnitStates) → luns.now ≡ numbers_of units → length frame.header ≡ header_length
+            → AddsAtMost 1 self.old (ended_link (goes_on_by result) self.new) }
+    {
+        let Phase::FullFeature(session) = &mut self.phase else {
+            return Ok(true);
+        };
+        session.serve(frame, luns, &mut self.waiting, orders)
+    }
+
+    /// The commands that its session has taken are done and answered: whether it goes on.
+    pub(crate) fn settle<S: Store>(
+        &mut self,
+        alloc: Global,
+        units: &mut Units<S>,
+    ) -> Result<bool, Memory>
+        requires { InSession self.old.phase (λ session. AreInRange session.params.values) }
+        ensures leaves { InSession self.old.phase (λ session. LeavesSession (λ after waiting. Ends is_doing (λ failed goes_on.
+            SettlesUnits units.old units.new failed goes_on session after self.old.waiting waiting) result)
+            session self.old self.new) }
+        ensures within { (count : ℕ) → IsWithin count self.old.phase → IsWithin count self.new.phase }
+        ensures eases { AddsAtMost 0 self.old self.new }
+        ensures back { AreSound units.new → AreSound units.old }
+        ensures sure { AreSure units.old → AreSure units.new }
+    {
+        let Phase::FullFeature(session) = &mut self.phase else {
+            return Ok(true);
+        };
+        match session.settle(alloc, &mut self.waiting, units) {
+            Ok(()) => {}
+            Err(Memory) => return Err(Memory),
+        }
+        Ok(true)
+    }
+
+    /// Its session loses the commands that the function of another one reaches, and its nexus is to be told.
+    pub(crate) fn lose<S: Store>(&mut self, units: &mut Units<S>, function: &Header)
+        ensures leaves { InSession self.old.phase (λ session. LeavesSession (λ after waiting.
+            LosesCommands function.now units.old units.new session after self.old.waiting waiting) session self.old self.new) }
+        ensures within { (count : ℕ) → IsWithin count self.old.phase → IsWithin count self.new.phase }
+        ensures eases { AddsAtMost 0 self.old self.new }
+        ensures back { AreSound units.new → AreSound units.old }
+        ensures sure { AreSure units.old → AreSure units.new }
+    {
+        let Phase::FullFeature(session) = &mut self.phase else {
+            return;
+        };
+        lose(session, units, function);
+    }
+}
