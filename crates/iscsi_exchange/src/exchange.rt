@@ -6,12 +6,12 @@ ghost use Rattle.iscsi_exchange.specs.Exchange.{begins, is_of_exchange, rejects,
 ghost use Rattle.iscsi_pdu.specs.Segment.{most_data};
 ghost use Rattle.iscsi_text.specs.Pairs.{text_pairs};
 
-use crate::fault::Memory;
 use crate::send_targets::answer_text;
 use crate::told::{Piece, Told};
 use iscsi_login::Params;
 use iscsi_pdu::{EXCHANGE_TAG, Frame, MOST_DATA, NO_EXCHANGE_TAG, TextStep};
 use iscsi_text::{TextFault, pairs};
+use out_of_memory::Memory;
 use std::alloc::Global;
 use std::marker::Model;
 

@@ -12,10 +12,9 @@
 #![tactic(auto)]
 
 mod exchange;
-mod fault;
 mod send_targets;
 mod told;
 
 pub use exchange::Exchange;
-pub use fault::Memory;
+pub use out_of_memory::Memory;
 pub use told::{Piece, Told};

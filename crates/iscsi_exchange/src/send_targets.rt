@@ -4,9 +4,9 @@ ghost use Rattle.std.specs.Prelude.{◌≡◌, ◌<◌, ◌++◌, ◌∷◌, [],
 ghost use Rattle.iscsi_text.specs.Pairs.{text_of};
 ghost use Rattle.iscsi_exchange.specs.SendTargets.{target_pairs, asked_pairs, told_of, discovery_answer, normal_answer, send_targets as targets_sent, pair_answer, pairs_answer};
 
-use crate::fault::Memory;
 use iscsi_login::{Directory, Params, is_known, is_passed_over, position};
 use iscsi_text::{Pairs, text};
+use out_of_memory::Memory;
 use std::alloc::Global;
 
 /// Puts a pair behind an answer.

@@ -5,10 +5,10 @@ ghost use Rattle.std.specs.List.{filter_map};
 ghost use Rattle.iscsi_text.specs.Pairs.{text_of};
 ghost use Rattle.iscsi_login.specs.Login.{longest_piece, answered_pair, portal_group, declaration, answer_pairs};
 
-use crate::fault::Memory;
 use crate::keys::settle_key;
 use bytes::BytesMut;
 use iscsi_text::{Pairs, text};
+use out_of_memory::Memory;
 use std::alloc::Global;
 
 /// The longest piece of an answer's text, in bytes.

@@ -7,9 +7,9 @@ ghost use Rattle.iscsi_text.specs.Pairs.{value_of};
 ghost use Rattle.iscsi_login.specs.Earlier.{IsPlaced, TellsPlaces};
 ghost use Rattle.iscsi_login.specs.Rules.{is_again_after, is_again as is_said_again};
 
-use crate::fault::Memory;
 use crate::text::is_again;
 use iscsi_text::Pairs;
+use out_of_memory::Memory;
 use std::alloc::Global;
 use std::collections::BTreeMap;
 use std::marker::Model;

@@ -4,25 +4,8 @@ ghost use Rattle.std.specs.Prelude.{◌≡◌};
 ghost use Rattle.iscsi_login.specs.declared.fault.Fault.TheVariants as faults;
 
 use iscsi_pdu::LoginRefusal;
-use std::alloc::{AllocError, AllocFailed};
-use thiserror::Error;
-
-/// An allocation failed.
-#[derive(Clone, Copy, Debug, PartialEq, Eq, Error)]
-#[error("out of memory")]
-pub struct Memory;
-
-impl From<AllocError> for Memory {
-    fn from(_error: AllocError) -> Memory {
-        Memory
-    }
-}
-
-impl<T: Drop> From<AllocFailed<T>> for Memory {
-    fn from(_error: AllocFailed<T>) -> Memory {
-        Memory
-    }
-}
+use out_of_memory::Memory;
+use std::alloc::AllocError;
 
 /// Why a text is not taken.
 #[derive(Clone, Copy)]

@@ -3,9 +3,9 @@
 ghost use Rattle.std.specs.Prelude.{◌≡◌, IfOk, decimal, option_map, string_bytes};
 ghost use Rattle.iscsi_login.specs.Keys.{word_text, boolean_text, result_text, negotiation_of, transfer_negotiation as transfer_negotiation_of, session_negotiation as session_negotiation_of, is_listed as is_listed_word, boolean_of, result_by, is_answer as is_answer_value, is_name_key, is_passed_over as is_pair_passed_over, is_understood, is_known as is_known_key, settled as settled_of, key_result};
 
-use crate::fault::Memory;
 use crate::number::number_in;
 use itoa::Buffer;
+use out_of_memory::Memory;
 use std::alloc::Global;
 
 /// A word that is answered.

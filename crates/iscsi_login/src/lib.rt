@@ -35,10 +35,10 @@ mod text;
 mod values;
 
 pub use directory::Directory;
-pub use fault::Memory;
 pub use keys::{is_known, is_passed_over, settle_key};
 pub use login::Login;
 pub use names::position;
+pub use out_of_memory::Memory;
 pub use params::Params;
 pub use reply::Reply;
 pub use session::{Session, is_same_target};

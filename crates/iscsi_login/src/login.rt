@@ -13,7 +13,7 @@ mod hearing;
 use crate::answer::first_piece;
 use crate::directory::Directory;
 use crate::earlier::Earlier;
-use crate::fault::{Fault, Memory};
+use crate::fault::Fault;
 use crate::opening::Opening;
 use crate::params::Params;
 use crate::reply::Reply;
@@ -22,6 +22,7 @@ use crate::session::Session;
 use crate::values::Values;
 use bytes::BytesMut;
 use iscsi_pdu::{Frame, Header, LoginRefusal, Stage};
+use out_of_memory::Memory;
 use std::alloc::Global;
 use std::marker::Model;
 

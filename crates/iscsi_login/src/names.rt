@@ -7,11 +7,12 @@ ghost use Rattle.iscsi_login.specs.Session.{is_of as is_session_of, target_named
 ghost use Rattle.iscsi_login.specs.Rules.{refusal_by, rules_of_names, rules_of_handle, said as said_by, session_type, is_normal, is_discovery, target_asked, told_of, asked_for, first_refusal, Tells};
 
 use crate::directory::Directory;
-use crate::fault::{Fault, Memory};
+use crate::fault::Fault;
 use crate::params::Params;
 use crate::session::{Session, is_same_target};
 use iscsi_pdu::{Header, LoginRefusal};
 use iscsi_text::Pairs;
+use out_of_memory::Memory;
 use scsi_sense::Nexus;
 use std::alloc::Global;
 

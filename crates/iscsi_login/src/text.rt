@@ -4,11 +4,11 @@ ghost use Rattle.std.specs.Prelude.{◌≡◌, ◌++◌, IfOk, option_map};
 ghost use Rattle.std.specs.List.{list_any};
 ghost use Rattle.iscsi_login.specs.Rules.{is_again_after, is_segment_refused as is_refused_segment};
 
-use crate::fault::Memory;
 use crate::keys::{is_answer, is_name};
 use crate::number::number_in;
 use crate::values::{LEAST_SEGMENT, MOST_SEGMENT};
 use iscsi_text::Pairs;
+use out_of_memory::Memory;
 use std::alloc::Global;
 
 /// The text so far with that of one more request.

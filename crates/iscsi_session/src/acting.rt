@@ -15,7 +15,6 @@ ghost use Rattle.iscsi_session.specs.Texts.{is_text as is_text_in};
 
 use crate::act::Act;
 use crate::answers::{put, rejected};
-use crate::fault::Memory;
 use crate::functions::is_function;
 use crate::session::{RESERVED_TAG, Session};
 use crate::texts::is_text;
@@ -23,6 +22,7 @@ use bytes::BytesMut;
 use iscsi_pdu::{
     Answer, Frame, Header, LogoutResponse, LogoutResult, NopIn, Opcode, RejectReason, Stamp,
 };
+use out_of_memory::Memory;
 
 /// What the answer of a NOP-Out or of a Logout takes beside the ping data, in bytes at most.
 const ROOM_TO_ACT: usize = 99;

@@ -13,11 +13,11 @@ ghost use Rattle.scsi_unit.specs.DiskCommands.{most_given};
 ghost use Rattle.iscsi_session.specs.Room.{room_for, most_pieces, most_sent as most_data_sent};
 
 use crate::data_ins::{count_of, put_around, put_data};
-use crate::fault::Memory;
 use bytes::BytesMut;
 use iscsi_login::Values;
 use iscsi_pdu::{Answer, Frame, Header, R2t, Reject, RejectReason, Residual, ScsiResponse, Stamp};
 use media_block::BLOCK_LENGTH;
+use out_of_memory::Memory;
 use scsi_cdb::MOST_BLOCKS;
 use scsi_sense::{Done, Given, HEADROOM, TAILROOM};
 use std::mem;

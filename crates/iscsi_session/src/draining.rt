@@ -12,12 +12,12 @@ ghost use Rattle.iscsi_session.specs.Steps.{Answering, tell_due};
 ghost use Rattle.iscsi_session.specs.Runs.{Runs, output};
 
 use crate::answers::put;
-use crate::fault::Memory;
 use crate::functions::{RESPONSE_LENGTH, answer_to};
 use crate::reach::Reach;
 use crate::session::Session;
 use bytes::BytesMut;
 use iscsi_pdu::TaskResult;
+use out_of_memory::Memory;
 
 impl Session {
     /// The first request that is due acts: this function, which waits for data of commands that it removes. Where an

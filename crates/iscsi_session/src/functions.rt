@@ -14,7 +14,6 @@ ghost use Rattle.iscsi_session.specs.State.{Stands, function_place, immediate_fu
 use crate::aborted::Aborted;
 use crate::act::Act;
 use crate::answers::put;
-use crate::fault::Memory;
 use crate::reach::Reach;
 use crate::session::Session;
 use crate::voids::PLUGGED;
@@ -23,6 +22,7 @@ use iscsi_order::{CommandNumbers, is_before};
 use iscsi_pdu::{
     Answer, Frame, Header, Opcode, Stamp, TaskFunction, TaskManagementResponse, TaskResult,
 };
+use out_of_memory::Memory;
 use std::alloc::Global;
 use std::marker::Model;
 

@@ -12,13 +12,13 @@ ghost use Rattle.iscsi_session.specs.State.{Stands, is_vacant_for, function_plac
 
 use crate::acting::is_command;
 use crate::answers::{put, rejected};
-use crate::fault::Memory;
 use crate::functions::is_function;
 use crate::session::{RESERVED_TAG, Session};
 use crate::verdict::Verdict;
 use bytes::BytesMut;
 use iscsi_pdu::{Frame, Header, Opcode, RejectReason};
 use iscsi_transfer::command_fault;
+use out_of_memory::Memory;
 
 /// So many SCSI Commands and Task Management Function Requests for immediate delivery may be unfinished.
 const MOST_IMMEDIATE: usize = 8;

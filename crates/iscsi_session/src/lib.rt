@@ -25,7 +25,6 @@ mod answering;
 mod answers;
 mod data_ins;
 mod draining;
-mod fault;
 mod functions;
 mod judging;
 pub mod laws;
@@ -38,6 +37,6 @@ mod transfers;
 mod verdict;
 mod voids;
 
-pub use fault::Memory;
+pub use out_of_memory::Memory;
 pub use reach::Reach;
 pub use session::Session;

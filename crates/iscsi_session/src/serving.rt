@@ -13,12 +13,12 @@ ghost use Rattle.iscsi_session.specs.Weight.{IsAtRest, Eases};
 ghost use Rattle.iscsi_session.specs.Runs.{output, Starts, Runs, Stops, StepsFirst, IsSettled};
 
 use crate::answers::{make_room, put_r2t};
-use crate::fault::Memory;
 use crate::session::Session;
 use crate::verdict::Verdict;
 use bytes::BytesMut;
 use iscsi_pdu::{Frame, Header};
 use media_store::Store;
+use out_of_memory::Memory;
 use scsi_sense::{Condition, Done, Nexus, Sense};
 use scsi_unit::Units;
 use std::alloc::Global;

@@ -8,12 +8,12 @@ ghost use Rattle.iscsi_pdu.specs.Header.{is_immediate};
 ghost use Rattle.iscsi_session.specs.State.{no_tasks, window_of, is_vacant, is_vacant_for, holding, kept, takes_all, one_fewer, without, held_numbered, is_some_plug, plugged_behind, void_if, stays, counts_out, swept_one};
 ghost use Rattle.iscsi_session.specs.Tasks.{moves_all};
 
-use crate::fault::Memory;
 use crate::functions::is_plug;
 use crate::reach::Reach;
 use crate::voids::{plug, void_held, void_line};
 use iscsi_order::{CommandNumbers, Window};
 use iscsi_pdu::{Frame, Header};
+use out_of_memory::Memory;
 use slab::Slab;
 use std::alloc::Global;
 use std::marker::Model;

@@ -12,11 +12,11 @@ ghost use Rattle.iscsi_session.specs.Runs.{ActsAs, output};
 
 use crate::act::Act;
 use crate::answers::{put, rejected};
-use crate::fault::Memory;
 use crate::session::Session;
 use bytes::BytesMut;
 use iscsi_exchange::{Piece, Told};
 use iscsi_pdu::{Answer, Frame, Opcode, RejectReason, Stamp, TextResponse};
+use out_of_memory::Memory;
 
 /// What a Text Response or a Reject takes beside the text, in bytes at most.
 const ROOM_TO_TELL: usize = 99;

@@ -10,12 +10,12 @@ ghost use Rattle.iscsi_session.specs.declared.verdict.Verdict.TheVariants.{Feedi
 ghost use Rattle.iscsi_session.specs.Draining.{is_asked, is_awaited, drained_for, awaited_in, awaits_in, is_draining, drain_with, drain_for, judged_drain, fed_drain, judged_in, fed_in, is_live_in, function_tag, lacks_for, telling_place, function_at, drains_without};
 ghost use Rattle.iscsi_session.specs.State.{bears, no_transfers, place_with, immediate_transfers, whole_at, payload_at, removed_at, place_for, begun_transfer, due_of, asking_place, r2t_at, asked_at, reaches_some, transfers_without};
 
-use crate::fault::Memory;
 use crate::reach::Reach;
 use crate::verdict::Verdict;
 use iscsi_login::Values;
 use iscsi_pdu::{Frame, Header, R2t, Stamp};
 use iscsi_transfer::{Ask, DataFault, NO_TRANSFER_TAG, Progress, Task};
+use out_of_memory::Memory;
 use std::alloc::Global;
 use std::marker::Model;
 

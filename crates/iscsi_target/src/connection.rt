@@ -12,13 +12,13 @@ ghost use Rattle.iscsi_login.specs.Login.{advanced, reply_of};
 ghost use Rattle.iscsi_target.specs.Machine.{LinkState, is_reading, is_logging_in, session_in_phase, free_link, opened_link, shut_link, begun_link, IsAnswered, IsWithin, sent_link, is_settled, is_silent};
 ghost use Rattle.iscsi_target.specs.declared.phase.Phase.TheVariants.{Login as UnderWay};
 
-use crate::fault::Memory;
 use crate::phase::Phase;
 use bytes::BytesMut;
 use iscsi_login::{Directory, Login, Params, Reply};
 use iscsi_pdu::{Answer, Frame, Framer, LoginResponse, PduFault};
 use iscsi_session::Session;
 use media_store::Store;
+use out_of_memory::Memory;
 use scsi_unit::Units;
 use std::alloc::Global;
 use std::marker::Model;

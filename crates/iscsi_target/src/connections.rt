@@ -6,7 +6,7 @@ ghost use Rattle.iscsi_target.specs.Lending.{LendsLink};
 ghost use Rattle.iscsi_target.specs.Machine.{free_link, is_settled, is_silent};
 
 use crate::connection::Connection;
-use crate::fault::Memory;
+use out_of_memory::Memory;
 use std::alloc::Global;
 use std::marker::Model;
 

@@ -9,12 +9,13 @@ ghost use Rattle.iscsi_target.specs.History.{arrivals};
 ghost use Rattle.iscsi_target.specs.Machine.{KeepsPart, GivesFrame, link_at, with_link, is_logging_in, is_reading};
 ghost use Rattle.iscsi_target.specs.Serving.{Takes, TakesOne, TakesAll, Preserves, first_starved};
 
-use crate::fault::{Memory, Starved};
+use crate::fault::Starved;
 use crate::phase::Phase;
 use crate::serve::earlier_of;
 use crate::target::Target;
 use iscsi_pdu::{Frame, Opcode, PduFault};
 use media_store::Store;
+use out_of_memory::Memory;
 
 impl<S: Store> Target<S> {
     /// Keeps a further piece of a connection's bytes.

@@ -27,8 +27,9 @@ mod target;
 
 pub use config::Config;
 pub use event::Event;
-pub use fault::{Memory, Starved};
+pub use fault::Starved;
 pub use history::well_formed;
+pub use out_of_memory::Memory;
 pub use run::Outputs;
 pub use scsi_unit::{Serial, Unit, Units};
 pub use target::Target;

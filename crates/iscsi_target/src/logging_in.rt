@@ -6,12 +6,12 @@ ghost use Rattle.iscsi_login.specs.Values.{AreInRange};
 ghost use Rattle.iscsi_target.specs.Machine.{link_at, closed, joined_session, shut_older, begun, logged_in, is_logging_in, is_reading};
 ghost use Rattle.iscsi_target.specs.declared.phase.Phase.TheVariants.{Login};
 
-use crate::fault::Memory;
 use crate::sessions::{named, older};
 use crate::target::Target;
 use iscsi_login::Params;
 use iscsi_pdu::{Answer, Frame};
 use media_store::Store;
+use out_of_memory::Memory;
 
 impl<S: Store> Target<S> {
     /// A Login request is answered. Where an allocation fails the connection is to be closed.

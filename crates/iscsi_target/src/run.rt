@@ -15,9 +15,10 @@ ghost use Rattle.scsi_unit.specs.Units.{AreSure};
 
 use crate::config::Config;
 use crate::event::Event;
-use crate::fault::{Memory, Starved};
+use crate::fault::Starved;
 use crate::target::Target;
 use media_store::Store;
+use out_of_memory::Memory;
 use scsi_unit::Units;
 use std::alloc::Global;
 

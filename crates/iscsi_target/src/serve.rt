@@ -18,8 +18,8 @@ use crate::fault::Starved;
 use crate::orders::luns_of;
 use crate::target::Target;
 use iscsi_pdu::{Frame, Header};
-use iscsi_session::Memory;
 use media_store::Store;
+use out_of_memory::Memory;
 
 /// The connection that was closed first.
 pub(crate) fn earlier_of(

@@ -15,8 +15,8 @@ use crate::connection::Connection;
 use crate::orders::lose;
 use crate::phase::Phase;
 use iscsi_pdu::{Frame, Header};
-use iscsi_session::Memory;
 use media_store::Store;
+use out_of_memory::Memory;
 use scsi_unit::Units;
 use std::alloc::Global;
 

@@ -5,9 +5,9 @@ ghost use Rattle.iscsi_login.specs.Session.{is_of as is_session_of, named_by, ol
 ghost use Rattle.iscsi_target.specs.Machine.{session_in_phase, sessions};
 
 use crate::connection::Connection;
-use crate::fault::Memory;
 use crate::phase::Phase;
 use iscsi_login::{Params, is_same_target};
+use out_of_memory::Memory;
 
 /// The connection has a session of the same nexus with the same target.
 fn is_of(connection: &Connection, session: &Params) -> bool

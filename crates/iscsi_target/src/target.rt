@@ -18,10 +18,11 @@ ghost use Rattle.iscsi_target.specs.Serving.{Takes, TakesOne, TakesAll, Preserve
 use crate::config::Config;
 use crate::connection::Connection;
 use crate::connections::{CONNECTIONS, Connections};
-use crate::fault::{Memory, Starved};
+use crate::fault::Starved;
 use crate::phase::Phase;
 use iscsi_login::{Directory, is_same_target};
 use media_store::Store;
+use out_of_memory::Memory;
 use scsi_unit::Units;
 use std::alloc::Global;
 use std::marker::Model;
@@ -329,7 +330,7 @@ impl<S: Store> Target<S> {
     pub(crate) fn end_unless(
         &mut self,
         c: usize,
-        goes_on: Result<bool, iscsi_session::Memory>,
+        goes_on: Result<bool, Memory>,
     ) -> Result<(), Starved>
         requires { c < 64 }
         ensures value { first_starved result ≡ starved_by c goes_on }
@@ -343,7 +344,7 @@ impl<S: Store> Target<S> {
                 self.close(c);
                 Ok(())
             }
-            Err(iscsi_session::Memory) => Err(self.starve(c)),
+            Err(Memory) => Err(self.starve(c)),
         }
     }
 }

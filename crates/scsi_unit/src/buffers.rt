@@ -2,9 +2,9 @@
 
 ghost use Rattle.std.specs.Prelude.{◌≡◌, ◌≤◌, [], IfOk};
 
-use crate::fault::Memory;
 use bytes::BytesMut;
 use media_block::BLOCK_LENGTH;
+use out_of_memory::Memory;
 use std::alloc::Global;
 
 /// How many buffers are kept.

@@ -13,11 +13,11 @@ ghost use Rattle.scsi_unit.specs.DiskCommands.{range_named, IsDiskDone, most_giv
 use crate::buffers::take;
 use crate::device::DiskDevice;
 use crate::disk_writes::read_failed;
-use crate::fault::Memory;
 use crate::given::done_with_front;
 use bytes::BytesMut;
 use media_block::{BLOCK_LENGTH, Disk};
 use media_store::{Store, StoreFault};
+use out_of_memory::Memory;
 use scsi_cdb::{BlockRange, DiskCommand};
 use scsi_sense::{Done, Given, HEADROOM, TAILROOM};
 use std::alloc::Global;

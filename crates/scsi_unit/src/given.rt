@@ -3,7 +3,7 @@
 ghost use Rattle.std.specs.Prelude.{◌≡◌, ◌≤◌, length, take, IfOk};
 ghost use Rattle.scsi_sense.specs.Done.{good_with};
 
-use crate::fault::Memory;
+use out_of_memory::Memory;
 use scsi_sense::{Done, Given};
 use std::alloc::Global;
 

@@ -8,8 +8,8 @@ ghost use Rattle.scsi_inquiry.specs.VpdPages.{most_serial, page_of};
 ghost use Rattle.scsi_unit.specs.DiskCommands.{most_given};
 ghost use Rattle.scsi_unit.specs.Identity.{page_outcome, inquiry_outcome, luns_outcome, sense_outcome, unsupported, without_unit};
 
-use crate::fault::Memory;
 use crate::given::done_with_front;
+use out_of_memory::Memory;
 use scsi_cdb::{Command, FieldFault, Kind, ReportLunsFields, Row, UnitCommand};
 use scsi_inquiry::{Peripheral, VpdPage, luns, page, standard};
 use scsi_sense::{Condition, Done, Sense};

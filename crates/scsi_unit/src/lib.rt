@@ -29,7 +29,6 @@ mod buffers;
 mod device;
 mod disk_commands;
 mod disk_writes;
-mod fault;
 mod given;
 mod identity;
 mod joined;
@@ -43,7 +42,7 @@ mod tape_commands;
 mod unit;
 mod units;
 
-pub use fault::Memory;
+pub use out_of_memory::Memory;
 pub use serial::Serial;
 pub use unit::Unit;
 pub use units::Units;

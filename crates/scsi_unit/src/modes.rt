@@ -5,9 +5,9 @@ ghost use Rattle.scsi_mode.specs.ModeData.{mode_data};
 ghost use Rattle.scsi_unit.specs.DiskCommands.{most_given};
 ghost use Rattle.scsi_unit.specs.Unit.{mode_sense_outcome};
 
-use crate::fault::Memory;
 use crate::given::done_with_front;
 use crate::identity::field_refused;
+use out_of_memory::Memory;
 use scsi_cdb::ModeSenseFields;
 use scsi_mode::{Parameters, sense};
 use scsi_sense::Done;

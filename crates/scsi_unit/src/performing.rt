@@ -10,7 +10,6 @@ ghost use Rattle.scsi_unit.specs.Joined.{told};
 ghost use Rattle.scsi_unit.specs.Identity.{sense_outcome, pending_sense};
 
 use crate::device::Device;
-use crate::fault::Memory;
 use crate::identity::{inquiry, report_luns, sense_data};
 use crate::joined::{pending, tell};
 use crate::modes::mode_sense;
@@ -20,6 +19,7 @@ use crate::unit::Unit;
 use bytes::BytesMut;
 use media_block::BLOCK_LENGTH;
 use media_store::Store;
+use out_of_memory::Memory;
 use scsi_cdb::{Cdb, Command, DiskCommand, FieldFault, ModeSelectFields, Row, UnitCommand};
 use scsi_mode::{ListFault, select};
 use scsi_sense::{Attention, Condition, Done, Nexus, Sense};

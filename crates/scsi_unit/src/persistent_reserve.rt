@@ -5,10 +5,10 @@ ghost use Rattle.scsi_unit.specs.Device.{store_of};
 ghost use Rattle.scsi_unit.specs.DiskCommands.{most_given};
 ghost use Rattle.scsi_unit.specs.PersistentReserve.{reserve_in_outcome, ended_outcome, reserved_out};
 
-use crate::fault::Memory;
 use crate::given::done_with_front;
 use crate::unit::Unit;
 use media_store::Store;
+use out_of_memory::Memory;
 use scsi_cdb::{ReserveInFields, ReserveOutFields};
 use scsi_reserve::{Ended, Table};
 use scsi_sense::{Done, Nexus, Sense};

@@ -13,10 +13,10 @@ ghost use Rattle.scsi_unit.specs.Unit.{touch_by, IsPerformed};
 
 use crate::buffers::{give_back, take};
 use crate::device::Device;
-use crate::fault::Memory;
 use crate::unit::Unit;
 use bytes::BytesMut;
 use media_store::Store;
+use out_of_memory::Memory;
 use scsi_cdb::{Cdb, TapeCommand};
 use scsi_sense::{Attention, Done, Nexus, TAILROOM};
 use scsi_tape::{TapeUnit, room_needed};

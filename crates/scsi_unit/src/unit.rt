@@ -6,7 +6,6 @@ ghost use Rattle.scsi_unit.specs.DiskCommands.{most_given};
 ghost use Rattle.scsi_unit.specs.Unit.{free_unit, joined_unit, left_unit, raised_unit, raised_unit_for_all, where_named, names_unit, perform_as, touch_with, IsPerformed};
 
 use crate::device::{Device, DiskDevice};
-use crate::fault::Memory;
 use crate::identity::without_unit;
 use crate::joined::{JoinedList, join, leave};
 use crate::lun::Lun;
@@ -14,6 +13,7 @@ use crate::serial::Serial;
 use media_block::Disk;
 use media_store::Store;
 use media_tape::Tape;
+use out_of_memory::Memory;
 use scsi_reserve::Table;
 use scsi_sense::{Attention, Done, Nexus};
 use scsi_tape::TapeUnit;

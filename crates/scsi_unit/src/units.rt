@@ -10,13 +10,13 @@ ghost use Rattle.scsi_unit.specs.Identity.{reported_luns, is_row_of_target};
 ghost use Rattle.scsi_cdb.specs.Operation.{row_of};
 
 use crate::buffers::{MOST_KEPT, give_back};
-use crate::fault::Memory;
 use crate::identity::{report_luns, without_unit};
 use crate::joined::join as join_list;
 use crate::lun::Lun;
 use crate::unit::Unit;
 use bytes::BytesMut;
 use media_store::Store;
+use out_of_memory::Memory;
 use scsi_cdb::{ReportLunsFields, Row};
 use scsi_sense::{Attention, Done, Nexus};
 use std::alloc::Global;

@@ -35,12 +35,6 @@ impl From<Memory> for Fault {
     }
 }
 
-impl From<scsi_unit::Memory> for Fault {
-    fn from(_e: scsi_unit::Memory) -> Fault {
-        Fault::OutOfMemory
-    }
-}
-
 impl From<media_block::NotOpened<MemStore>> for Fault {
     fn from(_e: media_block::NotOpened<MemStore>) -> Fault {
         Fault::Unopened

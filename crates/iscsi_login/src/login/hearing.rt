@@ -13,7 +13,7 @@ ghost use Rattle.iscsi_login.specs.Login.{longest_piece, answer_pairs, tells_gro
 
 use crate::answer::{answer_text, buffer, first_piece};
 use crate::directory::Directory;
-use crate::fault::{Fault, Memory};
+use crate::fault::Fault;
 use crate::login::Login;
 use crate::names::{asked, is_normal_session};
 use crate::params::Params;
@@ -23,6 +23,7 @@ use crate::text::{joined, says_no_segment};
 use bytes::BytesMut;
 use iscsi_pdu::{Frame, Header, LoginRefusal};
 use iscsi_text::{Pairs, TextFault, pairs};
+use out_of_memory::Memory;
 
 impl Login {
     /// The text that a request completes, read: its pairs, or why it is refused.

@@ -1,4 +1,5 @@
-//! What a unit answers where memory runs out.
+//! How a call of this repository says that an allocation failed.
+#![tactic(auto)]
 
 use std::alloc::{AllocError, AllocFailed};
 use thiserror::Error;
@@ -9,13 +10,13 @@ use thiserror::Error;
 pub struct Memory;
 
 impl From<AllocError> for Memory {
-    fn from(_e: AllocError) -> Memory {
+    fn from(_error: AllocError) -> Memory {
         Memory
     }
 }
 
 impl<T: Drop> From<AllocFailed<T>> for Memory {
-    fn from(_e: AllocFailed<T>) -> Memory {
+    fn from(_error: AllocFailed<T>) -> Memory {
         Memory
     }
 }
