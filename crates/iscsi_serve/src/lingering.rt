@@ -11,7 +11,7 @@ ghost use Rattle.std.specs.Duration.{as_nanos};
 ghost use Rattle.iscsi_serve.specs.Lingering.{place_of, place_to_take, turns_later, Drains};
 
 use crate::places::free_places;
-use crate::results::CONNECTIONS;
+use iscsi_target::CONNECTIONS;
 use mio::net::TcpStream;
 use mio::{Interest, Registry, Token};
 use std::alloc::{AllocError, Global};

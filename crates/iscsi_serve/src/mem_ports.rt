@@ -9,8 +9,9 @@ ghost use Rattle.iscsi_serve.specs.Entries.{carried_view, entry_view, log_view};
 use crate::entry::{Carried, Entry};
 use crate::places::free_places;
 use crate::ports::Ports;
-use crate::results::{Accepted, CONNECTIONS, IoResult, Named, PortFault};
+use crate::results::{Accepted, IoResult, Named, PortFault};
 use crate::script::Script;
+use iscsi_target::CONNECTIONS;
 use std::alloc::{AllocError, Global};
 use std::collections::VecDeque;
 

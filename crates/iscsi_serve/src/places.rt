@@ -2,7 +2,7 @@
 
 ghost use Rattle.std.specs.Prelude.{◌≡◌, length, replicate, None, IfOk};
 
-use crate::results::CONNECTIONS;
+use iscsi_target::CONNECTIONS;
 use std::alloc::{AllocError, Global};
 
 /// A free place for each number, and one more for a connection for which no number is free.

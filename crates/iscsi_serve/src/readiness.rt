@@ -8,7 +8,8 @@
 ghost use Rattle.std.specs.Prelude.{◌≡◌, ◌<◌};
 ghost use Rattle.iscsi_serve.specs.Readiness.{nothing_ready, may_give, may_take, still_readable, flags_with, flag_of, with_event, after_taking, named_again, filled, forgotten};
 
-use crate::results::{CONNECTIONS, Named};
+use crate::results::Named;
+use iscsi_target::CONNECTIONS;
 
 /// What the system told in an event of a connection.
 #[derive(Clone, Copy, Debug)]

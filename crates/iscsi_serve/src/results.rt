@@ -1,7 +1,6 @@
 //! What the calls of the ports tell.
 
-/// How many connections there may be: they are numbered from 0 to one less.
-pub const CONNECTIONS: usize = 64;
+use iscsi_target::CONNECTIONS;
 
 /// Whom a poll names: those that may have something to accept, to read, or room to write.
 #[derive(Clone, Copy, Debug)]

@@ -14,8 +14,8 @@ ghost use Rattle.iscsi_serve.specs.declared.results.Named.{Named};
 
 use crate::fault::ServeFault;
 use crate::ports::Ports;
-use crate::results::{Accepted, CONNECTIONS, IoResult, Named, PortFault};
-use iscsi_target::{Starved, Target};
+use crate::results::{Accepted, IoResult, Named, PortFault};
+use iscsi_target::{CONNECTIONS, Starved, Target};
 use media_store::Store;
 
 /// A read has room for as many bytes at most.

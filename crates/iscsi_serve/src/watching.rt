@@ -4,7 +4,7 @@ ghost use Rattle.std.specs.Prelude.{◌≡◌, ◌<◌, length, true, false, sli
 ghost use Rattle.mio.specs.declared.net.stream.TcpStream.{TcpStream};
 
 use crate::peer_watch::watch_peer;
-use crate::results::CONNECTIONS;
+use iscsi_target::CONNECTIONS;
 use mio::net::{TcpListener, TcpStream};
 use mio::{Interest, Poll, Registry, Token};
 use std::io;

@@ -20,15 +20,13 @@ use crate::session::{RESERVED_TAG, Session};
 use crate::texts::is_text;
 use bytes::BytesMut;
 use iscsi_pdu::{
-    Answer, Frame, Header, LogoutResponse, LogoutResult, NopIn, Opcode, RejectReason, Stamp,
+    Answer, Frame, Header, LogoutResponse, LogoutResult, MOST_DATA, NopIn, Opcode, RejectReason,
+    Stamp,
 };
 use out_of_memory::Memory;
 
 /// What the answer of a NOP-Out or of a Logout takes beside the ping data, in bytes at most.
 const ROOM_TO_ACT: usize = 99;
-
-/// A PDU of the target bears no more data than this, in bytes.
-const MOST_DATA: usize = 262_144;
 
 /// It is a SCSI Command.
 pub(crate) fn is_command(frame: &Frame) -> bool

@@ -12,11 +12,11 @@ ghost use Rattle.iscsi_session.specs.Steps.{Answering, tell_due};
 ghost use Rattle.iscsi_session.specs.Runs.{Runs, output};
 
 use crate::answers::put;
-use crate::functions::{RESPONSE_LENGTH, answer_to};
+use crate::functions::answer_to;
 use crate::reach::Reach;
 use crate::session::Session;
 use bytes::BytesMut;
-use iscsi_pdu::TaskResult;
+use iscsi_pdu::{HEADER_LENGTH, TaskResult};
 use out_of_memory::Memory;
 
 impl Session {
@@ -51,7 +51,7 @@ impl Session {
         let Some(function) = self.transfers.drained() else {
             return Ok(());
         };
-        out.reserve(RESPONSE_LENGTH)?;
+        out.reserve(HEADER_LENGTH)?;
         let tag = function.initiator_task_tag();
         self.transfers.forget(tag);
         self.functions.finish(tag);

@@ -20,14 +20,12 @@ use crate::voids::PLUGGED;
 use bytes::BytesMut;
 use iscsi_order::{CommandNumbers, is_before};
 use iscsi_pdu::{
-    Answer, Frame, Header, Opcode, Stamp, TaskFunction, TaskManagementResponse, TaskResult,
+    Answer, Frame, HEADER_LENGTH, Header, Opcode, Stamp, TaskFunction, TaskManagementResponse,
+    TaskResult,
 };
 use out_of_memory::Memory;
 use std::alloc::Global;
 use std::marker::Model;
-
-/// The length of a Task Management Function Response, in bytes.
-pub(crate) const RESPONSE_LENGTH: usize = 48;
 
 /// It is a Task Management Function Request.
 pub(crate) fn is_function(frame: &Frame) -> bool
@@ -173,7 +171,7 @@ impl Session {
         ensures out_err { OnErr result (out.new.items ≡ out.old.items) }
         ensures orders_err { OnErr result (orders.new.items ≡ orders.old.items) }
     {
-        out.reserve(RESPONSE_LENGTH)?;
+        out.reserve(HEADER_LENGTH)?;
         orders.reserve(1)?;
         let Some(frame) = self.tasks.due() else {
             return Ok(Act::Idle);

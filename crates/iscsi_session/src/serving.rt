@@ -16,15 +16,12 @@ use crate::answers::{make_room, put_r2t};
 use crate::session::Session;
 use crate::verdict::Verdict;
 use bytes::BytesMut;
-use iscsi_pdu::{Frame, Header};
+use iscsi_pdu::{Frame, HEADER_LENGTH, Header};
 use media_store::Store;
 use out_of_memory::Memory;
 use scsi_sense::{Condition, Done, Nexus, Sense};
 use scsi_unit::Units;
 use std::alloc::Global;
-
-/// The length of an R2T, in bytes.
-const R2T_LENGTH: usize = 48;
 
 /// A command with all its data is done. One with an additional header, or with both R and W, is answered
 /// INVALID FIELD IN CDB in place of being done. Where an allocation fails nothing changes.
@@ -124,7 +121,7 @@ impl Session {
         if !self.transfers.is_asking() {
             return Ok(());
         }
-        out.reserve(R2T_LENGTH)?;
+        out.reserve(HEADER_LENGTH)?;
         let stamp = self.stamp();
         let r2t = self.transfers.ask(stamp);
         put_r2t(out, r2t);

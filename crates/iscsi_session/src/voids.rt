@@ -8,7 +8,7 @@ ghost use Rattle.iscsi_session.specs.State.{void as void_of, void_if};
 ghost use Rattle.iscsi_session.specs.Tasks.{Voids, keys_in};
 
 use crate::reach::Reach;
-use iscsi_pdu::{Frame, Header};
+use iscsi_pdu::{Frame, HEADER_LENGTH, Header};
 use slab::Slab;
 use std::alloc::Global;
 
@@ -19,9 +19,6 @@ const REMOVED_IMMEDIATE: u8 = 0x7f;
 
 /// An opcode that is none of an initiator's: a number that was plugged.
 pub(crate) const PLUGGED: u8 = 0x3e;
-
-/// The length of a header, in bytes.
-const HEADER_LENGTH: usize = 48;
 
 /// A header with nothing but its first byte.
 fn header_with(first: u8) -> Header

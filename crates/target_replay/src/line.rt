@@ -5,11 +5,8 @@ ghost use Rattle.iscsi_target.specs.Events.{event_view};
 ghost use Rattle.target_replay.specs.Line.{connection_in, connection_of, bytes_of, event_of};
 
 use hex::FromHexError;
-use iscsi_target::{Event, Memory};
+use iscsi_target::{CONNECTIONS, Event, Memory};
 use std::alloc::Global;
-
-/// Connections are numbered from 0 to one less than this.
-pub const CONNECTIONS: usize = 64;
 
 /// The number of a connection, in decimal and without leading zeros.
 #[tactic(auto, unfolding(crate::specs::Line::connection_of))]

@@ -10,8 +10,7 @@ ghost use Rattle.target_replay.specs.Printed.{bytes_line, closed_line, all_sent}
 ghost use Rattle.target_replay.specs.Printing.{HasPrintedOne, HasPrintedAll};
 
 use crate::fault::ReplayFault;
-use crate::line::CONNECTIONS;
-use iscsi_target::{Memory, Target};
+use iscsi_target::{CONNECTIONS, Memory, Target};
 use media_store::Store;
 use std::alloc::{AllocError, Global};
 use std::io::{ErrorKind, Write};
