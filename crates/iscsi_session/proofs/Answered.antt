@@ -1,5 +1,5 @@
 -- What a request is answered, by its opcode, and what its act leaves of the session.
-use Rattle.std.proofs.Common.{◌≡◌, ◌≢◌, inl, inr, ℕ, ◌+◌, min, List, [], ◌∷◌, ◌++◌, length, map, take, drop, Bool, true, false, cond, ◌&&◌, ◌==◌, eqb, refl, sym, ap, ◌∙◌, subst, arith, append-nil, ◌<◌}
+use Rattle.std.proofs.Common.{◌≡◌, ◌≢◌, inl, inr, ℕ, min, List, [], ◌∷◌, ◌++◌, length, map, take, drop, Bool, true, false, cond, ◌==◌, eqb, refl, sym, ap, ◌∙◌, subst, arith, append-nil, ◌<◌}
 use Rattle.std.specs.Prelude.{◌⊎◌, flat_map, Option, Some, None}
 use Rattle.std.proofs.lemmas.Bool.{eqb-true, false_from_ne_true}
 use Rattle.std.proofs.lemmas.List.{take_min}
@@ -12,7 +12,6 @@ use Rattle.iscsi_pdu.specs.declared.header.Opcode.TheVariants as opcodes
 use Rattle.iscsi_pdu.specs.declared.answer.Answer.{Answer}
 use Rattle.iscsi_pdu.specs.declared.answer.Answer.TheVariants as answers
 use Rattle.iscsi_pdu.specs.declared.reject.RejectReason.TheVariants as reasons
-use Rattle.iscsi_pdu.specs.declared.logout_response.LogoutResult.TheVariants as results
 use Rattle.iscsi_pdu.specs.LogoutRequest.{logout_reason}
 use Rattle.iscsi_pdu.specs.declared.stamp.Stamp.{Stamp}
 use Rattle.iscsi_login.specs.declared.params.Params.{Params}
@@ -25,11 +24,11 @@ use Rattle.iscsi_session.specs.Requests.{pending, Request, Past, frame_of, frame
 use Rattle.iscsi_session.specs.State.{SessionState, standing, TaskLists, TransferList, IsLawful, Stands, functions_of, one_fewer, removed_at, place_for, function_place, function_removed}
 use Rattle.iscsi_session.specs.Transfers.{tag_of}
 use Rattle.iscsi_pdu.specs.declared.task_management_response.TaskResult.{TaskResult}
-use Rattle.iscsi_session.specs.Functions.{own_reach, awaited, plugs, function_result, function_answer}
+use Rattle.iscsi_session.specs.Functions.{own_reach, awaited, function_result, function_answer}
 use Rattle.iscsi_session.specs.Runs.{Output, ActsAs, ActsFirst}
 use Rattle.iscsi_session.specs.declared.act.Act.{Act}
 use Rattle.iscsi_session.specs.declared.act.Act.TheVariants.{Idle, Taken, Ended}
-use Rattle.iscsi_session.specs.Acts.{acted, reach_of, ended, behind, act_answers, ordered, act_answers_by, acted_answers, ends, ends_by, closes, logout_response, logout_answer, ping_answers}
+use Rattle.iscsi_session.specs.Acts.{acted, reach_of, ended, behind, act_answers, ordered, act_answers_by, acted_answers, ends, ends_by, closes, logout_answer, ping_answers}
 use Rattle.iscsi_exchange.specs.ExchangeState.{ExchangeState}
 use Rattle.iscsi_exchange.specs.Exchange.{TextPiece, ToldState, hears}
 use Rattle.iscsi_session.specs.Texts.{is_text, exchange_behind, exchange_of, text_answer}
@@ -72,27 +71,14 @@ ended_plain luns k past e = rw e refl
 
 acted_plain : (luns : List ℕ) (k : ℕ) (past : Past) → is_function (frame_of past.came k) ≡ false
     → acted luns k past ≡ answering (act_answers luns k past) (moved k past)
-acted_plain luns k past e = ap (answering (act_answers luns k past)) (behind_plain (ended luns k past) ∙ ended_plain luns k past e)
-  where
-    behind_plain : (after : Past) → behind luns k past after ≡ after
-    behind_plain after = rw e refl
+acted_plain luns k past e = grind arith
 
 pub stands_plain : (luns : List ℕ) (k : ℕ) (past : Past) (state : SessionState) → is_function (frame_of past.came k) ≡ false
     → Stands (answering (act_answers luns k past) (moved k past)) state → Stands (acted luns k past) state
 stands_plain luns k past state e s = subst (λ (p : Past). Stands p state) (sym (acted_plain luns k past e)) s
 
-ended_same : (luns : List ℕ) (b : Bool) (k : ℕ) (past : Past) → is_function (frame_of past.came k) ≡ b
-    → ((ended luns k past).params ≡ past.params) × ((ended luns k past).answers ≡ past.answers)
-ended_same luns b k past e = grind arith
-
-behind_same : (luns : List ℕ) (b : Bool) (k : ℕ) (past after : Past) → (is_function (frame_of past.came k) && plugs past (reach_of luns k past)) ≡ b
-    → ((behind luns k past after).params ≡ after.params) × ((behind luns k past after).answers ≡ after.answers)
-behind_same luns b k past after e = grind arith
-
 pub statuses_behind : (luns : List ℕ) (k : ℕ) (past after : Past) → statuses (behind luns k past after) ≡ statuses after
-statuses_behind luns k past after =
-    let b = behind_same luns _ k past after refl in
-    ap (λ (x : Params). x.next_stat_sn + bearing (behind luns k past after).answers) b.0 ∙ ap (λ (l : List Answer). after.params.next_stat_sn + bearing l) b.1
+statuses_behind luns k past after = grind arith
 
 pub stamp_is : (past : Past) (stat : ℕ) (now : CommandNumbers) → stat ≡ stat_sn (statuses past) → now ≡ order.numbers_of (numbers past)
     → record { stat_sn = stat; exp_cmd_sn = now.exp_cmd_sn; max_cmd_sn = now.max_cmd_sn } ≡ stamp past
@@ -101,10 +87,7 @@ stamp_is past stat now e f = rw (e, f) refl
 
 pub acted_same : (luns : List ℕ) (k : ℕ) (past : Past) → ((acted luns k past).params ≡ past.params) ×
     ((acted luns k past).answers ≡ past.answers ++ act_answers luns k past)
-acted_same luns k past =
-    let a = behind_same luns _ k past (ended luns k past) refl in
-    let b = ended_same luns _ k past refl in
-    (a.0 ∙ b.0, ap (λ (l : List Answer). l ++ act_answers luns k past) (a.1 ∙ b.1))
+acted_same luns k past = grind arith
 
 -- ---- by the opcode
 
@@ -113,9 +96,7 @@ answers_of : (luns : List ℕ) (k : ℕ) (past : Past) {o : Opcode} → kind_of 
     → act_answers luns k past ≡ act_answers_by o (awaited past (reach_of luns k past)) (function_result past (reach_of luns k past)) (exchange_of past)
     (stamp (ended luns k past)) past.params (frame_of past.came k)
 unfolding act_answers
-answers_of luns k past is =
-    ap (λ (o : Opcode). act_answers_by o (awaited past (reach_of luns k past)) (function_result past (reach_of luns k past)) (exchange_of past)
-    (stamp (ended luns k past)) past.params (frame_of past.came k)) is
+answers_of luns k past is = grind arith
 
 -- the session goes on
 pub goes_on_act : (k : ℕ) (past : Past) {o : Opcode} → kind_of (frame_of past.came k) ≡ o → ends_by o past.params (frame_of past.came k) ≡ false
@@ -147,25 +128,11 @@ pub logout_ends : (params : Params) (frame : Frame) → kind_of frame ≡ opcode
 unfolding ends
 logout_ends params frame is = ap (λ (o : Opcode). ends_by o params frame) is
 
-no_text_by : (a b c d e f g : Bool) (n : ℕ)
-    → cond a opcodes.NopOut (cond b opcodes.ScsiCommand (cond c opcodes.TaskManagement (cond d opcodes.Login (cond e opcodes.DataOut
-    (cond f opcodes.Logout (cond g opcodes.Snack (opcodes.Other n))))))) ≡ opcodes.Text → ⊥
-no_text_by a b c d e f g n is = grind arith
-
-no_function_by : (a b c d e f g : Bool) (n : ℕ)
-    → cond a opcodes.NopOut (cond b opcodes.ScsiCommand (cond c opcodes.Login (cond d opcodes.Text (cond e opcodes.DataOut
-    (cond f opcodes.Logout (cond g opcodes.Snack (opcodes.Other n))))))) ≡ opcodes.TaskManagement → ⊥
-no_function_by a b c d e f g n is = grind arith
-
 is_no_function : (frame : Frame) → is_function frame ≡ false → kind_of frame ≡ opcodes.TaskManagement → ⊥
-is_no_function frame no_function e =
-    let n = opcode_number frame.header in
-    no_function_by (n == 0x00) (n == 0x01) (n == 0x03) (n == 0x04) (n == 0x05) (n == 0x06) (n == 0x10) n (rw no_function at e)
+is_no_function frame no_function e = grind arith
 
 is_no_text : (frame : Frame) → is_text frame ≡ false → kind_of frame ≡ opcodes.Text → ⊥
-is_no_text frame no_text e =
-    let n = opcode_number frame.header in
-    no_text_by (n == 0x00) (n == 0x01) (n == 0x02) (n == 0x03) (n == 0x05) (n == 0x06) (n == 0x10) n (rw no_text at e)
+is_no_text frame no_text e = grind arith
 
 -- no request of any other kind is answered, and none ends the session
 abbrev pub IsOther : Opcode → Type 0
@@ -218,9 +185,6 @@ text_is luns k past e =
 bears_piece : (numbers_now : Stamp) (piece : Option TextPiece) (frame : Frame) → bears_status (text_answer numbers_now piece frame) ≡ true
 bears_piece numbers_now piece frame = grind arith
 
-bears_by : (b : Bool) (x y : Answer) → bears_status x ≡ true → bears_status y ≡ true → bears_status (cond b x y) ≡ true
-bears_by b x y p q = grind arith
-
 pub one_bearing : (x : Answer) → bears_status x ≡ true → bearing (x ∷ []) ≡ 1
 one_bearing x e = rw e refl
 
@@ -228,14 +192,7 @@ pub text_bears : (numbers_now : Stamp) (piece : Option TextPiece) (frame : Frame
 text_bears numbers_now piece frame = one_bearing (text_answer numbers_now piece frame) (bears_piece numbers_now piece frame)
 
 pub logout_bears : (numbers_now : Stamp) (params : Params) (frame : Frame) → bearing (logout_answer numbers_now params frame ∷ []) ≡ 1
-logout_bears numbers_now params frame =
-    let refused = reject reasons.InvalidField numbers_now frame in
-    let second : Answer = cond (logout_reason frame.header == 2) (logout_response results.NoRecovery numbers_now frame) refused in
-    let first : Answer = cond (logout_reason frame.header == 1) (logout_response results.CidNotFound numbers_now frame) second in
-    one_bearing (logout_answer numbers_now params frame)
-    (bears_by (closes params frame) (logout_response results.Closed numbers_now frame) first refl
-    (bears_by (logout_reason frame.header == 1) (logout_response results.CidNotFound numbers_now frame) second refl
-    (bears_by (logout_reason frame.header == 2) (logout_response results.NoRecovery numbers_now frame) refused refl refl)))
+logout_bears numbers_now params frame = grind arith
 
 -- ---- what is written
 
@@ -622,9 +579,6 @@ function_ordered past k header orders e same = rw e (ap (λ (h : List ℕ). orde
 pub queue_first : (past : Past) (state : SessionState) (frame : Frame) (others : List Frame) → Stands past state → state.tasks.queue ≡ frame ∷ others
     → (k : ℕ) × (rest : List ℕ) × (queue past ≡ k ∷ rest) × (frame ≡ frame_of past.came k) × (others ≡ frames_of past.came rest)
 queue_first past state frame others s e = some_names past.came (queue past) frame others (sym (queue_is past state s) ∙ e)
-
-pub none_queued : (past : Past) (state : SessionState) → Stands past state → state.tasks.queue ≡ [] → queue past ≡ []
-none_queued past state s e = no_names past.came (queue past) (sym (queue_is past state s) ∙ e)
 
 pub some_queued : (past : Past) (state : SessionState) (k : ℕ) (rest : List ℕ) → Stands past state → queue past ≡ k ∷ rest → state.tasks.queue ≡ [] → ⊥
 some_queued past state k rest s is none = let both : frame_of past.came k ∷ frames_of past.came rest ≡ [] = sym (queue_is past state s

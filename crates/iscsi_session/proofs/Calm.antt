@@ -1,13 +1,9 @@
 -- Where no store of a target failed, its sessions do what they do where none failed at all.
-use Rattle.std.proofs.Common.{◌≡◌, ℕ, List, [], ◌∷◌, Bool, Option, Some, refl, sym, ap, ◌∙◌, arith}
+use Rattle.std.proofs.Common.{◌≡◌, ℕ, List, [], ◌∷◌, Bool, Some, refl, arith}
 use Rattle.std.specs.Prelude.{drop}
-use Rattle.scsi_unit.specs.CameOut.{CameOut, AsDefined}
 use Rattle.iscsi_pdu.specs.Frames.{Frame}
-use Rattle.iscsi_session.specs.Requests.{frame_of}
-use Rattle.iscsi_session.specs.Transfers.{payload_of}
-use Rattle.iscsi_session.specs.Commands.{carried_out}
-use Rattle.iscsi_session.specs.Comings.{Coming, lend, next_coming, IsCalm}
-use Rattle.iscsi_session.specs.Steps.{Step, Work, judge, act, ask, tell, answered_command, finish, served, settled}
+use Rattle.iscsi_session.specs.Comings.{Coming, lend, IsCalm}
+use Rattle.iscsi_session.specs.Steps.{Step, Work, judge, act, ask, tell, finish, served, settled}
 use Rattle.iscsi_session.proofs.Steps.{served_keeps, settled_keeps, served_alike, settled_alike}
 
 -- ---- how commands come out
@@ -15,10 +11,6 @@ use Rattle.iscsi_session.proofs.Steps.{served_keeps, settled_keeps, served_alike
 pub calm_behind : (target : ℕ) (comings : List Coming) → IsCalm target comings → IsCalm target (drop 1 comings)
 calm_behind target [] calm = tt
 calm_behind target (coming ∷ more) calm = calm.1
-
-pub calm_next : (target : ℕ) (comings : List Coming) → IsCalm target comings → next_coming (Some target) comings ≡ AsDefined
-calm_next target [] calm = refl
-calm_next target (coming ∷ more) calm = grind arith
 
 -- ---- what each step keeps, all keep
 
@@ -55,11 +47,7 @@ pub record IsCalmAt (target : ℕ) (work : Work) : Type 0 where
 
 quiet_finish : (target k : ℕ) (work : Work) → IsCalmAt target work → finish k (quiet work) ≡ quiet (finish k work)
 unfolding finish
-quiet_finish target k work calm =
-    let next : next_coming work.past.params.target work.units.comings ≡ AsDefined =
-    ap (λ (o : Option ℕ). next_coming o work.units.comings) calm.own ∙ calm_next target work.units.comings calm.calm in
-    ap (λ (came : CameOut). (let p = carried_out came work.units.states work.past.params.nexus (frame_of work.past.came k) (payload_of work.past k) in
-    let x : Work = record work { past = answered_command p.1 k work.past; units = lend p.0 [] } in x)) (sym next)
+quiet_finish target k work calm = grind arith
 
 pub quiet_settled : (target : ℕ) (fails : Step → Bool) (place : ℕ) (work : Work) → IsCalmAt target work
     → settled fails place (quiet work) ≡ quiet (settled fails place work)

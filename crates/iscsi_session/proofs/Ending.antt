@@ -1,12 +1,12 @@
 -- A Task Management Function Request acts: what it removes and plugs, in the code and in the past.
-use Rattle.std.proofs.Common.{◌≡◌, ℕ, zero, suc, ◌+◌, ◌-◌, ◌<◌, ◌≤◌, List, [], ◌∷◌, ◌++◌, length, get_or, map, ltb, eqb, Bool, true, false, not, cond, ◌&&◌, ◌==◌, Option, None, refl, sym, ap, subst, ◌∙◌, arith, append-nil, inl, inr}
-use Rattle.std.specs.Prelude.{filter, is_some, if◌then◌else◌}
+use Rattle.std.proofs.Common.{◌≡◌, ℕ, zero, suc, ◌+◌, ◌<◌, ◌≤◌, List, [], ◌∷◌, ◌++◌, length, get_or, map, Bool, true, false, not, cond, ◌==◌, Option, None, refl, sym, ap, subst, ◌∙◌, arith, append-nil, inl, inr}
+use Rattle.std.specs.Prelude.{filter, if◌then◌else◌}
 use Rattle.std.specs.List.{list_any, range_with_len}
 use Rattle.std.proofs.lemmas.Bool.{eqb-true, false_from_ne_true}
 use Rattle.std.proofs.lemmas.Bool.Decides.{leb_tells}
 use Rattle.std.proofs.lemmas.List.{nil_from_length, length-map}
 use Rattle.std.proofs.lemmas.List.FromFn.{get_or-map-range_with_len, length-range_with_len}
-use Rattle.iscsi_pdu.specs.Header.{is_immediate, opcode_number}
+use Rattle.iscsi_pdu.specs.Header.{is_immediate}
 use Rattle.iscsi_pdu.specs.TaskManagement.{task_function, function_code, ref_cmd_sn}
 use Rattle.iscsi_pdu.specs.declared.task_management.TaskFunction.{TaskFunction}
 use Rattle.iscsi_pdu.specs.declared.task_management.TaskFunction.TheVariants as functions
@@ -26,7 +26,7 @@ use Rattle.iscsi_session.proofs.Kept.{function_no_command}
 use Rattle.iscsi_session.proofs.Unfinished.{unfinished_other}
 use Rattle.iscsi_session.proofs.Standing.{standing_at, standing_kept, numbered_standing, place_standing, length_standing}
 use Rattle.iscsi_session.proofs.Fronts.{frame_come, frame_missing, place_come, place_missing}
-use Rattle.iscsi_session.proofs.Over.{one_fewer_by, removed_command}
+use Rattle.iscsi_session.proofs.Over.{removed_command}
 use Rattle.iscsi_session.proofs.Parts.{parts}
 use Rattle.iscsi_session.proofs.Feeding.{list_is}
 use Rattle.iscsi_session.proofs.Answered.{moved_other}
@@ -43,9 +43,7 @@ unfinished_moved past k = refl
 reached_from : (reach : FunctionReach) (past after : Past) → after.came ≡ past.came → unfinished after ≡ unfinished past
     → reached reach after ≡ reached reach past
 unfolding reached
-reached_from reach past after came same =
-    ap (filter (λ k. reaches reach (frame_of after.came k).header)) same
-    ∙ ap (λ (l : List Request). filter (λ k. reaches reach (frame_of l k).header) (unfinished past)) came
+reached_from reach past after came same = grind arith
 
 pub reached_moved : (luns : List ℕ) (past : Past) (k : ℕ) → is_function (frame_of past.came k) ≡ true
     → reached (reach_of luns k past) (moved k past) ≡ reached (reach_of luns k past) past
@@ -131,10 +129,7 @@ no_plug_void : (b : Bool) → is_plug (void b) ≡ false
 no_plug_void b = grind arith
 
 no_plug_command : (frame : Frame) → is_command frame ≡ true → is_plug frame ≡ false
-no_plug_command frame e =
-    let n = opcode_number frame.header in
-    let one : n ≡ 1 = eqb-true n 1 e in
-    ap (λ (m : ℕ). eqb m 0x3E) one
+no_plug_command frame e = grind arith
 
 -- one that was removed stands for none, and was none
 plug_stands : (past : Past) (lawful : IsLawful past) (k : ℕ) → k < length past.came → is_plug (frame_of (standing past) k) ≡ is_plug (frame_of past.came k)
@@ -211,15 +206,10 @@ pub finds_is : {past : Past} {state : SessionState} (reach : FunctionReach) (liv
 finds_is {past} {state} reach live back new plugged_it s e f g h =
     rw (e ∙ some_reached past state reach s, f, g, h ∙ plugged_is past state (ref_cmd_sn reach.function) s) refl
 
-vacant_by : (d u : ℕ) (o : Bool) (b : Bool) → (ltb d (window - u) && o) ≡ true → (ltb d (window - cond b u (u - 1)) && o) ≡ true
-vacant_by d u o b e = grind arith
-
 -- a number that is vacant still is, where a request is finished
 pub vacant_still : (frame : Frame) (others : List Frame) (tasks : TaskLists) (n : ℕ) → is_vacant tasks n ≡ true
     → is_vacant (one_fewer frame (record tasks { due = others })) n ≡ true
-vacant_still frame others tasks n e =
-    ap (λ (t : TaskLists). is_vacant t n) (one_fewer_by _ frame (record tasks { due = others }) refl)
-    ∙ vacant_by (distance tasks.next n) tasks.unfinished (not (is_some (get_or tasks.held (distance tasks.next n) None))) (is_immediate frame.header) e
+vacant_still frame others tasks n e = grind arith
 
 pub behind_plain : (luns : List ℕ) (past after : Past) (k : ℕ) → plugs past (reach_of luns k past) ≡ false → behind luns k past after ≡ after
 behind_plain luns past after k e = grind arith

@@ -77,9 +77,6 @@ commands_live past state tag s =
     rw (unfinished_live past state tag s, drained_live past state tag s)
     (either_some (command_among past tag (unfinished past)) (command_among past tag (drained past)))
 
-header_of : Past → ℕ → List ℕ
-header_of past k = (frame_of past.came k).header
-
 pub headers_are : (past : Past) (state : SessionState) → Stands past state → state.functions ≡ map (λ k. (frame_of past.came k).header) (functions past)
 unfolding functions_of
 headers_are past state s = (parts past state s).functions_is

@@ -1,6 +1,6 @@
 -- Which requests one more takes: itself, where it is for immediate delivery, and else those with the
 -- numbers that it closes the gap before.
-use Rattle.std.proofs.Common.{◌≡◌, ◌≢◌, ℕ, zero, suc, ◌+◌, ◌-◌, ◌<◌, ◌≤◌, List, [], ◌∷◌, ◌++◌, length, map, Bool, true, false, cond, eqb, Option, Some, None, refl, sym, ap, subst, ◌∙◌, arith, inl, inr, length-append}
+use Rattle.std.proofs.Common.{◌≡◌, ◌≢◌, ℕ, zero, suc, ◌+◌, ◌-◌, ◌<◌, ◌≤◌, List, [], ◌∷◌, ◌++◌, length, map, Bool, true, false, cond, eqb, Some, None, refl, sym, ap, subst, ◌∙◌, arith, inl, inr, length-append}
 use Rattle.std.specs.Prelude.{filter, filter_map, is_some}
 use Rattle.std.specs.List.{range_with_len}
 use Rattle.std.proofs.lemmas.Bool.{ne_eqb, eq-eqb, cases_eq}
@@ -20,19 +20,8 @@ come_by : (b : Bool) (r : Request) (came : List Request) (k : ℕ) → has_numbe
     → ((order.has_come (numbered came) k ≡ true → place_of came k < length came) × (order.has_come (numbered came) k ≡ false → place_of came k ≡ length came))
     → (order.has_come (numbered (r ∷ came)) k ≡ true → place_of (r ∷ came) k < suc (length came)) × (order.has_come (numbered (r ∷ came)) k ≡ false
     → place_of (r ∷ came) k ≡ suc (length came))
-come_by true r came k e rest = (λ h. rw e (omega arith), λ h. absurd (no_number r.number e h))
-  where
-    no_number : (n : Option ℕ) → has_number k n ≡ true → order.has_come (filter_map (λ (r : Request). r.number)
-        (record { number = n; frame = r.frame } ∷ came)) k ≡ false → ⊥
-    no_number n e h = grind arith
-come_by false r came k e rest = by_number r.number e
-  where
-    by_number : (n : Option ℕ) → has_number k n ≡ false
-        → (order.has_come (numbered (record { number = n; frame = r.frame } ∷ came)) k ≡ true
-        → place_of (record { number = n; frame = r.frame } ∷ came) k < suc (length came))
-        × (order.has_come (numbered (record { number = n; frame = r.frame } ∷ came)) k ≡ false
-        → place_of (record { number = n; frame = r.frame } ∷ came) k ≡ suc (length came))
-    by_number n f = grind arith
+come_by true r came k e rest = grind arith
+come_by false r came k e rest = grind arith
 
 come_place : (came : List Request)
     (k : ℕ) → (order.has_come (numbered came) k ≡ true → place_of came k < length came) × (order.has_come (numbered came) k ≡ false
@@ -57,10 +46,7 @@ moment_come came (suc k) n come le =
 
 -- it is the greatest of all places up to it
 pub moment_above : (came : List Request) (j k : ℕ) → j ≤ k → place_of came j ≤ moment came k
-moment_above came j zero le = let e : j ≡ 0 = omega arith in ap_le e
-  where
-    ap_le : j ≡ 0 → place_of came j ≤ place_of came 0
-    ap_le e = subst (λ (n : ℕ). place_of came n ≤ place_of came 0) (sym e) (omega arith)
+moment_above came j zero le = grind arith
 moment_above came j (suc k) le = elim (cases_eq j (suc k)) [
   | inl same ↦ subst (λ (n : ℕ). place_of came n ≤ moment came (suc k)) (sym same) (place_le_moment came (suc k))
   | inr differs ↦ let before = moment_above came j k (omega arith) in omega arith

@@ -1,6 +1,6 @@
 -- How many requests are held, due and in the queue, as requests come and go.
-use Rattle.std.proofs.Common.{◌≡◌, ℕ, zero, suc, ◌+◌, ◌≤◌, List, [], ◌∷◌, ◌++◌, length, map, set, take, drop, Bool, true, false, Option, Some, None, refl, ap, ◌∙◌, arith, append-nil}
-use Rattle.std.specs.Prelude.{filter, filter_map, option_map, is_some}
+use Rattle.std.proofs.Common.{◌≡◌, ℕ, zero, suc, ◌+◌, ◌≤◌, List, [], ◌∷◌, ◌++◌, length, set, take, drop, Bool, true, false, Option, Some, None, refl, ap, ◌∙◌, arith, append-nil}
+use Rattle.std.specs.Prelude.{filter, filter_map, is_some}
 use Rattle.std.specs.List.{prefix_len}
 use Rattle.std.proofs.lemmas.List.{length-map, length-append}
 use Rattle.std.proofs.lemmas.List.Elements.{filter_map-append, filter-append}
@@ -8,8 +8,7 @@ use Rattle.iscsi_pdu.specs.Frames.{Frame}
 use Rattle.iscsi_order.specs.Window.{taken as taken_numbers}
 use Rattle.iscsi_order.specs.Serial.{distance}
 use Rattle.iscsi_session.specs.Requests.{Past, is_command, left, commands, frame_of, held, due, queue, moved, finished, removing}
-use Rattle.iscsi_session.specs.Functions.{FunctionReach}
-use Rattle.iscsi_session.specs.State.{TaskLists, IsLawful, standing, tasks_of, holding, takes_next, takes, takes_all, void_if, stays, without}
+use Rattle.iscsi_session.specs.State.{TaskLists, IsLawful, standing, tasks_of, holding, takes_next, takes, takes_all}
 use Rattle.iscsi_session.specs.Weight.{pending}
 use Rattle.iscsi_session.proofs.Left.{left_append, left_more, left_swap}
 use Rattle.iscsi_session.proofs.Weights.{held_length}
@@ -45,18 +44,9 @@ pending_held n frame tasks =
     let t = holding n frame tasks in
     omega (arith, pending_takes (prefix_len (λ o. is_some o) t.held) t, held_more tasks.held (distance tasks.next n) frame)
 
-held_voids : (reach : FunctionReach) (l : List (Option Frame)) → length (there (map (option_map (void_if reach)) l)) ≡ length (there l)
-held_voids reach [] = refl
-held_voids reach (None ∷ l) = held_voids reach l
-held_voids reach (Some frame ∷ l) = ap suc (held_voids reach l)
-
 pub filter_fewer : {A : Type 0} (q : A → Bool) (l : List A) → length (filter q l) ≤ length l
 filter_fewer q [] = omega arith
 filter_fewer q (x ∷ l) = grind (arith, filter_fewer q l)
-
-pub pending_without : (reach : FunctionReach) (tasks : TaskLists) → pending (without reach tasks) ≤ pending tasks
-pending_without reach tasks =
-    omega (arith, held_voids reach tasks.held, length-map tasks.due (void_if reach), filter_fewer (stays reach) tasks.queue)
 
 -- ---- what the past has of it
 

@@ -1,12 +1,12 @@
 -- The requests of one kind that are not finished, as requests come and are finished.
-use Rattle.std.proofs.Common.{◌≡◌, ℕ, ◌+◌, ◌<◌, List, [], ◌∷◌, ◌++◌, length, map, Bool, true, false, not, cond, eqb, refl, sym, ap, subst, ◌∙◌, arith, append-nil}
+use Rattle.std.proofs.Common.{◌≡◌, ℕ, ◌+◌, ◌<◌, List, [], ◌∷◌, ◌++◌, length, map, Bool, true, false, not, cond, refl, sym, ap, subst, ◌∙◌, arith, append-nil}
 use Rattle.std.specs.Prelude.{All, filter}
 use Rattle.std.specs.List.{range_with_len}
-use Rattle.std.proofs.lemmas.Bool.{eqb-true, false_from_ne_true}
+use Rattle.std.proofs.lemmas.Bool.{false_from_ne_true}
 use Rattle.std.proofs.lemmas.List.{length-append, map-append}
 use Rattle.std.proofs.lemmas.List.Elements.{filter-append, All-cons, All-nil}
 use Rattle.iscsi_pdu.specs.Frames.{Frame}
-use Rattle.iscsi_pdu.specs.Header.{opcode_number, initiator_task_tag}
+use Rattle.iscsi_pdu.specs.Header.{initiator_task_tag}
 use Rattle.iscsi_session.specs.Requests.{Request, Past, is_command, is_function, frame_of, is_in, left, finished}
 use Rattle.iscsi_session.specs.Transfers.{tag_of}
 use Rattle.iscsi_session.specs.State.{AreDistinct}
@@ -20,16 +20,10 @@ abbrev pub Below : Past → List ℕ → Type 0
 Below past names = All (λ k. k < length past.came) names
 
 pub command_no_function : (frame : Frame) → is_command frame ≡ true → is_function frame ≡ false
-command_no_function frame e =
-    let n = opcode_number frame.header in
-    let one : n ≡ 1 = eqb-true n 1 e in
-    ap (λ (m : ℕ). eqb m 2) one
+command_no_function frame e = grind arith
 
 pub function_no_command : (frame : Frame) → is_function frame ≡ true → is_command frame ≡ false
-function_no_command frame e =
-    let n = opcode_number frame.header in
-    let two : n ≡ 2 = eqb-true n 2 e in
-    ap (λ (m : ℕ). eqb m 1) two
+function_no_command frame e = grind arith
 
 -- those of these names whose frames are of this kind
 abbrev pub of_kind : (Frame → Bool) → List Request → List ℕ → List ℕ

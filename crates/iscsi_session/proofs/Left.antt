@@ -58,9 +58,6 @@ left_all gone [] none = refl
 left_all gone (k ∷ ks) none =
     rw (All-head (λ k. is_in k gone ≡ false) k ks none, left_all gone ks (All-tail (λ k. is_in k gone ≡ false) k ks none)) refl
 
-pub left_none : (gone names : List ℕ) → gone ≡ [] → left gone names ≡ names
-left_none gone names e = ap (λ (g : List ℕ). left g names) e ∙ left_all [] names (λ i d lt. refl)
-
 -- the first is gone
 pub left_one : (k : ℕ) (ks : List ℕ) → is_in k ks ≡ false → left (k ∷ []) ks ≡ ks
 unfolding left
@@ -157,10 +154,6 @@ pub distinct_front : (a b : List ℕ) → AreDistinct (a ++ b) → AreDistinct a
 distinct_front [] b distinct = tt
 distinct_front (k ∷ a) b distinct = ((or_parts _ _ (sym (is_in_append k a b) ∙ distinct.0)).0, distinct_front a b distinct.1)
 
-pub distinct_back : (a b : List ℕ) → AreDistinct (a ++ b) → AreDistinct b
-distinct_back [] b distinct = distinct
-distinct_back (k ∷ a) b distinct = distinct_back a b distinct.1
-
 -- what stands in the front does not stand behind
 pub distinct_apart : (k : ℕ) (a b : List ℕ) → AreDistinct (a ++ b) → is_in k a ≡ true → is_in k b ≡ false
 distinct_apart k [] b distinct there = absurd cc
@@ -183,9 +176,7 @@ range_more a zero j at = let e : a ≡ j = omega arith in ap (λ (k : ℕ). k �
 range_more a (suc n) j at = grind (arith, range_more (a + 1) n j (omega arith))
 
 pub range_split : (a n m j : ℕ) → n + m ≡ j → range_with_len a j ≡ range_with_len a n ++ range_with_len (a + n) m
-range_split a zero m j at =
-    let e : j ≡ m = omega arith in let f : a ≡ a + 0 = omega arith in
-    ap (range_with_len a) e ∙ ap (λ (k : ℕ). range_with_len k m) f
+range_split a zero m j at = grind arith
 range_split a (suc n) m zero at = absurd (omega arith)
 range_split a (suc n) m (suc j) at = grind (arith, range_split (a + 1) n m j (omega arith))
 

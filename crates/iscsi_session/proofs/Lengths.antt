@@ -16,7 +16,6 @@ use Rattle.iscsi_pdu.specs.declared.header.Opcode.{Opcode}
 use Rattle.iscsi_pdu.specs.declared.header.Opcode.TheVariants as opcodes
 use Rattle.iscsi_pdu.specs.declared.reject.RejectReason.{RejectReason}
 use Rattle.iscsi_pdu.specs.declared.reject.RejectReason.TheVariants as reasons
-use Rattle.iscsi_pdu.specs.declared.r2t.R2t.{R2t}
 use Rattle.iscsi_pdu.specs.declared.stamp.Stamp.{Stamp}
 use Rattle.iscsi_pdu.specs.declared.task_management_response.TaskResult.{TaskResult}
 use Rattle.iscsi_pdu.specs.LogoutRequest.{logout_reason}
@@ -165,21 +164,6 @@ command_long numbers values frame done range given =
     )
 
 -- ---- an R2T
-
-r2t_long : (lun : List ℕ) (r : R2t) → r.lun ≡ lun → length lun ≤ 8 → length (spelling (answers.R2t r)) ≤ 48
-r2t_long lun r is short = by_lun lun is short
-  where
-    by_lun : (lun : List ℕ) → r.lun ≡ lun → length lun ≤ 8 → length (spelling (answers.R2t r)) ≤ 48
-    by_lun [] e le = rw e (omega arith)
-    by_lun (a ∷ []) e le = rw e (omega arith)
-    by_lun (a ∷ b ∷ []) e le = rw e (omega arith)
-    by_lun (a ∷ b ∷ c ∷ []) e le = rw e (omega arith)
-    by_lun (a ∷ b ∷ c ∷ d ∷ []) e le = rw e (omega arith)
-    by_lun (a ∷ b ∷ c ∷ d ∷ f ∷ []) e le = rw e (omega arith)
-    by_lun (a ∷ b ∷ c ∷ d ∷ f ∷ g ∷ []) e le = rw e (omega arith)
-    by_lun (a ∷ b ∷ c ∷ d ∷ f ∷ g ∷ h ∷ []) e le = rw e (omega arith)
-    by_lun (a ∷ b ∷ c ∷ d ∷ f ∷ g ∷ h ∷ i ∷ []) e le = rw e (omega arith)
-    by_lun (a ∷ b ∷ c ∷ d ∷ f ∷ g ∷ h ∷ i ∷ j ∷ more) e le = absurd (omega (arith, le))
 
 pub ask_long : (past : Past) (k : ℕ) → length (flat_map spelling (r2t_of past k)) ≤ 48
 unfolding r2t_of

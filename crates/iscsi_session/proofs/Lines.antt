@@ -172,11 +172,6 @@ times_push j key (k ∷ keys) = omega (arith, times_push j key keys, times-cons 
 
 -- ---- keys are handed over
 
-pub first_key : (l : List (Option ℕ)) → prefix_len (λ k. is_some k) l ≡ 0 → is_some (get_or l 0 None) ≡ false
-first_key [] e = refl
-first_key (None ∷ l) e = refl
-first_key (Some k ∷ l) e = absurd (omega arith)
-
 prefix_push : (l : List (Option ℕ)) → prefix_len (λ k. is_some k) (l ++ None ∷ []) ≡ prefix_len (λ k. is_some k) l
 prefix_push [] = refl
 prefix_push (None ∷ l) = refl

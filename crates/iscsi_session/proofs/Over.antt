@@ -1,14 +1,14 @@
 -- How many numbers are over: of the requests that are finished, and of those that were removed and whose turn has come.
-use Rattle.std.proofs.Common.{◌≡◌, ℕ, zero, ◌+◌, ◌-◌, ◌<◌, ◌≤◌, List, [], ◌∷◌, ◌++◌, length, get_or, Bool, true, false, not, cond, refl, sym, ap, ◌∙◌, arith, append_assoc, map}
-use Rattle.std.specs.Prelude.{is_some, All, filter}
+use Rattle.std.proofs.Common.{◌≡◌, ℕ, ◌+◌, ◌-◌, ◌<◌, ◌≤◌, List, [], ◌∷◌, ◌++◌, length, get_or, Bool, true, false, not, cond, refl, sym, ap, ◌∙◌, arith, append_assoc, map}
+use Rattle.std.specs.Prelude.{All, filter}
 use Rattle.std.proofs.lemmas.Bool.{false_from_ne_true, not-true}
 use Rattle.std.proofs.lemmas.List.{append-nil}
 use Rattle.std.proofs.lemmas.List.Elements.{filter-append, filter_passes}
 use Rattle.iscsi_pdu.specs.Header.{is_immediate}
 use Rattle.iscsi_pdu.specs.Frames.{Frame}
 use Rattle.iscsi_order.specs.Window.{taken as taken_numbers}
-use Rattle.iscsi_session.specs.Requests.{Request, Past, request_at, frame_of, is_in, left, is_command, commands, others, counted, over, pending, taken, numbers, due, queue, Drain, functions, unfinished}
-use Rattle.iscsi_session.specs.State.{TaskLists, IsDelivered, IsLawful, one_fewer, AreDistinct, AreDrained}
+use Rattle.iscsi_session.specs.Requests.{Request, Past, frame_of, is_in, left, is_command, commands, others, counted, over, pending, taken, numbers, due, queue, Drain, functions, unfinished}
+use Rattle.iscsi_session.specs.State.{TaskLists, IsLawful, one_fewer, AreDistinct, AreDrained}
 use Rattle.iscsi_session.proofs.Left.{filter_filter, filter_cong, and_swap, left_all, all_in}
 use Rattle.iscsi_session.proofs.Pending.{left_push}
 use Rattle.iscsi_session.specs.Transfers.{tag_of}
@@ -78,13 +78,6 @@ few_over past in_order queued at_once all handed =
 
 -- ---- one more is over
 
--- one that has no number is for immediate delivery
-fewer_by : (n i : Bool) (handed done : ℕ) → n ≡ not i → cond i (handed - done) (handed - done - 1) ≡ handed - (done + length (cond n (zero ∷ []) []))
-fewer_by n i handed done e = grind arith
-
-one_counted : (b : Bool) (came : List Request) (k : ℕ) → is_some (request_at came k).number ≡ b → counted came (k ∷ []) ≡ length (cond b (zero ∷ []) [])
-one_counted b came k e = grind arith
-
 pub one_fewer_by : (b : Bool) (frame : Frame) (tasks : TaskLists) → is_immediate frame.header ≡ b
     → one_fewer frame tasks ≡ record tasks { unfinished = cond b tasks.unfinished (tasks.unfinished - 1) }
 one_fewer_by b frame tasks e = grind arith
@@ -92,10 +85,7 @@ one_fewer_by b frame tasks e = grind arith
 -- of so many that are handed over, one more is over
 pub unfinished_less : (past : Past) (handed n m k : ℕ) → IsLawful past → k < length past.came → m ≡ n + counted past.came (k ∷ [])
     → cond (is_immediate (frame_of past.came k).header) (handed - n) (handed - n - 1) ≡ handed - m
-unfinished_less past handed n m k lawful lt is =
-    let told : IsDelivered (request_at past.came k) = lawful.delivered k _ lt in
-    fewer_by (is_some (request_at past.came k).number) (is_immediate (frame_of past.came k).header) handed n told
-    ∙ ap (λ (c : ℕ). handed - (n + c)) (sym (one_counted _ past.came k refl)) ∙ ap (λ (c : ℕ). handed - c) (sym is)
+unfinished_less past handed n m k lawful lt is = grind arith
 
 -- ---- which are over, where one acts
 

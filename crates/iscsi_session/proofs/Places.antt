@@ -1,7 +1,6 @@
 -- A search among what a function makes of names, and what is set or removed where it was found.
-use Rattle.std.proofs.Common.{◌≡◌, ◌≢◌, ℕ, zero, suc, ◌<◌, List, [], ◌∷◌, ◌++◌, length, map, set, ltb, Bool, true, false, cond, ◌||◌, Option, Some, None, ◌==◌, eqb, refl, sym, ap, ◌∙◌, inl, inr, arith}
+use Rattle.std.proofs.Common.{◌≡◌, ◌≢◌, ℕ, zero, suc, ◌<◌, List, [], ◌∷◌, ◌++◌, length, map, set, Bool, true, false, cond, ◌||◌, Option, Some, None, ◌==◌, eqb, refl, sym, ap, ◌∙◌, inl, inr, arith}
 use Rattle.std.specs.Prelude.{All, position, find, filter, remove, option_map, is_some, slice_get, slice_index_or}
-use Rattle.std.specs.List.{position_or_len}
 use Rattle.std.proofs.lemmas.Bool.{cases_eq, eq-eqb, eqb-true, ne_eqb}
 use Rattle.std.proofs.lemmas.List.{map-append}
 use Rattle.std.proofs.lemmas.List.Elements.{filter-append, All-head, All-tail}
@@ -10,15 +9,6 @@ use Rattle.iscsi_session.specs.State.{AreDistinct}
 use Rattle.iscsi_session.proofs.Left.{left_first}
 
 -- ---- a search
-
-ltb_by : (b : Bool) (n m : ℕ) → ltb n m ≡ b → ltb (suc n) (suc m) ≡ b
-ltb_by b n m e = grind arith
-
-later : (found : Bool) (n : ℕ) → cond found (Some (suc n)) None ≡ option_map suc (cond found (Some n) None)
-later found n = grind arith
-
-position_later : {Y : Type 0} (p : Y → Bool) (y : Y) (ys : List Y) → p y ≡ false → position_or_len p (y ∷ ys) ≡ suc (position_or_len p ys)
-position_later p y ys e = rw e (omega arith)
 
 pub position_with : {Y : Type 0} (b : Bool) (p : Y → Bool) (y : Y) (ys : List Y) → p y ≡ b
     → position p (y ∷ ys) ≡ cond b (Some 0) (option_map suc (position p ys))

@@ -1,6 +1,6 @@
 -- The first request that is due is taken out of the slab, and a plug stands at its key for a number of the window.
-use Rattle.std.proofs.Common.{◌≡◌, ℕ, ◌+◌, ◌-◌, ◌<◌, List, ◌∷◌, length, drop, get_or, ltb, remove, Bool, true, not, cond, ◌&&◌, Option, Some, None, refl, sym, ap, subst, ◌∙◌, arith}
-use Rattle.std.specs.Prelude.{is_some, if◌then◌else◌}
+use Rattle.std.proofs.Common.{◌≡◌, ℕ, ◌+◌, ◌-◌, ◌<◌, List, ◌∷◌, length, drop, get_or, remove, Bool, true, cond, Option, Some, None, refl, sym, ap, subst, ◌∙◌, arith}
+use Rattle.std.specs.Prelude.{if◌then◌else◌}
 use Rattle.slab.specs.Slab.{Slab, get, Updates}
 use Rattle.iscsi_pdu.specs.Header.{is_immediate}
 use Rattle.iscsi_pdu.specs.Frames.{Frame}
@@ -8,7 +8,6 @@ use Rattle.iscsi_order.specs.WindowState.{WindowKeys, with_key, key_at}
 use Rattle.iscsi_order.specs.WindowState as windows
 use Rattle.iscsi_order.specs.Window as order
 use Rattle.iscsi_order.specs.Window.{window}
-use Rattle.iscsi_order.specs.Serial.{distance}
 use Rattle.iscsi_session.specs.Functions.{plug}
 use Rattle.iscsi_session.specs.State.{one_fewer, holding, takes_all, window_of}
 use Rattle.iscsi_session.specs.Tasks.{requests_at, keys_in, times, holds, AreLines, lists_of, moves_all}
@@ -23,13 +22,8 @@ counted_by : (b : Bool) (frame : Frame) (w : WindowKeys) → is_immediate frame.
     → counted_out frame w ≡ record w { unfinished = cond b w.unfinished (w.unfinished - 1) }
 counted_by b frame w e = grind arith
 
-vacant_by : (d u : ℕ) (o b : Bool) → (ltb d (window - u) && o) ≡ true → (ltb d (window - cond b u (u - 1)) && o) ≡ true
-vacant_by d u o b e = grind arith
-
 vacant_after : (frame : Frame) (w : WindowKeys) (n : ℕ) → windows.is_vacant w n ≡ true → windows.is_vacant (counted_out frame w) n ≡ true
-vacant_after frame w n e =
-    ap (λ (x : WindowKeys). windows.is_vacant x n) (counted_by _ frame w refl)
-    ∙ vacant_by (distance w.next n) w.unfinished (not (is_some (key_at w n))) (is_immediate frame.header) e
+vacant_after frame w n e = grind arith
 
 pub record Replaced (old mid new : Slab Frame) (n key : ℕ) (frame : Frame) (w : WindowKeys) (due queue : List ℕ) : Type 0 where
   pub first : requests_at old due ≡ frame ∷ drop 1 (requests_at old due)

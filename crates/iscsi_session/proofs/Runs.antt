@@ -175,10 +175,6 @@ pub leaves_stopped : (step : Step) (given work : Work) (state : SessionState) (b
 leaves_stopped step given work state before waiting units l =
     leaves_as given work given (record (reaches step work) { goes_on = false }) state before waiting units refl refl refl refl refl l
 
-pub reached_last : (step : Step) (work last : Work) → last ≡ record (reaches step work) { goes_on = false }
-    → (before : List Step) × (last.reached ≡ before ++ step ∷ [])
-reached_last step work last e = (work.reached, ap (λ (v : Work). v.reached) e)
-
 -- ---- more waits behind what did
 
 pub same_output : (bytes bytes_too : List ℕ) (orders orders_too : List (List ℕ)) → bytes ≡ bytes_too → orders ≡ orders_too

@@ -1,21 +1,11 @@
 -- The requests as they stand: those that were removed are voided, and keep their numbers.
-use Rattle.std.proofs.Common.{◌≡◌, ℕ, zero, suc, ◌+◌, ◌<◌, List, [], ◌∷◌, ◌++◌, length, get_or, Bool, true, false, cond, refl, sym, ap, ◌∙◌, arith}
-use Rattle.std.specs.Prelude.{All, filter_map, Option}
+use Rattle.std.proofs.Common.{◌≡◌, ℕ, zero, suc, ◌+◌, ◌<◌, List, [], ◌∷◌, ◌++◌, length, Bool, true, false, cond, refl, ap, ◌∙◌, arith}
+use Rattle.std.specs.Prelude.{All}
 use Rattle.std.proofs.lemmas.Bool.{false_from_ne_true}
-use Rattle.std.proofs.lemmas.List.Elements.{filter_map-append}
-use Rattle.iscsi_session.specs.Requests.{Request, Past, request_at, frame_of, frames_of, is_in, numbered, place_of}
+use Rattle.iscsi_session.specs.Requests.{Request, Past, request_at, frame_of, is_in, numbered, place_of}
 use Rattle.iscsi_pdu.specs.Header.{opcode_number, is_immediate}
 use Rattle.iscsi_session.specs.State.{void, voided, standing_from, standing}
-use Rattle.iscsi_session.proofs.Left.{below_of, map_cong}
-
-if_number : (b : Bool) (r : Request) → (cond b (voided r) r).number ≡ r.number
-if_number b r = grind arith
-
-numbered_with : (s r : Request) (more came : List Request) → s.number ≡ r.number → numbered more ≡ numbered came → numbered (s ∷ more) ≡ numbered (r ∷ came)
-numbered_with s r more came e rest =
-    filter_map-append (λ (x : Request). x.number) (s ∷ []) more
-    ∙ ap (λ (n : Option ℕ). filter_map (λ o. o) (n ∷ []) ++ numbered more) e ∙ ap (λ (l : List ℕ). filter_map (λ o. o) (r.number ∷ []) ++ l) rest
-    ∙ sym (filter_map-append (λ (x : Request). x.number) (r ∷ []) came)
+use Rattle.iscsi_session.proofs.Left.{below_of}
 
 -- the numbers are the same
 numbered_from : (removed : List ℕ) (k : ℕ) (came : List Request) → numbered (standing_from removed k came) ≡ numbered came
@@ -45,9 +35,7 @@ length_standing past = length_from past.removed 0 past.came
 -- one request more
 push_from : (removed : List ℕ) (k n : ℕ) (came : List Request) (x : Request) → n ≡ k + length came → is_in n removed ≡ false
     → standing_from removed k (came ++ x ∷ []) ≡ standing_from removed k came ++ x ∷ []
-push_from removed k n [] x at fresh =
-    let same : n ≡ k = omega arith in
-    ap (λ (b : Bool). cond b (voided x) x ∷ []) (ap (λ (m : ℕ). is_in m removed) (sym same) ∙ fresh)
+push_from removed k n [] x at fresh = grind arith
 push_from removed k n (r ∷ came) x at fresh = grind (arith, push_from removed (suc k) n came x (omega arith) fresh)
 
 pub standing_joined : (past : Past) (x : Request) → All (λ a. a < length past.came) past.removed
@@ -73,13 +61,6 @@ standing_at past k lt = at_from past.removed 0 k k past.came lt (omega arith)
 -- of one that is not removed
 pub standing_kept : (past : Past) (k : ℕ) → k < length past.came → is_in k past.removed ≡ false → frame_of (standing past) k ≡ frame_of past.came k
 standing_kept past k lt none = ap (λ (r : Request). r.frame) (standing_at past k lt ∙ ap (λ (b : Bool). cond b (voided (request_at past.came k)) (request_at past.came k)) none)
-
-pub frames_kept : (past : Past) (names : List ℕ) → All (λ k. k < length past.came) names → All (λ k. is_in k past.removed ≡ false) names
-    → frames_of (standing past) names ≡ frames_of past.came names
-frames_kept past names below none = map_cong _ _ names (λ i d lt. standing_kept past (get_or names i d) (below i d lt) (none i d lt))
-
-void_immediate : (b : Bool) → is_immediate (void b).header ≡ b
-void_immediate b = grind arith
 
 immediate_by : (b : Bool) (r : Request) → is_immediate (cond b (voided r) r).frame.header ≡ is_immediate r.frame.header
 immediate_by b r = grind arith

@@ -1,5 +1,5 @@
 -- The queue of a session, one after the other, and the data of its commands, where some leave.
-use Rattle.std.proofs.Common.{◌≡◌, ℕ, zero, suc, ◌+◌, ◌-◌, ◌<◌, List, [], ◌∷◌, ◌++◌, length, take, drop, get_or, remove, Bool, true, false, not, cond, Option, refl, sym, ap, ◌∙◌, arith, append_assoc, append-nil}
+use Rattle.std.proofs.Common.{◌≡◌, ℕ, suc, ◌+◌, ◌-◌, ◌<◌, List, [], ◌∷◌, ◌++◌, length, get_or, Bool, true, false, not, cond, Option, refl, sym, ap, ◌∙◌, arith, append_assoc, append-nil}
 use Rattle.std.specs.Prelude.{All, filter, is_some}
 use Rattle.std.proofs.lemmas.List.Elements.{All-tail}
 use Rattle.slab.specs.Slab.{Slab, get}
@@ -47,17 +47,6 @@ pub record Swept (reach : FunctionReach) (given now : TaskLists) (left : ℕ) : 
   pub kept : done ++ filter (stays reach) rest ≡ filter (stays reach) given.queue
   pub fewer : now.unfinished - length (filter (counts_out reach) rest) ≡ given.unfinished - length (filter (counts_out reach) given.queue)
   pub same : now ≡ record given { unfinished = now.unfinished; queue = now.queue }
-
-pub sweep_begins : (reach : FunctionReach) (given : TaskLists) (n : ℕ) → n ≡ length given.queue → Swept reach given given n
-sweep_begins reach given n is = record {
-  rest = given.queue;
-  done = [];
-  queue = sym (append-nil given.queue);
-  count = sym is;
-  kept = refl;
-  fewer = refl;
-  same = refl;
-}
 
 filter_true : (p : Frame → Bool) (frame : Frame) (l : List Frame) → p frame ≡ true → filter p (frame ∷ l) ≡ frame ∷ filter p l
 filter_true p frame l e = rw e refl
@@ -148,15 +137,3 @@ sweep_ends reach given now s = by_rest s.rest refl
         s.same ∙ rw (left, queue) refl
 
 -- ---- a list from which some are removed, one after the other
-
-pub one_kept : {A : Type 0} (p : A → Bool) (l : List A) (i : ℕ) (d : A) → i < length l → p (get_or l i d) ≡ true
-    → take (suc i) l ++ filter p (drop (suc i) l) ≡ take i l ++ filter p (drop i l)
-one_kept p [] i d lt e = absurd (omega arith)
-one_kept p (x ∷ l) zero d lt e = rw e refl
-one_kept {A} p (x ∷ l) (suc i) d lt e = ap (λ (rest : List A). x ∷ rest) (one_kept p l i d (omega arith) e)
-
-pub one_removed : {A : Type 0} (p : A → Bool) (l : List A) (i : ℕ) (d : A) → i < length l → p (get_or l i d) ≡ false
-    → take i (remove l i) ++ filter p (drop i (remove l i)) ≡ take i l ++ filter p (drop i l)
-one_removed p [] i d lt e = absurd (omega arith)
-one_removed p (x ∷ l) zero d lt e = rw e refl
-one_removed {A} p (x ∷ l) (suc i) d lt e = ap (λ (rest : List A). x ∷ rest) (one_removed p l i d (omega arith) e)

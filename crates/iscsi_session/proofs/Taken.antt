@@ -83,9 +83,6 @@ taken_more came x =
 
 -- ---- the request at the place of a number has it
 
-place_next : (f : Request) (came : List Request) (k : ℕ) → has_number k f.number ≡ false → place_of (f ∷ came) k ≡ suc (place_of came k)
-place_next f came k e = rw e (omega arith)
-
 pub place_has : (came : List Request) (k : ℕ) → place_of came k < length came → has_number k (request_at came (place_of came k)).number ≡ true
 place_has [] k lt = absurd (omega arith)
 place_has (f ∷ came) k lt = grind (arith, place_has came k)

@@ -1,7 +1,7 @@
 -- What a frame is judged to be, case by case.
-use Rattle.std.proofs.Common.{◌≡◌, ◌≢◌, ◌==◌, ℕ, Bool, true, false, not, ◌&&◌, ◌||◌, inl, inr, refl, sym, ap, ◌∙◌, arith}
-use Rattle.std.specs.Prelude.{◌⊎◌, Option, Some, None, is_some, if◌then◌else◌}
-use Rattle.std.proofs.lemmas.Bool.{eq-eqb, ne_eqb, or_right, or_parts}
+use Rattle.std.proofs.Common.{◌≡◌, ◌≢◌, ℕ, Bool, true, false, not, ◌&&◌, ◌||◌, refl, sym, ap, ◌∙◌, arith}
+use Rattle.std.specs.Prelude.{Option, Some, None, is_some, if◌then◌else◌}
+use Rattle.std.proofs.lemmas.Bool.{or_parts}
 use Rattle.iscsi_pdu.specs.Header.{opcode_of, opcode_number, is_immediate, initiator_task_tag}
 use Rattle.iscsi_pdu.specs.Frames.{Frame}
 use Rattle.iscsi_pdu.specs.declared.header.Opcode.{Opcode}
@@ -13,7 +13,7 @@ use Rattle.iscsi_session.specs.declared.verdict.Verdict.{Verdict}
 use Rattle.iscsi_session.specs.declared.verdict.Verdict.TheVariants.{Ignored, Rejected, Violating, Accepted}
 use Rattle.iscsi_session.specs.Requests.{Past, is_command, is_function}
 use Rattle.iscsi_session.specs.Transfers.{command_with}
-use Rattle.iscsi_session.specs.Judging.{reserved_tag, is_fresh, is_live, is_full, is_faulty, task_verdict, data_verdict, is_refused, verdict_by, request_verdict, verdict, is_over, is_taken}
+use Rattle.iscsi_session.specs.Judging.{is_fresh, is_live, is_full, is_faulty, task_verdict, data_verdict, is_refused, verdict_by, request_verdict, verdict, is_over, is_taken}
 
 -- ---- a command, test by test
 
@@ -37,29 +37,10 @@ pub verdict_at : (past : Past) (frame : Frame) (opcode : Opcode) → opcode_of (
     → request_verdict past frame ≡ verdict_by opcode past frame
 verdict_at past frame opcode e = ap (λ (o : Opcode). verdict_by o past frame) e
 
-pub numbered_verdict : (past : Past) (frame : Frame) (opcode : Opcode) (fresh : Bool) → opcode_of (opcode_number frame.header) ≡ opcode
-    → (opcode ≡ opcodes.NopOut) ⊎ ((opcode ≡ opcodes.Text) ⊎ (opcode ≡ opcodes.Logout)) → is_fresh past frame ≡ fresh
-    → request_verdict past frame ≡ (if fresh then Accepted else Ignored)
-unfolding verdict_by
-numbered_verdict past frame opcode fresh is (inl e) h = verdict_at past frame opcodes.NopOut (is ∙ e) ∙ ap (λ (b : Bool). if b then Accepted else Ignored) h
-numbered_verdict past frame opcode fresh is (inr (inl e)) h = verdict_at past frame opcodes.Text (is ∙ e) ∙ ap (λ (b : Bool). if b then Accepted else Ignored) h
-numbered_verdict past frame opcode fresh is (inr (inr e)) h = verdict_at past frame opcodes.Logout (is ∙ e) ∙ ap (λ (b : Bool). if b then Accepted else Ignored) h
-
 pub fed_verdict : (past : Past) (frame : Frame) → opcode_of (opcode_number frame.header) ≡ opcodes.DataOut
     → request_verdict past frame ≡ data_verdict past frame (command_with past (initiator_task_tag frame.header))
 unfolding verdict_by
 fed_verdict past frame is = verdict_at past frame opcodes.DataOut is
-
-pub tested_verdict : (past : Past) (frame : Frame) (opcode : Opcode) → opcode_of (opcode_number frame.header) ≡ opcode
-    → (opcode ≡ opcodes.ScsiCommand) ⊎ (opcode ≡ opcodes.TaskManagement) → request_verdict past frame ≡ task_verdict past frame
-unfolding verdict_by
-tested_verdict past frame opcode is (inl e) = verdict_at past frame opcodes.ScsiCommand (is ∙ e)
-tested_verdict past frame opcode is (inr e) = verdict_at past frame opcodes.TaskManagement (is ∙ e)
-
-pub refused_verdict : (past : Past) (frame : Frame) (opcode : Opcode) → opcode_of (opcode_number frame.header) ≡ opcode
-    → (n : ℕ) × (opcode ≡ opcodes.Other n) → request_verdict past frame ≡ Rejected reasons.CommandNotSupported
-unfolding verdict_by
-refused_verdict past frame opcode is (n, e) = verdict_at past frame (opcodes.Other n) (is ∙ e)
 
 -- in a discovery session most are refused
 pub verdict_refused : (past : Past) (frame : Frame) → is_refused past.params frame ≡ true → verdict past frame ≡ Rejected reasons.CommandNotSupported

@@ -1,5 +1,5 @@
 -- The requests of a slab that a Task Management Function Request reaches are voided.
-use Rattle.std.proofs.Common.{◌≡◌, ◌≢◌, ℕ, zero, suc, ◌<◌, ◌≤◌, List, [], ◌∷◌, ◌++◌, length, map, take, get_or, Bool, true, false, cond, ◌||◌, eqb, Option, Some, None, refl, sym, ap, ◌∙◌, arith, inl, inr}
+use Rattle.std.proofs.Common.{◌≡◌, ℕ, zero, suc, ◌<◌, ◌≤◌, List, [], ◌∷◌, ◌++◌, length, map, take, get_or, Bool, true, false, cond, ◌||◌, eqb, Option, Some, None, refl, sym, ap, ◌∙◌, arith, inl, inr}
 use Rattle.std.specs.Prelude.{All, option_map, is_some}
 use Rattle.std.proofs.lemmas.Bool.{cases_eq, eq-eqb, ne_eqb}
 use Rattle.std.proofs.lemmas.List.Elements.{filter_map-append}
@@ -14,21 +14,12 @@ use Rattle.iscsi_session.specs.Tasks.{requests_at, held_at, keys_in, times, hold
 use Rattle.iscsi_session.proofs.Left.{in_at, is_in_append}
 use Rattle.iscsi_session.proofs.Places.{or_known}
 
-twice : (reach : FunctionReach) (frame : Frame) → void_if reach (void_if reach frame) ≡ void_if reach frame
-twice reach frame = grind arith
-
 abbrev voids : FunctionReach → Option Frame → Option Frame
 voids reach slot = option_map (void_if reach) slot
-
-twice_slot : (reach : FunctionReach) (slot : Option Frame) → voids reach (voids reach slot) ≡ voids reach slot
-twice_slot reach slot = grind arith
 
 both_ways : (a b : Bool) (reach : FunctionReach) (slot : Option Frame)
     → cond b (voids reach (cond a (voids reach slot) slot)) (cond a (voids reach slot) slot) ≡ cond (a || b) (voids reach slot) slot
 both_ways a b reach slot = grind arith
-
-pub voids_none : (reach : FunctionReach) (requests : Slab Frame) → Voids reach [] requests requests
-voids_none reach requests = record { at = λ key. refl }
 
 pub voids_then : (reach : FunctionReach) (a b : List ℕ) (old mid new : Slab Frame) → Voids reach a old mid → Voids reach b mid new
     → Voids reach (a ++ b) old new
@@ -37,15 +28,6 @@ voids_then reach a b old mid new first second = record {
       ∙ ap (λ (slot : Option Frame). cond (is_in key b) (voids reach slot) slot) (first.at key)
       ∙ both_ways (is_in key a) (is_in key b) reach (get old key)
       ∙ ap (λ (x : Bool). cond x (voids reach (get old key)) (get old key)) (sym (is_in_append key a b));
-}
-
-pub voids_one : (reach : FunctionReach) (key : ℕ) (old new : Slab Frame) → get new key ≡ voids reach (get old key)
-    → ((other : ℕ) → other ≢ key → get new other ≡ get old other) → Voids reach (key ∷ []) old new
-voids_one reach key old new here others = record {
-  at = λ k. elim (cases_eq key k) [
-    | inl same ↦ rw (eq-eqb key k same) (ap (get new) (sym same) ∙ here ∙ ap (λ (n : ℕ). voids reach (get old n)) same)
-    | inr differs ↦ rw (ne_eqb key k differs) (others k (λ e. differs (sym e)))
-  ];
 }
 
 -- ---- one key more

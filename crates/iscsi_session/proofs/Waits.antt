@@ -6,21 +6,20 @@ use Rattle.std.proofs.lemmas.Bool.{ne_eqb, false_from_ne_true}
 use Rattle.std.proofs.lemmas.List.{map-append}
 use Rattle.std.proofs.lemmas.List.Elements.{All-nil, All-cons, All-head, All-tail}
 use Rattle.iscsi_session.specs.Drained.{Drained}
-use Rattle.iscsi_session.specs.Requests.{Past, Drain, drain_for, draining, frame_of, frames_of, is_in, is_command, is_function, due, unfinished, moved, removing, functions}
+use Rattle.iscsi_session.specs.Requests.{Past, Drain, drain_for, draining, frame_of, frames_of, is_in, is_function, due, unfinished, removing, functions}
 use Rattle.iscsi_session.specs.Transfers.{task_at, outs_of, tags_of, is_asked_of}
 use Rattle.iscsi_session.specs.Functions.{FunctionReach, reaches, reached, waits, awaited}
 use Rattle.iscsi_session.specs.Acts.{reach_of, ended, behind, acted, act_answers}
 use Rattle.iscsi_session.specs.State.{SessionState, AreDistinct, IsLawful, Stands, standing, transfer_of, drained_of, without, transfers_without}
 use Rattle.iscsi_session.specs.Draining.{drained_for, is_awaited, awaited_in, awaits_in}
 use Rattle.iscsi_session.proofs.Left.{filter_filter, in_at, in_back, in_filter, distinct_filter, distinct_append}
-use Rattle.iscsi_session.proofs.Kept.{function_no_command}
 use Rattle.iscsi_session.proofs.Pending.{drains_apart}
 use Rattle.iscsi_session.proofs.Unfinished.{unfinished_distinct}
 use Rattle.iscsi_session.proofs.Parts.{due_is}
 use Rattle.iscsi_session.proofs.Feeding.{list_is}
 use Rattle.iscsi_session.proofs.Removing.{filter_map_names, map_map_names, due_same, lawful_removing, stands_removing}
-use Rattle.iscsi_session.proofs.Answered.{moved_other, answering_none, function_waits}
-use Rattle.iscsi_session.proofs.Ending.{ended_function, awaited_some, awaited_no_plug, behind_plain, any_counts}
+use Rattle.iscsi_session.proofs.Answered.{answering_none, function_waits}
+use Rattle.iscsi_session.proofs.Ending.{awaited_some, awaited_no_plug, behind_plain, any_counts}
 use Rattle.iscsi_session.proofs.Waiting.{functions_after, unfinished_after, lawful_waiting, stands_waiting}
 
 commands_for : (k : ℕ) (l : List ℕ) → map (λ d. d.command) (map (drain_for k) l) ≡ l
@@ -79,13 +78,8 @@ module _ (luns : List ℕ) (past : Past) (lawful : IsLawful past) (k : ℕ) (res
   due_less : due less ≡ k ∷ rest
   due_less = due_same (reach_of luns k past) past lawful ∙ is
 
-  no_command : is_command (frame_of past.came k) ≡ false
-  no_command = function_no_command (frame_of past.came k) f
-
   ends_are : draining k names (removing gone (record past { acted = past.acted ++ k ∷ []; finished = past.finished ++ k ∷ [] })) ≡ ended luns k past
-  ends_are =
-      ap (λ (p : Past). draining k names (removing gone p)) (moved_other k past no_command)
-      ∙ ap (λ (l : List ℕ). draining k l (removing gone (moved k past))) (sym e) ∙ sym (ended_function luns past k f)
+  ends_are = grind arith
 
   lawful_less : IsLawful (draining k names (removing gone (record past { acted = past.acted ++ k ∷ []; finished = past.finished ++ k ∷ [] })))
   lawful_less =

@@ -10,7 +10,7 @@ use Rattle.iscsi_order.specs.Window.{window}
 use Rattle.iscsi_order.specs.Serial.{distance}
 use Rattle.iscsi_session.specs.Requests.{Past, is_function, frame_of, frames_of, numbered, numbers, held, due, place_of}
 use Rattle.iscsi_session.specs.Functions.{FunctionReach, plug}
-use Rattle.iscsi_session.specs.State.{TaskLists, standing, frame_numbered, tasks_of, one_fewer, holding, takes_next, takes, takes_all, void, void_if, plugged_behind, without, weight, weigh, waiting}
+use Rattle.iscsi_session.specs.State.{TaskLists, standing, frame_numbered, tasks_of, one_fewer, holding, takes_next, takes, takes_all, void_if, plugged_behind, without, weight, weigh, waiting}
 use Rattle.iscsi_session.specs.Steps.{waiting_in}
 use Rattle.iscsi_session.proofs.Standing.{numbered_standing}
 use Rattle.iscsi_session.proofs.Fronts.{frame_marked}
@@ -102,9 +102,6 @@ waiting_plugged n frame others tasks is function =
     )
 
 -- ---- SCSI Commands are removed
-
-void_weight : (b : Bool) → weight (void b) ≡ 1
-void_weight b = grind arith
 
 same_weight : (reach : FunctionReach) (frame : Frame) → weight (void_if reach frame) ≡ weight frame
 same_weight reach frame = grind arith

@@ -1,12 +1,10 @@
-use Rattle.std.proofs.Common.{◌≡◌, ◌||◌, ℕ, true, false, ◌&&◌, refl, sym, ap, ◌∙◌, subst}
-use Rattle.std.proofs.lemmas.Bool.{and_from, and_left, and_right, or_parts}
+use Rattle.std.proofs.Common.{true, false, refl, sym, ap, ◌∙◌}
+use Rattle.std.proofs.lemmas.Bool.{or_parts}
 use Rattle.std.specs.Prelude.{is_some}
-use Rattle.iscsi_pdu.specs.Frames.{Frame}
-use Rattle.iscsi_pdu.specs.Header.{is_immediate, initiator_task_tag}
+use Rattle.iscsi_pdu.specs.Header.{initiator_task_tag}
 use Rattle.iscsi_login.specs.declared.params.Params.{Params}
-use Rattle.iscsi_session.specs.Judging.{is_full, is_faulty}
-use Rattle.iscsi_session.specs.Draining.{drain_with, is_live_in}
-use Rattle.iscsi_session.specs.State.{function_place}
+use Rattle.iscsi_session.specs.Judging.{is_faulty}
+use Rattle.iscsi_session.specs.Draining.{drain_with}
 use Rattle.iscsi_session.proofs.Feeding.{none_by}
 use Rattle.iscsi_session.proofs.Parts.{parts}
 use Rattle.iscsi_session.proofs.Verdicts.{task_told, faultless_agreed}
