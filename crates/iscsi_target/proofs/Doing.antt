@@ -60,21 +60,23 @@ does_nothing kind act halves given after stands = record {
   stands = λ s sent half w place marks agree ahead h. (let at = stands s sent half w place marks agree h in (at.0, refl, at.1));
 }
 
+-- as much failed, and came out so: of these marks, and where the code stood here, another act is done
+abbrev pub does_from : {kind one : ℕ → Mark → Bool} {act other : Act} {halves bytes : Halves} {starved : Option ℕ} {given from after : Machine}
+    → (d : Does kind act halves starved given after) → ((place : ℕ) → list_all (one place) (d.failed place) ≡ true)
+    → ((s : Setting) (sent : ℕ → ℕ) (half : ℕ → List ℕ) (w : World) (place : ℕ) (marks : List Mark) → Agrees (one place) marks (d.failed place)
+    → AreAhead d.came w.comings → Serves s sent half w from → Serves s sent (bytes half) (other s marks place w) after
+    × (are_reached (d.failed place) (other s marks place w) ≡ true) × ((other s marks place w).comings ≡ drop (length d.came) w.comings))
+    → Does one other bytes starved from after
+does_from d of_kind stands =
+    record { failed = d.failed; first = d.first; of_kind = of_kind; came = d.came; plain = d.plain; calm = d.calm; stands = stands }
+
 -- the same under another name
 pub does_as : (kind : ℕ → Mark → Bool) (act other : Act) (halves : Halves) (starved : Option ℕ) (given after : Machine)
     → ((s : Setting) (sent : ℕ → ℕ) (half : ℕ → List ℕ) (w : World) (place : ℕ) (marks : List Mark) → Serves s sent half w given
     → other s marks place w ≡ act s marks place w)
     → Does kind act halves starved given after → Does kind other halves starved given after
-does_as kind act other halves starved given after same d = record {
-  failed = d.failed;
-  first = d.first;
-  of_kind = d.of_kind;
-  came = d.came;
-  plain = d.plain;
-  calm = d.calm;
-  stands = λ s sent half w place marks agree ahead h.
-      rw (same s sent half w place marks h) (d.stands s sent half w place marks agree ahead h);
-}
+does_as kind act other halves starved given after same d = does_from d d.of_kind
+    (λ s sent half w place marks agree ahead h. rw (same s sent half w place marks h) (d.stands s sent half w place marks agree ahead h))
 
 pub does_on : (kind : ℕ → Mark → Bool) (act : Act) (halves : Halves) (starved : Option ℕ) (a b given after : Machine) → a ≡ given → b ≡ after
     → Does kind act halves starved a b → Does kind act halves starved given after
@@ -89,7 +91,8 @@ does_starved kind act halves a b given after e d = let P : Option ℕ → Type 0
 
 -- ---- one call after the other
 
-unfoldable pub does_then : (one two both : ℕ → Mark → Bool) (act_one act_two : Act) (halves_one halves_two : Halves) (a b : Option ℕ) (given middle after : Machine)
+unfoldable pub does_then : (one two both : ℕ → Mark → Bool) (act_one act_two : Act) (halves_one halves_two : Halves) (a b : Option ℕ)
+    (given middle after : Machine)
     → ((place : ℕ) → Apart (one place) (two place)) → ((place : ℕ) → Apart (two place) (one place)) → ((place : ℕ) → Wider (one place) (both place))
     → ((place : ℕ) → Wider (two place) (both place))
     → ReflectsSoundness middle after → ((s : Setting) (marks : List Mark) (place : ℕ) (w : World) → Goes w (act_two s marks place w))

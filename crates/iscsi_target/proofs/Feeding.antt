@@ -36,7 +36,8 @@ use Rattle.iscsi_target.proofs.Taking.{halving, rehalved, halves_idle, half_twic
 
 -- ---- the longer bytes
 
-phase_longer : (directory : KnownTargets) (life : Life) (piece : List ℕ) (phase : Phase) → phase_for directory (longer piece life) phase ≡ phase_for directory life phase
+phase_longer : (directory : KnownTargets) (life : Life) (piece : List ℕ) (phase : Phase) → phase_for directory
+    (longer piece life) phase ≡ phase_for directory life phase
 phase_longer directory life piece LoggingIn = refl
 phase_longer directory life piece _ = refl
 
@@ -182,7 +183,8 @@ pub record Came (s : Setting) (sent : ℕ → ℕ) (w : World) (comings : List C
   pub reached : are_reached marks (bring s marks c piece (begun_event comings w)) ≡ true
   pub stands : StandsAt s sent (bring s marks c piece (begun_event comings w)) now
 
-brings : (s : Setting) (marks : List Mark) (comings : List Coming) (c : ℕ) (piece : List ℕ) (w : World) (life : Life) → present c w ≡ Some life → is_long (rest life.bytes) ≡ false
+brings : (s : Setting) (marks : List Mark) (comings : List Coming) (c : ℕ) (piece : List ℕ) (w : World) (life : Life) → present c w ≡ Some life
+    → is_long (rest life.bytes) ≡ false
     → bring s marks c piece (begun_event comings w) ≡ take_step marks c AtEnd (λ u. u)
     (fold (arrive s marks c) (piece_came comings c piece w) (enumerate_from (length (arrivals life.bytes)) (arrivals (rest life.bytes ++ piece))))
 unfolding bring

@@ -26,7 +26,7 @@ use Rattle.iscsi_session.proofs.Came.{ahead_of}
 use Rattle.iscsi_target.proofs.Comings.{comings_close, comings_log_in}
 use Rattle.iscsi_target.proofs.Walks.{on-settle_one, on-settle_for, on-carry_out_for}
 use Rattle.iscsi_target.proofs.Keeping.{goes, on-then, on-close}
-use Rattle.iscsi_target.proofs.Doing.{still_reached, does_nothing, does_as, does_then}
+use Rattle.iscsi_target.proofs.Doing.{still_reached, does_nothing, does_as, does_from, does_then}
 use Rattle.iscsi_target.proofs.AtWork.{IsCalled, CallDoes, last_there, marks_of, starved_if, call_does, own_past, served_orders, serve_acts, serve_agrees}
 
 -- ---- a connection that does not read
@@ -205,34 +205,27 @@ takes_served failed goes_on orders c target frame given middle ended after starv
     taken_done done_taken taken_step done_step back (λ s marks place w. on-then w (carry_out_for c target orders w) _
     (on-carry_out_for goes.walk c target orders w (λ t e. tt)) (on-settle_for goes.walk marks place target (carry_out_for c target orders w) (λ t e. tt)))
     first second in
-    record {
-      failed = both.failed;
-      first = both.first;
-      of_kind = λ place. all_wider (is_step_at place) (is_of_frame place) (both.failed place) (step_within place) (both.of_kind place);
-      came = both.came;
-      plain = both.plain;
-      calm = both.calm;
-      stands = λ s sent half w place marks agree ahead h.
-          (let there = at_work s sent half w given c k.session k.in_range h k.phase in
-          let a = there.1 in
-          let v = reaching c (Arriving place ∷ []) w in
-          let free : is_marked marks c (Arriving place) ≡ false =
-          agree (mark_at c (Arriving place)) (eqb_self place) ∙ unmarked (is_step_at place) (both.failed place) (mark_at c (Arriving place))
-          (both.of_kind place) (and_false (eqb place place)) in
-          let here = serves_reaching s sent half w given c (Arriving place ∷ []) h in
-          let inner : Agrees (is_step_at place) marks (both.failed place) = λ mark is. agree mark (step_within place mark is) in
-          let acted : orders_in marks c place frame v ≡ orders =
-          served_orders run failed goes_on orders c target given middle ended k l e frame s sent half v place marks (λ fails work. refl)
-          (ahead_of l.does.came second.came v.comings ahead)
-          (agrees_left (is_taken_at place) (is_done_at place) (is_step_at place) marks (marks_of c failed place) (second.failed place)
-          (taken_done place) (taken_step place) (second.of_kind place) inner) here in
-          let step = arrived_free s marks c w place (Whole frame) (ap reads_life a.at ∙ ap reads a.phase) free
-          ∙ arrived_in s marks c w place frame a.life (FullFeature there.0) a.at a.phase
-          ∙ ap (λ (t : Option ℕ). settle_for marks place t (carry_out_for c t (orders_in marks c place frame v) (take_in marks c place frame v)))
-          (own_past (λ f place. served f place frame) failed goes_on orders c target given middle ended k l e there.0 there.2)
-          ∙ ap (λ (os : List (List ℕ)). settle_for marks place target (carry_out_for c target os (take_in marks c place frame v))) acted in
-          rw step (both.stands s sent half v place marks inner ahead here));
-    }
+    does_from both (λ place. all_wider (is_step_at place) (is_of_frame place) (both.failed place) (step_within place) (both.of_kind place))
+    (λ s sent half w place marks agree ahead h.
+    (let there = at_work s sent half w given c k.session k.in_range h k.phase in
+    let a = there.1 in
+    let v = reaching c (Arriving place ∷ []) w in
+    let free : is_marked marks c (Arriving place) ≡ false =
+    agree (mark_at c (Arriving place)) (eqb_self place) ∙ unmarked (is_step_at place) (both.failed place) (mark_at c (Arriving place))
+    (both.of_kind place) (and_false (eqb place place)) in
+    let here = serves_reaching s sent half w given c (Arriving place ∷ []) h in
+    let inner : Agrees (is_step_at place) marks (both.failed place) = λ mark is. agree mark (step_within place mark is) in
+    let acted : orders_in marks c place frame v ≡ orders =
+    served_orders run failed goes_on orders c target given middle ended k l e frame s sent half v place marks (λ fails work. refl)
+    (ahead_of l.does.came second.came v.comings ahead)
+    (agrees_left (is_taken_at place) (is_done_at place) (is_step_at place) marks (marks_of c failed place) (second.failed place)
+    (taken_done place) (taken_step place) (second.of_kind place) inner) here in
+    let step = arrived_free s marks c w place (Whole frame) (ap reads_life a.at ∙ ap reads a.phase) free
+    ∙ arrived_in s marks c w place frame a.life (FullFeature there.0) a.at a.phase
+    ∙ ap (λ (t : Option ℕ). settle_for marks place t (carry_out_for c t (orders_in marks c place frame v) (take_in marks c place frame v)))
+    (own_past (λ f place. served f place frame) failed goes_on orders c target given middle ended k l e there.0 there.2)
+    ∙ ap (λ (os : List (List ℕ)). settle_for marks place target (carry_out_for c target os (take_in marks c place frame v))) acted in
+    rw step (both.stands s sent half v place marks inner ahead here)))
 
 -- ---- the sessions of a target are settled, one after the other
 
@@ -292,13 +285,7 @@ settled_next target c a b given middle after back so_far one =
 pub all_settled : (target : ℕ) (starved : Option ℕ) (given after : Machine) → SettledBelow target connection_limit starved given after
     → Settles target starved given after
 unfolding settle
-all_settled target starved given after d = record {
-  failed = d.failed;
-  first = d.first;
-  of_kind = λ place. all_wider (is_done_below connection_limit place) (is_done_at place) (d.failed place) (below_all connection_limit place) (d.of_kind place);
-  came = d.came;
-  plain = d.plain;
-  calm = d.calm;
-  stands = λ s sent half w place marks agree ahead h. d.stands s sent half w place marks
-      (λ mark is. agree mark (below_all connection_limit place mark is)) ahead h;
-}
+all_settled target starved given after d = does_from d
+    (λ place. all_wider (is_done_below connection_limit place) (is_done_at place) (d.failed place) (below_all connection_limit place) (d.of_kind place))
+    (λ s sent half w place marks agree ahead h. d.stands s sent half w place marks
+    (λ mark is. agree mark (below_all connection_limit place mark is)) ahead h)

@@ -95,7 +95,8 @@ reply_short login lookup request = by_refusal (refusal_of login lookup request)
 
     by_refusal : (o : Option LoginRefusal) → IsShortReply (reply_unless o lookup login request)
     by_refusal (Some refusal) =
-        response_long (take 6 (drop 8 request.header)) (login_response login request (tsih request.header) (replies.Refused refusal)) refl isid_short (omega arith)
+        response_long (take 6 (drop 8 request.header)) (login_response login request (tsih request.header) (replies.Refused refusal)) refl isid_short
+        (omega arith)
     by_refusal None =
         let now = brought lookup.directory login request in
         let step = step_of request.header now.due in
@@ -127,7 +128,8 @@ older_loads None machine c lt = adds_none 0 (link_at machine c)
 older_loads (Some d) machine c lt = elim (eqb_tells c d) [
   | inl same ↦ subst (λ (k : ℕ). AddsAtMost 0 (link_at machine c) (link_at (with_link machine k (shut_link (link_at machine k))) c)) same.1
       (subst (AddsAtMost 0 (link_at machine c)) (sym (link_set machine machine.units c (shut_link (link_at machine c)) lt)) (adds_shut 0 (link_at machine c)))
-  | inr differ ↦ subst (AddsAtMost 0 (link_at machine c)) (sym (link_other machine machine.units d c (shut_link (link_at machine d)) differ.1)) (adds_none 0 (link_at machine c))
+  | inr differ ↦ subst (AddsAtMost 0 (link_at machine c)) (sym (link_other machine machine.units d c (shut_link (link_at machine d)) differ.1))
+      (adds_none 0 (link_at machine c))
 ]
 
 replied_loads : (reply : Reply) (login : LoginState) (c : ℕ) (machine : Machine) → c < length machine.links → IsShortReply reply
@@ -146,9 +148,11 @@ replied_loads (Full response session) login c machine lt short =
     let now = joined_session session answer c machine in
     let first : AddsAtMost 1 (link_at machine c) (link_at now c) = subst (AddsAtMost 1 (link_at machine c)) (sym (link_set machine now.units c link lt))
     (more_waits (link_at machine c) link (spelling answer) refl short (omega (arith, begun_pending session)) (begun_rests session)) in
-    adds_then 1 0 (link_at machine c) (link_at now c) _ first (older_loads (older session (sessions machine.links)) now c (omega (arith, lt, length-set machine.links c link)))
+    adds_then 1 0 (link_at machine c) (link_at now c) _ first
+    (older_loads (older session (sessions machine.links)) now c (omega (arith, lt, length-set machine.links c link)))
 
-pub logged_in_loads : (machine new : Machine) (c : ℕ) (login : LoginState) (request : Frame) → c < length machine.links → new ≡ logged_in machine c login request
+pub logged_in_loads : (machine new : Machine) (c : ℕ) (login : LoginState) (request : Frame) → c < length machine.links
+    → new ≡ logged_in machine c login request
     → AddsAtMost 1 (link_at machine c) (link_at new c)
 unfolding logged_in
 logged_in_loads machine new c login request lt is =

@@ -7,7 +7,8 @@ use Rattle.iscsi_target.specs.History.{Event, Open, Bytes, Gone, Mark, History}
 use Rattle.iscsi_target.specs.Life.{Life, Over, ended_in, born}
 use Rattle.iscsi_target.specs.World.{Setting, World, is_present, over, end, bring, happen, begun_event, happened}
 use Rattle.iscsi_target.specs.Isolation.{named_in}
-use Rattle.iscsi_target.proofs.Keeping.{Asks, asks_same, LivesFollow, Goes, on-bring}
+use Rattle.iscsi_target.proofs.Following.{Asks, asks_same, LivesFollow}
+use Rattle.iscsi_target.proofs.Keeping.{Goes, on-bring}
 use Rattle.iscsi_target.proofs.Choices.{cond_true, cond_false}
 use Rattle.iscsi_target.proofs.IsolatedLives.{AllFrom, Selection, HasTarget, all_front}
 use Rattle.iscsi_target.proofs.IsolatedLogin.{named_later}

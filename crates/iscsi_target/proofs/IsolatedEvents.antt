@@ -103,13 +103,15 @@ other_log_in g s c request w v life at logs on named agree =
 logs_there : (c : ℕ) (w : World) (life : Life) → present c w ≡ Some life → life.phase ≡ LoggingIn → LogsIn c w
 logs_there c w life at e = λ other there. ap (λ (l : Life). l.phase) (some_is other life (sym there ∙ at)) ∙ e
 
-in_enter : (b : Bool) (g : Selection) (s : Setting) (c : ℕ) (frame : Frame) (w v : World) (life : Life) → present c w ≡ Some life → LogsIn c w → g.keeps_on c ≡ true
+in_enter : (b : Bool) (g : Selection) (s : Setting) (c : ℕ) (frame : Frame) (w v : World) (life : Life) → present c w ≡ Some life → LogsIn c w
+    → g.keeps_on c ≡ true
     → AreNamed g s.directory (cond b (log_in s c frame w) (close c w)) → Agree g w v
     → Agree g (cond b (log_in s c frame w) (close c w)) (cond b (log_in s c frame v) (close c v))
 in_enter true g s c frame w v life at logs on named agree = in_log_in g s c frame w v life at logs on named agree
 in_enter false g s c frame w v life at logs on named agree = in_close g c w v on agree
 
-out_enter : (b : Bool) (g : Selection) (s : Setting) (c : ℕ) (frame : Frame) (w v : World) (life : Life) → present c w ≡ Some life → LogsIn c w → g.keeps_on c ≡ false
+out_enter : (b : Bool) (g : Selection) (s : Setting) (c : ℕ) (frame : Frame) (w v : World) (life : Life) → present c w ≡ Some life → LogsIn c w
+    → g.keeps_on c ≡ false
     → AreNamed g s.directory (cond b (log_in s c frame w) (close c w)) → Agree g w v → Agree g (cond b (log_in s c frame w) (close c w)) v
 out_enter true g s c frame w v life at logs on named agree = other_log_in g s c frame w v life at logs on named agree
 out_enter false g s c frame w v life at logs on named agree = out_close g c w v on agree
@@ -223,7 +225,8 @@ out_arrive g s c w v arrival on named agree = out_step g s.directory c (Arriving
 
 named_at_first : (g : Selection) (s : Setting) (c : ℕ) (w : World) (all : List (ℕ × Arrival)) → AreNamed g s.directory (fold (arrive s [] c) w all)
     → AreNamed g s.directory w
-named_at_first g s c w all named = named_before g s.directory w (fold (arrive s [] c) w all) (adds-goes w _ (on-arrivals goes s [] c w all (any_arrivals c all))) named
+named_at_first g s c w all named = named_before g s.directory w (fold (arrive s [] c) w all)
+    (adds-goes w _ (on-arrivals goes s [] c w all (any_arrivals c all))) named
 
 in_arrivals : (g : Selection) (s : Setting) (c : ℕ) (w v : World) (all : List (ℕ × Arrival)) → g.keeps_on c ≡ true
     → AreNamed g s.directory (fold (arrive s [] c) w all) → Agree g w v → Agree g (fold (arrive s [] c) w all) (fold (arrive s [] c) v all)

@@ -1,13 +1,14 @@
 -- What is done to a present life keeps what is true of its place and of its session's target.
-use Rattle.std.proofs.Common.{◌≡◌, ℕ, List, Bool, false, Some, sym, ap, ◌∙◌, subst}
+use Rattle.std.proofs.Common.{◌≡◌, ℕ, List, Bool, Some, sym, ap, ◌∙◌, subst}
 use Rattle.iscsi_pdu.specs.Frames.{Frame}
 use Rattle.iscsi_pdu.specs.declared.answer.Answer.{Answer}
 use Rattle.iscsi_login.specs.declared.params.Params.{Params}
 use Rattle.iscsi_session.specs.Requests.{Past}
-use Rattle.iscsi_target.specs.Life.{Life, Closing, is_over, ended_in}
+use Rattle.iscsi_target.specs.Life.{Life, Closing, ended_in}
 use Rattle.iscsi_target.specs.World.{World, is_present, present, changed_first, past_of, answered, asked, longer, begun, with_past}
 use Rattle.iscsi_target.proofs.Lives.{present_is}
-use Rattle.iscsi_target.proofs.IsolatedLives.{AllFrom, Selection, HasTarget, Fits, on_it, number_of, first_fits}
+use Rattle.iscsi_target.proofs.Keeping.{open_life}
+use Rattle.iscsi_target.proofs.IsolatedLives.{AllFrom, Selection, HasTarget, Fits, number_of, first_fits}
 use Rattle.iscsi_target.proofs.IsolatedWorlds.{Agree, session_of_past}
 
 -- f of the present life of a connection fits where it does
@@ -18,9 +19,6 @@ pub fits_changed : (g : Selection) (f : Life → Life) (c : ℕ) (w : World) →
     → AllFrom (Fits g) 0 (changed_first (is_present c) f w.lives)
 unfolding Keeps present
 fits_changed g f c w keeps fits = first_fits (Fits g) f c 0 w.lives fits keeps
-
-open_life : (c : ℕ) (w : World) (life : Life) → present c w ≡ Some life → is_over life.phase ≡ false
-open_life c w life at = (on_it c life (present_is c w life at)).1
 
 pub keeps_ended : (g : Selection) (c : ℕ) (w : World) → Keeps g (ended_in Closing) c w
 unfolding Keeps

@@ -19,7 +19,7 @@ use Rattle.iscsi_target.specs.History.{Mark, connections}
 use Rattle.iscsi_target.specs.Life.{Life, Closing, ended_in}
 use Rattle.iscsi_target.specs.World.{World, is_present, present, changed_first, changed, session_of, past_of, live, units_at, with_units, changed_units, left, close, answered, begun, begins, end_older, replied, fails, work_of, with_past, worked_on, worked, served_by, take_in, settled_by, settle_one, settle, settle_for}
 use Rattle.iscsi_target.proofs.IsolatedLives.{Selection, HasTarget, changed_in}
-use Rattle.iscsi_target.proofs.IsolatedWorlds.{UnitsAgree, units_own, with_own, Agree, present_in, present_out, session_target, past_target, session_of_past, older_same, older_on, one_target, same_targets}
+use Rattle.iscsi_target.proofs.IsolatedWorlds.{UnitsAgree, units_own, with_own, Agree, agree_with, present_in, present_out, session_target, past_target, session_of_past, older_same, older_on, one_target, same_targets}
 use Rattle.iscsi_target.proofs.IsolatedFits.{Keeps, keeps_ended, keeps_answered, keeps_begun, keeps_worked, fits_changed}
 
 -- ---- what a connection's end does
@@ -59,7 +59,7 @@ in_close g c w v on agree =
     let units : UnitsAgree g (left (session_of (present c w)) w.units) (left (session_of (present c v)) v.units) =
     subst (λ (o : Option Life). UnitsAgree g (left (session_of (present c w)) w.units) (left (session_of o) v.units)) (sym (present_in g c w v on agree))
     (own_left g (session_of (present c w)) w.units v.units (own_session g c w v on agree) agree.units) in
-    record { lives = next.lives; units = units; fits = next.fits; calm = next.calm; silent = next.silent }
+    agree_with g _ _ _ _ next refl refl units next.calm next.silent
 
 pub in_cond : (g : Selection) (b : Bool) (w u v x : World) → Agree g w v → Agree g u x → Agree g (cond b w u) (cond b v x)
 in_cond g true w u v x a b = a
@@ -77,13 +77,7 @@ in_begins : (g : Selection) (session : Params) (answer : Answer) (c : ℕ) (w v 
 in_begins g session answer c w v on own agree =
     let next = in_changed g (begun session answer) c w v on
     (keeps_begun g session answer c w v agree (subst (λ (b : Bool). HasTarget g b session.target) (sym on) own)) agree in
-    record {
-      lives = next.lives;
-      units = own_changed g (join session.nexus) session.target w.units v.units own agree.units;
-      fits = next.fits;
-      calm = next.calm;
-      silent = next.silent;
-    }
+    agree_with g _ _ _ _ next refl refl (own_changed g (join session.nexus) session.target w.units v.units own agree.units) next.calm next.silent
 
 pub in_replied : (g : Selection) (reply : Reply) (c : ℕ) (w v : World) → g.keeps_on c ≡ true
     → ((r : _) (session : Params) → reply ≡ Full r session → HasTarget g true session.target) → Agree g w v
@@ -109,13 +103,7 @@ in_worked_on g c past work w v on at same calm agree =
     let own : HasTarget g true work.past.params.target =
     subst (λ (p : Params). HasTarget g true p.target) (sym same) (own_session g c w v on agree past.params (session_of_past (present c w) past at)) in
     let next = in_changed g (with_past work.past) c w v on (keeps_worked g c past work.past w at same) agree in
-    record {
-      lives = next.lives;
-      units = with_own g work.past.params.target work.units.states w.units v.units own agree.units;
-      fits = next.fits;
-      calm = calm;
-      silent = refl;
-    }
+    agree_with g _ _ _ _ next refl refl (with_own g work.past.params.target work.units.states w.units v.units own agree.units) calm refl
 
 in_worked : (g : Selection) (c : ℕ) (past : Past) (work : Work) (w v : World) → g.keeps_on c ≡ true → past_of (present c w) ≡ Some past
     → work.past.params ≡ past.params → IsCalm g.target work.units.comings → Agree g w v → Agree g (worked c work w) (worked c (quiet work) v)

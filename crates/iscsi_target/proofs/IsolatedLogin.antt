@@ -22,6 +22,7 @@ use Rattle.iscsi_login.specs.declared.reply.Reply.TheVariants.{Full}
 use Rattle.iscsi_target.specs.Life.{Life}
 use Rattle.iscsi_target.specs.World.{asked}
 use Rattle.iscsi_target.specs.Isolation.{named_in}
+use Rattle.iscsi_target.proofs.LoggingIn.{remembered-push}
 use Rattle.iscsi_target.proofs.Choices.{cond_true}
 
 abbrev pub target_of : Option Session → Option ℕ
@@ -29,15 +30,10 @@ target_of o = option_and_then (λ (session : Session). session.target) o
 
 -- ---- one request more
 
-pub remembered_push : (directory : KnownTargets) (handle : ℕ) (requests : List Frame) (request : Frame)
-    → remembered directory handle (requests ++ request ∷ []) ≡ advanced directory (remembered directory handle requests) request
-unfolding remembered
-remembered_push directory handle requests request = fold-append (advanced directory) (new_login handle) requests (request ∷ [])
-
 pub named_asked : (directory : KnownTargets) (life : Life) (request : Frame)
     → named_in directory (asked request life) ≡ target_of (advanced directory (remembered directory (life.connection + 1) life.requests) request).session
 unfolding named_in
-named_asked directory life request = ap (λ (l : LoginState). target_of l.session) (remembered_push directory (life.connection + 1) life.requests request)
+named_asked directory life request = ap (λ (l : LoginState). target_of l.session) (remembered-push directory (life.connection + 1) life.requests request)
 
 pub advanced_session : (directory : KnownTargets) (login : LoginState) (request : Frame)
     → (advanced directory login request).session ≡ (brought directory login request).session

@@ -19,7 +19,7 @@ use Rattle.iscsi_target.specs.Life.{Life, Closing, ended_in}
 use Rattle.iscsi_target.specs.World.{Setting, World, present, changed, session_of, past_of, live, changed_units, left, close, answered, asked, begun, begins, requests_of, lookup_for, end_older, replied, log_in, work_of, with_past, worked_on, worked, losing, reset, serve}
 use Rattle.iscsi_target.proofs.Walks.{Walk, on-serve}
 use Rattle.iscsi_target.proofs.IsolatedLives.{Selection, HasTarget, changed_out}
-use Rattle.iscsi_target.proofs.IsolatedWorlds.{UnitsAgree, with_other, Agree, session_target, past_target, session_of_past, older_on, one_target}
+use Rattle.iscsi_target.proofs.IsolatedWorlds.{UnitsAgree, with_other, Agree, agree_with, session_target, past_target, session_of_past, older_on, one_target}
 use Rattle.iscsi_target.proofs.IsolatedFits.{Keeps, keeps_ended, keeps_answered, keeps_asked, keeps_begun, keeps_worked, fits_changed}
 
 -- ---- what a connection's end does
@@ -49,13 +49,8 @@ pub out_close : (g : Selection) (c : ℕ) (w v : World) → g.keeps_on c ≡ fal
 unfolding close
 out_close g c w v on agree =
     let next = out_changed g (ended_in Closing) c w v on (keeps_ended g c w) agree in
-    record {
-      lives = next.lives;
-      units = out_left g (session_of (present c w)) w.units v.units (other_session g c w v on agree) agree.units;
-      fits = next.fits;
-      calm = next.calm;
-      silent = next.silent;
-    }
+    agree_with g _ _ _ _ next refl refl (out_left g (session_of (present c w)) w.units v.units (other_session g c w v on agree) agree.units)
+    next.calm next.silent
 
 out_cond : (g : Selection) (b : Bool) (w u v : World) → Agree g w v → Agree g u v → Agree g (cond b w u) v
 out_cond g true w u v a b = a
@@ -73,13 +68,7 @@ unfolding changed_units
 out_begins g session answer c w v on other agree =
     let next = out_changed g (begun session answer) c w v on
     (keeps_begun g session answer c w v agree (subst (λ (b : Bool). HasTarget g b session.target) (sym on) other)) agree in
-    record {
-      lives = next.lives;
-      units = with_other g session.target _ w.units v.units other agree.units;
-      fits = next.fits;
-      calm = next.calm;
-      silent = next.silent;
-    }
+    agree_with g _ _ _ _ next refl refl (with_other g session.target _ w.units v.units other agree.units) next.calm next.silent
 
 out_replied : (g : Selection) (reply : Reply) (c : ℕ) (w v : World) → g.keeps_on c ≡ false
     → ((r : _) (session : Params) → reply ≡ Full r session → HasTarget g false session.target) → Agree g w v → Agree g (replied reply c w) v
@@ -110,13 +99,7 @@ out_worked_on g c past work w v on at same calm agree =
     let other : HasTarget g false work.past.params.target =
     subst (λ (p : Params). HasTarget g false p.target) (sym same) (other_session g c w v on agree past.params (session_of_past (present c w) past at)) in
     let next = out_changed g (with_past work.past) c w v on (keeps_worked g c past work.past w at same) agree in
-    record {
-      lives = next.lives;
-      units = with_other g work.past.params.target work.units.states w.units v.units other agree.units;
-      fits = next.fits;
-      calm = calm;
-      silent = next.silent;
-    }
+    agree_with g _ _ _ _ next refl refl (with_other g work.past.params.target work.units.states w.units v.units other agree.units) calm next.silent
 
 out_worked : (g : Selection) (c : ℕ) (past : Past) (work : Work) (w v : World) → g.keeps_on c ≡ false → past_of (present c w) ≡ Some past
     → work.past.params ≡ past.params → IsCalm g.target work.units.comings → Agree g w v → Agree g (worked c work w) v
@@ -133,13 +116,8 @@ not_kept g c target past w v at same other agree =
 
 out_reset : (g : Selection) (header : List ℕ) (target : ℕ) (w v : World) → HasTarget g false (Some target) → Agree g w v → Agree g (reset header target w) v
 unfolding reset changed_units
-out_reset g header target w v other agree = record {
-  lives = agree.lives;
-  units = with_other g (Some target) _ w.units v.units other agree.units;
-  fits = agree.fits;
-  calm = agree.calm;
-  silent = agree.silent;
-}
+out_reset g header target w v other agree =
+    agree_with g _ _ _ _ agree refl refl (with_other g (Some target) _ w.units v.units other agree.units) agree.calm agree.silent
 
 out : (g : Selection) (v : World)
     → Walk (λ w u. Agree g w v → Agree g u v) (λ c frame. g.keeps_on c ≡ false) (λ target. HasTarget g false (Some target))

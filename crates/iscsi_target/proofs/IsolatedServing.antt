@@ -10,7 +10,7 @@ use Rattle.iscsi_target.specs.History.{Mark, connections}
 use Rattle.iscsi_target.specs.Life.{Life}
 use Rattle.iscsi_target.specs.World.{World, present, past_of, work_of, worked_on, take_in, orders_by, orders_in, function_of, reaches_others, losing, lost_by, lose_one, reset_by, reset, carry_out, carry_out_for, settle_for, serve}
 use Rattle.iscsi_target.proofs.IsolatedLives.{Selection, HasTarget}
-use Rattle.iscsi_target.proofs.IsolatedWorlds.{Agree, present_in, present_out, past_target, one_target}
+use Rattle.iscsi_target.proofs.IsolatedWorlds.{Agree, agree_with, present_in, present_out, past_target, one_target}
 use Rattle.iscsi_target.proofs.IsolatedInside.{in_cond, in_worked_on, own_changed, same_work, same_served, in_take_in, in_settle_for}
 
 -- ---- of this target
@@ -59,13 +59,8 @@ in_lose_all g header t c w v (d ∷ ds) own agree =
 
 in_reset : (g : Selection) (header : List ℕ) (t : ℕ) (w v : World) → HasTarget g true (Some t) → Agree g w v → Agree g (reset header t w) (reset header t v)
 unfolding reset
-in_reset g header t w v own agree = record {
-  lives = agree.lives;
-  units = own_changed g (reset_by (function_of header) (lun_field header)) (Some t) w.units v.units own agree.units;
-  fits = agree.fits;
-  calm = agree.calm;
-  silent = agree.silent;
-}
+in_reset g header t w v own agree = agree_with g _ _ _ _ agree refl refl
+    (own_changed g (reset_by (function_of header) (lun_field header)) (Some t) w.units v.units own agree.units) agree.calm agree.silent
 
 in_carry_out_all : (g : Selection) (c t : ℕ) (w v : World) (headers : List (List ℕ)) → HasTarget g true (Some t) → Agree g w v
     → Agree g (fold (carry_out c t) w headers) (fold (carry_out c t) v headers)

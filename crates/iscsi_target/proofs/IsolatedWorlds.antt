@@ -74,6 +74,17 @@ pub record Agree (g : Selection) (w v : World) : Type 0 where
   pub calm : IsCalm g.target w.comings
   pub silent : v.comings ≡ []
 
+-- the same lives, and these units
+pub agree_with : (g : Selection) (w v w_then v_then : World) → Agree g w v → w_then.lives ≡ w.lives → v_then.lives ≡ v.lives
+    → UnitsAgree g w_then.units v_then.units → IsCalm g.target w_then.comings → v_then.comings ≡ [] → Agree g w_then v_then
+agree_with g w v w_then v_then agree a b units calm silent = record {
+  lives = b ∙ agree.lives ∙ ap (kept_from g.keeps 0) (sym a);
+  units = units;
+  fits = subst (AllFrom (Fits g) 0) (sym a) agree.fits;
+  calm = calm;
+  silent = silent;
+}
+
 -- a connection whose last life is kept
 pub present_in : (g : Selection) (c : ℕ) (w v : World) → g.keeps_on c ≡ true → Agree g w v → present c v ≡ present c w
 unfolding present

@@ -17,19 +17,17 @@ use Rattle.iscsi_session.specs.Steps.{Work, served, settled}
 use Rattle.iscsi_session.proofs.Steps.{Extends, served_extends, settled_extends}
 use Rattle.iscsi_target.specs.History.{Mark, Point, Bytes, marked, History, Happening}
 use Rattle.iscsi_target.specs.Life.{Life, Phase, LoggingIn, FullFeature, Closing, Over, is_over, reads, past_in, session_answers, out_of, ended_in}
-use Rattle.iscsi_target.specs.World.{Setting, World, is_present, present, changed_first, changed, past_of, live, close, reaching, answered, asked, begun, begins, requests_of, lookup_for, end_older, replied, log_in, work_of, with_past, worked_on, worked, brought, longer, bring, begun_event, happened, new_world, world, losing, reset}
+use Rattle.iscsi_target.specs.World.{Setting, World, is_present, present, changed, past_of, live, close, reaching, answered, asked, begun, begins, requests_of, lookup_for, end_older, replied, log_in, work_of, with_past, worked_on, worked, brought, longer, bring, begun_event, happened, new_world, world, losing, reset}
 use Rattle.iscsi_target.specs.Runs.{RowState, open_row, row_of}
 use Rattle.iscsi_target.specs.Laws.{GoesOn, LivesGoOn, AnswersStay}
 use Rattle.iscsi_target.proofs.Working.{answers_grow}
+use Rattle.iscsi_target.proofs.Following.{Asks, asks_same, LivesFollow, Continues, is_open_here, lives_same, lives_then, lives_go, lives_changed}
 use Rattle.iscsi_target.proofs.Walks.{EventWalk, LogsIn, IsAnyFrame, any_arrivals, on-brought}
-use Rattle.iscsi_target.proofs.Choices.{cond_true, cond_false, and_true, not_true}
+use Rattle.iscsi_target.proofs.Choices.{cond_false, and_true}
 use Rattle.iscsi_target.proofs.Lives.{some_is, present-changed, present-changed_other, present-lives, present_is, changed_none}
 use Rattle.iscsi_target.proofs.Linked.{out-ended, out-more, present-reaching}
 
-pub is_open_here : (c : ℕ) (life : Life) → is_present c life ≡ true → is_over life.phase ≡ false
-is_open_here c life e = not_true (is_over life.phase) (and_true (eqb life.connection c) (not (is_over life.phase)) e).1
-
-open_life : (c : ℕ) (w : World) (life : Life) → present c w ≡ Some life → is_over life.phase ≡ false
+pub open_life : (c : ℕ) (w : World) (life : Life) → present c w ≡ Some life → is_over life.phase ≡ false
 open_life c w life at = is_open_here c life (present_is c w life at)
 
 out-asked : (life : Life) (request : Frame) → out_of (asked request life) ≡ out_of life
@@ -49,103 +47,6 @@ open_is life e = cond_false (is_over life.phase) _ _ e
 
 abbrev pub rows_in : World → List RowState
 rows_in w = map row_of w.lives
-
--- ---- one life
-
--- it asked this, and perhaps more
-pub record Asks (x y : Life) : Type 0 where
-  pub connection : y.connection ≡ x.connection
-  pub more : List Frame
-  pub requests : y.requests ≡ x.requests ++ more
-
-pub asks_same : (x y : Life) → y.connection ≡ x.connection → y.requests ≡ x.requests → Asks x y
-asks_same x y c r = record { connection = c; more = []; requests = r ∙ sym (append-nil x.requests) }
-
-pub record Follows (x y : Life) : Type 0 where
-  pub goes : GoesOn x y
-  pub asks : Asks x y
-
-life_same : (x : Life) → Follows x x
-life_same x = record {
-  goes = record { connection = refl; over = refl; still = λ e. refl; answered = ([], sym (append-nil (out_of x))) };
-  asks = asks_same x x refl refl;
-}
-
-life_then : (x y z : Life) → Follows x y → Follows y z → Follows x z
-life_then x y z f g =
-    let a = f.goes in
-    let b = g.goes in
-    record {
-      goes = record {
-        connection = b.connection ∙ a.connection;
-        over = b.over ∙ a.over;
-        still = λ e. b.still (a.over ∙ e) ∙ a.still e;
-        answered = (
-          a.answered.0 ++ b.answered.0,
-          b.answered.1 ∙ ap (λ (front : List ℕ). front ++ b.answered.0) a.answered.1
-              ∙ append_assoc (out_of x) a.answered.0 b.answered.0,
-        );
-      };
-      asks = record {
-        connection = g.asks.connection ∙ f.asks.connection;
-        more = f.asks.more ++ g.asks.more;
-        requests = g.asks.requests ∙ ap (λ (l : List Frame). l ++ g.asks.more) f.asks.requests
-            ∙ append_assoc x.requests f.asks.more g.asks.more;
-      };
-    }
-
--- ---- all lives
-
-abbrev pub LivesFollow : List Life → List Life → Type 0
-LivesFollow [] [] = ⊤
-LivesFollow (x ∷ xs) (y ∷ ys) = Follows x y × LivesFollow xs ys
-LivesFollow _ _ = ⊥
-
-lives_same : (lives : List Life) → LivesFollow lives lives
-lives_same [] = tt
-lives_same (x ∷ lives) = (life_same x, lives_same lives)
-
-lives_then : (xs ys zs : List Life) → LivesFollow xs ys → LivesFollow ys zs → LivesFollow xs zs
-lives_then [] [] zs a b = b
-lives_then [] (y ∷ ys) zs a b = absurd a
-lives_then (x ∷ xs) [] zs a b = absurd a
-lives_then (x ∷ xs) (y ∷ ys) [] a b = absurd b
-lives_then (x ∷ xs) (y ∷ ys) (z ∷ zs) a b = (life_then x y z a.0 b.0, lives_then xs ys zs a.1 b.1)
-
-lives_go : (xs ys : List Life) → LivesFollow xs ys → LivesGoOn xs ys
-lives_go [] [] f = tt
-lives_go (x ∷ xs) (y ∷ ys) f = (f.0.goes, lives_go xs ys f.1)
-lives_go [] (y ∷ ys) f = absurd f
-lives_go (x ∷ xs) [] f = absurd f
-
--- f of an open life goes on from it, with the same bytes, and reads only where it did
-pub record Continues (f : Life → Life) (x : Life) : Type 0 where
-  pub connection : (f x).connection ≡ x.connection
-  pub is_open : is_over (f x).phase ≡ false
-  pub answered : (more : List ℕ) × (out_of (f x) ≡ out_of x ++ more)
-  pub asks : Asks x (f x)
-
-goes_by : (f : Life → Life) (x : Life) → is_over x.phase ≡ false → Continues f x → Follows x (f x)
-goes_by f x open_ c = record {
-  goes = record { connection = c.connection; over = c.is_open ∙ sym open_; still = λ e. absurd (cc (e, open_)); answered = c.answered };
-  asks = c.asks;
-}
-
-changed_by : (b : Bool) (f : Life → Life) (c : ℕ) (x : Life) (lives : List Life) → is_present c x ≡ b
-    → ((life : Life) → find (is_present c) (x ∷ lives) ≡ Some life → Continues f life)
-    → (((life : Life) → find (is_present c) lives ≡ Some life → Continues f life) → LivesFollow lives (changed_first (is_present c) f lives))
-    → LivesFollow (x ∷ lives) (changed_first (is_present c) f (x ∷ lives))
-changed_by true f c x lives e each further =
-    let go = goes_by f x (is_open_here c x e) (each x (cond_true (is_present c x) (Some x) (find (is_present c) lives) e)) in
-    subst (LivesFollow (x ∷ lives)) (sym (cond_true (is_present c x) (f x ∷ lives) (x ∷ changed_first (is_present c) f lives) e)) (go, lives_same lives)
-changed_by false f c x lives e each further =
-    let rest = further (λ life at. each life (cond_false (is_present c x) (Some x) (find (is_present c) lives) e ∙ at)) in
-    subst (LivesFollow (x ∷ lives)) (sym (cond_false (is_present c x) (f x ∷ lives) (x ∷ changed_first (is_present c) f lives) e)) (life_same x, rest)
-
-lives_changed : (f : Life → Life) (c : ℕ) (lives : List Life) → ((life : Life) → find (is_present c) lives ≡ Some life → Continues f life)
-    → LivesFollow lives (changed_first (is_present c) f lives)
-lives_changed f c [] each = tt
-lives_changed f c (x ∷ lives) each = changed_by (is_present c x) f c x lives refl each (λ further. lives_changed f c lives further)
 
 -- ---- the World
 
@@ -241,7 +142,12 @@ silent f life asks open_ same =
     record { connection = asks.connection; is_open = open_; answered = ([], same ∙ sym (append-nil (out_of life))); asks = asks }
 
 ended_keeps : (life : Life) → Keeps (ended_in Closing) life
-ended_keeps life = record { goes = silent (ended_in Closing) life (asks_same life (ended_in Closing life) refl refl) refl (out-ended life Closing refl); bytes = refl; reads_so = λ e. absurd cc }
+ended_keeps life = record {
+  goes = silent (ended_in Closing) life (asks_same life (ended_in Closing life) refl refl) refl
+      (out-ended life Closing refl);
+  bytes = refl;
+  reads_so = λ e. absurd cc;
+}
 
 -- ---- the steps
 

@@ -1,5 +1,5 @@
 -- A connection, and the units of a target, that are lent to be changed: what they were and what they are is told of the whole.
-use Rattle.std.proofs.Common.{◌≡◌, ℕ, zero, suc, ◌<◌, List, [], ◌∷◌, length, set, get_or, Some, refl, sym, ap, ◌∙◌, subst, arith}
+use Rattle.std.proofs.Common.{◌≡◌, ℕ, zero, suc, ◌<◌, List, [], ◌∷◌, length, set, get_or, replicate, Some, refl, sym, ap, ◌∙◌, subst, arith}
 use Rattle.std.specs.Prelude.{All}
 use Rattle.std.proofs.lemmas.List.{length-set, get_or-set_same}
 use Rattle.std.proofs.lemmas.List.Elements.{All-set}
@@ -11,6 +11,12 @@ pub get_or_any : {X : Type 0} (xs : List X) (i : ℕ) (d e : X) → i < length x
 get_or_any [] i d e lt = absurd (omega arith)
 get_or_any (x ∷ xs) zero d e lt = refl
 get_or_any (x ∷ xs) (suc i) d e lt = get_or_any xs i d e (omega arith)
+
+-- where none is open
+pub none_linked : (n c : ℕ) → get_or (replicate n free_link) c free_link ≡ free_link
+none_linked zero c = refl
+none_linked (suc n) zero = refl
+none_linked (suc n) (suc c) = none_linked n c
 
 -- the connection as it was, and as it is
 pub lent_was : (links : List LinkState) (machine : Machine) (c : ℕ) (d old : LinkState) → length links ≡ 64 → c < 64 → old ≡ get_or links c d

@@ -8,6 +8,7 @@ mod Working
 mod LoggingIn
 mod Marks
 pub mod Walks
+mod Following
 pub mod Keeping
 mod Lawful
 mod IsolatedLives

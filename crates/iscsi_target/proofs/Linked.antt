@@ -56,7 +56,8 @@ machine_is a b n u l =
 
 -- of one connection something else is remembered, and of the others the same
 pub relinked : (s : Setting) (sent sent_then : ℕ → ℕ) (half half_then : ℕ → List ℕ) (w v : World) (c : ℕ) → c < connection_limit
-    → ((d : ℕ) → d < connection_limit → d ≢ c → link_of s.directory (sent_then d) (half_then d) (present d v) ≡ link_of s.directory (sent d) (half d) (present d w))
+    → ((d : ℕ) → d < connection_limit → d ≢ c → link_of s.directory (sent_then d) (half_then d) (present d v) ≡ link_of s.directory (sent d) (half d)
+    (present d w))
     → machine_with s sent_then half_then v ≡ record (with_link (machine_with s sent half w) c
     (link_of s.directory (sent_then c) (half_then c) (present c v))) { units = v.units }
 relinked s sent sent_then half half_then w v c lt same =
@@ -142,7 +143,8 @@ pub serves_one : (s : Setting) (sent : ℕ → ℕ) (half half_then : ℕ → Li
     → sent c ≤ length (out_now (present c v)) → IsQuiet (present c v) → v.units ≡ units → link_of s.directory (sent c) (half_then c) (present c v) ≡ link
     → Serves s sent half_then v (record (with_link machine c link) { units = units })
 serves_one s sent half half_then w v machine c units link lt h other halves le quiet u l =
-    let same : (d : ℕ) → d < connection_limit → d ≢ c → link_of s.directory (sent d) (half_then d) (present d v) ≡ link_of s.directory (sent d) (half d) (present d w) =
+    let same : (d : ℕ) → d < connection_limit → d ≢ c → link_of s.directory (sent d) (half_then d) (present d v) ≡ link_of s.directory (sent d)
+    (half d) (present d w) =
     λ d below differ. rw (other d differ, halves d differ) refl in
     record {
       is = ap (λ (m : Machine). record (with_link m c link) { units = units }) h.is

@@ -27,6 +27,7 @@ use Rattle.iscsi_target.specs.declared.phase.Phase.{Phase as CodePhase}
 use Rattle.iscsi_target.specs.Serving.{Serves}
 use Rattle.iscsi_target.specs.declared.phase.Phase.TheVariants as phases
 use Rattle.iscsi_target.proofs.Choices.{and_true}
+use Rattle.iscsi_target.proofs.Moving.{is_of_none}
 use Rattle.iscsi_target.proofs.Lives.{present-changed, present-changed_other, present-lives, present_is}
 use Rattle.iscsi_target.proofs.Linked.{session_at, live_there, directory_with, units_with, count_there, out-ended, out-more, present-close, present-close_other, life_link, serves_life, half_there}
 
@@ -76,7 +77,7 @@ link_made : (b : Bool) (half bytes : List ℕ) (p q : CodePhase) (l k : List ℕ
     → (let made : LinkState = record { half = cond b half []; phase = p; waiting = l } in made) ≡ record { half = bytes; phase = q; waiting = k }
 link_made b half bytes p q l k e f g i = rw (e, f, g, i) refl
 
-remembered-push : (directory : KnownTargets) (handle : ℕ) (requests : List Frame) (request : Frame)
+pub remembered-push : (directory : KnownTargets) (handle : ℕ) (requests : List Frame) (request : Frame)
     → remembered directory handle (requests ++ request ∷ []) ≡ advanced directory (remembered directory handle requests) request
 unfolding remembered
 remembered-push directory handle requests request = fold-append (advanced directory) (new_login handle) requests (request ∷ [])
@@ -88,10 +89,6 @@ begun_is : (c : ℕ) (life : Life) (session : Params) (answer : Answer) (request
 begun_is c life session answer request e = let on = and_true (eqb life.connection c) (not (is_over life.phase)) e in rw on.0 refl
 
 -- ---- an older session ends
-
-is_of_none : (session : Params) (o : Option Params) → is_of session.nexus session.target o ≡ true → o ≡ None → ⊥
-is_of_none session None e n = absurd cc
-is_of_none session (Some x) e n = absurd cc
 
 some_life : (session : Params) (o : Option Life) → is_of session.nexus session.target (session_of o) ≡ true → (life : Life) × (o ≡ Some life)
 some_life session None e = absurd cc

@@ -25,7 +25,7 @@ use Rattle.iscsi_target.proofs.Sound.{set_back, sure_set, closed_back, closed_su
 
 -- ---- one call after the other
 
-keeps_same : (link : LinkState) → is_reading link.phase ≡ true → KeepsHalf link.half link
+pub keeps_same : (link : LinkState) → is_reading link.phase ≡ true → KeepsHalf link.half link
 keeps_same link r = record { reading = λ e. refl; idle = λ e. absurd (cc (r, e)) }
 
 pub moves_none : (b : ℕ) (machine : Machine) → Preserves b None machine machine
@@ -75,7 +75,8 @@ pub closing_if : (r : Result (Unit {0}) Starved) (machine : Machine) → IsClose
 closing_if (Ok u) machine closed_ = tt
 closing_if (Err e) machine closed_ = closed_
 
-pub moves_then : (b : ℕ) (x y : Option ℕ) (given now after : Machine) → Preserves b x given now → Preserves b y now after → Preserves b (first_of x y) given after
+pub moves_then : (b : ℕ) (x y : Option ℕ) (given now after : Machine) → Preserves b x given now → Preserves b y now after → Preserves b
+    (first_of x y) given after
 moves_then k x y given now after a b = record {
   back = λ target sound. a.back target (b.back target sound);
   sure = λ sure. b.sure (a.sure sure);
@@ -195,7 +196,8 @@ closed_keeps : (machine : Machine) (c : ℕ) → c < length machine.links → is
 unfolding closed
 closed_keeps machine c lt r d reads = (shut_moves c machine c lt r (own_self c machine)).keeps d reads
 
-closed_eases : (b : ℕ) (machine : Machine) (c : ℕ) → c < length machine.links → is_reading (link_at machine c).phase ≡ true → IsOwn b machine c → (d : ℕ) → d ≢ b
+closed_eases : (b : ℕ) (machine : Machine) (c : ℕ) → c < length machine.links → is_reading (link_at machine c).phase ≡ true → IsOwn b machine c →
+    (d : ℕ) → d ≢ b
     → AddsAtMost 0 (link_at machine d) (link_at (closed machine c) d)
 unfolding closed
 closed_eases b machine c lt r own d other = (shut_moves b machine c lt r own).eases d other
@@ -272,7 +274,8 @@ plain_moves machine units c link lt ch half d reads =
     (λ other. absurd (other refl)) (λ target sound. sound) (λ sure. sure)).keeps d reads
 
 plain_eases : (machine : Machine) (units : List UnitStates) (c : ℕ) (link : LinkState) → c < length machine.links → Changes (link_at machine c) link
-    → KeepsHalf (link_at machine c).half link → (d : ℕ) → d ≢ c → AddsAtMost 0 (link_at machine d) (link_at (record (with_link machine c link) { units = units }) d)
+    → KeepsHalf (link_at machine c).half link → (d : ℕ) → d ≢ c → AddsAtMost 0 (link_at machine d)
+    (link_at (record (with_link machine c link) { units = units }) d)
 plain_eases machine units c link lt ch half d other =
     (changes_moves c (record machine { units = units }) units c link lt ch (own_self c (record machine { units = units })) half refl
     (λ differs. absurd (differs refl)) (λ target sound. sound) (λ sure. sure)).eases d other
@@ -303,7 +306,7 @@ alters machine units c link lt ch half = record {
 alters_none : (b : ℕ) (machine : Machine) → Alters b machine machine
 alters_none b machine = record { feeds = (moves_none b machine).feeds; keeps = (moves_none b machine).keeps; eases = (moves_none b machine).eases }
 
-is_of_none : (session : Params) (o : Option Params) → is_of session.nexus session.target o ≡ true → o ≡ None → ⊥
+pub is_of_none : (session : Params) (o : Option Params) → is_of session.nexus session.target o ≡ true → o ≡ None → ⊥
 is_of_none session None e n = absurd cc
 is_of_none session (Some x) e n = absurd cc
 

@@ -19,7 +19,8 @@ use Rattle.iscsi_target.proofs.Choices.{eqb_self, cond_true, cond_false, and_tru
 use Rattle.iscsi_target.proofs.Standing.{present_open, stands_sent, link_stands, waits_there}
 use Rattle.iscsi_target.proofs.Linked.{out-ended}
 use Rattle.iscsi_target.proofs.Tables.{among-gone, among-gone_other}
-use Rattle.iscsi_target.proofs.Keeping.{world-push, rows_in, open_is, is_open_here, rows-bring}
+use Rattle.iscsi_target.proofs.Following.{is_open_here}
+use Rattle.iscsi_target.proofs.Keeping.{world-push, rows_in, open_is, rows-bring}
 
 -- ---- the rows of a World
 

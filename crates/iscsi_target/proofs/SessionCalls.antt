@@ -159,9 +159,11 @@ module _ (c : ℕ) (target : Option ℕ) (given middle : Machine) (k : IsCalled 
   ended_by : {E : Type 0} (r : Result Bool E) (b : ℕ) → Preserves b None given middle → Preserves b (starved_by c r) given (ended_unless r c middle)
   ended_by (Ok true) b m = m
   ended_by (Ok false) b m =
-      moves_then b None None given middle (closed middle c) m (closed_moves b middle c there reads (λ other. ap (λ (x : LinkState). is_logging_in x.phase) l.is))
+      moves_then b None None given middle (closed middle c) m
+      (closed_moves b middle c there reads (λ other. ap (λ (x : LinkState). is_logging_in x.phase) l.is))
   ended_by (Err e) b m =
-      moves_then b None (Some c) given middle (closed middle c) m (starved_moves b middle c there reads (λ other. ap (λ (x : LinkState). is_logging_in x.phase) l.is))
+      moves_then b None (Some c) given middle (closed middle c) m
+      (starved_moves b middle c there reads (λ other. ap (λ (x : LinkState). is_logging_in x.phase) l.is))
 
   -- and where it is closed unless it goes on
   pub ended_moves : {E : Type 0} (r : Result Bool E) (b : ℕ) (starved : Option ℕ) (after : Machine) → starved ≡ starved_by c r

@@ -85,7 +85,8 @@ over_is_free : (directory : KnownTargets) (life : Life) (phase : Phase) → is_o
 over_is_free directory life Over e = absurd cc
 over_is_free directory life _ e = refl
 
-pub present_open : (directory : KnownTargets) (c : ℕ) (w : World) (life : Life) → present c w ≡ Some life → is_free (phase_for directory life life.phase) ≡ false
+pub present_open : (directory : KnownTargets) (c : ℕ) (w : World) (life : Life) → present c w ≡ Some life → is_free
+    (phase_for directory life life.phase) ≡ false
 present_open directory c w life e = over_is_free directory life life.phase (not_true (is_over life.phase)
     (and_true (eqb life.connection c) (not (is_over life.phase)) (present_is c w life e)).1)
 
@@ -199,7 +200,8 @@ nothing_long = refl
 
 born_link : (directory : KnownTargets) (c : ℕ) → link_of directory 0 (half_of (Some (born c))) (Some (born c)) ≡ opened_link c
 unfolding remembered out_of
-born_link directory c = ap (λ (half : List ℕ). let l : LinkState = record { half = half; phase = (opened_link c).phase; waiting = [] } in l) (rest_none [] no_frame)
+born_link directory c = ap (λ (half : List ℕ). let l : LinkState = record { half = half; phase = (opened_link c).phase; waiting = [] } in l)
+    (rest_none [] no_frame)
 
 pub open_stands : (s : Setting) (sent : ℕ → ℕ) (machine : Machine) (history : History) (c : ℕ) → c < connection_limit → is_open_at machine c ≡ false
     → Stands s sent machine history

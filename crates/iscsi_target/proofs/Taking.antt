@@ -25,13 +25,13 @@ use Rattle.iscsi_target.proofs.Standing.{nothing_long, machine_same}
 use Rattle.iscsi_target.proofs.Marks.{Apart, Wider, all_wider}
 use Rattle.iscsi_target.proofs.Walks.{any_arrival, on-arrive}
 use Rattle.iscsi_target.proofs.Keeping.{goes}
-use Rattle.iscsi_target.proofs.Doing.{Act, Halves, does_nothing, does_then}
+use Rattle.iscsi_target.proofs.Doing.{Act, Halves, does_nothing, does_from, does_then}
 use Rattle.iscsi_target.proofs.Comings.{comings_close}
 use Rattle.iscsi_target.proofs.Frames.{idle, arrived, starves}
 use Rattle.iscsi_target.proofs.Apart.{part_none, part_closed, part_halved, part_as, part_then}
 use Rattle.iscsi_target.proofs.Bounding.{adds_none, adds_then, adds_more}
 use Rattle.iscsi_target.proofs.Heavier.{closed_loads, halved_adds}
-use Rattle.iscsi_target.proofs.Moving.{link_other, Changes, reading_open, own_self, feeds_then, closed_then, changes_feeds, closed_moves, starved_moves, moves_as, moves_none}
+use Rattle.iscsi_target.proofs.Moving.{keeps_same, link_other, Changes, reading_open, own_self, feeds_then, closed_then, changes_feeds, closed_moves, starved_moves, moves_as, moves_none}
 
 -- ---- the bytes that are kept
 
@@ -48,7 +48,8 @@ pub rehalved : (s : Setting) (sent : ℕ → ℕ) (half : ℕ → List ℕ) (w :
 rehalved s sent half w machine c bytes lt r h =
     let there = some_reads (present c w) (sym (reads_there s sent half w machine c lt h) ∙ r) in
     let link = link_is s sent half w machine c lt h ∙ ap (link_of s.directory (sent c) (half c)) there.1 in
-    let now : link_of s.directory (sent c) (with_half c bytes half c) (Some there.0) ≡ record (link_of s.directory (sent c) (half c) (Some there.0)) { half = bytes } =
+    let now : link_of s.directory (sent c) (with_half c bytes half c) (Some there.0) ≡ record
+    (link_of s.directory (sent c) (half c) (Some there.0)) { half = bytes } =
     ap (λ (b : List ℕ). link_of s.directory (sent c) b (Some there.0)) (half_here c bytes half)
     ∙ ap (λ (b : List ℕ). let l : LinkState = record (link_of s.directory (sent c) (half c) (Some there.0)) { half = b } in l)
     (cond_true (reads there.0.phase) bytes [] there.2) in
@@ -58,7 +59,8 @@ rehalved s sent half w machine c bytes lt r h =
     (ap (link_of s.directory (sent c) (with_half c bytes half c)) there.1 ∙ now
     ∙ ap (λ (l : LinkState). let x : LinkState = record l { half = bytes } in x) (sym link))
 
-idle_link : (directory : KnownTargets) (sent : ℕ) (a b : List ℕ) (o : Option Life) → reads_life o ≡ false → link_of directory sent a o ≡ link_of directory sent b o
+idle_link : (directory : KnownTargets) (sent : ℕ) (a b : List ℕ) (o : Option Life) → reads_life o ≡ false
+    → link_of directory sent a o ≡ link_of directory sent b o
 idle_link directory sent a b None e = refl
 idle_link directory sent a b (Some life) e =
     ap (λ (half : List ℕ). let l : LinkState = record (link_of directory sent a (Some life)) { half = half } in l) (cond_false (reads life.phase) a [] e
@@ -151,18 +153,10 @@ takes_frame old given new c frame starved lt count r gives is takes moves part l
       behind = λ e. sym gives.behind;
       shorter = gives.shorter;
       kept = moves.keeps c reads_given;
-      does = record {
-        failed = takes.failed;
-        first = takes.first;
-        of_kind = takes.of_kind;
-        came = takes.came;
-        plain = takes.plain;
-        calm = takes.calm;
-        stands = λ s sent half w place marks agree ahead h.
-            takes.stands s sent (with_half c more half) w place marks agree ahead
-            (serves_as s sent (with_half c more half) w (with_link old c (record (link_at old c) { half = more })) given is
-            (rehalved s sent half w old c more lt r h));
-      };
+      does = does_from takes takes.of_kind (λ s sent half w place marks agree ahead h.
+          takes.stands s sent (with_half c more half) w place marks agree ahead
+          (serves_as s sent (with_half c more half) w (with_link old c (record (link_at old c) { half = more })) given is
+          (rehalved s sent half w old c more lt r h)));
       leaves = record {
         back = λ target sound. subst (λ (us : List UnitStates). AreSound (slice_index_or us target [])) (ap (λ (m : Machine). m.units) is)
             (moves.back target sound);
@@ -235,18 +229,10 @@ takes_none old new c lt count r whole is =
       behind = λ e. absurd (cc (e, shut_));
       shorter = drop_shorter half whole;
       kept = subst (λ (m : Machine). KeepsHalf more (link_at m c)) (sym is) (closed_keeps old c more below);
-      does = record {
-        failed = first.failed;
-        first = first.first;
-        of_kind = first.of_kind;
-        came = first.came;
-        plain = first.plain;
-        calm = first.calm;
-        stands = λ s sent bytes w place marks agree ahead h.
-            (let at = first.stands s sent bytes w place marks agree ahead h in
-            let v = arrive s marks c w (place, Whole (first_frame half)) in
-            (halves_idle s sent bytes v new c more (sym (reads_there s sent bytes v new c lt at.0) ∙ shut_) at.0, at.1, at.2));
-      };
+      does = does_from first first.of_kind (λ s sent bytes w place marks agree ahead h.
+          (let at = first.stands s sent bytes w place marks agree ahead h in
+          let v = arrive s marks c w (place, Whole (first_frame half)) in
+          (halves_idle s sent bytes v new c more (sym (reads_there s sent bytes v new c lt at.0) ∙ shut_) at.0, at.1, at.2)));
       leaves = closes_leaves c (Some c) old new below is moves;
     }
 
@@ -261,9 +247,6 @@ pub record Progress (c : ℕ) (starved : Option ℕ) (first machine : Machine) :
   pub kept : KeepsHalf more (link_at machine c)
   pub takes : TakesSome c done more starved first machine
   pub leaves : Leaves c (length done) starved first machine
-
-keeps_own : (link : LinkState) → is_reading link.phase ≡ true → KeepsHalf link.half link
-keeps_own link r = record { reading = λ e. refl; idle = λ e. absurd (cc (r, e)) }
 
 own_half : (s : Setting) (sent : ℕ → ℕ) (half : ℕ → List ℕ) (w : World) (machine : Machine) (c : ℕ) → c < connection_limit
     → is_reading (link_at machine c).phase ≡ true → Serves s sent half w machine
@@ -280,7 +263,7 @@ begins machine c lt r = record {
   more = (link_at machine c).half;
   front = refl;
   behind = λ e. refl;
-  kept = keeps_own (link_at machine c) r;
+  kept = keeps_same (link_at machine c) r;
   takes = does_nothing (is_among 0) (λ s marks place w. fold (arrive s marks c) w (enumerate_from place [])) (with_half c (link_at machine c).half)
       machine machine
       (λ s sent half w place marks agree h. (own_half s sent half w machine c lt r h, refl));
@@ -405,18 +388,14 @@ takes_more c a b first machine new done more so_far one =
     (λ s marks place w. on-arrive goes s marks c w (place + n, one.arrival) (any_arrival c (place + n, one.arrival))) so_far second in
     let P : ℕ → Type 0 = λ k. Does (is_among k) (λ s marks place w. fold (arrive s marks c) w (enumerate_from place (done ++ one.arrival ∷ [])))
     (with_half c one.more) (first_of a b) first new in
-    subst P (sym count) (record {
-      failed = both.failed;
-      first = both.first;
-      of_kind = both.of_kind;
-      came = both.came;
-      plain = both.plain;
-      calm = both.calm;
-      stands = λ s sent half w place marks agree ahead h.
-          (let at = both.stands s sent half w place marks agree ahead h in
-          rw (fold_more s marks c place w done one.arrival)
-          (serves_halves s sent (with_half c one.more (with_half c more half)) (with_half c one.more half) _ new (half_twice c more one.more half) at.0, at.1, at.2));
-    })
+    subst P (sym count) (does_from both both.of_kind (λ s sent half w place marks agree ahead h.
+    (let at = both.stands s sent half w place marks agree ahead h in
+    rw (fold_more s marks c place w done one.arrival) (
+      serves_halves s sent (with_half c one.more (with_half c more half)) (with_half c one.more half) _ new
+          (half_twice c more one.more half) at.0,
+      at.1,
+      at.2,
+    ))))
 
 leaves_then : (c n m : ℕ) (a b : Option ℕ) (first machine new : Machine) → is_reading (link_at machine c).phase ≡ true
     → Leaves c n a first machine → Leaves c m b machine new → Leaves c (n + m) (first_of a b) first new
@@ -462,31 +441,25 @@ ends_idle c starved first machine lt r p =
     record {
       kept = record { reading = λ e. absurd (cc (e, r)); idle = p.kept.idle };
       short = λ e. absurd (cc (e, r));
-      takes = record {
-        failed = p.takes.failed;
-        first = p.takes.first;
-        of_kind = λ place. all_wider (is_among (length p.done) place) (is_among (length (arrivals half0)) place) (p.takes.failed place)
-            (among_more (length p.done) (length (arrivals half0)) place count) (p.takes.of_kind place);
-        came = p.takes.came;
-        plain = p.takes.plain;
-        calm = p.takes.calm;
-        stands = λ s sent half w place marks agree ahead h.
-            (let at = p.takes.stands s sent half w place marks (λ mark is. agree mark
-            (among_more (length p.done) (length (arrivals half0)) place count mark is)) ahead h in
-            let v = fold (arrive s marks c) w (enumerate_from place p.done) in
-            let idle_ : reads_life (present c v) ≡ false = sym (reads_there s sent (with_half c p.more half) v machine c lt at.0) ∙ r in
-            let whole : fold (arrive s marks c) w (enumerate_from place (arrivals half0)) ≡ v =
-            ap (λ (l : List Arrival). fold (arrive s marks c) w (enumerate_from place l)) p.front
-            ∙ fold-places (arrive s marks c) w place p.done (arrivals p.more)
-            ∙ idle_all s marks c v (enumerate_from (place + length p.done) (arrivals p.more)) idle_ in
-            rw whole (
-              serves_halves s sent (with_half c (rest half0) (with_half c p.more half)) (with_half c (rest half0) half) v machine
-                  (half_twice c p.more (rest half0) half)
-                  (halves_idle s sent (with_half c p.more half) v machine c (rest half0) idle_ at.0),
-              at.1,
-              at.2,
-            ));
-      };
+      takes = does_from p.takes
+          (λ place. all_wider (is_among (length p.done) place) (is_among (length (arrivals half0)) place) (p.takes.failed place)
+          (among_more (length p.done) (length (arrivals half0)) place count) (p.takes.of_kind place))
+          (λ s sent half w place marks agree ahead h.
+          (let at = p.takes.stands s sent half w place marks (λ mark is. agree mark
+          (among_more (length p.done) (length (arrivals half0)) place count mark is)) ahead h in
+          let v = fold (arrive s marks c) w (enumerate_from place p.done) in
+          let idle_ : reads_life (present c v) ≡ false = sym (reads_there s sent (with_half c p.more half) v machine c lt at.0) ∙ r in
+          let whole : fold (arrive s marks c) w (enumerate_from place (arrivals half0)) ≡ v =
+          ap (λ (l : List Arrival). fold (arrive s marks c) w (enumerate_from place l)) p.front
+          ∙ fold-places (arrive s marks c) w place p.done (arrivals p.more)
+          ∙ idle_all s marks c v (enumerate_from (place + length p.done) (arrivals p.more)) idle_ in
+          rw whole (
+            serves_halves s sent (with_half c (rest half0) (with_half c p.more half)) (with_half c (rest half0) half) v machine
+                (half_twice c p.more (rest half0) half)
+                (halves_idle s sent (with_half c p.more half) v machine c (rest half0) idle_ at.0),
+            at.1,
+            at.2,
+          )));
       leaves = record {
         back = p.leaves.back;
         sure = p.leaves.sure;

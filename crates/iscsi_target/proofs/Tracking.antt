@@ -1,15 +1,15 @@
 -- Which connections of the code are open, from one event to the next.
-use Rattle.std.proofs.Common.{◌≡◌, ◌≢◌, ℕ, ◌<◌, List, [], length, set, get_or, replicate, Bool, true, false, not, ◌||◌, sym, ap, ◌∙◌, arith, inl, inr}
+use Rattle.std.proofs.Common.{◌≡◌, ◌≢◌, ℕ, ◌<◌, List, [], length, set, get_or, Bool, true, false, not, ◌||◌, sym, ap, ◌∙◌, arith, inl, inr}
 use Rattle.std.specs.Prelude.{nat_lt}
-use Rattle.std.proofs.lemmas.Bool.{cases_lt, ltb-true}
+use Rattle.std.proofs.lemmas.Bool.{ltb-true}
 use Rattle.std.proofs.lemmas.Bool.Decides.{eqb_tells}
-use Rattle.std.proofs.lemmas.List.{length-set, length-replicate, get_or-replicate, get_or-set_same, get_or-set_other}
-use Rattle.std.proofs.Math.ListN.{get_or-eq_default}
+use Rattle.std.proofs.lemmas.List.{length-set, get_or-set_same, get_or-set_other}
 use Rattle.scsi_unit.specs.Units.{UnitStates}
 use Rattle.iscsi_login.specs.Directory.{KnownTargets}
 use Rattle.iscsi_target.specs.History.{Event, Open, Bytes, Gone, is_among, may_come, open_after, connection_limit}
 use Rattle.iscsi_target.specs.Machine.{LinkState, Machine, link_at, with_link, closed, is_free, is_open_at, free_link, opened_link, shut_link, new_machine}
 use Rattle.iscsi_target.specs.Runs.{MayCome, AreOpen}
+use Rattle.iscsi_target.proofs.Lending.{none_linked}
 use Rattle.iscsi_target.proofs.Choices.{and_true, not_true}
 use Rattle.iscsi_target.proofs.Tables.{among-gone, among-gone_other}
 use Rattle.iscsi_target.proofs.Running.{below_more}
@@ -23,12 +23,6 @@ comes machine before (Bytes c piece) open_ e = (open_.below c e, open_.tracks c 
 comes machine before (Gone c) open_ e = (open_.below c e, open_.tracks c ∙ e)
 
 -- at first none is open
-none_linked : (n c : ℕ) → get_or (replicate n free_link) c free_link ≡ free_link
-none_linked n c = elim (cases_lt c n) [
-  | inl lt ↦ get_or-replicate n c free_link free_link lt
-  | inr le ↦ get_or-eq_default (replicate n free_link) free_link (omega (arith, le, length-replicate n free_link))
-]
-
 pub none_open : (machine : Machine) (directory : KnownTargets) (units : List UnitStates) → machine ≡ new_machine directory units → AreOpen machine []
 none_open machine directory units e = record {
   tracks = λ c. ap (λ (m : Machine). is_open_at m c) e ∙ ap (λ (link : LinkState). not (is_free link.phase)) (none_linked connection_limit c);

@@ -129,7 +129,8 @@ module _ {R : World → World → Type 0} {IsKnown : ℕ → Frame → Type 0} (
     where
       logging_in : (x y : Life) → present c w ≡ Some y → present c w ≡ Some x → y.phase ≡ LoggingIn → x.phase ≡ LoggingIn
       logging_in x y a b p = cc
-  on-taken_in s marks c place frame life (FullFeature session) w at is known = on-serve e.walk marks c place session.params.target frame w known (λ target own. tt)
+  on-taken_in s marks c place frame life (FullFeature session) w at is known = on-serve e.walk marks c place session.params.target frame w known
+      (λ target own. tt)
   on-taken_in s marks c place frame life _ w at is known = e.walk.same w
 
   on-taken_by : (s : Setting) (marks : List Mark) (c place : ℕ) (frame : Frame) (o : Option Life) (w : World) → present c w ≡ o → IsKnown c frame

@@ -1,5 +1,5 @@
 -- A piece of no more bytes than are wanted brings one frame at most, and each connection stays as light as it may be.
-use Rattle.std.proofs.Common.{◌≡◌, ℕ, zero, suc, ◌+◌, ◌-◌, ◌*◌, ◌<◌, ◌≤◌, max, List, [], ◌++◌, length, drop, replicate, get_or, Bool, true, false, ltb, Option, Some, None, refl, sym, ap, ◌∙◌, subst, arith, inl, inr, append-nil}
+use Rattle.std.proofs.Common.{◌≡◌, ℕ, ◌+◌, ◌-◌, ◌*◌, ◌<◌, ◌≤◌, max, List, [], ◌++◌, length, drop, get_or, Bool, true, false, ltb, Option, Some, None, refl, sym, ap, ◌∙◌, subst, arith, inl, inr, append-nil}
 use Rattle.std.proofs.lemmas.Bool.{ltb-false, le-leb, lt-leb}
 use Rattle.std.proofs.lemmas.Bool.Decides.{eqb_tells, leb_tells}
 use Rattle.std.proofs.lemmas.List.{length-append, length-drop, get_or_append_left, nil_from_length}
@@ -20,6 +20,7 @@ use Rattle.iscsi_target.specs.Serving.{Serves, TakesAll}
 use Rattle.iscsi_target.specs.Bounded.{most_weight, weight_in, Rests, WeighsAtMost, Bounded, AddsAtMost, CallsKeepBounded}
 use Rattle.iscsi_target.specs.declared.phase.Phase.{Phase}
 use Rattle.iscsi_target.specs.declared.phase.Phase.TheVariants as phases
+use Rattle.iscsi_target.proofs.Lending.{none_linked}
 use Rattle.iscsi_target.proofs.Linked.{link_is}
 use Rattle.iscsi_target.proofs.Standing.{nothing_long}
 use Rattle.iscsi_target.proofs.Moving.{link_set, link_other, closed_count}
@@ -215,13 +216,8 @@ sent_bounded machine c n lt bounded =
       rests = w.rests;
     })
 
-all_free : (n c : ℕ) → get_or (replicate n free_link) c free_link ≡ free_link
-all_free zero c = refl
-all_free (suc n) zero = refl
-all_free (suc n) (suc c) = all_free n c
-
 pub new_bounded : (directory : KnownTargets) (units : List UnitStates) → Bounded (new_machine directory units)
-new_bounded directory units c = subst (WeighsAtMost most_weight) (sym (all_free connection_limit c)) (record { fits = omega arith; rests = tt })
+new_bounded directory units c = subst (WeighsAtMost most_weight) (sym (none_linked connection_limit c)) (record { fits = omega arith; rests = tt })
 
 pub bounded_as : (a b : Machine) → b ≡ a → Bounded a → Bounded b
 bounded_as a b e bounded = subst Bounded (sym e) bounded

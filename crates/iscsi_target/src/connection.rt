@@ -128,7 +128,8 @@ impl Connection {
             → IsAnswered (reply_of login (lookup_in directory.now named.now) request.now)
             (advanced directory.now login request.now) self.old begun self.new) }
         ensures target { IsWithin (length directory.now.names) self.old.phase → IsWithin (length directory.now.names) self.new.phase }
-        ensures begun { IfOk result (λ begun. IfSome begun (λ b. IsWithin (length directory.now.names) self.old.phase → IsTargetBelow (length directory.now.names) b.1.target)) }
+        ensures begun { IfOk result (λ begun. IfSome begun (λ b. IsWithin (length directory.now.names) self.old.phase → IsTargetBelow
+            (length directory.now.names) b.1.target)) }
         ensures values { IfOk result (λ begun. IfSome begun (λ b. IsWithin (length directory.now.names) self.old.phase → AreInRange b.1.values)) }
         ensures waiting { OnErr result (self.new.waiting ≡ self.old.waiting) }
         ensures session { OnErr result (session_in_phase self.new.phase ≡ None) }

@@ -191,7 +191,10 @@ impl<S: Store> Target<S> {
     #[tactic(auto, unfolding(crate::specs::World::changed_units))]
     fn reset_units(&mut self, target: usize, function: &Header)
         requires { target < length self.old.units }
-        ensures { self.new ≡ record self.old { units = changed_units (reset_by (function_of function.now) (lun_field function.now)) (Some target) self.old.units } }
+        ensures { self.new ≡ record self.old {
+          units = changed_units (reset_by (function_of function.now) (lun_field function.now))
+              (Some target) self.old.units;
+        } }
     {
         let units = &mut self.units[target];
         reset(units, function);

@@ -13,11 +13,13 @@ use Rattle.iscsi_target.proofs.connection.Connection.serve.Goals as goal
 
 pub returns-clause-leaves : goal.returns-clause-leaves
 returns-clause-leaves c = λ session is.
-    leaves_session (λ given then_ before waiting. Ends is_serving (λ failed goes_on. ServesFrame c.args.frame c.args.luns.now c.serve.new.orders.items failed goes_on
+    leaves_session (λ given then_ before waiting. Ends is_serving
+    (λ failed goes_on. ServesFrame c.args.frame c.args.luns.now c.serve.new.orders.items failed goes_on
     given then_ before waiting) c.serve.result)
     c.args.self.now c.self.inside.framer c.self.inside.phase c.self.inside.waiting.items c.serve.new.out.items session c.in-FullFeature.session
     c.serve.new.self c.self.view_is c.in-FullFeature.is is c.serve.ensures.params c.serve.ensures.grows
-    (ends_so c.serve.result is_serving (λ failed goes_on. ServesFrame c.args.frame c.args.luns.now c.serve.new.orders.items failed goes_on c.in-FullFeature.session
+    (ends_so c.serve.result is_serving (λ failed goes_on. ServesFrame c.args.frame c.args.luns.now c.serve.new.orders.items failed goes_on
+    c.in-FullFeature.session
     c.serve.new.self c.self.inside.waiting.items c.serve.new.out.items)
     (rw c.requires.fresh at c.serve.ensures.ok) (rw c.requires.fresh at c.serve.ensures.err))
 

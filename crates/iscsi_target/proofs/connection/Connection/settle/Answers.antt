@@ -13,6 +13,7 @@ returns-clause-leaves g c = λ session is.
 
 pub returns-in-Err-clause-leaves : goal.returns-in-Err-clause-leaves
 returns-in-Err-clause-leaves g c = λ session is.
-    leaves_session (λ given then_ before waiting. Stops is_doing (λ failed. SettlesUnits c.args.units.now c.settle.new.units failed false given then_ before waiting))
+    leaves_session (λ given then_ before waiting. Stops is_doing
+    (λ failed. SettlesUnits c.args.units.now c.settle.new.units failed false given then_ before waiting))
     c.args.self.now c.self.inside.framer c.self.inside.phase c.self.inside.waiting.items c.settle.new.out.items session c.in-FullFeature.session
     c.settle.new.self c.self.view_is c.in-FullFeature.is is c.settle.ensures.params c.settle.ensures.grows c.in-Err.ensures.err

@@ -16,4 +16,5 @@ returns-then-reaches_others g c = record {
 }
 
 pub returns-else-reaches_others-clause-carries : goal.returns-else-reaches_others-clause-carries
-returns-else-reaches_others-clause-carries g c = not_carried c.args.function.now c.args.c c.args.target c.args.self.now (sym c.reaches_others.ensures ∙ c.if-reaches_others.false)
+returns-else-reaches_others-clause-carries g c = not_carried c.args.function.now c.args.c c.args.target c.args.self.now
+    (sym c.reaches_others.ensures ∙ c.if-reaches_others.false)

@@ -10,7 +10,8 @@ loop-function-init g c = (carried_none c.args.self.now, λ b. moves_none b c.arg
 pub loop-function-preserved : goal.loop-function-preserved
 loop-function-preserved g c = (
   carried_next c.args.c c.args.target c.args.functions.now c.loop-function.function-index c.function-item.result c.args.self.now
-      c.loop-function.self c.carry_out.new.self (omega arith) c.function-item.is (c.carry_out.ensures.moves 0) c.loop-function.invariant.0 c.carry_out.ensures.carries,
+      c.loop-function.self c.carry_out.new.self (omega arith) c.function-item.is (c.carry_out.ensures.moves 0) c.loop-function.invariant.0
+      c.carry_out.ensures.carries,
   λ b. moves_then b None None c.args.self.now c.loop-function.self c.carry_out.new.self (c.loop-function.invariant.1 b) (c.carry_out.ensures.moves b),
   (let is = (c.carry_out.ensures.moves 0).units in let was = c.loop-function.invariant.2 in omega arith),
   apart_then c.args.target c.args.self.now c.loop-function.self c.carry_out.new.self c.loop-function.invariant.3 c.carry_out.ensures.apart,

@@ -133,7 +133,8 @@ returns-clause-part g c =
     let lt : c.args.c < length c.args.self.now.links = (let below = c.requires.in_range in omega (arith, c.reads.ensures.count)) in
     part_then c.args.c c.args.self.now c.keep.new.self c.take_frames.new.self
     (kept_reads c.args.self.now c.keep.new.self c.args.c c.args.piece.now lt (sym c.reads.ensures.value ∙ c.if-not-reads.false) c.in_default.ensures.ok)
-    (part_as c.args.c c.args.self.now _ c.keep.new.self c.in_default.ensures.ok (part_halved c.args.self.now c.args.c _ lt)) c.take_frames.ensures.takes.leaves.part
+    (part_as c.args.c c.args.self.now _ c.keep.new.self c.in_default.ensures.ok (part_halved c.args.self.now c.args.c _ lt))
+    c.take_frames.ensures.takes.leaves.part
 
 pub returns-then-is_empty-clause-part : goal.returns-then-is_empty-clause-part
 returns-then-is_empty-clause-part g c = part_none c.args.c c.args.self.now

@@ -1,8 +1,6 @@
-use Rattle.std.proofs.Common.{List, rules, length, subst, sym, ap, ◌∙◌, arith}
-use Rattle.std.specs.Prelude.{All}
-use Rattle.std.proofs.lemmas.List.{length-set}
-use Rattle.std.proofs.lemmas.List.Elements.{All-set}
+use Rattle.std.proofs.Common.{List, rules, length, refl, subst, sym, ap, ◌∙◌, arith}
 use Rattle.iscsi_target.specs.Machine.{LinkState, Machine, IsWithin, with_link, closed, free_link}
+use Rattle.iscsi_target.proofs.Lending.{Holds, lent_holds}
 use Rattle.iscsi_target.proofs.Moving.{closed_count}
 use Rattle.iscsi_target.proofs.Sound.{closed_back, at_as, at_units, closed_sound, closed_sure, sound_as, sure_as, sound_units}
 use Rattle.iscsi_target.proofs.Standing.{gone_stands, stands_machine}
@@ -11,13 +9,10 @@ use Rattle.iscsi_target.proofs.target.Target.gone.Goals as goal
 
 pub invariant_of-self : goal.invariant_of-self
 invariant_of-self g c =
-    let free : IsWithin (length c.self.inside.units.items) c.free.result.phase =
-    subst (λ (l : LinkState). IsWithin (length c.self.inside.units.items) l.phase) (sym c.free.ensures) tt in (
-      ap (λ (links : List LinkState). length links) c.put.ensures ∙ length-set c.self.inside.connections c.args.c c.free.result ∙ c.self.invariant.0,
-      c.self.invariant.1,
-      subst (λ (links : List LinkState). All (λ (l : LinkState). IsWithin (length c.self.inside.units.items) l.phase) links) (sym c.put.ensures)
-          (All-set (λ (l : LinkState). IsWithin (length c.self.inside.units.items) l.phase) c.self.inside.connections c.args.c c.free.result free c.self.invariant.2),
-    )
+    let units = c.self.inside.units.items in
+    subst (λ (links : List LinkState). Holds links units (length c.self.inside.directory.names)) (sym c.put.ensures)
+    (lent_holds c.self.inside.connections units units _ c.args.c free_link _ c.free.result c.requires.in_range c.self.invariant refl refl
+    (λ was. subst (λ (l : LinkState). IsWithin (length units) l.phase) (sym c.free.ensures) tt))
 
 pub returns-clause-sound : goal.returns-clause-sound
 returns-clause-sound g c = λ sound. closed_sound c.args.self.now c.args.c

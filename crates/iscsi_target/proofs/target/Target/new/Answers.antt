@@ -26,4 +26,5 @@ returns-clause-stands g c =
 
 pub returns-clause-bounded : goal.returns-clause-bounded
 returns-clause-bounded g c =
-    bounded_links (new_machine (known_in c.args.config) c.args.units.items) _ (sym c.in_ok-connections.ensures) (new_bounded (known_in c.args.config) c.args.units.items)
+    bounded_links (new_machine (known_in c.args.config) c.args.units.items) _ (sym c.in_ok-connections.ensures)
+    (new_bounded (known_in c.args.config) c.args.units.items)

@@ -54,7 +54,8 @@ returns g c =
     record {
       takes = does_starved _ _ _ _ _ _ _ (ap (λ (o : Option ℕ). first_of o later) (sym c.end_unless-served.ensures.value) ∙ sym c.earlier_of.ensures)
           (serves_takes call.result call.new.orders.items c.args.frame c.args.c own given middle ended after later k call.ensures.changes l
-          c.end_unless-served.ensures.same (λ target sound. (c.carry_out_for.ensures.moves 0).back target ((c.settle_for-settled.ensures.moves 0).back target sound))
+          c.end_unless-served.ensures.same (λ target sound. (c.carry_out_for.ensures.moves 0).back target
+          ((c.settle_for-settled.ensures.moves 0).back target sound))
           (finishes c.args.c own call.new.orders.items later ended carried after (c.settle_for-settled.ensures.moves 0).back carries
           c.settle_for-settled.ensures.settles));
       moves = moves_starved c.args.c (first_of failed later) _ given after (sym c.earlier_of.ensures) (moves_then c.args.c failed later given ended after first
