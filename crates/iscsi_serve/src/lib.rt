@@ -12,6 +12,7 @@
 
 mod bind_fault;
 mod entry;
+mod events;
 mod fault;
 mod lingering;
 mod mem_ports;

@@ -4,33 +4,32 @@
 //! read fills a whole buffer where it can; what the reader has no room for is handed on at the next reads,
 //! which are noted without a call.
 
-ghost use Rattle.std.specs.Prelude.{◌≡◌, ◌<◌, ◌≤◌, ◌-◌, ◌++◌, ◌∷◌, [], ◌==◌, ℕ, fold, length, IfOk, OnOk, OnErr};
+ghost use Rattle.std.specs.Prelude.{◌≡◌, ◌≢◌, ◌<◌, ◌≤◌, ◌-◌, ◌++◌, ◌∷◌, [], ◌==◌, ℕ, true, false, fold, length, slice_index_or, None, Ok, IsSome, IfOk, OnOk, OnErr};
 ghost use Rattle.std.specs.Io.{WritesAtMost};
 ghost use Rattle.std.specs.Net.Socket.{socket_ip, socket_port};
 ghost use Rattle.std.specs.Result.{IsErrOf};
 ghost use Rattle.std.specs.Net.Grammar.{IsSocketText};
 ghost use Rattle.std.specs.declared.net.socket_addr.SocketAddr.{SocketAddr};
 ghost use Rattle.iscsi_serve.specs.Log.{Read};
-ghost use Rattle.iscsi_serve.specs.Calls.{Listening, Located, Polling, ip_octets, calls_of, log_by, moved, named_by, read_carried};
-ghost use Rattle.iscsi_serve.specs.Lingering.{place_of, turns_left};
+ghost use Rattle.iscsi_serve.specs.Calls.{Accepting, Closing, Listening, Located, Polling, ip_octets, calls_of, log_by, moved, named_by, read_carried};
+ghost use Rattle.iscsi_serve.specs.Lingering.{place_of, place_to_take, turns_left};
 ghost use Rattle.iscsi_serve.specs.Readiness.{after_event, after_taking, given_in_all, read_by, took_all as all_taken};
 ghost use Rattle.mio.specs.Events.{items};
 ghost use Rattle.iscsi_serve.specs.ReadBuffer.{IsAccounted, ahead_on};
 
 use crate::bind_fault::{BindFault, bind_fault};
+use crate::events::see_all;
 use crate::lingering::{LingeringSockets, turns_of};
 use crate::places::free_places;
 use crate::read_buffer::{MOST_AHEAD, ReadBuffer, count_ahead, give_back, hand_from, take_spare};
-use crate::readiness::{Readiness, ReadyEvent};
+use crate::readiness::Readiness;
 use crate::results::Named;
 use crate::socket_calls::SocketCalls;
 use crate::socket_failure::{SocketFailure, socket_failure};
-use crate::watching::{LISTENER, keep, watched};
+use crate::watching::{keep, watched};
 use call_record::Record;
-use iscsi_target::CONNECTIONS;
-use mio::event::Event;
 use mio::net::{TcpListener, TcpStream};
-use mio::{Events, Poll, Token};
+use mio::{Events, Poll};
 use std::alloc::Global;
 use std::io;
 use std::io::{Read, Write};
@@ -124,32 +123,6 @@ impl MioSockets {
             IpAddr::V6(ip) => self.noted.note(&numbers, &ip.octets(), &[]),
         }
         Ok(address)
-    }
-}
-
-/// Takes note of an event.
-fn see(readiness: &mut Readiness, event: &Event)
-    ensures { readiness.new ≡ after_event readiness.old event.now }
-{
-    let Token(token) = event.token();
-    if token == LISTENER {
-        readiness.named.listener = true;
-    } else if token < CONNECTIONS {
-        let event = ReadyEvent {
-            is_readable: event.is_readable(),
-            is_writable: event.is_writable(),
-            has_ended: event.is_read_closed() || event.is_error(),
-        };
-        readiness.see(token, event);
-    }
-}
-
-/// Takes note of all events.
-fn see_all(readiness: &mut Readiness, events: &Events)
-    ensures { readiness.new ≡ fold after_event readiness.old (items events.now) }
-{
-    for event in events {
-        see(readiness, event);
     }
 }
 
@@ -368,7 +341,12 @@ impl SocketCalls for MioSockets {
             .note(&[NAMING, DONE, listener], &[], &named.connections);
     }
 
-    fn accept(&mut self, c: usize) -> Result<bool, SocketFailure> {
+    fn accept(&mut self, c: usize) -> Result<bool, SocketFailure>
+        requires { c ≤ 64 }
+        ensures noted { ⟦<MioSockets as SocketCalls>⟧.calls self.new ≡ Accepting c result ∷ ⟦<MioSockets as SocketCalls>⟧.calls self.old }
+        ensures kept { result ≡ Ok true → IsSome (slice_index_or self.new.streams.items c None) }
+        ensures dropped { result ≡ Ok false → self.new.streams.items ≡ self.old.streams.items }
+    {
         let record = &mut self.noted;
         match self.listener.accept() {
             Ok((stream, _)) => {
@@ -430,7 +408,13 @@ impl SocketCalls for MioSockets {
             .note(&[PUTTING_OFF, DONE, c as u64, offered as u64], &[], &[]);
     }
 
-    fn close(&mut self, c: usize) {
+    fn close(&mut self, c: usize)
+        requires { c ≤ 64 }
+        ensures noted { ⟦<MioSockets as SocketCalls>⟧.calls self.new ≡ Closing c ∷ ⟦<MioSockets as SocketCalls>⟧.calls self.old }
+        ensures closed { slice_index_or self.new.streams.items c None ≡ None }
+        ensures others { (d : ℕ) → d ≢ place_to_take self.old.lingering.places.items
+            → place_of d self.new.lingering.places.items ≡ place_of d self.old.lingering.places.items }
+    {
         if let Some(stream) = self.streams[c].take() {
             self.lingering.begin(self.poll.registry(), stream);
         }

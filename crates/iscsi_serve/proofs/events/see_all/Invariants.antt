@@ -2,7 +2,7 @@ use Rattle.std.proofs.Common.{◌≡◌, fold}
 use Rattle.std.specs.Slice.Iter.{iter_rest}
 use Rattle.mio.specs.Events.{items}
 use Rattle.iscsi_serve.specs.Readiness.{after_event}
-use Rattle.iscsi_serve.proofs.mio_sockets.see_all.Given as goal
+use Rattle.iscsi_serve.proofs.events.see_all.Given as goal
 
 -- what was seen, and then the rest, are all events
 abbrev pub invariant-loop-event : goal.invariant-loop-event
