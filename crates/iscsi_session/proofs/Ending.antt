@@ -8,8 +8,8 @@ use Rattle.std.proofs.lemmas.List.{nil_from_length, length-map}
 use Rattle.std.proofs.lemmas.List.FromFn.{get_or-map-range_with_len, length-range_with_len}
 use Rattle.iscsi_pdu.specs.Header.{is_immediate}
 use Rattle.iscsi_pdu.specs.TaskManagement.{task_function, function_code, ref_cmd_sn}
-use Rattle.iscsi_pdu.specs.declared.task_management.TaskFunction.{TaskFunction}
-use Rattle.iscsi_pdu.specs.declared.task_management.TaskFunction.TheVariants as functions
+use Rattle.iscsi_session.specs.declared.scope.Scope.{Scope}
+use Rattle.iscsi_session.specs.declared.scope.Scope.TheVariants as scopes
 use Rattle.iscsi_pdu.specs.Frames.{Frame}
 use Rattle.iscsi_order.specs.Window as order
 use Rattle.iscsi_order.specs.Window.{window, taken as taken_numbers}
@@ -18,7 +18,7 @@ use Rattle.iscsi_session.specs.declared.aborted.Aborted.{Aborted}
 use Rattle.iscsi_session.specs.declared.aborted.Aborted.TheVariants.{Live, Missing, Plugged, Nothing}
 use Rattle.iscsi_session.specs.Requests.{Request, Past, Drain, draining, request_at, frame_of, is_in, is_command, is_function, numbered, place_of, unfinished, finished, moved, removing, numbers}
 use Rattle.iscsi_session.specs.declared.transfers.Transfer.{Transfer}
-use Rattle.iscsi_session.specs.Functions.{FunctionReach, waits, awaited, reaches, reached, plug, is_plug, plugged, is_plugged, refers_back, abort_finds, is_missing, plugs, plugs_by}
+use Rattle.iscsi_session.specs.Functions.{FunctionReach, scope, waits, awaited, reaches, reached, plug, is_plug, plugged, is_plugged, refers_back, abort_finds, is_missing, plugs, plugs_by}
 use Rattle.iscsi_session.specs.Transfers.{is_asked_of}
 use Rattle.iscsi_session.specs.Acts.{reach_of, ended, behind}
 use Rattle.iscsi_session.specs.State.{SessionState, TaskLists, IsLawful, Stands, void, voided, standing, frame_numbered, tasks_of, transfer_of, is_vacant, one_fewer, without, transfers_without, reaches_some, holding, takes_all, held_numbered, is_some_plug}
@@ -78,9 +78,9 @@ awaited_some past reach first others e = grind arith
 abbrev pub found_by : Bool → Bool → Bool → Bool → Aborted
 found_by live back new plugged_it = if live then Live else if not back then Nothing else if new then Missing else if plugged_it then Plugged else Nothing
 
-plugs_parts : (o : TaskFunction) (past : Past) (reach : FunctionReach) → plugs_by o past reach ≡ true
+plugs_parts : (o : Scope) (past : Past) (reach : FunctionReach) → plugs_by o past reach ≡ true
     → (reached reach past ≡ []) × (order.is_new (numbers past) (ref_cmd_sn reach.function) ≡ true)
-plugs_parts functions.AbortTask past reach e = by_tests (length (reached reach past) == 0) _ _ refl refl e
+plugs_parts scopes.Task past reach e = by_tests (length (reached reach past) == 0) _ _ refl refl e
   where
     by_tests : (none back new : Bool) → (length (reached reach past) == 0) ≡ none → order.is_new (numbers past) (ref_cmd_sn reach.function) ≡ new
         → is_missing (found_by (not none) back new (is_plugged past (ref_cmd_sn reach.function))) ≡ true
@@ -92,22 +92,18 @@ plugs_parts functions.AbortTask past reach e = by_tests (length (reached reach p
         unplugged b e = grind arith
     by_tests true false new h is e = absurd cc
     by_tests false back new h is e = absurd cc
-plugs_parts functions.AbortTaskSet past reach e = absurd cc
-plugs_parts functions.ClearAca past reach e = absurd cc
-plugs_parts functions.ClearTaskSet past reach e = absurd cc
-plugs_parts functions.LogicalUnitReset past reach e = absurd cc
-plugs_parts functions.TargetWarmReset past reach e = absurd cc
-plugs_parts functions.TargetColdReset past reach e = absurd cc
-plugs_parts functions.TaskReassign past reach e = absurd cc
-plugs_parts (functions.Other n) past reach e = absurd cc
+plugs_parts scopes.OwnTaskSet past reach e = absurd cc
+plugs_parts scopes.TaskSet past reach e = absurd cc
+plugs_parts scopes.AllTasks past reach e = absurd cc
+plugs_parts scopes.NoTask past reach e = absurd cc
 
 pub plugs_new : (past : Past) (reach : FunctionReach) → plugs past reach ≡ true → order.is_new (numbers past) (ref_cmd_sn reach.function) ≡ true
 unfolding plugs
-plugs_new past reach e = (plugs_parts (task_function (function_code reach.function)) past reach e).1
+plugs_new past reach e = (plugs_parts (scope reach) past reach e).1
 
 pub plugs_none : (past : Past) (reach : FunctionReach) → plugs past reach ≡ true → reached reach past ≡ []
 unfolding plugs
-plugs_none past reach e = (plugs_parts (task_function (function_code reach.function)) past reach e).0
+plugs_none past reach e = (plugs_parts (scope reach) past reach e).0
 
 pub plugs_unasked : (past : Past) (reach : FunctionReach) → plugs past reach ≡ true → awaited past reach ≡ []
 unfolding awaited

@@ -81,7 +81,8 @@ accepted_by : (b : Bool) (past : Past) (frame : Frame) → is_immediate frame.he
 accepted_by true past frame h free lawful = subst IsLawful (accepted_now past frame h) (lawful_now past lawful frame h (free_of past frame free))
 accepted_by false past frame h free lawful =
     subst IsLawful (accepted_with past frame h)
-    (lawful_with past lawful _ _ frame h (new_ahead (cmd_sn frame.header) past past refl refl lawful lawful (omega arith) (sym (fresh_is past frame h) ∙ free.fresh))
+    (lawful_with past lawful _ _ frame h
+    (new_ahead (cmd_sn frame.header) past past refl refl lawful lawful (omega arith) (sym (fresh_is past frame h) ∙ free.fresh))
     (free_of past frame free))
 
 judged_by : (v : Verdict) (past : Past) (frame : Frame) → verdict past frame ≡ v → IsLawful past → IsLawful (judged v frame past)

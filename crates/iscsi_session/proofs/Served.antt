@@ -100,7 +100,8 @@ acts_all fails place work = refl
 abbrev pub RanActs : ℕ → SessionState → SessionState → Output → Output → TargetUnits → Type 0
 RanActs turns old now before waiting units = Ran Taking due act tasks_count waiting_in due_fits turns old now before waiting units units
 
-module _ (luns : List ℕ) (turns : ℕ) (old now next : SessionState) (before waiting items : Output) (units : TargetUnits) (numbers : luns ≡ numbers_of units.states)
+module _ (luns : List ℕ) (turns : ℕ) (old now next : SessionState) (before waiting items : Output) (units : TargetUnits)
+    (numbers : luns ≡ numbers_of units.states)
     (ran : RanActs turns old now before waiting units) where
   pub acted_more : Acts luns Taken now next waiting items → tasks_count next < tasks_count now → RanActs (suc turns) old next before items units
   acted_more acts fewer =

@@ -86,7 +86,8 @@ module _ (kind : ℕ → Step) (of : (place : ℕ) → is_of place (kind place) 
 
   sends_first : (by : List ℕ → Past → Past) (answers : List ℕ → Past → List Answer) (sends : Sends by answers) (l : List ℕ) (work : Work)
       (new : SessionState) (bytes items : List ℕ) (orders : List (List ℕ)) (units : TargetUnits) → work.units ≡ units → work.goes_on ≡ true
-      → Stands (by l work.past) new → items ≡ bytes ++ flat_map spelling (answers l work.past) → LeavesFirst true l work new (output bytes orders) (output items orders) units
+      → Stands (by l work.past) new → items ≡ bytes ++ flat_map spelling (answers l work.past)
+      → LeavesFirst true l work new (output bytes orders) (output items orders) units
   sends_first by answers sends [] work new bytes items orders units same on s out = (
     refl,
     leaves_answering work work new (output bytes orders) (output items orders) units (answers [] work.past)
@@ -209,7 +210,8 @@ judging_stops luns frame old new bytes items orders same unchanged = record {
 }
 
 -- the session ends with it
-pub judging_ends : {v : Verdict} (frame : Frame) {old new : SessionState} {before waiting : Output} {units : TargetUnits} → Judges v frame old new before waiting
+pub judging_ends : {v : Verdict} (frame : Frame) {old new : SessionState} {before waiting : Output} {units : TargetUnits}
+    → Judges v frame old new before waiting
     → v ≡ Violating → Runs (λ fails place. taken_in fails place frame) None false old new before waiting units units
 unfolding taken_in
 judging_ends frame {units = units} judges is = runs_ended act_stopped (rw is at (judged_runs frame {units = units} judges))

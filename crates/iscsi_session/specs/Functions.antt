@@ -14,6 +14,9 @@ use Rattle.iscsi_pdu.specs.declared.answer.Answer.TheVariants as answers
 use Rattle.iscsi_pdu.specs.declared.stamp.Stamp.{Stamp}
 use Rattle.iscsi_order.specs.Window as order
 use Rattle.iscsi_order.specs.Serial.{is_before}
+use Rattle.iscsi_session.specs.Scope.{scope_of, waits_by}
+use Rattle.iscsi_session.specs.declared.scope.Scope.{Scope}
+use Rattle.iscsi_session.specs.declared.scope.Scope.TheVariants as scopes
 use Rattle.iscsi_session.specs.declared.aborted.Aborted.{Aborted}
 use Rattle.iscsi_session.specs.declared.aborted.Aborted.TheVariants.{Live, Missing, Plugged, Nothing}
 use Rattle.iscsi_session.specs.Requests.{Past, frame_of, place_of, numbers, unfinished, pending, functions as unfinished_functions, stamp, answering}
@@ -65,20 +68,19 @@ is_earlier reach command = not reach.is_own || is_immediate command || is_before
 abbrev pub is_in_set : FunctionReach → List ℕ → Bool
 is_in_set reach command = is_one_unit (unit_named reach.luns reach.function) (unit_named reach.luns command) && is_earlier reach command
 
+abbrev pub scope : FunctionReach → Scope
+scope reach = scope_of (task_function (function_code reach.function))
+
 -- RFC 7143 §11.5.1. Own: ABORT TASK does not look at the LUN.
-abbrev pub reaches_by : TaskFunction → FunctionReach → List ℕ → Bool
-reaches_by functions.AbortTask reach command = reach.is_own && initiator_task_tag command == referenced_task_tag reach.function
-reaches_by functions.AbortTaskSet reach command = reach.is_own && is_in_set reach command
-reaches_by functions.ClearAca reach command = false
-reaches_by functions.ClearTaskSet reach command = is_in_set reach command
-reaches_by functions.LogicalUnitReset reach command = is_in_set reach command
-reaches_by functions.TargetWarmReset reach command = is_some (unit_named reach.luns command) && is_earlier reach command
-reaches_by functions.TargetColdReset reach command = false
-reaches_by functions.TaskReassign reach command = false
-reaches_by (functions.Other n) reach command = false
+abbrev pub reaches_by : Scope → FunctionReach → List ℕ → Bool
+reaches_by scopes.Task reach command = reach.is_own && initiator_task_tag command == referenced_task_tag reach.function
+reaches_by scopes.OwnTaskSet reach command = reach.is_own && is_in_set reach command
+reaches_by scopes.TaskSet reach command = is_in_set reach command
+reaches_by scopes.AllTasks reach command = is_some (unit_named reach.luns command) && is_earlier reach command
+reaches_by scopes.NoTask reach command = false
 
 unfoldable pub reaches : FunctionReach → List ℕ → Bool
-reaches reach command = reaches_by (task_function (function_code reach.function)) reach command
+reaches reach command = reaches_by (scope reach) reach command
 
 -- of those that are not finished, held or taken
 unfoldable pub reached : FunctionReach → Past → List ℕ
@@ -120,19 +122,15 @@ is_missing Missing = true
 is_missing Plugged = false
 is_missing Nothing = false
 
-abbrev pub plugs_by : TaskFunction → Past → FunctionReach → Bool
-plugs_by functions.AbortTask past reach = is_missing (abort_finds past reach)
-plugs_by functions.AbortTaskSet past reach = false
-plugs_by functions.ClearAca past reach = false
-plugs_by functions.ClearTaskSet past reach = false
-plugs_by functions.LogicalUnitReset past reach = false
-plugs_by functions.TargetWarmReset past reach = false
-plugs_by functions.TargetColdReset past reach = false
-plugs_by functions.TaskReassign past reach = false
-plugs_by (functions.Other n) past reach = false
+abbrev pub plugs_by : Scope → Past → FunctionReach → Bool
+plugs_by scopes.Task past reach = is_missing (abort_finds past reach)
+plugs_by scopes.OwnTaskSet past reach = false
+plugs_by scopes.TaskSet past reach = false
+plugs_by scopes.AllTasks past reach = false
+plugs_by scopes.NoTask past reach = false
 
 unfoldable pub plugs : Past → FunctionReach → Bool
-plugs past reach = plugs_by (task_function (function_code reach.function)) past reach
+plugs past reach = plugs_by (scope reach) past reach
 
 -- ---- what a function comes to (RFC 7143 §11.6.1)
 
@@ -166,20 +164,8 @@ function_answer numbers_now result function = answers.TaskManagementResponse
 
 -- ---- a function that waits for data (RFC 7143 §4.2.3.3)
 
--- own: ABORT TASK does not wait
-abbrev pub waits_by : TaskFunction → Bool
-waits_by functions.AbortTask = false
-waits_by functions.AbortTaskSet = true
-waits_by functions.ClearAca = false
-waits_by functions.ClearTaskSet = true
-waits_by functions.LogicalUnitReset = true
-waits_by functions.TargetWarmReset = true
-waits_by functions.TargetColdReset = false
-waits_by functions.TaskReassign = false
-waits_by (functions.Other n) = false
-
 abbrev pub waits : FunctionReach → Bool
-waits reach = waits_by (task_function (function_code reach.function))
+waits reach = waits_by (scope reach)
 
 -- the commands whose data a function is to wait for: of those that it removes the ones for which an R2T is open
 unfoldable pub awaited : Past → FunctionReach → List ℕ

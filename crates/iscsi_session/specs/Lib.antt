@@ -13,6 +13,7 @@ pub use Rattle.iscsi_transfer.specs.Task
 pub use Rattle.scsi_sense.specs.Done
 pub mod Requests
 pub mod Transfers
+pub mod Scope
 pub mod Functions
 pub mod Judging
 pub mod Texts

@@ -15,6 +15,7 @@ use crate::aborted::Aborted;
 use crate::act::Act;
 use crate::answers::put;
 use crate::reach::Reach;
+use crate::scope::Scope;
 use crate::session::Session;
 use crate::voids::PLUGGED;
 use bytes::BytesMut;
@@ -243,16 +244,9 @@ impl Session {
         ensures past { (past : Past) → Stands past self.now → result ≡ plugs_in past reach.now }
         ensures vacant { IsTrue result → is_vacant self.now.tasks (ref_cmd_sn reach.now.function) ≡ true }
     {
-        match reach.function.task_function() {
-            TaskFunction::AbortTask => matches!(self.abort_finds(reach), Aborted::Missing),
-            TaskFunction::AbortTaskSet
-            | TaskFunction::ClearAca
-            | TaskFunction::ClearTaskSet
-            | TaskFunction::LogicalUnitReset
-            | TaskFunction::TargetWarmReset
-            | TaskFunction::TargetColdReset
-            | TaskFunction::TaskReassign
-            | TaskFunction::Other(_) => false,
+        match reach.scope() {
+            Scope::Task => matches!(self.abort_finds(reach), Aborted::Missing),
+            Scope::OwnTaskSet | Scope::TaskSet | Scope::AllTasks | Scope::NoTask => false,
         }
     }
 

@@ -29,6 +29,7 @@ mod functions;
 mod judging;
 pub mod laws;
 mod reach;
+mod scope;
 mod serving;
 mod session;
 mod tasks;
@@ -39,4 +40,5 @@ mod voids;
 
 pub use out_of_memory::Memory;
 pub use reach::Reach;
+pub use scope::{attention_of, is_for_all_sessions};
 pub use session::Session;

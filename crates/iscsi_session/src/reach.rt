@@ -2,12 +2,13 @@
 
 ghost use Rattle.std.specs.Prelude.{◌≡◌};
 ghost use Rattle.scsi_unit.specs.Lun.{lun_number};
-ghost use Rattle.iscsi_session.specs.Functions.{reaches as reaches_in, has_unit, unit_named, is_earlier, is_in_set, set_result, waits as waits_in};
+ghost use Rattle.iscsi_session.specs.Functions.{reaches as reaches_in, has_unit, unit_named, is_earlier, is_in_set, set_result, scope as scope_in, waits as waits_in};
 ghost use Rattle.iscsi_session.specs.State.{reaches_frame};
 
 use crate::acting::is_command;
+use crate::scope::Scope;
 use iscsi_order::is_before;
-use iscsi_pdu::{Frame, Header, TaskFunction, TaskResult};
+use iscsi_pdu::{Frame, Header, TaskResult};
 use std::marker::Model;
 
 /// A Task Management Function Request, as it looks at the commands of one session of its target.
@@ -46,20 +47,22 @@ impl Reach<'_> {
     pub(crate) fn has(&self, command: &Header) -> bool
         ensures { result ≡ reaches_in self.now command.now }
     {
-        match self.function.task_function() {
-            TaskFunction::AbortTask => {
+        match self.scope() {
+            Scope::Task => {
                 self.is_own && command.initiator_task_tag() == self.function.referenced_task_tag()
             }
-            TaskFunction::AbortTaskSet => self.is_own && self.is_in_set(command),
-            TaskFunction::ClearTaskSet | TaskFunction::LogicalUnitReset => self.is_in_set(command),
-            TaskFunction::TargetWarmReset => {
-                self.unit_named(command).is_some() && self.is_earlier(command)
-            }
-            TaskFunction::ClearAca
-            | TaskFunction::TargetColdReset
-            | TaskFunction::TaskReassign
-            | TaskFunction::Other(_) => false,
+            Scope::OwnTaskSet => self.is_own && self.is_in_set(command),
+            Scope::TaskSet => self.is_in_set(command),
+            Scope::AllTasks => self.unit_named(command).is_some() && self.is_earlier(command),
+            Scope::NoTask => false,
         }
+    }
+
+    /// The SCSI Commands that the function removes.
+    pub(crate) fn scope(&self) -> Scope
+        ensures { result ≡ scope_in self.now }
+    {
+        Scope::of(self.function.task_function())
     }
 
     /// The command is of the task set (SAM-5) of the unit that the request names.
@@ -119,17 +122,7 @@ impl Reach<'_> {
     pub(crate) fn waits(&self) -> bool
         ensures { result ≡ waits_in self.now }
     {
-        match self.function.task_function() {
-            TaskFunction::AbortTaskSet
-            | TaskFunction::ClearTaskSet
-            | TaskFunction::LogicalUnitReset
-            | TaskFunction::TargetWarmReset => true,
-            TaskFunction::AbortTask
-            | TaskFunction::ClearAca
-            | TaskFunction::TargetColdReset
-            | TaskFunction::TaskReassign
-            | TaskFunction::Other(_) => false,
-        }
+        self.scope().waits()
     }
 
     /// The function removes this request, a SCSI Command.

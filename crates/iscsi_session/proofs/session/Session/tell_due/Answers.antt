@@ -25,7 +25,8 @@ returns-in_default-clause-ok c orders units =
 pub returns-in_err-reserve-clause-stops : goal.returns-in_err-reserve-clause-stops
 unfolding tell_due
 returns-in_err-reserve-clause-stops c = on_err_known _
-    (first_stops Answering (λ place. eq-eqb place place refl) drained_functions tell c.in_err-reserve.ensures.items (λ place. eq-eqb place place refl) (λ past s.
+    (first_stops Answering (λ place. eq-eqb place place refl) drained_functions tell c.in_err-reserve.ensures.items
+    (λ place. eq-eqb place place refl) (λ past s.
     (let t = telling_here past _ c.in-Some.function (subst (λ (x : SessionState). Stands past x) (sym c.self.view_is) s) c.in-Some.ensures in
     (t.function, t.others, t.first))))
 
