@@ -10,7 +10,7 @@ use Rattle.scsi_tape.specs.TapeSense.{unrecovered_read, write_error}
 use Rattle.scsi_tape.specs.State.{TapeUnitState}
 use Rattle.scsi_tape.specs.Commands.{tape_outcome, tape_left}
 use Rattle.scsi_tape.specs.CameOut.{AsDefined, Dishonest, ReadFailed, WriteFailed, Shown, showing, Standing}
-use Rattle.scsi_tape.specs.CameOut.{tape_touch, IsTapeDone, is_steady, tape_after}
+use Rattle.scsi_tape.specs.CameOut.{tape_touch, IsTapeDone, is_steady, can_fail, tape_after}
 
 abbrev pub with_tape : TapeUnitState → TapeState → TapeUnitState
 with_tape unit tape = record unit { tape = tape }
@@ -43,55 +43,36 @@ module _ (command : TapeCommand) (bytes : List ℕ) (unit : TapeUnitState) where
       → IsTapeDone command bytes unit (with_tape unit new) done
   as_defined new done left told = record { came = AsDefined; possible = refl; unit = ap (with_tape unit) left; told = told }
 
-  module _ (shown : Shown) (left : Standing) (new : TapeState) (done : Outcome) where
-    -- its store is not honest after it
-    was_misled : (tape_touch command unit.tape).goes_by ≡ true
-        → ((tape_touch command unit.tape).reads ≡ false → unit.tape.honest ≡ false)
-        → (IsTrue unit.tape.honest → IsTrue unit.tape.steady → ⊥)
-        → with_tape unit new ≡ tape_after (Dishonest shown left) command bytes unit
-        → done ≡ tape_outcome command bytes (showing shown unit.tape)
-        → length done.given ≤ most_record
-        → IsTapeDone command bytes unit (with_tape unit new) done
-    was_misled goes reads sure same told few =
+  -- the store answered, and is honest or not: where it is, all is as defined, else as on the tape that it showed
+  module _ (shown : Shown) (left : Standing) (new : TapeState) (done : Outcome)
+      (goes : (tape_touch command unit.tape).goes_by ≡ true)
+      (kept : (tape_touch command unit.tape).reads ≡ false → IsTrue unit.tape.honest → new.honest ≡ unit.tape.honest)
+      (stands : IsTrue new.honest → new ≡ tape_left command bytes unit.tape)
+      (told : IsTrue new.honest → done ≡ tape_outcome command bytes unit.tape)
+      (sure : IsTrue unit.tape.steady → IsTrue unit.tape.honest → new.honest ≡ unit.tape.honest)
+      (same : new.honest ≡ false → with_tape unit new ≡ tape_after (Dishonest shown left) command bytes unit)
+      (seen : new.honest ≡ false → done ≡ tape_outcome command bytes (showing shown unit.tape))
+      (few : length done.given ≤ most_record) where
+    lies : (old : Bool) → unit.tape.honest ≡ old → new.honest ≡ false → (tape_touch command unit.tape).reads ≡ false → unit.tape.honest ≡ false
+    lies false was is none = was
+    lies true was is none = absurd (false≢true (sym is ∙ kept none was ∙ was))
+
+    answered_at : (honest : Bool) → new.honest ≡ honest → IsTapeDone command bytes unit (with_tape unit new) done
+    answered_at true is = as_defined new done (stands is) (told is)
+    answered_at false is =
         let touch = tape_touch command unit.tape in
-        let given : length (tape_outcome command bytes (showing shown unit.tape)).given ≤ most_record = rw told at few in
+        let given : length (tape_outcome command bytes (showing shown unit.tape)).given ≤ most_record = rw (seen is) at few in
+        let fails : can_fail unit.tape ≡ true = may_fail unit.tape.honest (is_steady unit.tape)
+        (λ honest steady. false≢true (sym is ∙ sure (steady_store unit.tape steady) honest ∙ honest)) in
         record {
           came = Dishonest shown left;
-          possible = and_from _ _ (may_fail unit.tape.honest (is_steady unit.tape) (λ honest steady. sure honest (steady_store unit.tape steady)))
-              (and_from _ _ goes (and_from _ _ (not_honest touch.reads unit.tape.honest reads) (le-leb _ _ given)));
-          unit = same;
-          told = told;
+          possible = and_from _ _ fails
+              (and_from _ _ goes (and_from _ _ (not_honest touch.reads unit.tape.honest (lies unit.tape.honest refl is)) (le-leb _ _ given)));
+          unit = same is;
+          told = seen is;
         }
 
-    -- the store answered, and is honest or not
-    answered_at : (honest : Bool) → new.honest ≡ honest
-        → (tape_touch command unit.tape).goes_by ≡ true
-        → ((tape_touch command unit.tape).reads ≡ false → IsTrue unit.tape.honest → new.honest ≡ unit.tape.honest)
-        → (IsTrue new.honest → new ≡ tape_left command bytes unit.tape)
-        → (IsTrue new.honest → done ≡ tape_outcome command bytes unit.tape)
-        → (IsTrue unit.tape.steady → IsTrue unit.tape.honest → new.honest ≡ unit.tape.honest)
-        → (new.honest ≡ false → with_tape unit new ≡ tape_after (Dishonest shown left) command bytes unit)
-        → (new.honest ≡ false → done ≡ tape_outcome command bytes (showing shown unit.tape))
-        → length done.given ≤ most_record
-        → IsTapeDone command bytes unit (with_tape unit new) done
-    answered_at true is goes kept stands told sure same seen few = as_defined new done (stands is) (told is)
-    answered_at false is goes kept stands told sure same seen few =
-        was_misled goes (λ none. lies unit.tape.honest refl (λ honest. kept none honest))
-        (λ honest steady. false≢true (sym is ∙ sure steady honest ∙ honest)) (same is) (seen is) few
-      where
-        lies : (old : Bool) → unit.tape.honest ≡ old → (IsTrue unit.tape.honest → new.honest ≡ unit.tape.honest) → unit.tape.honest ≡ false
-        lies false was kept = was
-        lies true was kept = absurd (false≢true (sym is ∙ kept was ∙ was))
-
-    pub answered : (tape_touch command unit.tape).goes_by ≡ true
-        → ((tape_touch command unit.tape).reads ≡ false → IsTrue unit.tape.honest → new.honest ≡ unit.tape.honest)
-        → (IsTrue new.honest → new ≡ tape_left command bytes unit.tape)
-        → (IsTrue new.honest → done ≡ tape_outcome command bytes unit.tape)
-        → (IsTrue unit.tape.steady → IsTrue unit.tape.honest → new.honest ≡ unit.tape.honest)
-        → (new.honest ≡ false → with_tape unit new ≡ tape_after (Dishonest shown left) command bytes unit)
-        → (new.honest ≡ false → done ≡ tape_outcome command bytes (showing shown unit.tape))
-        → length done.given ≤ most_record
-        → IsTapeDone command bytes unit (with_tape unit new) done
+    pub answered : IsTapeDone command bytes unit (with_tape unit new) done
     answered = answered_at new.honest refl
 
   -- the store failed
@@ -147,34 +128,31 @@ rewritten unit new synced same kept wrong =
     (sym kept ∙ wrong))
 
 -- what a write or a cut leaves that failed
-torn_at : (old new : TapeState) (honest : Bool) → (IsTrue honest → new ≡ lost new.tail false old)
-    → new ≡ record old { before = new.before; after = new.after; tail = new.tail; synced = false; failures = risen old.failures }
-    → new ≡ record old {
-      before = if honest then old.before else new.before;
-      after = if honest then [] else new.after;
-      tail = new.tail;
-      synced = false;
-      failures = risen old.failures;
-    }
-torn_at old new true left rest = left refl
-torn_at old new false left rest = rest
-
-pub torn_items : (unit : TapeUnitState) (new : TapeState)
-    → (IsTrue unit.tape.honest → new ≡ lost new.tail false unit.tape)
-    → new ≡ record unit.tape { before = new.before; after = new.after; tail = new.tail; synced = false; failures = risen unit.tape.failures }
-    → record (with_tape unit new) { is_working = false }
-    ≡ record unit {
-      tape = record unit.tape {
-        before = if unit.tape.honest then unit.tape.before else new.before;
-        after = if unit.tape.honest then [] else new.after;
+module _ (unit : TapeUnitState) (new : TapeState) (left : IsTrue unit.tape.honest → new ≡ lost new.tail false unit.tape)
+    (rest : new ≡ record unit.tape { before = new.before; after = new.after; tail = new.tail; synced = false; failures = risen unit.tape.failures }) where
+  torn_at : (honest : Bool) → (IsTrue honest → IsTrue unit.tape.honest)
+      → new ≡ record unit.tape {
+        before = if honest then unit.tape.before else new.before;
+        after = if honest then [] else new.after;
         tail = new.tail;
         synced = false;
         failures = risen unit.tape.failures;
-      };
-      is_working = false;
-    }
-torn_items unit new left rest =
-    ap (λ (tape : TapeState). record unit { tape = tape; is_working = false }) (torn_at unit.tape new unit.tape.honest left rest)
+      }
+  torn_at true is = left (is refl)
+  torn_at false is = rest
+
+  pub torn_items : record (with_tape unit new) { is_working = false }
+      ≡ record unit {
+        tape = record unit.tape {
+          before = if unit.tape.honest then unit.tape.before else new.before;
+          after = if unit.tape.honest then [] else new.after;
+          tail = new.tail;
+          synced = false;
+          failures = risen unit.tape.failures;
+        };
+        is_working = false;
+      }
+  torn_items = ap (λ (tape : TapeState). record unit { tape = tape; is_working = false }) (torn_at unit.tape.honest (λ honest. honest))
 
 pub unsynced_rest : (unit : TapeUnitState) (new : TapeState)
     → new ≡ record unit.tape { before = new.before; after = new.after; tail = new.tail; synced = new.synced; failures = risen unit.tape.failures }

@@ -42,10 +42,20 @@ misled_marks count bytes unit new written.Refused kept refused synced rest wrong
     rw (not_zero count, write_seen (8 * suc count) written.Refused unit.tape (omega arith), shown_refused (8 * suc count) unit.tape (omega arith), refused refl)
     (left unit (sym kept ∙ wrong))
 misled_marks count bytes unit new written.Early kept refused synced rest wrong =
-    rw (not_zero count, write_seen (8 * suc count) written.Early unit.tape (omega arith), shown_fits (8 * suc count) written.Early unit.tape (λ is. not_refused_early is), ← synced)
+    rw (
+      not_zero count,
+      write_seen (8 * suc count) written.Early unit.tape (omega arith),
+      shown_fits (8 * suc count) written.Early unit.tape (λ is. not_refused_early is),
+      ← synced,
+    )
     (rewritten unit new new.synced rest kept wrong)
 misled_marks count bytes unit new written.Whole kept refused synced rest wrong =
-    rw (not_zero count, write_seen (8 * suc count) written.Whole unit.tape (omega arith), shown_fits (8 * suc count) written.Whole unit.tape (λ is. not_refused is), ← synced)
+    rw (
+      not_zero count,
+      write_seen (8 * suc count) written.Whole unit.tape (omega arith),
+      shown_fits (8 * suc count) written.Whole unit.tape (λ is. not_refused is),
+      ← synced,
+    )
     (rewritten unit new new.synced rest kept wrong)
 
 pub marks_done : (count : ℕ) (bytes : List ℕ) (unit : TapeUnitState) (new : TapeState) (ended : Written) (done : Outcome)

@@ -1,5 +1,6 @@
 -- What a store that lies made a tape appear: a tape on which a call tells what it told.
-use Rattle.std.proofs.Common.{◌≡◌, ℕ, zero, suc, ◌+◌, ◌≤◌, ◌<◌, min, nat_lt, List, [], ◌∷◌, ◌++◌, length, take, reverse, replicate, Bool, true, false, IsTrue, not, ◌||◌, if◌then◌else◌, refl, sym, ap, ◌∙◌, arith}
+use Rattle.std.proofs.Common.{◌≡◌, ℕ, zero, suc, ◌+◌, ◌≤◌, ◌<◌, min, nat_lt}
+use Rattle.std.proofs.Common.{List, [], ◌∷◌, ◌++◌, length, take, reverse, replicate, Bool, true, false, IsTrue, not, ◌||◌, if◌then◌else◌, refl, sym, ap, ◌∙◌, arith}
 use Rattle.std.proofs.lemmas.Bool.{false≢true, lt-ltb, le-ltb, le-leb, lt-leb, ltb-false}
 use Rattle.std.proofs.lemmas.List.{take_min, take-append-le, take-take, length-append, length-replicate, length-take, append-nil, reverse-reverse}
 use Rattle.media_tape.specs.Items.{Item, Record, Filemark, size_of}
@@ -125,7 +126,8 @@ flags_seen : (position : ℕ) (early : Bool) (tape : TapeState)
 flags_seen zero early tape = refl
 flags_seen (suc position) true tape =
     rw (not_zero position, lt-ltb 0 (size_of (replicate (suc position) Filemark)) (omega arith)) refl
-flags_seen (suc position) false tape = rw (not_zero position, le-ltb (size_of (replicate (suc position) Filemark)) (size_of (replicate (suc position) Filemark)) (omega arith)) refl
+flags_seen (suc position) false tape =
+    let size = size_of (replicate (suc position) Filemark) in rw (not_zero position, le-ltb size size (omega arith)) refl
 
 pub position_seen : (position : ℕ) (early : Bool) (tape : TapeState)
     → position_data position early ≡ position_data (length (replicate position Filemark)) (is_early (showing (position_shown position early) tape))

@@ -15,7 +15,8 @@ use Rattle.scsi_tape.proofs.Trusted.{sure_came}
 use Rattle.scsi_unit.specs.Device.{DeviceState, Disk, Tape, StoreState, store_of, IsSteady}
 use Rattle.scsi_unit.specs.DiskCame.{DiskCame, DiskTouch, is_disk_possible, can_fail}
 use Rattle.scsi_unit.specs.DiskCame as disk_way
-use Rattle.scsi_unit.specs.CameOut.{CameOut, AsDefined, on_disk, on_tape, disk_came, tape_came, Touch, Nothing, OnDisk, OnTape, touches, way, disk_store, tape_store, store_after}
+use Rattle.scsi_unit.specs.CameOut.{CameOut, AsDefined, on_disk, on_tape, disk_came, tape_came, Touch, Nothing, OnDisk, OnTape, touches, way}
+use Rattle.scsi_unit.specs.CameOut.{disk_store, tape_store, store_after}
 use Rattle.scsi_unit.specs.State.{UnitState}
 use Rattle.scsi_unit.specs.Checks.{judged}
 use Rattle.scsi_unit.specs.Unit.{IsPerformed, touch_by, touch_where, touch_at}
@@ -28,7 +29,7 @@ pub disk_back : (came : DiskCame) → disk_came (on_disk came) ≡ came
 disk_back disk_way.AsDefined = refl
 disk_back (disk_way.Dishonest shown left) = refl
 disk_back (disk_way.ReadFailed honest) = refl
-disk_back (disk_way.WriteFailed left synced honest) = refl
+disk_back (disk_way.WriteFailed left honest) = refl
 
 pub tape_back : (came : TapeCame) → tape_came (on_tape came) ≡ came
 tape_back tape_way.AsDefined = refl
@@ -69,7 +70,7 @@ disk_touched (disk_way.Dishonest shown left) touch disk possible =
     by_either false writes syncs is = or_left writes syncs is
 disk_touched (disk_way.ReadFailed honest) touch disk possible =
     inr (or_left (is_some touch.reads) _ (and_parts _ _ (and_parts _ _ possible).1).0)
-disk_touched (disk_way.WriteFailed left synced honest) touch disk possible =
+disk_touched (disk_way.WriteFailed left honest) touch disk possible =
     inr (or_right (is_some touch.reads) _ (and_parts _ _ (and_parts _ _ possible).1).0)
 
 tape_touched : (came : TapeCame) (command : TapeCommand) (bytes : List ℕ) (tape : TapeState) → is_tape_possible came command bytes tape ≡ true
@@ -105,7 +106,7 @@ disk_sure : (came : DiskCame) (touch : DiskTouch) (disk : DiskState) → is_disk
 disk_sure disk_way.AsDefined touch disk possible honest steady = refl
 disk_sure (disk_way.Dishonest shown left) touch disk possible honest steady = absurd (disk_surely disk _ possible honest steady)
 disk_sure (disk_way.ReadFailed is) touch disk possible honest steady = absurd (disk_surely disk _ possible honest steady)
-disk_sure (disk_way.WriteFailed left synced is) touch disk possible honest steady = absurd (disk_surely disk _ possible honest steady)
+disk_sure (disk_way.WriteFailed left is) touch disk possible honest steady = absurd (disk_surely disk _ possible honest steady)
 
 command_sure : (came : CameOut) (bytes : List ℕ) (device : DeviceState) (command : Command)
     → way came (touch_by bytes device command) ≡ came → IsSteady (store_of device) → came ≡ AsDefined
@@ -132,7 +133,7 @@ disk_trusted : (came : DiskCame) (old : StoreState) → IsTrustedStore old (disk
 disk_trusted disk_way.AsDefined old trusted = refl
 disk_trusted (disk_way.Dishonest shown left) old trusted = absurd (false≢true trusted.honest)
 disk_trusted (disk_way.ReadFailed honest) old trusted = absurd (omega (arith, trusted.none.same, trusted.none.known))
-disk_trusted (disk_way.WriteFailed left synced honest) old trusted = absurd (omega (arith, trusted.none.same, trusted.none.known))
+disk_trusted (disk_way.WriteFailed left honest) old trusted = absurd (omega (arith, trusted.none.same, trusted.none.known))
 
 tape_trusted : (came : TapeCame) (old : StoreState) → IsTrustedStore old (tape_store came old) → came ≡ tape_way.AsDefined
 tape_trusted tape_way.AsDefined old trusted = refl
@@ -145,7 +146,7 @@ disk_was_sound : (came : DiskCame) (old : StoreState) → IsSoundStore (disk_sto
 disk_was_sound disk_way.AsDefined old sound = sound
 disk_was_sound (disk_way.Dishonest shown left) old sound = absurd (false≢true sound.honest)
 disk_was_sound (disk_way.ReadFailed honest) old sound = absurd (omega (arith, sound.unfailed))
-disk_was_sound (disk_way.WriteFailed left synced honest) old sound = absurd (omega (arith, sound.unfailed))
+disk_was_sound (disk_way.WriteFailed left honest) old sound = absurd (omega (arith, sound.unfailed))
 
 tape_was_sound : (came : TapeCame) (old : StoreState) → IsSoundStore (tape_store came old) → IsSoundStore old
 tape_was_sound tape_way.AsDefined old sound = sound

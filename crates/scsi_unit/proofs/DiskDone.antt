@@ -14,7 +14,7 @@ use Rattle.scsi_unit.specs.Device.{DiskUnit}
 use Rattle.scsi_unit.specs.DiskCame.{AsDefined, Dishonest, ReadFailed, WriteFailed, Shown, is_below, are_shown}
 use Rattle.scsi_unit.specs.DiskCommands.{IsDiskDone, shown, compared, miscompare, told_of, disk_defined, touch_of, unrecovered_read, write_error}
 use Rattle.scsi_unit.specs.DiskWrites.{IsWritten, IsTorn}
-use Rattle.scsi_unit.proofs.Possible.{can_be_so, may_fail, all_left, others_left}
+use Rattle.scsi_unit.proofs.DiskCame.{can_be_so, may_fail, all_left, others_left}
 
 abbrev pub with_disk : DiskUnit → DiskState → DiskUnit
 with_disk unit disk = record unit { disk = disk }
@@ -55,7 +55,8 @@ module _ (command : DiskCommand) (bytes : List ℕ) (unit : DiskUnit) where
     came = Dishonest seen unit.disk.blocks;
     possible = and_from _ _ (may_fail unit.disk (λ steady honest. false≢true (sym is ∙ ap (λ (disk : DiskState). disk.honest) (sure steady honest) ∙ honest)))
         (and_from _ _ (or_left (is_some (touch_of command).reads) _ reads)
-        (and_from _ _ (can_be_so (touch_of command) unit.disk.honest false (λ honest. absurd (false≢true honest)) (λ none. absurd (false≢true (sym none ∙ reads))))
+        (and_from _ _ (can_be_so (touch_of command) unit.disk.honest false (λ honest. absurd (false≢true honest))
+        (λ none. absurd (false≢true (sym none ∙ reads))))
         (and_from _ _ bounded (all_left (touch_of command).writes false unit.disk.blocks))));
     disk =
         ap (with_disk unit) (same ∙ ap (λ (h : Bool). record unit.disk { honest = h }) is)
@@ -111,12 +112,12 @@ module _ (command : DiskCommand) (bytes : List ℕ) (unit : DiskUnit) where
         let blocks : mid.blocks ≡ unit.disk.blocks = ap (λ (d : DiskState). d.blocks) same in
         let left = others_left range mid.honest unit.disk.blocks new.blocks (λ honest. rw blocks at (torn.others honest)) (torn.as_many ∙ ap length blocks) in
         record {
-          came = WriteFailed new.blocks new.synced mid.honest;
+          came = WriteFailed new.blocks mid.honest;
           possible = and_from _ _ (may_fail unit.disk sure)
               (and_from _ _ (rw writes refl)
               (and_from _ _ (can_be_so (touch_of command) unit.disk.honest mid.honest back kept) (rw writes left)));
-          disk = ap (λ (d : DiskState). record unit { disk = d; is_ready = false }) (torn.rest
-              ∙ ap (λ (d : DiskState). record d { blocks = new.blocks; synced = new.synced; failures = risen d.failures }) same);
+          disk = rw writes (ap (λ (d : DiskState). record unit { disk = d; is_ready = false }) (torn.rest
+              ∙ ap (λ (d : DiskState). record d { blocks = new.blocks; synced = false; failures = risen d.failures }) same));
           told = refl;
         }
 
@@ -145,7 +146,8 @@ module _ (command : DiskCommand) (bytes : List ℕ) (unit : DiskUnit) where
         let left = others_left range false unit.disk.blocks new.blocks (λ honest. absurd (false≢true honest)) (written.as_many ∙ ap length blocks) in
         record {
           came = Dishonest seen new.blocks;
-          possible = and_from _ _ (may_fail unit.disk (λ steady honest. false≢true (sym is ∙ ap (λ (disk : DiskState). disk.honest) (sure steady honest) ∙ honest)))
+          possible = and_from _ _
+              (may_fail unit.disk (λ steady honest. false≢true (sym is ∙ ap (λ (disk : DiskState). disk.honest) (sure steady honest) ∙ honest)))
               (and_from _ _ (or_right (is_some (touch_of command).reads) _ (rw writes refl))
               (and_from _ _ (can_be_so (touch_of command) unit.disk.honest false (λ honest. absurd (false≢true honest)) (λ none. sym is ∙ kept none))
               (and_from _ _ bounded (rw writes left))));
@@ -202,7 +204,8 @@ pub verify_given : (range : Range) (bytes : List ℕ) (unit : DiskUnit) (new : D
     → is_below found (block_length * range.count) ≡ true
     → IsDiskDone (VerifyData range) bytes unit (with_disk unit new) (compared (block_length * range.count) found)
 verify_given range bytes unit new found some same back sure agreed within =
-    compare_given (VerifyData range) bytes unit (differing range found) new _ new.honest refl (rw some refl) (rw some (differing_shown range found within)) same back sure agreed
+    compare_given (VerifyData range) bytes unit (differing range found) new _ new.honest refl (rw some refl)
+    (rw some (differing_shown range found within)) same back sure agreed
     (λ seen is. refl) (λ seen is. ap (compared (block_length * range.count)) is)
 
 -- ---- WRITE
@@ -287,7 +290,7 @@ pub sync_failed : (range : Range) (bytes : List ℕ) (unit : DiskUnit) (new : Di
     → (IsTrue unit.disk.steady → IsTrue unit.disk.honest → ⊥)
     → IsDiskDone (SynchronizeCache range) bytes unit (record (with_disk unit new) { is_ready = false }) (check_condition write_error)
 sync_failed range bytes unit new is sure = record {
-  came = WriteFailed unit.disk.blocks unit.disk.synced unit.disk.honest;
+  came = WriteFailed unit.disk.blocks unit.disk.honest;
   possible = and_from _ _ (may_fail unit.disk sure)
       (and_from _ _ refl (and_from _ _ (can_be_so (touch_of (SynchronizeCache range)) unit.disk.honest unit.disk.honest (λ honest. honest) (λ none. refl))
       (all_left None unit.disk.honest unit.disk.blocks)));

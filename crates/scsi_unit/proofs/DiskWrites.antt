@@ -40,12 +40,12 @@ module _ (first count : ℕ) (others : List (List ℕ)) (old mid new : DiskState
   }
 
   pub write_torn : (IsTrue old.honest → KeepsOthers first count old.blocks new.blocks) → length new.blocks ≡ length old.blocks
-      → new.failures ≡ risen old.failures → new.honest ≡ old.honest → new.steady ≡ old.steady
+      → new.synced ≡ false → new.failures ≡ risen old.failures → new.honest ≡ old.honest → new.steady ≡ old.steady
       → IsTorn first count old new
-  write_torn kept many failures honest steady = record {
+  write_torn kept many synced failures honest steady = record {
     others = kept;
     as_many = many;
-    rest = rw (← failures, ← honest, ← steady) refl;
+    rest = rw (← synced, ← failures, ← honest, ← steady) refl;
   }
 
   -- and then a sync
@@ -61,5 +61,5 @@ module _ (first count : ℕ) (others : List (List ℕ)) (old mid new : DiskState
   sync_torn written many within is = rw is (record {
     others = λ honest. rw (written.blocks honest) (kept_by_replaced first count others old.blocks many within);
     as_many = written.as_many;
-    rest = ap (λ (d : DiskState). record d { blocks = mid.blocks; synced = mid.synced; failures = risen d.failures }) written.rest;
+    rest = ap (λ (d : DiskState). record d { failures = risen d.failures }) written.rest;
   })

@@ -2,7 +2,7 @@ pub mod Lists
 pub mod Numbers
 pub mod Places
 pub mod CameOut
-pub mod Possible
+pub mod DiskCame
 pub mod DiskDone
 pub mod DiskWrites
 pub mod Performed

@@ -15,7 +15,7 @@ use Rattle.scsi_unit.specs.Device.{DiskUnit, Disk, Tape, StoreState, store_of}
 use Rattle.scsi_unit.specs.DiskCame.{DiskCame, Shown, shown_by, disk_after}
 use Rattle.scsi_unit.specs.DiskCame as disk_way
 use Rattle.scsi_unit.specs.CameOut.{CameOut, AsDefined, on_disk, tape_came, Touch, disk_store, store_after}
-use Rattle.scsi_unit.specs.DiskCommands.{IsDiskDone, disk_defined, written_where, shown}
+use Rattle.scsi_unit.specs.DiskCommands.{IsDiskDone, touch_of, disk_defined, written_where, shown}
 use Rattle.scsi_unit.specs.TapeCommands.{tape_performed}
 use Rattle.scsi_unit.specs.State.{UnitState}
 use Rattle.scsi_unit.specs.Unit.{touch_by, carried_out, IsPerformed}
@@ -57,12 +57,13 @@ defined_facts seen bytes (WriteSame range) disk = facts_by (nat_lt 0 range.count
 defined_facts seen bytes (CompareAndWrite range force_unit_access) disk = where_facts seen.difference range force_unit_access bytes disk
 
 store_same : (came : DiskCame) (seen : Shown) (bytes : List ℕ) (command : DiskCommand) (disk : DiskUnit)
-    → store_of (Disk (disk_after came (disk_defined (shown_by came seen) bytes command disk.disk) disk)) ≡ disk_store came (store_of (Disk disk))
+    → store_of (Disk (disk_after came (touch_of command) (disk_defined (shown_by came seen) bytes command disk.disk) disk))
+    ≡ disk_store came (store_of (Disk disk))
 store_same disk_way.AsDefined seen bytes command disk = defined_facts seen bytes command disk.disk
 store_same (disk_way.Dishonest shown left) seen bytes command disk =
     ap (λ (store : StoreState). record store { honest = false }) (defined_facts shown bytes command disk.disk)
 store_same (disk_way.ReadFailed honest) seen bytes command disk = refl
-store_same (disk_way.WriteFailed left synced honest) seen bytes command disk = refl
+store_same (disk_way.WriteFailed left honest) seen bytes command disk = refl
 
 module _ (command : DiskCommand) (bytes : List ℕ) (nexus : NexusName) (unit : UnitState) where
   pub disk_did : (disk after : DiskUnit) (new : UnitState) (done : Outcome) → unit.device ≡ Disk disk → new ≡ record unit { device = Disk after }

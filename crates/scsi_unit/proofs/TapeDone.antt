@@ -103,5 +103,6 @@ tape_did command bytes nexus unit on after done is did =
 pub tape_did_to : (command : TapeCommand) (bytes : List ℕ) (nexus : NexusName) (unit : UnitState) (on after : TapeUnitState) (new : UnitState)
     (done : Outcome) → unit.device ≡ Tape on → IsTapeDone command bytes on after done
     → new ≡ record unit { device = Tape after; joined = told_by nexus unit command on.tape.is_loaded }
-    → IsPerformed (touch_by bytes unit.device (to.Tape command)) (λ (came : CameOut). tape_performed (tape_came came) nexus bytes unit unit.device command) unit new done
+    → IsPerformed (touch_by bytes unit.device (to.Tape command)) (λ (came : CameOut). tape_performed (tape_came came) nexus bytes unit unit.device command)
+    unit new done
 tape_did_to command bytes nexus unit on after new done is did same = rw same (tape_did command bytes nexus unit on after done is did)

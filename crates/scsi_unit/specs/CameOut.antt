@@ -21,7 +21,7 @@ abbrev pub on_disk : DiskCame → CameOut
 on_disk disk_way.AsDefined = AsDefined
 on_disk (disk_way.Dishonest shown left) = OfDisk (disk_way.Dishonest shown left)
 on_disk (disk_way.ReadFailed honest) = OfDisk (disk_way.ReadFailed honest)
-on_disk (disk_way.WriteFailed left synced honest) = OfDisk (disk_way.WriteFailed left synced honest)
+on_disk (disk_way.WriteFailed left honest) = OfDisk (disk_way.WriteFailed left honest)
 
 abbrev pub on_tape : TapeCame → CameOut
 on_tape tape_way.AsDefined = AsDefined
@@ -65,7 +65,7 @@ abbrev pub disk_store : DiskCame → StoreState → StoreState
 disk_store disk_way.AsDefined store = store
 disk_store (disk_way.Dishonest shown left) store = record store { honest = false }
 disk_store (disk_way.ReadFailed honest) store = record store { failures = risen store.failures; honest = honest }
-disk_store (disk_way.WriteFailed left synced honest) store = record store { failures = risen store.failures; honest = honest }
+disk_store (disk_way.WriteFailed left honest) store = record store { failures = risen store.failures; honest = honest }
 
 abbrev pub tape_store : TapeCame → StoreState → StoreState
 tape_store tape_way.AsDefined store = store

@@ -1,5 +1,6 @@
 -- How a command to a disk came out, as its store has it.
-use Rattle.std.specs.Prelude.{ℕ, ◌+◌, ◌*◌, ◌==◌, nat_lt, List, [], ◌∷◌, length, take, drop, Bool, true, false, ◌&&◌, ◌||◌, not, Option, Some, None, is_some, if◌then◌else◌}
+use Rattle.std.specs.Prelude.{ℕ, ◌+◌, ◌*◌, ◌==◌, nat_lt, List, [], ◌∷◌, length, take, drop}
+use Rattle.std.specs.Prelude.{Bool, true, false, ◌&&◌, ◌||◌, not, Option, Some, None, is_some, if◌then◌else◌}
 use Rattle.media_store.specs.Failures.{risen}
 use Rattle.media_block.specs.Blocks.{DiskState, block_length}
 use Rattle.scsi_cdb.specs.Range.{Range}
@@ -18,27 +19,15 @@ pub data DiskCame : Type 0 where
   Dishonest : (shown : Shown) (left : List (List ℕ)) → DiskCame
   -- a read failed, and the store is honest after it or not
   ReadFailed : (honest : Bool) → DiskCame
-  -- a write or a sync failed, and these are the blocks after it, synced or not; the store is honest after it or not
-  WriteFailed : (left : List (List ℕ)) (synced honest : Bool) → DiskCame
+  -- a write or a sync failed, and these are the blocks after it; the store is honest after it or not
+  WriteFailed : (left : List (List ℕ)) (honest : Bool) → DiskCame
 
 -- own: what its store showed, where it should have shown this
 abbrev pub shown_by : DiskCame → Shown → Shown
 shown_by AsDefined truth = truth
 shown_by (Dishonest shown left) truth = shown
 shown_by (ReadFailed honest) truth = truth
-shown_by (WriteFailed left synced honest) truth = truth
-
--- own: the disk after it, where by its definition what was shown leaves this one
-abbrev pub disk_after : DiskCame → DiskState → DiskUnit → DiskUnit
-disk_after AsDefined defined disk = record disk { disk = defined }
-disk_after (Dishonest shown left) defined disk = record disk { disk = record defined { blocks = left; honest = false } }
-disk_after (ReadFailed honest) defined disk =
-    record disk { disk = record disk.disk { failures = risen disk.disk.failures; honest = honest } }
-disk_after (WriteFailed left synced honest) defined disk =
-    record disk {
-      disk = record disk.disk { blocks = left; synced = synced; failures = risen disk.disk.failures; honest = honest };
-      is_ready = false;
-    }
+shown_by (WriteFailed left honest) truth = truth
 
 -- own: what a command does with its medium: which blocks it reads and which it writes, one at least, and whether it waits
 -- until all is on the medium and does no more
@@ -49,6 +38,23 @@ pub record DiskTouch : Type 0 where
 
 abbrev pub no_touch : DiskTouch
 no_touch = record { reads = None; writes = None; syncs = false }
+
+-- own: the disk after it, where by its definition what was shown leaves this one; behind a write that failed it is not synced
+abbrev pub disk_after : DiskCame → DiskTouch → DiskState → DiskUnit → DiskUnit
+disk_after AsDefined touch defined disk = record disk { disk = defined }
+disk_after (Dishonest shown left) touch defined disk = record disk { disk = record defined { blocks = left; honest = false } }
+disk_after (ReadFailed honest) touch defined disk =
+    record disk { disk = record disk.disk { failures = risen disk.disk.failures; honest = honest } }
+disk_after (WriteFailed left honest) touch defined disk =
+    record disk {
+      disk = record disk.disk {
+        blocks = left;
+        synced = if is_some touch.writes then false else disk.disk.synced;
+        failures = risen disk.disk.failures;
+        honest = honest;
+      };
+      is_ready = false;
+    }
 
 -- ---- what can be
 
@@ -99,6 +105,6 @@ is_disk_possible (Dishonest shown left) touch disk =
     can_fail disk && ((is_some touch.reads || is_some touch.writes) && (can_be touch disk.honest false
     && (are_shown touch.reads shown && are_left touch.writes false disk.blocks left)))
 is_disk_possible (ReadFailed honest) touch disk = can_fail disk && (is_some touch.reads && can_be touch disk.honest honest)
-is_disk_possible (WriteFailed left synced honest) touch disk =
+is_disk_possible (WriteFailed left honest) touch disk =
     can_fail disk && ((is_some touch.writes || touch.syncs)
     && (can_be touch disk.honest honest && are_left touch.writes honest disk.blocks left))

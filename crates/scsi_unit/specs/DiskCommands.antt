@@ -111,7 +111,7 @@ abbrev pub disk_told : DiskCame → Shown → List (List ℕ) → DiskCommand �
 disk_told AsDefined truth blocks command = told_of truth blocks command
 disk_told (Dishonest shown left) truth blocks command = told_of shown blocks command
 disk_told (ReadFailed honest) truth blocks command = check_condition unrecovered_read
-disk_told (WriteFailed left synced honest) truth blocks command = check_condition write_error
+disk_told (WriteFailed left honest) truth blocks command = check_condition write_error
 
 -- ---- what is changed
 
@@ -165,7 +165,7 @@ pub record IsDiskDone (command : DiskCommand) (bytes : List ℕ) (old new : Disk
   pub possible : IsTrue (is_disk_possible came (touch_of command) old.disk)
   pub disk :
       let shown = shown_by came (shown old.disk.blocks bytes command) in
-      new ≡ disk_after came (disk_defined shown bytes command old.disk) old
+      new ≡ disk_after came (touch_of command) (disk_defined shown bytes command old.disk) old
   pub told : done ≡ disk_told came (shown old.disk.blocks bytes command) old.disk.blocks command
 
 -- profile: a command gives no more data than the longest READ, in bytes

@@ -1,5 +1,5 @@
 -- What calls that write did to a disk.
-use Rattle.std.specs.Prelude.{◌≡◌, ℕ, List, length, Bool, IsTrue}
+use Rattle.std.specs.Prelude.{◌≡◌, ℕ, List, length, Bool, false, IsTrue}
 use Rattle.media_store.specs.Failures.{risen}
 use Rattle.media_block.specs.Blocks.{DiskState, replaced, KeepsOthers}
 
@@ -13,4 +13,4 @@ pub record IsWritten (first : ℕ) (others : List (List ℕ)) (synced : Bool) (o
 pub record IsTorn (first count : ℕ) (old new : DiskState) : Type 0 where
   pub others : IsTrue old.honest → KeepsOthers first count old.blocks new.blocks
   pub as_many : length new.blocks ≡ length old.blocks
-  pub rest : new ≡ record old { blocks = new.blocks; synced = new.synced; failures = risen old.failures }
+  pub rest : new ≡ record old { blocks = new.blocks; synced = false; failures = risen old.failures }

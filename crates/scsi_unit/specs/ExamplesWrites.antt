@@ -126,7 +126,7 @@ torn = zeros ∷ zeros ∷ zeros ∷ (replicate 100 0x55 ++ replicate 412 0) ∷
 abbrev failed : UnitState
 failed = unit_of (record the_disk { disk = record the_disk.disk { blocks = torn; failures = 1 }; is_ready = false })
 
-write_fails : (performed_as (on_disk (WriteFailed torn false true)) a (command_10 0x2a 0 3 1) fives the_unit ≡ (failed, check_condition write_error))
+write_fails : (performed_as (on_disk (WriteFailed torn true)) a (command_10 0x2a 0 3 1) fives the_unit ≡ (failed, check_condition write_error))
     × ((perform_at a (command_10 0x28 0 0 1) [] failed).1 ≡ check_condition target_failure)
     × ((perform_at a (command_10 0x2a 0 3 1) fives failed).1 ≡ check_condition target_failure)
     × ((perform_at a (command_10 0x2f 0 0 0) [] failed).1 ≡ check_condition target_failure)

@@ -100,7 +100,7 @@ unit_done nexus bytes unit (ModeSelect fields) =
 abbrev pub disk_done : DiskCame → List ℕ → UnitState → DeviceState → DiskCommand → UnitState × Outcome
 disk_done came bytes unit (Disk disk) command =
     let truth = shown disk.disk.blocks bytes command in (
-      record unit { device = Disk (disk_after came (disk_defined (shown_by came truth) bytes command disk.disk) disk) },
+      record unit { device = Disk (disk_after came (touch_of command) (disk_defined (shown_by came truth) bytes command disk.disk) disk) },
       disk_told came truth disk.disk.blocks command,
     )
 disk_done came bytes unit (Tape tape) command = (unit, check_condition invalid_operation_code)

@@ -1,7 +1,7 @@
 use Rattle.std.proofs.lemmas.Bool.{lt-ltb}
 use Rattle.media_block.specs.Blocks.{blocks_of}
 use Rattle.media_block.proofs.Blocks.{length-blocks_of}
-use Rattle.scsi_unit.proofs.DiskWrites.{on_err_always, not_none, write_done, sync_torn}
+use Rattle.scsi_unit.proofs.DiskWrites.{on_err_always, not_none, write_done, write_torn, sync_torn}
 use Rattle.scsi_unit.proofs.disk_writes.write_through.Goals as goal
 
 pub returns-in_err-sync-clause-torn : goal.returns-in_err-sync-clause-torn
@@ -16,3 +16,13 @@ returns-in_err-sync-clause-torn g c =
     (write_done c.args.first count others disk disk c.write.new.self (rw c.from.ensures at done.written) done.length
     (rw (c.from.ensures, some) at done.synced) done.failures done.honest done.steady)
     (length-blocks_of count c.args.bytes.now) c.requires.range c.in_err-sync.ensures.disk)
+
+pub returns-in_err-write-clause-torn : goal.returns-in_err-write-clause-torn
+returns-in_err-write-clause-torn g c =
+    let count = c.args.count in
+    let disk = c.args.disk.now in
+    let failed = c.in_err-write.ensures in
+    let some = not_none count (lt-ltb 0 count c.requires.some) in
+    on_err_always c.from_residual.result
+    (write_torn c.args.first count (blocks_of count c.args.bytes.now) disk disk c.write.new.self (rw c.from.ensures at failed.torn) failed.length
+    (rw (c.from.ensures, some) at failed.synced) failed.failures failed.honest failed.steady)

@@ -18,7 +18,8 @@ returns-clause-done g c bytes =
     let unit : TapeUnitState = record { tape = c.self.inside.tape; is_working = c.self.inside.is_working } in
     let new = c.space.new.self in
     let count = c.args.distance.count in
-    let same : (tape : TapeState) → spaced_told c.toward.result c.over.result count tape ≡ spaced_told (toward c.args.distance) (over_of c.args.code) count tape =
+    let same : (tape : TapeState) → spaced_told c.toward.result c.over.result count tape
+    ≡ spaced_told (toward c.args.distance) (over_of c.args.code) count tape =
     λ tape. ap (λ (way : Direction). spaced_told way c.over.result count tape) c.toward.ensures
     ∙ ap (λ (over : Over). spaced_told (toward c.args.distance) over count tape) c.over.ensures in
     rw (← c.self.view_is) (elim c.match-space.branch [

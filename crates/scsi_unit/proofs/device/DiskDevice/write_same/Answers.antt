@@ -27,5 +27,6 @@ returns-in-Err-clause-done g c =
     rw (c.write_failed.ensures.told, c.write_failed.ensures.disk)
     (same_failed range c.args.«data».now (disk_view c.args.self.now) c.same.new.self some
     (write_torn range.first range.count (replicate range.count (take block_length c.args.«data».now)) disk disk c.same.new.self
-    (rw (c.from.ensures, c.count.ensures.value, c.first.ensures) at done.torn) done.length done.failures done.honest done.steady)
+    (rw (c.from.ensures, c.count.ensures.value, c.first.ensures) at done.torn) done.length
+    (rw (c.from.ensures, c.count.ensures.value, not_none range.count some) at done.synced) done.failures done.honest done.steady)
     (λ steady honest. false≢true (done.succeeds steady honest)))

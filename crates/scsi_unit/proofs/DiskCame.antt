@@ -1,4 +1,4 @@
--- What can be passes the test.
+-- How a command to a disk can come out: what can be passes the test.
 use Rattle.std.proofs.Common.{◌≡◌, ℕ, ◌+◌, List, [], ◌∷◌, Bool, true, false, IsTrue, Option, Some, None, ◌&&◌, ◌||◌, not, refl}
 use Rattle.std.specs.Prelude.{length, take, drop, is_some, if◌then◌else◌}
 use Rattle.std.proofs.lemmas.Bool.{false≢true, eq-eqb, and_from}
