@@ -10,13 +10,14 @@
 //! Promised of a command, where the store is honest and no call of it failed, or before it is honest and steady
 //! with room for the capacity (`is_steady`), as one in memory: the tape after it and what is told are those of the
 //! definitions `tape_left` and `tape_outcome`, a line for each command. What may come of any other is one of three
-//! ways (`TapeCame`): the store is not honest, and what is told is open; a read failed, which is told as UNRECOVERED
-//! READ ERROR and changes nothing; a write, a cut or a sync failed, which is told as WRITE ERROR and leaves the
-//! items before the position, and the unit does not work until it is opened again ([`TapeUnit::not_ready`]). Behind
-//! WRITE FILEMARKS that is answered GOOD, or with the early warning, the store is synced.
+//! ways (`TapeCame`): the store is not honest, and showed a tape, of which is told what the command is told on it; a
+//! read failed, which is told as UNRECOVERED READ ERROR and changes nothing; a write, a cut or a sync failed, which is
+//! told as WRITE ERROR and leaves the items before the position, and the unit does not work until it is opened again
+//! ([`TapeUnit::not_ready`]). A command comes out so only by what it does with its medium (`tape_touch`). Behind WRITE
+//! FILEMARKS that is answered GOOD, or with the early warning, the store is synced, whether it is honest or not.
 //!
-//! No command takes memory: what gives data has a buffer handed in, with the room that
-//! [`room_needed`] tells. A record lies there as it is sent.
+//! What gives data has a buffer handed in, with the room that [`room_needed`] tells. A record lies there as it is
+//! sent.
 #![tactic(auto)]
 
 mod positioning;

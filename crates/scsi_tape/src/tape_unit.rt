@@ -111,8 +111,7 @@ impl<S: Store> TapeUnit<S> {
     }
 
     /// A command with the data that it needs. The data that it gives lies in the buffer, which is empty and has the
-    /// room that [`room_needed`] tells; where none is given the buffer is left. Where the store fails it is told so. It
-    /// takes no memory.
+    /// room that [`room_needed`] tells; where none is given the buffer is left. Where the store fails it is told so.
     pub fn carry_out(
         &mut self,
         alloc: Global,

@@ -17,10 +17,10 @@
 //! medium, or the store is steady, whatever else holds. What may come of any other is one of four ways
 //! (`CameOut`): as defined; the store is not honest, and the command did what follows from what it showed; a
 //! read failed, which is told as UNRECOVERED READ ERROR and changes nothing; a write or a sync failed, which is
-//! told as WRITE ERROR, leaves the blocks of its range open, and the unit is not ready until it is opened
-//! again. A fault is told only where the store's count of failures rose. The other units are as before. Behind
-//! SYNCHRONIZE CACHE with GOOD, and WRITE or COMPARE AND WRITE with GOOD that wrote a block with FUA, the
-//! store is synced.
+//! told as WRITE ERROR, leaves the blocks of its range open, or the items before the position of a tape, and the
+//! unit is not ready until it is opened again. A fault is told only where the store's count of failures rose. The
+//! other units are as before. Behind SYNCHRONIZE CACHE with GOOD, and WRITE or COMPARE AND WRITE with GOOD that wrote
+//! a block with FUA, the store is synced.
 //!
 //! Where an allocation fails nothing changes. The data of a write goes to the store from where it lies.
 #![tactic(auto)]
