@@ -16,7 +16,7 @@ demo-proved: build
 
 # Proves every crate, builds targetd and leaves it at crates/targetd/out/targetd.
 build:
-	@echo "== proving every crate and building targetd. It took 67 minutes on four processors of 2.5 GHz"
+	@echo "== proving every crate and building targetd. It took 39 minutes on four processors of 2.5 GHz"
 	@./tools/build
 
 # Puts the program, its pages, an example and a systemd unit below DESTDIR and PREFIX. Nothing outside them is touched.
@@ -32,7 +32,7 @@ uninstall:
 	@./tools/install --remove "$(PREFIX)" "$(DESTDIR)"
 
 # The gate: the proofs, the wrong bodies, the cases, sockets, initiators, failing calls, the pages. On four processors
-# it takes 40 to 90 minutes, by their speed.
+# it takes 25 to 60 minutes, by their speed.
 test:
 	@./tools/test
 
