@@ -32,7 +32,7 @@ uninstall:
 	@./tools/install --remove "$(PREFIX)" "$(DESTDIR)"
 
 # The gate: the proofs, the wrong bodies, the cases, sockets, initiators, failing calls, the pages. On four processors
-# it takes 25 to 60 minutes, by their speed.
+# it takes 30 to 70 minutes, by their speed.
 test:
 	@./tools/test
 
