@@ -11,10 +11,10 @@ use thiserror::Error;
 pub enum PduFault {
     /// 1: a header names a data segment of more than 262144 bytes.
     #[error("a data segment of more than 262144 bytes")]
-    TooLong,
+    TooLong = 1,
     /// 2: an allocation failed. The value that was called is as it was before.
     #[error("out of memory")]
-    Memory,
+    Memory = 2,
 }
 
 impl PduFault {
@@ -24,10 +24,7 @@ impl PduFault {
     pub fn number(&self) -> u8
         ensures { result ≡ fault_number self.now }
     {
-        match self {
-            PduFault::TooLong => 1,
-            PduFault::Memory => 2,
-        }
+        *self as u8
     }
 }
 

@@ -38,17 +38,17 @@ pub enum LoginReply {
 #[derive(Clone, Copy, Debug, PartialEq, Eq)]
 pub enum LoginRefusal {
     /// 0200h
-    InitiatorError,
+    InitiatorError = 0x0200,
     /// 0203h
-    TargetNotFound,
+    TargetNotFound = 0x0203,
     /// 0205h
-    UnsupportedVersion,
+    UnsupportedVersion = 0x0205,
     /// 0206h
-    TooManyConnections,
+    TooManyConnections = 0x0206,
     /// 0207h
-    MissingParameter,
+    MissingParameter = 0x0207,
     /// 020Ah
-    SessionDoesNotExist,
+    SessionDoesNotExist = 0x020A,
 }
 
 /// The login goes on: status 0000h.
@@ -91,14 +91,7 @@ impl LoginRefusal {
     pub fn code(self) -> u16
         ensures { result ≡ refusal_code self }
     {
-        match self {
-            LoginRefusal::InitiatorError => 0x0200,
-            LoginRefusal::TargetNotFound => 0x0203,
-            LoginRefusal::UnsupportedVersion => 0x0205,
-            LoginRefusal::TooManyConnections => 0x0206,
-            LoginRefusal::MissingParameter => 0x0207,
-            LoginRefusal::SessionDoesNotExist => 0x020A,
-        }
+        self as u16
     }
 }
 

@@ -18,11 +18,11 @@ const FINAL: u8 = 0x80;
 #[derive(Clone, Copy, Debug, PartialEq, Eq)]
 pub enum LogoutResult {
     /// 0: the connection or the session is closed.
-    Closed,
+    Closed = 0,
     /// 1: the session has no connection with this CID.
-    CidNotFound,
+    CidNotFound = 1,
     /// 2: connection recovery is not supported.
-    NoRecovery,
+    NoRecovery = 2,
 }
 
 /// The answer to a Logout Request (RFC 7143 §11.15). Time2Wait and Time2Retain are 0.
@@ -41,11 +41,7 @@ impl LogoutResult {
     fn code(self) -> u8
         ensures { result ≡ logout_code self }
     {
-        match self {
-            LogoutResult::Closed => 0,
-            LogoutResult::CidNotFound => 1,
-            LogoutResult::NoRecovery => 2,
-        }
+        self as u8
     }
 }
 

@@ -22,13 +22,13 @@ const NO_TASK_TAG: u32 = 0xffff_ffff;
 #[derive(Clone, Copy, Debug, PartialEq, Eq)]
 pub enum RejectReason {
     /// 03h: SNACK is not supported.
-    Snack,
+    Snack = 0x03,
     /// 05h: the command is not supported.
-    CommandNotSupported,
+    CommandNotSupported = 0x05,
     /// 06h: there are too many immediate commands.
-    TooManyImmediate,
+    TooManyImmediate = 0x06,
     /// 09h: a field of the PDU is invalid.
-    InvalidField,
+    InvalidField = 0x09,
 }
 
 /// The refusal of a PDU (RFC 7143 §11.17).
@@ -47,12 +47,7 @@ impl RejectReason {
     fn code(self) -> u8
         ensures { result ≡ reject_code self }
     {
-        match self {
-            RejectReason::Snack => 0x03,
-            RejectReason::CommandNotSupported => 0x05,
-            RejectReason::TooManyImmediate => 0x06,
-            RejectReason::InvalidField => 0x09,
-        }
+        self as u8
     }
 }
 

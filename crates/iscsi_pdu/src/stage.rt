@@ -6,11 +6,11 @@ ghost use Rattle.std.specs.Prelude.{◌≡◌};
 #[derive(Clone, Copy, Debug, PartialEq, Eq)]
 pub enum Stage {
     /// 0
-    SecurityNegotiation,
+    SecurityNegotiation = 0,
     /// 1
-    OperationalNegotiation,
+    OperationalNegotiation = 1,
     /// 3
-    FullFeaturePhase,
+    FullFeaturePhase = 3,
 }
 
 impl Stage {
@@ -20,11 +20,7 @@ impl Stage {
     pub fn number(self) -> u8
         ensures { result ≡ stage_number self }
     {
-        match self {
-            Stage::SecurityNegotiation => 0,
-            Stage::OperationalNegotiation => 1,
-            Stage::FullFeaturePhase => 3,
-        }
+        self as u8
     }
 
     /// The stage with this number.

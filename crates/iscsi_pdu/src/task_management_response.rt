@@ -18,15 +18,15 @@ const FINAL: u8 = 0x80;
 #[derive(Clone, Copy, Debug, PartialEq, Eq)]
 pub enum TaskResult {
     /// 0: the function is complete.
-    Complete,
+    Complete = 0,
     /// 1: there is no such task.
-    NoTask,
+    NoTask = 1,
     /// 2: there is no such logical unit.
-    NoUnit,
+    NoUnit = 2,
     /// 4: tasks are not reassigned to another connection.
-    NoReassignment,
+    NoReassignment = 4,
     /// 5: the function is not supported.
-    NotSupported,
+    NotSupported = 5,
 }
 
 /// The answer to a Task Management Function Request (RFC 7143 §11.6).
@@ -45,13 +45,7 @@ impl TaskResult {
     fn code(self) -> u8
         ensures { result ≡ task_result_code self }
     {
-        match self {
-            TaskResult::Complete => 0,
-            TaskResult::NoTask => 1,
-            TaskResult::NoUnit => 2,
-            TaskResult::NoReassignment => 4,
-            TaskResult::NotSupported => 5,
-        }
+        self as u8
     }
 }
 

@@ -9,10 +9,10 @@ use thiserror::Error;
 pub enum ServeFault {
     /// 1: a poll.
     #[error("the ports cannot be polled")]
-    Poll,
+    Poll = 1,
     /// 2: an accept.
     #[error("no connection can be accepted")]
-    Accept,
+    Accept = 2,
 }
 
 impl ServeFault {
@@ -22,9 +22,6 @@ impl ServeFault {
     pub fn number(&self) -> u8
         ensures { result ≡ fault_number self.now }
     {
-        match self {
-            ServeFault::Poll => 1,
-            ServeFault::Accept => 2,
-        }
+        *self as u8
     }
 }

@@ -19,15 +19,15 @@ const ENOTSOCK: i32 = 88;
 #[derive(Clone, Copy, Debug, PartialEq, Eq)]
 pub enum SocketFailure {
     /// It would have waited.
-    WouldWait,
+    WouldWait = 1,
     /// A signal came between.
-    Interrupted,
+    Interrupted = 2,
     /// A connection ended before it was accepted, or its network was away. An accept may go on.
-    Passing,
+    Passing = 3,
     /// The system cannot do it now, as for want of descriptors or memory. It says nothing of the socket.
-    Refused,
+    Refused = 4,
     /// What was called is no socket that can do it.
-    Broken,
+    Broken = 5,
 }
 
 impl SocketFailure {
@@ -35,13 +35,7 @@ impl SocketFailure {
     pub(crate) fn number(self) -> u64
         ensures { result ≡ failure_number self }
     {
-        match self {
-            SocketFailure::WouldWait => 1,
-            SocketFailure::Interrupted => 2,
-            SocketFailure::Passing => 3,
-            SocketFailure::Refused => 4,
-            SocketFailure::Broken => 5,
-        }
+        self as u64
     }
 }
 

@@ -12,28 +12,28 @@ use thiserror::Error;
 pub enum TextFault {
     /// A piece has no `=`, or nothing before it.
     #[error("a pair has no key")]
-    NoKey,
+    NoKey = 1,
     /// A key is longer than 63 bytes.
     #[error("a key is longer than 63 bytes")]
-    LongKey,
+    LongKey = 2,
     /// A value is longer than 255 bytes.
     #[error("a value is longer than 255 bytes")]
-    LongValue,
+    LongValue = 3,
     /// No zero byte ends the last pair.
     #[error("the last pair is not ended")]
-    NotTerminated,
+    NotTerminated = 4,
     /// A pair is not UTF-8.
     #[error("a pair is not UTF-8")]
-    NotUtf8,
+    NotUtf8 = 5,
     /// A key comes twice.
     #[error("a key comes twice")]
-    KeyTwice,
+    KeyTwice = 6,
     /// The text is longer than 65536 bytes.
     #[error("the text is longer than 65536 bytes")]
-    TooLong,
+    TooLong = 7,
     /// An allocation failed.
     #[error("out of memory")]
-    Memory,
+    Memory = 8,
 }
 
 impl TextFault {
@@ -41,16 +41,7 @@ impl TextFault {
     pub fn number(&self) -> u8
         ensures { result ≡ fault_number self.now }
     {
-        match self {
-            TextFault::NoKey => 1,
-            TextFault::LongKey => 2,
-            TextFault::LongValue => 3,
-            TextFault::NotTerminated => 4,
-            TextFault::NotUtf8 => 5,
-            TextFault::KeyTwice => 6,
-            TextFault::TooLong => 7,
-            TextFault::Memory => 8,
-        }
+        *self as u8
     }
 }
 

@@ -11,28 +11,28 @@ use thiserror::Error;
 pub enum DataFault {
     /// 1: immediate data of a command that takes none, or where ImmediateData is No (RFC 7143 §13.11).
     #[error("immediate data that was not agreed")]
-    ImmediateData,
+    ImmediateData = 1,
     /// 2: a command announces unsolicited Data-Outs where InitialR2T is Yes (RFC 7143 §13.10).
     #[error("unsolicited data that was not agreed")]
-    UnsolicitedData,
+    UnsolicitedData = 2,
     /// 3: the Buffer Offset is not the length of the data that has come (RFC 7143 §11.7.6).
     #[error("a wrong Buffer Offset")]
-    BufferOffset,
+    BufferOffset = 3,
     /// 4: the DataSN is not the number of Data-Outs that have come of the sequence (RFC 7143 §11.7.5).
     #[error("a wrong DataSN")]
-    DataSn,
+    DataSn = 4,
     /// 5: more data than FirstBurstLength, the expected length or the R2T allows.
     #[error("too much data")]
-    TooMuch,
+    TooMuch = 5,
     /// 6: the Target Transfer Tag of no open sequence (RFC 7143 §11.7.4).
     #[error("a wrong Target Transfer Tag")]
-    TransferTag,
+    TransferTag = 6,
     /// 7: F is not set at the end of what an R2T asked for, or is set before (RFC 7143 §11.7.1).
     #[error("a wrong F bit")]
-    Final,
+    Final = 7,
     /// 8: an allocation failed. Nothing has changed.
     #[error("out of memory")]
-    Memory,
+    Memory = 8,
 }
 
 impl DataFault {
@@ -42,16 +42,7 @@ impl DataFault {
     pub fn number(&self) -> u8
         ensures { result ≡ fault_number self.now }
     {
-        match self {
-            DataFault::ImmediateData => 1,
-            DataFault::UnsolicitedData => 2,
-            DataFault::BufferOffset => 3,
-            DataFault::DataSn => 4,
-            DataFault::TooMuch => 5,
-            DataFault::TransferTag => 6,
-            DataFault::Final => 7,
-            DataFault::Memory => 8,
-        }
+        *self as u8
     }
 }
 

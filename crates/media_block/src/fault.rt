@@ -11,10 +11,10 @@ use thiserror::Error;
 pub enum DiskOpenFault {
     /// Its length is no positive multiple of 512 bytes.
     #[error("the length is no positive multiple of 512 bytes")]
-    Length,
+    Length = 1,
     /// The store failed.
     #[error("the device failed")]
-    Device,
+    Device = 2,
 }
 
 impl DiskOpenFault {
@@ -22,10 +22,7 @@ impl DiskOpenFault {
     pub fn number(self) -> u8
         ensures { result ≡ fault_number self }
     {
-        match self {
-            DiskOpenFault::Length => 1,
-            DiskOpenFault::Device => 2,
-        }
+        self as u8
     }
 }
 

@@ -9,15 +9,15 @@ use scsi_cdb::Kind;
 #[derive(Clone, Copy, Debug, PartialEq, Eq)]
 pub enum VpdPage {
     /// 00h
-    SupportedPages,
+    SupportedPages = 0x00,
     /// 80h
-    UnitSerialNumber,
+    UnitSerialNumber = 0x80,
     /// 83h
-    DeviceIdentification,
+    DeviceIdentification = 0x83,
     /// B0h (SBC-3 "Block Limits VPD page")
-    BlockLimits,
+    BlockLimits = 0xb0,
     /// B1h (SBC-3 "Block Device Characteristics VPD page")
-    BlockDeviceCharacteristics,
+    BlockDeviceCharacteristics = 0xb1,
 }
 
 impl VpdPage {
@@ -39,12 +39,6 @@ impl VpdPage {
     pub fn code(self) -> u8
         ensures { result ≡ page_code self }
     {
-        match self {
-            VpdPage::SupportedPages => 0x00,
-            VpdPage::UnitSerialNumber => 0x80,
-            VpdPage::DeviceIdentification => 0x83,
-            VpdPage::BlockLimits => 0xb0,
-            VpdPage::BlockDeviceCharacteristics => 0xb1,
-        }
+        self as u8
     }
 }

@@ -7,17 +7,17 @@ ghost use Rattle.scsi_reserve.specs.ReservationType.{type_code, type_of, is_same
 #[derive(Clone, Copy, Debug, PartialEq, Eq)]
 pub enum ReservationType {
     /// 1h
-    WriteExclusive,
+    WriteExclusive = 0x1,
     /// 3h
-    ExclusiveAccess,
+    ExclusiveAccess = 0x3,
     /// 5h
-    WriteExclusiveRegistrantsOnly,
+    WriteExclusiveRegistrantsOnly = 0x5,
     /// 6h
-    ExclusiveAccessRegistrantsOnly,
+    ExclusiveAccessRegistrantsOnly = 0x6,
     /// 7h
-    WriteExclusiveAllRegistrants,
+    WriteExclusiveAllRegistrants = 0x7,
     /// 8h
-    ExclusiveAccessAllRegistrants,
+    ExclusiveAccessAllRegistrants = 0x8,
 }
 
 impl ReservationType {
@@ -40,14 +40,7 @@ impl ReservationType {
     pub fn code(self) -> u8
         ensures { result ≡ type_code self }
     {
-        match self {
-            ReservationType::WriteExclusive => 0x1,
-            ReservationType::ExclusiveAccess => 0x3,
-            ReservationType::WriteExclusiveRegistrantsOnly => 0x5,
-            ReservationType::ExclusiveAccessRegistrantsOnly => 0x6,
-            ReservationType::WriteExclusiveAllRegistrants => 0x7,
-            ReservationType::ExclusiveAccessAllRegistrants => 0x8,
-        }
+        self as u8
     }
 
     /// Whether both are the same type.

@@ -8,14 +8,14 @@ ghost use Rattle.scsi_sense.specs.Codes.{attention_number, key_of, code_of};
 #[derive(Clone, Copy, Debug, Default, PartialEq, Eq)]
 pub enum Attention {
     #[default]
-    PowerOnOrReset,
-    NotReadyToReadyChange,
-    BusDeviceResetFunctionOccurred,
-    ModeParametersChanged,
-    ReservationsPreempted,
-    ReservationsReleased,
-    RegistrationsPreempted,
-    CommandsClearedByAnotherInitiator,
+    PowerOnOrReset = 0x2900,
+    NotReadyToReadyChange = 0x2800,
+    BusDeviceResetFunctionOccurred = 0x2903,
+    ModeParametersChanged = 0x2a01,
+    ReservationsPreempted = 0x2a03,
+    ReservationsReleased = 0x2a04,
+    RegistrationsPreempted = 0x2a05,
+    CommandsClearedByAnotherInitiator = 0x2f00,
 }
 
 impl Attention {
@@ -23,16 +23,7 @@ impl Attention {
     pub fn number(self) -> u16
         ensures { result ≡ attention_number self }
     {
-        match self {
-            Attention::NotReadyToReadyChange => 0x2800,
-            Attention::PowerOnOrReset => 0x2900,
-            Attention::BusDeviceResetFunctionOccurred => 0x2903,
-            Attention::ModeParametersChanged => 0x2a01,
-            Attention::ReservationsPreempted => 0x2a03,
-            Attention::ReservationsReleased => 0x2a04,
-            Attention::RegistrationsPreempted => 0x2a05,
-            Attention::CommandsClearedByAnotherInitiator => 0x2f00,
-        }
+        self as u16
     }
 }
 

@@ -11,9 +11,9 @@ use std::marker::Model;
 /// The status of a command (SAM-5 "Status codes").
 #[derive(Clone, Copy, Debug, PartialEq, Eq)]
 pub enum Status {
-    Good,
-    CheckCondition,
-    ReservationConflict,
+    Good = 0x00,
+    CheckCondition = 0x02,
+    ReservationConflict = 0x18,
 }
 
 impl Status {
@@ -21,11 +21,7 @@ impl Status {
     pub fn number(self) -> u8
         ensures { result ≡ status_number self }
     {
-        match self {
-            Status::Good => 0x00,
-            Status::CheckCondition => 0x02,
-            Status::ReservationConflict => 0x18,
-        }
+        self as u8
     }
 }
 
