@@ -14,7 +14,8 @@ flat_map_append f (x ∷ xs) ys = ap (λ l. f x ++ l) (flat_map_append f xs ys) 
 asked_append : (portal : List ℕ) (asked : Option (List ℕ)) (xs ys : List (List ℕ))
     → asked_pairs portal asked (xs ++ ys) ≡ asked_pairs portal asked xs ++ asked_pairs portal asked ys
 asked_append portal asked xs ys =
-    ap (flat_map (target_pairs portal)) (filter-append (is_asked asked) xs ys) ∙ flat_map_append (target_pairs portal) (filter (is_asked asked) xs) (filter (is_asked asked) ys)
+    ap (flat_map (target_pairs portal)) (filter-append (is_asked asked) xs ys)
+    ∙ flat_map_append (target_pairs portal) (filter (is_asked asked) xs) (filter (is_asked asked) ys)
 
 -- the name at a place
 pub asked_more : (portal : List ℕ) (asked : Option (List ℕ)) (names : List (List ℕ)) (i : ℕ) (name : List ℕ) → slice_get names i ≡ Some name
@@ -28,4 +29,5 @@ pub flat_map_more : {X Y : Type 0} (f : X → List Y) (xs : List X) (i : ℕ) (x
     → flat_map f (take (i + 1) xs) ≡ flat_map f (take i xs) ++ f x
 flat_map_more f xs i x at =
     let within = slice_get_within xs i x at in
-    rw (take_more xs i x within, get_or_from_slice_get xs i x x at) (flat_map_append f (take i xs) (x ∷ []) ∙ ap (λ l. flat_map f (take i xs) ++ l) (append-nil (f x)))
+    rw (take_more xs i x within, get_or_from_slice_get xs i x x at)
+    (flat_map_append f (take i xs) (x ∷ []) ∙ ap (λ l. flat_map f (take i xs) ++ l) (append-nil (f x)))

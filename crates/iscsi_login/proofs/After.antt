@@ -25,7 +25,8 @@ after_piece directory old new request reply due is = after_answer directory old 
 pub after_kept : (directory : KnownTargets) (old middle new : LoginState) (request : Frame) (reply : Reply) → is_due old ≡ false
     → is_continued request.header ≡ true
     → middle ≡ kept_with old request → IsAnswered middle request reply new → IsAfter directory old request reply new
-after_kept directory old middle new request reply due continued e is = after_answer directory old middle new request reply (e ∙ sym (rw (due, continued) refl)) is
+after_kept directory old middle new request reply due continued e is =
+    after_answer directory old middle new request reply (e ∙ sym (rw (due, continued) refl)) is
 
 -- the text is whole
 pub after_heard : (directory : KnownTargets) (old middle new : LoginState) (request : Frame) (reply : Reply) → is_due old ≡ false

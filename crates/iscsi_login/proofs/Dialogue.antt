@@ -25,7 +25,8 @@ by_cases P true due heard_ login kept_ a b c = a refl
 by_cases P false true heard_ login kept_ a b c = b refl refl
 by_cases P false false heard_ login kept_ a b c = c refl refl
 
-heard_stage : (directory : KnownTargets) (login : LoginState) (request : Frame) → (heard directory login request.header (pairs_with login request)).stage ≡ login.stage
+heard_stage : (directory : KnownTargets) (login : LoginState) (request : Frame)
+    → (heard directory login request.header (pairs_with login request)).stage ≡ login.stage
 unfolding heard
 heard_stage directory login request = refl
 
@@ -69,7 +70,8 @@ part_kept directory login request part quiet =
     (heard directory login request.header (pairs_with login request)) login (kept_with login request)
     (λ e. absurd (cc (part, e))) (λ e d. sym (ap (λ (body : List ℕ). login.kept ++ body) (silent login request d quiet) ∙ append-nil login.kept)) (λ e d. refl)
 
-part_due : (directory : KnownTargets) (login : LoginState) (request : Frame) → reads_text login request ≡ false → (brought directory login request).due ≡ login.due
+part_due : (directory : KnownTargets) (login : LoginState) (request : Frame) → reads_text login request ≡ false
+    → (brought directory login request).due ≡ login.due
 part_due directory login request part =
     by_cases (λ x. x.due ≡ login.due) (reads_text login request) (is_due login) (heard directory login request.header (pairs_with login request)) login
     (kept_with login request)
@@ -82,7 +84,8 @@ advanced_stage : (directory : KnownTargets) (login : LoginState) (request : Fram
 unfolding advanced
 advanced_stage directory login request = refl
 
-advanced_kept : (directory : KnownTargets) (login : LoginState) (request : Frame) → (advanced directory login request).kept ≡ (brought directory login request).kept
+advanced_kept : (directory : KnownTargets) (login : LoginState) (request : Frame)
+    → (advanced directory login request).kept ≡ (brought directory login request).kept
 unfolding advanced
 advanced_kept directory login request = refl
 
@@ -121,7 +124,8 @@ kept_later : (directory : KnownTargets) (login : LoginState) (later : List Frame
 kept_later directory login [] none = sym (append-nil login.kept)
 kept_later directory login (request ∷ later) none =
     kept_later directory (advanced directory login request) later none.2
-    ∙ ap (λ (text : List ℕ). text ++ flat_map (λ request. request.body) later) (advanced_kept directory login request ∙ part_kept directory login request none.0 none.1)
+    ∙ ap (λ (text : List ℕ). text ++ flat_map (λ request. request.body) later)
+    (advanced_kept directory login request ∙ part_kept directory login request none.0 none.1)
     ∙ append_assoc login.kept request.body (flat_map (λ request. request.body) later)
 
 drop_none : (n : ℕ) → drop {A = ℕ} n [] ≡ []
@@ -145,7 +149,8 @@ due_later directory login (request ∷ later) none =
     ∙ ap (λ (n : ℕ). drop n login.due) (omega arith)
 
 behind : (directory : KnownTargets) (handle : ℕ) (before : List Frame) (request : Frame) (later : List Frame)
-    → remembered directory handle (before ++ request ∷ later) ≡ fold (advanced directory) (advanced directory (remembered directory handle before) request) later
+    → remembered directory handle (before ++ request ∷ later)
+    ≡ fold (advanced directory) (advanced directory (remembered directory handle before) request) later
 unfolding remembered
 behind directory handle before request later = fold-append (advanced directory) (new_login handle) before (request ∷ later)
 
@@ -156,7 +161,8 @@ stage_is_last_agreed directory handle before request later stage agrees none =
     let login = remembered directory handle before in
     ap (λ (l : LoginState). l.stage) (behind directory handle before request later)
     ∙ stage_later directory (advanced directory login request) later stage none
-    (advanced_stage directory login request ∙ enters (stage_with (brought directory login request) request.header) (step_told directory login request) stage agrees)
+    (advanced_stage directory login request
+    ∙ enters (stage_with (brought directory login request) request.header) (step_told directory login request) stage agrees)
 
 pub kept_is_since_whole : KeptIsSinceWhole
 kept_is_since_whole directory handle before whole later reads none =

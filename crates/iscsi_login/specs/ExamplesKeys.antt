@@ -143,6 +143,7 @@ passed_over = (refl, refl)
 
 -- ---- the keys of RFC 7143
 
-known : map is_known (codes "AuthMethod" ∷ codes "SendTargets" ∷ codes "OFMarkInt" ∷ codes "X-a" ∷ codes "authmethod" ∷ []) ≡ true ∷ true ∷ true ∷ false ∷ false ∷ []
+known : map is_known (codes "AuthMethod" ∷ codes "SendTargets" ∷ codes "OFMarkInt" ∷ codes "X-a" ∷ codes "authmethod" ∷ [])
+    ≡ true ∷ true ∷ true ∷ false ∷ false ∷ []
 unfolding computed
 known = refl

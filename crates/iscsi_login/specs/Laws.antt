@@ -47,4 +47,5 @@ KeptIsSinceWhole = (directory : KnownTargets) (handle : ℕ) (before : List Fram
 abbrev pub DueIsTheRest : Type 0
 DueIsTheRest = (directory : KnownTargets) (handle : ℕ) (before : List Frame) (whole : Frame) (later : List Frame)
     → NoneIsWhole directory (advanced directory (remembered directory handle before) whole) later
-    → (remembered directory handle (before ++ whole ∷ later)).due ≡ drop (longest_piece * (length later + 1)) (brought directory (remembered directory handle before) whole).due
+    → (remembered directory handle (before ++ whole ∷ later)).due
+    ≡ drop (longest_piece * (length later + 1)) (brought directory (remembered directory handle before) whole).due

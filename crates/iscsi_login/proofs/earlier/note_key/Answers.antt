@@ -26,7 +26,8 @@ returns-clause-kept c = λ value is other. elim c.if-is_none.branch [
   | else-is_none w ↦ (
       let key_is = IfOk-at_ok (λ s. string_bytes s ≡ c.args.key.now) c.in_ok-from_str.was c.from_str.ensures.ok in
       let told = told_before c.args.pairs.now c.args.key.now value (get_by_text c.args.places.now c.args.key.now) c.args.place c.or_insert-told.result.now
-      (c.or_insert-told.ensures.value ∙ ap (λ (o : Option ℕ). unwrap_or o c.args.place) (c.in_ok-places.ensures.value ∙ ap (get_by_text c.args.places.now) key_is))
+      (c.or_insert-told.ensures.value
+      ∙ ap (λ (o : Option ℕ). unwrap_or o c.args.place) (c.in_ok-places.ensures.value ∙ ap (get_by_text c.args.places.now) key_is))
       (c.requires.told c.args.key.now value is) in
       grind (arith, text_keys, told))
 ]
