@@ -31,7 +31,7 @@ use Rattle.targetd.specs.declared.fault.Fault.{Fault}
 use Rattle.targetd.specs.declared.fault.Fault.TheVariants as faults
 use Rattle.targetd.specs.Fault.{words_fault, config_fault, replay_fault}
 use Rattle.targetd.specs.ConfigFile.{Loads}
-use Rattle.targetd.specs.Opened.{Held, IsMediumOf, IsUnitOf, AreEach, AreUnitsOf}
+use Rattle.target_units.specs.Opened.{Held, IsMediumOf, IsUnitOf, AreEach, AreUnitsOf}
 use Rattle.targetd.specs.Help.{RefusesWords}
 use Rattle.targetd.specs.Serve.{listening_line, HasServed, Serves}
 use Rattle.targetd.specs.Run.{FailsEarly, LeftState, ServedState, listening, known_of, setting_of, IsReplay, IsServing, Runs}

@@ -1,3 +1,3 @@
-pub mod OpenedUnits
+pub mod Made
 pub mod Ending
 pub mod Contents

@@ -8,6 +8,8 @@ use Rattle.target_config.specs.Fault.{number_of}
 use Rattle.target_config.specs.declared.fault.ConfigFault.{ConfigFault}
 use Rattle.target_replay.specs.declared.fault.ReplayFault.{ReplayFault}
 use Rattle.target_replay.specs.declared.fault.ReplayFault.TheVariants as replays
+use Rattle.target_units.specs.declared.fault.OpenFault.{OpenFault}
+use Rattle.target_units.specs.declared.fault.OpenFault.TheVariants as opens
 use Rattle.targetd.specs.declared.fault.Fault.{Fault}
 use Rattle.targetd.specs.declared.fault.Fault.TheVariants as faults
 
@@ -35,6 +37,11 @@ numbered None = faults.OutOfMemory
 -- why the configuration cannot be used
 abbrev pub config_fault : ConfigFault → Fault
 config_fault fault = numbered (number_of fault)
+
+-- why units are not opened
+abbrev pub opening_fault : OpenFault → Fault
+opening_fault (opens.Device target lun) = faults.Device target lun
+opening_fault opens.Memory = faults.OutOfMemory
 
 -- why a replay ended
 abbrev pub replay_fault : ReplayFault → Fault

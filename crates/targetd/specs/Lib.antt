@@ -1,6 +1,4 @@
 pub mod Fault
-pub mod Store
-pub mod Opened
 pub mod Unopened
 pub mod ConfigFile
 pub mod Serve

@@ -21,7 +21,7 @@ use Rattle.targetd.specs.declared.fault.Fault.{Fault}
 use Rattle.targetd.specs.declared.fault.Fault.TheVariants.{Socket, OutOfMemory}
 use Rattle.targetd.specs.Fault.{config_fault, replay_fault}
 use Rattle.targetd.specs.ConfigFile.{told_of}
-use Rattle.targetd.specs.Opened.{Held, AreUnitsOf}
+use Rattle.target_units.specs.Opened.{Held, AreUnitsOf}
 use Rattle.targetd.specs.Unopened.{IsUnopened}
 use Rattle.targetd.specs.Help.{RefusesWords}
 use Rattle.targetd.specs.Serve.{listening_line, Serves}

@@ -1,7 +1,7 @@
 //! How a run ends that does not reach the end of its input or of its turns.
 
 ghost use Rattle.std.specs.Prelude.{◌≡◌, Result};
-ghost use Rattle.targetd.specs.Fault.{status_of as exit_status, words_fault, config_fault, replay_fault, bind_fault};
+ghost use Rattle.targetd.specs.Fault.{status_of as exit_status, words_fault, config_fault, opening_fault, replay_fault, bind_fault};
 ghost use Rattle.targetd.specs.declared.fault.Fault.TheVariants.{OutOfMemory, Socket};
 
 use command_line::WordsFault;
@@ -10,6 +10,7 @@ use iscsi_target::Memory;
 use std::alloc::{AllocError, AllocFailed};
 use target_config::ConfigFault;
 use target_replay::ReplayFault;
+use target_units::OpenFault;
 use thiserror::Error;
 
 /// Why the run ended. Its text is its line on standard error.
@@ -96,6 +97,17 @@ impl From<ConfigFault> for Fault {
         match error.number() {
             Some(number) => Fault::Configuration { number },
             None => Fault::OutOfMemory,
+        }
+    }
+}
+
+impl From<OpenFault> for Fault {
+    ghost from_gives = { λ error fault. fault ≡ opening_fault error };
+
+    fn from(error: OpenFault) -> Fault {
+        match error {
+            OpenFault::Device { target, lun } => Fault::Device { target, lun },
+            OpenFault::Memory => Fault::OutOfMemory,
         }
     }
 }

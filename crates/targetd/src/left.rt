@@ -2,11 +2,11 @@
 
 ghost use Rattle.std.specs.Prelude.{◌≡◌, [], None};
 
-use crate::store::SystemStore;
 use call_record::Record;
 use iscsi_serve::MioPorts;
 use iscsi_target::Target;
 use media_store::Start;
+use target_units::SystemStore;
 
 /// Ports that were served, and the target that they were served by.
 #[derive(Drop)]

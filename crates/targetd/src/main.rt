@@ -35,7 +35,6 @@ mod left;
 mod opening;
 mod run;
 mod serve;
-mod store;
 mod words;
 
 use arguments::arguments;

@@ -1,27 +1,19 @@
-//! The units of a configuration, opened.
+//! What a target is made with: the units of a configuration, opened, and their targets' names.
 
-ghost use Rattle.std.specs.Prelude.{◌≡◌, ◌≢◌, IfOk, IfErr, true, map, string_bytes};
-ghost use Rattle.std.specs.IoError.{error_kind};
-ghost use Rattle.std.specs.List.{list_all};
-ghost use Rattle.target_config.specs.Configuration.{natural, names_of, unit_view, units_view, targets_view, configuration_view};
-ghost use Rattle.target_config.specs.Limits.{is_lun, unit_keeps, keeps_limits};
-ghost use Rattle.targetd.specs.Opened.{zero_disk, empty_tape, IsFileDisk, IsFileTape, IsUnitOf, AreEach, AreUnitsOf};
-ghost use Rattle.targetd.specs.Unopened.{IsFaultAt, IsFaultIn, IsUnopened};
-ghost use Rattle.targetd.specs.declared.opening.Unopened.TheVariants.{Device, Memory as OutOfMemory};
+ghost use Rattle.std.specs.Prelude.{◌≡◌, IfOk, IfErr, true, map, string_bytes};
+ghost use Rattle.target_config.specs.Configuration.{names_of, targets_view, configuration_view};
+ghost use Rattle.target_config.specs.Limits.{keeps_limits};
+ghost use Rattle.target_units.specs.Opened.{AreUnitsOf};
+ghost use Rattle.targetd.specs.Unopened.{IsUnopened};
 
 use crate::fault::Fault;
-use crate::store::{MediumStore, SystemStore};
 use iscsi_target::Config;
-use media_block::{BLOCK_LENGTH, Disk};
-use media_store::{FileStore, MemStore, Start, Store, SystemFile};
-use media_tape::Tape;
-use scsi_unit::{Memory, Serial, Unit, Units};
-use std::alloc::{AllocError, AllocFailed, Global};
+use media_store::Start;
+use scsi_unit::Units;
 use std::fs::File;
-use std::io;
-use std::io::ErrorKind;
 use std::rt::Files;
-use target_config::{BlockCount, Configuration, MediumConfiguration, UnitConfiguration};
+use target_config::Configuration;
+use target_units::{OpenedTargets, SystemStore};
 
 /// What a target is made with.
 #[derive(Drop)]
@@ -29,171 +21,6 @@ pub struct Setup<S: Start> {
     pub config: Config,
     /// Of each target, in order.
     pub units: Vec<Units<SystemStore<S>>>,
-}
-
-/// Why a unit is not opened.
-#[derive(Clone, Copy, Debug, PartialEq, Eq)]
-enum Unopened {
-    /// Its file cannot be read and written, or is no disk, or no tape of its capacity.
-    Device { lun: u8 },
-    /// An allocation failed.
-    Memory,
-}
-
-impl From<AllocError> for Unopened {
-    ghost from_gives = { λ _ why. why ≡ OutOfMemory };
-
-    fn from(_error: AllocError) -> Unopened {
-        Unopened::Memory
-    }
-}
-
-impl<T: Drop> From<AllocFailed<T>> for Unopened {
-    ghost from_gives = { λ _ why. why ≡ OutOfMemory };
-
-    fn from(_error: AllocFailed<T>) -> Unopened {
-        Unopened::Memory
-    }
-}
-
-impl From<Memory> for Unopened {
-    ghost from_gives = { λ _ why. why ≡ OutOfMemory };
-
-    fn from(_error: Memory) -> Unopened {
-        Unopened::Memory
-    }
-}
-
-/// A disk of zero blocks in memory. Such a store is a disk and does not fail, so only an allocation can.
-fn memory_disk<F: Store + Drop>(
-    alloc: Global,
-    blocks: BlockCount,
-) -> Result<Disk<MediumStore<F>>, AllocError>
-    ensures { IfOk result (λ disk. disk ≡ zero_disk blocks.number) }
-{
-    let length = BLOCK_LENGTH * blocks.number as usize;
-    let store = MemStore::new(alloc, length, length)?;
-    Ok(Disk::open(MediumStore::Memory(store)).unwrap())
-}
-
-/// An empty tape in memory. Such a store is a tape and does not fail as it is opened, so only an allocation can.
-fn memory_tape<F: Store + Drop>(
-    alloc: Global,
-    capacity: u64,
-    early: u64,
-) -> Result<Tape<MediumStore<F>>, AllocError>
-    ensures { IfOk result (λ tape. tape ≡ empty_tape capacity early) }
-{
-    let store = MemStore::new(alloc, 0, capacity as usize)?;
-    Ok(Tape::open(MediumStore::Memory(store), capacity, early).unwrap())
-}
-
-/// What an error of the system at the file of a unit is told as.
-fn fault_of(error: &io::Error, lun: u8) -> Unopened
-    ensures memory { error_kind error.now ≡ ErrorKind.OutOfMemory → result ≡ OutOfMemory }
-    ensures other { error_kind error.now ≢ ErrorKind.OutOfMemory → result ≡ Device lun }
-{
-    match error.kind() {
-        ErrorKind::OutOfMemory => Unopened::Memory,
-        _ => Unopened::Device { lun },
-    }
-}
-
-/// A disk in the file at a path, which is opened for reading and writing. None is made.
-fn file_disk<S: Start>(
-    rt: &impl Files<File = File>,
-    path: String,
-    lun: u8,
-) -> Result<Disk<SystemStore<S>>, Unopened>
-    ensures disk { IfOk result (IsFileDisk (S.held (string_bytes path))) }
-    ensures fault { IfErr result (λ why. why ≢ OutOfMemory → why ≡ Device lun) }
-{
-    match SystemFile::open(rt, path.as_str()) {
-        Ok(file) => match Disk::open(MediumStore::File(FileStore::new(file))) {
-            Ok(disk) => Ok(disk),
-            Err(_) => Err(Unopened::Device { lun }),
-        },
-        Err(error) => Err(fault_of(&error, lun)),
-    }
-}
-
-/// A tape in the file at a path, which is opened for reading and writing. None is made.
-fn file_tape<S: Start>(
-    rt: &impl Files<File = File>,
-    path: String,
-    capacity: u64,
-    early: u64,
-    lun: u8,
-) -> Result<Tape<SystemStore<S>>, Unopened>
-    ensures tape { IfOk result (IsFileTape capacity early (S.held (string_bytes path))) }
-    ensures fault { IfErr result (λ why. why ≢ OutOfMemory → why ≡ Device lun) }
-{
-    match SystemFile::open(rt, path.as_str()) {
-        Ok(file) => {
-            let store = MediumStore::File(FileStore::new(file));
-            match Tape::open(store, capacity, early) {
-                Ok(tape) => Ok(tape),
-                Err(_) => Err(Unopened::Device { lun }),
-            }
-        }
-        Err(error) => Err(fault_of(&error, lun)),
-    }
-}
-
-/// A unit over its medium.
-fn open_unit<S: Start>(
-    rt: &(impl Files<File = File> + AllocGlobal),
-    unit: UnitConfiguration,
-) -> Result<Unit<SystemStore<S>>, Unopened>
-    requires { unit_keeps (unit_view unit) ≡ true }
-    ensures unit { IfOk result (IsUnitOf S.held (unit_view unit)) }
-    ensures fault { IfErr result (IsFaultAt (unit_view unit)) }
-{
-    let alloc = rt.alloc();
-    let UnitConfiguration {
-        lun,
-        serial,
-        medium,
-    } = unit;
-    let lun = lun as u8;
-    let serial = Serial::new(serial);
-    match medium {
-        MediumConfiguration::MemoryDisk(blocks) => {
-            Ok(Unit::disk(alloc, lun, serial, memory_disk(alloc, blocks)?))
-        }
-        MediumConfiguration::FileDisk(path) => {
-            Ok(Unit::disk(alloc, lun, serial, file_disk(rt, path, lun)?))
-        }
-        MediumConfiguration::MemoryTape { capacity, early } => {
-            let tape = memory_tape(alloc, capacity, early)?;
-            Ok(Unit::tape(alloc, lun, serial, tape))
-        }
-        MediumConfiguration::FileTape {
-            path,
-            capacity,
-            early,
-        } => {
-            let tape = file_tape(rt, path, capacity, early, lun)?;
-            Ok(Unit::tape(alloc, lun, serial, tape))
-        }
-    }
-}
-
-/// The units of a target, opened in their order.
-fn open_units<S: Start>(
-    rt: &(impl Files<File = File> + AllocGlobal),
-    units: Vec<UnitConfiguration>,
-) -> Result<Units<SystemStore<S>>, Unopened>
-    requires { list_all unit_keeps (units_view units.items) ≡ true }
-    ensures units { IfOk result (AreEach (IsUnitOf S.held) (units_view units.items)) }
-    ensures fault { IfErr result (IsFaultIn (units_view units.items)) }
-{
-    let alloc = rt.alloc();
-    let mut opened = Vec::new(alloc);
-    for unit in units {
-        opened.push(open_unit(rt, unit)?)?;
-    }
-    Ok(Units::new(alloc, opened)?)
 }
 
 /// Opens the units of all targets, in the order of the configuration.
@@ -207,25 +34,15 @@ pub fn open<S: Start>(
     ensures units { IfOk result (λ setup. AreUnitsOf S.held (targets_view configuration.targets.items) setup.units.items) }
     ensures fault { IfErr result (IsUnopened (targets_view configuration.targets.items)) }
 {
-    let mut targets = Vec::new(rt.alloc());
-    let mut units = Vec::new(rt.alloc());
-    for target in configuration.targets {
-        match open_units(rt, target.units) {
-            Ok(opened) => units.push(opened)?,
-            Err(Unopened::Device { lun }) => {
-                return Err(Fault::Device {
-                    target: target.name,
-                    lun,
-                });
-            }
-            Err(Unopened::Memory) => return Err(Fault::OutOfMemory),
-        }
-        targets.push(target.name)?;
-    }
+    let OpenedTargets {
+        listen,
+        names,
+        units,
+    } = target_units::open(rt, configuration)?;
     Ok(Setup {
         config: Config {
-            listen: configuration.listen,
-            targets,
+            listen,
+            targets: names,
         },
         units,
     })

@@ -1,7 +1,7 @@
 use Rattle.std.proofs.Common.{inr, refl, ap}
 use Rattle.iscsi_target.specs.Machine.{Machine}
 use Rattle.target_config.specs.Configuration.{configuration_view, targets_view}
-use Rattle.targetd.proofs.OpenedUnits.{as_many}
+use Rattle.targetd.proofs.Made.{as_many}
 use Rattle.targetd.proofs.Ending.{made_stands, replay_ends, replay_fails}
 use Rattle.targetd.proofs.run.replay_at.Goals as goal
 

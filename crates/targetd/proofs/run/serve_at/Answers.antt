@@ -5,7 +5,7 @@ use Rattle.iscsi_target.specs.Machine.{new_machine}
 use Rattle.iscsi_serve.specs.Log.{Entry, Listened, Located}
 use Rattle.iscsi_serve.specs.Calls.{ip_octets}
 use Rattle.target_config.specs.Configuration.{configuration_view, targets_view}
-use Rattle.targetd.proofs.OpenedUnits.{as_many, known_is}
+use Rattle.targetd.proofs.Made.{as_many, known_is}
 use Rattle.targetd.proofs.Ending.{serving}
 use Rattle.targetd.proofs.run.serve_at.Goals as goal
 

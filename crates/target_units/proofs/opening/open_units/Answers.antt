@@ -1,7 +1,7 @@
 use Rattle.target_config.specs.Configuration.{unit_view}
-use Rattle.targetd.specs.Opened.{IsUnitOf}
-use Rattle.targetd.proofs.OpenedUnits.{each_view_more, units_next}
-use Rattle.targetd.proofs.opening.open_units.Goals as goal
+use Rattle.target_units.specs.Opened.{IsUnitOf}
+use Rattle.target_units.proofs.OpenedUnits.{each_view_more, units_next}
+use Rattle.target_units.proofs.opening.open_units.Goals as goal
 
 pub loop-unit-preserved : goal.loop-unit-preserved
 loop-unit-preserved g c =

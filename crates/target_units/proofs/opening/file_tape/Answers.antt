@@ -1,6 +1,6 @@
-use Rattle.std.proofs.Common.{◌≡◌, [], ◌∷◌, ap, ◌∙◌, string_bytes, rules}
+use Rattle.std.proofs.Common.{[], ◌∷◌, ap, ◌∙◌, string_bytes, rules}
 use Rattle.media_store.specs.Calls.{Opened}
-use Rattle.targetd.proofs.opening.file_tape.Goals as goal
+use Rattle.target_units.proofs.opening.file_tape.Goals as goal
 
 pub returns-in-Ok-open-clause-tape : goal.returns-in-Ok-open-clause-tape
 returns-in-Ok-open-clause-tape g c =

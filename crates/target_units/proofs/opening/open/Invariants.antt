@@ -4,9 +4,9 @@ use Rattle.std.specs.List.{list_all}
 use Rattle.std.specs.Vec.Iter.{into_iter_items}
 use Rattle.target_config.specs.Configuration.{names_of, targets_view}
 use Rattle.target_config.specs.Limits.{target_keeps}
-use Rattle.targetd.specs.Opened.{AreUnitsOf}
-use Rattle.targetd.specs.Unopened.{has_file_unit_at}
-use Rattle.targetd.proofs.opening.open.Given as goal
+use Rattle.target_units.specs.Opened.{AreUnitsOf}
+use Rattle.target_units.specs.Unopened.{has_file_unit_at}
+use Rattle.target_units.proofs.opening.open.Given as goal
 
 -- the units of those that were taken are opened, and the rest are targets of the configuration that keep their limits
 abbrev pub invariant-loop-target : goal.invariant-loop-target
@@ -15,5 +15,5 @@ invariant-loop-target g l =
     × (list_all target_keeps (targets_view (into_iter_items l.target-iterator)) ≡ true)
     × ((name : List ℕ) (lun : ℕ) → has_file_unit_at name lun (targets_view (into_iter_items l.target-iterator)) ≡ true
     → has_file_unit_at name lun (targets_view l.fn.configuration.targets.items) ≡ true)
-    × (map string_bytes l.targets.items ≡ names_of (targets_view l.yielded))
+    × (map string_bytes l.names.items ≡ names_of (targets_view l.yielded))
     × AreUnitsOf g.S.Start.held (targets_view l.yielded) l.units.items

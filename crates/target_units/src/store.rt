@@ -13,7 +13,7 @@ pub enum MediumStore<F: Store> {
 pub type SystemStore<S> = MediumStore<FileStore<SystemFile, S>>;
 
 impl<F: Store> Store for MediumStore<F> {
-    ghost use Rattle.targetd.specs.Store.{by_kind};
+    ghost use Rattle.target_units.specs.Store.{by_kind};
     ghost use Rattle.std.specs.Prelude.{true};
 
     ghost content = { by_kind (λ store. store.content) F.Store.content };

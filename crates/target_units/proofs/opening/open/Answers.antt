@@ -1,7 +1,7 @@
 use Rattle.target_config.specs.Configuration.{target_view, targets_view}
-use Rattle.targetd.specs.Opened.{IsTargetOf}
-use Rattle.targetd.proofs.OpenedUnits.{each_view_more, targets_next, names_next}
-use Rattle.targetd.proofs.opening.open.Goals as goal
+use Rattle.target_units.specs.Opened.{IsTargetOf}
+use Rattle.target_units.proofs.OpenedUnits.{each_view_more, targets_next, names_next}
+use Rattle.target_units.proofs.opening.open.Goals as goal
 
 pub loop-target-preserved : goal.loop-target-preserved
 loop-target-preserved g c =
@@ -11,7 +11,7 @@ loop-target-preserved g c =
       tt,
       next.0,
       next.1,
-      names_next c.loop-target.yielded c.in-Some.target c.loop-target.targets.items c.push-in-loop-target.new.self.items c.in_ok-push.ensures.items
+      names_next c.loop-target.yielded c.in-Some.target c.loop-target.names.items c.push-in-loop-target.new.self.items c.in_ok-push.ensures.items
           c.loop-target.invariant.4,
       each_view_more (IsTargetOf g.S.Start.held) target_view c.loop-target.yielded c.loop-target.units.items c.push.new.self.items c.in-Some.target
           c.in-Ok.opened c.in_ok-push-in-Ok.ensures.items c.loop-target.invariant.5 c.in-Ok.ensures.units,

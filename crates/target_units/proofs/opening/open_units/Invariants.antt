@@ -3,9 +3,9 @@ use Rattle.std.specs.List.{list_all}
 use Rattle.std.specs.Vec.Iter.{into_iter_items}
 use Rattle.target_config.specs.Configuration.{units_view}
 use Rattle.target_config.specs.Limits.{unit_keeps}
-use Rattle.targetd.specs.Opened.{IsUnitOf, AreEach}
-use Rattle.targetd.specs.Unopened.{has_file_unit}
-use Rattle.targetd.proofs.opening.open_units.Given as goal
+use Rattle.target_units.specs.Opened.{IsUnitOf, AreEach}
+use Rattle.target_units.specs.Unopened.{has_file_unit}
+use Rattle.target_units.proofs.opening.open_units.Given as goal
 
 -- those that were taken are opened, and the rest are units of the target that keep their limits
 abbrev pub invariant-loop-unit : goal.invariant-loop-unit

@@ -2,8 +2,8 @@
 use Rattle.std.specs.Prelude.{ℕ, ◌*◌, false, replicate}
 use Rattle.media_store.specs.States.{MemoryState}
 use Rattle.media_block.specs.Blocks.{block_length}
-use Rattle.targetd.specs.declared.store.MediumStore.{MediumStore}
-use Rattle.targetd.specs.declared.store.MediumStore.TheVariants.{Memory, File}
+use Rattle.target_units.specs.declared.store.MediumStore.{MediumStore}
+use Rattle.target_units.specs.declared.store.MediumStore.TheVariants.{Memory, File}
 
 -- the one of a store in memory, the other of a file's
 abbrev pub by_kind : {F X : Type 0} → (MemoryState → X) → (F → X) → MediumStore F → X

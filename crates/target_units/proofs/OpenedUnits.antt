@@ -1,26 +1,22 @@
 -- Units of a configuration as they are opened, one after the other.
-use Rattle.std.proofs.Common.{◌≡◌, ℕ, zero, suc, ◌-◌, ◌*◌, ◌/◌, ◌%◌, ◌<◌, List, [], ◌∷◌, ◌++◌, length, map, refl, sym, ap, subst, ◌∙◌, Bool, true, false, ◌&&◌, ◌||◌, IsTrue, arith}
+use Rattle.std.proofs.Common.{◌≡◌, ℕ, zero, suc, ◌-◌, ◌*◌, ◌/◌, ◌%◌, ◌<◌, List, [], ◌∷◌, ◌++◌, map, refl, sym, ap, subst, ◌∙◌, Bool, true, false, ◌&&◌, ◌||◌, IsTrue, arith}
 use Rattle.std.specs.Prelude.{replicate, String, string_bytes}
 use Rattle.std.specs.declared.alloc.Global.{Global}
 use Rattle.std.specs.List.{list_all}
 use Rattle.std.proofs.lemmas.Bool.{lt-ltb, eq-eqb}
-use Rattle.std.proofs.lemmas.List.{take-replicate, drop-replicate, length-replicate, length-map, map-append}
+use Rattle.std.proofs.lemmas.List.{take-replicate, drop-replicate, length-replicate, map-append}
 use Rattle.media_tape.specs.Items.{Item, items_in, items_of, is_tape}
 use Rattle.media_tape.specs.Tape.{TapeState}
 use Rattle.media_block.specs.Blocks.{DiskState, block_length, blocks_of, is_disk, disk_of}
 use Rattle.scsi_unit.specs.Device.{DeviceState}
 use Rattle.scsi_unit.specs.State.{UnitState}
 use Rattle.scsi_unit.specs.Unit.{free_unit}
-use Rattle.scsi_unit.specs.Units.{UnitStates}
 use Rattle.target_config.specs.declared.configuration.UnitConfiguration.{UnitConfiguration}
 use Rattle.target_config.specs.declared.configuration.TargetConfiguration.{TargetConfiguration}
-use Rattle.iscsi_target.specs.Known.{known_in}
-use Rattle.iscsi_target.specs.declared.config.Config.{Config}
-use Rattle.targetd.specs.Run.{known_of}
-use Rattle.target_config.specs.Configuration.{Document, UnitEntry, TargetEntry, natural, names_of, unit_view, units_view, target_view, targets_view}
+use Rattle.target_config.specs.Configuration.{UnitEntry, TargetEntry, natural, names_of, unit_view, units_view, target_view, targets_view}
 use Rattle.target_config.specs.Limits.{unit_keeps, target_keeps}
-use Rattle.targetd.specs.Opened.{Held, zero_disk, empty_tape, IsMediumOf, IsUnitOf, AreEach, AreUnitsOf}
-use Rattle.targetd.specs.Unopened.{has_file_unit, has_file_unit_at}
+use Rattle.target_units.specs.Opened.{Held, zero_disk, empty_tape, IsMediumOf, IsUnitOf, AreEach}
+use Rattle.target_units.specs.Unopened.{has_file_unit, has_file_unit_at}
 
 -- the blocks of zeros are blocks of zeros
 zero_blocks : (count : ℕ) → blocks_of count (replicate (block_length * count) 0) ≡ replicate count (replicate block_length 0)
@@ -144,21 +140,3 @@ pub names_next : (targets : List TargetConfiguration) (target : TargetConfigurat
 names_next targets target names now pushed e =
     rw (pushed, map-append string_bytes names (target.name ∷ []), e, map-append target_view targets (target ∷ []))
     (sym (map-append (λ (target : TargetEntry). target.name) (targets_view targets) (target_view target ∷ [])))
-
--- a target is made with units for each of its names
-pub as_many : (held : Held) (targets : List TargetEntry) (units : List UnitStates) (names : List (String Global)) → AreUnitsOf held targets units
-    → map string_bytes names ≡ names_of targets → length units ≡ length names
-as_many held targets units names opened e =
-    as_long targets units opened ∙ sym (length-map targets (λ target. target.name)) ∙ sym (ap length e) ∙ length-map names string_bytes
-  where
-    as_long : (targets : List TargetEntry) (units : List UnitStates) → AreUnitsOf held targets units → length units ≡ length targets
-    as_long [] [] h = refl
-    as_long [] (u ∷ us) h = absurd h
-    as_long (t ∷ ts) [] h = absurd h
-    as_long (t ∷ ts) (u ∷ us) h = ap suc (as_long ts us h.1)
-
--- ---- the targets and their portal
-
-pub known_is : (config : Config) (document : Document) → map string_bytes config.targets.items ≡ names_of document.targets
-    → string_bytes config.listen ≡ document.listen → known_in config ≡ known_of document
-known_is config document names listen = rw (names, listen) refl

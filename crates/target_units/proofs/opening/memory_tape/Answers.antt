@@ -1,8 +1,8 @@
 use Rattle.std.proofs.Common.{length, refl, ap, ◌∙◌, arith}
 use Rattle.media_store.specs.States.{MemoryState}
 use Rattle.media_tape.specs.Items.{items_of, is_tape}
-use Rattle.targetd.proofs.OpenedUnits.{empty_opened, nothing_stands, nothing_is_a_tape}
-use Rattle.targetd.proofs.opening.memory_tape.Goals as goal
+use Rattle.target_units.proofs.OpenedUnits.{empty_opened, nothing_stands, nothing_is_a_tape}
+use Rattle.target_units.proofs.opening.memory_tape.Goals as goal
 
 pub unwrap-requires : goal.unwrap-requires
 unwrap-requires g c =

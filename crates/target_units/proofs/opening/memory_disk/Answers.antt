@@ -1,8 +1,8 @@
 use Rattle.std.proofs.Common.{refl, ap, ◌∙◌}
 use Rattle.media_store.specs.States.{MemoryState}
 use Rattle.media_block.specs.Blocks.{disk_of}
-use Rattle.targetd.proofs.OpenedUnits.{zero_opened}
-use Rattle.targetd.proofs.opening.memory_disk.Goals as goal
+use Rattle.target_units.proofs.OpenedUnits.{zero_opened}
+use Rattle.target_units.proofs.opening.memory_disk.Goals as goal
 
 pub returns : goal.returns
 returns g c =

@@ -1,0 +1,3 @@
+pub mod Store
+pub mod Opened
+pub mod Unopened

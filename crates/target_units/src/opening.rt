@@ -1,0 +1,200 @@
+//! The units of a configuration, opened.
+
+ghost use Rattle.std.specs.Prelude.{◌≡◌, ◌≢◌, IfOk, IfErr, true, map, string_bytes};
+ghost use Rattle.std.specs.IoError.{error_kind};
+ghost use Rattle.std.specs.List.{list_all};
+ghost use Rattle.target_config.specs.Configuration.{natural, names_of, unit_view, units_view, targets_view, configuration_view};
+ghost use Rattle.target_config.specs.Limits.{is_lun, unit_keeps, keeps_limits};
+ghost use Rattle.target_units.specs.Opened.{zero_disk, empty_tape, IsFileDisk, IsFileTape, IsUnitOf, AreEach, AreUnitsOf};
+ghost use Rattle.target_units.specs.Unopened.{IsFaultAt, IsFaultIn, IsUnopened};
+ghost use Rattle.target_units.specs.declared.fault.UnitFault.TheVariants.{Device, Memory as OutOfMemory};
+
+use crate::fault::{OpenFault, UnitFault};
+use crate::store::{MediumStore, SystemStore};
+use media_block::{BLOCK_LENGTH, Disk};
+use media_store::{FileStore, MemStore, Start, Store, SystemFile};
+use media_tape::Tape;
+use out_of_memory::Memory;
+use scsi_unit::{Serial, Unit, Units};
+use std::alloc::Global;
+use std::fs::File;
+use std::io;
+use std::io::ErrorKind;
+use std::rt::Files;
+use target_config::{BlockCount, Configuration, MediumConfiguration, UnitConfiguration};
+
+/// The targets of a configuration, with their units opened.
+#[derive(Drop)]
+pub struct OpenedTargets<S: Start> {
+    /// The address that is listened on, as the configuration has it.
+    pub listen: String,
+    /// The names of the targets.
+    pub names: Vec<String>,
+    /// The units of each target, in the same order.
+    pub units: Vec<Units<SystemStore<S>>>,
+}
+
+/// A disk of zero blocks in memory. Such a store is a disk and does not fail, so only an allocation can.
+fn memory_disk<F: Store + Drop>(
+    alloc: Global,
+    blocks: BlockCount,
+) -> Result<Disk<MediumStore<F>>, Memory>
+    ensures { IfOk result (λ disk. disk ≡ zero_disk blocks.number) }
+{
+    let length = BLOCK_LENGTH * blocks.number as usize;
+    let store = MemStore::new(alloc, length, length)?;
+    Ok(Disk::open(MediumStore::Memory(store)).unwrap())
+}
+
+/// An empty tape in memory. Such a store is a tape and does not fail as it is opened, so only an allocation can.
+fn memory_tape<F: Store + Drop>(
+    alloc: Global,
+    capacity: u64,
+    early: u64,
+) -> Result<Tape<MediumStore<F>>, Memory>
+    ensures { IfOk result (λ tape. tape ≡ empty_tape capacity early) }
+{
+    let store = MemStore::new(alloc, 0, capacity as usize)?;
+    Ok(Tape::open(MediumStore::Memory(store), capacity, early).unwrap())
+}
+
+/// What an error of the system at the file of a unit is told as.
+fn fault_of(error: &io::Error, lun: u8) -> UnitFault
+    ensures memory { error_kind error.now ≡ ErrorKind.OutOfMemory → result ≡ OutOfMemory }
+    ensures other { error_kind error.now ≢ ErrorKind.OutOfMemory → result ≡ Device lun }
+{
+    match error.kind() {
+        ErrorKind::OutOfMemory => UnitFault::Memory,
+        _ => UnitFault::Device { lun },
+    }
+}
+
+/// A disk in the file at a path, which is opened for reading and writing. None is made.
+fn file_disk<S: Start>(
+    rt: &impl Files<File = File>,
+    path: String,
+    lun: u8,
+) -> Result<Disk<SystemStore<S>>, UnitFault>
+    ensures disk { IfOk result (IsFileDisk (S.held (string_bytes path))) }
+    ensures fault { IfErr result (λ why. why ≢ OutOfMemory → why ≡ Device lun) }
+{
+    match SystemFile::open(rt, path.as_str()) {
+        Ok(file) => match Disk::open(MediumStore::File(FileStore::new(file))) {
+            Ok(disk) => Ok(disk),
+            Err(_) => Err(UnitFault::Device { lun }),
+        },
+        Err(error) => Err(fault_of(&error, lun)),
+    }
+}
+
+/// A tape in the file at a path, which is opened for reading and writing. None is made.
+fn file_tape<S: Start>(
+    rt: &impl Files<File = File>,
+    path: String,
+    capacity: u64,
+    early: u64,
+    lun: u8,
+) -> Result<Tape<SystemStore<S>>, UnitFault>
+    ensures tape { IfOk result (IsFileTape capacity early (S.held (string_bytes path))) }
+    ensures fault { IfErr result (λ why. why ≢ OutOfMemory → why ≡ Device lun) }
+{
+    match SystemFile::open(rt, path.as_str()) {
+        Ok(file) => {
+            let store = MediumStore::File(FileStore::new(file));
+            match Tape::open(store, capacity, early) {
+                Ok(tape) => Ok(tape),
+                Err(_) => Err(UnitFault::Device { lun }),
+            }
+        }
+        Err(error) => Err(fault_of(&error, lun)),
+    }
+}
+
+/// A unit over its medium.
+fn open_unit<S: Start>(
+    rt: &(impl Files<File = File> + AllocGlobal),
+    unit: UnitConfiguration,
+) -> Result<Unit<SystemStore<S>>, UnitFault>
+    requires { unit_keeps (unit_view unit) ≡ true }
+    ensures unit { IfOk result (IsUnitOf S.held (unit_view unit)) }
+    ensures fault { IfErr result (IsFaultAt (unit_view unit)) }
+{
+    let alloc = rt.alloc();
+    let UnitConfiguration {
+        lun,
+        serial,
+        medium,
+    } = unit;
+    let lun = lun as u8;
+    let serial = Serial::new(serial);
+    match medium {
+        MediumConfiguration::MemoryDisk(blocks) => {
+            Ok(Unit::disk(alloc, lun, serial, memory_disk(alloc, blocks)?))
+        }
+        MediumConfiguration::FileDisk(path) => {
+            Ok(Unit::disk(alloc, lun, serial, file_disk(rt, path, lun)?))
+        }
+        MediumConfiguration::MemoryTape { capacity, early } => {
+            let tape = memory_tape(alloc, capacity, early)?;
+            Ok(Unit::tape(alloc, lun, serial, tape))
+        }
+        MediumConfiguration::FileTape {
+            path,
+            capacity,
+            early,
+        } => {
+            let tape = file_tape(rt, path, capacity, early, lun)?;
+            Ok(Unit::tape(alloc, lun, serial, tape))
+        }
+    }
+}
+
+/// The units of a target, opened in their order.
+fn open_units<S: Start>(
+    rt: &(impl Files<File = File> + AllocGlobal),
+    units: Vec<UnitConfiguration>,
+) -> Result<Units<SystemStore<S>>, UnitFault>
+    requires { list_all unit_keeps (units_view units.items) ≡ true }
+    ensures units { IfOk result (AreEach (IsUnitOf S.held) (units_view units.items)) }
+    ensures fault { IfErr result (IsFaultIn (units_view units.items)) }
+{
+    let alloc = rt.alloc();
+    let mut opened = Vec::new(alloc);
+    for unit in units {
+        opened.push(open_unit(rt, unit)?)?;
+    }
+    Ok(Units::new(alloc, opened)?)
+}
+
+/// Opens the units of all targets, in the order of the configuration.
+pub fn open<S: Start>(
+    rt: &(impl Files<File = File> + AllocGlobal),
+    configuration: Configuration,
+) -> Result<OpenedTargets<S>, OpenFault>
+    requires { keeps_limits (configuration_view configuration) ≡ true }
+    ensures listen { IfOk result (λ opened. string_bytes opened.listen ≡ string_bytes configuration.listen) }
+    ensures names { IfOk result (λ opened. map string_bytes opened.names.items ≡ names_of (targets_view configuration.targets.items)) }
+    ensures units { IfOk result (λ opened. AreUnitsOf S.held (targets_view configuration.targets.items) opened.units.items) }
+    ensures fault { IfErr result (IsUnopened (targets_view configuration.targets.items)) }
+{
+    let mut names = Vec::new(rt.alloc());
+    let mut units = Vec::new(rt.alloc());
+    for target in configuration.targets {
+        match open_units(rt, target.units) {
+            Ok(opened) => units.push(opened)?,
+            Err(UnitFault::Device { lun }) => {
+                return Err(OpenFault::Device {
+                    target: target.name,
+                    lun,
+                });
+            }
+            Err(UnitFault::Memory) => return Err(OpenFault::Memory),
+        }
+        names.push(target.name)?;
+    }
+    Ok(OpenedTargets {
+        listen: configuration.listen,
+        names,
+        units,
+    })
+}
