@@ -7,9 +7,10 @@ import re
 from pathlib import Path
 from typing import NamedTuple
 
+from tape_items import items_of
 from toml_lines import NotToml, read
 
-MOST_BYTES, BLOCK, MOST_RECORD = 1_048_576, 512, 1_048_576
+MOST_BYTES, BLOCK = 1_048_576, 512
 MOST_TARGETS, MOST_UNITS, MOST_LUN = 8, 16, 255
 MOST_LISTEN, MOST_NAME, MOST_SERIAL = 253, 223, 32
 MOST_BLOCKS, MOST_CAPACITY = 1_048_576, 34_359_738_360
@@ -208,24 +209,13 @@ def disk_fault(file):
     return f"has {size} bytes, and not a positive multiple of {BLOCK}" if size == 0 or size % BLOCK else None
 
 
-def number_at(file, at):
-    """The number in four bytes of a file."""
-    file.seek(at)
-    return int.from_bytes(file.read(4), "big")
-
-
 def tape_fault(file, capacity):
-    """Why a file is no tape of this capacity, or nothing: item after item has its length in four bytes, its data,
-    and its length again."""
-    size = file.seek(0, os.SEEK_END)
-    at = 0
-    while at < size:
-        length = number_at(file, at)
-        behind = at + length + 8
-        if length > MOST_RECORD or behind > size or number_at(file, behind - 4) != length:
-            return f"has no whole record or filemark at byte {at}, and {size} bytes"
-        at = behind
-    return f"has {size} bytes, and more than the capacity of {capacity}" if size > capacity else None
+    """Why a file is no tape of this capacity, or nothing."""
+    found = items_of(file)
+    if found.fault:
+        return (f"has no whole record or filemark at byte {found.end} of {found.size}, but {found.fault}: "
+                "targetd-mend-tape can cut it there")
+    return f"has {found.size} bytes, and more than the capacity of {capacity}" if found.size > capacity else None
 
 
 def article(kind):

@@ -1,0 +1,37 @@
+"""Whether a file is locked by flock(2), as targetd locks the files that it serves, and which process has it (proc(5))."""
+
+import fcntl
+import os
+import re
+from pathlib import Path
+
+LOCK = re.compile(r"^\d+: FLOCK +\S+ +\S+ +(\d+) ([0-9a-f]+):([0-9a-f]+):(\d+) ", re.MULTILINE)
+
+
+def is_taken(file, kind=fcntl.LOCK_EX):
+    """The lock of this kind could be taken. It is held until the file is closed."""
+    try:
+        fcntl.flock(file, kind | fcntl.LOCK_NB)
+    except BlockingIOError:
+        return False
+    return True
+
+
+def holders(file):
+    """The processes that have a file locked, as far as they can be seen from here."""
+    status = os.fstat(file.fileno())
+    wanted = os.major(status.st_dev), os.minor(status.st_dev), status.st_ino
+    locks = LOCK.findall(Path("/proc/locks").read_text(encoding="ascii"))
+    return [int(process) for process, major, minor, inode in locks
+            if (int(major, 16), int(minor, 16), int(inode)) == wanted and process != "0"]
+
+
+def words_of(processes):
+    """Processes in words."""
+    named = []
+    for process in processes:
+        try:
+            named.append(f"process {process} ({Path(f'/proc/{process}/comm').read_text(encoding='utf-8').strip()})")
+        except OSError:
+            named.append(f"process {process}")
+    return " and ".join(named) or "another process"
