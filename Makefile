@@ -19,7 +19,7 @@ build:
 	@echo "== proving every crate and building targetd. It took 39 minutes on four processors of 2.5 GHz"
 	@./tools/build
 
-# Puts the program, its pages, an example and a systemd unit below DESTDIR and PREFIX. Nothing outside them is touched.
+# Puts the program, its pages, an example and systemd units below DESTDIR and PREFIX. Nothing outside them is touched.
 PREFIX = /usr/local
 DESTDIR =
 PROGRAM = crates/targetd/out/targetd
