@@ -7,6 +7,8 @@ import re
 from pathlib import Path
 from typing import NamedTuple
 
+from addresses import addresses_of_host
+from file_locks import holders, is_served_by, is_taken, words_of
 from tape_items import items_of
 from toml_lines import NotToml, read
 
@@ -17,6 +19,7 @@ MOST_BLOCKS, MOST_CAPACITY = 1_048_576, 34_359_738_360
 KEYS = {"the configuration": ["listen", "target"], "target": ["name", "unit"],
         "disk": ["lun", "kind", "serial", "blocks", "file"],
         "tape": ["lun", "kind", "serial", "capacity", "early", "file"]}
+EXAMPLE_SERIAL = "EXAMPLE1"
 ADDRESS = re.compile(r"(?:([0-9.]+)|\[([0-9A-Fa-f:.]+)(?:%[0-9]+)?\]):([0-9]+)")
 
 
@@ -36,12 +39,13 @@ class Place(NamedTuple):
 
 
 class Configuration:
-    """Goes through a document, and tells what is wrong with it."""
+    """Goes through the document of the file at a path, and tells what is wrong with it. Files are looked for from a
+    folder."""
 
-    def __init__(self, folder):
-        self.folder = folder
+    def __init__(self, path, folder):
+        self.path, self.folder = path, folder
         self.told = []
-        self.names, self.files, self.serials = {}, {}, {}
+        self.names, self.files, self.inodes, self.serials = {}, {}, {}, {}
 
     def tell(self, line, fault, words):
         """Something is to be told."""
@@ -116,12 +120,21 @@ class Configuration:
         """The whole document."""
         place = Place(root, "the configuration", 1)
         listen = self.named(place, "listen", MOST_LISTEN)
-        if listen is not None and not is_address(listen):
-            self.tell(root.lines["listen"], "socket", f'"listen" is "{listen}", and no address with a port, as '
-                      '"127.0.0.1:3260" or "[::1]:3260": names are not looked up')
+        if listen is not None:
+            self.listen(listen, root.lines["listen"])
         for target in self.tables(place, "target", "target {}", MOST_TARGETS):
             self.target(target)
         self.unread(place, KEYS["the configuration"])
+
+    def listen(self, listen, line):
+        """The address to listen on, which hosts that discover the targets are told."""
+        address = address_in(listen)
+        if address is None:
+            self.tell(line, "socket", f'"listen" is "{listen}", and no address with a port, as "127.0.0.1:3260" or '
+                      '"[::1]:3260": names are not looked up')
+        elif address.is_unspecified:
+            self.tell(line, None, f'"listen" is "{listen}", which discovery tells: no host can log in by it. '
+                      f"Name an address of this host{own_addresses(address.version, listen.rpartition(':')[2])}")
 
     def target(self, place):
         """A target with its units."""
@@ -143,34 +156,34 @@ class Configuration:
             self.tell(place.table.lines["lun"], 4, f'{place.name}: "lun" is {lun}, and not from 0 to {MOST_LUN}')
         elif lun is not None:
             self.twice(luns, lun, place, "lun", f"LUN {lun} comes twice in its target")
-        serial = self.serial(place)
+        self.serial(place)
         kind = self.field(place, "kind", "text")
         if kind == "disk":
-            self.disk(place, serial)
+            self.disk(place)
         elif kind == "tape":
             self.tape(place)
         elif kind is not None:
             self.tell(place.table.lines["kind"], 3, f'{place.name}: "kind" is "{kind}", and neither "disk" nor "tape"')
 
     def serial(self, place):
-        """The serial of a unit, or nothing where a fault was told."""
+        """The serial of a unit. Hosts take two units of one serial for one."""
         serial = self.field(place, "serial", "text")
         if serial is None:
-            return None
+            return
         line = place.table.lines["serial"]
         if not 1 <= len(serial.encode()) <= MOST_SERIAL:
             self.tell(line, 4, f'{place.name}: "serial" has {len(serial.encode())} bytes, and not 1 to {MOST_SERIAL}')
         elif not all(" " <= character <= "~" for character in serial):
             self.tell(line, 4, f'{place.name}: "serial" has a character that is not printable ASCII')
         else:
-            return serial
-        return None
-
-    def disk(self, place, serial):
-        """A disk, in a file or in memory. Hosts take two disks of one serial for one disk."""
-        if serial is not None:
+            if serial == EXAMPLE_SERIAL and serial not in self.serials:
+                self.tell(line, None, f'{place.name}: the serial "{serial}" is that of the example, and hosts may take '
+                          "two units that have it for one: give each its own")
             self.twice(self.serials, serial, place, "serial",
-                       f'the serial "{serial}" comes twice, and hosts may take the two for one disk', None)
+                       f'the serial "{serial}" comes twice, and hosts may take the two units for one', None)
+
+    def disk(self, place):
+        """A disk, in a file or in memory."""
         keys = KEYS["disk"]
         if "file" in place.table.held:
             self.file(place, disk_fault)
@@ -194,19 +207,38 @@ class Configuration:
         if path is None:
             return
         self.twice(self.files, path, place, "file", f'the file "{path}" comes twice')
+        name = f'{place.name}: the file "{path}"'
         try:
             with open(Path(self.folder, path), "r+b", buffering=0) as file:
-                fault = fault_in(file)
+                if not is_taken(file):
+                    self.locked(place.table.lines["file"], name, holders(file))
+                    return
+                fault = self.other_path(file, path) or fault_in(file)
         except (OSError, ValueError) as error:
             fault = f"cannot be opened for reading and writing: {getattr(error, 'strerror', None) or error}"
         if fault:
-            self.tell(place.table.lines["file"], "device", f'{place.name}: the file "{path}" {fault}')
+            self.tell(place.table.lines["file"], "device", f"{name} {fault}")
+
+    def other_path(self, file, path):
+        """Why a file may not be that of a unit beside those so far, which have other paths, or nothing."""
+        status = os.fstat(file.fileno())
+        first = self.inodes.setdefault((status.st_dev, status.st_ino), path)
+        return f'is that of another unit, as "{first}"' if first != path else None
+
+    def locked(self, line, name, processes):
+        """A file is locked, which is as it should be where it is served by this configuration."""
+        if processes and all(is_served_by(process, self.path) for process in processes):
+            self.tell(line, None, f"{name} is locked by {words_of(processes)}, which serves this configuration")
+        else:
+            self.tell(line, "device", f"{name} is locked by {words_of(processes)}")
 
 
 def disk_fault(file):
     """Why a file is no disk, or nothing."""
     size = file.seek(0, os.SEEK_END)
-    return f"has {size} bytes, and not a positive multiple of {BLOCK}" if size == 0 or size % BLOCK else None
+    if size % BLOCK:
+        return f"has {size} bytes, and not a positive multiple of {BLOCK}: truncate -s %{BLOCK} makes it one"
+    return None if size else "is empty, and a disk has as many bytes as its file"
 
 
 def tape_fault(file, capacity):
@@ -223,17 +255,25 @@ def article(kind):
     return f"an {kind}" if kind[0] in "ai" else f"a {kind}"
 
 
-def is_address(listen):
-    """It spells an IPv4 or IPv6 address with a port."""
+def address_in(listen):
+    """The IPv4 or IPv6 address of a text that spells it with a port, or nothing."""
     found = ADDRESS.fullmatch(listen)
     try:
-        return bool(found) and int(found[3]) < 2 ** 16 and bool(ipaddress.ip_address(found[1] or found[2]))
+        return ipaddress.ip_address(found[1] or found[2]) if found and int(found[3]) < 2 ** 16 else None
     except ValueError:
-        return False
+        return None
 
 
-def explained(contents, folder):
-    """What is to be told of a configuration with these contents; files are looked for from a folder."""
+def own_addresses(version, port):
+    """What this host can be reached by, in words; who listens on all of version 6 is reached by version 4 too."""
+    found = [str(address) for address in addresses_of_host(4)]
+    if version == 6:
+        found += [f"[{address}]" for address in addresses_of_host(6)]
+    return f": {' or '.join(f'{address}:{port}' for address in found)}" if found else ""
+
+
+def explained(contents, path, folder):
+    """What is to be told of a configuration with these contents, at a path; files are looked for from a folder."""
     if len(contents) > MOST_BYTES:
         return [Told(1, 1, f"the file has {len(contents)} bytes, and more than {MOST_BYTES}")]
     try:
@@ -242,18 +282,19 @@ def explained(contents, folder):
         return [Told(contents.count(b"\n", 0, error.start) + 1, 2, f"byte {contents[error.start]:02x}h is no UTF-8")]
     except NotToml as fault:
         return [Told(fault.line, 2, str(fault))]
-    configuration = Configuration(folder)
+    configuration = Configuration(path, folder)
     configuration.document(document)
     return sorted(configuration.told, key=lambda told: (told.line, str(told.fault)))
 
 
 def told_of(path, folder="."):
     """What is to be told of the file at this path, from a folder."""
+    path = Path(folder, path)
     try:
-        contents = Path(folder, path).read_bytes()
+        contents = path.read_bytes()
     except (OSError, ValueError) as error:
         return [Told(1, 1, f"the file cannot be read: {getattr(error, 'strerror', None) or error}")]
-    return explained(contents, folder)
+    return explained(contents, path, folder)
 
 
 def number_of(told):

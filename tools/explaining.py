@@ -1,11 +1,16 @@
 """targetd-explain-config: each fault at its line and key, and by the number that the program gives."""
 
+import fcntl
+import os
 import re
+import socket
 
 import configuration
 import program
+import server
 import transcript
 from installation import EXPLAIN, SOUND, TOP, installed, ran
+from tape_files import item
 
 # The lines of a second unit beside the sound first one, whether that is a fault, and what is told.
 TOLD = [
@@ -17,11 +22,17 @@ TOLD = [
     ('lun = 1\nkind = "disk"\nserial = "B"\nblocks = 10\nblock = 10\n', 0,
      ['C:14: note: unit 2 of target 1: nothing reads "block": is "blocks" meant?', "C: targetd takes it"]),
     ('lun = 1\nkind = "disk"\nserial = "A"\nblocks = 10\n', 0,
-     ['C:12: note: unit 2 of target 1: the serial "A" comes twice, and hosts may take the two for one disk, '
+     ['C:12: note: unit 2 of target 1: the serial "A" comes twice, and hosts may take the two units for one, '
       "as at line 7",
+      "C: targetd takes it"]),
+    ('lun = 1\nkind = "disk"\nserial = "EXAMPLE1"\nblocks = 10\n', 0,
+     ['C:12: note: unit 2 of target 1: the serial "EXAMPLE1" is that of the example, and hosts may take two units that '
+      "have it for one: give each its own",
       "C: targetd takes it"]),
     ('lun = 0\nkind = "tape"\nserial = "A"\ncapacity = 5\nearly = 6\n', 1,
      ["C:10: fault 5: unit 2 of target 1: LUN 0 comes twice in its target, as at line 5",
+      'C:12: note: unit 2 of target 1: the serial "A" comes twice, and hosts may take the two units for one, '
+      "as at line 7",
       'C:14: fault 3: unit 2 of target 1: "early" is 6, and not from 0 to 5',
       "targetd says: configuration fault 3"]),
     ('lun = 1\nkind = "disk"\nserial = "B"\nfile = "/none/d"\n', 1,
@@ -47,6 +58,69 @@ def explains_each_fault_at_its_line_and_key():
                              for line in told)
             assert ended == (1 if fault else 0, wanted, ""), ended
         assert ran(top / EXPLAIN)[0] == 2 and ran(top / EXPLAIN, "--help")[0] == 0
+
+
+def told_of_file(top, content, lines='kind = "disk"\n'):
+    """What targetd-explain-config prints of a second unit whose file has this content."""
+    path, config = top / "unit", top / "my.toml"
+    path.write_bytes(content)
+    config.write_text(f'{SOUND}[[target.unit]]\nlun = 1\nserial = "B"\nfile = "{path}"\n{lines}', encoding="utf-8")
+    status, told, _ = ran(top / EXPLAIN, config)
+    return status, told.replace(f'{config}:12: device fault: unit 2 of target 1: the file "{path}" ', "F ")
+
+
+def tells_why_a_file_is_no_disk_or_tape():
+    tape = 'kind = "tape"\ncapacity = 100\nearly = 0\n'
+    with installed() as top:
+        for content, lines, told in (
+                (bytes(1000), 'kind = "disk"\n',
+                 "F has 1000 bytes, and not a positive multiple of 512: truncate -s %512 makes it one\n"),
+                (b"", 'kind = "disk"\n', "F is empty, and a disk has as many bytes as its file\n"),
+                (item(b"ab") + item()[:7], tape,
+                 "F has no whole record or filemark at byte 10 of 17, but the length 0, its data, and 3 bytes of its second "
+                 "length: targetd-mend-tape can cut it there\n"),
+                (item(bytes(93)), tape, "F has 101 bytes, and more than the capacity of 100\n")):
+            assert told_of_file(top, content, lines) == (1, told), told
+        (top / "other").symlink_to(top / "unit")
+        third = f'[[target.unit]]\nlun = 2\nkind = "disk"\nserial = "C"\nfile = "{top / "other"}"\n'
+        status, told = told_of_file(top, bytes(512), f'kind = "disk"\n{third}')
+        assert status == 1 and f'"{top / "other"}" is that of another unit, as "{top / "unit"}"\n' in told, told
+
+
+def tells_who_has_a_file_locked():
+    units = SOUND.partition("\n")[2]
+    with installed() as top:
+        assert told_of_file(top, bytes(512))[0] == 0
+        with open(top / "unit", "rb") as locked:
+            fcntl.flock(locked, fcntl.LOCK_EX)
+            status, told = told_of_file(top, bytes(512))
+            assert status == 1 and told.startswith(f"F is locked by process {os.getpid()} ("), told
+        mine, other = top / "my.toml", top / "other.toml"
+        for config in (mine, other):
+            config.write_text(f'listen = "127.0.0.1:0"\n{units.replace("blocks = 8", f"""file = "{top}/unit" """)}',
+                              encoding="utf-8")
+        for words in (["--config", mine], [f"--config={mine.name}"]):
+            with server.listening(top / "sbin/targetd", "serve", *words, cwd=top) as running:
+                lock = f'unit 1 of target 1: the file "{top}/unit" is locked by process {running.process.pid} (targetd)'
+                assert ran(top / EXPLAIN, other) == (1, f"{other}:8: device fault: {lock}\n", "")
+                assert ran(top / EXPLAIN, mine) == (
+                    0, f"{mine}:8: note: {lock}, which serves this configuration\n{mine}: targetd takes it\n", "")
+
+
+def names_the_addresses_of_this_host_in_place_of_all():
+    with installed() as top:
+        for listen in ("0.0.0.0:3260", "[::]:3260"):
+            config = top / "my.toml"
+            config.write_text(SOUND.replace("127.0.0.1:0", listen), encoding="utf-8")
+            status, told, _ = ran(top / EXPLAIN, config)
+            front = f'{config}:1: note: "listen" is "{listen}", which discovery tells: no host can log in by it. '
+            assert status == 0 and told.startswith(f"{front}Name an address of this host"), told
+            named = re.findall(r"[ \[]([0-9a-f.:]+)\]?:3260(?= or |\n)", told.removeprefix(front))
+            assert len(named) == told.count(" or ") + told.count("host: "), told
+            for address in named:  # only an address of this host can be listened on
+                family = socket.AF_INET6 if ":" in address else socket.AF_INET
+                socket.create_server((address, 0), family=family).close()
+            assert not any(address.startswith("127.") or address == "::1" for address in named), told
 
 
 def configuration_of(run):
@@ -79,5 +153,8 @@ def explains_every_configuration_of_the_cases_by_its_number():
 
 CHECKS = [
     explains_each_fault_at_its_line_and_key,
+    tells_why_a_file_is_no_disk_or_tape,
+    tells_who_has_a_file_locked,
+    names_the_addresses_of_this_host_in_place_of_all,
     explains_every_configuration_of_the_cases_by_its_number,
 ]

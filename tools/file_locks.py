@@ -35,3 +35,21 @@ def words_of(processes):
         except OSError:
             named.append(f"process {process}")
     return " and ".join(named) or "another process"
+
+
+def is_served_by(process, config):
+    """A process serves the configuration at this path, by the words of its command line."""
+    try:
+        words = Path(f"/proc/{process}/cmdline").read_bytes().split(b"\0")
+    except OSError:
+        return False
+    named = (Path(f"/proc/{process}/cwd", os.fsdecode(word.removeprefix(b"--config="))) for word in words if word)
+    return b"serve" in words and any(is_same(one, config) for one in named)
+
+
+def is_same(one, other):
+    """Both paths lead to one file, as far as they can be followed."""
+    try:
+        return os.path.samefile(one, other)
+    except OSError:
+        return False
