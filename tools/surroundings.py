@@ -246,6 +246,16 @@ def sends_each_byte_that_the_system_has_taken_when_a_signal_ends_it():
             assert content.startswith(data_of(rest)) and len(data_of(rest)) > 0, number
 
 
+def ends_by_the_signals_that_end_programs_but_pipe():
+    for number in (signal.SIGTERM, signal.SIGINT, signal.SIGHUP, signal.SIGUSR1, signal.SIGUSR2, signal.SIGALRM):
+        with serving() as (process, _):
+            process.send_signal(number)
+            assert process.wait(LIMIT) == -number, number
+    with serving() as (process, address), connect(address) as client:
+        process.send_signal(signal.SIGPIPE)
+        assert is_answered(client, 1) and process.poll() is None
+
+
 CHECKS = [
     accepts_again_with_no_event_after_each_error_that_is_not_of_the_listener,
     goes_on_with_its_sessions_while_each_accept_is_refused,
@@ -255,4 +265,5 @@ CHECKS = [
     gives_the_place_of_one_who_reads_nothing_to_another,
     gives_all_64_places_of_peers_that_are_gone_to_others,
     sends_each_byte_that_the_system_has_taken_when_a_signal_ends_it,
+    ends_by_the_signals_that_end_programs_but_pipe,
 ]
