@@ -77,7 +77,7 @@ def tells_why_a_file_is_no_disk_or_tape():
                  "F has 1000 bytes, and not a positive multiple of 512: truncate -s %512 makes it one\n"),
                 (b"", 'kind = "disk"\n', "F is empty, and a disk has as many bytes as its file\n"),
                 (item(b"ab") + item()[:7], tape,
-                 "F has no whole record or filemark at byte 10 of 17, but the length 0, its data, and 3 bytes of its second "
+                 "F has no whole record or filemark at byte 10 of 17, but the length 0 and 3 bytes of its second "
                  "length: targetd-mend-tape can cut it there\n"),
                 (item(bytes(93)), tape, "F has 101 bytes, and more than the capacity of 100\n")):
             assert told_of_file(top, content, lines) == (1, told), told
@@ -88,7 +88,6 @@ def tells_why_a_file_is_no_disk_or_tape():
 
 
 def tells_who_has_a_file_locked():
-    units = SOUND.partition("\n")[2]
     with installed() as top:
         assert told_of_file(top, bytes(512))[0] == 0
         with open(top / "unit", "rb") as locked:
@@ -97,8 +96,7 @@ def tells_who_has_a_file_locked():
             assert status == 1 and told.startswith(f"F is locked by process {os.getpid()} ("), told
         mine, other = top / "my.toml", top / "other.toml"
         for config in (mine, other):
-            config.write_text(f'listen = "127.0.0.1:0"\n{units.replace("blocks = 8", f"""file = "{top}/unit" """)}',
-                              encoding="utf-8")
+            config.write_text(SOUND.replace("blocks = 8", f'file = "{top}/unit"'), encoding="utf-8")
         for words in (["--config", mine], [f"--config={mine.name}"]):
             with server.listening(top / "sbin/targetd", "serve", *words, cwd=top) as running:
                 lock = f'unit 1 of target 1: the file "{top}/unit" is locked by process {running.process.pid} (targetd)'

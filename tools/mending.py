@@ -14,13 +14,13 @@ SAID = "2 records and 3 filemarks in {} bytes"
 # What stands at the end of a tape in place of an item, and what is told of it.
 TORN = [
     *((bytes(4)[:count], f"{count} byte{'s' * (count > 1)} of a length") for count in range(1, 4)),
-    *((item()[:count], f"the length 0, its data, and {count - 4} byte{'s' * (count != 5)} of its second length")
+    *((item()[:count], f"the length 0 and {count - 4} byte{'s' * (count != 5)} of its second length")
       for count in range(4, 8)),
     *((item(RECORD)[:count], f"the length 24, and {count - 4} byte{'s' * (count != 5)} of its data")
       for count in range(4, 28)),
     *((item(RECORD)[:count], f"the length 24, its data, and {count - 28} byte{'s' * (count != 29)} of its second length")
       for count in range(28, 32)),
-    (bytes(7) + b"\x01", "the length 0, its data, and the second length 1"),
+    (bytes(7) + b"\x01", "the length 0 and the second length 1"),
     (item(RECORD)[:-1] + b"\x19" + item(b"cd"), "the length 24, its data, and the second length 25"),
     (b"\x00\x10\x00\x01" + bytes(20), "the length 1048577, and a record has at most 1048576 bytes"),
 ]

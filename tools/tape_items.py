@@ -57,10 +57,11 @@ def fault_at(pieces, place, size, length):
         return f"the length {length}, and a record has at most {MOST_RECORD} bytes"
     if here < length:
         return f"the length {length}, and {counted(here, 'byte')} of its data"
+    before = f"the length {length}, its data," if length else "the length 0"
     if here < length + LENGTH:
-        return f"the length {length}, its data, and {counted(here - length, 'byte')} of its second length"
+        return f"{before} and {counted(here - length, 'byte')} of its second length"
     again = pieces.number(place + LENGTH + length)
-    return f"the length {length}, its data, and the second length {again}" if again != length else ""
+    return f"{before} and the second length {again}" if again != length else ""
 
 
 def items_of(file):
