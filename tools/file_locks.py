@@ -23,7 +23,18 @@ def holders(file):
     wanted = os.major(status.st_dev), os.minor(status.st_dev), status.st_ino
     locks = LOCK.findall(Path("/proc/locks").read_text(encoding="ascii"))
     return [int(process) for process, major, minor, inode in locks
-            if (int(major, 16), int(minor, 16), int(inode)) == wanted and process != "0"]
+            if (int(major, 16), int(minor, 16), int(inode)) == wanted or int(inode) == status.st_ino and has_open(process, status)]
+
+
+def has_open(process, status):
+    """A process has the file with this status open. Some file systems (overlay, btrfs) have other devices in /proc/locks."""
+    for descriptor in Path(f"/proc/{process}/fd").glob("*"):
+        try:
+            if os.path.samestat(descriptor.stat(), status):
+                return True
+        except OSError:
+            continue
+    return False
 
 
 def words_of(processes):
