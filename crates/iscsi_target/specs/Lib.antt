@@ -43,4 +43,5 @@ pub mod Laws
 pub mod ExamplesBytes
 pub mod ExamplesWorld
 pub mod ExamplesData
+pub mod ExamplesHistories
 pub mod ExamplesIsolation
