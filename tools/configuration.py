@@ -133,7 +133,7 @@ class Configuration:
             self.tell(line, "socket", f'"listen" is "{listen}", and no address with a port, as "127.0.0.1:3260" or '
                       '"[::1]:3260": names are not looked up')
         elif address.is_unspecified:
-            self.tell(line, None, f'"listen" is "{listen}", which discovery tells: no host can log in by it. '
+            self.tell(line, None, f'"listen" is "{listen}", which discovery tells: no other host can log in by it. '
                       f"Name an address of this host{own_addresses(address.version, listen.rpartition(':')[2])}")
 
     def target(self, place):

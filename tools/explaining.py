@@ -111,7 +111,7 @@ def names_the_addresses_of_this_host_in_place_of_all():
             config = top / "my.toml"
             config.write_text(SOUND.replace("127.0.0.1:0", listen), encoding="utf-8")
             status, told, _ = ran(top / EXPLAIN, config)
-            front = f'{config}:1: note: "listen" is "{listen}", which discovery tells: no host can log in by it. '
+            front = f'{config}:1: note: "listen" is "{listen}", which discovery tells: no other host can log in by it. '
             assert status == 0 and told.startswith(f"{front}Name an address of this host"), told
             named = re.findall(r"[ \[]([0-9a-f.:]+)\]?:3260(?= or |\n)", told.removeprefix(front))
             assert len(named) == told.count(" or ") + told.count("host: "), told

@@ -23,11 +23,14 @@ def holders(file):
     wanted = os.major(status.st_dev), os.minor(status.st_dev), status.st_ino
     locks = LOCK.findall(Path("/proc/locks").read_text(encoding="ascii"))
     return [int(process) for process, major, minor, inode in locks
-            if (int(major, 16), int(minor, 16), int(inode)) == wanted or int(inode) == status.st_ino and has_open(process, status)]
+            if process != "0"  # one that cannot be seen from here
+            and ((int(major, 16), int(minor, 16), int(inode)) == wanted
+                 or int(inode) == status.st_ino and has_open(process, status))]
 
 
 def has_open(process, status):
-    """A process has the file with this status open. Some file systems (overlay, btrfs) have other devices in /proc/locks."""
+    """A process has the file with this status open. Some file systems (overlay, btrfs) have other devices in
+    /proc/locks."""
     for descriptor in Path(f"/proc/{process}/fd").glob("*"):
         try:
             if os.path.samestat(descriptor.stat(), status):
