@@ -18,10 +18,13 @@ pub enum TapeOpenFault {
     /// It is longer than the capacity.
     #[error("the tape is longer than its capacity")]
     TooLong,
+    /// An allocation failed.
+    #[error("out of memory")]
+    OutOfMemory,
 }
 
 impl TapeOpenFault {
-    /// The number of the fault, 1 to 3.
+    /// The number of the fault, 1 to 4.
     pub fn number(self) -> u8
         ensures { result ≡ fault_number self }
     {
@@ -29,6 +32,7 @@ impl TapeOpenFault {
             TapeOpenFault::TornEnd(_) => 1,
             TapeOpenFault::Device => 2,
             TapeOpenFault::TooLong => 3,
+            TapeOpenFault::OutOfMemory => 4,
         }
     }
 }

@@ -23,10 +23,12 @@ mod fault;
 mod item;
 pub mod laws;
 mod outcome;
+mod reading;
 mod space;
 mod tape;
 mod walk;
 mod write;
+mod writing;
 mod zeros;
 
 pub use fault::{NotOpened, TapeOpenFault};

@@ -8,6 +8,7 @@ ghost use Rattle.media_tape.specs.Fault.{failures_after, Explains};
 ghost use Rattle.media_tape.specs.Tape.{TapeState, items, located_at, located_told, read_told, passed_length, first_data, filled, tape_read};
 ghost use Rattle.media_tape.specs.Tape.{write_told, tape_written, written_synced, marks_told, marked_synced, tape_marked, lost, erased, is_early};
 ghost use Rattle.media_tape.specs.Space.{spaced_told, tape_spaced, tape_ended, Ends};
+ghost use Rattle.media_tape.specs.declared.fault.TapeOpenFault.TheVariants.{OutOfMemory};
 ghost use Rattle.media_tape.specs.declared.outcome.Passed.TheVariants as passed;
 ghost use Rattle.media_tape.specs.declared.outcome.Written.TheVariants as written;
 ghost use Rattle.media_tape.specs.declared.outcome.Located.TheVariants as located;
@@ -20,21 +21,23 @@ use crate::walk::{Walked, walk, walk_to};
 use crate::write::write_record;
 use crate::zeros::write_zeros;
 use media_store::{Store, StoreFault};
+use std::alloc::Global;
 use std::marker::Model;
 
 /// Records and filemarks over a store, and a position among them. Lengths and sizes are in bytes.
 #[derive(Drop)]
 pub struct Tape<S: Store> {
-    store: S,
-    capacity: u64,
-    early_mark: u64,
-    is_loaded: bool,
+    pub(crate) store: S,
+    pub(crate) capacity: u64,
+    pub(crate) early_mark: u64,
+    pub(crate) is_loaded: bool,
     /// How many items stand before the position, and their size.
-    position: u64,
-    place: u64,
+    pub(crate) position: u64,
+    pub(crate) place: u64,
     /// How many items there are, and their size.
-    count: u64,
-    end: u64,
+    pub(crate) count: u64,
+    pub(crate) end: u64,
+    pub(crate) alloc: Global,
 }
 
 impl<S: Store> Model for Tape<S> {
@@ -65,7 +68,12 @@ impl<S: Store> Model for Tape<S> {
 impl<S: Store> Tape<S> {
     /// Opens a store as a loaded tape with this capacity and early mark, its position before all items,
     /// or gives it back.
-    pub fn open(mut store: S, capacity: u64, early_mark: u64) -> Result<Tape<S>, NotOpened<S>>
+    pub fn open(
+        alloc: Global,
+        mut store: S,
+        capacity: u64,
+        early_mark: u64,
+    ) -> Result<Tape<S>, NotOpened<S>>
         ensures before { IfOk result (λ tape. IsTrue tape.honest → tape.before ≡ []) }
         ensures after { IfOk result (λ tape. IsTrue tape.honest → tape.after ≡ items_of (S.Store.content store)) }
         ensures tail { IfOk result (λ tape. IsTrue tape.honest → tape.tail ≡ []) }
@@ -79,7 +87,7 @@ impl<S: Store> Tape<S> {
         ensures back { IfOk result (λ tape. IsTrue tape.honest → IsTrue (S.Store.honest store)) }
         ensures stays { IfOk result (λ tape. IsTrue (S.Store.steady store) → IsTrue (S.Store.honest store) → IsTrue tape.honest) }
         ensures succeeds { IsTrue (S.Store.steady store) → IsTrue (S.Store.honest store) → is_tape (S.Store.content store) ≡ true
-            → length (S.Store.content store) ≤ capacity → IsOk result }
+            → length (S.Store.content store) ≤ capacity → IfErr result (λ refused. refused.fault ≡ OutOfMemory) }
         ensures explained { IfErr result (λ refused. IsTrue (S.Store.honest refused.store)
             → Explains (S.Store.content store) capacity refused.fault) }
         ensures counted { IfErr result (λ refused. S.Store.failures refused.store ≡ failures_after refused.fault (S.Store.failures store)) }
@@ -120,6 +128,7 @@ impl<S: Store> Tape<S> {
             place: 0,
             count: walked.count,
             end,
+            alloc,
         })
     }
 
@@ -132,7 +141,7 @@ impl<S: Store> Tape<S> {
 
     /// Passes the item behind the position, and puts as many bytes of a record into the buffer as there
     /// is room for (SSC-4 "READ (6)"). Where it fails, the tape is as before.
-    pub fn read(&mut self, bytes: &mut [u8]) -> Result<Passed, StoreFault>
+    pub(crate) fn read_into(&mut self, bytes: &mut [u8]) -> Result<Passed, StoreFault>
         ensures passed { IfOk result (λ passed. IsTrue self.new.honest → passed ≡ read_told (length bytes.old) self.old) }
         ensures nothing { IfOk result (λ told. told ≡ passed.Nothing → length bytes.old ≡ 0) }
         ensures fits { IfOk result (λ passed. passed_length passed ≤ most_bytes) }
@@ -166,7 +175,7 @@ impl<S: Store> Tape<S> {
 
     /// Writes a record in the place of all that stands behind the position (SSC-4 "WRITE (6)"). One of
     /// no byte changes nothing. Where it fails, the items before the position are left.
-    pub fn write(&mut self, bytes: &[u8]) -> Result<Written, StoreFault>
+    pub(crate) fn write_record(&mut self, bytes: &[u8]) -> Result<Written, StoreFault>
         requires { length bytes.now ≤ most_bytes }
         ensures told { IfOk result (λ told. IsTrue self.old.honest → told ≡ write_told bytes.now self.old) }
         ensures tape { OnOk result (IsTrue self.old.honest → self.new ≡ tape_written bytes.now self.old) }
@@ -209,7 +218,7 @@ impl<S: Store> Tape<S> {
 
     /// Writes filemarks in the place of all that stands behind the position, and waits until all is on the
     /// medium (SSC-4 "WRITE FILEMARKS (6)"). Where it fails, the items before the position are left.
-    pub fn marks(&mut self, count: u32) -> Result<Written, StoreFault>
+    pub(crate) fn write_marks(&mut self, count: u32) -> Result<Written, StoreFault>
         ensures told { IfOk result (λ told. IsTrue self.old.honest → told ≡ marks_told count self.old) }
         ensures tape { OnOk result (IsTrue self.old.honest → self.new ≡ tape_marked count self.old) }
         ensures failed { OnErr result (IsTrue self.old.honest → count ≢ 0 → self.new ≡ lost self.new.tail false self.old) }

@@ -1,6 +1,5 @@
 pub mod Came
 pub mod Records
-pub mod Room
 pub mod Shown
 pub mod MarksDone
 pub mod WriteDone

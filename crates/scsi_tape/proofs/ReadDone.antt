@@ -1,8 +1,9 @@
 -- How READ of some bytes came out.
-use Rattle.std.proofs.Common.{◌≡◌, ◌≢◌, ℕ, zero, suc, ◌≤◌, ◌==◌, List, length, Bool, true, false, IsTrue, nat_lt, refl, sym, ap, ◌∙◌}
+use Rattle.std.proofs.Common.{◌≡◌, ◌≢◌, ℕ, zero, suc, ◌≤◌, ◌==◌, min, List, length, take, arith, Bool, true, false, IsTrue, nat_lt, refl, sym, ap, ◌∙◌}
 use Rattle.std.proofs.lemmas.Bool.{false≢true}
+use Rattle.std.proofs.lemmas.List.{take-take, take_all}
 use Rattle.media_store.specs.Failures.{risen}
-use Rattle.media_tape.specs.Tape.{TapeState, read_told, first_told, first_data, tape_read}
+use Rattle.media_tape.specs.Tape.{TapeState, read_told, first_told, first_data, passed_length, tape_read}
 use Rattle.media_tape.specs.declared.outcome.Passed.{Passed}
 use Rattle.media_tape.specs.declared.outcome.Passed.TheVariants as passed
 use Rattle.scsi_sense.specs.Done.{Outcome, check_condition}
@@ -10,11 +11,11 @@ use Rattle.scsi_cdb.specs.Record.{most_record}
 use Rattle.scsi_cdb.specs.declared.tape.TapeCommand.TheVariants.{Read}
 use Rattle.scsi_tape.specs.TapeSense.{unrecovered_read}
 use Rattle.scsi_tape.specs.State.{TapeUnitState}
-use Rattle.scsi_tape.specs.Commands.{read_outcome}
+use Rattle.scsi_tape.specs.Commands.{read_outcome, record_outcome}
 use Rattle.scsi_tape.specs.CameOut.{IsTapeDone, Shown, standing_of, showing}
 use Rattle.scsi_tape.proofs.Came.{with_tape, answered, read_fails, moved}
 use Rattle.scsi_tape.proofs.Records.{some_byte, first_same, not_zero}
-use Rattle.scsi_tape.proofs.Shown.{empty, read_shown, record_length}
+use Rattle.scsi_tape.proofs.Shown.{empty, read_shown, record_front, record_length}
 
 -- what a READ tells of the item that it passed, it tells of the tape shown
 told_seen : (asked : ℕ) (suppressed : Bool) (seen : Passed) (got : List ℕ) → (seen ≡ passed.Nothing → ⊥)
@@ -25,6 +26,25 @@ told_seen asked suppressed (passed.Record n) got some =
     ap (λ (k : ℕ). read_outcome asked suppressed (passed.Record k) (first_data (read_shown (passed.Record n) got))) (sym (record_length n got))
 told_seen asked suppressed passed.Filemark got some = refl
 told_seen asked suppressed passed.EndOfData got some = refl
+
+-- bytes of a record that was read, no more than were asked for
+pub told_given : (asked : ℕ) (suppressed : Bool) (got bytes : List ℕ) (seen told : Passed) → told ≡ seen → got ≡ take asked bytes
+    → read_outcome asked suppressed told got ≡ read_outcome asked suppressed seen bytes
+told_given asked suppressed got bytes seen passed.Nothing same is = rw (← same) refl
+told_given asked suppressed got bytes seen (passed.Record n) same is =
+    rw (← same, is, take-take asked asked bytes (omega arith)) refl
+told_given asked suppressed got bytes seen passed.Filemark same is = rw (← same) refl
+told_given asked suppressed got bytes seen passed.EndOfData same is = rw (← same) refl
+
+-- they are those of the record shown
+pub told_shown : (asked : ℕ) (suppressed : Bool) (got : List ℕ) (seen : Passed) → length got ≡ min asked (passed_length seen)
+    → read_outcome asked suppressed seen got ≡ read_outcome asked suppressed seen (first_data (read_shown seen got))
+told_shown asked suppressed got passed.Nothing long = refl
+told_shown asked suppressed got (passed.Record n) long =
+    ap (record_outcome asked suppressed n) (take_all asked got (omega (arith, long)) ∙ sym (take_all n got (omega (arith, long)))
+    ∙ sym (record_front asked n n got long (omega arith)))
+told_shown asked suppressed got passed.Filemark long = refl
+told_shown asked suppressed got passed.EndOfData long = refl
 
 zero_not : (asked : ℕ) → asked ≢ 0 → (asked == 0) ≡ false
 zero_not zero any = absurd (any refl)

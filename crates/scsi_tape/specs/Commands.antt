@@ -17,11 +17,9 @@ use Rattle.media_tape.specs.declared.outcome.Over.{Over}
 use Rattle.media_tape.specs.declared.outcome.Over.TheVariants as over
 use Rattle.media_tape.specs.declared.outcome.Direction.{Direction}
 use Rattle.media_tape.specs.declared.outcome.Direction.TheVariants as direction
-use Rattle.scsi_sense.specs.Given.{headroom}
 use Rattle.scsi_sense.specs.Done.{Outcome, good, good_with, good_taking, check_condition}
 use Rattle.scsi_sense.specs.declared.sense.Sense.{Sense}
 use Rattle.scsi_sense.specs.declared.done.Status.TheVariants.{CheckCondition}
-use Rattle.scsi_cdb.specs.Record.{most_record}
 use Rattle.scsi_cdb.specs.declared.tape.Distance.{Distance}
 use Rattle.scsi_cdb.specs.declared.tape.SpaceCode.{SpaceCode}
 use Rattle.scsi_cdb.specs.declared.tape.SpaceCode.TheVariants.{LogicalBlocks, Filemarks}
@@ -150,21 +148,3 @@ bytes_needed Erase = 0
 bytes_needed (LoadUnload load) = 0
 bytes_needed (Locate number) = 0
 bytes_needed ReadPosition = 0
-
--- the most bytes of data that a command can give
-abbrev pub most_of : TapeCommand → ℕ
-most_of Rewind = 0
-most_of ReadBlockLimits = 6
-most_of (Read asked suppressed) = min asked most_record
-most_of (Write count) = 0
-most_of (WriteFilemarks count) = 0
-most_of (Space code distance) = 0
-most_of SpaceToEndOfData = 0
-most_of Erase = 0
-most_of (LoadUnload load) = 0
-most_of (Locate number) = 0
-most_of ReadPosition = 20
-
--- own: how much room a buffer needs for a header and for them: none where no data can be given
-abbrev pub room_needed : TapeCommand → ℕ
-room_needed command = if most_of command == 0 then 0 else headroom + most_of command

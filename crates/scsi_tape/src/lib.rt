@@ -16,8 +16,8 @@
 //! ([`TapeUnit::not_ready`]). A command comes out so only by what it does with its medium (`tape_touch`). Behind WRITE
 //! FILEMARKS that is answered GOOD, or with the early warning, the store is synced, whether it is honest or not.
 //!
-//! What gives data has a buffer handed in, with the room that [`room_needed`] tells. A record lies there as it is
-//! sent.
+//! What gives data has a buffer handed in, and makes the room in it that it takes. A record lies there as it is sent.
+//! Where an allocation fails nothing changes.
 #![tactic(auto)]
 
 mod positioning;
@@ -26,4 +26,4 @@ mod sense;
 mod tape_unit;
 mod writing;
 
-pub use tape_unit::{TapeUnit, bytes_needed, room_needed};
+pub use tape_unit::{TapeUnit, bytes_needed};

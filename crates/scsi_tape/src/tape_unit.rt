@@ -1,16 +1,17 @@
 //! The tape of a unit, and any command to it.
 
-ghost use Rattle.std.specs.Prelude.{◌≡◌, ◌≤◌, [], true, length, IsTrue};
+ghost use Rattle.std.specs.Prelude.{◌≡◌, ◌≤◌, [], true, length, IsTrue, IfOk, OnErr};
 ghost use Rattle.scsi_cdb.specs.Record.{most_record};
 ghost use Rattle.scsi_tape.specs.State.{not_ready};
-ghost use Rattle.scsi_tape.specs.Commands.{bytes_needed, most_of, room_needed};
+ghost use Rattle.scsi_tape.specs.Commands.{bytes_needed};
 ghost use Rattle.scsi_tape.specs.CameOut.{IsTapeDone, tape_done, is_steady, IsTrustedTape, AreSynced};
 
 use bytes::BytesMut;
 use media_store::Store;
 use media_tape::Tape;
-use scsi_cdb::{MOST_RECORD, Need, TapeCommand};
-use scsi_sense::{Condition, Done, HEADROOM, Sense};
+use out_of_memory::Memory;
+use scsi_cdb::{Need, TapeCommand};
+use scsi_sense::{Condition, Done, Sense};
 use std::alloc::Global;
 use std::marker::Model;
 
@@ -30,35 +31,6 @@ pub fn bytes_needed(command: &TapeCommand) -> usize
         | TapeCommand::LoadUnload { .. }
         | TapeCommand::Locate(_)
         | TapeCommand::ReadPosition => 0,
-    }
-}
-
-/// The most bytes of data that a command can give.
-fn most_of(command: &TapeCommand) -> usize
-    ensures { result ≡ most_of command.now }
-{
-    match command {
-        TapeCommand::ReadBlockLimits => 6,
-        TapeCommand::Read { length, .. } => (*length).min(MOST_RECORD) as usize,
-        TapeCommand::ReadPosition => 20,
-        TapeCommand::Rewind
-        | TapeCommand::Write(_)
-        | TapeCommand::WriteFilemarks(_)
-        | TapeCommand::Space { .. }
-        | TapeCommand::SpaceToEndOfData
-        | TapeCommand::Erase
-        | TapeCommand::LoadUnload { .. }
-        | TapeCommand::Locate(_) => 0,
-    }
-}
-
-/// How much room the buffer of a command needs, in bytes: none where it can give no data.
-pub fn room_needed(command: &TapeCommand) -> usize
-    ensures { result ≡ room_needed command.now }
-{
-    match most_of(command) {
-        0 => 0,
-        most => HEADROOM + most,
     }
 }
 
@@ -110,23 +82,25 @@ impl<S: Store> TapeUnit<S> {
         }
     }
 
-    /// A command with the data that it needs. The data that it gives lies in the buffer, which is empty and has the
-    /// room that [`room_needed`] tells; where none is given the buffer is left. Where the store fails it is told so.
+    /// A command with the data that it needs. The data that it gives lies in the buffer, which is empty: behind room
+    /// for a header, and with room for what is sent behind it. Where none is given the buffer is left. Where an
+    /// allocation fails nothing changes; where the store fails it is told so.
     pub fn carry_out(
         &mut self,
         alloc: Global,
         buffer: &mut BytesMut,
         command: TapeCommand,
         data: &[u8],
-    ) -> Done
+    ) -> Result<Done, Memory>
         requires empty { buffer.old.items ≡ [] }
-        requires room { room_needed command ≤ buffer.old.spare }
         requires enough { bytes_needed command ≤ length «data».now }
-        ensures done { IsTapeDone command «data».now self.old self.new result }
-        ensures exact { IsTrustedTape self.old.tape self.new.tape → (self.new, result) ≡ tape_done command «data».now self.old }
-        ensures sure { IsTrue self.old.tape.honest → IsTrue (is_steady self.old.tape) → (self.new, result) ≡ tape_done command «data».now self.old }
-        ensures synced { AreSynced command self.new.tape result }
-        ensures given { length result.given ≤ most_record }
+        ensures done { IfOk result (IsTapeDone command «data».now self.old self.new) }
+        ensures exact { IfOk result (λ done. IsTrustedTape self.old.tape self.new.tape → (self.new, done) ≡ tape_done command «data».now self.old) }
+        ensures sure { IfOk result (λ done. IsTrue self.old.tape.honest → IsTrue (is_steady self.old.tape)
+            → (self.new, done) ≡ tape_done command «data».now self.old) }
+        ensures synced { IfOk result (AreSynced command self.new.tape) }
+        ensures given { IfOk result (λ done. length done.given ≤ most_record) }
+        ensures err { OnErr result (self.new ≡ self.old) }
     {
         self.by_command(alloc, buffer, command, data)
     }
@@ -138,15 +112,15 @@ impl<S: Store> TapeUnit<S> {
         buffer: &mut BytesMut,
         command: TapeCommand,
         data: &[u8],
-    ) -> Done
+    ) -> Result<Done, Memory>
         requires empty { buffer.old.items ≡ [] }
-        requires room { room_needed command ≤ buffer.old.spare }
         requires enough { bytes_needed command ≤ length «data».now }
-        ensures done { IsTapeDone command «data».now self.old self.new result }
-        ensures given { length result.given ≤ most_record }
+        ensures done { IfOk result (IsTapeDone command «data».now self.old self.new) }
+        ensures given { IfOk result (λ done. length done.given ≤ most_record) }
+        ensures err { OnErr result (self.new ≡ self.old) }
     {
         match command {
-            TapeCommand::Rewind => self.rewind(alloc),
+            TapeCommand::Rewind => Ok(self.rewind(alloc)),
             TapeCommand::ReadBlockLimits => self.read_block_limits(alloc, buffer),
             TapeCommand::Read {
                 length: asked,
@@ -154,11 +128,11 @@ impl<S: Store> TapeUnit<S> {
             } => self.read(alloc, buffer, asked, suppress_incorrect_length),
             TapeCommand::Write(record) => self.write(alloc, record, data),
             TapeCommand::WriteFilemarks(count) => self.write_filemarks(alloc, count),
-            TapeCommand::Space { code, distance } => self.space(alloc, code, distance),
-            TapeCommand::SpaceToEndOfData => self.space_to_end_of_data(alloc),
-            TapeCommand::Erase => self.erase(alloc),
-            TapeCommand::LoadUnload { load } => self.load_unload(alloc, load),
-            TapeCommand::Locate(number) => self.locate(alloc, number),
+            TapeCommand::Space { code, distance } => Ok(self.space(alloc, code, distance)),
+            TapeCommand::SpaceToEndOfData => Ok(self.space_to_end_of_data(alloc)),
+            TapeCommand::Erase => Ok(self.erase(alloc)),
+            TapeCommand::LoadUnload { load } => Ok(self.load_unload(alloc, load)),
+            TapeCommand::Locate(number) => Ok(self.locate(alloc, number)),
             TapeCommand::ReadPosition => self.read_position(alloc, buffer),
         }
     }

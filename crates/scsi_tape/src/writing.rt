@@ -1,6 +1,6 @@
 //! The commands that write to the tape, or cut it.
 
-ghost use Rattle.std.specs.Prelude.{◌≡◌, ◌≤◌, ℕ, List, [], false, length};
+ghost use Rattle.std.specs.Prelude.{◌≡◌, ◌≤◌, ℕ, List, [], false, length, IfOk, OnErr};
 ghost use Rattle.scsi_sense.specs.Done.{check_condition};
 ghost use Rattle.scsi_cdb.specs.declared.tape.TapeCommand.TheVariants.{Write, WriteFilemarks, Erase};
 ghost use Rattle.scsi_tape.specs.TapeSense.{write_error};
@@ -11,6 +11,7 @@ use crate::sense::{early_warning, overflow};
 use crate::tape_unit::TapeUnit;
 use media_store::Store;
 use media_tape::Written;
+use out_of_memory::Memory;
 use scsi_cdb::RecordLength;
 use scsi_sense::{Condition, Done, Sense};
 use std::alloc::Global;
@@ -53,30 +54,38 @@ impl<S: Store> TapeUnit<S> {
         Done::check_condition(alloc, Sense::new(Condition::WriteError))
     }
 
-    /// WRITE (6) of a record, with its data in front.
-    pub(crate) fn write(&mut self, alloc: Global, size: RecordLength, data: &[u8]) -> Done
+    /// WRITE (6) of a record, with its data in front. Where an allocation fails nothing changes.
+    pub(crate) fn write(
+        &mut self,
+        alloc: Global,
+        size: RecordLength,
+        data: &[u8],
+    ) -> Result<Done, Memory>
         requires { size ≤ length «data».now }
-        ensures done { IsTapeDone (Write size) «data».now self.old self.new result }
-        ensures given { result.given ≡ [] }
+        ensures done { IfOk result (IsTapeDone (Write size) «data».now self.old self.new) }
+        ensures given { IfOk result (λ done. done.given ≡ []) }
+        ensures err { OnErr result (self.new ≡ self.old) }
     {
         let count = size.bytes();
         if count == 0 {
-            return Done::good(alloc);
+            return Ok(Done::good(alloc));
         }
-        match self.tape.write(&data[..count as usize]) {
-            Ok(ended) => written(alloc, count, ended),
-            Err(_) => self.write_failed(alloc),
+        match self.tape.write(&data[..count as usize])? {
+            Ok(ended) => Ok(written(alloc, count, ended)),
+            Err(_) => Ok(self.write_failed(alloc)),
         }
     }
 
     /// WRITE FILEMARKS (6). All that was written is waited for, also where there is no filemark to write.
-    pub(crate) fn write_filemarks(&mut self, alloc: Global, count: u32) -> Done
-        ensures done { (bytes : List ℕ) → IsTapeDone (WriteFilemarks count) bytes self.old self.new result }
-        ensures given { result.given ≡ [] }
+    /// Where an allocation fails nothing changes.
+    pub(crate) fn write_filemarks(&mut self, alloc: Global, count: u32) -> Result<Done, Memory>
+        ensures done { IfOk result (λ done. (bytes : List ℕ) → IsTapeDone (WriteFilemarks count) bytes self.old self.new done) }
+        ensures given { IfOk result (λ done. done.given ≡ []) }
+        ensures err { OnErr result (self.new ≡ self.old) }
     {
-        match self.tape.marks(count) {
-            Ok(ended) => marked(alloc, count, ended),
-            Err(_) => self.write_failed(alloc),
+        match self.tape.marks(count)? {
+            Ok(ended) => Ok(marked(alloc, count, ended)),
+            Err(_) => Ok(self.write_failed(alloc)),
         }
     }
 

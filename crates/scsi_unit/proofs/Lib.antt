@@ -9,3 +9,4 @@ pub mod Performed
 pub mod Found
 pub mod Sound
 pub mod TapeDone
+pub mod Room

@@ -18,12 +18,12 @@ use bytes::BytesMut;
 use media_store::Store;
 use out_of_memory::Memory;
 use scsi_cdb::{Cdb, TapeCommand};
-use scsi_sense::{Attention, Done, Nexus, TAILROOM};
-use scsi_tape::{TapeUnit, room_needed};
+use scsi_sense::{Attention, Done, Nexus};
+use scsi_tape::TapeUnit;
 use std::alloc::Global;
 
-/// A command to a tape with the data that it needs. The room for the data that it can give is made first, with
-/// room for what is sent behind it, so that where an allocation fails nothing changes.
+/// A command to a tape with the data that it needs, and a buffer that was used before, where there is one, for the
+/// data that it gives. Where an allocation fails nothing changes.
 fn carry_out<S: Store>(
     alloc: Global,
     used: &mut Vec<BytesMut>,
@@ -36,14 +36,10 @@ fn carry_out<S: Store>(
     ensures given { IfOk result (λ done. length done.given ≤ most_given) }
     ensures err { OnErr result (tape.new ≡ tape.old) }
 {
-    let room = room_needed(&command);
-    if room == 0 {
-        return Ok(tape.carry_out(alloc, &mut BytesMut::new(alloc), command, data));
-    }
-    let mut buffer = take(alloc, used, room + TAILROOM)?;
+    let mut buffer = take(alloc, used, 0)?;
     let done = tape.carry_out(alloc, &mut buffer, command, data);
     give_back(used, buffer);
-    Ok(done)
+    done
 }
 
 /// Whether a command loads a tape that is not.

@@ -13,7 +13,7 @@ use crate::fault::{OpenFault, UnitFault};
 use crate::store::{MediumStore, SystemStore};
 use media_block::{BLOCK_LENGTH, Disk};
 use media_store::{FileStore, MemStore, Start, Store, SystemFile};
-use media_tape::Tape;
+use media_tape::{Tape, TapeOpenFault};
 use out_of_memory::Memory;
 use scsi_unit::{Serial, Unit, Units};
 use std::alloc::Global;
@@ -55,7 +55,13 @@ fn memory_tape<F: Store + Drop>(
     ensures { IfOk result (λ tape. tape ≡ empty_tape capacity early) }
 {
     let store = MemStore::new(alloc, 0, capacity as usize)?;
-    Ok(Tape::open(MediumStore::Memory(store), capacity, early).unwrap())
+    match Tape::open(alloc, MediumStore::Memory(store), capacity, early) {
+        Ok(tape) => Ok(tape),
+        Err(refused) => {
+            prove!(matches!(&refused.fault, TapeOpenFault::OutOfMemory));
+            Err(Memory)
+        }
+    }
 }
 
 /// What an error of the system at the file of a unit is told as.
@@ -87,9 +93,21 @@ fn file_disk<S: Start>(
     }
 }
 
+/// What a store that is not opened as a tape is told as.
+fn tape_fault(fault: TapeOpenFault, lun: u8) -> UnitFault
+    ensures { result ≢ OutOfMemory → result ≡ Device lun }
+{
+    match fault {
+        TapeOpenFault::OutOfMemory => UnitFault::Memory,
+        TapeOpenFault::TornEnd(_) | TapeOpenFault::Device | TapeOpenFault::TooLong => {
+            UnitFault::Device { lun }
+        }
+    }
+}
+
 /// A tape in the file at a path, which is opened for reading and writing. None is made.
 fn file_tape<S: Start>(
-    rt: &impl Files<File = File>,
+    rt: &(impl Files<File = File> + AllocGlobal),
     path: String,
     capacity: u64,
     early: u64,
@@ -101,9 +119,9 @@ fn file_tape<S: Start>(
     match SystemFile::open(rt, path.as_str()) {
         Ok(file) => {
             let store = MediumStore::File(FileStore::new(file));
-            match Tape::open(store, capacity, early) {
+            match Tape::open(rt.alloc(), store, capacity, early) {
                 Ok(tape) => Ok(tape),
-                Err(_) => Err(UnitFault::Device { lun }),
+                Err(refused) => Err(tape_fault(refused.fault, lun)),
             }
         }
         Err(error) => Err(fault_of(&error, lun)),

@@ -85,7 +85,7 @@ fn disk(alloc: Global) -> Result<Unit<MemStore>, Fault> {
 fn tape(alloc: Global) -> Result<Unit<MemStore>, Fault> {
     let store = MemStore::new(alloc, 0, CAPACITY)?;
     let serial = Serial::new(String::from_str(alloc, "T1")?);
-    let tape = Tape::open(store, CAPACITY as u64, EARLY)?;
+    let tape = Tape::open(alloc, store, CAPACITY as u64, EARLY)?;
     Ok(Unit::tape(alloc, 1, serial, tape))
 }
 

@@ -1,6 +1,6 @@
 use Rattle.std.proofs.Common.{◌∙◌, length, ap, arith}
 use Rattle.std.proofs.lemmas.Result.{on_ok_weaker}
-use Rattle.scsi_tape.proofs.Room.{read_behind}
+use Rattle.scsi_unit.proofs.Room.{read_behind}
 use Rattle.scsi_unit.proofs.disk_commands.read_into.Goals as goal
 
 pub returns-clause-length : goal.returns-clause-length

@@ -4,7 +4,7 @@ use Rattle.media_tape.proofs.Positions.{kept, written-filemarks, Stands-lies, St
 use Rattle.media_tape.proofs.Writes.{KeepsBefore-ends}
 use Rattle.media_tape.proofs.Commands.{tape_marked-fitting}
 use Rattle.media_tape.proofs.Results.{on_err_always}
-use Rattle.media_tape.proofs.tape.Tape.marks.Goals as goal
+use Rattle.media_tape.proofs.tape.Tape.write_marks.Goals as goal
 
 pub invariant_of-self-in_err-write_zeros : goal.invariant_of-self-in_err-write_zeros
 invariant_of-self-in_err-write_zeros g c =

@@ -3,7 +3,7 @@ use Rattle.media_tape.specs.Items.{Record, size_of, items_of}
 use Rattle.media_tape.proofs.Positions.{kept, written-record, Stands-lies, Stands-before, Stands-after}
 use Rattle.media_tape.proofs.Commands.{tape_written-fitting}
 use Rattle.media_tape.proofs.Results.{on_err_always}
-use Rattle.media_tape.proofs.tape.Tape.write.Goals as goal
+use Rattle.media_tape.proofs.tape.Tape.write_record.Goals as goal
 
 pub invariant_of-self : goal.invariant_of-self
 invariant_of-self g c =

@@ -4,7 +4,7 @@ use Rattle.std.proofs.lemmas.List.{drop-drop}
 use Rattle.media_tape.specs.Items.{items_of}
 use Rattle.media_tape.specs.Tape.{filled}
 use Rattle.media_tape.proofs.Positions.{last-position, Lies-next, told-behind, data-behind}
-use Rattle.media_tape.proofs.tape.Tape.read.Goals as goal
+use Rattle.media_tape.proofs.tape.Tape.read_into.Goals as goal
 
 -- a store that is honest has an item there
 pub returns-in_default-clause-passed : goal.returns-in_default-clause-passed
