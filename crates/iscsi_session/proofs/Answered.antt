@@ -66,7 +66,7 @@ function_kind frame e = ap opcode_of (eqb-true (opcode_number frame.header) 0x02
 pub no_function_kind : (frame : Frame) {o : Opcode} → kind_of frame ≡ o → (opcodes.TaskManagement ≡ o → ⊥) → is_function frame ≡ false
 no_function_kind frame is other = false_from_ne_true (is_function frame) (λ h. absurd (other (sym (function_kind frame h) ∙ is)))
 
-ended_plain : (luns : List ℕ) (k : ℕ) (past : Past) → is_function (frame_of past.came k) ≡ false → ended luns k past ≡ moved k past
+pub ended_plain : (luns : List ℕ) (k : ℕ) (past : Past) → is_function (frame_of past.came k) ≡ false → ended luns k past ≡ moved k past
 ended_plain luns k past e = rw e refl
 
 acted_plain : (luns : List ℕ) (k : ℕ) (past : Past) → is_function (frame_of past.came k) ≡ false

@@ -39,7 +39,7 @@ from_tags past k tags = record {
   sent = length tags;
 }
 
-asked_there : (past : Past) (k : ℕ) → transfer_of (asked k past) k ≡ sent_to (next_transfer_tag past) (transfer_of past k)
+pub asked_there : (past : Past) (k : ℕ) → transfer_of (asked k past) k ≡ sent_to (next_transfer_tag past) (transfer_of past k)
 unfolding task_at outs_of tags_of
 asked_there past k =
     let tag = next_transfer_tag past in
@@ -50,13 +50,13 @@ asked_there past k =
     ∙ ap (λ (t : TaskState). record (from_tags past k (tags ++ tag ∷ [])) { task = t }) (remembered-asked (data_past past k) tag)
     ∙ ap (λ (n : ℕ). record (sent_to tag (transfer_of past k)) { sent = n }) (length-append tags (tag ∷ []))
 
-asked_elsewhere : (past : Past) (k j : ℕ) → j ≢ k → transfer_of (asked k past) j ≡ transfer_of past j
+pub asked_elsewhere : (past : Past) (k j : ℕ) → j ≢ k → transfer_of (asked k past) j ≡ transfer_of past j
 unfolding task_at outs_of tags_of
 asked_elsewhere past k j differ =
     ap (from_tags past j) (one_more false (λ r. r.command) (λ r. r.tag) (sent_now past k) j past.r2ts (ne_eqb k j (λ e. differ (sym e)))
     ∙ append-nil (map (λ (r : SentR2t). r.tag) (filter (λ (r : SentR2t). r.command == j) past.r2ts)))
 
-unfinished_asked : (past : Past) (k : ℕ) → unfinished (asked k past) ≡ unfinished past
+pub unfinished_asked : (past : Past) (k : ℕ) → unfinished (asked k past) ≡ unfinished past
 unfolding unfinished
 unfinished_asked past k = refl
 

@@ -7,7 +7,7 @@ use Rattle.std.proofs.lemmas.Bool.Decides.{leb_tells}
 use Rattle.std.proofs.lemmas.List.{nil_from_length, length-map}
 use Rattle.std.proofs.lemmas.List.FromFn.{get_or-map-range_with_len, length-range_with_len}
 use Rattle.iscsi_pdu.specs.Header.{is_immediate}
-use Rattle.iscsi_pdu.specs.TaskManagement.{task_function, function_code, ref_cmd_sn}
+use Rattle.iscsi_pdu.specs.TaskManagement.{ref_cmd_sn}
 use Rattle.iscsi_session.specs.declared.scope.Scope.{Scope}
 use Rattle.iscsi_session.specs.declared.scope.Scope.TheVariants as scopes
 use Rattle.iscsi_pdu.specs.Frames.{Frame}

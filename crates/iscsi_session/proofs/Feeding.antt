@@ -183,7 +183,7 @@ judged_is past state frame s =
 abbrev out_of : ℕ → Frame → DataOut
 out_of k frame = record { command = k; frame = frame }
 
-abbrev feeding : ℕ → Frame → Past → Past
+abbrev pub feeding : ℕ → Frame → Past → Past
 feeding k frame past = record past { data_outs = past.data_outs ++ out_of k frame ∷ [] }
 
 -- of the past of its data, and of how many R2Ts were sent for it
@@ -201,13 +201,13 @@ fed_there past k frame =
     ap (from_outs past k) (one_more true (λ d. d.command) (λ d. d.frame) (out_of k frame) k past.data_outs (eq-eqb k k refl))
     ∙ ap (λ (t : TaskState). record (transfer_of past k) { task = t }) (remembered-accepted (data_past past k) frame)
 
-fed_elsewhere : (past : Past) (k j : ℕ) (frame : Frame) → j ≢ k → transfer_of (feeding k frame past) j ≡ transfer_of past j
+pub fed_elsewhere : (past : Past) (k j : ℕ) (frame : Frame) → j ≢ k → transfer_of (feeding k frame past) j ≡ transfer_of past j
 unfolding task_at outs_of tags_of
 fed_elsewhere past k j frame differ =
     ap (from_outs past j) (one_more false (λ d. d.command) (λ d. d.frame) (out_of k frame) j past.data_outs (ne_eqb k j (λ e. differ (sym e)))
     ∙ append-nil (map (λ (d : DataOut). d.frame) (filter (λ (d : DataOut). d.command == j) past.data_outs)))
 
-unfinished_fed : (past : Past) (k : ℕ) (frame : Frame) → unfinished (feeding k frame past) ≡ unfinished past
+pub unfinished_fed : (past : Past) (k : ℕ) (frame : Frame) → unfinished (feeding k frame past) ≡ unfinished past
 unfolding unfinished
 unfinished_fed past k frame = refl
 

@@ -93,7 +93,7 @@ judged_by Ignored past frame e lawful = lawful
 judged_by Dropped past frame e lawful = lawful
 judged_by Violating past frame e lawful = lawful
 
-judge_lawful : (frame : Frame) (work : Work) → IsLawful work.past → IsLawful (judge frame work).past
+pub judge_lawful : (frame : Frame) (work : Work) → IsLawful work.past → IsLawful (judge frame work).past
 unfolding judge
 judge_lawful frame work lawful = judged_by _ work.past frame refl lawful
 

@@ -38,6 +38,7 @@ pub mod Settled
 mod Served
 pub mod Steps
 pub mod Lawful
+pub mod Due
 pub mod Came
 pub mod Calm
 pub mod Runs

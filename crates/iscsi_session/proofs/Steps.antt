@@ -36,7 +36,7 @@ module _ (P : Work → Type 0) (passes : (step : Step) (goes_on : Bool) (work : 
   first_keeps fails step line does [] work is keeps ok = ok
   first_keeps fails step line does (k ∷ rest) work is keeps ok = step_keeps fails step (does k) work (keeps (reaches step work) k rest is) ok
 
-  all_keep : (fails : Step → Bool) (step : ℕ → Step) (line : Past → List ℕ) (does : ℕ → Work → Work) (turn most : ℕ) (work : Work)
+  pub all_keep : (fails : Step → Bool) (step : ℕ → Step) (line : Past → List ℕ) (does : ℕ → Work → Work) (turn most : ℕ) (work : Work)
       → KeptBy line does → P work → P (one_by_one fails step line does turn most work)
   all_keep fails step line does turn zero work keeps ok = ok
   all_keep fails step line does turn (suc most) work keeps ok =

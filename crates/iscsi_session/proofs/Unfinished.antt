@@ -59,7 +59,7 @@ with_frame past k frame = record {
   sent = length (tags_of past k);
 }
 
-transfer_joined : (past : Past) (x : Request) (k : ℕ) → k < length past.came → transfer_of (joined x past) k ≡ transfer_of past k
+pub transfer_joined : (past : Past) (x : Request) (k : ℕ) → k < length past.came → transfer_of (joined x past) k ≡ transfer_of past k
 unfolding task_at outs_of tags_of
 transfer_joined past x k lt = ap (λ (r : Request). with_frame past k r.frame) (request_before past.came x k lt)
 

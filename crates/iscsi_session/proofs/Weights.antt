@@ -16,7 +16,7 @@ use Rattle.iscsi_session.proofs.Standing.{numbered_standing}
 use Rattle.iscsi_session.proofs.Fronts.{frame_marked}
 use Rattle.iscsi_session.proofs.Over.{one_fewer_by}
 
-weight_by : (b : Bool) (frame : Frame) → is_function frame ≡ b → weight frame ≡ cond b 2 1
+pub weight_by : (b : Bool) (frame : Frame) → is_function frame ≡ b → weight frame ≡ cond b 2 1
 weight_by b frame e = grind arith
 
 pub weight_some : (frame : Frame) → 1 ≤ weight frame

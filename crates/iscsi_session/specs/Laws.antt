@@ -1,11 +1,13 @@
 -- What holds of every past that the steps of a session can reach.
-use Rattle.std.specs.Prelude.{◌≡◌, ℕ, ◌<◌, ◌^◌, List, ◌∷◌, ◌++◌, Bool}
+use Rattle.std.specs.Prelude.{◌≡◌, ℕ, ◌<◌, ◌^◌, List, [], ◌∷◌, ◌++◌, Bool, true, None}
 use Rattle.iscsi_pdu.specs.Header.{cmd_sn}
 use Rattle.iscsi_pdu.specs.Frames.{Frame}
 use Rattle.iscsi_login.specs.declared.params.Params.{Params}
-use Rattle.iscsi_session.specs.Requests.{Request, Past, begun, left, commands, others, taken, due, queue, moved, finished}
+use Rattle.iscsi_session.specs.Requests.{Request, Past, begun, left, commands, others, taken, due, queue, unfinished, moved, finished, removing}
+use Rattle.iscsi_session.specs.Transfers.{asking}
+use Rattle.iscsi_session.specs.Functions.{drained_functions}
 use Rattle.iscsi_session.specs.State.{AreDistinct, IsLawful}
-use Rattle.iscsi_session.specs.Steps.{Step, Work, served, settled}
+use Rattle.iscsi_session.specs.Steps.{Step, Work, served, ready, settled}
 
 -- each request is taken once
 abbrev pub TakenOnce : Type 0
@@ -35,3 +37,24 @@ pub record StepsAreLawful : Type 0 where
   pub served : (fails : Step → Bool) (place : ℕ) (frame : Frame) (work : Work) → cmd_sn frame.header < 2 ^ 32 → IsLawful work.past
       → IsLawful (served fails place frame work).past
   pub settled : (fails : Step → Bool) (place : ℕ) (work : Work) → IsLawful work.past → IsLawful (settled fails place work).past
+
+-- No request that was taken has to act, no R2T to be sent, and no Task Management Function Request to be answered whose data
+-- has come. A discovery session has no SCSI Command.
+pub record NothingIsDue (past : Past) : Type 0 where
+  pub acts : due past ≡ []
+  pub asks : asking past ≡ []
+  pub answers : drained_functions past ≡ []
+  pub discovery : past.params.target ≡ None → unfinished past ≡ []
+
+-- Nothing is due between two frames: a session begins so, and each frame leaves it so with which it goes on, whatever fails, and
+-- so does whoever removes commands. Behind `settled` no command can be done either; in a discovery session none ever can.
+pub record NothingStaysDue : Type 0 where
+  pub begun : (params : Params) → NothingIsDue (begun params)
+  pub served : (fails : Step → Bool) (place : ℕ) (frame : Frame) (work : Work) → cmd_sn frame.header < 2 ^ 32 → IsLawful work.past
+      → NothingIsDue work.past → (served fails place frame work).goes_on ≡ true → NothingIsDue (served fails place frame work).past
+  pub done : (fails : Step → Bool) (place : ℕ) (work : Work) → IsLawful work.past → (settled fails place work).goes_on ≡ true
+      → ready (settled fails place work).past ≡ []
+  pub settled : (fails : Step → Bool) (place : ℕ) (work : Work) → IsLawful work.past → NothingIsDue work.past
+      → NothingIsDue (settled fails place work).past
+  pub removed : (names : List ℕ) (past : Past) → NothingIsDue past → NothingIsDue (removing names past)
+  pub discovery : (past : Past) → IsLawful past → NothingIsDue past → past.params.target ≡ None → ready past ≡ []

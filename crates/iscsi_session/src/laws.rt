@@ -1,7 +1,7 @@
 //! What holds of every past that the steps of a session can reach. The functions do nothing: their
 //! contracts are the laws.
 
-ghost use Rattle.iscsi_session.specs.Laws.{TakenOnce, FinishedAsTaken, DueInOrder, DoneInOrder, StepsAreLawful};
+ghost use Rattle.iscsi_session.specs.Laws.{TakenOnce, FinishedAsTaken, DueInOrder, DoneInOrder, StepsAreLawful, NothingStaysDue};
 
 /// Each request is taken once, those that are due act in this order, and what is finished was taken, in the
 /// order in which it was: the SCSI Commands as they were done, and every other request as it acted.
@@ -17,4 +17,11 @@ pub fn requests_are_finished_as_taken()
 #[tactic(auto, using(crate::proofs::Lawful::steps_are_lawful))]
 pub fn steps_are_lawful()
     ensures { StepsAreLawful }
+{}
+
+/// Between two frames no request that was taken has to act, no R2T to be sent, no Task Management Function Request to
+/// be answered, and no command to be done.
+#[tactic(auto, using(crate::proofs::Due::nothing_stays_due))]
+pub fn nothing_stays_due()
+    ensures { NothingStaysDue }
 {}
