@@ -1,6 +1,6 @@
 -- One more request is accepted: what the session remembers, and that its past stays lawful.
 use Rattle.std.proofs.Common.{◌≡◌, ◌≢◌, ℕ, zero, suc, ◌+◌, ◌-◌, ◌^◌, ◌%◌, ◌<◌, ◌≤◌, List, [], ◌∷◌, ◌++◌, length, map, get_or, set, Bool, true, false, not, cond, Option, Some, None, refl, sym, ap, subst, ◌∙◌, arith, length-append, append_assoc, add-one}
-use Rattle.std.specs.Prelude.{filter, filter_map, is_some, All}
+use Rattle.std.specs.Prelude.{filter_map, is_some, All}
 use Rattle.std.specs.List.{range_with_len, prefix_len}
 use Rattle.std.proofs.lemmas.Bool.{ne_eqb, eq-eqb, false_from_ne_true}
 use Rattle.std.proofs.lemmas.List.{append-nil, map-append}
@@ -90,9 +90,7 @@ counted_same past x names below =
     ap (λ (l : List ℕ). length l) (filter_cong _ _ names (λ i d lt. ap (λ (r : Request). is_some r.number) (request_before past.came x _ (below i d lt))))
 
 pub counted_append : (came : List Request) (a b : List ℕ) → counted came (a ++ b) ≡ counted came a + counted came b
-counted_append came a b =
-    let q : ℕ → Bool = λ k. is_some (request_at came k).number in
-    ap (λ (l : List ℕ). length l) (filter-append q a b) ∙ length-append (filter q a) (filter q b)
+counted_append came a b = grind (arith, filter-append, length-append)
 
 -- ---- a table of what is held, one of which is set
 
@@ -103,9 +101,7 @@ same_range f h a (suc n) same = rw (same a (omega arith), same_range f h (a + 1)
 set_range : {A : Type 0} (f h : ℕ → A) (v : A) (a n i k : ℕ) → i < n → k ≡ a + i → h k ≡ v → ((j : ℕ) → j ≢ k → h j ≡ f j)
     → set (map f (range_with_len a n)) i v ≡ map h (range_with_len a n)
 set_range f h v a zero i k lt at is same = absurd (omega arith)
-set_range f h v a (suc n) zero k lt at is same =
-    let here : a ≡ k = omega arith in
-    rw (ap h here ∙ is, same_range f h (a + 1) n (λ j le. same j (λ e. omega arith))) refl
+set_range f h v a (suc n) zero k lt at is same = grind (arith, same_range)
 set_range f h v a (suc n) (suc i) k lt at is same = grind (arith, set_range f h v (a + 1) n i k (omega arith) (omega arith) is same)
 
 prefix_some : (l : List (Option Frame)) → prefix_len (λ o. is_some o) l ≡ prefix_len (λ b. b) (map is_some l)
@@ -120,10 +116,7 @@ map_map f (k ∷ l) = ap (λ (rest : List Bool). is_some (f k) ∷ rest) (map_ma
 -- which of them have come
 pub marks_are : (came : List Request) (a n : ℕ) → map is_some (map (frame_numbered came) (range_with_len a n)) ≡ map (order.has_come (numbered came))
     (range_with_len a n)
-marks_are came a n =
-    map_map (frame_numbered came) (range_with_len a n)
-    ∙ map_cong (λ k. is_some (frame_numbered came k)) (order.has_come (numbered came)) (range_with_len a n)
-    (λ i d lt. frame_marked came (get_or (range_with_len a n) i d))
+marks_are came a n = grind (arith, map_map, map_cong, frame_marked)
 
 -- ---- numbers are taken
 
@@ -197,11 +190,7 @@ module _ (past : Past) (lawful : IsLawful past) where
   queue_same x = ap (λ (l : List ℕ). left past.removed (left past.finished l)) (commands_same past x past.acted lawful.below)
 
   pub in_queue : (k : ℕ) → is_in k (queue past) ≡ true → is_in k past.acted ≡ true
-  in_queue k e =
-      in_commands k past.acted (in_left k past.finished _ (in_left k past.removed _ (ap (λ (l : List ℕ). is_in k l) (sym queue_is) ∙ e)))
-    where
-      in_commands : (k : ℕ) (names : List ℕ) → is_in k (commands past.came names) ≡ true → is_in k names ≡ true
-      in_commands k names h = in_filter k (λ a. is_command (frame_of past.came a)) names h
+  in_queue k e = grind (arith, in_left, queue_is, in_filter)
 
   queue_below : Below past (queue past)
   queue_below = λ i d lt. below_of (length past.came) _ past.acted lawful.below (in_queue _ (in_at (queue past) i d lt))
@@ -214,23 +203,12 @@ module _ (past : Past) (lawful : IsLawful past) where
   functions_joined x = functions_with _ past x refl finished_below removed_below
 
   function_tags_joined : (x : Request) → HasFreeTag past x.frame → AreDistinct (map (tag_of (past.came ++ x ∷ [])) (functions (joined x past)))
-  function_tags_joined x free =
-      subst (λ (l : List ℕ). AreDistinct (map (tag_of (past.came ++ x ∷ [])) l)) (sym (functions_joined x))
-      (tags_with _ past x (functions past) (functions_below past) lawful.function_tags free.function)
+  function_tags_joined x free = grind (arith, functions_joined, tags_with, functions_below)
 
   -- what is remembered of them
   pub functions_of_joined : (x : Request) → functions_of (joined x past) ≡ functions_of past ++ cond (is_function x.frame) (x.frame.header ∷ []) []
   unfolding functions_of
-  functions_of_joined x =
-      ap (map (λ k. (frame_of (past.came ++ x ∷ []) k).header)) (functions_joined x)
-      ∙ map-append (λ k. (frame_of (past.came ++ x ∷ []) k).header) (functions past) (cond (is_function x.frame) (length past.came ∷ []) [])
-      ∙ ap (λ (l : List (List ℕ)). l ++ map (λ k. (frame_of (past.came ++ x ∷ []) k).header) (cond (is_function x.frame) (length past.came ∷ []) []))
-      (map_cong _ _ (functions past) (λ i d lt. ap (λ (r : Request). r.frame.header) (request_before past.came x _ (functions_below past i d lt))))
-      ∙ ap (λ (l : List (List ℕ)). functions_of past ++ l) (new_header (is_function x.frame))
-    where
-      new_header : (c : Bool) → map (λ k. (frame_of (past.came ++ x ∷ []) k).header) (cond c (length past.came ∷ []) []) ≡ cond c (x.frame.header ∷ []) []
-      new_header true = ap (λ (r : Request). r.frame.header ∷ []) (request_new past.came x)
-      new_header false = refl
+  functions_of_joined x = grind (arith, functions_joined, map-append, map_cong, request_before, functions_below, request_new)
 
   -- ---- it stays lawful
 
@@ -270,11 +248,7 @@ module _ (past : Past) (lawful : IsLawful past) where
   -- the numbers and the queue are the same
   same_tasks : (x : Request) (handed : ℕ) (line : List Frame)
       → tasks_with past handed line ≡ record (tasks_with (joined x past) handed line) { held = map (frame_numbered (standing past)) (range_with_len handed window) }
-  same_tasks x handed line =
-      let finished = counted_same past x (over past) over_below in
-      let queued : frames_of (past.came ++ x ∷ []) (queue (joined x past)) ≡ frames_of past.came (queue past) = ap (frames_of (past.came ++ x ∷ []))
-      (queue_same x) ∙ frames_same past.came x (queue past) queue_below in
-      rw (finished, queued) refl
+  same_tasks x handed line = grind (arith, counted_same, over_below, joined, queue_same, frames_same, queue_below)
 
   -- ---- as they stand
 
@@ -296,11 +270,7 @@ module _ (past : Past) (lawful : IsLawful past) where
   first_now frame = ap front (numbered_now frame)
 
   taken_just : (frame : Frame) → taken_at (past.came ++ now frame ∷ []) (length past.came) ≡ length past.came ∷ []
-  taken_just frame =
-      let e = first_now frame in
-      let none : first_of (past.came ++ now frame ∷ []) - first_of past.came ≡ 0 = omega arith in
-      taken_now past.came (now frame) (omega arith) ∙ ap
-      (λ (n : ℕ). length past.came ∷ map (place_of (past.came ++ now frame ∷ [])) (range_with_len (first_of past.came) n)) none
+  taken_just frame = grind (arith, first_now, first_of, taken_now)
 
   counted_now : (frame : Frame) → counted (past.came ++ now frame ∷ []) (length past.came ∷ []) ≡ 0
   counted_now frame = rw (request_new past.came (now frame)) refl

@@ -1,11 +1,11 @@
 -- What the steps of a session add to what it may hold: a request, and answers that are short.
 use Rattle.std.proofs.Common.{◌≡◌, ℕ, ◌+◌, ◌*◌, ◌<◌, ◌≤◌, List, [], ◌∷◌, ◌++◌, length, Bool, true, false, not, Option, Some, None, refl, sym, ap, subst, ◌∙◌, arith}
-use Rattle.std.specs.Prelude.{All, filter, flat_map}
+use Rattle.std.specs.Prelude.{All, flat_map}
 use Rattle.std.proofs.lemmas.Bool.{eq-eqb}
 use Rattle.std.proofs.lemmas.List.{length-append}
 use Rattle.std.proofs.lemmas.List.Elements.{All-push}
 use Rattle.std.proofs.lemmas.Grind.{flat_map-append}
-use Rattle.iscsi_pdu.specs.Header.{header_length, is_immediate, initiator_task_tag, opcode_of, opcode_number}
+use Rattle.iscsi_pdu.specs.Header.{header_length, initiator_task_tag, opcode_of, opcode_number}
 use Rattle.iscsi_pdu.specs.Frames.{Frame}
 use Rattle.iscsi_pdu.specs.Answer.{spelling}
 use Rattle.iscsi_pdu.specs.TaskManagement.{ref_cmd_sn}
@@ -58,12 +58,7 @@ pub adds_none : (n requests : ℕ) (past : Past) → IsWithinLimits past → Add
 adds_none n requests past w = record { within = w; added = omega arith; more = omega arith }
 
 pub adds_then : (n m i j : ℕ) (past middle after : Past) → Adds n i past middle → Adds m j middle after → Adds (n + m) (i + j) past after
-adds_then n m i j past middle after a b =
-    let first = a.added in
-    let second = b.added in
-    let one = a.more in
-    let two = b.more in
-    record { within = b.within; added = omega (arith, first, second); more = omega (arith, one, two) }
+adds_then n m i j past middle after a b = grind arith
 
 -- ---- answers
 
@@ -97,17 +92,10 @@ answered_adds n more past w short =
 fed_within : (c : Option ℕ) (frame : Frame) (past : Past) → IsLawful (fed c frame past) → IsWithinLimits past → Adds 0 0 past (fed c frame past)
 unfolding held due queue taken_numbers unfinished functions
 fed_within None frame past lawful w = adds_none 0 0 past w
-fed_within (Some k) frame past lawful w = record {
-  within = record { lawful = lawful; headers = w.headers; few = w.few };
-  added = omega arith;
-  more = omega arith;
-}
+fed_within (Some k) frame past lawful w = grind arith
 
 pub adds_less : (n m i j : ℕ) (past after : Past) → n ≤ m → i ≤ j → Adds n i past after → Adds m j past after
-adds_less n m i j past after le few a =
-    let first = a.added in
-    let one = a.more in
-    record { within = a.within; added = omega (arith, le, first); more = omega (arith, few, one) }
+adds_less n m i j past after le few a = grind arith
 
 judged_adds : (v : Verdict) (past : Past) (frame : Frame) → verdict past frame ≡ v → length frame.header ≡ header_length → IsWithinLimits past
     → Adds (request_weight + 99) 1 past (judged v frame past)
@@ -161,24 +149,11 @@ other_immediate past k free =
 
 command_turns : (past : Past) (k : ℕ) (rest : List ℕ) → is_command (frame_of past.came k) ≡ true → IsWithinLimits past → due past ≡ k ∷ rest
     → Turns 0 past (moved k past)
-command_turns past k rest e w is =
-    let same : record past { acted = past.acted ++ k ∷ [] } ≡ moved k past = rw e refl in
-    let few = pending_command past k rest e w.lawful is in
-    record {
-      headers = subst (λ (p : Past). All (λ (request : Request). length request.frame.header ≡ header_length) p.came) same w.headers;
-      pending = omega (arith, few);
-      immediate = subst (λ (p : Past). immediate_of p ≤ immediate_of past) same (acted_immediate past k);
-    }
+command_turns past k rest e w is = grind (arith, pending_command, immediate_of, acted_immediate)
 
 other_turns : (past : Past) (k : ℕ) (rest : List ℕ) → is_command (frame_of past.came k) ≡ false → IsWithinLimits past → due past ≡ k ∷ rest
     → Turns 1 past (moved k past)
-other_turns past k rest e w is =
-    let same : record past { acted = past.acted ++ k ∷ []; finished = past.finished ++ k ∷ [] } ≡ moved k past = rw e refl in
-    record {
-      headers = subst (λ (p : Past). All (λ (request : Request). length request.frame.header ≡ header_length) p.came) same w.headers;
-      pending = pending_other past k rest e w.lawful is;
-      immediate = subst (λ (p : Past). immediate_of p ≤ immediate_of past) same (other_immediate past k (not_pending past w.lawful k rest is));
-    }
+other_turns past k rest e w is = grind (arith, pending_other, immediate_of, other_immediate, not_pending)
 
 pub removed_immediate : (past : Past) (names : List ℕ) → immediate_of (removing names past) ≤ immediate_of past
 unfolding unfinished functions
@@ -186,14 +161,7 @@ removed_immediate past names =
     immediate_less past (removing names past) names refl (left_more past.removed names _) (left_more past.removed names _)
 
 removing_turns : (n : ℕ) (past after : Past) (names : List ℕ) → Turns n past after → Turns n past (removing names after)
-removing_turns n past after names t =
-    let few = t.pending in
-    let less = t.immediate in
-    record {
-      headers = t.headers;
-      pending = omega (arith, few, pending_removing after names);
-      immediate = omega (arith, less, removed_immediate after names);
-    }
+removing_turns n past after names t = grind (arith, pending_removing, removed_immediate)
 
 plug_turns : (past after : Past) (n : ℕ) → IsLawful after → takes_all (holding n plug (tasks_of after)) ≡ tasks_of (plugged n after) → Turns 1 past after
     → Turns 0 past (plugged n after)
@@ -223,10 +191,7 @@ functions_removing past gone = left_more past.removed gone _
 waits_immediate : (luns : List ℕ) (past : Past) (k : ℕ) (rest : List ℕ) (first : ℕ) (others : List ℕ) → is_function (frame_of past.came k) ≡ true
     → awaited past (reach_of luns k past) ≡ first ∷ others → IsWithinLimits past → due past ≡ k ∷ rest → immediate_of (ended luns k past) ≤ immediate_of past
 waits_immediate luns past k rest first others f e w is =
-    let gone = reached (reach_of luns k past) past in
-    immediate_less past (ended luns k past) gone (came_waits luns past w.lawful k rest is f first others e)
-    (unfinished_waits luns past w.lawful k rest is f first others e ∙ unfinished_removing past gone)
-    (functions_waits luns past w.lawful k rest is f first others e ∙ functions_removing past gone)
+    grind (arith, immediate_less, came_waits, unfinished_waits, unfinished_removing, functions_waits, functions_removing)
 
 pending_draining : (past : Past) (k : ℕ) (names : List ℕ) → pending_in (draining k names past) ≡ pending_in past
 unfolding held due queue taken_numbers
@@ -279,22 +244,7 @@ function_turns luns b past k rest e f w is = by_plug b e (ended_turns luns past 
 acted_adds : (luns : List ℕ) (n : ℕ) (past : Past) (k : ℕ) → IsWithinLimits past → IsLawful (acted luns k past)
     → Turns n past (behind luns k past (ended luns k past)) → length (flat_map spelling (act_answers luns k past)) ≤ n * request_weight + 48
     → Adds 48 0 past (acted luns k past)
-acted_adds luns n past k w lawful t short =
-    let after = behind luns k past (ended luns k past) in
-    let few = w.few in
-    let less = t.immediate in
-    let fewer = t.pending in
-    let same : length (flat_map spelling (acted luns k past).answers) ≡ length (flat_map spelling past.answers) + length (flat_map spelling (act_answers luns k past)) =
-    ap (λ (l : List Answer). length (flat_map spelling l)) (acted_same luns k past).1 ∙ spelled_more past.answers (act_answers luns k past) in
-    record {
-      within = record {
-        lawful = lawful;
-        headers = t.headers;
-        few = omega (arith, few, less, immediate_answering (act_answers luns k past) after);
-      };
-      added = omega (arith, same, short, fewer, pending_answering (act_answers luns k past) after);
-      more = omega (arith, fewer, pending_answering (act_answers luns k past) after);
-    }
+acted_adds luns n past k w lawful t short = grind (arith, acted_same, spelled_more, immediate_answering, pending_answering)
 
 header_whole : (past : Past) (k : ℕ) → IsWithinLimits past → k < length past.came → length (frame_of past.came k).header ≡ header_length
 header_whole past k w lt = w.headers k _ lt
@@ -377,14 +327,7 @@ unfolding unfinished
 told_unfinished past k = refl
 
 told_immediate : (past : Past) (k : ℕ) → IsLawful past → is_in k (awaiting past) ≡ true → immediate_of (told k past) ≤ immediate_of past
-told_immediate past k lawful waits =
-    let q : ℕ → Bool = λ a. is_immediate (frame_of past.came a).header in
-    omega (
-      arith,
-      ap (λ (l : List ℕ). length (filter q l)) (told_unfinished past k),
-      ap (λ (l : List ℕ). length (filter q l)) (functions_told past lawful k waits),
-      left_few q (k ∷ []) (functions past),
-    )
+told_immediate past k lawful waits = grind (arith, told_unfinished, functions_told, left_few)
 
 told_short : (past : Past) (k : ℕ) → length (flat_map spelling (told_answers past k)) ≤ 48
 unfolding told_answers

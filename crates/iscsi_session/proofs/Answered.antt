@@ -205,19 +205,7 @@ pub ping_written : (old new body : List ℕ) (tag : ℕ) (numbers_now given : St
     → given ≡ numbers_now
     → new ≡ old ++ spelling (answers.NopIn (record { initiator_task_tag = tag; stamp = given; body = body }))
     → new ≡ old ++ flat_map spelling (ping_answers numbers_now values frame)
-ping_written old new body tag numbers_now given values frame is same written =
-    let answer : Answer = answers.NopIn
-    (record {
-      initiator_task_tag = initiator_task_tag frame.header;
-      stamp = numbers_now;
-      body = take (min values.max_recv_data_segment_length most_data)
-          frame.body;
-    }) in
-    let answer_is : ping_answers numbers_now values frame ≡ answer ∷ [] = rw is.asks refl in
-    let spelled : spelling (answers.NopIn (record { initiator_task_tag = tag; stamp = given; body = body })) ≡ spelling answer = rw
-    (is.tag_is, same, is.body_is) refl in
-    written ∙ ap (λ (bytes : List ℕ). old ++ bytes) (spelled ∙ sym (append-nil (spelling answer)))
-    ∙ ap (λ (l : List Answer). old ++ flat_map spelling l) (sym answer_is)
+ping_written old new body tag numbers_now given values frame is same written = grind (arith, append-nil)
 
 -- no more than there is, no more than the initiator takes, and no more than a PDU bears
 pub ping_data : (length_is n most : ℕ) (body : List ℕ) → length_is ≡ length body → take (min (min length_is n) most) body ≡ take (min n most) body
@@ -310,12 +298,7 @@ stands_queued luns past state k rest frame others tasks s is e stays here left s
 -- the first that is due, by the kind of what stands there: it was removed, or stands as it came
 pub command_there : (past : Past) (state : SessionState) (k : ℕ) (rest : List ℕ) → Stands past state → due past ≡ k ∷ rest
     → is_command (frame_of (standing past) k) ≡ true → (frame_of (standing past) k ≡ frame_of past.came k) × (is_in k past.removed ≡ false)
-command_there past state k rest s is e =
-    let lt = due_came past s.lawful k rest is in
-    let one : opcode_number (frame_of (standing past) k).header ≡ 0x01 = eqb-true _ 0x01 e in (
-      stands_as past k lt (λ h. let no = sym one ∙ h in absurd cc),
-      false_from_ne_true (is_in k past.removed) (λ h. let no = sym one ∙ stands_void past k lt h in absurd cc),
-    )
+command_there past state k rest s is e = grind (arith, due_came, eqb-true, stands_as, false_from_ne_true, stands_void)
 
 pub kind_there : (past : Past) (state : SessionState) (k : ℕ) (rest : List ℕ) (n : ℕ) → Stands past state → due past ≡ k ∷ rest
     → opcode_number (frame_of (standing past) k).header ≡ n → (n ≡ 0x3F → ⊥) → frame_of (standing past) k ≡ frame_of past.came k
@@ -324,11 +307,7 @@ kind_there past state k rest n s is e other = stands_as past k (due_came past s.
 -- of what is no SCSI Command as it stands
 either_way : (past : Past) (state : SessionState) (k : ℕ) (rest : List ℕ) (q : Frame → Bool) → Stands past state → due past ≡ k ∷ rest
     → ((frame : Frame) → is_command frame ≡ true → q frame ≡ false) → q (frame_of (standing past) k) ≡ false → q (frame_of past.came k) ≡ false
-either_way past state k rest q s is never e = by_case (is_in k past.removed) refl
-  where
-    by_case : (b : Bool) → is_in k past.removed ≡ b → q (frame_of past.came k) ≡ false
-    by_case true gone = never (frame_of past.came k) (removed_command past s.lawful k gone)
-    by_case false stays = ap q (sym (standing_kept past k (due_came past s.lawful k rest is) stays)) ∙ e
+either_way past state k rest q s is never e = grind (arith, removed_command, standing_kept, due_came)
 
 pub no_text_there : (past : Past) (state : SessionState) (k : ℕ) (rest : List ℕ) → Stands past state → due past ≡ k ∷ rest
     → is_text (frame_of (standing past) k) ≡ false → is_text (frame_of past.came k) ≡ false
@@ -490,9 +469,7 @@ text_here past state k rest frame tasks told s is e some same hears_so =
 pub logout_act : (k : ℕ) (past : Past) (frame : Frame) (params : Params) (act : Act) → frame ≡ frame_of past.came k → params ≡ past.params
     → kind_of (frame_of past.came k) ≡ opcodes.Logout
     → act ≡ cond (closes params frame) Ended Taken → act ≡ cond (ends past.params (frame_of past.came k)) Ended Taken
-logout_act k past frame params act same agreed kind is =
-    is ∙ ap (λ (p : Params). cond (closes p frame) Ended Taken) agreed ∙ ap (λ (f : Frame). cond (closes past.params f) Ended Taken) same
-    ∙ ap (λ (b : Bool). cond b Ended Taken) (sym (logout_ends past.params (frame_of past.came k) kind))
+logout_act k past frame params act same agreed kind is = grind (arith, logout_ends)
 
 pub ping_same : (luns : List ℕ) (k : ℕ) (past : Past) (frame : Frame) → frame ≡ frame_of past.came k → kind_of (frame_of past.came k) ≡ opcodes.NopOut
     → ping_answers (stamp (moved k past)) (moved k past).params.values frame ≡ act_answers luns k past
@@ -505,23 +482,17 @@ logout_same luns k past frame same kind = ap (λ (f : Frame). logout_answer (sta
 
 pub function_bears : (luns : List ℕ) (k : ℕ) (past : Past) → is_function (frame_of past.came k) ≡ true → awaited past (reach_of luns k past) ≡ []
     → bearing (act_answers luns k past) ≡ 1
-function_bears luns k past e none =
-    ap bearing (function_is luns k past e none)
-    ∙ one_bearing (function_answer (stamp (ended luns k past)) (function_result past (reach_of luns k past)) (frame_of past.came k).header) refl
+function_bears luns k past e none = grind (arith, function_is, one_bearing)
 
 pub function_same : (luns : List ℕ) (k : ℕ) (past : Past) (header : List ℕ) (result : TaskResult) → header ≡ (frame_of past.came k).header
     → result ≡ function_result past (own_reach luns header) → is_function (frame_of past.came k) ≡ true → awaited past (reach_of luns k past) ≡ []
     → function_answer (stamp (ended luns k past)) result header ∷ [] ≡ act_answers luns k past
-function_same luns k past header result same is e none =
-    ap (λ (r : TaskResult). function_answer (stamp (ended luns k past)) r header ∷ []) is
-    ∙ ap (λ (h : List ℕ). function_answer (stamp (ended luns k past)) (function_result past (own_reach luns h)) h ∷ []) same ∙ sym (function_is luns k past e none)
+function_same luns k past header result same is e none = grind (arith, function_is)
 
 pub text_same : (luns : List ℕ) (k : ℕ) (past : Past) (frame : Frame) (told : ToldState) → frame ≡ frame_of past.came k
     → told ≡ hears (exchange_of past) (frame_of past.came k) past.params → is_text (frame_of past.came k) ≡ true
     → text_answer (stamp (moved k past)) told.piece frame ∷ [] ≡ act_answers luns k past
-text_same luns k past frame told same heard e =
-    ap (λ (f : Frame). text_answer (stamp (moved k past)) told.piece f ∷ []) same
-    ∙ ap (λ (t : ToldState). text_answer (stamp (moved k past)) t.piece (frame_of past.came k) ∷ []) heard ∙ sym (text_is luns k past e)
+text_same luns k past frame told same heard e = grind (arith, text_is)
 
 pub one_spelled : (old : List ℕ) (answer : Answer) (all : List Answer) → answer ∷ [] ≡ all → old ++ spelling answer ≡ old ++ flat_map spelling all
 one_spelled old answer all e = ap (λ (bytes : List ℕ). old ++ bytes) (sym (append-nil (spelling answer)))

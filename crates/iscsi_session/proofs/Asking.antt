@@ -1,5 +1,5 @@
 -- An R2T is sent, and a command of the queue is done where its data is whole.
-use Rattle.std.proofs.Common.{◌≡◌, ◌≢◌, ◌==◌, ℕ, ◌+◌, ◌%◌, ◌<◌, List, [], ◌∷◌, ◌++◌, length, map, set, true, false, Option, Some, None, refl, sym, ap, subst, ◌∙◌, arith, append-nil}
+use Rattle.std.proofs.Common.{◌≡◌, ◌≢◌, ◌==◌, ℕ, ◌<◌, List, [], ◌∷◌, ◌++◌, length, map, set, true, false, Option, Some, None, refl, sym, ap, subst, ◌∙◌, arith, append-nil}
 use Rattle.std.specs.Prelude.{filter, fold, find, is_some, option_map, slice_get}
 use Rattle.std.proofs.lemmas.Bool.{eq-eqb, ne_eqb}
 use Rattle.std.proofs.lemmas.List.{length-append}
@@ -9,7 +9,6 @@ use Rattle.iscsi_pdu.specs.declared.stamp.Stamp.{Stamp}
 use Rattle.iscsi_transfer.specs.Task.{TaskState, remembered as task_of}
 use Rattle.iscsi_transfer.proofs.Standing.{remembered-asked}
 use Rattle.iscsi_session.specs.declared.transfers.Transfer.{Transfer}
-use Rattle.iscsi_session.specs.Drained.{Drained}
 use Rattle.iscsi_session.specs.Requests.{Past, SentR2t, frame_of, is_in, due, queue, unfinished, stamp, statuses, bearing, functions}
 use Rattle.iscsi_session.specs.Transfers.{outs_of, tags_of, last_tag, data_past, task_at, ask_of, asking, next_transfer_tag, drains_of, r2t_for, r2t_answers, r2t_of, asked, asked_by, r2ts_by}
 use Rattle.iscsi_session.specs.State.{SessionState, TransferList, AreDrained, drained_of, IsLawful, Stands, tasks_of, transfers_of, transfer_of, transfer_at, no_transfer, due_of, asking_place, r2t_at, asked_at, sent_to, functions_of, standing}
@@ -106,25 +105,14 @@ asked_drains past k i drained at =
 
 asked_transfers : (past : Past) (k i : ℕ) → AreDrained past → slice_get (unfinished past) i ≡ Some k → asked_at (transfers_of past) (Some i) ≡ transfers_of (asked k past)
 unfolding transfers_of
-asked_transfers past k i drained at =
-    let next : (length past.r2ts % 0xFFFFFFFF + 1) % 0xFFFFFFFF ≡ length (past.r2ts ++ record { command = k; tag = next_transfer_tag past } ∷ []) % 0xFFFFFFFF =
-    omega (arith, length-append past.r2ts (record { command = k; tag = next_transfer_tag past } ∷ [])) in
-    let list = asked_list past k i at ∙ ap (map (transfer_of (asked k past))) (sym (unfinished_asked past k)) in
-    ap (λ (n : ℕ). record (asked_at (transfers_of past) (Some i)) { next_tag = n }) next
-    ∙ ap (λ (l : List Transfer). record (transfers_of (asked k past)) { list = l; drains = (transfers_of past).drains }) list
-    ∙ ap (λ (l : List Drained). record (transfers_of (asked k past)) { drains = l }) (asked_drains past k i drained at)
+asked_transfers past k i drained at = grind (arith, length-append, asked_list, unfinished_asked, asked_drains)
 
 r2t_bears_none : (past : Past) (k : ℕ) → bearing (r2t_of past k) ≡ 0
 unfolding r2t_of
 r2t_bears_none past k = grind arith
 
 statuses_asked : (past : Past) (k : ℕ) → statuses (asked k past) ≡ statuses past
-statuses_asked past k =
-    omega (
-      arith,
-      statuses_answering (r2t_of past k) (record past { r2ts = past.r2ts ++ record { command = k; tag = next_transfer_tag past } ∷ [] }),
-      r2t_bears_none past k,
-    )
+statuses_asked past k = grind (arith, statuses_answering, r2t_bears_none)
 
 pub lawful_asked : (past : Past) (k : ℕ) → k < length past.came → IsLawful past → IsLawful (asked k past)
 lawful_asked past k lt lawful =
@@ -182,9 +170,7 @@ r2t_place past state numbers (Some i) s same found =
 
 pub r2ts_are : (past : Past) (state : SessionState) (numbers : Stamp) → Stands past state → numbers ≡ stamp past
     → r2t_answers (r2t_at state.transfers numbers (asking_place state.transfers.list)) ≡ r2ts_by (asking past) past
-r2ts_are past state numbers s same =
-    r2t_place past state numbers (asking_place state.transfers.list) s same
-    (asking_in past state s)
+r2ts_are past state numbers s same = grind (arith, r2t_place, asking_in)
 
 -- whether there is one
 there_by : (past : Past) (at : Option ℕ) → Located (λ transfer. is_some (due_of transfer)) (transfer_of past) (unfinished past) at
@@ -195,9 +181,7 @@ there_by past (Some i) found = (λ e. (let one = one_asking past found.0 found.1
 pub asking_there : (past : Past) (state : SessionState) → Stands past state
     → (is_some (asking_place state.transfers.list) ≡ true → (k : ℕ) × (others : List ℕ) × (asking past ≡ k ∷ others))
     × (is_some (asking_place state.transfers.list) ≡ false → asking past ≡ [])
-asking_there past state s =
-    there_by past (asking_place state.transfers.list)
-    (asking_in past state s)
+asking_there past state s = grind (arith, there_by, asking_in)
 
 -- ---- a command that can be done is the first of the queue
 

@@ -1,6 +1,6 @@
 -- Sessions between two frames: how many requests they hold, and what the calls on them add.
-use Rattle.std.proofs.Common.{◌≡◌, ℕ, zero, suc, ◌+◌, ◌-◌, ◌<◌, ◌≤◌, ◌==◌, List, [], ◌∷◌, length, get_or, Bool, true, false, not, Option, Some, None, Result, Ok, Err, refl, sym, ap, subst, ◌∙◌, arith, inl, inr}
-use Rattle.std.specs.Prelude.{filter, flat_map, is_some, ◌⊎◌, IfOk, OnErr}
+use Rattle.std.proofs.Common.{◌≡◌, ℕ, zero, suc, ◌+◌, ◌-◌, ◌<◌, ◌≤◌, ◌==◌, List, [], ◌∷◌, length, get_or, Bool, true, false, not, Option, None, Result, Ok, Err, refl, sym, ap, subst, ◌∙◌, arith}
+use Rattle.std.specs.Prelude.{filter, flat_map, is_some, IfOk, OnErr}
 use Rattle.std.specs.List.{range_with_len}
 use Rattle.std.proofs.lemmas.Bool.{eq-eqb, ne_eqb, cases_eq, or_right}
 use Rattle.std.proofs.lemmas.List.{length-append, length-map}
@@ -83,17 +83,7 @@ queue_counted past lawful idle =
 one_out : (k : ℕ) (names : List ℕ) → is_in k names ≡ true → length (left (k ∷ []) names) + 1 ≤ length names
 unfolding left
 one_out k [] e = absurd cc
-one_out k (x ∷ names) e = by_case (cases_eq x k) e (one_out k names) (filter_fewer _ names)
-  where
-    by_case : (x ≡ k) ⊎ ((x ≡ k) → ⊥) → is_in k (x ∷ names) ≡ true → (is_in k names ≡ true → length (left (k ∷ []) names) + 1 ≤ length names)
-        → length (left (k ∷ []) names) ≤ length names → length (left (k ∷ []) (x ∷ names)) + 1 ≤ length (x ∷ names)
-    by_case (inl same) e further few =
-        let there : is_in x (k ∷ []) ≡ true = rw (eq-eqb k x (sym same)) refl in
-        rw there (omega (arith, few))
-    by_case (inr differs) e further few =
-        let apart : is_in x (k ∷ []) ≡ false = rw (ne_eqb k x (λ h. differs (sym h))) refl in
-        let there : is_in k names ≡ true = rw (ne_eqb x k differs) at e in
-        rw apart (omega (arith, further there))
+one_out k (x ∷ names) e = grind (arith, one_out k names, cases_eq, filter_fewer, eq-eqb, ne_eqb)
 
 few_distinct : (some all : List ℕ) → AreDistinct some → ((k : ℕ) → is_in k some ≡ true → is_in k all ≡ true) → length some ≤ length all
 few_distinct [] all distinct within = omega arith
@@ -113,15 +103,11 @@ queue_came past lawful k e = below_of (length past.came) k past.acted lawful.bel
 
 queue_distinct : (past : Past) → IsLawful past → AreDistinct (queue past)
 unfolding queue
-queue_distinct past lawful =
-    distinct_left past.removed _ (distinct_left past.finished _ (distinct_filter (λ a. is_command (frame_of past.came a)) past.acted
-    (distinct_front past.acted (due past) (subst AreDistinct lawful.in_order (distinct_taken past.came)))))
+queue_distinct past lawful = grind (arith, distinct_left, distinct_filter, distinct_front, distinct_taken)
 
 -- those of the queue that are for immediate delivery are among all that are not finished
 queue_immediate : (past : Past) (q : ℕ → Bool) → IsLawful past → length (filter q (queue past)) ≤ length (filter q (unfinished past))
-queue_immediate past q lawful =
-    few_distinct (filter q (queue past)) (filter q (unfinished past)) (distinct_filter q (queue past) (queue_distinct past lawful))
-    (λ k h. in_filter_back k q (unfinished past) (queue_unfinished past k lawful.below (in_filter k q (queue past) h)) (passes_in k q (queue past) h))
+queue_immediate past q lawful = grind (arith, few_distinct, distinct_filter, queue_distinct, in_filter_back, queue_unfinished, in_filter, passes_in)
 
 queue_length : (past : Past) → IsLawful past
     → length (queue past) ≡ counted past.came (queue past) + length (filter (λ k. is_immediate (frame_of past.came k).header) (queue past))
@@ -180,9 +166,7 @@ unfolding due
 same_due past k more = refl
 
 finished_immediate : (past : Past) (k : ℕ) (others : List ℕ) → queue past ≡ k ∷ others → IsLawful past → immediate_of (finished k past) ≤ immediate_of past
-finished_immediate past k others is lawful =
-    immediate_less past (finished k past) (k ∷ []) refl (unfinished_without past k)
-    (functions_without past k (command_not_pending past k lawful.drained (is_done past lawful k others is)))
+finished_immediate past k others is lawful = grind (arith, immediate_less, unfinished_without, functions_without, command_not_pending, is_done)
 
 done_within : (past : Past) (k : ℕ) (others : List ℕ) (done : Outcome) → queue past ≡ k ∷ others → IsWithinLimits past
     → IsWithinLimits (answered_command done k past)
@@ -232,10 +216,7 @@ eases_none old before r = record { rests = r; lighter = omega arith }
 
 pub eases_then : (old middle new : SessionState) (before waiting items : List ℕ) → Eases old middle before waiting → Eases middle new waiting items
     → Eases old new before items
-eases_then old middle new before waiting items a b =
-    let first = a.lighter in
-    let second = b.lighter in
-    record { rests = b.rests; lighter = omega (arith, first, second) }
+eases_then old middle new before waiting items a b = grind arith
 
 -- ---- commands are removed
 
@@ -315,10 +296,8 @@ pub serve_loads : {E : Type 0} (result : Result Bool E) (frame : Frame) (luns : 
     → Runs (λ fails place. served fails place frame) failed false old new before waiting units units))
     → IfOk result (λ goes_on. goes_on ≡ true → new.tasks.due ≡ []) → length frame.header ≡ header_length → IsAtRest old
     → Loads (goes_on_by result) old new before.bytes waiting.bytes
-serve_loads (Ok goes_on) frame luns old new before waiting units numbers ok err idle whole r =
-    run_loads frame None goes_on old new before waiting units (ok units numbers) whole idle r
-serve_loads (Err e) frame luns old new before waiting units numbers ok err idle whole r =
-    run_loads frame (Some err.step) false old new before waiting units (err.leads units numbers) whole (λ on. absurd cc) r
+serve_loads (Ok goes_on) frame luns old new before waiting units numbers ok err idle whole r = grind (arith, run_loads)
+serve_loads (Err e) frame luns old new before waiting units numbers ok err idle whole r = grind (arith, run_loads)
 
 -- a session that begins has no requests
 begun_none : (params : Params) → pending_in (begun params) ≡ 0

@@ -30,9 +30,7 @@ none_drained past e =
 one_drained : (past : Past) (k : ℕ) → find (λ k. not (lacks past k)) (map (λ d. d.function) (drains_of past)) ≡ Some k
     → (others : List ℕ) × (drained_functions past ≡ k ∷ others)
 unfolding drained_functions
-one_drained past k e =
-    let first = first_passes (λ k. not (lacks past k)) k (map (λ d. d.function) (drains_of past)) e in
-    (first.0, ap (filter (λ k. not (lacks past k))) (pending_named past) ∙ first.1)
+one_drained past k e = grind (arith, first_passes, pending_named)
 
 -- whether there is one
 there_by : (past : Past) (at : Option ℕ) → LocatedFunction (λ k. not (lacks past k)) (drains_of past) at

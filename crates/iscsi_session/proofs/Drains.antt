@@ -36,9 +36,7 @@ either false a q d drains at e found = later a q d drains at e found
 pub located_among : {Y : Type 0} (p : Y → Bool) (f : Drain → Y) (a q : ℕ → Bool) (drains : List Drain)
     → ((d : Drain) → p (f d) ≡ (a d.command && q d.command)) → LocatedAmong a q drains (position p (map f drains))
 located_among p f a q [] same = refl
-located_among p f a q (d ∷ drains) same =
-    rw (position_with (p (f d)) p (f d) (map f drains) refl)
-    (either (p (f d)) a q d drains (position p (map f drains)) (sym (same d)) (located_among p f a q drains same))
+located_among p f a q (d ∷ drains) same = grind (arith, located_among p f a q drains same, position_with, either)
 
 -- what stands there
 pub index_drains : {Y : Type 0} (f : Drain → Y) (none : Y) (drains : List Drain) (i : ℕ) (d : Drain) → slice_get drains i ≡ Some d
@@ -76,13 +74,8 @@ all_same f g k (d ∷ drains) none same = elim (cases_eq d.command k) [
 pub set_drains : {Y : Type 0} (f g : Drain → Y) (drains : List Drain) (i : ℕ) (d : Drain) → AreDistinct (commands_in drains) → slice_get drains i ≡ Some d
     → ((e : Drain) → e.command ≢ d.command → g e ≡ f e) → set (map f drains) i (g d) ≡ map g drains
 set_drains f g [] i d distinct at same = absurd cc
-set_drains f g (first ∷ drains) zero d distinct at same =
-    let is : first ≡ d = cc in
-    let none : is_in d.command (commands_in drains) ≡ false = ap (λ (x : Drain). is_in x.command (commands_in drains)) (sym is) ∙ distinct.0 in
-    rw (ap g is, all_same f g d.command drains none same) refl
-set_drains f g (first ∷ drains) (suc i) d distinct at same =
-    let differs = apart first.command d.command (commands_in drains) distinct.0 (in_commands drains i d at) in
-    rw (same first differs, set_drains f g drains i d distinct.1 at same) refl
+set_drains f g (first ∷ drains) zero d distinct at same = grind (arith, all_same)
+set_drains f g (first ∷ drains) (suc i) d distinct at same = grind (arith, set_drains f g drains i d distinct.1 at same, apart, in_commands)
 
 -- ---- a search among the functions that wait
 

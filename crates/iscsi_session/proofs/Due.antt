@@ -116,35 +116,18 @@ record OwesNoMore (past after : Past) : Type 0 where
   answers : (k : ℕ) → is_in k (drained_functions after) ≡ true → is_in k (drained_functions past) ≡ true
 
 then_no_more : {past middle after : Past} → OwesNoMore past middle → OwesNoMore middle after → OwesNoMore past after
-then_no_more a b = record {
-  params = b.params ∙ a.params;
-  commands = λ k h. a.commands k (b.commands k h);
-  asks = λ k h. a.asks k (b.asks k h);
-  answers = λ k h. a.answers k (b.answers k h);
-}
+then_no_more a b = grind arith
 
 answers_in : (past after : Past) → ((a : ℕ) → is_in a after.answered ≡ false → is_in a past.answered ≡ false) → after.drains ≡ past.drains
     → All (λ d. is_asked_of after d.command ≡ is_asked_of past d.command) past.drains
     → (a : ℕ) → is_in a (drained_functions after) ≡ true → is_in a (drained_functions past) ≡ true
-answers_in past after fewer drains lacking a h =
-    let t = told_in after a h in
-    told_back past a (record {
-      waits = ap (λ (l : List Drain). is_in a (map (λ d. d.function) l)) (sym drains) ∙ t.waits;
-      unanswered = fewer a t.unanswered;
-      complete = sym (same_open (is_asked_of past) (is_asked_of after) a past.drains lacking)
-          ∙ ap (list_any (waits_on (is_asked_of after) a)) (sym drains) ∙ t.complete;
-    })
+answers_in past after fewer drains lacking a h = grind (arith, told_in, told_back, same_open)
 
 no_more : (past after : Past) → after.params ≡ past.params
     → ((k : ℕ) → is_in k (unfinished after) ≡ true → (is_in k (unfinished past) ≡ true) × (is_some (ask_of after k) ≡ true → is_some (ask_of past k) ≡ true))
     → ((a : ℕ) → is_in a after.answered ≡ false → is_in a past.answered ≡ false) → after.drains ≡ past.drains
     → All (λ d. is_asked_of after d.command ≡ is_asked_of past d.command) past.drains → OwesNoMore past after
-no_more past after params there fewer drains lacking = record {
-  params = params;
-  commands = λ k h. (there k h).0;
-  asks = λ k h. (let a = asks_in after k h in let t = there k a.0 in asks_back past k t.0 (t.1 a.1));
-  answers = answers_in past after fewer drains lacking;
-}
+no_more past after params there fewer drains lacking = grind (arith, asks_in, asks_back, answers_in)
 
 none_answering : (more : List Answer) (past : Past) → OwesNoMore past (answering more past)
 unfolding unfinished task_at outs_of tags_of
@@ -375,11 +358,7 @@ nothing_is_due {past} idle o =
 -- the only one is gone
 owes_less : (past after : Past) (line : Past → List ℕ) (one : Option ℕ) (k : ℕ) (rest : List ℕ) → line past ≡ k ∷ rest → Only one (line past)
     → ((a : ℕ) → is_in a (line after) ≡ true → is_in a (line past) ≡ true) → (is_in k (line after) ≡ true → ⊥) → Only None (line after)
-owes_less past after line one k rest is only fewer gone a h =
-    let here : is_in k (line past) ≡ true = ap (is_in k) is ∙ in_at (k ∷ rest) 0 0 (omega arith) in
-    let both : Some a ≡ Some k = only a (fewer a h) ∙ sym (only k here) in
-    let same : a ≡ k = cc in
-    absurd (gone (ap (λ (n : ℕ). is_in n (line after)) (sym same) ∙ h))
+owes_less past after line one k rest is only fewer gone a h = grind (arith, in_at)
 
 -- ---- a frame is judged
 
@@ -404,9 +383,7 @@ Owing past = (command : Option ℕ) × (function : Option ℕ) × Owes command f
 -- a discovery session takes no SCSI Command
 no_discovery : (past : Past) (frame : Frame) → is_command frame ≡ true → verdict past frame ≡ Accepted → past.params.target ≡ None → ⊥
 unfolding is_refused
-no_discovery past frame c e none =
-    let refused : is_refused past.params frame ≡ true = rw (none, command_kind frame c) refl in
-    let no = sym (verdict_refused past frame refused) ∙ e in cc
+no_discovery past frame c e none = grind (arith, command_kind, verdict_refused)
 
 accepted_owes : (b : Bool) (past : Past) (frame : Frame) → is_command frame ≡ b → verdict past frame ≡ Accepted → IsLawful past → NothingIsDue past
     → IsLawful (accepted frame past) → Owing (accepted frame past)
@@ -493,11 +470,7 @@ first_took : (P : Past → Type 0) (fails : Step → Bool) (step : Step) (line :
     → (first_steps fails step does (line work.past) work).goes_on ≡ true → (line work.past ≡ [] → P work.past)
     → ((k : ℕ) (rest : List ℕ) → line work.past ≡ k ∷ rest → P (does k (reaches step work)).past)
     → P (first_steps fails step does (line work.past) work).past
-first_took P fails step line does work on none some = by_line (line work.past) refl on
-  where
-    by_line : (l : List ℕ) → line work.past ≡ l → (first_steps fails step does l work).goes_on ≡ true → P (first_steps fails step does l work).past
-    by_line [] e on = none e
-    by_line (k ∷ rest) e on = subst (λ (w : Work). P w.past) (sym (taken_step fails step (does k) work on)) (some k rest e)
+first_took P fails step line does work on none some = grind (arith, taken_step)
 
 -- a line in which each step leaves less comes to its end
 module _ (line : Past → List ℕ) (does : ℕ → Work → Work) (size : Past → ℕ)
@@ -612,13 +585,7 @@ line_finish work k = refl
 
 finish_fewer : (work : Work) (k : ℕ) (rest : List ℕ) → ready work.past ≡ k ∷ rest → IsLawful work.past
     → length (queue (finish k work).past) < length (queue work.past)
-finish_fewer work k rest is lawful =
-    let line = ready_queue work.past k rest is in
-    omega (
-      arith,
-      ap (λ (l : List ℕ). length l) (queue_finish work k ∙ done_in_order work.past k rest lawful line),
-      ap (λ (l : List ℕ). length l) line,
-    )
+finish_fewer work k rest is lawful = grind (arith, ready_queue, queue_finish, done_in_order)
 
 finish_rests : {c f : Option ℕ} (work : Work) (k : ℕ) (rest : List ℕ) → ready work.past ≡ k ∷ rest → Rests c f work.past → Rests c f (finish k work).past
 finish_rests work k rest is r =

@@ -1,12 +1,11 @@
 -- A Task Management Function Request acts: what it removes and plugs, in the code and in the past.
-use Rattle.std.proofs.Common.{◌≡◌, ℕ, zero, suc, ◌+◌, ◌<◌, ◌≤◌, List, [], ◌∷◌, ◌++◌, length, get_or, map, Bool, true, false, not, cond, ◌==◌, Option, None, refl, sym, ap, subst, ◌∙◌, arith, append-nil, inl, inr}
+use Rattle.std.proofs.Common.{◌≡◌, ℕ, zero, suc, ◌+◌, ◌<◌, ◌≤◌, List, [], ◌∷◌, ◌++◌, length, get_or, map, Bool, true, false, not, ◌==◌, Option, None, refl, sym, ap, subst, ◌∙◌, arith, append-nil, inl, inr}
 use Rattle.std.specs.Prelude.{filter, if◌then◌else◌}
 use Rattle.std.specs.List.{list_any, range_with_len}
 use Rattle.std.proofs.lemmas.Bool.{eqb-true, false_from_ne_true}
 use Rattle.std.proofs.lemmas.Bool.Decides.{leb_tells}
 use Rattle.std.proofs.lemmas.List.{nil_from_length, length-map}
 use Rattle.std.proofs.lemmas.List.FromFn.{get_or-map-range_with_len, length-range_with_len}
-use Rattle.iscsi_pdu.specs.Header.{is_immediate}
 use Rattle.iscsi_pdu.specs.TaskManagement.{ref_cmd_sn}
 use Rattle.iscsi_session.specs.declared.scope.Scope.{Scope}
 use Rattle.iscsi_session.specs.declared.scope.Scope.TheVariants as scopes
@@ -16,12 +15,12 @@ use Rattle.iscsi_order.specs.Window.{window, taken as taken_numbers}
 use Rattle.iscsi_order.specs.Serial.{distance}
 use Rattle.iscsi_session.specs.declared.aborted.Aborted.{Aborted}
 use Rattle.iscsi_session.specs.declared.aborted.Aborted.TheVariants.{Live, Missing, Plugged, Nothing}
-use Rattle.iscsi_session.specs.Requests.{Request, Past, Drain, draining, request_at, frame_of, is_in, is_command, is_function, numbered, place_of, unfinished, finished, moved, removing, numbers}
+use Rattle.iscsi_session.specs.Requests.{Request, Past, draining, frame_of, is_command, is_function, numbered, place_of, unfinished, finished, moved, removing, numbers}
 use Rattle.iscsi_session.specs.declared.transfers.Transfer.{Transfer}
-use Rattle.iscsi_session.specs.Functions.{FunctionReach, scope, waits, awaited, reaches, reached, plug, is_plug, plugged, is_plugged, refers_back, abort_finds, is_missing, plugs, plugs_by}
+use Rattle.iscsi_session.specs.Functions.{FunctionReach, scope, awaited, reaches, reached, plug, is_plug, plugged, is_plugged, refers_back, abort_finds, plugs, plugs_by}
 use Rattle.iscsi_session.specs.Transfers.{is_asked_of}
 use Rattle.iscsi_session.specs.Acts.{reach_of, ended, behind}
-use Rattle.iscsi_session.specs.State.{SessionState, TaskLists, IsLawful, Stands, void, voided, standing, frame_numbered, tasks_of, transfer_of, is_vacant, one_fewer, without, transfers_without, reaches_some, holding, takes_all, held_numbered, is_some_plug}
+use Rattle.iscsi_session.specs.State.{SessionState, TaskLists, IsLawful, Stands, void, standing, frame_numbered, tasks_of, transfer_of, is_vacant, one_fewer, without, transfers_without, reaches_some, holding, takes_all, held_numbered, is_some_plug}
 use Rattle.iscsi_session.proofs.Kept.{function_no_command}
 use Rattle.iscsi_session.proofs.Unfinished.{unfinished_other}
 use Rattle.iscsi_session.proofs.Standing.{standing_at, standing_kept, numbered_standing, place_standing, length_standing}
@@ -47,12 +46,7 @@ reached_from reach past after came same = grind arith
 
 pub reached_moved : (luns : List ℕ) (past : Past) (k : ℕ) → is_function (frame_of past.came k) ≡ true
     → reached (reach_of luns k past) (moved k past) ≡ reached (reach_of luns k past) past
-reached_moved luns past k f =
-    let reach = reach_of luns k past in
-    let no_command = function_no_command (frame_of past.came k) f in
-    ap (reached reach) (sym (moved_other k past no_command))
-    ∙ reached_from reach past (record past { acted = past.acted ++ k ∷ []; finished = past.finished ++ k ∷ [] }) refl
-    (unfinished_moved past k ∙ unfinished_other past k no_command)
+reached_moved luns past k f = grind (arith, function_no_command, moved_other, reached_from, unfinished_moved, unfinished_other)
 
 pub ended_function : (luns : List ℕ) (past : Past) (k : ℕ) → is_function (frame_of past.came k) ≡ true
     → ended luns k past ≡ draining k (awaited past (reach_of luns k past)) (removing (reached (reach_of luns k past) past) (moved k past))
@@ -61,10 +55,7 @@ ended_function luns past k f = rw f refl
 -- where it does not wait
 pub ended_now : (luns : List ℕ) (past : Past) (k : ℕ) → is_function (frame_of past.came k) ≡ true → awaited past (reach_of luns k past) ≡ []
     → removing (reached (reach_of luns k past) past) (moved k past) ≡ ended luns k past
-ended_now luns past k f none =
-    let p = removing (reached (reach_of luns k past) past) (moved k past) in
-    ap (λ (l : List Drain). record p { drains = l }) (sym (append-nil p.drains)) ∙ ap (λ (l : List ℕ). draining k l p) (sym none)
-    ∙ sym (ended_function luns past k f)
+ended_now luns past k f none = grind (arith, append-nil, ended_function)
 
 -- what it waits for is of what it reaches
 pub awaited_some : (past : Past) (reach : FunctionReach) (first : ℕ) (others : List ℕ) → awaited past reach ≡ first ∷ others
@@ -80,18 +71,7 @@ found_by live back new plugged_it = if live then Live else if not back then Noth
 
 plugs_parts : (o : Scope) (past : Past) (reach : FunctionReach) → plugs_by o past reach ≡ true
     → (reached reach past ≡ []) × (order.is_new (numbers past) (ref_cmd_sn reach.function) ≡ true)
-plugs_parts scopes.Task past reach e = by_tests (length (reached reach past) == 0) _ _ refl refl e
-  where
-    by_tests : (none back new : Bool) → (length (reached reach past) == 0) ≡ none → order.is_new (numbers past) (ref_cmd_sn reach.function) ≡ new
-        → is_missing (found_by (not none) back new (is_plugged past (ref_cmd_sn reach.function))) ≡ true
-        → (reached reach past ≡ []) × (order.is_new (numbers past) (ref_cmd_sn reach.function) ≡ true)
-    by_tests true true true h is e = (nil_from_length (reached reach past) (eqb-true (length (reached reach past)) 0 h), is)
-    by_tests true true false h is e = absurd (unplugged (is_plugged past (ref_cmd_sn reach.function)) e)
-      where
-        unplugged : (b : Bool) → is_missing (found_by false true false b) ≡ true → ⊥
-        unplugged b e = grind arith
-    by_tests true false new h is e = absurd cc
-    by_tests false back new h is e = absurd cc
+plugs_parts scopes.Task past reach e = grind (arith, nil_from_length, eqb-true)
 plugs_parts scopes.OwnTaskSet past reach e = absurd cc
 plugs_parts scopes.TaskSet past reach e = absurd cc
 plugs_parts scopes.AllTasks past reach e = absurd cc
@@ -107,17 +87,11 @@ plugs_none past reach e = (plugs_parts (scope reach) past reach e).0
 
 pub plugs_unasked : (past : Past) (reach : FunctionReach) → plugs past reach ≡ true → awaited past reach ≡ []
 unfolding awaited
-plugs_unasked past reach e = by_case (waits reach) refl
-  where
-    by_case : (b : Bool) → waits reach ≡ b → awaited past reach ≡ []
-    by_case true is = rw is (ap (filter (is_asked_of past)) (plugs_none past reach e))
-    by_case false is = rw is refl
+plugs_unasked past reach e = grind (arith, plugs_none)
 
 -- so it plugs no number
 pub awaited_no_plug : (past : Past) (reach : FunctionReach) (first : ℕ) (others : List ℕ) → awaited past reach ≡ first ∷ others → plugs past reach ≡ false
-awaited_no_plug past reach first others e = false_from_ne_true (plugs past reach) (λ h.
-    let none = plugs_none past reach h in
-    let both = sym (awaited_some past reach first others e ∙ ap (filter (is_asked_of past)) none) ∙ e in absurd cc)
+awaited_no_plug past reach first others e = grind (arith, false_from_ne_true, plugs_none, awaited_some)
 
 -- ---- a number that was plugged
 
@@ -129,14 +103,7 @@ no_plug_command frame e = grind arith
 
 -- one that was removed stands for none, and was none
 plug_stands : (past : Past) (lawful : IsLawful past) (k : ℕ) → k < length past.came → is_plug (frame_of (standing past) k) ≡ is_plug (frame_of past.came k)
-plug_stands past lawful k lt = by_case (is_in k past.removed) refl
-  where
-    by_case : (b : Bool) → is_in k past.removed ≡ b → is_plug (frame_of (standing past) k) ≡ is_plug (frame_of past.came k)
-    by_case true e =
-        let r = request_at past.came k in
-        ap (λ (x : Request). is_plug x.frame) (standing_at past k lt ∙ ap (λ (x : Bool). cond x (voided r) r) e)
-        ∙ no_plug_void (is_immediate r.frame.header) ∙ sym (no_plug_command r.frame (removed_command past lawful k e))
-    by_case false e = ap is_plug (standing_kept past k lt e)
+plug_stands past lawful k lt = grind (arith, standing_at, no_plug_void, no_plug_command, removed_command, standing_kept)
 
 missing_plug : (came : List Request) → is_plug (frame_of came (length came)) ≡ false
 missing_plug [] = refl
@@ -144,14 +111,8 @@ missing_plug (r ∷ came) = missing_plug came
 
 held_plug : (b : Bool) (past : Past) (lawful : IsLawful past) (k : ℕ) → order.has_come (numbered past.came) k ≡ b
     → is_some_plug (frame_numbered (standing past) k) ≡ is_plug (frame_of past.came (place_of past.came k))
-held_plug true past lawful k h =
-    let lt = place_come past.came k h in
-    let at = place_standing past k in
-    ap is_some_plug (frame_come (standing past) k (omega (arith, at, length_standing past)))
-    ∙ ap (λ (p : ℕ). is_plug (frame_of (standing past) p)) at ∙ plug_stands past lawful (place_of past.came k) lt
-held_plug false past lawful k h =
-    ap is_some_plug (frame_missing (standing past) k (ap (λ (l : List ℕ). order.has_come l k) (numbered_standing past) ∙ h))
-    ∙ sym (ap (λ (p : ℕ). is_plug (frame_of past.came p)) (place_missing past.came k h) ∙ missing_plug past.came)
+held_plug true past lawful k h = grind (arith, place_come, place_standing, frame_come, length_standing, plug_stands)
+held_plug false past lawful k h = grind (arith, frame_missing, numbered_standing, place_missing, missing_plug)
 
 beyond : {A : Type 0} (l : List A) (i : ℕ) (d : A) → length l ≤ i → get_or l i d ≡ d
 beyond [] i d le = refl
@@ -237,16 +198,10 @@ stands_behind luns past state k e s = subst (λ (p : Past). Stands p state) (sym
 -- and where it plugs it reaches none
 pub stands_unreached : (luns : List ℕ) (past : Past) (state : SessionState) (k : ℕ) → is_function (frame_of past.came k) ≡ true
     → awaited past (reach_of luns k past) ≡ [] → plugs past (reach_of luns k past) ≡ true → Stands (moved k past) state → Stands (ended luns k past) state
-stands_unreached luns past state k f unasked e s =
-    let none : removing [] (moved k past) ≡ moved k past = ap (λ (l : List ℕ). record (moved k past) { removed = l }) (append-nil (moved k past).removed) in
-    subst (λ (p : Past). Stands p state)
-    (sym none ∙ ap (λ (l : List ℕ). removing l (moved k past)) (sym (plugs_none past (reach_of luns k past) e)) ∙ ended_now luns past k f unasked) s
+stands_unreached luns past state k f unasked e s = grind (arith, append-nil, plugs_none, ended_now)
 
 pub stands_plugged_behind : (luns : List ℕ) (past : Past) (state : SessionState) (k n : ℕ) → is_function (frame_of past.came k) ≡ true
     → plugs past (reach_of luns k past) ≡ true → n ≡ ref_cmd_sn (frame_of past.came k).header → is_vacant state.tasks n ≡ true
     → Stands (ended luns k past) state
     → Stands (behind luns k past (ended luns k past)) (record state { tasks = takes_all (holding n plug state.tasks) })
-stands_plugged_behind luns past state k n f e is free s =
-    subst (λ (p : Past). Stands p (record state { tasks = takes_all (holding n plug state.tasks) }))
-    (ap (λ (m : ℕ). plugged m (ended luns k past)) is ∙ sym (behind_plugs luns past (ended luns k past) k f e))
-    (stands_plugged n (ended luns k past) state s free)
+stands_plugged_behind luns past state k n f e is free s = grind (arith, behind_plugs, stands_plugged)

@@ -12,7 +12,7 @@ use Rattle.iscsi_pdu.specs.declared.header.Opcode.TheVariants as opcodes
 use Rattle.iscsi_login.specs.declared.params.Params.{Params}
 use Rattle.iscsi_exchange.specs.ExchangeState.{ExchangeState, no_exchange}
 use Rattle.iscsi_exchange.specs.Exchange.{hears}
-use Rattle.iscsi_session.specs.Requests.{Request, Past, frame_of, frames_of, finished, answering}
+use Rattle.iscsi_session.specs.Requests.{Request, Past, frame_of, finished, answering}
 use Rattle.iscsi_session.specs.Transfers.{fed, asked}
 use Rattle.iscsi_session.specs.Texts.{is_text, exchange_behind, exchange_of}
 use Rattle.iscsi_session.proofs.Kept.{joined, Below}
@@ -45,9 +45,7 @@ exchange_asked k past = refl
 pub exchange_acted : (past after : Past) (k : ℕ) → after.params ≡ past.params → after.came ≡ past.came → after.acted ≡ past.acted ++ k ∷ []
     → exchange_of after ≡ exchange_behind past.params (exchange_of past) (frame_of past.came k)
 unfolding exchange_of
-exchange_acted past after k params came acted =
-    rw (params, came, acted, map-append (frame_of past.came) past.acted (k ∷ []))
-    (fold-append (exchange_behind past.params) no_exchange (frames_of past.came past.acted) (frame_of past.came k ∷ []))
+exchange_acted past after k params came acted = grind (arith, map-append, fold-append)
 
 pub exchange_other : (params : Params) (exchange : ExchangeState) (frame : Frame) → is_text frame ≡ false → exchange_behind params exchange frame ≡ exchange
 exchange_other params exchange frame e = rw e refl

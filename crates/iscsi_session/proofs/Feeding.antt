@@ -5,14 +5,12 @@ use Rattle.std.proofs.lemmas.Bool.{eq-eqb, ne_eqb, false_from_ne_true, or_parts}
 use Rattle.std.proofs.lemmas.List.Elements.{All-push, All-nil, All-cons, All-head, All-tail}
 use Rattle.iscsi_pdu.specs.Header.{is_immediate, initiator_task_tag}
 use Rattle.iscsi_pdu.specs.Frames.{Frame}
-use Rattle.iscsi_transfer.specs.Task.{TaskState, remembered as task_of, fault_of, is_whole, with_data, blank}
-use Rattle.iscsi_transfer.specs.declared.fault.DataFault.{DataFault}
+use Rattle.iscsi_transfer.specs.Task.{TaskState, remembered as task_of, is_whole, with_data, blank}
 use Rattle.iscsi_transfer.proofs.Blank.{fault_blank, with_blank}
 use Rattle.iscsi_session.proofs.Blanked.{asked_blanked}
 use Rattle.iscsi_transfer.proofs.Standing.{remembered-accepted}
 use Rattle.iscsi_session.specs.declared.transfers.Transfer.{Transfer}
 use Rattle.iscsi_session.specs.Drained.{Drained}
-use Rattle.iscsi_session.specs.declared.verdict.Verdict.TheVariants.{Violating, Feeding}
 use Rattle.iscsi_session.specs.Functions.{function_with, immediate_in}
 use Rattle.iscsi_session.specs.Requests.{Request, Past, Drain, DataOut, is_command, is_function, functions, frame_of, is_in, due, queue, unfinished, finished}
 use Rattle.iscsi_session.specs.Judging.{is_live, is_full, data_verdict}
@@ -73,9 +71,7 @@ either_some : (a b : Option ℕ) → (is_some a || is_some b) ≡ is_some (if is
 either_some a b = grind arith
 
 commands_live : (past : Past) (state : SessionState) (tag : ℕ) → Stands past state → is_live_in tag state.transfers ≡ is_some (command_with past tag)
-commands_live past state tag s =
-    rw (unfinished_live past state tag s, drained_live past state tag s)
-    (either_some (command_among past tag (unfinished past)) (command_among past tag (drained past)))
+commands_live past state tag s = grind (arith, unfinished_live, drained_live, either_some)
 
 pub headers_are : (past : Past) (state : SessionState) → Stands past state → state.functions ≡ map (λ k. (frame_of past.came k).header) (functions past)
 unfolding functions_of
@@ -120,15 +116,7 @@ first_none a b e = grind arith
 
 pub free_by_past : (past : Past) (frame : Frame) → ((is_command frame || is_function frame) ≡ true → is_live past (initiator_task_tag frame.header) ≡ false)
     → HasFreeTag past frame
-free_by_past past frame free =
-    let tag = initiator_task_tag frame.header in
-    record {
-      command = λ h. missing (tag_of past.came) tag (unfinished past)
-          (first_none (command_among past tag (unfinished past)) (command_among past tag (drained past))
-          (or_parts _ (is_some (function_with past tag)) (free (ap (λ (b : Bool). b || is_function frame) h))).0);
-      function = λ h. missing (tag_of past.came) tag (functions past)
-          (none_by (function_with past tag) (or_parts (is_some (command_with past tag)) _ (free (or_known (is_command frame) (is_function frame) h))).1);
-    }
+free_by_past past frame free = grind (arith, missing, first_none, or_parts, none_by, or_known)
 
 -- nothing bears its tag
 pub free_tag : (past : Past) (state : SessionState) (frame : Frame) → Stands past state → place_for frame state.transfers.list ≡ None
@@ -148,20 +136,14 @@ tag_in frame = initiator_task_tag frame.header
 judged_place : (past : Past) (frame : Frame) (at : Option ℕ) → Located (bears (tag_in frame)) (transfer_of past) (unfinished past) at
     → judged_at (map (transfer_of past) (unfinished past)) frame at ≡ data_verdict past frame (command_among past (tag_in frame) (unfinished past))
 judged_place past frame None found = ap (data_verdict past frame) (sym found)
-judged_place past frame (Some i) found =
-    ap (λ (t : Transfer). if is_some (fault_of t.task frame) then Violating else Feeding) (index_map (transfer_of past) no_transfer (unfinished past) i found.0
-    found.2) ∙ ap (data_verdict past frame) (sym found.1)
+judged_place past frame (Some i) found = grind (arith, index_map)
 
 judged_drained : (past : Past) (frame : Frame) (at : Option ℕ)
     → LocatedAmong (is_asked_of past) (λ k. tag_of past.came k == tag_in frame) (drains_of past) at
     → judged_drain (map (drained_of past) (drains_of past)) frame at ≡ data_verdict past frame (command_among past (tag_in frame) (drained past))
 unfolding drained
 judged_drained past frame None found = ap (data_verdict past frame) (sym found)
-judged_drained past frame (Some i) found =
-    ap (λ (x : Drained). if is_some (fault_of x.transfer.task frame) then Violating else Feeding)
-    (index_drains (drained_of past) no_drained (drains_of past) i found.0 found.2)
-    ∙ ap (λ (o : Option DataFault). if is_some o then Violating else Feeding) (fault_blank (transfer_of past found.0.command).task frame)
-    ∙ ap (data_verdict past frame) (sym found.1)
+judged_drained past frame (Some i) found = grind (arith, index_drains, fault_blank)
 
 -- by the first of two where there is one, else by the second
 by_either : {Y : Type 0} (f : Option ℕ → Y) (c : Bool) (a b : Option ℕ) (x y : Y) → c ≡ is_some a → x ≡ f a → y ≡ f b
@@ -288,13 +270,7 @@ fed_drained past frame (Some i) drained found =
 pub fed_is : (past : Past) (state : SessionState) (frame : Frame) → Stands past state
     → fed_in state.transfers frame ≡ transfers_of (fed (command_with past (tag_in frame)) frame past)
 unfolding transfers_of
-fed_is past state frame s =
-    ap (λ (t : TransferList). fed_in t frame) (parts past state s).transfers_is
-    ∙ by_either (λ (c : Option ℕ). transfers_of (fed c frame past)) _ (command_among past (tag_in frame) (unfinished past))
-    (command_among past (tag_in frame) (drained past)) _ _
-    (found_or_not (bears (tag_in frame)) (transfer_of past) (unfinished past) _ (located_with past (tag_in frame)))
-    (fed_place past frame _ s.lawful.drained (located_with past (tag_in frame)))
-    (fed_drained past frame _ s.lawful.drained (drain_located past (tag_in frame)))
+fed_is past state frame s = grind (arith, parts, by_either, found_or_not, located_with, fed_place, fed_drained, drain_located)
 
 lawful_fed_at : (past : Past) (k : ℕ) (frame : Frame) → k < length past.came → IsLawful past → IsLawful (feeding k frame past)
 lawful_fed_at past k frame lt lawful =
@@ -388,19 +364,9 @@ whole_is past state k s there =
 
 pub payload_is : (past : Past) (state : SessionState) (k : ℕ) → Stands past state → is_in k (unfinished past) ≡ true
     → payload_at state.transfers.list (place_for (frame_of past.came k) state.transfers.list) ≡ payload_of past k
-payload_is past state k s there =
-    let p = place_self past k s.lawful there in
-    ap (λ (l : List Transfer). payload_at l (place_for (frame_of past.came k) l)) (list_is past state s)
-    ∙ ap (payload_at (map (transfer_of past) (unfinished past))) p.1
-    ∙ ap (λ (t : Transfer). t.task.payload) (index_map (transfer_of past) no_transfer (unfinished past) p.0 k p.2)
+payload_is past state k s there = grind (arith, place_self, list_is, index_map)
 
 pub removed_is : (past : Past) (state : SessionState) (k : ℕ) (rest : List ℕ) → Stands past state → queue past ≡ k ∷ rest
     → record state.transfers { list = removed_at state.transfers.list (place_for (frame_of past.came k) state.transfers.list) } ≡ transfers_of (finished k past)
 unfolding transfers_of
-removed_is past state k rest s is =
-    let p = place_self past k s.lawful (first_unfinished past k rest s.lawful is) in
-    ap (λ (t : TransferList). record t { list = removed_at t.list (place_for (frame_of past.came k) t.list) }) (parts past state s).transfers_is
-    ∙ ap (λ (at : Option ℕ). record (transfers_of past) { list = removed_at (map (transfer_of past) (unfinished past)) at }) p.1
-    ∙ ap (λ (l : List Transfer). record (transfers_of past) { list = l })
-    (remove_map (transfer_of past) (unfinished past) p.0 k (unfinished_distinct past) p.2)
-    ∙ sym (transfers_finished past s.lawful k rest is)
+removed_is past state k rest s is = grind (arith, place_self, first_unfinished, parts, remove_map, unfinished_distinct, transfers_finished)

@@ -6,7 +6,6 @@ use Rattle.std.specs.List.{range_with_len}
 use Rattle.std.proofs.lemmas.Bool.{ne_eqb, eq-eqb, cases_eq}
 use Rattle.std.proofs.lemmas.List.{append-nil}
 use Rattle.std.proofs.lemmas.List.Elements.{filter-append}
-use Rattle.iscsi_pdu.specs.Frames.{Frame}
 use Rattle.iscsi_order.specs.Window as order
 use Rattle.iscsi_order.proofs.Front.{front, front_le, front_come, front_missing}
 use Rattle.iscsi_session.specs.Requests.{Request, request_at, frame_of, numbered, has_number, place_of, moment, taken_at, counted}
@@ -39,10 +38,7 @@ place_missing came k h = (come_place came k).1 h
 
 moment_come : (came : List Request) (k n : ℕ) → ((j : ℕ) → j ≤ k → order.has_come (numbered came) j ≡ true) → length came ≤ n → moment came k < n
 moment_come came zero n come le = let lt = place_come came zero (come zero (omega arith)) in omega arith
-moment_come came (suc k) n come le =
-    let lt = place_come came (suc k) (come (suc k) (omega arith)) in
-    let before = moment_come came k n (λ j below. come j (omega arith)) le in
-    omega arith
+moment_come came (suc k) n come le = grind (arith, moment_come came k n (λ j below. come j (omega arith)) le, place_come)
 
 -- it is the greatest of all places up to it
 pub moment_above : (came : List Request) (j k : ℕ) → j ≤ k → place_of came j ≤ moment came k
@@ -137,17 +133,13 @@ numbered_at came k lt = has_some (request_at came (place_of came k)).number k (p
 pub counted_places : (came : List Request) (a n : ℕ) → ((k : ℕ) → a ≤ k → k < a + n → order.has_come (numbered came) k ≡ true)
     → counted came (map (place_of came) (range_with_len a n)) ≡ n
 counted_places came a zero come = refl
-counted_places came a (suc n) come =
-    rw (numbered_at came a (place_come came a (come a (omega arith) (omega arith))))
-    (ap suc (counted_places came (a + 1) n (λ k le lt. come k (omega arith) (omega arith))))
+counted_places came a (suc n) come = grind (arith, counted_places came (a + 1) n (λ k le lt. come k (omega arith) (omega arith)), numbered_at, place_come)
 
 -- their frames, in order
 pub frames_come : (came : List Request) (a n : ℕ) → ((k : ℕ) → a ≤ k → k < a + n → order.has_come (numbered came) k ≡ true)
     → filter_map (λ o. o) (map (frame_numbered came) (range_with_len a n)) ≡ map (frame_of came) (map (place_of came) (range_with_len a n))
 frames_come came a zero come = refl
-frames_come came a (suc n) come =
-    rw (frame_come came a (place_come came a (come a (omega arith) (omega arith))))
-    (ap (λ (l : List Frame). frame_of came (place_of came a) ∷ l) (frames_come came (a + 1) n (λ k le lt. come k (omega arith) (omega arith))))
+frames_come came a (suc n) come = grind (arith, frames_come came (a + 1) n (λ k le lt. come k (omega arith) (omega arith)), frame_come, place_come)
 
 -- ---- one more request with a number
 

@@ -1,13 +1,11 @@
 -- How many requests are held, due and in the queue, as requests come and go.
 use Rattle.std.proofs.Common.{◌≡◌, ℕ, zero, suc, ◌+◌, ◌≤◌, List, [], ◌∷◌, ◌++◌, length, set, take, drop, Bool, true, false, Option, Some, None, refl, ap, ◌∙◌, arith, append-nil}
-use Rattle.std.specs.Prelude.{filter, filter_map, is_some}
-use Rattle.std.specs.List.{prefix_len}
+use Rattle.std.specs.Prelude.{filter, filter_map}
 use Rattle.std.proofs.lemmas.List.{length-map, length-append}
 use Rattle.std.proofs.lemmas.List.Elements.{filter_map-append, filter-append}
 use Rattle.iscsi_pdu.specs.Frames.{Frame}
 use Rattle.iscsi_order.specs.Window.{taken as taken_numbers}
-use Rattle.iscsi_order.specs.Serial.{distance}
-use Rattle.iscsi_session.specs.Requests.{Past, is_command, left, commands, frame_of, held, due, queue, moved, finished, removing}
+use Rattle.iscsi_session.specs.Requests.{Past, is_command, left, frame_of, held, due, queue, moved, finished, removing}
 use Rattle.iscsi_session.specs.State.{TaskLists, IsLawful, standing, tasks_of, holding, takes_next, takes, takes_all}
 use Rattle.iscsi_session.specs.Weight.{pending}
 use Rattle.iscsi_session.proofs.Left.{left_append, left_more, left_swap}
@@ -40,9 +38,7 @@ held_more (None ∷ l) (suc i) frame = held_more l i frame
 held_more (Some other ∷ l) (suc i) frame = omega (arith, held_more l i frame)
 
 pub pending_held : (n : ℕ) (frame : Frame) (tasks : TaskLists) → pending (takes_all (holding n frame tasks)) ≤ pending tasks + 1
-pending_held n frame tasks =
-    let t = holding n frame tasks in
-    omega (arith, pending_takes (prefix_len (λ o. is_some o) t.held) t, held_more tasks.held (distance tasks.next n) frame)
+pending_held n frame tasks = grind (arith, pending_takes, held_more)
 
 pub filter_fewer : {A : Type 0} (q : A → Bool) (l : List A) → length (filter q l) ≤ length l
 filter_fewer q [] = omega arith
@@ -69,67 +65,22 @@ left_fewer gone names = filter_fewer _ names
 
 queue_acted : (past : Past) (k : ℕ) → length (queue (record past { acted = past.acted ++ k ∷ [] })) ≤ length (queue past) + 1
 unfolding queue
-queue_acted past k =
-    let came = past.came in
-    let one = commands came (k ∷ []) in
-    let a : commands came (past.acted ++ k ∷ []) ≡ commands came past.acted ++ one = filter-append (λ a. is_command (frame_of came a)) past.acted (k ∷ []) in
-    let b : left past.removed (left past.finished (commands came (past.acted ++ k ∷ []))) ≡ queue past ++ left past.removed (left past.finished one) =
-    ap (λ (l : List ℕ). left past.removed (left past.finished l)) a
-    ∙ ap (left past.removed) (left_append past.finished (commands came past.acted) one)
-    ∙ left_append past.removed (left past.finished (commands came past.acted)) (left past.finished one) in
-    omega (
-      arith,
-      ap (λ (l : List ℕ). length l) b,
-      length-append (queue past) (left past.removed (left past.finished one)),
-      left_fewer past.removed (left past.finished one),
-      left_fewer past.finished one,
-      filter_fewer (λ a. is_command (frame_of came a)) (k ∷ []),
-    )
+queue_acted past k = grind (arith, filter-append, left_append, length-append, left_fewer, filter_fewer)
 
 queue_other : (past : Past) (k : ℕ) → is_command (frame_of past.came k) ≡ false
     → length (queue (record past { acted = past.acted ++ k ∷ []; finished = past.finished ++ k ∷ [] })) ≤ length (queue past)
 unfolding queue
-queue_other past k e =
-    let came = past.came in
-    let none : commands came (k ∷ []) ≡ [] = rw e refl in
-    let a : commands came (past.acted ++ k ∷ []) ≡ commands came past.acted =
-    filter-append (λ a. is_command (frame_of came a)) past.acted (k ∷ []) ∙ ap (λ (l : List ℕ). commands came past.acted ++ l) none
-    ∙ append-nil (commands came past.acted) in
-    let b : left past.removed (left (past.finished ++ k ∷ []) (commands came (past.acted ++ k ∷ []))) ≡ left (k ∷ []) (queue past) =
-    ap (λ (l : List ℕ). left past.removed (left (past.finished ++ k ∷ []) l)) a
-    ∙ ap (left past.removed) (left_more past.finished (k ∷ []) (commands came past.acted))
-    ∙ left_swap past.removed (k ∷ []) (left past.finished (commands came past.acted)) in
-    omega (arith, ap (λ (l : List ℕ). length l) b, left_fewer (k ∷ []) (queue past))
+queue_other past k e = grind (arith, filter-append, append-nil, left_more, left_swap, left_fewer)
 
 -- one that acts is due no longer: a SCSI Command may join the queue
 pub pending_command : (past : Past) (k : ℕ) (rest : List ℕ) → is_command (frame_of past.came k) ≡ true → IsLawful past → due past ≡ k ∷ rest
     → pending_in (moved k past) ≤ pending_in past
-pending_command past k rest e lawful is =
-    let same : moved k past ≡ record past { acted = past.acted ++ k ∷ [] } = rw e refl in
-    omega (
-      arith,
-      ap (λ (l : List ℕ). length l) (held_same past (past.acted ++ k ∷ []) past.finished past.removed),
-      ap (λ (l : List ℕ). length l) (due_in_order past k rest lawful is),
-      ap (λ (l : List ℕ). length l) is,
-      ap pending_in same,
-      ap (λ (p : Past). length (due p)) same,
-      queue_acted past k,
-    )
+pending_command past k rest e lawful is = grind (arith, held_same, due_in_order, queue_acted)
 
 -- and every other request is finished
 pub pending_other : (past : Past) (k : ℕ) (rest : List ℕ) → is_command (frame_of past.came k) ≡ false → IsLawful past → due past ≡ k ∷ rest
     → pending_in (moved k past) + 1 ≤ pending_in past
-pending_other past k rest e lawful is =
-    let same : moved k past ≡ record past { acted = past.acted ++ k ∷ []; finished = past.finished ++ k ∷ [] } = rw e refl in
-    omega (
-      arith,
-      ap (λ (l : List ℕ). length l) (held_same past (past.acted ++ k ∷ []) (past.finished ++ k ∷ []) past.removed),
-      ap (λ (l : List ℕ). length l) (due_in_order past k rest lawful is),
-      ap (λ (l : List ℕ). length l) is,
-      ap pending_in same,
-      ap (λ (p : Past). length (due p)) same,
-      queue_other past k e,
-    )
+pending_other past k rest e lawful is = grind (arith, held_same, due_in_order, queue_other)
 
 due_same : (past : Past) (k : ℕ) → due (finished k past) ≡ due past
 unfolding due
@@ -137,23 +88,9 @@ due_same past k = refl
 
 -- one of the queue is finished
 pub pending_finished : (past : Past) (k : ℕ) (rest : List ℕ) → IsLawful past → queue past ≡ k ∷ rest → pending_in (finished k past) + 1 ≡ pending_in past
-pending_finished past k rest lawful is =
-    omega (
-      arith,
-      ap (λ (l : List ℕ). length l) (held_same past past.acted (past.finished ++ k ∷ []) past.removed),
-      ap (λ (l : List ℕ). length l) (due_same past k),
-      ap (λ (l : List ℕ). length l) (done_in_order past k rest lawful is),
-      ap (λ (l : List ℕ). length l) is,
-    )
+pending_finished past k rest lawful is = grind (arith, held_same, due_same, done_in_order)
 
 -- some are removed
 pub pending_removing : (past : Past) (names : List ℕ) → pending_in (removing names past) ≤ pending_in past
 unfolding queue due
-pending_removing past names =
-    let line = left past.finished (commands past.came past.acted) in
-    omega (
-      arith,
-      ap (λ (l : List ℕ). length l) (held_same past past.acted past.finished (past.removed ++ names)),
-      ap (λ (l : List ℕ). length l) (left_more past.removed names line),
-      left_fewer names (left past.removed line),
-    )
+pending_removing past names = grind (arith, held_same, left_more, left_fewer)

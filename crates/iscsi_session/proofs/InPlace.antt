@@ -80,15 +80,7 @@ pub all_spelled : (numbers : Stamp) (values : Values) (frame : Frame) (done : Ou
     → now ≡ before ++ flat_map spelling (data_answers numbers values frame (data_sent frame done)) → written ≡ now ++ spelling response
     → response ≡ scsi_answer numbers frame done count → count ≡ length (sent_pieces values (data_sent frame done))
     → written ≡ before ++ flat_map spelling (command_answers numbers values frame done)
-all_spelled numbers values frame done count response before now written is put told counted =
-    let all = data_answers numbers values frame (data_sent frame done) in
-    let last = scsi_answer numbers frame done (length (sent_pieces values (data_sent frame done))) in
-    put
-    ∙ ap (λ (xs : List ℕ). xs ++ spelling response) is
-    ∙ ap (λ (answer : Answer). (before ++ flat_map spelling all) ++ spelling answer) (told ∙ ap (λ (n : ℕ). scsi_answer numbers frame done n) counted)
-    ∙ append_assoc before (flat_map spelling all) (spelling last)
-    ∙ ap (λ (xs : List ℕ). before ++ (flat_map spelling all ++ xs)) (sym (append-nil (spelling last)))
-    ∙ ap (λ (xs : List ℕ). before ++ xs) (sym (flat_map-append spelling all (last ∷ [])))
+all_spelled numbers values frame done count response before now written is put told counted = grind (arith, append_assoc, append-nil, flat_map-append)
 
 -- nothing waits
 pub none_waits : (items : List ℕ) → (length items == 0) ≡ true → items ≡ []

@@ -1,5 +1,5 @@
 -- The requests of one kind that are not finished, as requests come and are finished.
-use Rattle.std.proofs.Common.{◌≡◌, ℕ, ◌+◌, ◌<◌, List, [], ◌∷◌, ◌++◌, length, map, Bool, true, false, not, cond, refl, sym, ap, subst, ◌∙◌, arith, append-nil}
+use Rattle.std.proofs.Common.{◌≡◌, ℕ, ◌+◌, ◌<◌, List, [], ◌∷◌, ◌++◌, length, map, Bool, true, false, not, cond, sym, ap, ◌∙◌, arith, append-nil}
 use Rattle.std.specs.Prelude.{All, filter}
 use Rattle.std.specs.List.{range_with_len}
 use Rattle.std.proofs.lemmas.Bool.{false_from_ne_true}
@@ -53,23 +53,16 @@ all_of_kind q past k e = passes_in k (λ a. q (frame_of past.came a)) (range_wit
 
 pub in_kept : (q : Frame → Bool) (past : Past) (k : ℕ) → k < length past.came → q (frame_of past.came k) ≡ true → is_in k past.finished ≡ false
     → is_in k past.removed ≡ false → is_in k (kept_of q past) ≡ true
-in_kept q past k lt is open_still there_still =
-    let all = in_filter_back k (λ a. q (frame_of past.came a)) (range_with_len 0 (length past.came)) (in_range k 0 (length past.came) (omega arith)
-    (omega arith)) is in
-    in_left_back k past.removed _ (in_left_back k past.finished _ all open_still) there_still
+in_kept q past k lt is open_still there_still = grind (arith, in_filter_back, in_range, in_left_back)
 
 pub kept_distinct : (q : Frame → Bool) (past : Past) → AreDistinct (kept_of q past)
-kept_distinct q past =
-    distinct_left past.removed _ (distinct_left past.finished _
-    (distinct_filter (λ k. q (frame_of past.came k)) (range_with_len 0 (length past.came)) (distinct_range 0 (length past.came))))
+kept_distinct q past = grind (arith, distinct_left, distinct_filter, distinct_range)
 
 -- ---- a request comes
 
 new_of_kind : (c : Bool) (q : Frame → Bool) (past : Past) (x : Request) → q x.frame ≡ c
     → of_kind q (past.came ++ x ∷ []) (length past.came ∷ []) ≡ cond c (length past.came ∷ []) []
-new_of_kind c q past x e =
-    ap (λ (r : Request). cond (q r.frame) (length past.came ∷ []) []) (request_new past.came x)
-    ∙ ap (λ (b : Bool). cond b (length past.came ∷ []) []) e
+new_of_kind c q past x e = grind (arith, request_new)
 
 not_gone_by : (c : Bool) (n : ℕ) (gone : List ℕ) → All (λ a. a < n) gone → left gone (cond c (n ∷ []) []) ≡ cond c (n ∷ []) []
 not_gone_by true n gone below =
@@ -95,10 +88,7 @@ all_joined c q past x e =
 
 pub kept_joined : (c : Bool) (q : Frame → Bool) (past : Past) (x : Request) → q x.frame ≡ c → Below past past.finished → Below past past.removed
     → kept_of q (joined x past) ≡ kept_of q past ++ cond c (length past.came ∷ []) []
-kept_joined c q past x e finished_below removed_below =
-    ap (λ (l : List ℕ). left past.removed (left past.finished l)) (all_joined c q past x e)
-    ∙ ap (left past.removed) (left_with c (length past.came) past.finished (all_of q past) finished_below)
-    ∙ left_with c (length past.came) past.removed (left past.finished (all_of q past)) removed_below
+kept_joined c q past x e finished_below removed_below = grind (arith, all_joined, left_with)
 
 -- ---- one is finished
 
@@ -123,14 +113,8 @@ tags_before past x names below = map_cong _ _ names (λ i d lt. ap (λ (r : Requ
 pub tags_with : (c : Bool) (past : Past) (x : Request) (names : List ℕ) → Below past names → AreDistinct (map (tag_of past.came) names)
     → (c ≡ true → is_in (initiator_task_tag x.frame.header) (map (tag_of past.came) names) ≡ false)
     → AreDistinct (map (tag_of (past.came ++ x ∷ [])) (names ++ cond c (length past.came ∷ []) []))
-tags_with true past x names below distinct fresh =
-    subst AreDistinct
-    (sym (map-append (tag_of (past.came ++ x ∷ [])) names (length past.came ∷ [])
-    ∙ ap (λ (l : List ℕ). l ++ tag_of (past.came ++ x ∷ []) (length past.came) ∷ []) (tags_before past x names below)
-    ∙ ap (λ (r : Request). map (tag_of past.came) names ++ initiator_task_tag r.frame.header ∷ []) (request_new past.came x)))
-    (distinct_push (map (tag_of past.came) names) (initiator_task_tag x.frame.header) distinct (fresh refl))
-tags_with false past x names below distinct fresh =
-    subst AreDistinct (sym (ap (map (tag_of (past.came ++ x ∷ []))) (append-nil names) ∙ tags_before past x names below)) distinct
+tags_with true past x names below distinct fresh = grind (arith, map-append, tags_before, request_new, distinct_push)
+tags_with false past x names below distinct fresh = grind (arith, append-nil, tags_before)
 
 -- fewer have distinct tags too
 pub tags_left : (past : Past) (k : ℕ) (names : List ℕ) → AreDistinct (map (tag_of past.came) names) → AreDistinct (map (tag_of past.came) (left (k ∷ []) names))

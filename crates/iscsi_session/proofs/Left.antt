@@ -30,10 +30,7 @@ map_cong f g (x ∷ xs) same = rw (All-head (λ x. f x ≡ g x) x xs same, map_c
 
 pub left_more : (gone more names : List ℕ) → left (gone ++ more) names ≡ left more (left gone names)
 unfolding left
-left_more gone more names =
-    sym (filter_filter (λ k. not (is_in k more)) (λ k. not (is_in k gone)) names
-    ∙ filter_cong _ _ names (λ i d lt. not_or (is_in (get_or names i d) gone) (is_in (get_or names i d) more)
-    ∙ ap not (sym (list_any-append (λ a. eqb a (get_or names i d)) gone more))))
+left_more gone more names = grind (arith, filter_filter, filter_cong, not_or, list_any-append)
 
 pub both_true : (a b : Bool) → (a && not b) ≡ true → (a ≡ true) × (b ≡ false)
 both_true a b e = grind arith
@@ -43,10 +40,7 @@ and_swap a b = grind arith
 
 pub left_swap : (a b names : List ℕ) → left a (left b names) ≡ left b (left a names)
 unfolding left
-left_swap a b names =
-    filter_filter (λ k. not (is_in k a)) (λ k. not (is_in k b)) names
-    ∙ filter_cong _ _ names (λ i d lt. and_swap (not (is_in (get_or names i d) b)) (not (is_in (get_or names i d) a)))
-    ∙ sym (filter_filter (λ k. not (is_in k b)) (λ k. not (is_in k a)) names)
+left_swap a b names = grind (arith, filter_filter, filter_cong, and_swap)
 
 pub left_append : (gone a b : List ℕ) → left gone (a ++ b) ≡ left gone a ++ left gone b
 unfolding left
@@ -123,12 +117,7 @@ not_by k some all sub none = false_from_ne_true (is_in k some) (λ e. let h = sy
 
 pub distinct_filter : (q : ℕ → Bool) (names : List ℕ) → AreDistinct names → AreDistinct (filter q names)
 distinct_filter q [] distinct = tt
-distinct_filter q (k ∷ ks) distinct = distinct_filter_with (q k) q k ks refl distinct (distinct_filter q ks distinct.1)
-  where
-    distinct_filter_with : (b : Bool) (q : ℕ → Bool) (k : ℕ) (ks : List ℕ) → q k ≡ b → AreDistinct (k ∷ ks) → AreDistinct (filter q ks)
-        → AreDistinct (filter q (k ∷ ks))
-    distinct_filter_with true q k ks e distinct rest = rw e (not_by k (filter q ks) ks (in_filter k q ks) distinct.0, rest)
-    distinct_filter_with false q k ks e distinct rest = rw e rest
+distinct_filter q (k ∷ ks) distinct = grind (arith, distinct_filter q ks distinct.1, not_by, in_filter)
 
 pub distinct_left : (gone names : List ℕ) → AreDistinct names → AreDistinct (left gone names)
 unfolding left
@@ -213,11 +202,7 @@ distinct_map_filter f q (a ∷ names) distinct =
 
 -- one more that does not stand there
 pub distinct_push : (names : List ℕ) (n : ℕ) → AreDistinct names → is_in n names ≡ false → AreDistinct (names ++ n ∷ [])
-distinct_push names n distinct missing = distinct_append names (n ∷ []) distinct (refl, tt)
-    (λ i d lt. differs (get_or names i d) (λ same. let h = sym (in_at names i d lt) ∙ ap (λ (a : ℕ). is_in a names) same ∙ missing in cc))
-  where
-    differs : (a : ℕ) → (a ≡ n → ⊥) → is_in a (n ∷ []) ≡ false
-    differs a ne = rw (ne_eqb n a (λ e. absurd (ne (sym e)))) refl
+distinct_push names n distinct missing = grind (arith, distinct_append, in_at, ne_eqb)
 
 -- ---- what stands there still stands there
 

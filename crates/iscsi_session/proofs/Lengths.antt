@@ -1,5 +1,5 @@
 -- How many bytes the answers of a session take at most.
-use Rattle.std.proofs.Common.{◌≡◌, ℕ, zero, suc, ◌+◌, ◌*◌, ◌/◌, ◌%◌, ◌<◌, ◌≤◌, ◌==◌, min, List, [], ◌∷◌, ◌++◌, length, take, Bool, true, false, Option, Some, None, refl, ap, arith, append-nil}
+use Rattle.std.proofs.Common.{◌≡◌, ℕ, zero, suc, ◌+◌, ◌*◌, ◌/◌, ◌%◌, ◌<◌, ◌≤◌, ◌==◌, min, List, [], ◌∷◌, length, take, Bool, true, false, Option, Some, None, refl, ap, arith, append-nil}
 use Rattle.std.specs.Prelude.{flat_map}
 use Rattle.std.specs.Int.{div_ceil}
 use Rattle.std.proofs.lemmas.Grind.{div_ceil_times, flat_map-append}
@@ -26,14 +26,14 @@ use Rattle.iscsi_transfer.specs.DataIn.{piece_count}
 use Rattle.scsi_sense.specs.Done.{Outcome}
 use Rattle.scsi_unit.specs.DiskCommands.{most_given}
 use Rattle.iscsi_exchange.specs.ExchangeState.{ExchangeState}
-use Rattle.iscsi_exchange.specs.Exchange.{TextPiece, IsShort, hears}
+use Rattle.iscsi_exchange.specs.Exchange.{TextPiece, IsShort}
 use Rattle.iscsi_exchange.proofs.Short.{hears_short}
 use Rattle.iscsi_session.specs.Judging.{reserved_tag, reject}
 use Rattle.iscsi_session.specs.Texts.{text_answer}
 use Rattle.iscsi_session.specs.Acts.{ping_answers, closes, logout_answer, act_answers_by}
 use Rattle.iscsi_session.specs.Requests.{Past}
 use Rattle.iscsi_session.specs.Transfers.{r2t_of}
-use Rattle.iscsi_session.specs.Answers.{data_sent, sent_pieces, data_answers, scsi_answer, command_answers}
+use Rattle.iscsi_session.specs.Answers.{scsi_answer, command_answers}
 use Rattle.iscsi_session.specs.Room.{most_sent}
 use Rattle.iscsi_session.specs.Weight.{request_weight}
 use Rattle.iscsi_session.proofs.Room.{segment_long, data_fits}
@@ -80,17 +80,11 @@ pub most_answered : (o : Opcode) (waited : List ℕ) (result : TaskResult) (exch
     → length frame.header ≡ header_length → length (flat_map spelling (act_answers_by o waited result exchange numbers params frame)) ≤ 262240
 most_answered opcodes.ScsiCommand waited result exchange numbers params frame whole = omega arith
 most_answered opcodes.NopOut waited result exchange numbers params frame whole = ping_long numbers params.values frame
-most_answered opcodes.Logout waited result exchange numbers params frame whole =
-    omega (arith, one_spelled (logout_answer numbers params frame), logout_long numbers params frame whole)
+most_answered opcodes.Logout waited result exchange numbers params frame whole = grind (arith, one_spelled, logout_long)
 most_answered opcodes.TaskManagement [] result exchange numbers params frame whole = omega arith
 most_answered opcodes.TaskManagement (k ∷ others) result exchange numbers params frame whole = omega arith
 most_answered opcodes.Login waited result exchange numbers params frame whole = omega arith
-most_answered opcodes.Text waited result exchange numbers params frame whole =
-    omega (
-      arith,
-      one_spelled (text_answer numbers (hears exchange frame params).piece frame),
-      text_long numbers (hears exchange frame params).piece frame whole (hears_short exchange frame params),
-    )
+most_answered opcodes.Text waited result exchange numbers params frame whole = grind (arith, one_spelled, text_long, hears_short)
 most_answered opcodes.DataOut waited result exchange numbers params frame whole = omega arith
 most_answered opcodes.Snack waited result exchange numbers params frame whole = omega arith
 most_answered (opcodes.Other n) waited result exchange numbers params frame whole = omega arith
@@ -103,16 +97,7 @@ response_long numbers frame done data_ins = grind arith
 
 -- a burst is cut into pieces of which only the last is short
 pieces_of_burst : (burst segment : ℕ) → 512 ≤ burst → 512 ≤ segment → 512 * div_ceil burst segment ≤ 2 * burst
-pieces_of_burst burst segment long some = by_count (div_ceil burst segment) refl
-  where
-    by_count : (d : ℕ) → div_ceil burst segment ≡ d → 512 * d ≤ 2 * burst
-    by_count zero e = omega arith
-    by_count (suc d) e =
-        let above : div_ceil burst segment * segment < burst + segment = (div_ceil_times burst segment (omega arith)).1 in
-        let is : div_ceil burst segment * segment ≡ suc d * segment = ap (λ (n : ℕ). n * segment) e in
-        let next : suc d * segment ≡ d * segment + segment = suc-mul d segment in
-        let wide : d * 512 ≤ d * segment = mul-le-mul_left d some in
-        omega (arith, above, is, next, wide)
+pieces_of_burst burst segment long some = grind (arith, div_ceil_times, suc-mul, mul-le-mul_left)
 
 few_pieces : (n burst segment : ℕ) → 512 ≤ burst → 512 ≤ segment → 512 * piece_count n burst segment ≤ 2 * n + 1024
 few_pieces n burst segment long some =
@@ -146,22 +131,7 @@ most_sent_fits frame = grind arith
 pub command_long : (numbers : Stamp) (values : Values) (frame : Frame) (done : Outcome) → AreInRange values → length done.given ≤ most_given
     → length (flat_map spelling (command_answers numbers values frame done)) ≤ request_weight
 command_long numbers values frame done range given =
-    let sent = data_sent frame done in
-    let pieces_of_it = data_answers numbers values frame sent in
-    let response = scsi_answer numbers frame done (length (sent_pieces values sent)) in
-    let joined : length (flat_map spelling (pieces_of_it ++ response ∷ [])) ≡ length (flat_map spelling pieces_of_it ++ flat_map spelling (response ∷ [])) =
-    ap (λ (l : List ℕ). length l) (flat_map-append spelling pieces_of_it (response ∷ [])) in
-    let pieces = few_pieces (most_sent frame) values.max_burst_length values.max_recv_data_segment_length range.burst range.segment in
-    omega (
-      arith,
-      joined,
-      length-append (flat_map spelling pieces_of_it) (flat_map spelling (response ∷ [])),
-      one_spelled response,
-      response_long numbers frame done (length (sent_pieces values sent)),
-      data_fits numbers values frame done range given,
-      pieces,
-      most_sent_fits frame,
-    )
+    grind (arith, flat_map-append, few_pieces, length-append, one_spelled, response_long, data_fits, most_sent_fits)
 
 -- ---- an R2T
 

@@ -8,7 +8,7 @@ use Rattle.iscsi_pdu.specs.Frames.{Frame}
 use Rattle.iscsi_order.specs.Window as order
 use Rattle.iscsi_order.specs.Window.{taken as taken_numbers}
 use Rattle.iscsi_order.specs.Serial.{distance}
-use Rattle.iscsi_session.specs.Requests.{Request, Past, frame_of, is_command, is_function, left, numbers, unfinished, functions, accepted}
+use Rattle.iscsi_session.specs.Requests.{Request, Past, is_command, is_function, left, numbers, unfinished, functions, accepted}
 use Rattle.iscsi_session.specs.Functions.{immediate_in}
 use Rattle.iscsi_session.specs.State.{IsLawful, tasks_of}
 use Rattle.iscsi_session.specs.Weight.{pending}
@@ -38,52 +38,14 @@ left_few q gone names = fewer_still _ q names
 -- some are over, and the same came
 pub immediate_less : (past after : Past) (gone : List ℕ) → after.came ≡ past.came → unfinished after ≡ left gone (unfinished past)
     → functions after ≡ left gone (functions past) → immediate_of after ≤ immediate_of past
-immediate_less past after gone came a b =
-    let q : ℕ → Bool = λ k. is_immediate (frame_of past.came k).header in
-    let same : immediate_of after ≡ length (filter q (unfinished after)) + length (filter q (functions after)) =
-    ap (λ (l : List Request). length (filter (λ k. is_immediate (frame_of l k).header) (unfinished after))
-    + length (filter (λ k. is_immediate (frame_of l k).header) (functions after))) came in
-    omega (
-      arith,
-      same,
-      ap (λ (l : List ℕ). length (filter q l)) a,
-      ap (λ (l : List ℕ). length (filter q l)) b,
-      left_few q gone (unfinished past),
-      left_few q gone (functions past),
-    )
+immediate_less past after gone came a b = grind (arith, left_few)
 
 -- one more came
 one_more : (c i : Bool) (kind : Frame → Bool) (past : Past) (x : Request) → kind x.frame ≡ c → is_immediate x.frame.header ≡ i
     → Below past past.finished → Below past past.removed
     → length (of_kind (λ f. is_immediate f.header) (past.came ++ x ∷ []) (kept_of kind (joined x past)))
     ≡ length (of_kind (λ f. is_immediate f.header) past.came (kept_of kind past)) + cond (c && i) 1 0
-one_more c i kind past x e h below gone =
-    let q : Frame → Bool = λ f. is_immediate f.header in
-    let came = past.came ++ x ∷ [] in
-    let n = length past.came in
-    let a : of_kind q came (kept_of kind (joined x past)) ≡ of_kind q came (kept_of kind past ++ cond c (n ∷ []) []) =
-    ap (of_kind q came) (kept_joined c kind past x e below gone) in
-    let b : of_kind q came (kept_of kind past ++ cond c (n ∷ []) []) ≡ of_kind q came (kept_of kind past) ++ of_kind q came (cond c (n ∷ []) []) =
-    filter-append (λ k. q (frame_of came k)) (kept_of kind past) (cond c (n ∷ []) []) in
-    let d : of_kind q came (kept_of kind past) ≡ of_kind q past.came (kept_of kind past) = kind_same q past x (kept_of kind past) (below_kept kind past) in
-    let f : length (of_kind q came (cond c (n ∷ []) [])) ≡ cond (c && i) 1 0 = by_kind c i h in
-    omega (
-      arith,
-      ap (λ (l : List ℕ). length l) (a ∙ b),
-      length-append (of_kind q came (kept_of kind past)) (of_kind q came (cond c (n ∷ []) [])),
-      ap (λ (l : List ℕ). length l) d,
-      f,
-    )
-  where
-    by_kind : (c i : Bool) → is_immediate x.frame.header ≡ i
-        → length (of_kind (λ f. is_immediate f.header) (past.came ++ x ∷ []) (cond c (length past.came ∷ []) [])) ≡ cond (c && i) 1 0
-    by_kind false i h = refl
-    by_kind true true h =
-        let at : is_immediate (frame_of (past.came ++ x ∷ []) (length past.came)).header ≡ true =
-        ap (λ (r : Request). is_immediate r.frame.header) (request_new past.came x) ∙ h in rw at refl
-    by_kind true false h =
-        let at : is_immediate (frame_of (past.came ++ x ∷ []) (length past.came)).header ≡ false =
-        ap (λ (r : Request). is_immediate r.frame.header) (request_new past.came x) ∙ h in rw at refl
+one_more c i kind past x e h below gone = grind (arith, of_kind, kept_of, joined, kept_joined, filter-append, kind_same, below_kept, length-append, request_new)
 
 pub immediate_joined : (c f i : Bool) (past : Past) (x : Request) → IsLawful past → is_command x.frame ≡ c → is_function x.frame ≡ f
     → is_immediate x.frame.header ≡ i → immediate_of (joined x past) ≡ immediate_of past + (cond (c && i) 1 0 + cond (f && i) 1 0)

@@ -128,11 +128,7 @@ pub record SameLines (old new : Slab Frame) (held : List (Option ℕ)) (due queu
 
 pub SameLines-other : (old new : Slab Frame) (key : ℕ) (slot : Option Frame) (held : List (Option ℕ)) (due queue : List ℕ) → Updates old new key slot
     → times key (keys_in held) + times key due + times key queue ≡ 0 → SameLines old new held due queue
-SameLines-other old new key slot held due queue updates none = record {
-  same_held = held_at-other old new key slot held updates (omega arith);
-  same_due = requests_at-other old new key slot due updates (omega arith);
-  same_queue = requests_at-other old new key slot queue updates (omega arith);
-}
+SameLines-other old new key slot held due queue updates none = grind (arith, held_at-other, requests_at-other)
 
 -- each place that has a key has a request
 marks_kept : (requests : Slab Frame) (keys : List (Option ℕ)) → ((key : ℕ) → 0 < times key (keys_in keys) → is_some (get requests key) ≡ true)
@@ -193,23 +189,13 @@ pub record Turns (w : WindowKeys) (key : ℕ) : Type 0 where
 turns_by : (next unfinished key : ℕ) (l : List (Option ℕ)) → get_or l 0 None ≡ Some key → Turns (record { next = next; unfinished = unfinished; keys = l }) key
 turns_by next unfinished key [] e = absurd cc
 turns_by next unfinished key (None ∷ l) e = absurd cc
-turns_by next unfinished key (Some k ∷ l) e =
-    let same : k ≡ key = cc in
-    record {
-      prefix = omega (arith, prefix_push l);
-      first = ap (λ (n : ℕ). n ∷ []) same;
-      keys = ap (λ (n : ℕ). n ∷ keys_in l) same
-          ∙ ap (λ (rest : List ℕ). key ∷ rest) (sym (keys_push l));
-    }
+turns_by next unfinished key (Some k ∷ l) e = grind (arith, prefix_push, keys_push)
 
 pub turns : (w : WindowKeys) (key : ℕ) → get_or w.keys 0 None ≡ Some key → Turns w key
 turns w key e = turns_by w.next w.unfinished key w.keys e
 
 pub moves_on : (w : WindowKeys) (due : List ℕ) (key : ℕ) → get_or w.keys 0 None ≡ Some key → moves_all (turned w, due ++ key ∷ []) ≡ moves_all (w, due)
-moves_on w due key e =
-    let t = turns w key e in
-    ap (λ (l : List ℕ). moves (prefix_len (λ k. is_some k) (turned w).keys) (turned w, due ++ l)) (sym t.first)
-    ∙ ap (λ (n : ℕ). moves n (w, due)) (sym t.prefix)
+moves_on w due key e = grind (arith, turns)
 
 pub moves_end : (w : WindowKeys) (due : List ℕ) → get_or w.keys 0 None ≡ None → moves_all (w, due) ≡ (w, due)
 moves_end w due e = by_keys w.keys e

@@ -4,7 +4,7 @@ use Rattle.std.specs.Prelude.{All}
 use Rattle.std.proofs.lemmas.List.{append-nil, map-append}
 use Rattle.std.proofs.lemmas.List.Elements.{filter-append, All-push, All-nil, All-cons}
 use Rattle.iscsi_order.specs.Window.{taken as taken_numbers}
-use Rattle.iscsi_session.specs.Requests.{Past, pending, frame_of, is_in, left, is_command, commands, others, counted, over, taken, numbers, due, queue, unfinished, is_function, functions, frames_of, finished}
+use Rattle.iscsi_session.specs.Requests.{Past, pending, frame_of, is_in, left, is_command, commands, others, counted, over, taken, due, queue, unfinished, is_function, functions, frames_of, finished}
 use Rattle.iscsi_session.specs.Transfers.{tag_of, task_at, outs_of, tags_of}
 use Rattle.iscsi_session.specs.State.{standing, tasks_of, transfer_of, transfers_of, functions_of, AreDistinct, IsLawful, one_fewer}
 use Rattle.iscsi_session.proofs.Left.{left_append, left_all, left_more, left_swap, left_first, left_one, left_passes, in_at, in_front, in_back, in_left, passes_in, not_gone, not_by, not_in, below_of, distinct_left, distinct_filter, distinct_front}
@@ -60,9 +60,7 @@ module _ (past : Past) (lawful : IsLawful past) where
     -- the others are due, in the same order
     pub due_after : due (record past { acted = past.acted ++ k ∷ [] }) ≡ rest
     unfolding due
-    due_after =
-        left_more past.acted (k ∷ []) (taken past.came)
-        ∙ ap (left (k ∷ [])) (sym (due_is past lawful) ∙ is) ∙ left_first k rest distinct_here
+    due_after = grind (arith, left_more, due_is, left_first, distinct_here)
 
     in_order_after : taken past.came ≡ (past.acted ++ k ∷ []) ++ rest
     in_order_after = lawful.in_order ∙ ap (λ (l : List ℕ). past.acted ++ l) is ∙ sym (append_assoc past.acted (k ∷ []) rest)
@@ -91,12 +89,7 @@ module _ (past : Past) (lawful : IsLawful past) where
     -- it joins the queue, where it was not removed
     queue_by : is_command (frame_of past.came k) ≡ true → queue with_command ≡ queue past ++ left past.removed (k ∷ [])
     unfolding queue
-    queue_by e =
-        ap (λ (l : List ℕ). left past.removed (left past.finished l)) (commands_one e)
-        ∙ ap (left past.removed) (left_append past.finished (commands past.came past.acted) (k ∷ []))
-        ∙ left_append past.removed (left past.finished (commands past.came past.acted)) (left past.finished (k ∷ []))
-        ∙ ap (λ (l : List ℕ). queue past ++ left past.removed l)
-        (left_all past.finished (k ∷ []) (All-cons (λ a. is_in a past.finished ≡ false) k [] not_finished (All-nil (λ a. is_in a past.finished ≡ false))))
+    queue_by e = grind (arith, commands_one, left_append, left_all, not_finished)
 
     pub transfers_command : transfers_of with_command ≡ transfers_of past
     unfolding transfers_of unfinished task_at outs_of tags_of
@@ -154,10 +147,7 @@ module _ (past : Past) (lawful : IsLawful past) where
       pub tasks_command : is_command (frame_of past.came k) ≡ true
           → record (tasks_of past) { due = frames_of (standing past) rest; queue = (tasks_of past).queue ++ frame_of past.came k ∷ [] } ≡ tasks_of with_command
       unfolding tasks_of standing
-      tasks_command e =
-          let queued : frames_of past.came (queue past) ++ frame_of past.came k ∷ [] ≡ frames_of past.came (queue with_command) = sym
-          (map-append (frame_of past.came) (queue past) (k ∷ [])) ∙ ap (frames_of past.came) (sym (queue_joined e)) in
-          rw (queued, due_after, over_same past k stays) refl
+      tasks_command e = grind (arith, map-append, queue_joined, due_after, over_same)
 
     -- one that was removed
     module _ (gone : is_in k past.removed ≡ true) where
@@ -174,10 +164,7 @@ module _ (past : Past) (lawful : IsLawful past) where
       pub tasks_gone : is_command (frame_of past.came k) ≡ true
           → one_fewer (frame_of (standing past) k) (record (tasks_of past) { due = frames_of (standing past) rest }) ≡ tasks_of with_command
       unfolding tasks_of standing taken_numbers
-      tasks_gone e =
-          one_fewer_by _ (frame_of (standing past) k) (record (tasks_of past) { due = frames_of (standing past) rest })
-          (standing_immediate past k due_came)
-          ∙ rw (unfinished_less past (numbers past).handed _ _ k lawful due_came one_over, due_after, queue_gone e) refl
+      tasks_gone e = grind (arith, one_fewer_by, standing_immediate, due_came, unfinished_less, one_over, due_after, queue_gone)
 
     -- ---- every other request is finished at once
 
@@ -196,12 +183,7 @@ module _ (past : Past) (lawful : IsLawful past) where
 
     pub queue_other : is_command (frame_of past.came k) ≡ false → queue with_other ≡ queue past
     unfolding queue
-    queue_other e =
-        let apart : is_in k (queue past) ≡ false = not_by k (queue past) past.acted (in_queue past lawful k) not_acted in
-        ap (λ (l : List ℕ). left past.removed (left (past.finished ++ k ∷ []) l)) (commands_none past.acted e)
-        ∙ ap (left past.removed) (left_more past.finished (k ∷ []) (commands past.came past.acted))
-        ∙ left_swap past.removed (k ∷ []) (left past.finished (commands past.came past.acted))
-        ∙ ap (left (k ∷ [])) (sym (queue_is past lawful)) ∙ left_one k (queue past) apart
+    queue_other e = grind (arith, not_by, in_queue, not_acted, commands_none, left_more, left_swap, queue_is, left_one)
 
     pub not_pending : is_in k (pending past) ≡ false
     not_pending = open_not_pending past k lawful.drained not_finished
@@ -264,9 +246,7 @@ module _ (past : Past) (lawful : IsLawful past) where
     pub tasks_other : is_command (frame_of past.came k) ≡ false
         → one_fewer (frame_of past.came k) (record (tasks_of past) { due = frames_of (standing past) rest }) ≡ tasks_of with_other
     unfolding tasks_of standing taken_numbers
-    tasks_other e =
-        one_fewer_by _ (frame_of past.came k) (record (tasks_of past) { due = frames_of (standing past) rest }) refl
-        ∙ rw (unfinished_less past (numbers past).handed _ _ k lawful due_came (over_other past k (stays_other e) not_pending), due_other, queue_other e) refl
+    tasks_other e = grind (arith, one_fewer_by, unfinished_less, due_came, over_other, stays_other, not_pending, due_other, queue_other)
 
   -- ---- the first of the queue is finished
 
@@ -292,17 +272,12 @@ module _ (past : Past) (lawful : IsLawful past) where
     is_not_pending = command_not_pending past k lawful.drained is_done
 
     distinct_queue : AreDistinct (k ∷ rest)
-    distinct_queue = subst AreDistinct (sym (queue_is past lawful)
-        ∙ is) (distinct_left past.removed _ (distinct_left past.finished (commands past.came past.acted)
-        (distinct_filter (λ a. is_command (frame_of past.came a)) past.acted distinct_acted)))
+    distinct_queue = grind (arith, queue_is, distinct_left, distinct_filter, distinct_acted)
 
     -- the others are to be done, in the same order
     pub queue_after : queue (finished k past) ≡ rest
     unfolding queue
-    queue_after =
-        ap (left past.removed) (left_more past.finished (k ∷ []) (commands past.came past.acted))
-        ∙ left_swap past.removed (k ∷ []) (left past.finished (commands past.came past.acted))
-        ∙ ap (left (k ∷ [])) (sym (queue_is past lawful) ∙ is) ∙ left_first k rest distinct_queue
+    queue_after = grind (arith, left_more, left_swap, queue_is, left_first, distinct_queue)
 
     due_finished : due (finished k past) ≡ due past
     unfolding due
@@ -348,6 +323,4 @@ module _ (past : Past) (lawful : IsLawful past) where
 
     pub tasks_finished : one_fewer (frame_of past.came k) (record (tasks_of past) { queue = frames_of past.came rest }) ≡ tasks_of (finished k past)
     unfolding tasks_of standing taken_numbers
-    tasks_finished =
-        one_fewer_by _ (frame_of past.came k) (record (tasks_of past) { queue = frames_of past.came rest }) refl
-        ∙ rw (unfinished_less past (numbers past).handed _ _ k lawful queue_came (over_finished past k is_not_pending), due_finished, queue_after) refl
+    tasks_finished = grind (arith, one_fewer_by, unfinished_less, queue_came, over_finished, is_not_pending, due_finished, queue_after)

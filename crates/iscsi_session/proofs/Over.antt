@@ -1,5 +1,5 @@
 -- How many numbers are over: of the requests that are finished, and of those that were removed and whose turn has come.
-use Rattle.std.proofs.Common.{◌≡◌, ℕ, ◌+◌, ◌-◌, ◌<◌, ◌≤◌, List, [], ◌∷◌, ◌++◌, length, get_or, Bool, true, false, not, cond, refl, sym, ap, ◌∙◌, arith, append_assoc, map}
+use Rattle.std.proofs.Common.{◌≡◌, ℕ, ◌+◌, ◌-◌, ◌<◌, ◌≤◌, List, [], ◌∷◌, ◌++◌, length, Bool, true, false, not, cond, refl, sym, ap, ◌∙◌, arith, append_assoc, map}
 use Rattle.std.specs.Prelude.{All, filter}
 use Rattle.std.proofs.lemmas.Bool.{false_from_ne_true, not-true}
 use Rattle.std.proofs.lemmas.List.{append-nil}
@@ -15,9 +15,7 @@ use Rattle.iscsi_session.specs.Transfers.{tag_of}
 use Rattle.iscsi_session.proofs.Accepted.{counted_append, handed_le}
 
 filter_swap : (p q : ℕ → Bool) (names : List ℕ) → filter p (filter q names) ≡ filter q (filter p names)
-filter_swap p q names =
-    filter_filter p q names ∙ filter_cong _ _ names (λ i d lt. and_swap (q (get_or names i d)) (p (get_or names i d)))
-    ∙ sym (filter_filter q p names)
+filter_swap p q names = grind (arith, filter_filter, filter_cong, and_swap)
 
 -- those for which it holds, and the others
 pub split : (q : ℕ → Bool) (came : List Request) (names : List ℕ) → counted came names ≡ counted came (filter q names) + counted came (filter (λ a. not (q a)) names)
@@ -35,27 +33,14 @@ not_removed past k all e = false_from_ne_true (is_in k past.removed) (λ h. let 
 
 others_stay : (past : Past) (names : List ℕ) → All (λ a. is_command (frame_of past.came a) ≡ true) past.removed
     → left past.removed (others past.came names) ≡ others past.came names
-others_stay past names all = left_all past.removed (others past.came names) (λ i d lt. not_removed past _ all
-    (not-true (is_command (frame_of past.came (get_or (others past.came names) i d)))
-    (filter_passes (λ k. not (is_command (frame_of past.came k))) names i d lt)))
+others_stay past names all = grind (arith, left_all, not_removed, not-true, filter_passes)
 
 -- of those that acted: the removed ones, the SCSI Commands that were not removed, and the other requests
 pub acted_counted : (past : Past) → All (λ a. is_command (frame_of past.came a) ≡ true) past.removed
     → counted past.came past.acted ≡ counted past.came (filter (λ k. is_in k past.removed) past.acted)
     + (counted past.came (left past.removed (commands past.came past.acted)) + counted past.came (others past.came past.acted))
 unfolding left
-acted_counted past all =
-    let came = past.came in
-    let gone : ℕ → Bool = λ k. is_in k past.removed in
-    let command : ℕ → Bool = λ k. is_command (frame_of came k) in
-    let rest = filter (λ k. not (gone k)) past.acted in
-    let first = split gone came past.acted in
-    let second = split command came rest in
-    let a : filter command rest ≡ filter (λ k. not (gone k)) (commands came past.acted) = filter_swap command (λ k. not (gone k)) past.acted in
-    let b : filter (λ k. not (command k)) rest ≡ filter (λ k. not (gone k)) (others came past.acted) = filter_swap (λ k. not (command k))
-    (λ k. not (gone k)) past.acted in
-    let c : filter (λ k. not (gone k)) (others came past.acted) ≡ others came past.acted = others_stay past past.acted all in
-    omega (arith, first, second, ap (counted came) a, ap (counted came) (b ∙ c))
+acted_counted past all = grind (arith, split, filter_swap, others_stay)
 
 -- no more numbers are over than are taken
 pub few_over : (past : Past) → taken past.came ≡ past.acted ++ due past
@@ -63,18 +48,7 @@ pub few_over : (past : Past) → taken past.came ≡ past.acted ++ due past
     → others past.came past.finished ≡ others past.came past.acted → All (λ a. is_command (frame_of past.came a) ≡ true) past.removed
     → counted past.came (taken past.came) ≡ (numbers past).handed → counted past.came (over past) ≤ (numbers past).handed
 unfolding left
-few_over past in_order queued at_once all handed =
-    let came = past.came in
-    let w = split (λ k. is_in k (pending past)) came past.finished in
-    let a = split (λ k. is_command (frame_of came k)) came past.finished in
-    let b = acted_counted past all in
-    let c : counted came (commands came past.finished) + counted came (queue past) ≡ counted came (left past.removed (commands came past.acted)) = sym
-    (counted_append came (commands came past.finished) (queue past)) ∙ ap (counted came) queued in
-    let d : counted came (others came past.finished) ≡ counted came (others came past.acted) = ap (counted came) at_once in
-    let e : counted came (taken came) ≡ counted came past.acted + counted came (due past) = ap (counted came) in_order
-    ∙ counted_append came past.acted (due past) in
-    let f = counted_append came (left (pending past) past.finished) (filter (λ k. is_in k past.removed) past.acted) in
-    omega arith
+few_over past in_order queued at_once all handed = grind (arith, split, acted_counted, counted_append)
 
 -- ---- one more is over
 
@@ -92,12 +66,8 @@ unfinished_less past handed n m k lawful lt is = grind arith
 over_by : (b : Bool) (past : Past) (k : ℕ) (finished : List ℕ) → is_in k past.removed ≡ b
     → finished ++ filter (λ a. is_in a past.removed) (past.acted ++ k ∷ [])
     ≡ (finished ++ filter (λ a. is_in a past.removed) past.acted) ++ cond b (k ∷ []) []
-over_by true past k finished e =
-    ap (λ (l : List ℕ). finished ++ l) (filter-append (λ a. is_in a past.removed) past.acted (k ∷ []) ∙ rw e refl)
-    ∙ sym (append_assoc finished (filter (λ a. is_in a past.removed) past.acted) (k ∷ []))
-over_by false past k finished e =
-    ap (λ (l : List ℕ). finished ++ l) (filter-append (λ a. is_in a past.removed) past.acted (k ∷ []) ∙ rw e refl)
-    ∙ sym (append_assoc finished (filter (λ a. is_in a past.removed) past.acted) [])
+over_by true past k finished e = grind (arith, filter-append, append_assoc)
+over_by false past k finished e = grind (arith, filter-append, append_assoc)
 
 pub over_more : (past : Past) (k : ℕ) → counted past.came (over past) ≤ counted past.came (over (record past { acted = past.acted ++ k ∷ [] }))
 over_more past k =
@@ -131,15 +101,7 @@ over_other past k e free =
 -- one of the queue is finished
 pub over_finished : (past : Past) (k : ℕ) → is_in k (pending past) ≡ false → counted past.came (over (record past { finished = past.finished ++ k ∷ [] }))
     ≡ counted past.came (over past) + counted past.came (k ∷ [])
-over_finished past k free =
-    let came = past.came in
-    let done = left (pending past) past.finished in
-    let gone = filter (λ a. is_in a past.removed) past.acted in
-    let a = ap (λ (l : List ℕ). counted came (l ++ gone)) (left_push (pending past) past.finished k free) in
-    let b = counted_append came (done ++ k ∷ []) gone in
-    let c = counted_append came done (k ∷ []) in
-    let d = counted_append came done gone in
-    omega arith
+over_finished past k free = grind (arith, left_push, counted_append)
 
 -- ---- a step in which no request comes
 

@@ -1,5 +1,5 @@
 -- What a session remembers of its past, part by part.
-use Rattle.std.proofs.Common.{◌≡◌, ℕ, suc, ◌+◌, ◌-◌, ◌^◌, ◌%◌, ◌<◌, List, [], ◌∷◌, ◌++◌, map, get_or, ltb, Bool, true, false, cond, None, refl, sym, ap, ◌∙◌, subst, arith, append-nil}
+use Rattle.std.proofs.Common.{◌≡◌, ℕ, suc, ◌+◌, ◌-◌, ◌^◌, ◌<◌, List, [], ◌∷◌, ◌++◌, map, get_or, ltb, Bool, true, false, cond, None, refl, sym, ap, ◌∙◌, subst, arith, append-nil}
 use Rattle.std.specs.Prelude.{is_some, Result, Ok, Err, OnOk, OnErr}
 use Rattle.std.specs.Result.{is_err}
 use Rattle.std.specs.List.{range_with_len}
@@ -50,14 +50,7 @@ pub record Parts (past : Past) (state : SessionState) : Type 0 where
   pub exchange_is : state.exchange ≡ exchange_of past
 
 pub parts : (past : Past) (state : SessionState) → Stands past state → Parts past state
-parts past state s = record {
-  params_is = ap (λ (x : SessionState). x.params) s.remembered;
-  stat_is = ap (λ (x : SessionState). x.stat) s.remembered;
-  tasks_is = ap (λ (x : SessionState). x.tasks) s.remembered;
-  transfers_is = ap (λ (x : SessionState). x.transfers) s.remembered;
-  functions_is = ap (λ (x : SessionState). x.functions) s.remembered;
-  exchange_is = ap (λ (x : SessionState). x.exchange) s.remembered;
-}
+parts past state s = grind arith
 
 pub due_is : (past : Past) (state : SessionState) → Stands past state → state.tasks.due ≡ frames_of (standing past) (due past)
 unfolding tasks_of
@@ -84,20 +77,13 @@ pub stands_parts : (past after : Past) (state : SessionState) (tasks : TaskLists
     → headers ≡ functions_of after → exchange ≡ exchange_of after
     → Stands after (record state { tasks = tasks; transfers = transfers; functions = headers; exchange = exchange })
 stands_parts past after state tasks transfers headers exchange s lawful params answers is same_data same_headers same_exchange =
-    let p = parts past state s in
-    let same : statuses past ≡ statuses after = rw (params, answers) refl in
-    let params_is : state.params ≡ after.params = p.params_is ∙ sym params in
-    let stat_is : state.stat ≡ stat_sn (statuses after) = p.stat_is ∙ ap stat_sn same in
-    record { lawful = lawful; remembered = rw (params_is, stat_is, is, same_data, same_headers, same_exchange) refl }
+    grind (arith, parts, same_headers)
 
 -- its commands have the data that they had
 pub stands_tasks : (past after : Past) (state : SessionState) (tasks : TaskLists) → Stands past state → IsLawful after → after.params ≡ past.params
     → after.answers ≡ past.answers → tasks ≡ tasks_of after → transfers_of after ≡ transfers_of past → functions_of after ≡ functions_of past
     → exchange_of after ≡ exchange_of past → Stands after (record state { tasks = tasks })
-stands_tasks past after state tasks s lawful params answers is same_data same_headers same_exchange =
-    let p = parts past state s in
-    stands_parts past after state tasks state.transfers state.functions state.exchange s lawful params answers is (p.transfers_is ∙ sym same_data)
-    (p.functions_is ∙ sym same_headers) (p.exchange_is ∙ sym same_exchange)
+stands_tasks past after state tasks s lawful params answers is same_data same_headers same_exchange = grind (arith, parts, stands_parts, same_headers)
 
 pub stands_stat : (past : Past) (more : List Answer) (state : SessionState) (stat : ℕ) → Stands past state → bearing more ≡ 1
     → stat ≡ stat_sn (suc (statuses past)) → Stands (answering more past) (record state { stat = stat })
@@ -189,13 +175,7 @@ same_transfers past frame lawful e =
 -- a request that is neither a SCSI Command nor a Task Management Function Request
 pub stands_request : (past : Past) (state : SessionState) (frame : Frame) → Stands past state → is_vacant_for state.tasks frame ≡ true
     → is_command frame ≡ false → is_function frame ≡ false → Stands (accepted frame past) (record state { tasks = kept frame state.tasks })
-stands_request past state frame s free e f =
-    let k = kept_by _ past state frame refl s free (record {
-      command = λ h. absurd (let no = sym h ∙ e in cc);
-      function = λ h. absurd (let no = sym h ∙ f in cc);
-    }) in
-    stands_tasks past (accepted frame past) state (kept frame state.tasks) s k.0 refl refl k.1 (same_transfers past frame s.lawful e)
-    (same_headers past s.lawful frame f) (exchange_joined past _ s.lawful.below)
+stands_request past state frame s free e f = grind (arith, kept_by, stands_tasks, same_transfers, same_headers, exchange_joined)
 
 -- a Task Management Function Request
 pub stands_function : (past : Past) (state : SessionState) (frame : Frame) → Stands past state → is_vacant_for state.tasks frame ≡ true
@@ -232,9 +212,7 @@ stands_begun past state frame task s free e tag is =
 
 pub begun_tasks : (params : Params) → params.first_cmd_sn < 2 ^ 32 → no_tasks params.first_cmd_sn ≡ tasks_of (begun params)
 unfolding tasks_of due queue left taken taken_numbers standing
-begun_tasks params fits =
-    let first : params.first_cmd_sn ≡ (params.first_cmd_sn + 0) % 2 ^ 32 = omega arith in
-    ap (λ (n : ℕ). record (no_tasks params.first_cmd_sn) { next = n }) first
+begun_tasks params fits = grind arith
 
 pub begun_transfers : (params : Params) → no_transfers ≡ transfers_of (begun params)
 unfolding transfers_of unfinished left

@@ -63,13 +63,8 @@ same_all f g k (a ∷ names) none same = elim (cases_eq a k) [
 pub set_map : {Y : Type 0} (f g : ℕ → Y) (names : List ℕ) (i k : ℕ) → AreDistinct names → slice_get names i ≡ Some k
     → ((j : ℕ) → j ≢ k → g j ≡ f j) → set (map f names) i (g k) ≡ map g names
 set_map f g [] i k distinct at same = absurd cc
-set_map f g (a ∷ names) zero k distinct at same =
-    let here : a ≡ k = cc in
-    let none : is_in k names ≡ false = ap (λ (n : ℕ). is_in n names) (sym here) ∙ distinct.0 in
-    rw (ap g here, same_all f g k names none same) refl
-set_map f g (a ∷ names) (suc i) k distinct at same =
-    let apart : k ≢ a = differs a k names distinct.0 (in_get names i k at) in
-    rw (same a (λ e. apart (sym e)), set_map f g names i k distinct.1 at same) refl
+set_map f g (a ∷ names) zero k distinct at same = grind (arith, same_all)
+set_map f g (a ∷ names) (suc i) k distinct at same = grind (arith, set_map f g names i k distinct.1 at same, differs, in_get)
 
 -- ---- one is removed
 
@@ -80,12 +75,8 @@ stays a k names apart = rw (ne_eqb k a (λ e. apart (sym e))) refl
 pub remove_map : {Y : Type 0} (f : ℕ → Y) (names : List ℕ) (i k : ℕ) → AreDistinct names → slice_get names i ≡ Some k
     → remove (map f names) i ≡ map f (left (k ∷ []) names)
 remove_map {Y = Y} f [] i k distinct at = absurd cc
-remove_map {Y = Y} f (a ∷ names) zero k distinct at =
-    let here : a ≡ k = cc in
-    ap (map f) (sym (left_first a names distinct)) ∙ ap (λ (n : ℕ). map f (left (n ∷ []) (a ∷ names))) here
-remove_map {Y = Y} f (a ∷ names) (suc i) k distinct at =
-    let apart : k ≢ a = differs a k names distinct.0 (in_get names i k at) in
-    ap (λ (l : List Y). f a ∷ l) (remove_map f names i k distinct.1 at) ∙ ap (map f) (sym (stays a k names (λ e. apart (sym e))))
+remove_map {Y = Y} f (a ∷ names) zero k distinct at = grind (arith, left_first)
+remove_map {Y = Y} f (a ∷ names) (suc i) k distinct at = grind (arith, remove_map f names i k distinct.1 at, differs, in_get, stays)
 
 -- ---- what was not found
 
@@ -145,12 +136,8 @@ count_map p f (a ∷ names) = grind (arith, count_map p f names)
 -- one item more, of this name or of another
 pub one_more : {A B : Type 0} (b : Bool) (name : A → ℕ) (value : A → B) (x : A) (j : ℕ) (l : List A) → eqb (name x) j ≡ b
     → map value (filter (λ a. name a == j) (l ++ x ∷ [])) ≡ map value (filter (λ a. name a == j) l) ++ cond b (value x ∷ []) []
-one_more true name value x j l e =
-    ap (map value) (filter-append (λ a. name a == j) l (x ∷ []))
-    ∙ map-append value (filter (λ a. name a == j) l) (filter (λ a. name a == j) (x ∷ [])) ∙ rw e refl
-one_more false name value x j l e =
-    ap (map value) (filter-append (λ a. name a == j) l (x ∷ []))
-    ∙ map-append value (filter (λ a. name a == j) l) (filter (λ a. name a == j) (x ∷ [])) ∙ rw e refl
+one_more true name value x j l e = grind (arith, filter-append, map-append)
+one_more false name value x j l e = grind (arith, filter-append, map-append)
 
 -- none of a name above all
 pub none_named : {A : Type 0} (name : A → ℕ) (l : List A) (n : ℕ) → All (λ a. name a < n) l → filter (λ a. name a == n) l ≡ []

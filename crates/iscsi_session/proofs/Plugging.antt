@@ -48,20 +48,7 @@ at_most_of a b some few = or_known (a == b) _ (rw (lt-ltb 0 (distance a b) some)
 -- one that is too great is inside where the same number, modulo 2^32, is
 wrapped : (x m n : ℕ) → x < 2 ^ 32 → m < 2 ^ 32 → 2 ^ 32 ≤ n → is_at_most x n ≡ true → is_at_most n m ≡ true
     → (n - 2 ^ 32 < 2 ^ 32) × (distance x (n - 2 ^ 32) ≡ distance x n) × ((is_at_most x (n - 2 ^ 32) && is_at_most (n - 2 ^ 32) m) ≡ true)
-wrapped x m n p r le a b = elim (at_most_cases x n a) [
-  | inl same ↦ absurd (omega arith)
-  | inr ahead ↦ elim (at_most_cases n m b) [
-    | inl same ↦ absurd (omega arith)
-    | inr behind ↦
-        let some = behind.0 in
-        let below : n < m + 2 ^ 32 = omega arith in
-        let first : distance x (n - 2 ^ 32) ≡ distance x n = omega arith in
-        let second : distance (n - 2 ^ 32) m ≡ distance n m = omega arith in
-        let f = at_most_of x (n - 2 ^ 32) (omega (arith, first, ahead.0)) (omega (arith, first, ahead.1)) in
-        let g = at_most_of (n - 2 ^ 32) m (omega (arith, second, behind.0)) (omega (arith, second, behind.1)) in
-        (omega arith, first, rw f g)
-  ]
-]
+wrapped x m n p r le a b = grind (arith, at_most_cases, at_most_of)
 
 pub near_window : (past : order.Past) (n : ℕ) → windows.IsLawful past → order.in_window past n ≡ true
     → distance (order.exp_cmd_sn past) n < past.finished + window - length (taken_numbers past)

@@ -1,21 +1,19 @@
 -- SCSI Commands that are not finished are removed: what the session remembers, and that its past stays lawful.
-use Rattle.std.proofs.Common.{◌≡◌, ℕ, ◌+◌, ◌-◌, ◌<◌, ◌≤◌, List, [], ◌∷◌, ◌++◌, length, map, get_or, Bool, true, false, not, cond, ◌&&◌, Some, refl, sym, ap, subst, ◌∙◌, arith}
+use Rattle.std.proofs.Common.{◌≡◌, ℕ, ◌+◌, ◌-◌, ◌<◌, ◌≤◌, List, [], ◌∷◌, ◌++◌, length, map, get_or, Bool, true, false, not, ◌&&◌, Some, refl, sym, ap, subst, ◌∙◌, arith}
 use Rattle.std.specs.Prelude.{All, filter, is_some, option_map}
 use Rattle.std.specs.List.{range_with_len}
 use Rattle.std.proofs.lemmas.Bool.{false_from_ne_true}
 use Rattle.std.proofs.lemmas.List.FromFn.{get_or-range_with_len, length-range_with_len}
 use Rattle.std.proofs.lemmas.List.Elements.{All-append}
-use Rattle.iscsi_pdu.specs.Header.{is_immediate}
 use Rattle.iscsi_pdu.specs.Frames.{Frame}
 use Rattle.iscsi_order.specs.Window as order
 use Rattle.iscsi_order.specs.Window.{taken as taken_numbers, window}
 use Rattle.iscsi_order.proofs.Front.{front_missing}
-use Rattle.iscsi_session.specs.Requests.{Request, Past, request_at, frame_of, frames_of, is_in, left, is_command, is_function, commands, counted, over, numbered, place_of, taken, numbers, due, queue, unfinished, pending, functions, removing}
+use Rattle.iscsi_session.specs.Requests.{Past, request_at, frame_of, frames_of, is_in, left, is_command, is_function, commands, counted, over, numbered, place_of, taken, numbers, due, queue, unfinished, pending, functions, removing}
 use Rattle.iscsi_session.specs.Transfers.{tag_of, task_at, outs_of, tags_of}
 use Rattle.iscsi_session.specs.Functions.{FunctionReach, reaches, reached}
-use Rattle.iscsi_session.specs.declared.transfers.Transfer.{Transfer}
 use Rattle.iscsi_session.specs.Texts.{exchange_of}
-use Rattle.iscsi_session.specs.State.{SessionState, TransferList, Stands, AreDistinct, IsDelivered, IsLawful, void, voided, standing, frame_numbered, tasks_of, transfer_of, transfers_of, functions_of, void_if, stays, counts_out, reaches_frame, without, transfers_without}
+use Rattle.iscsi_session.specs.State.{SessionState, TransferList, Stands, AreDistinct, IsDelivered, IsLawful, void, standing, frame_numbered, tasks_of, transfer_of, transfers_of, functions_of, void_if, stays, counts_out, reaches_frame, without, transfers_without}
 use Rattle.iscsi_session.proofs.Left.{filter_cong, filter_filter, map_cong, left_more, left_append, left_all, in_at, in_filter, in_filter_back, in_left, passes_in, not_gone, not_in, is_in_append, below_of, distinct_map_filter}
 use Rattle.iscsi_session.proofs.Places.{count_map}
 use Rattle.iscsi_session.proofs.Kept.{function_no_command, in_kept}
@@ -30,11 +28,7 @@ use Rattle.iscsi_session.proofs.Parts.{parts, stands_parts}
 
 pub filter_map_names : {X Y : Type 0} (p : Y → Bool) (f : X → Y) (names : List X) → filter p (map f names) ≡ map f (filter (λ k. p (f k)) names)
 filter_map_names p f [] = refl
-filter_map_names {Y = Y} p f (k ∷ names) = by_case (p (f k)) refl (filter_map_names p f names)
-  where
-    by_case : (b : Bool) → p (f k) ≡ b → filter p (map f names) ≡ map f (filter (λ k. p (f k)) names)
-        → filter p (map f (k ∷ names)) ≡ map f (filter (λ k. p (f k)) (k ∷ names))
-    by_case b e rest = grind arith
+filter_map_names {Y = Y} p f (k ∷ names) = grind (arith, filter_map_names p f names)
 
 pub map_map_names : {Y Z : Type 0} (g : Y → Z) (f : ℕ → Y) (names : List ℕ) → map g (map f names) ≡ map (λ k. g (f k)) names
 map_map_names g f [] = refl
@@ -75,11 +69,7 @@ module _ (reach : FunctionReach) (past : Past) (lawful : IsLawful past) where
 
   -- of one that is not finished
   gone_is : (k : ℕ) → is_in k (unfinished past) ≡ true → is_in k gone ≡ hit k
-  gone_is k there = by_case (hit k) refl
-    where
-      by_case : (b : Bool) → hit k ≡ b → is_in k gone ≡ hit k
-      by_case true e = hit_gone k there e ∙ sym e
-      by_case false e = false_from_ne_true (is_in k gone) (λ h. let no = sym (gone_hit k h) ∙ e in absurd cc) ∙ sym e
+  gone_is k there = grind (arith, hit_gone, false_from_ne_true, gone_hit)
 
   not_there : (k : ℕ) → is_in k (unfinished past) ≡ false → is_in k gone ≡ false
   not_there k none = false_from_ne_true (is_in k gone) (λ h. let no = sym (gone_unfinished k h) ∙ none in absurd cc)
@@ -139,11 +129,7 @@ module _ (reach : FunctionReach) (past : Past) (lawful : IsLawful past) where
       (in_filter _ (λ k. is_command (frame_of past.came k)) past.finished (in_at (commands past.came past.finished) i d lt)))
 
   commands_left : left (past.removed ++ gone) (commands past.came past.acted) ≡ commands past.came past.finished ++ queue after
-  commands_left =
-      left_again (commands past.came past.acted) ∙ ap (left gone) (sym lawful.queued)
-      ∙ left_append gone (commands past.came past.finished) (queue past)
-      ∙ ap (λ (l : List ℕ). l ++ left gone (queue past)) finished_stay
-      ∙ ap (λ (l : List ℕ). commands past.came past.finished ++ l) (sym queue_gone)
+  commands_left = grind (arith, left_again, left_append, finished_stay, queue_gone)
 
   pub handed_same : (numbers after).handed ≡ (numbers past).handed
   unfolding taken_numbers
@@ -201,29 +187,9 @@ module _ (reach : FunctionReach) (past : Past) (lawful : IsLawful past) where
   stands_at : (a b c : Bool) (k : ℕ) → k < length past.came → is_in k past.finished ≡ false → is_in k past.removed ≡ a → is_in k gone ≡ b
       → is_command (frame_of past.came k) ≡ c
       → frame_of (standing after) k ≡ void_if reach (frame_of (standing past) k)
-  stands_at true b c k lt un e f g =
-      let r = request_at past.came k in
-      let both : is_in k (past.removed ++ gone) ≡ true = is_in_append k past.removed gone ∙ rw e refl in
-      ap (λ (x : Request). x.frame) (standing_at after k lt ∙ ap (λ (x : Bool). cond x (voided r) r) both)
-      ∙ sym (void_kept reach (is_immediate r.frame.header))
-      ∙ ap (λ (x : Request). void_if reach x.frame) (sym (standing_at past k lt ∙ ap (λ (x : Bool). cond x (voided r) r) e))
-  stands_at false true c k lt un e f g =
-      let r = request_at past.came k in
-      let both : is_in k (past.removed ++ gone) ≡ true = is_in_append k past.removed gone ∙ rw (e, f) refl in
-      let reached_here : reaches_frame reach r.frame ≡ true = rw (unfinished_command past k (gone_unfinished k f)) (gone_hit k f) in
-      let voids : void_if reach r.frame ≡ void (is_immediate r.frame.header) = rw reached_here refl in
-      ap (λ (x : Request). x.frame) (standing_at after k lt ∙ ap (λ (x : Bool). cond x (voided r) r) both)
-      ∙ sym voids
-      ∙ ap (λ (x : Request). void_if reach x.frame) (sym (standing_at past k lt ∙ ap (λ (x : Bool). cond x (voided r) r) e))
-  stands_at false false c k lt un e f g =
-      let r = request_at past.came k in
-      let both : is_in k (past.removed ++ gone) ≡ false = is_in_append k past.removed gone ∙ rw (e, f) refl in
-      let not_reached : reaches_frame reach r.frame ≡ false = and_false (is_command r.frame) (reaches reach r.frame.header)
-      (λ h. sym (gone_is k (still_there k lt un e h)) ∙ f) in
-      let same : void_if reach r.frame ≡ r.frame = rw not_reached refl in
-      ap (λ (x : Request). x.frame) (standing_at after k lt ∙ ap (λ (x : Bool). cond x (voided r) r) both)
-      ∙ sym same
-      ∙ ap (λ (x : Request). void_if reach x.frame) (sym (standing_at past k lt ∙ ap (λ (x : Bool). cond x (voided r) r) e))
+  stands_at true b c k lt un e f g = grind (arith, is_in_append, standing_at, void_kept)
+  stands_at false true c k lt un e f g = grind (arith, is_in_append, unfinished_command, gone_unfinished, gone_hit, standing_at)
+  stands_at false false c k lt un e f g = grind (arith, is_in_append, and_false, gone_is, still_there, standing_at)
 
   pub voids_here : (k : ℕ) → k < length past.came → is_in k past.finished ≡ false
       → frame_of (standing after) k ≡ void_if reach (frame_of (standing past) k)
@@ -291,10 +257,7 @@ module _ (reach : FunctionReach) (past : Past) (lawful : IsLawful past) where
   reached_in_queue k e = and_true (is_command (frame_of past.came k)) (hit k) (queue_command k e)
 
   queue_stays : filter (stays reach) (frames_of past.came (queue past)) ≡ frames_of past.came (queue after)
-  queue_stays =
-      filter_map_names (stays reach) (frame_of past.came) (queue past)
-      ∙ ap (frames_of past.came) (filter_cong _ _ (queue past) (λ i d lt. ap not (reached_in_queue _ (in_at (queue past) i d lt))))
-      ∙ ap (frames_of past.came) (sym queue_hit)
+  queue_stays = grind (arith, filter_map_names, filter_cong, reached_in_queue, in_at, queue_hit)
 
   counts_queue : length (filter (counts_out reach) (frames_of past.came (queue past))) ≡ counted past.came (filter hit (queue past))
   counts_queue =
@@ -328,11 +291,7 @@ module _ (reach : FunctionReach) (past : Past) (lawful : IsLawful past) where
 
   pub transfers_removing : record (transfers_of past) { list = transfers_without reach (transfers_of past).list } ≡ transfers_of after
   unfolding transfers_of task_at outs_of tags_of
-  transfers_removing =
-      ap (λ (l : List Transfer). record (transfers_of past) { list = l })
-      (filter_map_names (λ transfer. not (reaches reach transfer.header)) (transfer_of past) (unfinished past)
-      ∙ map_cong _ _ (filter (λ k. not (hit k)) (unfinished past)) (λ i d lt. transfer_same _)
-      ∙ ap (map (transfer_of after)) (sym unfinished_hit))
+  transfers_removing = grind (arith, filter_map_names, map_cong, transfer_same, unfinished_hit)
 
   pub functions_removing : functions_of past ≡ functions_of after
   unfolding functions_of

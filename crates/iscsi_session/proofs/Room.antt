@@ -1,5 +1,5 @@
 -- The answers of a command fit into the room that is made for them.
-use Rattle.std.proofs.Common.{◌≡◌, ℕ, ◌+◌, ◌-◌, ◌*◌, ◌<◌, ◌≤◌, ◌==◌, min, replicate, List, [], ◌∷◌, ◌++◌, length, map, take, get_or, Bool, cond, ◌&&◌, ◌||◌, not, Some, refl, sym, ap, subst, ◌∙◌, arith}
+use Rattle.std.proofs.Common.{◌≡◌, ℕ, ◌+◌, ◌*◌, ◌<◌, ◌≤◌, ◌==◌, min, List, [], ◌∷◌, ◌++◌, length, map, take, get_or, Bool, cond, ◌||◌, Some, refl, ap, subst, ◌∙◌, arith}
 use Rattle.std.specs.Prelude.{flat_map}
 use Rattle.std.specs.List.{enumerate_from, slice_get}
 use Rattle.std.proofs.lemmas.Option.{slice_get-get_or, slice_get_within}
@@ -9,10 +9,9 @@ use Rattle.std.proofs.lemmas.List.FromFn.{length-enumerate_from, get_or-enumerat
 use Rattle.std.proofs.lemmas.Grind.{flat_map-append}
 use Rattle.iscsi_pdu.specs.Answer.{spelling}
 use Rattle.iscsi_pdu.specs.DataIn.{DataInFields, data_in_header, data_in_bytes}
-use Rattle.iscsi_pdu.specs.Segment.{padded, segment}
+use Rattle.iscsi_pdu.specs.Segment.{segment}
 use Rattle.iscsi_pdu.specs.Header.{initiator_task_tag}
 use Rattle.iscsi_pdu.specs.Frames.{Frame}
-use Rattle.iscsi_pdu.specs.ScsiCommand.{is_read, is_write, expected_transfer_length}
 use Rattle.iscsi_pdu.specs.declared.answer.Answer.{Answer}
 use Rattle.iscsi_pdu.specs.declared.stamp.Stamp.{Stamp}
 use Rattle.iscsi_transfer.specs.declared.data_in.Piece.{Piece}
@@ -25,7 +24,7 @@ use Rattle.scsi_sense.specs.Done.{Outcome}
 use Rattle.scsi_unit.specs.DiskCommands.{most_given}
 use Rattle.iscsi_login.specs.Values.{AreInRange}
 use Rattle.iscsi_login.specs.declared.values.Values.{Values}
-use Rattle.iscsi_session.specs.Answers.{expected_length, data_sent, sent_pieces, data_in, data_answers}
+use Rattle.iscsi_session.specs.Answers.{data_sent, sent_pieces, data_in, data_answers}
 use Rattle.iscsi_session.specs.Room.{most_sent, most_pieces, room_for}
 
 -- ---- the length of the Data-Ins
@@ -34,12 +33,7 @@ header_long : (fields : DataInFields) → length (data_in_header fields) ≡ 48
 header_long fields = refl
 
 pub segment_long : (bytes : List ℕ) → length (segment bytes) ≤ length bytes + 3
-segment_long bytes =
-    let n = padded (length bytes) - length bytes in
-    let zeros : List ℕ = replicate n 0 in
-    let count : length zeros ≡ n = length-replicate {A = ℕ} n 0 in
-    let both : length (segment bytes) ≡ length bytes + length zeros = length-append bytes zeros in
-    omega (arith, both, count)
+segment_long bytes = grind (arith, length-replicate, length-append)
 
 piece_long : (fields : DataInFields) → length (data_in_bytes fields) ≤ 51 + length fields.body
 piece_long fields = omega (arith, length-append (data_in_header fields) (segment fields.body), header_long fields, segment_long fields.body)
@@ -70,27 +64,18 @@ all_long numbers frame sent k (piece ∷ pieces) =
 
 pub pieces_counted : (values : Values) (sent : List ℕ) → AreInRange values
     → length (sent_pieces values sent) ≡ piece_count (length sent) values.max_burst_length values.max_recv_data_segment_length
-pieces_counted values sent range =
-    pieces_are_counted (length sent) values.max_burst_length values.max_recv_data_segment_length (let some = range.burst
-    in omega arith) (let some = range.segment in omega arith)
+pieces_counted values sent range = grind (arith, pieces_are_counted)
 
 pub answers_long : (numbers : Stamp) (values : Values) (frame : Frame) (sent : List ℕ) → AreInRange values
     → length (flat_map spelling (data_answers numbers values frame sent)) ≤ length (sent_pieces values sent) * 51 + length sent
 unfolding data_answers
-answers_long numbers values frame sent range =
-    let joined = pieces_are_joined sent values.max_burst_length values.max_recv_data_segment_length (let some = range.burst
-    in omega arith) (let some = range.segment in omega arith) in
-    let same : length (flat_map (part_of sent) (sent_pieces values sent)) ≡ length sent = ap (λ (bytes : List ℕ). length bytes) joined in
-    let long = all_long numbers frame sent 0 (sent_pieces values sent) in
-    omega (arith, long, same)
+answers_long numbers values frame sent range = grind (arith, pieces_are_joined, all_long)
 
 sent_by : (b : Bool) (n e most : ℕ) → n ≤ most → min (cond ((n == 0) || b) e 0) n ≤ cond b (min most e) 0
 sent_by b n e most le = grind arith
 
 pub sent_short : (frame : Frame) (done : Outcome) → length done.given ≤ most_given → length (data_sent frame done) ≤ most_sent frame
-sent_short frame done le =
-    let short = sent_by (is_read frame.header && not (is_write frame.header)) (length done.given) (expected_transfer_length frame.header) most_given le in
-    omega (arith, short, length-take (expected_length frame done) done.given)
+sent_short frame done le = grind (arith, sent_by, length-take)
 
 pub pieces_within : (values : Values) (frame : Frame) (done : Outcome) → AreInRange values → length done.given ≤ most_given
     → piece_count (length (data_sent frame done)) values.max_burst_length values.max_recv_data_segment_length ≤ most_pieces values frame
@@ -101,20 +86,11 @@ pieces_within values frame done range le =
 -- room for all Data-Ins, and for the SCSI Response behind them
 pub data_fits : (numbers : Stamp) (values : Values) (frame : Frame) (done : Outcome) → AreInRange values → length done.given ≤ most_given
     → length (flat_map spelling (data_answers numbers values frame (data_sent frame done))) + 68 ≤ room_for values frame
-data_fits numbers values frame done range le =
-    let sent = data_sent frame done in
-    let long = answers_long numbers values frame sent range in
-    let count = pieces_counted values sent range in
-    let within = pieces_within values frame done range le in
-    let short = sent_short frame done le in
-    omega (arith, long, count, within, short)
+data_fits numbers values frame done range le = grind (arith, answers_long, pieces_counted, pieces_within, sent_short)
 
 -- no more pieces than bytes
 pub most_pieces_fit : (values : Values) (frame : Frame) → AreInRange values → most_sent frame ≤ most_given → most_pieces values frame ≤ most_given
-most_pieces_fit values frame range le =
-    let fits = count_fits (most_sent frame) values.max_burst_length values.max_recv_data_segment_length (let some = range.burst
-    in omega arith) (let some = range.segment in omega arith) in
-    omega (arith, fits)
+most_pieces_fit values frame range le = grind (arith, count_fits)
 
 -- ---- one piece
 
@@ -126,9 +102,7 @@ pub record IsOneOf (values : Values) (sent : List ℕ) (k : ℕ) (piece : Piece)
 -- what is found at a place
 pub piece_found : (values : Values) (sent : List ℕ) (k : ℕ) (d piece : Piece) → slice_get (sent_pieces values sent) k ≡ Some piece
     → get_or (sent_pieces values sent) k d ≡ piece
-piece_found values sent k d piece is =
-    let found = slice_get-get_or (sent_pieces values sent) k d (slice_get_within (sent_pieces values sent) k piece is) in
-    cc
+piece_found values sent k d piece is = grind (arith, slice_get-get_or, slice_get_within)
 
 pub piece_there : (values : Values) (sent : List ℕ) (k : ℕ) (piece : Piece) → AreInRange values
     → slice_get (sent_pieces values sent) k ≡ Some piece → IsOneOf values sent k piece
@@ -180,14 +154,7 @@ more_spelled all k d lt =
 pub written_more : (all : List Answer) (k : ℕ) (items after before : List ℕ) (spare left room : ℕ) (answer : Answer) → k < length all
     → get_or all k answer ≡ answer → IsWritten all k items before spare room
     → after ≡ items ++ spelling answer → left + length (spelling answer) ≡ spare → IsWritten all (k + 1) after before left room
-written_more all k items after before spare left room answer lt is h written used =
-    let more : flat_map spelling (take (k + 1) all) ≡ flat_map spelling (take k all) ++ spelling answer = more_spelled all k answer lt
-    ∙ ap (λ (a : Answer). flat_map spelling (take k all) ++ spelling a) is in
-    record {
-      written = written ∙ ap (λ (bytes : List ℕ). bytes ++ spelling answer) h.written
-          ∙ append_assoc before (flat_map spelling (take k all)) (spelling answer) ∙ ap (λ (bytes : List ℕ). before ++ bytes) (sym more);
-      spare = omega (arith, h.spare, used, ap (λ (bytes : List ℕ). length bytes) more, length-append (flat_map spelling (take k all)) (spelling answer));
-    }
+written_more all k items after before spare left room answer lt is h written used = grind (arith, more_spelled, append_assoc, length-append)
 
 -- there is room for the next one
 pub next_fits : (all : List Answer) (k : ℕ) (items before : List ℕ) (spare room : ℕ) (answer : Answer) → k < length all → get_or all k answer ≡ answer
@@ -199,8 +166,4 @@ next_fits all k items before spare room answer lt is h le =
 -- the pieces can be counted in four bytes
 pub pieces_few : (values : Values) (frame : Frame) (done : Outcome) → AreInRange values → length done.given ≤ most_given
     → length (sent_pieces values (data_sent frame done)) ≤ most_given
-pieces_few values frame done range le =
-    let sent = data_sent frame done in
-    let fits = count_fits (length sent) values.max_burst_length values.max_recv_data_segment_length (let some = range.burst
-    in omega arith) (let some = range.segment in omega arith) in
-    omega (arith, pieces_counted values sent range, fits, length-take (expected_length frame done) done.given, le)
+pieces_few values frame done range le = grind (arith, count_fits, pieces_counted, length-take)

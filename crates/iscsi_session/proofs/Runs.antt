@@ -20,25 +20,7 @@ pub lawful_data : (past : Past) (data_outs : List DataOut) (r2ts : List SentR2t)
     → All (λ d. d.command < length past.came) data_outs → All (λ r. r.command < length past.came) r2ts
     → IsLawful (record past { data_outs = data_outs; r2ts = r2ts; answers = answers })
 unfolding due queue unfinished functions
-lawful_data past data_outs r2ts answers lawful fed asked = record {
-  window = lawful.window;
-  distinct = lawful.distinct;
-  delivered = lawful.delivered;
-  in_order = lawful.in_order;
-  below = lawful.below;
-  acted = lawful.acted;
-  queued = lawful.queued;
-  at_once = lawful.at_once;
-  handed = lawful.handed;
-  fed = fed;
-  asked = asked;
-  tags = lawful.tags;
-  function_tags = lawful.function_tags;
-  removed_below = lawful.removed_below;
-  removed_commands = lawful.removed_commands;
-  apart = lawful.apart;
-  drained = record { functions = lawful.drained.functions; acted = lawful.drained.acted; answered = lawful.drained.answered; removed = lawful.drained.removed; once = lawful.drained.once };
-}
+lawful_data past data_outs r2ts answers lawful fed asked = grind arith
 
 pub lawful_answering : (more : List Answer) (past : Past) → IsLawful past → IsLawful (answering more past)
 lawful_answering more past lawful = lawful_data past past.data_outs past.r2ts (past.answers ++ more) lawful lawful.fed lawful.asked
@@ -121,49 +103,20 @@ pub record Gives (given work : Work) (before waiting : Output) (more : List Answ
 pub leaves_standing : (given work : Work) (state : SessionState) (before waiting : Output) (units : TargetUnits) (more : List Answer)
     (functions : List (List ℕ)) → Stands work.past state → work.units ≡ units → Gives given work before waiting more functions
     → Leaves given work state before waiting units
-leaves_standing given work state before waiting units more functions s same gives = record {
-  lawful = s.lawful;
-  remembered = s.remembered;
-  units = same;
-  params = gives.params;
-  more = more;
-  answers = gives.answers;
-  spelled = gives.spelled;
-  functions = functions;
-  acted = gives.acted;
-  ordered = gives.ordered;
-}
+leaves_standing given work state before waiting units more functions s same gives = grind arith
 
 -- one that orders nothing
 pub leaves_answering : (given work : Work) (state : SessionState) (before waiting : Output) (units : TargetUnits) (more : List Answer)
     → Stands work.past state → work.past.params ≡ given.past.params → work.past.answers ≡ given.past.answers ++ more
     → waiting.bytes ≡ before.bytes ++ flat_map spelling more → waiting.orders ≡ before.orders → work.orders ≡ given.orders → work.units ≡ units
     → Leaves given work state before waiting units
-leaves_answering given work state before waiting units more s params answers spelled ordered acted same =
-    leaves_standing given work state before waiting units more [] s same (record {
-      params = params;
-      answers = answers;
-      spelled = spelled;
-      acted = acted ∙ sym (append-nil given.orders);
-      ordered = ordered ∙ sym (append-nil before.orders);
-    })
+leaves_answering given work state before waiting units more s params answers spelled ordered acted same = grind (arith, leaves_standing, append-nil)
 
 -- the same, but for the steps that were reached and whether it goes on
 pub leaves_as : (given work given_too work_too : Work) (state : SessionState) (before waiting : Output) (units : TargetUnits)
     → given_too.past ≡ given.past → given_too.orders ≡ given.orders → work_too.past ≡ work.past → work_too.orders ≡ work.orders
     → work_too.units ≡ work.units → Leaves given work state before waiting units → Leaves given_too work_too state before waiting units
-leaves_as given work given_too work_too state before waiting units g go w wo u l = record {
-  lawful = subst IsLawful (sym w) l.lawful;
-  remembered = l.remembered ∙ ap remembered (sym w);
-  units = u ∙ l.units;
-  params = ap (λ (p : Past). p.params) w ∙ l.params ∙ ap (λ (p : Past). p.params) (sym g);
-  more = l.more;
-  answers = ap (λ (p : Past). p.answers) w ∙ l.answers ∙ ap (λ (p : Past). p.answers ++ l.more) (sym g);
-  spelled = l.spelled;
-  functions = l.functions;
-  acted = wo ∙ l.acted ∙ ap (λ (o : List (List ℕ)). o ++ l.functions) (sym go);
-  ordered = l.ordered;
-}
+leaves_as given work given_too work_too state before waiting units g go w wo u l = grind arith
 
 pub leaves_reaching : (step : Step) (work next : Work) (state : SessionState) (before waiting : Output) (units : TargetUnits)
     → Leaves (reaches step work) next state before waiting units → Leaves work next state before waiting units
@@ -237,9 +190,7 @@ first_stopped fails step does (request ∷ others) work off = step_stopped fails
 pub stopped : (fails : Step → Bool) (step : ℕ → Step) (line : Past → List ℕ) (does : ℕ → Work → Work) (turn most : ℕ) (work : Work) → work.goes_on ≡ false
     → one_by_one fails step line does turn most work ≡ work
 stopped fails step line does turn zero work off = refl
-stopped fails step line does turn (suc most) work off =
-    ap (one_by_one fails step line does (suc turn) most) (first_stopped fails (step turn) does (line work.past) work off)
-    ∙ stopped fails step line does (suc turn) most work off
+stopped fails step line does turn (suc most) work off = grind (arith, stopped fails step line does (suc turn) most work off, first_stopped)
 
 pub idle : (fails : Step → Bool) (step : ℕ → Step) (line : Past → List ℕ) (does : ℕ → Work → Work) (turn most : ℕ) (work : Work) → line work.past ≡ []
     → one_by_one fails step line does turn most work ≡ work
@@ -255,18 +206,10 @@ pub record IsKind (kind : ℕ → ℕ → Step) : Type 0 where
   pub apart : (place turn other : ℕ) → turn ≢ other → is_step (kind place turn) (kind place other) ≡ false
 
 pub taking_kind : IsKind Taking
-taking_kind = record {
-  of = λ place turn. eq-eqb place place refl;
-  same = λ place turn. rw (eq-eqb place place refl, eq-eqb turn turn refl) refl;
-  apart = λ place turn other differ. rw (eq-eqb place place refl, ne_eqb turn other differ) refl;
-}
+taking_kind = grind (arith, eq-eqb, ne_eqb)
 
 pub doing_kind : IsKind Doing
-doing_kind = record {
-  of = λ place turn. eq-eqb place place refl;
-  same = λ place turn. rw (eq-eqb place place refl, eq-eqb turn turn refl) refl;
-  apart = λ place turn other differ. rw (eq-eqb place place refl, ne_eqb turn other differ) refl;
-}
+doing_kind = grind (arith, eq-eqb, ne_eqb)
 
 -- how many acts can follow at most, and how many commands are to be done
 abbrev pub tasks_count : SessionState → ℕ
@@ -310,9 +253,7 @@ module _ (kind : ℕ → ℕ → Step) (line : Past → List ℕ) (does : ℕ �
       → work.goes_on ≡ true → fails (kind place turn) ≡ false
       → one_by_one fails (kind place) line does turn (suc left) work ≡ one_by_one fails (kind place) line does (suc turn) left
       (does request (reaches (kind place turn) work))
-  one_step turn left place fails work request others is on un =
-      ap (λ (l : List ℕ). one_by_one fails (kind place) line does (suc turn) left (first_steps fails (kind place turn) does l work)) is
-      ∙ ap (one_by_one fails (kind place) line does (suc turn) left) (step_done fails (kind place turn) (does request) work on un)
+  one_step turn left place fails work request others is on un = grind (arith, step_done)
 
   pub record Stepped (turns : ℕ) (place : ℕ) (fails : Step → Bool) (given : Work) (most : ℕ) (goes_on_then : Bool) (now next : SessionState)
       (before waiting : Output) (units : TargetUnits) : Type 0 where
@@ -406,10 +347,7 @@ module _ (kind : ℕ → ℕ → Step) (line : Past → List ℕ) (does : ℕ �
       → work.goes_on ≡ true → fails (kind place turn) ≡ true
       → one_by_one fails (kind place) line does turn left work ≡ record (reaches (kind place turn) work) { goes_on = false }
   failing_at zero turn place fails work request others is some on fail = absurd (omega arith)
-  failing_at (suc left) turn place fails work request others is some on fail =
-      ap (λ (l : List ℕ). one_by_one fails (kind place) line does (suc turn) left (first_steps fails (kind place turn) does l work)) is
-      ∙ ap (one_by_one fails (kind place) line does (suc turn) left) (step_fails fails (kind place turn) (does request) work on fail)
-      ∙ stopped fails (kind place) line does (suc turn) left (record (reaches (kind place turn) work) { goes_on = false }) refl
+  failing_at (suc left) turn place fails work request others is some on fail = grind (arith, step_fails, stopped)
 
   pub ran_failed : (facts : IsKind kind) {turns : ℕ} {old now : SessionState} {before waiting : Output} {units after : TargetUnits}
       → Ran turns old now before waiting units after → HasMore now after

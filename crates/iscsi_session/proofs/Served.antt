@@ -1,5 +1,5 @@
 -- The requests that are due act, and a frame is judged, as steps of a session's work.
-use Rattle.std.proofs.Common.{◌≡◌, ◌≤◌, map, ℕ, suc, ◌<◌, List, [], ◌∷◌, ◌++◌, length, Bool, true, false, not, cond, Some, None, refl, sym, ap, ◌∙◌, subst, arith, append-nil}
+use Rattle.std.proofs.Common.{◌≡◌, ◌≤◌, map, ℕ, suc, ◌<◌, List, [], ◌∷◌, ◌++◌, length, Bool, true, false, not, cond, Some, None, refl, sym, ap, ◌∙◌, arith, append-nil}
 use Rattle.scsi_unit.specs.Units.{numbers_of}
 use Rattle.iscsi_session.specs.Comings.{TargetUnits}
 use Rattle.iscsi_pdu.specs.Frames.{Frame}
@@ -10,7 +10,7 @@ use Rattle.iscsi_session.specs.declared.act.Act.TheVariants.{Idle, Taken, Ended}
 use Rattle.iscsi_session.specs.declared.verdict.Verdict.{Verdict}
 use Rattle.iscsi_session.specs.declared.verdict.Verdict.TheVariants.{Ignored, Dropped, Rejected, Violating, Accepted, Feeding}
 use Rattle.iscsi_session.specs.Judging.{judged, judged_answers}
-use Rattle.iscsi_session.specs.Acts.{act_answers, ordered, ends}
+use Rattle.iscsi_session.specs.Acts.{ends}
 use Rattle.iscsi_session.specs.Steps.{Step, Taking, Work, act, act_all, waiting_in}
 use Rattle.iscsi_session.specs.Runs.{Output, Starts, Leaves, Runs, ActsAs, ActsFirst}
 use Rattle.iscsi_pdu.specs.Header.{initiator_task_tag}
@@ -26,11 +26,7 @@ use Rattle.iscsi_session.proofs.Runs.{Ran, tasks_count, all_of, ran_more, ran_id
 act_leaves : (work : Work) (k : ℕ) (a : Act) (new : SessionState) (before waiting : Output) (units : TargetUnits) → work.units ≡ units
     → ActsAs (numbers_of work.units.states) k work.past a new before waiting → Leaves work (act k work) new before waiting units
 unfolding act
-act_leaves work k a new before waiting units same acts =
-    let luns = numbers_of work.units.states in
-    let kept = acted_same luns k work.past in
-    leaves_standing work (act k work) new before waiting units (act_answers luns k work.past) (ordered k work.past) acts.stands same
-    (record { params = kept.0; answers = kept.1; spelled = acts.out; acted = refl; ordered = acts.orders })
+act_leaves work k a new before waiting units same acts = grind (arith, acted_same, leaves_standing, acts)
 
 act_goes_on : (work : Work) (k : ℕ) → (act k work).goes_on ≡ not (ends work.past.params (frame_of work.past.came k))
 unfolding act
@@ -48,9 +44,7 @@ acts first = record { first = first }
 acts_here : (luns : List ℕ) (a : Act) (work : Work) (old new : SessionState) (before waiting : Output) (units : TargetUnits) → luns ≡ numbers_of units.states
     → Acts luns a old new before waiting → Starts work old units
     → ActsFirst (numbers_of work.units.states) (due work.past) work.past a old new before waiting
-acts_here luns a work old new before waiting units numbers acts s =
-    subst (λ (l : List ℕ). ActsFirst l (due work.past) work.past a old new before waiting)
-    (numbers ∙ ap (λ (u : TargetUnits). numbers_of u.states) (sym s.units)) (acts.first work.past (stands_of work old units s))
+acts_here luns a work old new before waiting units numbers acts s = grind (arith, acts, stands_of)
 
 -- ---- all that is due
 

@@ -1,7 +1,6 @@
 -- A command that is done, and a request that acts, as steps of a session's work.
-use Rattle.std.proofs.Common.{◌≡◌, ◌≤◌, ℕ, suc, ◌<◌, List, [], ◌∷◌, ◌++◌, length, map, Bool, true, false, not, Some, None, refl, sym, ap, ◌∙◌, subst, arith, append-nil, Option}
+use Rattle.std.proofs.Common.{◌≡◌, ◌≤◌, ℕ, suc, ◌<◌, List, [], ◌∷◌, length, map, Bool, true, false, not, Some, None, refl, sym, ap, ◌∙◌, subst, arith, append-nil, Option}
 use Rattle.std.specs.Prelude.{filter, drop}
-use Rattle.std.specs.List.{enumerate_from}
 use Rattle.std.proofs.lemmas.List.{length-map}
 use Rattle.std.proofs.lemmas.List.Elements.{filter-append}
 use Rattle.scsi_sense.specs.Done.{Outcome}
@@ -10,17 +9,16 @@ use Rattle.scsi_unit.specs.CameOut.{CameOut}
 use Rattle.scsi_unit.specs.Units.{UnitStates}
 use Rattle.iscsi_session.specs.Comings.{Coming, TargetUnits, CameAs, lend, next_coming}
 use Rattle.iscsi_pdu.specs.Frames.{Frame}
-use Rattle.iscsi_pdu.specs.declared.answer.Answer.{Answer}
 use Rattle.iscsi_pdu.specs.declared.stamp.Stamp.{Stamp}
 use Rattle.iscsi_login.specs.declared.params.Params.{Params}
 use Rattle.iscsi_login.specs.declared.values.Values.{Values}
 use Rattle.iscsi_transfer.specs.declared.data_in.Piece.{Piece}
-use Rattle.iscsi_session.specs.Requests.{Past, frame_of, frames_of, queue, bears_status, bearing, stamp, finished}
+use Rattle.iscsi_session.specs.Requests.{Past, frame_of, frames_of, queue, bears_status, bearing}
 use Rattle.iscsi_session.specs.State.{SessionState, IsLawful, Stands, remembered, tasks_of, place_for, whole_at, payload_at, is_waiting, is_waiting_by}
-use Rattle.iscsi_session.specs.Answers.{data_sent, sent_pieces, data_in, data_answers, scsi_answer, command_answers}
+use Rattle.iscsi_session.specs.Answers.{data_in, data_answers, scsi_answer, command_answers}
 use Rattle.iscsi_session.specs.Commands.{carried_out}
 use Rattle.iscsi_session.specs.Transfers.{payload_of, is_whole_of}
-use Rattle.iscsi_session.specs.Steps.{is_doing, Step, Doing, Work, answered_command, finish, ready, ready_in, settled}
+use Rattle.iscsi_session.specs.Steps.{is_doing, Step, Doing, Work, finish, ready, ready_in, settled}
 use Rattle.iscsi_session.specs.Runs.{Output, output, Starts, Leaves, StepsFirst, Runs, Stops, IsSettled, AnswersAs}
 use Rattle.iscsi_session.proofs.Came.{came_none}
 use Rattle.iscsi_session.proofs.Feeding.{whole_is, payload_is, first_unfinished}
@@ -36,12 +34,7 @@ data_bears_none numbers frame sent (piece ∷ pieces) = data_bears_none numbers 
 
 pub command_bears : (numbers : Stamp) (values : Values) (frame : Frame) (done : Outcome) → bearing (command_answers numbers values frame done) ≡ 1
 unfolding data_answers scsi_answer
-command_bears numbers values frame done =
-    let sent = data_sent frame done in
-    let response : Answer = scsi_answer numbers frame done (length (sent_pieces values sent)) in
-    ap (λ (l : List Answer). length l) (filter-append bears_status (data_answers numbers values frame sent) (response ∷ []))
-    ∙ ap (λ (l : List Answer). length (l ++ filter bears_status (response ∷ [])))
-    (data_bears_none numbers frame sent (enumerate_from 0 (sent_pieces values sent)))
+command_bears numbers values frame done = grind (arith, filter-append, data_bears_none)
 
 -- ---- the line is empty
 
@@ -110,21 +103,7 @@ finish_leaves : (work : Work) (k : ℕ) (others : List ℕ) (old new : SessionSt
     → (after, done) ≡ carried_out came units work.past.params.nexus (frame_of work.past.came k) (payload_of work.past k) → Answers old new before waiting done
     → Leaves work (finish k work) new (output before []) (output waiting []) (lend after (drop 1 comings))
 unfolding finish
-finish_leaves work k others old new before waiting units after comings came done s is next carried answers =
-    let past = work.past in
-    let standing = stands_of work old (lend units comings) s in
-    let given = answers past k others standing is in
-    let more = command_answers (stamp (finished k past)) past.params.values (frame_of past.came k) done in
-    let does : TargetUnits → UnitStates × Outcome =
-    λ u. carried_out (next_coming past.params.target u.comings) u.states past.params.nexus (frame_of past.came k) (payload_of past k) in
-    let all : does work.units ≡ (after, done) = ap does s.units
-    ∙ ap (λ (c : CameOut). carried_out c units past.params.nexus (frame_of past.came k) (payload_of past k)) next ∙ sym carried in
-    let same : (finish k work).past ≡ answered_command done k past = ap (λ (p : UnitStates × Outcome). answered_command p.1 k past) all in
-    leaves_answering work (finish k work) new (output before []) (output waiting []) (lend after (drop 1 comings)) more
-    (subst (λ (p : Past). Stands p new) (sym same) given.stands)
-    (ap (λ (p : Past). p.params) same) (ap (λ (p : Past). p.answers) same) given.out refl refl
-    (ap (λ (p : UnitStates × Outcome). lend p.0 (drop 1 work.units.comings)) all
-    ∙ ap (λ (u : TargetUnits). lend after (drop 1 u.comings)) s.units)
+finish_leaves work k others old new before waiting units after comings came done s is next carried answers = grind (arith, stands_of, leaves_answering)
 
 -- the payload that the code has of it
 abbrev payload_in : SessionState → Frame → List ℕ
@@ -215,13 +194,7 @@ pub settled_more : (turns : ℕ) (more : Bool) (old now next : SessionState) (be
     → FinishesOne more now next waiting items middle after → more ≡ true → queue_count next < queue_count now
     → Ran Doing ready finish queue_count queued_in queue_fits (suc turns) old next before items units after
 settled_more turns more old now next before waiting items units middle after ran steps is fewer =
-    let F : Bool → Type 0 = λ b. FinishesOne b now next waiting items middle after in
-    let one = subst F is steps in
-    ran_more Doing ready finish queue_count queued_in queue_fits turns old now next before waiting items units middle after ran (record {
-      steps = λ work s. (let f = found_finished (ready work.past) work now next waiting items after (one work s)
-          in (f.0, f.1, f.2, finish_goes_on f.0 work s.goes_on, f.3));
-      some = λ work s. omega arith;
-    }) fewer
+    grind (arith, ran_more, queue_count, queue_fits, found_finished, finish_goes_on)
 
 settles_all : (fails : Step → Bool) (place : ℕ) (work : Work)
     → all_of Doing ready finish queue_count queued_in queue_fits fails place work ≡ settled fails place work

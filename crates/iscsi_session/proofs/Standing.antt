@@ -78,15 +78,8 @@ void_opcode b = grind arith
 -- a request of any other opcode was not removed
 pub stands_as : (past : Past) (k : ℕ) → k < length past.came → (opcode_number (frame_of (standing past) k).header ≡ 0x3F → ⊥)
     → frame_of (standing past) k ≡ frame_of past.came k
-stands_as past k lt other = by_case (is_in k past.removed) refl
-  where
-    by_case : (b : Bool) → is_in k past.removed ≡ b → frame_of (standing past) k ≡ frame_of past.came k
-    by_case true e = absurd (other (ap (λ (r : Request). opcode_number r.frame.header) (standing_at past k lt
-        ∙ ap (λ (b : Bool). cond b (voided (request_at past.came k)) (request_at past.came k)) e) ∙ void_opcode (is_immediate (frame_of past.came k).header)))
-    by_case false e = standing_kept past k lt e
+stands_as past k lt other = grind (arith, standing_at, void_opcode, standing_kept)
 
 -- one that was removed
 pub stands_void : (past : Past) (k : ℕ) → k < length past.came → is_in k past.removed ≡ true → opcode_number (frame_of (standing past) k).header ≡ 0x3F
-stands_void past k lt e =
-    ap (λ (r : Request). opcode_number r.frame.header) (standing_at past k lt
-    ∙ ap (λ (b : Bool). cond b (voided (request_at past.came k)) (request_at past.came k)) e) ∙ void_opcode (is_immediate (frame_of past.came k).header)
+stands_void past k lt e = grind (arith, standing_at, void_opcode)

@@ -1,5 +1,5 @@
 -- What every run of steps keeps, and where two runs are alike.
-use Rattle.std.proofs.Common.{◌≡◌, ℕ, zero, suc, length, List, [], ◌∷◌, ◌++◌, Bool, true, false, not, cond, refl, sym, ap, ◌∙◌, append_assoc, append-nil, arith}
+use Rattle.std.proofs.Common.{◌≡◌, ℕ, zero, suc, length, List, [], ◌∷◌, ◌++◌, Bool, refl, sym, ap, ◌∙◌, append_assoc, append-nil, arith}
 use Rattle.std.specs.Prelude.{⊤}
 use Rattle.scsi_unit.specs.Units.{numbers_of}
 use Rattle.iscsi_session.specs.Comings.{TargetUnits}
@@ -23,13 +23,7 @@ module _ (P : Work → Type 0) (passes : (step : Step) (goes_on : Bool) (work : 
   step_keeps : (fails : Step → Bool) (step : Step) (does : Work → Work) (work : Work) → (P (reaches step work) → P (does (reaches step work))) → P work
       → P (take_step fails step does work)
   unfolding take_step
-  step_keeps fails step does work keeps ok =
-      by_cases work.goes_on (fails step) work _ _ ok (passes step false work ok) (keeps (passes step work.goes_on work ok))
-    where
-      by_cases : (on fail : Bool) (x y z : Work) → P x → P y → P z → P (cond (not on) x (cond fail y z))
-      by_cases false fail x y z a b c = a
-      by_cases true true x y z a b c = b
-      by_cases true false x y z a b c = c
+  step_keeps fails step does work keeps ok = grind arith
 
   first_keeps : (fails : Step → Bool) (step : Step) (line : Past → List ℕ) (does : ℕ → Work → Work) (l : List ℕ) (work : Work) → line work.past ≡ l
       → KeptBy line does → P work → P (first_steps fails step does l work)
@@ -164,11 +158,7 @@ extends_same work = record { params = refl; more = []; answers = sym (append-nil
 
 extends_then : {given work next : Work} (more : List Answer) → next.past.params ≡ work.past.params → next.past.answers ≡ work.past.answers ++ more
     → Extends given work → Extends given next
-extends_then {given} more params answers e = record {
-  params = params ∙ e.params;
-  more = e.more ++ more;
-  answers = answers ∙ ap (λ (l : List Answer). l ++ more) e.answers ∙ append_assoc given.past.answers e.more more;
-}
+extends_then {given} more params answers e = grind (arith, append_assoc)
 
 extends_on : (given : Work) (step : Step) (goes_on : Bool) (work : Work) → Extends given work → Extends given (record (reaches step work) { goes_on = goes_on })
 extends_on given step goes_on work e = record { params = e.params; more = e.more; answers = e.answers }

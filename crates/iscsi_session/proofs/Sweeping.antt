@@ -1,5 +1,5 @@
 -- The queue of a session, one after the other, and the data of its commands, where some leave.
-use Rattle.std.proofs.Common.{◌≡◌, ℕ, suc, ◌+◌, ◌-◌, ◌<◌, List, [], ◌∷◌, ◌++◌, length, get_or, Bool, true, false, not, cond, Option, refl, sym, ap, ◌∙◌, arith, append_assoc, append-nil}
+use Rattle.std.proofs.Common.{◌≡◌, ℕ, suc, ◌+◌, ◌-◌, ◌<◌, List, [], ◌∷◌, ◌++◌, length, get_or, Bool, true, false, cond, Option, refl, sym, ap, ◌∙◌, arith, append_assoc, append-nil}
 use Rattle.std.specs.Prelude.{All, filter, is_some}
 use Rattle.std.proofs.lemmas.List.Elements.{All-tail}
 use Rattle.slab.specs.Slab.{Slab, get}
@@ -77,32 +77,8 @@ sweeps_by : (b c : Bool) (reach : FunctionReach) (given now next : TaskLists) (l
     → done ++ filter (stays reach) (frame ∷ rest) ≡ filter (stays reach) given.queue
     → now.unfinished - length (filter (counts_out reach) (frame ∷ rest)) ≡ given.unfinished - length (filter (counts_out reach) given.queue)
     → now ≡ record given { unfinished = now.unfinished; queue = now.queue } → next ≡ swept_one reach frame (rest ++ done) now → Swept reach given next left
-sweeps_by true c reach given now next left frame rest done e i queue count kept fewer same is =
-    let after : next ≡ record now { unfinished = cond c now.unfinished (now.unfinished - 1); queue = rest ++ done } = is
-    ∙ left_out c reach frame (rest ++ done) now e i in
-    rw after (record {
-      rest = rest;
-      done = done;
-      queue = refl;
-      count = omega arith;
-      kept = ap (λ (l : List Frame). done ++ l) (sym (filter_false (stays reach) frame rest (ap not e))) ∙ kept;
-      fewer = less_by c now.unfinished (length (filter (counts_out reach) rest))
-          ∙ ap (λ (n : ℕ). now.unfinished - n) (sym (counted_out c reach frame rest e i)) ∙ fewer;
-      same = ap (λ (t : TaskLists). record t { unfinished = cond c now.unfinished (now.unfinished - 1); queue = rest ++ done }) same;
-    })
-sweeps_by false c reach given now next left frame rest done e i queue count kept fewer same is =
-    let after : next ≡ record now { queue = (rest ++ done) ++ frame ∷ [] } = is ∙ turned reach frame (rest ++ done) now e in
-    let none : counts_out reach frame ≡ false = rw e refl in
-    rw after (record {
-      rest = rest;
-      done = done ++ frame ∷ [];
-      queue = append_assoc rest done (frame ∷ []);
-      count = omega arith;
-      kept = append_assoc done (frame ∷ []) (filter (stays reach) rest)
-          ∙ ap (λ (l : List Frame). done ++ l) (sym (filter_true (stays reach) frame rest (ap not e))) ∙ kept;
-      fewer = ap (λ (l : List Frame). now.unfinished - length l) (sym (filter_false (counts_out reach) frame rest none)) ∙ fewer;
-      same = ap (λ (t : TaskLists). record t { queue = (rest ++ done) ++ frame ∷ [] }) same;
-    })
+sweeps_by true c reach given now next left frame rest done e i queue count kept fewer same is = grind (arith, left_out, filter_false, less_by, counted_out)
+sweeps_by false c reach given now next left frame rest done e i queue count kept fewer same is = grind (arith, turned, append_assoc, filter_true, filter_false)
 
 pub sweep_goes_on : (reach : FunctionReach) (given now next : TaskLists) (left : ℕ) → Swept reach given now (suc left)
     → ((frame : Frame) (others : List Frame) → now.queue ≡ frame ∷ others → next ≡ swept_one reach frame others now) → Swept reach given next left

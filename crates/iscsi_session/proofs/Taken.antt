@@ -24,10 +24,7 @@ request_new (y ∷ came) x = request_new came x
 
 -- a place among those that came is as it was, and what stood behind all still does
 pub place_kept : (came : List Request) (x : Request) (k : ℕ) → min (length came) (place_of (came ++ x ∷ []) k) ≡ min (length came) (place_of came k)
-place_kept came x k = elim (cases_eq (place_of came k) (length came)) [
-  | inl same ↦ rw (position_or_len_push (λ f. has_number k f.number) came x, eq-eqb _ _ same) (omega arith)
-  | inr differs ↦ rw (position_or_len_push (λ f. has_number k f.number) came x, ne_eqb _ _ differs) refl
-]
+place_kept came x k = grind (arith, cases_eq, position_or_len_push, eq-eqb, ne_eqb)
 
 pub place_le_moment : (came : List Request) (k : ℕ) → place_of came k ≤ moment came k
 place_le_moment came zero = omega arith
@@ -135,9 +132,7 @@ All-map_places P came (k ∷ ks) all = All-cons P _ _ (All-head (λ k. P (place_
     (All-map_places P came ks (All-tail (λ k. P (place_of came k)) k ks all))
 
 places_within : (came : List Request) (p : ℕ) → p < length came → All (λ k. place_of came k < length came) (numbers_at came p)
-places_within came p lt = λ i d below.
-    (let at : moment came (get_or (numbers_at came p) i d) ≡ p = at_moment came p i d below
-    in let le = place_le_moment came (get_or (numbers_at came p) i d) in omega arith)
+places_within came p lt = grind (arith, at_moment, place_le_moment)
 
 keys_of_numbers : (came : List Request) (p : ℕ) → p < length came → All (λ a. key came a ≡ p) (map (place_of came) (numbers_at came p))
 unfolding key

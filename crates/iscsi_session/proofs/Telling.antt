@@ -1,14 +1,14 @@
 -- A function whose data has come is finished: what the session remembers, and that its past stays lawful.
 use Rattle.std.proofs.Common.{◌≡◌, ℕ, ◌+◌, ◌-◌, ◌<◌, List, [], ◌∷◌, ◌++◌, length, map, get_or, Bool, true, false, not, cond, ◌&&◌, ◌||◌, ◌==◌, refl, sym, ap, subst, ◌∙◌, arith, inl, inr}
 use Rattle.std.specs.Prelude.{All, filter, find, Some}
-use Rattle.std.specs.List.{list_any, range_with_len}
+use Rattle.std.specs.List.{list_any}
 use Rattle.std.proofs.lemmas.Bool.{cases_eq, eq-eqb, ne_eqb, eqb-true, false_from_ne_true}
 use Rattle.std.proofs.lemmas.List.Elements.{All-head, All-tail, All-nil, All-push}
 use Rattle.iscsi_pdu.specs.Header.{is_immediate}
 use Rattle.iscsi_order.specs.Window.{taken as taken_numbers}
 use Rattle.iscsi_session.specs.Drained.{Drained}
 use Rattle.iscsi_session.proofs.Blanked.{asked_blanked}
-use Rattle.iscsi_session.specs.Requests.{Past, Drain, frame_of, is_in, left, is_command, is_function, others, counted, over, pending, taken, numbers, commands, due, queue, unfinished, functions}
+use Rattle.iscsi_session.specs.Requests.{Past, Drain, frame_of, is_in, left, is_command, is_function, others, counted, over, pending, taken, commands, due, queue, unfinished, functions}
 use Rattle.iscsi_session.specs.Transfers.{tag_of, task_at, outs_of, tags_of, is_asked_of, drains_of}
 use Rattle.iscsi_session.specs.Texts.{exchange_of}
 use Rattle.iscsi_session.specs.Functions.{lacks, told}
@@ -27,12 +27,7 @@ use Rattle.iscsi_session.proofs.Kept.{tags_left}
 -- ---- names
 
 in_left_is : (a : ℕ) (gone names : List ℕ) → is_in a (left gone names) ≡ (is_in a names && not (is_in a gone))
-in_left_is a gone names = by_case (is_in a names) (is_in a gone) refl refl
-  where
-    by_case : (n g : Bool) → is_in a names ≡ n → is_in a gone ≡ g → is_in a (left gone names) ≡ (is_in a names && not (is_in a gone))
-    by_case true false e f = in_left_back a gone names e f ∙ sym (rw (e, f) refl)
-    by_case true true e f = false_from_ne_true (is_in a (left gone names)) (λ h. let no = sym (not_gone a gone names h) ∙ f in absurd cc) ∙ sym (rw (e, f) refl)
-    by_case false g e f = false_from_ne_true (is_in a (left gone names)) (λ h. let no = sym (in_left a gone names h) ∙ e in absurd cc) ∙ sym (rw e refl)
+in_left_is a gone names = grind (arith, in_left_back, false_from_ne_true, not_gone, in_left)
 
 in_one : (a k : ℕ) → is_in a (k ∷ []) ≡ (a == k)
 in_one a k = grind arith
@@ -87,9 +82,7 @@ module _ (past : Past) (lawful : IsLawful past) where
 
   -- they are not finished
   pub pending_open : (k : ℕ) → is_in k (pending past) ≡ true → is_in k (functions past) ≡ true
-  pending_open k waits = in_functions past k (pending_came k waits) (pending_function k waits)
-      (in_left_is k (pending past) past.finished ∙ rw (waits, pending_finished k waits) refl)
-      (not_removed past k lawful.removed_commands (function_no_command (frame_of past.came k) (pending_function k waits)))
+  pending_open k waits = grind (arith, in_functions, pending_came, pending_function, in_left_is, pending_finished, not_removed, function_no_command)
 
   -- of each there is data
   pub drains_pending : All (λ d. is_in d.function (pending past) ≡ true) (drains_of past)
@@ -112,9 +105,7 @@ module _ (past : Past) (lawful : IsLawful past) where
 
   module _ (k : ℕ) (waits : is_in k (pending past) ≡ true) where
     same_pending : (a : ℕ) → is_in a (pending (told k past)) ≡ (is_in a (pending past) && not (a == k))
-    same_pending a =
-        ap (is_in a) (left_more past.answered (k ∷ []) (map (λ d. d.function) past.drains)) ∙ in_left_is a (k ∷ []) (pending past)
-        ∙ ap (λ (b : Bool). is_in a (pending past) && not b) (in_one a k)
+    same_pending a = grind (arith, left_more, in_left_is, in_one)
 
     waits_at : (a : ℕ) → (a == k) ≡ true → is_in a (pending past) ≡ true
     waits_at a e = ap (λ (n : ℕ). is_in n (pending past)) (eqb-true a k e) ∙ waits
@@ -133,9 +124,7 @@ module _ (past : Past) (lawful : IsLawful past) where
     has_acted = all_in (λ a. is_in a past.acted ≡ true) k past.finished lawful.acted (pending_finished k waits)
 
     once_finished : filter (λ a. a == k) past.finished ≡ k ∷ []
-    once_finished =
-        sym (once_others past.finished) ∙ ap (filter (λ a. a == k)) lawful.at_once ∙ once_others past.acted
-        ∙ once_in k past.acted (distinct_acted past lawful) has_acted
+    once_finished = grind (arith, once_others, once_in, distinct_acted, has_acted)
 
     abbrev more : List ℕ
     more = left (pending (told k past)) past.finished
@@ -179,10 +168,7 @@ module _ (past : Past) (lawful : IsLawful past) where
 
     pub functions_told : functions (told k past) ≡ left (k ∷ []) (functions past)
     unfolding functions
-    functions_told =
-        let all = filter (λ a. is_function (frame_of past.came a)) (range_with_len 0 (length past.came)) in
-        ap (left past.removed) (finished_told all ∙ left_more (left (pending past) past.finished) (k ∷ []) all)
-        ∙ left_swap past.removed (k ∷ []) (left (left (pending past) past.finished) all)
+    functions_told = grind (arith, finished_told, left_more, left_swap)
 
     -- ---- it stays lawful
 
@@ -229,12 +215,7 @@ module _ (past : Past) (lawful : IsLawful past) where
     pub tasks_told : cond (is_immediate (frame_of past.came k).header) (tasks_of past) (record (tasks_of past) { unfinished = (tasks_of past).unfinished - 1 })
         ≡ tasks_of (told k past)
     unfolding tasks_of standing due queue taken_numbers
-    tasks_told = by_case _ (unfinished_less past (numbers past).handed _ _ k lawful (pending_came k waits) over_told)
-      where
-        by_case : (b : Bool) → cond b ((numbers past).handed - counted past.came (over past)) ((numbers past).handed - counted past.came (over past) - 1)
-            ≡ (numbers past).handed - counted past.came (over (told k past))
-            → cond b (tasks_of past) (record (tasks_of past) { unfinished = (tasks_of past).unfinished - 1 }) ≡ tasks_of (told k past)
-        by_case b e = grind arith
+    tasks_told = grind (arith, unfinished_less, pending_came, over_told)
 
     drain_is : drains_without (tag_of past.came k) (map (drained_of past) (drains_of past)) ≡ map (drained_of past) (drains_of (told k past))
     drain_is =

@@ -96,15 +96,8 @@ list_joined : (c : Bool) (past : Past) (x : Request) → is_command x.frame ≡ 
     → All (λ d. d.command < length past.came) past.data_outs → All (λ r. r.command < length past.came) past.r2ts
     → map (transfer_of (joined x past)) (unfinished (joined x past)) ≡ map (transfer_of past) (unfinished past)
     ++ cond c (begun_transfer x.frame.header (task_of (begun past.params.values x.frame)) ∷ []) []
-list_joined true past x e below gone fed asked =
-    let n = length past.came in
-    ap (map (transfer_of (joined x past))) (unfinished_joined true past x e below gone)
-    ∙ map-append (transfer_of (joined x past)) (unfinished past) (n ∷ [])
-    ∙ ap (λ (l : List Transfer). l ++ transfer_of (joined x past) n ∷ []) (transfers_before past x)
-    ∙ ap (λ (t : Transfer). map (transfer_of past) (unfinished past) ++ t ∷ []) (transfer_new past x fed asked)
-list_joined false past x e below gone fed asked =
-    ap (map (transfer_of (joined x past))) (unfinished_joined false past x e below gone ∙ append-nil (unfinished past))
-    ∙ transfers_before past x ∙ sym (append-nil (map (transfer_of past) (unfinished past)))
+list_joined true past x e below gone fed asked = grind (arith, joined, unfinished_joined, map-append, transfers_before, transfer_new)
+list_joined false past x e below gone fed asked = grind (arith, joined, unfinished_joined, append-nil, transfers_before)
 
 pub transfers_joined : (c : Bool) (past : Past) (x : Request) → is_command x.frame ≡ c → Below past past.finished → Below past past.removed
     → All (λ d. d.command < length past.came) past.data_outs → All (λ r. r.command < length past.came) past.r2ts → AreDrained past

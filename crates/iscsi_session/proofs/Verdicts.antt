@@ -1,5 +1,5 @@
 -- What a frame is judged to be, case by case.
-use Rattle.std.proofs.Common.{◌≡◌, ◌≢◌, ℕ, Bool, true, false, not, ◌&&◌, ◌||◌, refl, sym, ap, ◌∙◌, arith}
+use Rattle.std.proofs.Common.{◌≡◌, ◌≢◌, ℕ, Bool, true, false, not, ◌||◌, refl, ap, arith}
 use Rattle.std.specs.Prelude.{Option, Some, None, is_some, if◌then◌else◌}
 use Rattle.std.proofs.lemmas.Bool.{or_parts}
 use Rattle.iscsi_pdu.specs.Header.{opcode_of, opcode_number, is_immediate, initiator_task_tag}
@@ -73,40 +73,19 @@ no_task frame opcode is other another e = grind arith
 
 tests_free : (past : Past) (frame : Frame) → task_verdict past frame ≡ Accepted → IsFree past frame
 unfolding task_verdict
-tests_free past frame e =
-    let t = tests_passed (is_fresh past frame) _ (is_taken past frame) _ e in
-    record {
-      fresh = t.0;
-      tag = λ h. (or_parts _ _ t.1).1;
-      room = λ h immediate. ap (λ (b : Bool). b && is_full past) (sym immediate) ∙ t.2;
-    }
+tests_free past frame e = grind (arith, tests_passed, or_parts)
 
 accepted_by : (opcode : Opcode) (past : Past) (frame : Frame) → opcode_of (opcode_number frame.header) ≡ opcode → verdict_by opcode past frame ≡ Accepted
     → IsFree past frame
 unfolding verdict_by
 accepted_by opcodes.ScsiCommand past frame is e = tests_free past frame e
 accepted_by opcodes.TaskManagement past frame is e = tests_free past frame e
-accepted_by opcodes.NopOut past frame is e =
-    record {
-      fresh = fresh_passed (is_fresh past frame) e;
-      tag = λ h. absurd (no_task frame opcodes.NopOut is (λ x. absurd cc) (λ x. absurd cc) h);
-      room = λ h immediate. absurd (no_task frame opcodes.NopOut is (λ x. absurd cc) (λ x. absurd cc) h);
-    }
-accepted_by opcodes.Logout past frame is e =
-    record {
-      fresh = fresh_passed (is_fresh past frame) e;
-      tag = λ h. absurd (no_task frame opcodes.Logout is (λ x. absurd cc) (λ x. absurd cc) h);
-      room = λ h immediate. absurd (no_task frame opcodes.Logout is (λ x. absurd cc) (λ x. absurd cc) h);
-    }
+accepted_by opcodes.NopOut past frame is e = grind (arith, fresh_passed, no_task)
+accepted_by opcodes.Logout past frame is e = grind (arith, fresh_passed, no_task)
 accepted_by opcodes.Login past frame is e = absurd cc
 accepted_by opcodes.DataOut past frame is e = absurd (data_not_accepted past frame (command_with past (initiator_task_tag frame.header)) e)
 accepted_by opcodes.Snack past frame is e = absurd cc
-accepted_by opcodes.Text past frame is e =
-    record {
-      fresh = fresh_passed (is_fresh past frame) e;
-      tag = λ h. absurd (no_task frame opcodes.Text is (λ x. absurd cc) (λ x. absurd cc) h);
-      room = λ h immediate. absurd (no_task frame opcodes.Text is (λ x. absurd cc) (λ x. absurd cc) h);
-    }
+accepted_by opcodes.Text past frame is e = grind (arith, fresh_passed, no_task)
 accepted_by (opcodes.Other n) past frame is e = absurd cc
 
 pub accepted_free : (past : Past) (frame : Frame) → verdict past frame ≡ Accepted → IsFree past frame

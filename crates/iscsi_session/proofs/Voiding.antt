@@ -23,12 +23,7 @@ both_ways a b reach slot = grind arith
 
 pub voids_then : (reach : FunctionReach) (a b : List ℕ) (old mid new : Slab Frame) → Voids reach a old mid → Voids reach b mid new
     → Voids reach (a ++ b) old new
-voids_then reach a b old mid new first second = record {
-  at = λ key. second.at key
-      ∙ ap (λ (slot : Option Frame). cond (is_in key b) (voids reach slot) slot) (first.at key)
-      ∙ both_ways (is_in key a) (is_in key b) reach (get old key)
-      ∙ ap (λ (x : Bool). cond x (voids reach (get old key)) (get old key)) (sym (is_in_append key a b));
-}
+voids_then reach a b old mid new first second = grind (arith, both_ways, is_in_append)
 
 -- ---- one key more
 
@@ -90,11 +85,7 @@ times_in k (a ∷ keys) none = elim (cases_eq a k) [
     one same = rw (eq-eqb a k same) refl
 
 pub in_times : (k : ℕ) (keys : List ℕ) → is_in k keys ≡ true → 0 < times k keys
-in_times k keys e = by_case (times k keys) refl
-  where
-    by_case : (n : ℕ) → times k keys ≡ n → 0 < times k keys
-    by_case zero none = absurd (let no = sym e ∙ times_in k keys none in cc)
-    by_case (suc n) some = omega arith
+in_times k keys e = grind (arith, times_in)
 
 holds_one : (requests : Slab Frame) (key : ℕ) → holds requests key ≤ 1
 holds_one requests key = grind arith

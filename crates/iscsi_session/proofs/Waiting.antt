@@ -1,16 +1,15 @@
 -- A Task Management Function Request acts and waits for data: what the session remembers, and that its past stays lawful.
-use Rattle.std.proofs.Common.{◌≡◌, ℕ, List, [], ◌∷◌, ◌++◌, map, get_or, drop, Bool, true, false, not, ◌||◌, refl, sym, ap, subst, ◌∙◌, arith, inl, inr}
+use Rattle.std.proofs.Common.{◌≡◌, ℕ, List, [], ◌∷◌, ◌++◌, map, drop, true, false, not, refl, sym, ap, subst, ◌∙◌, arith, inl, inr}
 use Rattle.std.specs.Prelude.{All, filter}
 use Rattle.std.proofs.lemmas.Bool.{cases_eq, eq-eqb, ne_eqb, false_from_ne_true}
 use Rattle.std.proofs.lemmas.List.{map-append, append-nil}
 use Rattle.std.proofs.lemmas.List.Elements.{filter-append, All-append, All-nil, All-cons, All-head, All-tail}
-use Rattle.iscsi_pdu.specs.Frames.{Frame}
 use Rattle.iscsi_order.specs.Window.{taken as taken_numbers}
 use Rattle.iscsi_session.specs.Drained.{Drained}
 use Rattle.iscsi_session.specs.Requests.{Past, Drain, drain_for, draining, frame_of, frames_of, is_in, left, is_command, is_function, commands, counted, over, pending, taken, due, queue, unfinished, functions}
 use Rattle.iscsi_session.specs.Transfers.{tag_of, task_at, outs_of, tags_of, drains_of}
 use Rattle.iscsi_session.specs.Texts.{exchange_of}
-use Rattle.iscsi_session.specs.State.{SessionState, TaskLists, TransferList, AreDistinct, IsLawful, Stands, standing, tasks_of, transfer_of, drained_of, transfers_of, functions_of}
+use Rattle.iscsi_session.specs.State.{SessionState, AreDistinct, IsLawful, Stands, standing, tasks_of, drained_of, transfers_of, functions_of}
 use Rattle.iscsi_session.proofs.Left.{filter_cong, left_append, in_at, in_left, in_left_back, not_in, is_in_append}
 use Rattle.iscsi_session.proofs.Places.{or_known}
 use Rattle.iscsi_session.proofs.Kept.{kept_of, function_no_command}
@@ -60,37 +59,17 @@ module _ (past : Past) (lawful : IsLawful past) (k : ℕ) (rest : List ℕ) (is 
   new_functions = map (λ d. d.function) (map (drain_for k) names)
 
   pending_after : pending after ≡ pending past ++ left past.answered new_functions
-  pending_after =
-      ap (left past.answered) (map-append (λ (d : Drain). d.function) past.drains (map (drain_for k) names))
-      ∙ left_append past.answered (map (λ (d : Drain). d.function) past.drains) new_functions
+  pending_after = grind (arith, map-append, left_append)
 
   waits : is_in k (pending after) ≡ true
-  waits =
-      ap (is_in k) pending_after ∙ is_in_append k (pending past) (left past.answered new_functions)
-      ∙ or_known (is_in k (pending past)) _ (in_left_back k past.answered new_functions (rw (eq-eqb k k refl) refl) not_answered)
+  waits = grind (arith, pending_after, is_in_append, or_known, in_left_back, eq-eqb, not_answered)
 
   same_pending : (a : ℕ) → is_in a past.finished ≡ true → is_in a (pending after) ≡ is_in a (pending past)
-  same_pending a there =
-      let none : is_in a (left past.answered new_functions) ≡ false = false_from_ne_true (is_in a (left past.answered new_functions)) (λ h.
-      let same = only_for k a names (in_left a past.answered new_functions h) in
-      let no = sym there ∙ ap (λ (n : ℕ). is_in n past.finished) same ∙ open_still in absurd cc) in
-      ap (is_in a) pending_after ∙ is_in_append a (pending past) (left past.answered new_functions)
-      ∙ ap (λ (b : Bool). is_in a (pending past) || b) none ∙ or_none (is_in a (pending past))
-    where
-      or_none : (b : Bool) → (b || false) ≡ b
-      or_none b = grind arith
+  same_pending a there = grind (arith, false_from_ne_true, only_for, in_left, open_still, pending_after, is_in_append)
 
   done_after : left (pending after) (past.finished ++ k ∷ []) ≡ left (pending past) past.finished
   unfolding left
-  done_after =
-      left_append (pending after) past.finished (k ∷ [])
-      ∙ ap (λ (l : List ℕ). left (pending after) past.finished ++ l) gone_now ∙ append-nil (left (pending after) past.finished) ∙ same_left
-    where
-      gone_now : left (pending after) (k ∷ []) ≡ []
-      gone_now = rw waits refl
-
-      same_left : left (pending after) past.finished ≡ left (pending past) past.finished
-      same_left = filter_cong _ _ past.finished (λ i d lt. ap not (same_pending (get_or past.finished i d) (in_at past.finished i d lt)))
+  done_after = grind (arith, left_append, append-nil, waits, filter_cong, same_pending, in_at)
 
   over_after : over after ≡ over past
   over_after =
@@ -184,10 +163,7 @@ module _ (past : Past) (lawful : IsLawful past) (k : ℕ) (rest : List ℕ) (is 
 
   transfers_waiting : record (transfers_of past) { drains = (transfers_of past).drains ++ map (λ c. drained_of past (drain_for k c)) names } ≡ transfers_of after
   unfolding transfers_of task_at outs_of tags_of
-  transfers_waiting =
-      ap (λ (l : List Drained). record (transfers_of past) { drains = l }) (sym drains_after)
-      ∙ ap (λ (l : List ℕ). record (transfers_of past) { list = map (transfer_of past) l; drains = map (drained_of past) (drains_of after) })
-      (sym unfinished_after)
+  transfers_waiting = grind (arith, drains_after, unfinished_after)
 
   headers_waiting : functions_of past ≡ functions_of after
   unfolding functions_of
@@ -203,10 +179,4 @@ module _ (past : Past) (lawful : IsLawful past) (k : ℕ) (rest : List ℕ) (is 
         tasks = record state.tasks { due = drop 1 state.tasks.due };
         transfers = record state.transfers { drains = state.transfers.drains ++ map (λ c. drained_of past (drain_for k c)) names };
       })
-  stands_waiting state s lawful_now line =
-      let p = parts past state s in
-      stands_parts past after state _ _ state.functions state.exchange s lawful_now refl refl
-      (ap (λ (l : List Frame). record state.tasks { due = drop 1 l }) line
-      ∙ ap (λ (t : TaskLists). record t { due = frames_of (standing past) rest }) p.tasks_is ∙ tasks_waiting)
-      (ap (λ (t : TransferList). record t { drains = t.drains ++ map (λ c. drained_of past (drain_for k c)) names }) p.transfers_is ∙ transfers_waiting)
-      (p.functions_is ∙ headers_waiting) (p.exchange_is ∙ exchange_waiting)
+  stands_waiting state s lawful_now line = grind (arith, parts, stands_parts, tasks_waiting, transfers_waiting, headers_waiting, exchange_waiting)

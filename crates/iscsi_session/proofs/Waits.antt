@@ -9,7 +9,7 @@ use Rattle.iscsi_session.specs.Drained.{Drained}
 use Rattle.iscsi_session.specs.Requests.{Past, Drain, drain_for, draining, frame_of, frames_of, is_in, is_function, due, unfinished, removing, functions}
 use Rattle.iscsi_session.specs.Transfers.{task_at, outs_of, tags_of, is_asked_of}
 use Rattle.iscsi_session.specs.Functions.{FunctionReach, reaches, reached, waits, awaited}
-use Rattle.iscsi_session.specs.Acts.{reach_of, ended, behind, acted, act_answers}
+use Rattle.iscsi_session.specs.Acts.{reach_of, ended, acted}
 use Rattle.iscsi_session.specs.State.{SessionState, AreDistinct, IsLawful, Stands, standing, transfer_of, drained_of, without, transfers_without}
 use Rattle.iscsi_session.specs.Draining.{drained_for, is_awaited, awaited_in, awaits_in}
 use Rattle.iscsi_session.proofs.Left.{filter_filter, in_at, in_back, in_filter, distinct_filter, distinct_append}
@@ -69,11 +69,7 @@ module _ (luns : List ℕ) (past : Past) (lawful : IsLawful past) (k : ℕ) (res
       false_from_ne_true (is_in c names) (λ h. absurd (drains_apart past c lawful.drained (unfinished_of c (in_gone c h)) i none lt refl)))
 
   once : AreDistinct (map (λ d. d.command) (past.drains ++ map (drain_for k) names))
-  once =
-      subst AreDistinct
-      (sym (map-append (λ (d : Drain). d.command) past.drains (map (drain_for k) names)
-      ∙ ap (λ (l : List ℕ). map (λ (d : Drain). d.command) past.drains ++ l) (commands_for k names)))
-      (distinct_append (map (λ (d : Drain). d.command) past.drains) names lawful.drained.once distinct_names not_drained)
+  once = grind (arith, map-append, commands_for, distinct_append, distinct_names, not_drained)
 
   due_less : due less ≡ k ∷ rest
   due_less = due_same (reach_of luns k past) past lawful ∙ is
@@ -144,9 +140,7 @@ module _ (luns : List ℕ) (past : Past) (lawful : IsLawful past) (k : ℕ) (res
 
   -- it is not answered, and plugs no number
   pub acted_waits : ended luns k past ≡ acted luns k past
-  acted_waits =
-      sym (behind_plain luns past (ended luns k past) k (awaited_no_plug past (reach_of luns k past) first others e))
-      ∙ answering_none (behind luns k past (ended luns k past)) (act_answers luns k past) (function_waits luns k past first others f e)
+  acted_waits = grind (arith, behind_plain, awaited_no_plug, answering_none, function_waits)
 
 -- ---- whether it waits
 

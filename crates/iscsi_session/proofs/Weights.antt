@@ -1,15 +1,14 @@
 -- How many acts can follow at most.
-use Rattle.std.proofs.Common.{◌≡◌, ℕ, zero, suc, ◌+◌, ◌*◌, ◌<◌, ◌≤◌, List, [], ◌∷◌, ◌++◌, length, map, set, take, drop, Bool, true, false, cond, Option, Some, None, refl, sym, ap, ◌∙◌, arith, append-nil}
+use Rattle.std.proofs.Common.{◌≡◌, ℕ, zero, suc, ◌+◌, ◌*◌, ◌<◌, ◌≤◌, List, [], ◌∷◌, ◌++◌, length, map, set, take, drop, Bool, true, cond, Option, Some, None, refl, sym, ap, ◌∙◌, arith, append-nil}
 use Rattle.std.specs.Prelude.{filter, filter_map, option_map, is_some, IfSome, IfNone}
-use Rattle.std.specs.List.{range_with_len, prefix_len}
+use Rattle.std.specs.List.{range_with_len}
 use Rattle.std.proofs.lemmas.List.{length-map}
 use Rattle.std.proofs.lemmas.List.Elements.{filter_map-append}
 use Rattle.iscsi_pdu.specs.Frames.{Frame}
 use Rattle.iscsi_order.specs.Window as order
 use Rattle.iscsi_order.specs.Window.{window}
-use Rattle.iscsi_order.specs.Serial.{distance}
-use Rattle.iscsi_session.specs.Requests.{Past, is_function, frame_of, frames_of, numbered, numbers, held, due, place_of}
-use Rattle.iscsi_session.specs.Functions.{FunctionReach, plug}
+use Rattle.iscsi_session.specs.Requests.{Past, is_function, numbered, numbers, held, place_of}
+use Rattle.iscsi_session.specs.Functions.{FunctionReach}
 use Rattle.iscsi_session.specs.State.{TaskLists, standing, frame_numbered, tasks_of, one_fewer, holding, takes_next, takes, takes_all, void_if, plugged_behind, without, weight, weigh, waiting}
 use Rattle.iscsi_session.specs.Steps.{waiting_in}
 use Rattle.iscsi_session.proofs.Standing.{numbered_standing}
@@ -58,9 +57,7 @@ held_more (None ∷ l) (suc i) frame = held_more l i frame
 held_more (Some other ∷ l) (suc i) frame = omega (arith, held_more l i frame)
 
 pub waiting_held : (n : ℕ) (frame : Frame) (tasks : TaskLists) → waiting (takes_all (holding n frame tasks)) ≤ waiting tasks + weight frame
-waiting_held n frame tasks =
-    let t = holding n frame tasks in
-    omega (arith, waiting_takes (prefix_len (λ o. is_some o) t.held) t, held_more tasks.held (distance tasks.next n) frame)
+waiting_held n frame tasks = grind (arith, waiting_takes, held_more)
 
 -- ---- one that is due is finished
 
@@ -91,15 +88,7 @@ waiting_some tasks some = by_line tasks.due refl
 
 pub waiting_plugged : (n : ℕ) (frame : Frame) (others : List Frame) (tasks : TaskLists) → tasks.due ≡ frame ∷ others → is_function frame ≡ true
     → waiting (plugged_behind n tasks (frame ∷ others)) < waiting tasks
-waiting_plugged n frame others tasks is function =
-    omega (
-      arith,
-      waiting_held n plug (one_fewer frame (record tasks { due = others })),
-      waiting_fewer frame (record tasks { due = others }),
-      waiting_first frame others tasks is,
-      weight_by true frame function,
-      weight_by false plug refl,
-    )
+waiting_plugged n frame others tasks is function = grind (arith, waiting_held, waiting_fewer, waiting_first, weight_by)
 
 -- ---- SCSI Commands are removed
 
@@ -133,14 +122,7 @@ held_length past =
 
 pub waiting_fits : (past : Past) → waiting (tasks_of past) ≤ waiting_in past
 unfolding tasks_of
-waiting_fits past =
-    omega (
-      arith,
-      weigh_few (there (map (frame_numbered (standing past)) (range_with_len (numbers past).handed window))),
-      held_length past,
-      weigh_few (frames_of (standing past) (due past)),
-      length-map (due past) (frame_of (standing past)),
-    )
+waiting_fits past = grind (arith, weigh_few, held_length, length-map)
 
 -- a line that has some has a first
 pub given_frame : (r : Option Frame) (line : List Frame) {P Q : Frame → Type 0} → IfSome r P → IfSome r Q → IfNone r (line ≡ []) → 0 < length line
