@@ -31,31 +31,7 @@ use Rattle.iscsi_session.proofs.Fronts.{first_of, taken_now, frame_missing, fram
 
 pub begun_lawful : (params : Params) → IsLawful (begun params)
 unfolding due queue left taken taken_numbers unfinished functions standing
-begun_lawful params = record {
-  window = record { finished = omega arith; handed = omega arith; within = λ k come. absurd cc };
-  distinct = tt;
-  delivered = All-nil IsDelivered;
-  in_order = refl;
-  below = All-nil (λ k. k < 0);
-  acted = All-nil (λ k. is_in k [] ≡ true);
-  queued = refl;
-  at_once = refl;
-  handed = refl;
-  fed = All-nil (λ (d : DataOut). d.command < 0);
-  asked = All-nil (λ (r : SentR2t). r.command < 0);
-  tags = tt;
-  function_tags = tt;
-  removed_below = All-nil (λ k. k < 0);
-  removed_commands = All-nil (λ k. is_command (frame_of [] k) ≡ true);
-  apart = All-nil (λ k. is_in k [] ≡ false);
-  drained = record {
-    functions = All-nil (λ (d : Drain). is_function (frame_of [] d.function) ≡ true);
-    acted = All-nil (λ (d : Drain). is_in d.function [] ≡ true);
-    answered = All-nil (λ k. is_in k [] ≡ true);
-    removed = All-nil (λ (d : Drain). is_in d.command [] ≡ true);
-    once = tt;
-  };
-}
+begun_lawful params = grind arith
 
 pub handed_is : (past : Past) → (numbers past).handed ≡ first_of past.came
 unfolding taken_numbers

@@ -110,19 +110,11 @@ command_answers_none luns k past e = answers_of luns k past (command_kind (frame
 
 pub ping_is : (luns : List ℕ) (k : ℕ) (past : Past) → kind_of (frame_of past.came k) ≡ opcodes.NopOut
     → act_answers luns k past ≡ ping_answers (stamp (moved k past)) (moved k past).params.values (frame_of past.came k)
-ping_is luns k past is =
-    answers_of luns k past is
-    ∙ ap (λ (p : Past). ping_answers (stamp p) past.params.values (frame_of past.came k))
-    (ended_plain luns k past (no_function_kind (frame_of past.came k) is (λ x. absurd cc)))
-    ∙ ap (λ (p : Params). ping_answers (stamp (moved k past)) p.values (frame_of past.came k)) (sym (moved_same k past).0)
+ping_is luns k past is = grind (arith, answers_of luns k past is, moved_same k past)
 
 pub logout_is : (luns : List ℕ) (k : ℕ) (past : Past) → kind_of (frame_of past.came k) ≡ opcodes.Logout
     → act_answers luns k past ≡ logout_answer (stamp (moved k past)) (moved k past).params (frame_of past.came k) ∷ []
-logout_is luns k past is =
-    answers_of luns k past is
-    ∙ ap (λ (p : Past). logout_answer (stamp p) past.params (frame_of past.came k) ∷ [])
-    (ended_plain luns k past (no_function_kind (frame_of past.came k) is (λ x. absurd cc)))
-    ∙ ap (λ (p : Params). logout_answer (stamp (moved k past)) p (frame_of past.came k) ∷ []) (sym (moved_same k past).0)
+logout_is luns k past is = grind (arith, answers_of luns k past is, moved_same k past)
 
 pub logout_ends : (params : Params) (frame : Frame) → kind_of frame ≡ opcodes.Logout → ends params frame ≡ closes params frame
 unfolding ends
@@ -163,9 +155,7 @@ other_is luns k past is no_text no_function =
 
 pub function_is : (luns : List ℕ) (k : ℕ) (past : Past) → is_function (frame_of past.came k) ≡ true → awaited past (reach_of luns k past) ≡ []
     → act_answers luns k past ≡ function_answer (stamp (ended luns k past)) (function_result past (reach_of luns k past)) (frame_of past.came k).header ∷ []
-function_is luns k past e none =
-    answers_of luns k past (function_kind (frame_of past.came k) e)
-    ∙ ap (λ (l : List ℕ). acted_answers l (stamp (ended luns k past)) (function_result past (reach_of luns k past)) (frame_of past.came k).header) none
+function_is luns k past e none = grind (arith, answers_of luns k past (function_kind (frame_of past.came k) e), function_kind (frame_of past.came k) e)
 
 -- one that waits for data is not answered
 pub function_waits : (luns : List ℕ) (k : ℕ) (past : Past) (first : ℕ) (others : List ℕ) → is_function (frame_of past.came k) ≡ true
@@ -178,9 +168,7 @@ pub text_is : (luns : List ℕ) (k : ℕ) (past : Past) → is_text (frame_of pa
     → act_answers luns k past ≡ text_answer (stamp (moved k past)) (hears (exchange_of past) (frame_of past.came k) past.params).piece
     (frame_of past.came k) ∷ []
 text_is luns k past e =
-    answers_of luns k past (text_kind (frame_of past.came k) e)
-    ∙ ap (λ (p : Past). text_answer (stamp p) (hears (exchange_of past) (frame_of past.came k) past.params).piece (frame_of past.came k) ∷ [])
-    (ended_plain luns k past (no_function_kind (frame_of past.came k) (text_kind (frame_of past.came k) e) (λ x. absurd cc)))
+    grind (arith, answers_of luns k past (text_kind (frame_of past.came k) e), text_kind (frame_of past.came k) e, text_kind (frame_of past.came k) e)
 
 bears_piece : (numbers_now : Stamp) (piece : Option TextPiece) (frame : Frame) → bears_status (text_answer numbers_now piece frame) ≡ true
 bears_piece numbers_now piece frame = grind arith
@@ -239,10 +227,7 @@ stands_other_kind past state k rest s is e =
 -- and with it the others, in the code
 pub first_drops : (past : Past) (state : SessionState) (k : ℕ) (rest : List ℕ) → Stands past state → due past ≡ k ∷ rest
     → is_command (frame_of past.came k) ≡ false → state.tasks.due ≡ frame_of past.came k ∷ drop 1 state.tasks.due
-first_drops past state k rest s is e =
-    let d = first_due past state k rest s is in
-    d ∙ ap (λ (f : Frame). f ∷ frames_of (standing past) rest) (stands_other_kind past state k rest s is e)
-    ∙ ap (λ (l : List Frame). frame_of past.came k ∷ l) (sym (ap (drop 1) d))
+first_drops past state k rest s is e = grind (arith, first_due past state k rest s is, stands_other_kind past state k rest s is e)
 
 pub function_no_text : (frame : Frame) → is_function frame ≡ true → is_text frame ≡ false
 function_no_text frame e = not_text frame opcodes.TaskManagement (function_kind frame e) (λ x. absurd cc)

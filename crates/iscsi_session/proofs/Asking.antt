@@ -71,9 +71,7 @@ located_asking past = located (λ (transfer : Transfer). is_some (due_of transfe
 
 asking_in : (past : Past) (state : SessionState) → Stands past state
     → Located (λ transfer. is_some (due_of transfer)) (transfer_of past) (unfinished past) (asking_place state.transfers.list)
-asking_in past state s =
-    subst (λ (l : List Transfer). Located (λ transfer. is_some (due_of transfer)) (transfer_of past) (unfinished past) (asking_place l))
-    (sym (list_is past state s)) (located_asking past)
+asking_in past state s = grind (arith, list_is past state s, located_asking past)
 
 pub asking_came : (past : Past) (k : ℕ) (rest : List ℕ) → asking past ≡ k ∷ rest → k < length past.came
 unfolding asking
@@ -149,9 +147,7 @@ stands_place past state (Some i) s found =
 
 pub stands_asked : (past : Past) (state : SessionState) → Stands past state
     → Stands (asked_by (asking past) past) (record state { transfers = asked_at state.transfers (asking_place state.transfers.list) })
-stands_asked past state s =
-    stands_place past state (asking_place state.transfers.list) s
-    (asking_in past state s)
+stands_asked past state s = grind (arith, stands_place past state (asking_place state.transfers.list) s (asking_in past state s), asking_in past state s)
 
 -- ---- what is sent
 
@@ -161,12 +157,7 @@ r2t_place : (past : Past) (state : SessionState) (numbers : Stamp) (at : Option 
 unfolding r2t_of transfers_of
 r2t_place past state numbers None s same found = ap (λ (l : List ℕ). r2ts_by l past) (sym (none_asking past found))
 r2t_place past state numbers (Some i) s same found =
-    let one = one_asking past found.0 found.1 in
-    ap (λ (t : TransferList). r2t_answers (r2t_at t numbers (Some i))) (parts past state s).transfers_is
-    ∙ ap (λ (t : Transfer). r2t_answers (option_map (r2t_for t.header (next_transfer_tag past) numbers) (due_of t)))
-    (index_map (transfer_of past) no_transfer (unfinished past) i found.0 found.2)
-    ∙ ap (λ (n : Stamp). r2t_answers (option_map (r2t_for (frame_of past.came found.0).header (next_transfer_tag past) n) (ask_of past found.0))) same
-    ∙ ap (λ (l : List ℕ). r2ts_by l past) (sym one.1)
+    grind (arith, one_asking past found.0 found.1, parts past state s, index_map (transfer_of past) no_transfer (unfinished past) i found.0 found.2)
 
 pub r2ts_are : (past : Past) (state : SessionState) (numbers : Stamp) → Stands past state → numbers ≡ stamp past
     → r2t_answers (r2t_at state.transfers numbers (asking_place state.transfers.list)) ≡ r2ts_by (asking past) past

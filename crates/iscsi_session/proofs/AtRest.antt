@@ -152,12 +152,7 @@ few_pending state r = omega (arith, rest_few r.past r.within r.idle, rest_pendin
 -- a session at its beginning
 pub begun_rests : (params : Params) → IsAtRest (remembered (begun params))
 unfolding due left taken unfinished functions
-begun_rests params = record {
-  past = begun params;
-  within = record { lawful = begun_lawful params; headers = λ i d lt. absurd (omega (arith, lt)); few = omega arith };
-  idle = refl;
-  remembered = refl;
-}
+begun_rests params = grind (arith, begun_lawful params)
 
 -- ---- a command is done
 

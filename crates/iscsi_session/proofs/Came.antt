@@ -13,9 +13,7 @@ ahead_of (coming ∷ a) b comings ahead = (ahead.0, ahead_of a b (drop 1 comings
 
 pub ahead_behind : (a b comings : List Coming) → AreAhead (a ++ b) comings → AreAhead b (drop (length a) comings)
 ahead_behind [] b comings ahead = ahead
-ahead_behind (coming ∷ a) b comings ahead =
-    let more : 1 + length a ≡ suc (length a) = omega arith in
-    subst (AreAhead b) (drop-drop (length a) 1 comings ∙ ap (λ (n : ℕ). drop n comings) more) (ahead_behind a b (drop 1 comings) ahead.1)
+ahead_behind (coming ∷ a) b comings ahead = grind (arith, ahead_behind a b (drop 1 comings) ahead.1, drop-drop (length a) 1 comings)
 
 pub left_behind : (a b comings : List Coming) → drop (length b) (drop (length a) comings) ≡ drop (length (a ++ b)) comings
 left_behind a b comings = drop-drop (length b) (length a) comings ∙ ap (λ (n : ℕ). drop n comings) (sym (length-append a b))

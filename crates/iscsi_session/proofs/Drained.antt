@@ -40,9 +40,7 @@ there_by past (Some i) found = (λ e. (let one = one_drained past found.0.functi
 
 located_in : (past : Past) (state : SessionState) → Stands past state
     → LocatedFunction (λ k. not (lacks past k)) (drains_of past) (telling_place state.transfers.drains)
-located_in past state s =
-    subst (λ (l : List Drained). LocatedFunction (λ k. not (lacks past k)) (drains_of past) (telling_place l)) (sym (drains_are past state s))
-    (telling_located past s.lawful)
+located_in past state s = grind (arith, drains_are past state s, telling_located past s.lawful)
 
 pub telling_there : (past : Past) (state : SessionState) → Stands past state
     → (is_some (telling_place state.transfers.drains) ≡ true → (k : ℕ) × (others : List ℕ) × (drained_functions past ≡ k ∷ others))
@@ -102,10 +100,7 @@ telling_here past state header s is = telling_by past state header (telling_plac
 
 pub telling_none : (past : Past) (state : SessionState) → Stands past state
     → None ≡ function_at state.transfers.drains (telling_place state.transfers.drains) → drained_functions past ≡ []
-telling_none past state s is = (telling_there past state s).1 (none_by (telling_place state.transfers.drains) is)
-  where
-    none_by : (at : Option ℕ) → None ≡ function_at state.transfers.drains at → is_some at ≡ false
-    none_by at e = grind arith
+telling_none past state s is = grind (arith, telling_there past state s)
 
 -- ---- what it is answered
 

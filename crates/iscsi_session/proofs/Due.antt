@@ -163,10 +163,7 @@ none_joined past x e lawful = no_more past (joined x past) refl there (λ a h. h
   where
     there : (k : ℕ) → is_in k (unfinished (joined x past)) ≡ true
         → (is_in k (unfinished past) ≡ true) × (is_some (ask_of (joined x past) k) ≡ true → is_some (ask_of past k) ≡ true)
-    there k h =
-        let same = unfinished_joined false past x e (finished_below past lawful) (removed_below past lawful) ∙ append-nil (unfinished past) in
-        let here = ap (is_in k) (sym same) ∙ h in
-        (here, λ asks. ap is_some (sym (ask_joined past x k here)) ∙ asks)
+    there k h = grind (arith, unfinished_joined, finished_below, removed_below, append-nil, ask_joined)
 
 -- ---- a function acts and waits for data that is asked for
 
@@ -403,11 +400,7 @@ accepted_owes true past frame c e lawful n now = (
     x = record { number = number_for past frame; frame = frame }
 
     asks : Only (Some (length past.came)) (asking (joined x past))
-    asks k h =
-        let a = asks_in (joined x past) k h in
-        let same = unfinished_joined true past x c (finished_below past lawful) (removed_below past lawful) in
-        let both = sym (is_in_append k (unfinished past) (length past.came ∷ [])) ∙ ap (is_in k) (sym same) ∙ a.0 in
-        grind (arith, both, asks_back past k, ask_joined past x k, only_none (asking past) n.asks k)
+    asks k h = grind (arith, asks_in, joined, unfinished_joined, finished_below, removed_below, is_in_append, asks_back, ask_joined, only_none)
 
 fed_owes : (o : Option ℕ) (past : Past) (frame : Frame) → IsLawful past → NothingIsDue past → IsLawful (fed o frame past) → Owing (fed o frame past)
 fed_owes None past frame lawful n now = (None, None, owes_nothing lawful n)

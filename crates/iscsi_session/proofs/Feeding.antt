@@ -57,15 +57,11 @@ some_among a q drains at found = grind arith
 drained_live : (past : Past) (state : SessionState) (tag : ℕ) → Stands past state
     → is_some (drain_with tag state.transfers.drains) ≡ is_some (command_among past tag (drained past))
 unfolding drained
-drained_live past state tag s =
-    ap (λ (l : List Drained). is_some (drain_with tag l)) (drains_are past state s)
-    ∙ some_among (is_asked_of past) (λ k. tag_of past.came k == tag) (drains_of past) _ (drain_located past tag)
+drained_live past state tag s = grind (arith, drains_are past state s, drain_located past tag)
 
 unfinished_live : (past : Past) (state : SessionState) (tag : ℕ) → Stands past state
     → is_some (place_with tag state.transfers.list) ≡ is_some (command_among past tag (unfinished past))
-unfinished_live past state tag s =
-    ap (λ (l : List Transfer). is_some (place_with tag l)) (list_is past state s)
-    ∙ found_or_not (bears tag) (transfer_of past) (unfinished past) _ (located_with past tag)
+unfinished_live past state tag s = grind (arith, list_is past state s, located_with past tag)
 
 either_some : (a b : Option ℕ) → (is_some a || is_some b) ≡ is_some (if is_some a then a else b)
 either_some a b = grind arith
@@ -85,9 +81,7 @@ function_located past tag = located (λ header. initiator_task_tag header == tag
 
 functions_live : (past : Past) (state : SessionState) (tag : ℕ) → Stands past state
     → is_some (function_place tag state.functions) ≡ is_some (function_with past tag)
-functions_live past state tag s =
-    ap (λ (l : List (List ℕ)). is_some (function_place tag l)) (headers_are past state s)
-    ∙ found_or_not (λ header. initiator_task_tag header == tag) (λ k. (frame_of past.came k).header) (functions past) _ (function_located past tag)
+functions_live past state tag s = grind (arith, headers_are past state s, function_located past tag)
 
 pub live_is : (past : Past) (state : SessionState) (tag : ℕ) → Stands past state
     → (is_live_in tag state.transfers || is_some (function_place tag state.functions)) ≡ is_live past tag
@@ -340,10 +334,7 @@ stands_fed past state frame s =
 located_self : (past : Past) (k : ℕ) (at : Option ℕ) → IsLawful past → is_in k (unfinished past) ≡ true
     → Located (bears (tag_of past.came k)) (transfer_of past) (unfinished past) at → (i : ℕ) × (at ≡ Some i) × (slice_get (unfinished past) i ≡ Some k)
 located_self past k None lawful there found = absurd (let no = sym (found_self (tag_of past.came) k (unfinished past) lawful.tags there) ∙ found in cc)
-located_self past k (Some i) lawful there found =
-    let both : Some found.0 ≡ Some k = sym found.1 ∙ found_self (tag_of past.came) k (unfinished past) lawful.tags there in
-    let same : found.0 ≡ k = cc in
-    (i, refl, found.2 ∙ ap (λ (n : ℕ). Some n) same)
+located_self past k (Some i) lawful there found = grind (arith, found_self (tag_of past.came) k (unfinished past) lawful.tags there)
 
 pub place_self : (past : Past) (k : ℕ) → IsLawful past → is_in k (unfinished past) ≡ true
     → (i : ℕ) × (place_with (tag_of past.came k) (map (transfer_of past) (unfinished past)) ≡ Some i) × (slice_get (unfinished past) i ≡ Some k)

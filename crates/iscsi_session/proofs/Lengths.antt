@@ -54,15 +54,7 @@ text_long numbers (Some piece) frame whole short = omega (arith, short, segment_
 
 logout_long : (numbers : Stamp) (params : Params) (frame : Frame) → length frame.header ≡ header_length
     → length (spelling (logout_answer numbers params frame)) ≤ 99
-logout_long numbers params frame whole =
-    by_case (closes params frame) (logout_reason frame.header == 1) (logout_reason frame.header == 2) refl refl refl
-  where
-    by_case : (a b c : Bool) → closes params frame ≡ a → (logout_reason frame.header == 1) ≡ b → (logout_reason frame.header == 2) ≡ c
-        → length (spelling (logout_answer numbers params frame)) ≤ 99
-    by_case true b c e f g = rw e (omega arith)
-    by_case false true c e f g = rw (e, f) (omega arith)
-    by_case false false true e f g = rw (e, f, g) (omega arith)
-    by_case false false false e f g = rw (e, f, g) (reject_long reasons.InvalidField numbers frame whole)
+logout_long numbers params frame whole = grind (arith, reject_long reasons.InvalidField numbers frame whole)
 
 ping_long : (numbers : Stamp) (values : Values) (frame : Frame) → length (flat_map spelling (ping_answers numbers values frame)) ≤ 262240
 ping_long numbers values frame = by_tag (initiator_task_tag frame.header == reserved_tag) refl

@@ -75,9 +75,7 @@ requests_at-remove_first requests (k ∷ keys) d frame within found = rw found r
 -- a key with a request stands nowhere once it is taken out of its line
 pub alone : (requests : Slab Frame) (frame : Frame) (keys : List ℕ) (place key d others : ℕ) → place < length keys → key ≡ get_or keys place d
     → get requests key ≡ Some frame → times key keys + others ≡ holds requests key → times key (remove keys place) + others ≡ 0
-alone requests frame keys place key d others within is found once =
-    let one : holds requests key ≡ 1 = rw found refl in
-    omega (arith, times-remove_same key d keys place within is)
+alone requests frame keys place key d others within is found once = grind (arith, times-remove_same key d keys place within is)
 
 -- each request that is left stands once
 pub once-remove : (old new : Slab Frame) (frame : Frame) (keys : List ℕ) (place key k others : ℕ) → Updates old new key None → place < length keys
@@ -97,13 +95,7 @@ once-remove old new frame keys place key k others updates within is found once =
 -- a key that stands in a line has a request
 pub found_at : (requests : Slab Frame) (keys : List ℕ) (place key others : ℕ) → place < length keys → key ≡ get_or keys place key
     → times key keys + others ≡ holds requests key → (frame : Frame) × (get requests key ≡ Some frame)
-found_at requests keys place key others within is once = by_case (get requests key) refl
-  where
-    by_case : (slot : Option Frame) → get requests key ≡ slot → (frame : Frame) × (get requests key ≡ Some frame)
-    by_case None vacant =
-        let no : holds requests key ≡ 0 = rw vacant refl in
-        absurd (omega (arith, times-remove_same key key keys place within is))
-    by_case (Some frame) found = (frame, found)
+found_at requests keys place key others within is once = grind (arith, times-remove_same key key keys place within is)
 
 -- ---- the keys of the window
 

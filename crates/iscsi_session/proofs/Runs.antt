@@ -58,18 +58,8 @@ starts_reaching step work state units s = record { lawful = s.lawful; remembered
 
 pub leaves_nothing : (work : Work) (state : SessionState) (before : Output) (units : TargetUnits) → Starts work state units
     → Leaves work work state before before units
-leaves_nothing work state before units s = record {
-  lawful = s.lawful;
-  remembered = s.remembered;
-  units = s.units;
-  params = refl;
-  more = [];
-  answers = sym (append-nil work.past.answers);
-  spelled = sym (append-nil before.bytes);
-  functions = [];
-  acted = sym (append-nil work.orders);
-  ordered = sym (append-nil before.orders);
-}
+leaves_nothing work state before units s =
+    grind (arith, append-nil work.past.answers, append-nil before.bytes, append-nil work.orders, append-nil before.orders)
 
 -- twice behind
 behind_both : {A : Type 0} (l before waiting a b : List A) → waiting ≡ before ++ a → l ≡ waiting ++ b → l ≡ before ++ (a ++ b)
@@ -372,10 +362,4 @@ module _ (kind : ℕ → ℕ → Step) (line : Past → List ℕ) (does : ℕ �
 pub runs_as : {run all : Run} {failed : Option (ℕ → Step)} {goes_on : Bool} {old new : SessionState} {before waiting : Output} {units after : TargetUnits}
     → ((fails : Step → Bool) (place : ℕ) (work : Work) → all fails place work ≡ run fails place work)
     → Runs all failed goes_on old new before waiting units after → Runs run failed goes_on old new before waiting units after
-runs_as {run} {all} same r = runs_by (λ place fails work told s. record {
-  to = all fails place work;
-  is = sym (same fails place work);
-  on = r.ends place fails work told s;
-  leaves = r.leads place fails work told s;
-  reached = r.reached place fails work told s;
-})
+runs_as {run} {all} same r = grind arith

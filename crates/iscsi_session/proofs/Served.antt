@@ -64,13 +64,8 @@ FoundActed l goes_on work new before waiting units =
 found_acted : (l : List ℕ) (goes_on : Bool) (work : Work) (old new : SessionState) (before waiting : Output) (units : TargetUnits) → work.units ≡ units
     → ActsFirst (numbers_of work.units.states) l work.past (act_of goes_on) old new before waiting → FoundActed l goes_on work new before waiting units
 found_acted [] goes_on work old new before waiting units same acts = absurd (no_idle goes_on acts.0)
-found_acted (k ∷ others) goes_on work old new before waiting units same acts = (
-  k,
-  others,
-  refl,
-  act_goes_on work k ∙ ended_by _ goes_on acts.act,
-  act_leaves work k (act_of goes_on) new before waiting units same acts,
-)
+found_acted (k ∷ others) goes_on work old new before waiting units same acts =
+    grind (arith, act_goes_on work k, act_leaves work k (act_of goes_on) new before waiting units same acts)
 
 found_idle : (l luns : List ℕ) (work : Work) (old new : SessionState) (before waiting : Output) → ActsFirst luns l work.past Idle old new before waiting
     → (l ≡ []) × (new ≡ old) × (waiting ≡ before)

@@ -164,21 +164,8 @@ found_finished (request ∷ others) work old new before waiting after s = (reque
 
 found_none : (l : List ℕ) (work : Work) (old new : SessionState) (before waiting : Output) (units after : TargetUnits) → Starts work old units
     → StepsFirst finish l work false old new before waiting after → (l ≡ []) × Leaves work work new before waiting after
-found_none [] work old new before waiting units after s is = (
-  refl,
-  record {
-    lawful = s.lawful;
-    remembered = is.1 ∙ s.remembered;
-    units = sym is.3;
-    params = refl;
-    more = [];
-    answers = sym (append-nil work.past.answers);
-    spelled = ap (λ (o : Output). o.bytes) is.2 ∙ sym (append-nil before.bytes);
-    functions = [];
-    acted = sym (append-nil work.orders);
-    ordered = ap (λ (o : Output). o.orders) is.2 ∙ sym (append-nil before.orders);
-  },
-)
+found_none [] work old new before waiting units after s is =
+    grind (arith, append-nil work.past.answers, append-nil before.bytes, append-nil work.orders, append-nil before.orders)
 found_none (request ∷ others) work old new before waiting units after s is = absurd (let no = is.0 in cc)
 
 finish_goes_on : (request : ℕ) (work : Work) → work.goes_on ≡ true → (finish request work).goes_on ≡ true

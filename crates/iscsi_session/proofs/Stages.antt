@@ -225,7 +225,7 @@ goes_on_by Dropped differ = refl
 goes_on_by Violating differ = absurd (differ refl)
 
 -- the requests that are due act behind it
-taken_on : (v : Verdict) (frame : Frame) {failed : Option (ℕ → Step)} {goes_on : Bool} {old middle new : SessionState} {before waiting items : Output}
+pub taken_on : (v : Verdict) (frame : Frame) {failed : Option (ℕ → Step)} {goes_on : Bool} {old middle new : SessionState} {before waiting items : Output}
     {units : TargetUnits} → Judges v frame old middle before waiting → v ≢ Violating → ((place : ℕ) → is_failed failed place (Judging place) ≡ false)
     → Runs act_all failed goes_on middle new waiting items units units
     → Runs (λ fails place. taken_in fails place frame) failed goes_on old new before items units units
@@ -234,23 +234,13 @@ taken_on v frame {units = units} judges differ later acts =
     runs_then (λ place fails work told. judged_agrees fails no_failure place frame work (told (Judging place) (same_place place) ∙ later place))
     (rw (goes_on_by v differ) at (judged_runs frame {units = units} judges)) acts
 
-pub taken_ok : {E : Type 0} (luns : List ℕ) (r : Result Bool E) (v : Verdict) (frame : Frame) (old middle new : SessionState) (before waiting items : Output)
+pub taken_fails : (luns : List ℕ) (v : Verdict) (frame : Frame) {old middle new : SessionState} {before waiting items : Output}
     → Judges v frame old middle before waiting → v ≢ Violating
-    → IfOk r (λ goes_on. (units : TargetUnits) → luns ≡ numbers_of units.states → Runs act_all None goes_on middle new waiting items units units)
-    → IfOk r (λ goes_on. (units : TargetUnits) → luns ≡ numbers_of units.states
-    → Runs (λ fails place. taken_in fails place frame) None goes_on old new before items units units)
-taken_ok luns (Ok goes_on) v frame old middle new before waiting items judges differ acts =
-    λ units numbers. taken_on v frame judges differ (λ place. refl) (acts units numbers)
-taken_ok luns (Err fault) v frame old middle new before waiting items judges differ acts = tt
-
-pub taken_err : {T E : Type 0} (luns : List ℕ) (r : Result T E) (v : Verdict) (frame : Frame) (old middle new : SessionState) (before waiting items : Output)
-    → Judges v frame old middle before waiting → v ≢ Violating
-    → OnErr r ((turn : ℕ) × ((units : TargetUnits) → luns ≡ numbers_of units.states
-    → Runs act_all (Some (λ place. Taking place turn)) false middle new waiting items units units))
-    → OnErr r (Stops is_serving (λ failed. (units : TargetUnits) → luns ≡ numbers_of units.states
-    → Runs (λ fails place. taken_in fails place frame) failed false old new before items units units))
-taken_err luns (Ok x) v frame old middle new before waiting items judges differ acts = tt
-taken_err luns (Err fault) v frame old middle new before waiting items judges differ acts = record {
+    → (turn : ℕ) × ((units : TargetUnits) → luns ≡ numbers_of units.states
+    → Runs act_all (Some (λ place. Taking place turn)) false middle new waiting items units units)
+    → Stops is_serving (λ failed. (units : TargetUnits) → luns ≡ numbers_of units.states
+    → Runs (λ fails place. taken_in fails place frame) failed false old new before items units units)
+taken_fails luns v frame judges differ acts = record {
   step = λ place. Taking place acts.0;
   of_frame = λ place. taking_kind.of place acts.0;
   of_kind = λ place. refl;

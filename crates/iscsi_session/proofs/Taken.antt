@@ -35,12 +35,7 @@ moment_kept came x zero = place_kept came x zero
 moment_kept came x (suc k) = omega (arith, moment_kept came x k, place_kept came x (suc k))
 
 moment_same : (came : List Request) (x : Request) (p k : ℕ) → p < length came → eqb (moment (came ++ x ∷ []) k) p ≡ eqb (moment came k) p
-moment_same came x p k lt =
-    let kept = moment_kept came x k in
-    elim (cases_eq (moment came k) p) [
-      | inl same ↦ let now : moment (came ++ x ∷ []) k ≡ p = omega arith in eq-eqb _ _ now ∙ sym (eq-eqb _ _ same)
-      | inr differs ↦ let still : moment (came ++ x ∷ []) k ≢ p = (λ e. differs (omega arith)) in ne_eqb _ _ still ∙ sym (ne_eqb _ _ differs)
-    ]
+moment_same came x p k lt = grind (arith, moment_kept came x k, cases_eq (moment came k) p)
 
 flat_map_cong : (f g : ℕ → List ℕ) (xs : List ℕ) → All (λ k. f k ≡ g k) xs → flat_map f xs ≡ flat_map g xs
 flat_map_cong f g [] same = refl

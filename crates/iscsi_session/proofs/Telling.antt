@@ -159,12 +159,7 @@ module _ (past : Past) (lawful : IsLawful past) where
     finished_told names = filter_cong _ _ names (λ i d lt. ap not (each (get_or names i d)))
       where
         each : (a : ℕ) → is_in a more ≡ is_in a (left (pending past) past.finished ++ k ∷ [])
-        each a =
-            in_left_is a (pending (told k past)) past.finished ∙ ap (λ (b : Bool). is_in a past.finished && not b) (same_pending a)
-            ∙ third_kind _ _ _ (waits_at a) (λ e. ap (λ (n : ℕ). is_in n past.finished) (eqb-true a k e) ∙ pending_finished k waits)
-            ∙ ap (λ (b : Bool). b || (a == k)) (sym (in_left_is a (pending past) past.finished))
-            ∙ ap (λ (b : Bool). is_in a (left (pending past) past.finished) || b) (sym (in_one a k))
-            ∙ sym (is_in_append a (left (pending past) past.finished) (k ∷ []))
+        each a = grind (arith, in_left_is, same_pending, third_kind, waits_at, eqb-true, pending_finished, in_one, is_in_append)
 
     pub functions_told : functions (told k past) ≡ left (k ∷ []) (functions past)
     unfolding functions
@@ -226,8 +221,7 @@ module _ (past : Past) (lawful : IsLawful past) where
         by_bool a b = grind arith
 
         one_more : (a : ℕ) → (not (is_in a past.answered) && not (a == k)) ≡ not (is_in a (past.answered ++ k ∷ []))
-        one_more a = by_bool (is_in a past.answered) (a == k) ∙ ap (λ (b : Bool). not (is_in a past.answered || b)) (sym (in_one a k))
-            ∙ ap not (sym (is_in_append a past.answered (k ∷ [])))
+        one_more a = grind (arith, in_one, is_in_append)
 
         again : filter (λ d. not (d.function == k)) (drains_of past) ≡ drains_of (told k past)
         again = filter_filter (λ d. not (d.function == k)) (λ d. not (is_in d.function past.answered)) past.drains

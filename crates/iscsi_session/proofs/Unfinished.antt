@@ -88,9 +88,7 @@ drained_before past x drained below gone = map_cong _ _ (drains_of past) (drains
     (λ i d lt. each _ (drain_functions_below past drained below i d lt) (drain_commands_below past drained gone i d lt)))
   where
     each : (d : Drain) → d.function < length past.came → d.command < length past.came → drained_of (joined x past) d ≡ drained_of past d
-    each d f c =
-        ap (λ (r : Request). drained_with r.frame.header (transfer_of (joined x past) d.command)) (request_before past.came x d.function f)
-        ∙ ap (drained_with (frame_of past.came d.function).header) (transfer_joined past x d.command c)
+    each d f c = grind (arith, joined, request_before, transfer_joined)
 
 list_joined : (c : Bool) (past : Past) (x : Request) → is_command x.frame ≡ c → Below past past.finished → Below past past.removed
     → All (λ d. d.command < length past.came) past.data_outs → All (λ r. r.command < length past.came) past.r2ts

@@ -8,7 +8,7 @@ ghost use Rattle.iscsi_login.specs.Values.{AreInRange};
 ghost use Rattle.iscsi_session.specs.State.{is_waiting};
 ghost use Rattle.iscsi_session.specs.Comings.{TargetUnits, CameAs};
 ghost use Rattle.iscsi_session.specs.Commands.{carried_out};
-ghost use Rattle.iscsi_session.specs.Steps.{Work, Asking, is_doing, is_serving, ready, finish, ask_due, taken_in, served, settled};
+ghost use Rattle.iscsi_session.specs.Steps.{Work, Asking, is_doing, is_serving, ready, finish, ask_due, served, settled};
 ghost use Rattle.iscsi_session.specs.Weight.{IsAtRest, Eases};
 ghost use Rattle.iscsi_session.specs.Runs.{output, Starts, Runs, Stops, StepsFirst, IsSettled};
 
@@ -74,38 +74,15 @@ impl Session {
         ensures idle { IfOk result (λ goes_on. goes_on ≡ true → self.new.tasks.due ≡ []) }
         ensures params { self.new.params ≡ self.old.params }
     {
-        if !self.take_in(frame, luns, out, orders)? {
+        if let Verdict::Violating = self.take(frame, out)? {
+            return Ok(false);
+        }
+        if !self.act_all(luns, out, orders)? {
             return Ok(false);
         }
         self.ask_due(out)?;
         self.tell_due(out)?;
         Ok(true)
-    }
-
-    /// A frame is judged, and the requests that it lets be taken act. It tells whether the session goes on. Where
-    /// an allocation fails the steps before it were done.
-    fn take_in(
-        &mut self,
-        frame: Frame,
-        luns: &[u8],
-        out: &mut BytesMut,
-        orders: &mut Vec<Header>,
-    ) -> Result<bool, Memory>
-        requires { AreInRange self.old.params.values }
-        ensures ok { IfOk result (λ goes_on. (units : TargetUnits) → luns.now ≡ numbers_of units.states
-            → Runs (λ fails place. taken_in fails place frame) None goes_on self.old self.new
-            (output out.old.items orders.old.items) (output out.new.items orders.new.items) units units) }
-        ensures err { OnErr result (Stops is_serving (λ failed. (units : TargetUnits) → luns.now ≡ numbers_of units.states
-            → Runs (λ fails place. taken_in fails place frame) failed false self.old self.new
-            (output out.old.items orders.old.items) (output out.new.items orders.new.items) units units)) }
-        ensures grows { (more : List ℕ) × (out.new.items ≡ out.old.items ++ more) }
-        ensures idle { IfOk result (λ goes_on. goes_on ≡ true → self.new.tasks.due ≡ []) }
-        ensures params { self.new.params ≡ self.old.params }
-    {
-        if let Verdict::Violating = self.take(frame, out)? {
-            return Ok(false);
-        }
-        self.act_all(luns, out, orders)
     }
 
     /// The R2T that is due is added at the end of the buffer. Where an allocation fails nothing changes.
