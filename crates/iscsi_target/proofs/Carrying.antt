@@ -24,7 +24,7 @@ use Rattle.iscsi_target.proofs.Lists.{range_next}
 use Rattle.iscsi_target.proofs.Lives.{present-lives}
 use Rattle.iscsi_target.proofs.Linked.{serves_world, units_with}
 use Rattle.iscsi_target.proofs.Walks.{on-lose_one, on-carry_out}
-use Rattle.iscsi_target.proofs.Keeping.{Goes, goes, on-reset}
+use Rattle.iscsi_target.proofs.Keeping.{Goes, goes_walk, on-reset}
 use Rattle.iscsi_target.proofs.Comings.{comings_reset}
 use Rattle.iscsi_target.proofs.Doing.{does_nothing, does_as, does_on, does_then}
 use Rattle.iscsi_target.proofs.AtWork.{IsCalled, call_does}
@@ -156,7 +156,7 @@ lost_next header target c d given middle after moves so_far one =
     carried_as (λ w. lose_one header target c (lost_below header target c d w) d) (lost_below header target c (d + 1)) given after
     (λ w. ap (fold (lose_one header target c) w) (range_next d) ∙ fold-append (lose_one header target c) w (range_with_len 0 d) (d ∷ []))
     (carried_then (lost_below header target c d) (λ w. lose_one header target c w d) given middle after
-    (λ w. on-lose_one goes.walk header target c w d tt) moves so_far one)
+    (λ w. on-lose_one (goes_walk []) header target c w d tt) moves so_far one)
 
 -- ---- a reset is told
 
@@ -242,7 +242,7 @@ carried_next c target headers i header given middle after lt is moves so_far one
     (λ w. ap (fold (carry_out c target) w) (take_more headers i header lt
     ∙ ap (λ (h : List ℕ). take i headers ++ h ∷ []) (sym is)) ∙ fold-append (carry_out c target) w (take i headers) (header ∷ []))
     (carried_then (λ w. fold (carry_out c target) w (take i headers)) (λ w. carry_out c target w header) given middle after
-    (λ w. on-carry_out goes.walk c target w header tt) moves so_far one)
+    (λ w. on-carry_out (goes_walk []) c target w header tt) moves so_far one)
 
 pub carried_all : (c target : ℕ) (headers : List (List ℕ)) (i : ℕ) (given after : Machine) → length headers ≤ i
     → CarriesOut (λ w. fold (carry_out c target) w (take i headers)) given after → CarriesOut (λ w. fold (carry_out c target) w headers) given after

@@ -229,7 +229,7 @@ comes s sent w machine first now comings c piece starved f takes ahead =
     brings s marks comings c piece w life there.1 short ∙ ap (λ (b : List ℕ). take_step marks c AtEnd (λ u. u)
     (fold (arrive s marks c) v0 (enumerate_from n (arrivals b)))) (sym new_half) ∙ e.is in
     let all = enumerate_from n (arrivals (link_at first c).half) in
-    let followed = on-then v0 v e.last (on-arrivals goes s marks c v0 all (any_arrivals c all)) e.goes in
+    let followed = on-then v0 v e.last (on-arrivals (goes s marks c) v0 all (any_arrivals c all)) e.goes in
     let behind : rest (life.bytes ++ piece) ≡ left_ = rest_in_pieces life.bytes piece ∙ ap rest (sym new_half) in
     record {
       marks = marks;

@@ -25,7 +25,7 @@ use Rattle.iscsi_target.proofs.Working.{at_work, left_by}
 use Rattle.iscsi_session.proofs.Came.{ahead_of}
 use Rattle.iscsi_target.proofs.Comings.{comings_close, comings_log_in}
 use Rattle.iscsi_target.proofs.Walks.{on-settle_one, on-settle_for, on-carry_out_for}
-use Rattle.iscsi_target.proofs.Keeping.{goes, on-then, on-close}
+use Rattle.iscsi_target.proofs.Keeping.{goes_walk, on-then, on-close}
 use Rattle.iscsi_target.proofs.Doing.{still_reached, does_nothing, does_as, does_from, does_then}
 use Rattle.iscsi_target.proofs.AtWork.{IsCalled, CallDoes, last_there, marks_of, starved_if, call_does, own_past, served_orders, serve_acts, serve_agrees}
 
@@ -186,7 +186,7 @@ pub finishes : (c : ℕ) (target : Option ℕ) (orders : List (List ℕ)) (starv
 finishes c target orders starved middle carried after back carries settles =
     does_then is_of_none is_done_at is_done_at (λ s marks place w. carry_out_for c target orders w) (λ s marks place w. settle_for marks place target w)
     kept kept None starved middle carried after (λ place mark e. absurd cc) (λ place mark e. refl) (λ place mark e. absurd cc) (λ place mark e. e) back
-    (λ s marks place w. on-settle_for goes.walk marks place target w (λ t e. tt)) carries settles
+    (λ s marks place w. on-settle_for (goes_walk marks) place target w (λ t e. tt)) carries settles
 
 -- its session served the frame
 pub takes_served : (failed : Option (ℕ → Step)) (goes_on : Bool) (orders : List (List ℕ)) (c : ℕ) (target : Option ℕ) (frame : Frame)
@@ -203,7 +203,7 @@ takes_served failed goes_on orders c target frame given middle ended after starv
     let both = does_then is_taken_at is_done_at is_step_at (λ s marks place w. take_in marks c place frame w)
     (λ s marks place w. settle_for marks place target (carry_out_for c target orders w)) kept kept (starved_if failed c) starved given ended after
     taken_done done_taken taken_step done_step back (λ s marks place w. on-then w (carry_out_for c target orders w) _
-    (on-carry_out_for goes.walk c target orders w (λ t e. tt)) (on-settle_for goes.walk marks place target (carry_out_for c target orders w) (λ t e. tt)))
+    (on-carry_out_for (goes_walk []) c target orders w (λ t e. tt)) (on-settle_for (goes_walk marks) place target (carry_out_for c target orders w) (λ t e. tt)))
     first second in
     does_from both (λ place. all_wider (is_step_at place) (is_of_frame place) (both.failed place) (step_within place) (both.of_kind place))
     (λ s sent half w place marks agree ahead h.
@@ -280,7 +280,7 @@ settled_next target c a b given middle after back so_far one =
     (does_then (is_done_below c) (is_done_by c) (is_done_below (c + 1))
     (λ s marks place w. fold (settle_one marks place target) w (range_with_len 0 c)) (λ s marks place w. settle_one marks place target w c)
     kept kept a b given middle after (below_here c) (here_below c) (below_more c) (here_more c) back
-    (λ s marks place w. on-settle_one goes.walk marks place target w c tt) so_far one)
+    (λ s marks place w. on-settle_one (goes_walk marks) place target w c tt) so_far one)
 
 pub all_settled : (target : ℕ) (starved : Option ℕ) (given after : Machine) → SettledBelow target connection_limit starved given after
     → Settles target starved given after

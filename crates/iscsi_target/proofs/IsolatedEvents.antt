@@ -16,7 +16,8 @@ use Rattle.iscsi_target.specs.Isolation.{named_in}
 use Rattle.iscsi_target.proofs.Lives.{some_is, present-changed, present_is}
 use Rattle.iscsi_target.proofs.IsolatedLives.{AllFrom, Selection, HasTarget, Fits, on_it, number_of, found_fits, all_both}
 use Rattle.iscsi_target.proofs.IsolatedLogin.{target_of, named_asked, full_target, reply_alike}
-use Rattle.iscsi_target.proofs.Walks.{LogsIn, any_arrivals, on-arrivals}
+use Rattle.iscsi_target.specs.Laws.{LogsIn}
+use Rattle.iscsi_target.proofs.Walks.{any_arrivals, logs_there, on-arrivals}
 use Rattle.iscsi_target.proofs.Keeping.{goes, on-replied, asked_logs}
 use Rattle.iscsi_target.proofs.IsolatedAsking.{Named, AreNamed, named_before, adds-goes}
 use Rattle.iscsi_target.proofs.IsolatedWorlds.{Agree, present_in, session_target, named_same}
@@ -99,9 +100,6 @@ other_log_in g s c request w v life at logs on named agree =
     out_log_in g s c request w v on (full_own g false s c w life request at other) agree
 
 -- ---- one arrival
-
-logs_there : (c : ℕ) (w : World) (life : Life) → present c w ≡ Some life → life.phase ≡ LoggingIn → LogsIn c w
-logs_there c w life at e = λ other there. ap (λ (l : Life). l.phase) (some_is other life (sym there ∙ at)) ∙ e
 
 in_enter : (b : Bool) (g : Selection) (s : Setting) (c : ℕ) (frame : Frame) (w v : World) (life : Life) → present c w ≡ Some life → LogsIn c w
     → g.keeps_on c ≡ true
@@ -226,7 +224,7 @@ out_arrive g s c w v arrival on named agree = out_step g s.directory c (Arriving
 named_at_first : (g : Selection) (s : Setting) (c : ℕ) (w : World) (all : List (ℕ × Arrival)) → AreNamed g s.directory (fold (arrive s [] c) w all)
     → AreNamed g s.directory w
 named_at_first g s c w all named = named_before g s.directory w (fold (arrive s [] c) w all)
-    (adds-goes w _ (on-arrivals goes s [] c w all (any_arrivals c all))) named
+    (adds-goes w _ (on-arrivals (goes s [] c) w all (any_arrivals c all))) named
 
 in_arrivals : (g : Selection) (s : Setting) (c : ℕ) (w v : World) (all : List (ℕ × Arrival)) → g.keeps_on c ≡ true
     → AreNamed g s.directory (fold (arrive s [] c) w all) → Agree g w v → Agree g (fold (arrive s [] c) w all) (fold (arrive s [] c) v all)

@@ -16,7 +16,7 @@ use Rattle.iscsi_session.specs.Steps.{Work, served, settled}
 use Rattle.iscsi_session.proofs.Steps.{served_extends, settled_extends}
 use Rattle.iscsi_target.specs.History.{Mark}
 use Rattle.iscsi_target.specs.Life.{Life, Closing, ended_in}
-use Rattle.iscsi_target.specs.World.{Setting, World, present, changed, session_of, past_of, live, changed_units, left, close, answered, asked, begun, begins, requests_of, lookup_for, end_older, replied, log_in, work_of, with_past, worked_on, worked, losing, reset, serve}
+use Rattle.iscsi_target.specs.World.{Setting, World, present, changed, session_of, past_of, live, changed_units, left, close, answered, asked, begun, begins, requests_of, lookup_for, end_older, replied, log_in, fails, work_of, with_past, worked_on, worked, losing, reset, serve}
 use Rattle.iscsi_target.proofs.Walks.{Walk, on-serve}
 use Rattle.iscsi_target.proofs.IsolatedLives.{Selection, HasTarget, changed_out}
 use Rattle.iscsi_target.proofs.IsolatedWorlds.{UnitsAgree, with_other, Agree, agree_with, session_target, past_target, session_of_past, older_on, one_target}
@@ -119,16 +119,16 @@ unfolding reset changed_units
 out_reset g header target w v other agree =
     agree_with g _ _ _ _ agree refl refl (with_other g (Some target) _ w.units v.units other agree.units) agree.calm agree.silent
 
-out : (g : Selection) (v : World)
-    → Walk (λ w u. Agree g w v → Agree g u v) (λ c frame. g.keeps_on c ≡ false) (λ target. HasTarget g false (Some target))
-out g v = record {
+out : (g : Selection) (marks : List Mark) (v : World)
+    → Walk marks (λ w u. Agree g w v → Agree g u v) (λ c frame. g.keeps_on c ≡ false) (λ target. HasTarget g false (Some target))
+out g marks v = record {
   same = λ w agree. agree;
   then_ = λ w x u first second agree. second (first agree);
-  serves = λ c past frame fails place w at on agree. out_worked g c past (served fails place frame (work_of past w)) w v on at
-      (served_extends fails place frame (work_of past w)).params (calm_served g.target fails place frame (work_of past w) agree.calm) agree;
-  settles = λ c target past fails place w at same other agree. out_worked g c past (settled fails place (work_of past w)) w v
-      (not_kept g c target past w v at same other agree) at (settled_extends fails place (work_of past w)).params
-      (calm_settled g.target fails place (work_of past w) agree.calm) agree;
+  serves = λ c past frame place w at on agree. out_worked g c past (served (fails marks c) place frame (work_of past w)) w v on at
+      (served_extends (fails marks c) place frame (work_of past w)).params (calm_served g.target (fails marks c) place frame (work_of past w) agree.calm) agree;
+  settles = λ c target past place w at same other agree. out_worked g c past (settled (fails marks c) place (work_of past w)) w v
+      (not_kept g c target past w v at same other agree) at (settled_extends (fails marks c) place (work_of past w)).params
+      (calm_settled g.target (fails marks c) place (work_of past w) agree.calm) agree;
   loses = λ d target past header w at same other agree. out_worked_on g d past (losing header (work_of past w)) w v
       (not_kept g d target past w v at same other agree) at refl agree.calm agree;
   resets = λ header target w other agree. out_reset g header target w v other agree;
@@ -137,4 +137,4 @@ out g v = record {
 pub out_serve : (g : Selection) (marks : List Mark) (c place : ℕ) (o : Option ℕ) (frame : Frame) (w v : World) → g.keeps_on c ≡ false → HasTarget g false o
     → Agree g w v → Agree g (serve marks c place o frame w) v
 out_serve g marks c place o frame w v on other agree =
-    on-serve (out g v) marks c place o frame w on (λ target e. subst (HasTarget g false) e other) agree
+    on-serve (out g marks v) c place o frame w on (λ target e. subst (HasTarget g false) e other) agree

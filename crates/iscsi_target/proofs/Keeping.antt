@@ -16,13 +16,13 @@ use Rattle.iscsi_session.specs.Requests.{Past}
 use Rattle.iscsi_session.specs.Steps.{Work, served, settled}
 use Rattle.iscsi_session.proofs.Steps.{Extends, served_extends, settled_extends}
 use Rattle.iscsi_target.specs.History.{Mark, Point, Bytes, marked, History, Happening}
-use Rattle.iscsi_target.specs.Life.{Life, Phase, LoggingIn, FullFeature, Closing, Over, is_over, reads, past_in, session_answers, out_of, ended_in}
-use Rattle.iscsi_target.specs.World.{Setting, World, is_present, present, changed, past_of, live, close, reaching, answered, asked, begun, begins, requests_of, lookup_for, end_older, replied, log_in, work_of, with_past, worked_on, worked, brought, longer, bring, begun_event, happened, new_world, world, losing, reset}
+use Rattle.iscsi_target.specs.Life.{Life, Phase, LoggingIn, FullFeature, Closing, Over, logs_in, is_over, reads, past_in, session_answers, out_of, ended_in}
+use Rattle.iscsi_target.specs.World.{Setting, World, is_present, present, changed, past_of, live, close, reaching, answered, asked, begun, begins, requests_of, lookup_for, end_older, replied, log_in, work_of, fails, with_past, worked_on, worked, brought, longer, bring, begun_event, happened, new_world, world, losing, reset}
 use Rattle.iscsi_target.specs.Runs.{RowState, open_row, row_of}
-use Rattle.iscsi_target.specs.Laws.{GoesOn, LivesGoOn, AnswersStay}
+use Rattle.iscsi_target.specs.Laws.{GoesOn, LivesGoOn, AnswersStay, LogsIn}
 use Rattle.iscsi_target.proofs.Working.{answers_grow}
 use Rattle.iscsi_target.proofs.Following.{Asks, asks_same, LivesFollow, Continues, is_open_here, lives_same, lives_then, lives_go, lives_changed}
-use Rattle.iscsi_target.proofs.Walks.{EventWalk, LogsIn, IsAnyFrame, any_arrivals, on-brought}
+use Rattle.iscsi_target.proofs.Walks.{Walk, EventWalk, IsAny, IsAnyFrame, any_arrivals, logs_there, on-serve, on-brought}
 use Rattle.iscsi_target.proofs.Choices.{cond_false, and_true}
 use Rattle.iscsi_target.proofs.Lives.{some_is, present-changed, present-changed_other, present-lives, present_is, changed_none}
 use Rattle.iscsi_target.proofs.Linked.{out-ended, out-more, present-reaching}
@@ -50,29 +50,38 @@ rows_in w = map row_of w.lives
 
 -- ---- the World
 
+-- behind a login a life makes no more Login requests
+abbrev pub IsPastLogin : Life → Life → Type 0
+IsPastLogin x y = logs_in x.phase ≡ false → (logs_in y.phase ≡ false) × (y.requests ≡ x.requests)
+
 -- a present life has the same bytes, and is read only where it was
 abbrev pub Stays : Option Life → Option Life → Type 0
 Stays None None = ⊤
 Stays None (Some y) = ⊥
 Stays (Some x) None = ⊥
-Stays (Some x) (Some y) = (y.bytes ≡ x.bytes) × (reads y.phase ≡ true → reads x.phase ≡ true)
+Stays (Some x) (Some y) = (y.bytes ≡ x.bytes) × (reads y.phase ≡ true → reads x.phase ≡ true) × IsPastLogin x y
 
 stays_same : (o : Option Life) → Stays o o
 stays_same None = tt
-stays_same (Some x) = (refl, λ e. e)
+stays_same (Some x) = (refl, λ e. e, λ past. (past, refl))
 
 stays_then : (a b c : Option Life) → Stays a b → Stays b c → Stays a c
 stays_then None None c g h = h
 stays_then None (Some y) c g h = absurd g
 stays_then (Some x) None c g h = absurd g
 stays_then (Some x) (Some y) None g h = absurd h
-stays_then (Some x) (Some y) (Some z) g h = (h.0 ∙ g.0, λ e. g.1 (h.1 e))
+stays_then (Some x) (Some y) (Some z) g h = (
+  h.0 ∙ g.0,
+  λ e. g.1 (h.1 e),
+  λ past. (let first = g.2 past in let second = h.2 first.0 in (second.0, second.1 ∙ first.1)),
+)
 
 -- f of a life keeps its bytes besides
 record Keeps (f : Life → Life) (x : Life) : Type 0 where
   goes : Continues f x
   bytes : (f x).bytes ≡ x.bytes
   reads_so : reads (f x).phase ≡ true → reads x.phase ≡ true
+  past_login : IsPastLogin x (f x)
 
 -- each life goes on, and what was reached stays so
 pub record Goes (w v : World) : Type 0 where
@@ -99,7 +108,7 @@ changed_stays f c w (Some x) at each =
     let on = and_true (eqb x.connection c) (not (is_over x.phase)) (present_is c w x at) in
     let here : is_present c (f x) ≡ true = ap (λ (n : ℕ). eqb n c && not (is_over (f x).phase)) k.goes.connection
     ∙ ap (λ (b : Bool). b && not (is_over (f x).phase)) on.0 ∙ ap not k.goes.is_open in
-    subst (λ (o : Option Life). Stays (Some x) o) (sym (present-changed f c w x at here)) (k.bytes, k.reads_so)
+    subst (λ (o : Option Life). Stays (Some x) o) (sym (present-changed f c w x at here)) (k.bytes, k.reads_so, k.past_login)
 
 other_stays : (f : Life → Life) (c d : ℕ) (w : World) → ((life : Life) → (f life).connection ≡ life.connection) → d ≢ c
     → Stays (present d w) (present d (changed f c w))
@@ -147,6 +156,7 @@ ended_keeps life = record {
       (out-ended life Closing refl);
   bytes = refl;
   reads_so = λ e. absurd cc;
+  past_login = λ past. (refl, refl);
 }
 
 -- ---- the steps
@@ -185,7 +195,7 @@ logs_in_is phase e = rw e (refl, refl)
 
 on-answered : (answer : Answer) (c : ℕ) (w : World) → LogsIn c w → Goes w (changed (answered answer) c w)
 on-answered answer c w logs = on-changed (answered answer) c w (λ life. refl) (λ life at.
-    (let is = logs_in_is life.phase (logs life at) in record { goes = answered_continues answer life is.0 is.1; bytes = refl; reads_so = λ e. e }))
+    (let is = logs_in_is life.phase (logs life at) in record { goes = answered_continues answer life is.0 is.1; bytes = refl; reads_so = λ e. e; past_login = λ past. (past, refl) }))
 
 begun_continues : (session : Params) (answer : Answer) (life : Life) → life.phase ≡ LoggingIn → Continues (begun session answer) life
 begun_continues session answer life e = record {
@@ -201,14 +211,14 @@ begun_continues session answer life e = record {
 }
 
 begun_keeps : (session : Params) (answer : Answer) (life : Life) → life.phase ≡ LoggingIn → Keeps (begun session answer) life
-begun_keeps session answer life e = record { goes = begun_continues session answer life e; bytes = refl; reads_so = λ r. ap reads e }
+begun_keeps session answer life e = record { goes = begun_continues session answer life e; bytes = refl; reads_so = λ r. ap reads e; past_login = λ past. (refl, refl) }
 
 on-begins : (session : Params) (answer : Answer) (c : ℕ) (w : World) → LogsIn c w → Goes w (begins session answer c w)
 on-begins session answer c w logs =
     with_lives w (changed (begun session answer) c w) (begins session answer c w)
     (on-changed (begun session answer) c w (λ life. refl) (λ life at. begun_keeps session answer life (logs life at))) refl [] (sym (append-nil _))
 
-on-end_older : (o : Option ℕ) (w : World) → Goes w (end_older o w)
+pub on-end_older : (o : Option ℕ) (w : World) → Goes w (end_older o w)
 on-end_older None w = on-same w
 on-end_older (Some d) w = on-changed (ended_in Closing) d w (λ life. refl) (λ life at. ended_keeps life)
 
@@ -244,6 +254,7 @@ on-log_in s c request w logs =
           (logs_in_is life.phase (logs life at)).0 (out-asked life request);
       bytes = refl;
       reads_so = λ e. e;
+      past_login = λ past. absurd (cc (past, ap logs_in (logs life at)));
     }))
     (on-replied (login (c + 1) (requests_of (present c w)) (lookup_for s.directory (live w) request) request) c v (asked_logs c request w logs))
 
@@ -275,6 +286,7 @@ past_keeps c w past then_ life more there at grow = record {
   goes = past_continues c w past then_ life more there at grow;
   bytes = refl;
   reads_so = λ e. ap reads (past_phase life life.phase past refl (sym (ap past_of there) ∙ at));
+  past_login = λ past. (refl, refl);
 }
 
 -- the steps were done on the session of the connection
@@ -298,30 +310,35 @@ on-reset header target w = with_lives w w (reset header target w) (on-same w) re
 
 -- ---- all that a piece of bytes sets off
 
-pub goes : EventWalk Goes IsAnyFrame
-goes = record {
-  walk = record {
-    same = on-same;
-    then_ = on-then;
-    serves = λ c past frame fails place w at known.
-        (let e : Extends (work_of past w) (served fails place frame (work_of past w)) = served_extends fails place frame (work_of past w) in
-        on-worked c past (served fails place frame (work_of past w)) w at e.more e.answers);
-    settles = λ c target past fails place w at same own.
-        (let e : Extends (work_of past w) (settled fails place (work_of past w)) = settled_extends fails place (work_of past w) in
-        on-worked c past (settled fails place (work_of past w)) w at e.more e.answers);
-    loses = λ d target past header w at same own. on-worked_on d past (losing header (work_of past w)) w at [] (sym (append-nil past.answers));
-    resets = λ header target w own. on-reset header target w;
-  };
-  closes = on-close;
-  reaches = on-reaching;
-  logs_in = on-log_in;
+pub goes_walk : (marks : List Mark) → Walk marks Goes IsAnyFrame IsAny
+goes_walk marks = record {
+  same = on-same;
+  then_ = on-then;
+  serves = λ c past frame place w at known.
+      (let e : Extends (work_of past w) (served (fails marks c) place frame (work_of past w)) = served_extends (fails marks c) place frame (work_of past w) in
+      on-worked c past (served (fails marks c) place frame (work_of past w)) w at e.more e.answers);
+  settles = λ c target past place w at same own.
+      (let e : Extends (work_of past w) (settled (fails marks c) place (work_of past w)) = settled_extends (fails marks c) place (work_of past w) in
+      on-worked c past (settled (fails marks c) place (work_of past w)) w at e.more e.answers);
+  loses = λ d target past header w at same own. on-worked_on d past (losing header (work_of past w)) w at [] (sym (append-nil past.answers));
+  resets = λ header target w own. on-reset header target w;
+}
+
+pub goes : (s : Setting) (marks : List Mark) (c : ℕ) → EventWalk s marks c Goes IsAnyFrame
+goes s marks c = record {
+  same = on-same;
+  then_ = on-then;
+  closes = on-close c;
+  reaches = on-reaching c;
+  logs_in = λ request life w at is. on-log_in s c request w (logs_there c w life at is);
+  serves = λ place frame life session w at is known. on-serve (goes_walk marks) c place session.params.target frame w known (λ target own. tt);
 }
 
 pub on-bring : (s : Setting) (marks : List Mark) (c : ℕ) (piece : List ℕ) (w : World) → LivesFollow w.lives (bring s marks c piece w).lives
 unfolding bring
 on-bring s marks c piece w =
     let v = changed (longer piece) c w in
-    let behind = on-brought goes s marks c v (brought (present c w) piece) (any_arrivals c (brought (present c w) piece)) in
+    let behind = on-brought (goes s marks c) v (brought (present c w) piece) (any_arrivals c (brought (present c w) piece)) in
     lives_then w.lives v.lives (bring s marks c piece w).lives (lives_of (longer piece) c w
     (λ life at. silent (longer piece) life (asks_same life (longer piece life) refl refl) (open_life c w life at) (out-longer life piece))) behind.lives
 

@@ -18,11 +18,11 @@ use Rattle.iscsi_session.proofs.Removing.{lawful_removing}
 use Rattle.iscsi_session.proofs.Lawful.{taken_once, finished_as_taken, steps_are_lawful}
 use Rattle.iscsi_target.specs.History.{Event, Open, Bytes, Gone, Mark, Arrival, Whole, arrivals, new_arrivals, History, marked}
 use Rattle.iscsi_target.specs.Life.{Life, Phase, LoggingIn, FullFeature, Closing, Over, born, past_in, ended_in}
-use Rattle.iscsi_target.specs.World.{Setting, World, is_present, present, changed_first, changed, past_of, live, close, over, end, answered, asked, begun, begins, requests_of, lookup_for, end_older, replied, log_in, work_of, with_past, worked_on, worked, brought, longer, bring, happen, begun_event, happened, new_world, world, reach_from, losing, reset}
+use Rattle.iscsi_target.specs.World.{Setting, World, is_present, present, changed_first, changed, past_of, live, close, over, end, answered, asked, begun, begins, requests_of, lookup_for, end_older, replied, log_in, work_of, fails, with_past, worked_on, worked, brought, longer, bring, happen, begun_event, happened, new_world, world, reach_from, losing, reset}
 use Rattle.iscsi_target.specs.Stands.{IsQuietIn}
 use Rattle.iscsi_target.specs.Laws.{HasBytes, FinishesAsTaken, SessionsFinishAsTaken, OthersStay}
 use Rattle.iscsi_target.proofs.Arrivals.{long_end}
-use Rattle.iscsi_target.proofs.Walks.{EventWalk, KnownArrival, on-brought}
+use Rattle.iscsi_target.proofs.Walks.{Walk, EventWalk, IsAny, KnownArrival, on-serve, on-brought}
 use Rattle.iscsi_target.proofs.Choices.{cond_true, cond_false}
 use Rattle.iscsi_target.proofs.Keeping.{world-push}
 use Rattle.iscsi_target.proofs.Linked.{present-close_other}
@@ -203,22 +203,27 @@ fit-reset header target w a = a
 past_lawful : (c : ℕ) (w : World) (past : Past) → AreFit w → past_of (present c w) ≡ Some past → IsLawful past
 past_lawful c w past a at = lawful_of (present c w) c w past refl a at
 
-fit : EventWalk (λ w v. AreFit w → AreFit v) (λ c frame. Fits frame)
-fit = record {
-  walk = record {
-    same = λ w a. a;
-    then_ = λ w v u first second a. second (first a);
-    serves = λ c past frame fails place w at fits a. fit-worked c (served fails place frame (work_of past w)) w
-        (steps_are_lawful.served fails place frame (work_of past w) fits (past_lawful c w past a at)) a;
-    settles = λ c target past fails place w at same own a. fit-worked c (settled fails place (work_of past w)) w
-        (steps_are_lawful.settled fails place (work_of past w) (past_lawful c w past a at)) a;
-    loses = λ d target past header w at same own a. fit-changed (with_past (losing header (work_of past w)).past) d w
-        (λ life is. (is.0, lost_lawful header (work_of past w) (past_lawful d w past a at))) a;
-    resets = λ header target w own a. fit-reset header target w a;
-  };
-  closes = fit-close;
-  reaches = λ c points w a. a;
-  logs_in = λ s c request w logs a. fit-log_in s c request w a;
+fit_walk : (marks : List Mark) → Walk marks (λ w v. AreFit w → AreFit v) (λ c frame. Fits frame) IsAny
+fit_walk marks = record {
+  same = λ w a. a;
+  then_ = λ w v u first second a. second (first a);
+  serves = λ c past frame place w at fits a. fit-worked c (served (fails marks c) place frame (work_of past w)) w
+      (steps_are_lawful.served (fails marks c) place frame (work_of past w) fits (past_lawful c w past a at)) a;
+  settles = λ c target past place w at same own a. fit-worked c (settled (fails marks c) place (work_of past w)) w
+      (steps_are_lawful.settled (fails marks c) place (work_of past w) (past_lawful c w past a at)) a;
+  loses = λ d target past header w at same own a. fit-changed (with_past (losing header (work_of past w)).past) d w
+      (λ life is. (is.0, lost_lawful header (work_of past w) (past_lawful d w past a at))) a;
+  resets = λ header target w own a. fit-reset header target w a;
+}
+
+fit : (s : Setting) (marks : List Mark) (c : ℕ) → EventWalk s marks c (λ w v. AreFit w → AreFit v) (λ c frame. Fits frame)
+fit s marks c = record {
+  same = λ w a. a;
+  then_ = λ w v u first second a. second (first a);
+  closes = fit-close c;
+  reaches = λ points w a. a;
+  logs_in = λ request life w at is a. fit-log_in s c request w a;
+  serves = λ place frame life session w at is fits a. on-serve (fit_walk marks) c place session.params.target frame w fits (λ target own. tt) a;
 }
 
 brought_framed : (o : Option Life) (c : ℕ) (w : World) (piece : List ℕ) → present c w ≡ o → AreFit w → AreBytes piece
@@ -231,7 +236,7 @@ unfolding bring
 fit-bring s marks c piece w bytes a =
     let longer_ : AreFit (changed (longer piece) c w) = fit-changed (longer piece) c w (λ life fit. (all_append _ life.bytes piece fit.0 bytes, fit.1)) a in
     let all = brought (present c w) piece in
-    on-brought fit s marks c (changed (longer piece) c w) all (brought_framed (present c w) c w piece refl a bytes) longer_
+    on-brought (fit s marks c) (changed (longer piece) c w) all (brought_framed (present c w) c w piece refl a bytes) longer_
 
 over_by : (b : Bool) (c : ℕ) (x : Life) → is_present c x ≡ b → IsFit x → IsFit (over c x)
 over_by true c x e fit = subst IsFit (sym (cond_true (is_present c x) (ended_in Over x) x e)) (fit.0, tt)

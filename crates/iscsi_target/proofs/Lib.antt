@@ -11,6 +11,7 @@ pub mod Walks
 mod Following
 pub mod Keeping
 mod Lawful
+mod Sparing
 mod IsolatedLives
 mod IsolatedLogin
 mod IsolatedNames

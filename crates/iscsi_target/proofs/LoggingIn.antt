@@ -121,7 +121,7 @@ present_begun_other w c d request answer session differ =
     present-lives d (begins session answer c u) (changed (begun session answer) c u) refl
     ∙ present-changed_other (begun session answer) c d u (λ l. refl) differ ∙ asked_other w c d request differ
 
-map_sessions : (w v : World) (cs : List ℕ) → ((d : ℕ) → session_of (present d v) ≡ session_of (present d w))
+pub map_sessions : (w v : World) (cs : List ℕ) → ((d : ℕ) → session_of (present d v) ≡ session_of (present d w))
     → map (λ c. session_of (present c v)) cs ≡ map (λ c. session_of (present c w)) cs
 map_sessions w v [] same = refl
 map_sessions w v (c ∷ cs) same = cc (same c, map_sessions w v cs same)

@@ -385,7 +385,7 @@ takes_more c a b first machine new done more so_far one =
     (λ s marks place w. fold (arrive s marks c) w (enumerate_from place done)) (λ s marks place w. arrive s marks c w (place + n, one.arrival))
     (with_half c more) (with_half c one.more) a b first machine new (among_here n) (here_among n)
     (λ place. among_more n (n + 1) place (omega arith)) (here_more n) one.leaves.back
-    (λ s marks place w. on-arrive goes s marks c w (place + n, one.arrival) (any_arrival c (place + n, one.arrival))) so_far second in
+    (λ s marks place w. on-arrive (goes s marks c) w (place + n, one.arrival) (any_arrival c (place + n, one.arrival))) so_far second in
     let P : ℕ → Type 0 = λ k. Does (is_among k) (λ s marks place w. fold (arrive s marks c) w (enumerate_from place (done ++ one.arrival ∷ [])))
     (with_half c one.more) (first_of a b) first new in
     subst P (sym count) (does_from both both.of_kind (λ s sent half w place marks agree ahead h.

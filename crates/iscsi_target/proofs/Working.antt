@@ -53,13 +53,13 @@ past_at w c past a = ap past_of a.at ∙ ap past_in a.phase
 
 -- ---- what the steps leave
 
-present_worked : (w : World) (c : ℕ) (past : Past) (work : Work) → (a : IsAtWork w c past) → present c (worked_on c work w) ≡ Some (with_past work.past a.life)
+pub present_worked : (w : World) (c : ℕ) (past : Past) (work : Work) → (a : IsAtWork w c past) → present c (worked_on c work w) ≡ Some (with_past work.past a.life)
 present_worked w c past work a =
     present-lives c (worked_on c work w) (changed (with_past work.past) c w) refl
     ∙ present-changed (with_past work.past) c w a.life a.at (let on = and_true (eqb a.life.connection c) (not (is_over a.life.phase))
     (present_is c w a.life a.at) in rw on.0 refl)
 
-present_worked_other : (w : World) (c d : ℕ) (work : Work) → d ≢ c → present d (worked_on c work w) ≡ present d w
+pub present_worked_other : (w : World) (c d : ℕ) (work : Work) → d ≢ c → present d (worked_on c work w) ≡ present d w
 present_worked_other w c d work differ =
     present-lives d (worked_on c work w) (changed (with_past work.past) c w) refl ∙ present-changed_other (with_past work.past) c d w (λ life. refl) differ
 

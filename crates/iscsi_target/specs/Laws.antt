@@ -1,12 +1,19 @@
 -- What holds of the World, whatever its past.
-use Rattle.std.specs.Prelude.{◌≡◌, ◌≢◌, ℕ, ◌<◌, List, [], ◌∷◌, ◌++◌, true, Option, Some, None, ⊤}
-use Rattle.std.specs.List.{AllByRecursion}
+use Rattle.std.specs.Prelude.{◌≡◌, ◌≢◌, ◌⊎◌, ℕ, ◌+◌, ◌<◌, List, [], ◌∷◌, ◌++◌, Bool, true, false, not, ◌==◌, Option, Some, None, ⊤}
+use Rattle.std.specs.List.{AllByRecursion, list_all}
+use Rattle.iscsi_pdu.specs.Frames.{Frame}
+use Rattle.iscsi_pdu.specs.declared.login_response.LoginResponse.{LoginResponse}
+use Rattle.iscsi_login.specs.Session.{older}
+use Rattle.iscsi_login.specs.Login.{login}
+use Rattle.iscsi_login.specs.declared.params.Params.{Params}
+use Rattle.iscsi_login.specs.declared.reply.Reply.TheVariants.{Full}
+use Rattle.iscsi_session.specs.Comings.{Coming}
 use Rattle.iscsi_session.specs.Requests.{Past, taken}
 use Rattle.iscsi_session.specs.State.{AreDistinct}
 use Rattle.iscsi_session.specs.Laws.{FinishedInOrder}
-use Rattle.iscsi_target.specs.History.{Event, Open, Bytes, Gone, Mark, History, marked}
-use Rattle.iscsi_target.specs.Life.{Life, is_over, out_of}
-use Rattle.iscsi_target.specs.World.{Setting, World, present, past_of, close, world}
+use Rattle.iscsi_target.specs.History.{Event, Open, Bytes, Gone, Mark, History, happening, marked}
+use Rattle.iscsi_target.specs.Life.{Life, LoggingIn, is_over, out_of}
+use Rattle.iscsi_target.specs.World.{Setting, World, present, past_of, reads_life, live, requests_of, lookup_for, close, world}
 use Rattle.iscsi_target.specs.Machine.{Machine, IsSound, IsSure}
 
 -- a life before and after bytes came, on any connection: it was answered more, unless it was over
@@ -55,3 +62,33 @@ SessionsFinishAsTaken = (s : Setting) (h : History) (c : ℕ) → AllByRecursion
 pub record OthersStay : Type 0 where
   pub closed : (c d : ℕ) (w : World) → d ≢ c → present d (close c w) ≡ present d w
   pub gone : (s : Setting) (h : History) (marks : List Mark) (c d : ℕ) → d ≢ c → present d (world s (h ++ marked marks (Gone c) ∷ [])) ≡ present d (world s h)
+
+-- ---- the end of another session
+
+-- the connection logs in
+abbrev pub LogsIn : ℕ → World → Type 0
+LogsIn c w = (life : Life) → present c w ≡ Some life → life.phase ≡ LoggingIn
+
+-- In an event connection c logs in: its last Login request begins a session, for which the older one of the same nexus with the same
+-- target, that of connection d, ends (RFC 7143 §6.3.5).
+pub record Reinstates (s : Setting) (c d : ℕ) (before after : World) : Type 0 where
+  pub logs_in : LogsIn c before
+  pub earlier : List Frame
+  pub request : Frame
+  pub response : LoginResponse
+  pub session : Params
+  pub requests : requests_of (present c after) ≡ earlier ++ request ∷ []
+  pub begins : login (c + 1) earlier (lookup_for s.directory (live before) request) request ≡ Full response session
+  pub older : older session (live before) ≡ Some d
+
+-- none of the marks is of this connection
+abbrev pub are_elsewhere : ℕ → List Mark → Bool
+are_elsewhere d marks = list_all (λ mark. not (mark.connection == d)) marks
+
+-- Bytes end no session but that of their own connection: whatever they are, and whatever is done in their event, each other connection
+-- that was read goes on being read, but where an allocation failed for it, or its session is reinstated.
+abbrev pub OthersGoOn : Type 0
+OthersGoOn = (s : Setting) (h : History) (marks : List Mark) (comings : List Coming) (c d : ℕ) (piece : List ℕ) → d ≢ c
+    → are_elsewhere d marks ≡ true → reads_life (present d (world s h)) ≡ true
+    → let after = world s (h ++ happening marks comings (Bytes c piece) ∷ []) in
+    (reads_life (present d after) ≡ true) ⊎ Reinstates s c d (world s h) after

@@ -37,6 +37,13 @@ reads (FullFeature session) = true
 reads Closing = false
 reads Over = false
 
+-- no session has begun
+abbrev pub logs_in : Phase → Bool
+logs_in LoggingIn = true
+logs_in (FullFeature session) = false
+logs_in Closing = false
+logs_in Over = false
+
 abbrev pub is_over : Phase → Bool
 is_over LoggingIn = false
 is_over (FullFeature session) = false

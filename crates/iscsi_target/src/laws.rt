@@ -3,7 +3,7 @@
 ghost use Rattle.iscsi_target.specs.History.{ArrivalsInPieces};
 ghost use Rattle.iscsi_target.specs.Isolation.{TargetsAreIsolated, TargetsSeeTheirOwn, StrangersAreAlone};
 ghost use Rattle.iscsi_target.specs.Bounded.{CallsKeepBounded};
-ghost use Rattle.iscsi_target.specs.Laws.{AnswersStay, SureIsSound, SessionsFinishAsTaken, OthersStay};
+ghost use Rattle.iscsi_target.specs.Laws.{AnswersStay, SureIsSound, SessionsFinishAsTaken, OthersStay, OthersGoOn};
 
 /// However the bytes of a connection are cut into pieces, the frames that become whole are those of
 /// the joined bytes, in order, and then comes at most one header that names too much data.
@@ -34,6 +34,13 @@ pub fn sessions_finish_as_taken()
 #[tactic(auto, using(crate::proofs::Lawful::others_stay))]
 pub fn others_stay()
     ensures { OthersStay }
+{}
+
+/// A violation ends only its own session: whatever bytes come on a connection, and whatever is done in their event, each other
+/// connection that was read goes on being read, but where an allocation failed for it, or a login reinstates its session.
+#[tactic(auto, using(crate::proofs::Sparing::others_go_on))]
+pub fn others_go_on()
+    ensures { OthersGoOn }
 {}
 
 /// Whatever others log in, break, reset or reserve elsewhere: where no allocation fails, the answers of the connections that
