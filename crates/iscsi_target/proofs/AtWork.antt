@@ -1,8 +1,8 @@
 -- A call of a session, as a call of the target.
-use Rattle.std.proofs.Common.{inl, inr, arith, length, ◌≡◌, ℕ, ◌<◌, List, [], ◌∷◌, ◌++◌, map, Bool, true, false, ◌&&◌, ◌||◌, Option, Some, None, refl, sym, ap, ◌∙◌, subst, drop}
-use Rattle.std.specs.List.{list_any, list_all}
+use Rattle.std.proofs.Common.{inl, inr, arith, length, ◌≡◌, ℕ, ◌<◌, List, [], ◌∷◌, ◌++◌, map, Bool, true, false, cond, Option, Some, None, refl, sym, ap, ◌∙◌, subst, drop}
+use Rattle.std.specs.List.{list_all}
 use Rattle.std.proofs.lemmas.List.{map-append}
-use Rattle.std.proofs.lemmas.List.Folds.{list_any-append}
+use Rattle.std.proofs.Math.Seq.{drop-append_seam}
 use Rattle.iscsi_pdu.specs.Frames.{Frame}
 use Rattle.iscsi_login.specs.declared.params.Params.{Params}
 use Rattle.scsi_unit.specs.Units.{UnitStates, AreSound}
@@ -19,16 +19,15 @@ use Rattle.iscsi_target.specs.History.{Point, Before, Mark, is_same, connection_
 use Rattle.iscsi_target.specs.World.{Setting, World, present, past_of, is_marked, fails, work_of, changed, close, worked_on, worked, served_by, take_in, settled_by, settle_one, units_at, orders_by, orders_in}
 use Rattle.iscsi_target.specs.Machine.{Machine, IsSound, IsSoundAt, ReflectsSoundness, link_at}
 use Rattle.iscsi_target.specs.SessionCalls.{LeavesSession, ChangesOne, called}
-use Rattle.iscsi_target.specs.Stands.{IsQuiet, IsQuietIn, are_reached, Begins}
-use Rattle.iscsi_target.specs.Serving.{Serves, Agrees, Does, kept, is_taken_at, is_done_by}
+use Rattle.iscsi_target.specs.Stands.{IsQuiet, IsQuietIn, stand_in, Begins}
+use Rattle.iscsi_target.specs.Serving.{Serves, Agrees, Does, reached_since, kept, is_taken_at, is_done_by}
 use Rattle.iscsi_target.specs.declared.phase.Phase.TheVariants as phases
 use Rattle.iscsi_target.proofs.Choices.{cond_true, eqb_self}
 use Rattle.iscsi_target.proofs.Linked.{units_with}
 use Rattle.iscsi_target.proofs.Working.{IsAtWork, at_work, past_at, session_link, left_by, serves_worked}
 use Rattle.iscsi_target.proofs.Marks.{mark_at, same_self, marked_as, marked_none}
 use Rattle.iscsi_target.proofs.Comings.{comings_worked}
-use Rattle.iscsi_target.proofs.Keeping.{on-close}
-use Rattle.iscsi_target.proofs.Doing.{Act, still_reached}
+use Rattle.iscsi_target.proofs.Doing.{Act, in_order}
 use Rattle.iscsi_target.proofs.Sound.{sound_at, sound_back, closed_back, at_as}
 
 -- ---- what failed
@@ -52,23 +51,14 @@ failed_as (Some s) c place step = marked_as c (Before (s place)) (Before step)
 
 -- ---- what was reached
 
-or_true : (b : Bool) → (b || true) ≡ true
-or_true true = refl
-or_true false = refl
-
-pub last_there : (m : Mark) (old front : List Mark) → list_any (is_same m) (old ++ (front ++ m ∷ [])) ≡ true
-last_there m old front =
-    list_any-append (is_same m) old (front ++ m ∷ [])
-    ∙ ap (λ (b : Bool). list_any (is_same m) old || b)
-    (list_any-append (is_same m) front (m ∷ []) ∙ ap (λ (b : Bool). list_any (is_same m) front || (b || false)) (same_self m)
-    ∙ or_true (list_any (is_same m) front))
-    ∙ or_true (list_any (is_same m) old)
+pub last_there : (m : Mark) (front : List Mark) → stand_in (m ∷ []) (front ++ m ∷ []) ≡ true
+last_there m front = in_order [] (m ∷ []) front (m ∷ []) refl (ap (λ (b : Bool). cond b true false) (same_self m))
 
 abbrev points : ℕ → List Step → List Mark
 points c steps = map (λ (point : Point). mark_at c point) (map Before steps)
 
 reached_on : (failed : Option (ℕ → Step)) (c place : ℕ) (work : Work) (w : World) → IsReached failed place work
-    → are_reached (marks_of c failed place) (worked_on c work w) ≡ true
+    → stand_in (marks_of c failed place) (reached_since w (worked_on c work w)) ≡ true
 unfolding changed
 reached_on None c place work w r = refl
 reached_on (Some step) c place work w r =
@@ -76,16 +66,13 @@ reached_on (Some step) c place work w r =
     let split : points c work.reached ≡ points c r.0 ++ m ∷ [] =
     ap (points c) r.1 ∙ ap (map (λ (point : Point). mark_at c point)) (map-append Before r.0 (step place ∷ []))
     ∙ map-append (λ (point : Point). mark_at c point) (map Before r.0) (Before (step place) ∷ []) in
-    let here : list_any (is_same m) (w.reached ++ points c work.reached) ≡ true =
-    ap (λ (l : List Mark). list_any (is_same m) (w.reached ++ l)) split ∙ last_there m w.reached (points c r.0) in
-    ap (λ (b : Bool). b && true) here
+    ap (stand_in (m ∷ [])) (drop-append_seam w.reached (points c work.reached) ∙ split) ∙ last_there m (points c r.0)
 
 pub reached_by : (b : Bool) (failed : Option (ℕ → Step)) (c place : ℕ) (work : Work) (w : World) → work.goes_on ≡ b → IsReached failed place work
-    → are_reached (marks_of c failed place) (worked c work w) ≡ true
-unfolding worked
+    → stand_in (marks_of c failed place) (reached_since w (worked c work w)) ≡ true
+unfolding worked close changed
 reached_by true failed c place work w e r = rw e (reached_on failed c place work w r)
-reached_by false failed c place work w e r = rw e (still_reached (marks_of c failed place) (worked_on c work w) (close c (worked_on c work w))
-    (on-close c (worked_on c work w)) (reached_on failed c place work w r))
+reached_by false failed c place work w e r = rw e (reached_on failed c place work w r)
 
 -- ---- of which steps it asks
 

@@ -23,7 +23,7 @@ use Rattle.iscsi_target.proofs.Choices.{cond_true, cond_false}
 use Rattle.iscsi_target.proofs.Lists.{range_next}
 use Rattle.iscsi_target.proofs.Lives.{present-lives}
 use Rattle.iscsi_target.proofs.Linked.{serves_world, units_with}
-use Rattle.iscsi_target.proofs.Walks.{on-lose_one, on-carry_out}
+use Rattle.iscsi_target.proofs.Walks.{on-fold, on-lose_one, on-carry_out, on-carry_all}
 use Rattle.iscsi_target.proofs.Keeping.{Goes, goes_walk, on-reset}
 use Rattle.iscsi_target.proofs.Comings.{comings_reset}
 use Rattle.iscsi_target.proofs.Doing.{does_nothing, does_as, does_on, does_then}
@@ -126,11 +126,12 @@ loses_called header target c d given after k other l =
 
 -- ---- one after the other
 
-pub carried_then : (f g : World → World) (given middle after : Machine) → ((w : World) → Goes w (g w)) → Preserves 0 None middle after
+pub carried_then : (f g : World → World) (given middle after : Machine) → ((w : World) → Goes w (f w)) → ((w : World) → Goes w (g w)) → Preserves 0 None middle after
     → CarriesOut f given middle → CarriesOut g middle after → CarriesOut (λ w. g (f w)) given after
-carried_then f g given middle after further moves first second =
+carried_then f g given middle after goes further moves first second =
     does_then is_of_none is_of_none is_of_none (λ s marks place w. f w) (λ s marks place w. g w) kept kept None None given middle after
-    (λ place mark e. refl) (λ place mark e. refl) (λ place mark e. e) (λ place mark e. e) moves.back (λ s marks place w. further w) first second
+    (λ place mark e. refl) (λ place mark e. refl) (λ place mark e. e) (λ place mark e. e) moves.back (λ s marks place w. goes w) (λ s marks place w. further w)
+    first second
 
 pub carried_as : (f g : World → World) (given after : Machine) → ((w : World) → g w ≡ f w) → CarriesOut f given after → CarriesOut g given after
 carried_as f g given after same d =
@@ -156,6 +157,7 @@ lost_next header target c d given middle after moves so_far one =
     carried_as (λ w. lose_one header target c (lost_below header target c d w) d) (lost_below header target c (d + 1)) given after
     (λ w. ap (fold (lose_one header target c) w) (range_next d) ∙ fold-append (lose_one header target c) w (range_with_len 0 d) (d ∷ []))
     (carried_then (lost_below header target c d) (λ w. lose_one header target c w d) given middle after
+    (λ w. on-fold (goes_walk []) (lose_one header target c) w (range_with_len 0 d) (λ v e. on-lose_one (goes_walk []) header target c v e tt))
     (λ w. on-lose_one (goes_walk []) header target c w d tt) moves so_far one)
 
 -- ---- a reset is told
@@ -221,6 +223,7 @@ carried_reset header c target given middle after reaches moves lose told =
     carried_as (λ w. reset header target (fold (lose_one header target c) w connections)) (λ w. carry_out c target w header) given after
     (λ w. cond_true (reaches_others (function_of header)) _ w reaches)
     (carried_then (λ w. fold (lose_one header target c) w connections) (reset header target) given middle after
+    (λ w. on-fold (goes_walk []) (lose_one header target c) w connections (λ v e. on-lose_one (goes_walk []) header target c v e tt))
     (λ w. on-reset header target w) moves lose told)
 
 pub not_carried : (header : List ℕ) (c target : ℕ) (machine : Machine) → reaches_others (function_of header) ≡ false
@@ -242,7 +245,7 @@ carried_next c target headers i header given middle after lt is moves so_far one
     (λ w. ap (fold (carry_out c target) w) (take_more headers i header lt
     ∙ ap (λ (h : List ℕ). take i headers ++ h ∷ []) (sym is)) ∙ fold-append (carry_out c target) w (take i headers) (header ∷ []))
     (carried_then (λ w. fold (carry_out c target) w (take i headers)) (λ w. carry_out c target w header) given middle after
-    (λ w. on-carry_out (goes_walk []) c target w header tt) moves so_far one)
+    (λ w. on-carry_all (goes_walk []) c target w (take i headers) tt) (λ w. on-carry_out (goes_walk []) c target w header tt) moves so_far one)
 
 pub carried_all : (c target : ℕ) (headers : List (List ℕ)) (i : ℕ) (given after : Machine) → length headers ≤ i
     → CarriesOut (λ w. fold (carry_out c target) w (take i headers)) given after → CarriesOut (λ w. fold (carry_out c target) w headers) given after

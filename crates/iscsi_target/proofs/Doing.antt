@@ -1,16 +1,15 @@
 -- Calls one after the other: what each of them does, and what they do together.
-use Rattle.std.proofs.Common.{◌≡◌, ℕ, List, [], ◌∷◌, ◌++◌, length, Bool, true, ◌||◌, Option, Some, None, refl, sym, ap, ◌∙◌, subst}
+use Rattle.std.proofs.Common.{◌≡◌, ℕ, List, [], ◌∷◌, ◌++◌, length, Bool, true, false, cond, Option, Some, None, refl, sym, ap, ◌∙◌, subst, append_assoc}
 use Rattle.std.specs.Prelude.{drop}
-use Rattle.std.specs.List.{list_any, list_all}
-use Rattle.std.proofs.lemmas.List.Folds.{list_any-append}
+use Rattle.std.specs.List.{list_all}
+use Rattle.std.proofs.Math.Seq.{drop-append_seam}
 use Rattle.iscsi_session.specs.Comings.{AreAhead}
 use Rattle.iscsi_session.proofs.Came.{ahead_of, ahead_behind, left_behind, plain_both, calm_both}
 use Rattle.iscsi_target.specs.History.{Mark, is_same}
 use Rattle.iscsi_target.specs.World.{Setting, World}
 use Rattle.iscsi_target.specs.Machine.{Machine, ReflectsSoundness}
-use Rattle.iscsi_target.specs.Stands.{are_reached, Begins}
-use Rattle.iscsi_target.specs.Serving.{Serves, Agrees, Does, first_of}
-use Rattle.iscsi_target.proofs.Choices.{and_true}
+use Rattle.iscsi_target.specs.Stands.{stand_in, Begins}
+use Rattle.iscsi_target.specs.Serving.{Serves, Agrees, Does, first_of, reached_since}
 use Rattle.iscsi_target.proofs.Sound.{sound_back}
 use Rattle.iscsi_target.proofs.Marks.{Apart, Wider, agrees_left, agrees_right, all_wider, all_append}
 use Rattle.iscsi_target.proofs.Keeping.{Goes}
@@ -28,19 +27,48 @@ begins_both None b xs ys none h = subst (λ (l : List Mark). Begins b (l ++ ys))
 begins_both (Some c) b [] ys h g = absurd h
 begins_both (Some c) b (m ∷ xs) ys h g = h
 
--- ---- what was reached stays reached
+-- ---- what was reached, one behind the other
 
-reached_more : (marks : List Mark) (old more : List Mark) → list_all (λ m. list_any (is_same m) old) marks ≡ true
-    → list_all (λ m. list_any (is_same m) (old ++ more)) marks ≡ true
-reached_more [] old more h = refl
-reached_more (m ∷ marks) old more h =
-    let both = and_true (list_any (is_same m) old) (list_all (λ m. list_any (is_same m) old) marks) h in
-    let here : list_any (is_same m) (old ++ more) ≡ true = list_any-append (is_same m) old more ∙ ap (λ (b : Bool). b || list_any (is_same m) more) both.0 in
-    rw here (reached_more marks old more both.1)
+either : (b : Bool) {x y : Bool} → x ≡ true → y ≡ true → cond b x y ≡ true
+either true h g = h
+either false h g = g
 
-pub still_reached : (marks : List Mark) (w v : World) → Goes w v → are_reached marks w ≡ true → are_reached marks v ≡ true
-still_reached marks w v goes h =
-    ap (λ (l : List Mark). list_all (λ m. list_any (is_same m) l) marks) goes.reached.1 ∙ reached_more marks w.reached goes.reached.0 h
+one_of : (b : Bool) {x y : Bool} → cond b x y ≡ true → (y ≡ true → x ≡ true) → x ≡ true
+one_of true h further = h
+one_of false h further = further h
+
+both_ways : (b : Bool) {x y p q : Bool} → (x ≡ true → p ≡ true) → (y ≡ true → q ≡ true) → cond b x y ≡ true → cond b p q ≡ true
+both_ways true f g h = f h
+both_ways false f g h = g h
+
+-- marks that stand among points stand among one more
+behind_by : (y : Mark) (ys marks : List Mark) → ((m : Mark) (more : List Mark) → stand_in (m ∷ more) ys ≡ true → stand_in more ys ≡ true)
+    → stand_in marks ys ≡ true → stand_in marks (y ∷ ys) ≡ true
+behind_by y ys [] fewer h = refl
+behind_by y ys (m ∷ marks) fewer h = either (is_same m y) (fewer m marks h) h
+
+fewer : (ys : List Mark) (m : Mark) (marks : List Mark) → stand_in (m ∷ marks) ys ≡ true → stand_in marks ys ≡ true
+fewer [] m marks h = absurd cc
+fewer (y ∷ ys) m marks h = behind_by y ys marks (fewer ys) (one_of (is_same m y) h (fewer ys m marks))
+
+pub in_order : (a b xs ys : List Mark) → stand_in a xs ≡ true → stand_in b ys ≡ true → stand_in (a ++ b) (xs ++ ys) ≡ true
+in_order [] b [] ys h g = g
+in_order (m ∷ a) b [] ys h g = absurd cc
+in_order [] b (x ∷ xs) ys h g = behind_by x (xs ++ ys) b (fewer (xs ++ ys)) (in_order [] b xs ys refl g)
+in_order (m ∷ a) b (x ∷ xs) ys h g = both_ways (is_same m x) (λ here. in_order a b xs ys here g) (λ later. in_order (m ∷ a) b xs ys later g) h
+
+pub since : (w v : World) (g : Goes w v) → reached_since w v ≡ g.reached.0
+since w v g = ap (drop (length w.reached)) g.reached.1 ∙ drop-append_seam w.reached g.reached.0
+
+-- in one World, and then in the next
+pub reached_both : (a b : List Mark) (w v u : World) → Goes w v → Goes v u → stand_in a (reached_since w v) ≡ true → stand_in b (reached_since v u) ≡ true
+    → stand_in (a ++ b) (reached_since w u) ≡ true
+reached_both a b w v u first second h g =
+    let behind = first.reached.0 ++ second.reached.0 in
+    let whole : u.reached ≡ w.reached ++ behind = second.reached.1 ∙ ap (λ (l : List Mark). l ++ second.reached.0) first.reached.1
+    ∙ append_assoc w.reached first.reached.0 second.reached.0 in
+    ap (stand_in (a ++ b)) (ap (drop (length w.reached)) whole ∙ drop-append_seam w.reached behind)
+    ∙ in_order a b first.reached.0 second.reached.0 (ap (stand_in a) (sym (since w v first)) ∙ h) (ap (stand_in b) (sym (since v u second)) ∙ g)
 
 -- ---- one call
 
@@ -65,7 +93,7 @@ abbrev pub does_from : {kind one : ℕ → Mark → Bool} {act other : Act} {hal
     → (d : Does kind act halves starved given after) → ((place : ℕ) → list_all (one place) (d.failed place) ≡ true)
     → ((s : Setting) (sent : ℕ → ℕ) (half : ℕ → List ℕ) (w : World) (place : ℕ) (marks : List Mark) → Agrees (one place) marks (d.failed place)
     → AreAhead d.came w.comings → Serves s sent half w from → Serves s sent (bytes half) (other s marks place w) after
-    × (are_reached (d.failed place) (other s marks place w) ≡ true) × ((other s marks place w).comings ≡ drop (length d.came) w.comings))
+    × (stand_in (d.failed place) (reached_since w (other s marks place w)) ≡ true) × ((other s marks place w).comings ≡ drop (length d.came) w.comings))
     → Does one other bytes starved from after
 does_from d of_kind stands =
     record { failed = d.failed; first = d.first; of_kind = of_kind; came = d.came; plain = d.plain; calm = d.calm; stands = stands }
@@ -95,10 +123,11 @@ unfoldable pub does_then : (one two both : ℕ → Mark → Bool) (act_one act_t
     (given middle after : Machine)
     → ((place : ℕ) → Apart (one place) (two place)) → ((place : ℕ) → Apart (two place) (one place)) → ((place : ℕ) → Wider (one place) (both place))
     → ((place : ℕ) → Wider (two place) (both place))
-    → ReflectsSoundness middle after → ((s : Setting) (marks : List Mark) (place : ℕ) (w : World) → Goes w (act_two s marks place w))
+    → ReflectsSoundness middle after → ((s : Setting) (marks : List Mark) (place : ℕ) (w : World) → Goes w (act_one s marks place w))
+    → ((s : Setting) (marks : List Mark) (place : ℕ) (w : World) → Goes w (act_two s marks place w))
     → Does one act_one halves_one a given middle → Does two act_two halves_two b middle after
     → Does both (λ s marks place w. act_two s marks place (act_one s marks place w)) (λ half. halves_two (halves_one half)) (first_of a b) given after
-does_then one two both act_one act_two halves_one halves_two a b given middle after one_two two_one wide_one wide_two back goes first second = record {
+does_then one two both act_one act_two halves_one halves_two a b given middle after one_two two_one wide_one wide_two back goes_one goes_two first second = record {
   failed = λ place. first.failed place ++ second.failed place;
   first = λ place. begins_both a b (first.failed place) (second.failed place) (first.first place) (second.first place);
   of_kind = λ place. all_append (both place) (first.failed place) (second.failed place)
@@ -117,8 +146,8 @@ does_then one two both act_one act_two halves_one halves_two a b given middle af
       let then_ : AreAhead second.came v.comings = subst (AreAhead second.came) (sym at_first.2) (ahead_behind first.came second.came w.comings ahead) in
       let at_second = second.stands s sent (halves_one half) v place marks right then_ at_first.0 in (
         at_second.0,
-        all_append (λ m. list_any (is_same m) (act_two s marks place v).reached) (first.failed place) (second.failed place)
-            (still_reached (first.failed place) v (act_two s marks place v) (goes s marks place v) at_first.1) at_second.1,
+        reached_both (first.failed place) (second.failed place) w v (act_two s marks place v) (goes_one s marks place w) (goes_two s marks place v)
+            at_first.1 at_second.1,
         at_second.2 ∙ ap (drop (length second.came)) at_first.2 ∙ left_behind first.came second.came w.comings,
       ));
 }

@@ -15,8 +15,8 @@ use Rattle.iscsi_target.specs.History.{Bytes, Arriving, AtEnd, Point, Mark, Hist
 use Rattle.iscsi_target.specs.Life.{Life, Phase, LoggingIn, reads}
 use Rattle.iscsi_target.specs.World.{Setting, World, present, changed, reads_life, is_marked, close, reaching, take_step, arrive, brought, longer, bring, begun_event, world}
 use Rattle.iscsi_target.specs.Machine.{LinkState, Machine, IsSound, IsSoundAt, WhereSound, Feeds, link_at, with_link, closed, is_reading, is_open_at, free_link}
-use Rattle.iscsi_target.specs.Stands.{phase_for, link_of, half_of, IsShort, IsStarved, StandsAt, Stands, StandsAfter, are_reached, Begins}
-use Rattle.iscsi_target.specs.Serving.{Serves, first_starved, with_half, is_among, TakesAll}
+use Rattle.iscsi_target.specs.Stands.{phase_for, link_of, half_of, IsShort, IsStarved, StandsAt, Stands, StandsAfter, stand_in, are_reached, Begins}
+use Rattle.iscsi_target.specs.Serving.{Serves, first_starved, with_half, is_among, reached_since, TakesAll}
 use Rattle.iscsi_target.specs.declared.fault.Starved.{Starved}
 use Rattle.iscsi_target.proofs.Arrivals.{new_is}
 use Rattle.iscsi_target.proofs.Moving.{own_self, changes_feeds}
@@ -29,9 +29,8 @@ use Rattle.iscsi_target.proofs.Keeping.{Goes, Stays, goes, on-close, on-reaching
 use Rattle.iscsi_target.proofs.Linked.{reads_there, some_reads, closes, present-close, serves_as, serves_reaching, present-reaching}
 use Rattle.iscsi_target.proofs.Comings.{comings_changed}
 use Rattle.iscsi_target.proofs.Standing.{fresh, present-begun, present-fresh, stands_as, machine_same, serving, link_stands, is_open_there, count_stands}
-use Rattle.iscsi_target.proofs.Frames.{idle_step, unmarked_step, marked_step}
-use Rattle.iscsi_target.proofs.Doing.{still_reached}
-use Rattle.iscsi_target.proofs.AtWork.{last_there}
+use Rattle.iscsi_target.proofs.Frames.{idle_step, unmarked_step, marked_step, reached_first}
+use Rattle.iscsi_target.proofs.Doing.{reached_both}
 use Rattle.iscsi_target.proofs.Taking.{halving, rehalved, halves_idle, half_twice, idle_all, serves_halves}
 
 -- ---- the longer bytes
@@ -195,6 +194,12 @@ brings s marks comings c piece w life at short =
 short_there : (o : Option Life) (life : Life) → o ≡ Some life → IsShort o → reads life.phase ≡ true → is_long (rest life.bytes) ≡ false
 short_there o life e h r = (subst IsShort e h) r
 
+-- no point is reached before an event
+reached_event : (marks : List Mark) (comings : List Coming) (c : ℕ) (piece : List ℕ) (w v : World)
+    → stand_in marks (reached_since (piece_came comings c piece w) v) ≡ true → are_reached marks v ≡ true
+unfolding changed
+reached_event marks comings c piece w v h = h
+
 pub comes : (s : Setting) (sent : ℕ → ℕ) (w : World) (machine first now : Machine) (comings : List Coming) (c : ℕ) (piece : List ℕ) (starved : Option ℕ)
     → Fed s sent w machine first c piece → (takes : TakesAll c starved first now) → AreAhead takes.takes.came comings
     → Came s sent w comings c piece starved now
@@ -234,7 +239,8 @@ comes s sent w machine first now comings c piece starved f takes ahead =
     record {
       marks = marks;
       first = takes.takes.first n;
-      reached = ap (are_reached marks) whole ∙ still_reached marks v e.last e.goes at.1;
+      reached = ap (are_reached marks) whole ∙ reached_event marks comings c piece w e.last
+          (let more = reached_both marks [] v0 v e.last (on-arrivals (goes s marks c) v0 all (any_arrivals c all)) e.goes at.1 refl in rw append-nil at more);
       stands = rw whole (stands_again s sent w e.last machine now comings c piece left_ life f.in_range f.stands there.1 followed behind
           (λ r. takes.short (reads_there s sent (with_half c left_ half) v now c f.in_range serves_v ∙ sym e.reads_same ∙ r)) e.serves);
     }
@@ -286,8 +292,7 @@ comes_starved s sent w machine now c piece lt stands r is =
     record {
       marks = marks;
       first = refl;
-      reached = ap (are_reached marks) whole ∙ still_reached marks v (close c v) (on-close c v)
-          (ap (λ (b : Bool). b && true) (last_there (mark_at c point) v0.reached []));
+      reached = ap (are_reached marks) whole ∙ reached_event marks [] c piece w (close c v) (reached_first c point v0);
       stands = rw whole (stands_again s sent w (close c v) machine now [] c piece left_ life lt stands there.1
           (on-then v0 v (close c v) (on-reaching c (point ∷ []) v0) (on-close c v)) refl
           (λ e. absurd (cc (e, shut_))) last);

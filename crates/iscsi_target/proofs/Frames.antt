@@ -3,6 +3,7 @@ use Rattle.std.proofs.Common.{◌≡◌, ℕ, ◌+◌, ◌<◌, List, [], ◌∷
 use Rattle.std.specs.Prelude.{nat_lt}
 use Rattle.std.specs.List.{list_all, fold, range_with_len}
 use Rattle.std.proofs.lemmas.List.Sums.{fold-append}
+use Rattle.std.proofs.Math.Seq.{drop-append_seam}
 use Rattle.std.proofs.lemmas.Bool.{ltb-true, lt-ltb, le-ltb, eqb-true, ne_eqb}
 use Rattle.iscsi_pdu.specs.Frames.{Frame}
 use Rattle.iscsi_login.specs.Login.{remembered}
@@ -11,10 +12,10 @@ use Rattle.iscsi_session.specs.Steps.{Step, served}
 use Rattle.iscsi_login.specs.Directory.{KnownTargets}
 use Rattle.iscsi_target.specs.History.{Point, Arriving, Mark, Arrival, Whole, connection_limit}
 use Rattle.iscsi_target.specs.Life.{Life, Phase, LoggingIn, FullFeature, reads}
-use Rattle.iscsi_target.specs.World.{Setting, World, present, reads_life, is_marked, close, reaching, take_step, log_in, take_in, settle_one, settle, serve, is_login, taken_in, taken_by, comes, arrive, settle_for, carry_out_for, orders_in}
+use Rattle.iscsi_target.specs.World.{Setting, World, present, changed, reads_life, is_marked, close, reaching, take_step, log_in, take_in, settle_one, settle, serve, is_login, taken_in, taken_by, comes, arrive, settle_for, carry_out_for, orders_in}
 use Rattle.iscsi_target.specs.Machine.{LinkState, Machine, ReflectsSoundness, link_at, is_reading, closed, logged_in}
-use Rattle.iscsi_target.specs.Stands.{phase_for, link_of, are_reached}
-use Rattle.iscsi_target.specs.Serving.{Serves, Agrees, Does, CarriesOut, kept, is_of_none, first_of, is_of_frame, is_taken_at, is_done_at, is_done_by, is_done_below, Takes, Settles, SettlesOne, SettlesFor}
+use Rattle.iscsi_target.specs.Stands.{phase_for, link_of, stand_in}
+use Rattle.iscsi_target.specs.Serving.{Serves, Agrees, Does, reached_since, CarriesOut, kept, is_of_none, first_of, is_of_frame, is_taken_at, is_done_at, is_done_by, is_done_below, Takes, Settles, SettlesOne, SettlesFor}
 use Rattle.iscsi_target.specs.declared.phase.Phase.TheVariants as phases
 use Rattle.iscsi_target.proofs.Choices.{eqb_self, cond_true, cond_false, and_true, and_false}
 use Rattle.iscsi_target.proofs.Lists.{range_next}
@@ -24,9 +25,9 @@ use Rattle.iscsi_target.proofs.Marks.{mark_at, marked_one, marked_none, unmarked
 use Rattle.iscsi_target.proofs.Working.{at_work, left_by}
 use Rattle.iscsi_session.proofs.Came.{ahead_of}
 use Rattle.iscsi_target.proofs.Comings.{comings_close, comings_log_in}
-use Rattle.iscsi_target.proofs.Walks.{on-settle_one, on-settle_for, on-carry_out_for}
-use Rattle.iscsi_target.proofs.Keeping.{goes_walk, on-then, on-close}
-use Rattle.iscsi_target.proofs.Doing.{still_reached, does_nothing, does_as, does_from, does_then}
+use Rattle.iscsi_target.proofs.Walks.{on-fold, on-take_in, on-settle_one, on-settle_for, on-carry_out_for}
+use Rattle.iscsi_target.proofs.Keeping.{Goes, goes_walk, on-then, on-reaching}
+use Rattle.iscsi_target.proofs.Doing.{reached_both, does_nothing, does_as, does_from, does_then}
 use Rattle.iscsi_target.proofs.AtWork.{IsCalled, CallDoes, last_there, marks_of, starved_if, call_does, own_past, served_orders, serve_acts, serve_agrees}
 
 -- ---- a connection that does not read
@@ -140,11 +141,9 @@ takes_login given after c frame login lt phase logs is = does_nothing is_of_fram
 
 -- ---- an allocation fails as a frame becomes whole
 
-reached_first : (c place : ℕ) (w : World) → are_reached (mark_at c (Arriving place) ∷ []) (close c (reaching c (Arriving place ∷ []) w)) ≡ true
-reached_first c place w =
-    let v = reaching c (Arriving place ∷ []) w in
-    let m = mark_at c (Arriving place) in
-    still_reached (m ∷ []) v (close c v) (on-close c v) (ap (λ (b : Bool). b && true) (last_there m w.reached []))
+pub reached_first : (c : ℕ) (point : Point) (w : World) → stand_in (mark_at c point ∷ []) (reached_since w (close c (reaching c (point ∷ []) w))) ≡ true
+unfolding close changed
+reached_first c point w = ap (stand_in (mark_at c point ∷ [])) (drop-append_seam w.reached (mark_at c point ∷ [])) ∙ last_there (mark_at c point) []
 
 pub starves : (given after : Machine) (c : ℕ) (arrival : Arrival) → c < connection_limit → is_reading (link_at given c).phase ≡ true → after ≡ closed given c
     → Does is_of_frame (λ s marks place w. arrive s marks c w (place, arrival)) kept (Some c) given after
@@ -165,7 +164,7 @@ starves given after c arrival lt r is = record {
         serves_as s sent half (close c v) (closed given c) after is
             (closes s sent half v given c there.0 lt (serves_reaching s sent half w given c (Arriving place ∷ []) h)
             (present-reaching c c (Arriving place ∷ []) w ∙ there.1)),
-        reached_first c place w,
+        reached_first c (Arriving place) w,
         comings_close c v,
       ));
 }
@@ -186,7 +185,7 @@ pub finishes : (c : ℕ) (target : Option ℕ) (orders : List (List ℕ)) (starv
 finishes c target orders starved middle carried after back carries settles =
     does_then is_of_none is_done_at is_done_at (λ s marks place w. carry_out_for c target orders w) (λ s marks place w. settle_for marks place target w)
     kept kept None starved middle carried after (λ place mark e. absurd cc) (λ place mark e. refl) (λ place mark e. absurd cc) (λ place mark e. e) back
-    (λ s marks place w. on-settle_for (goes_walk marks) place target w (λ t e. tt)) carries settles
+    (λ s marks place w. on-carry_out_for (goes_walk []) c target orders w (λ t e. tt)) (λ s marks place w. on-settle_for (goes_walk marks) place target w (λ t e. tt)) carries settles
 
 -- its session served the frame
 pub takes_served : (failed : Option (ℕ → Step)) (goes_on : Bool) (orders : List (List ℕ)) (c : ℕ) (target : Option ℕ) (frame : Frame)
@@ -200,11 +199,14 @@ takes_served failed goes_on orders c target frame given middle ended after starv
     let first = call_does run failed goes_on orders c target given middle ended k l e is_taken_at (λ s marks place w. take_in marks c place frame w)
     (λ s marks place w past at own. serve_acts c frame marks place w past at)
     (λ place marks work agree. serve_agrees failed c frame place marks work agree) of_kind in
+    let taking : (marks : List Mark) (place : ℕ) (w : World) → Goes w (take_in marks c place frame w) =
+    λ marks place w. on-take_in (goes_walk marks) c place frame w tt in
+    let finishing : (marks : List Mark) (place : ℕ) (w : World) → Goes w (settle_for marks place target (carry_out_for c target orders w)) =
+    λ marks place w. on-then w (carry_out_for c target orders w) _ (on-carry_out_for (goes_walk []) c target orders w (λ t e. tt))
+    (on-settle_for (goes_walk marks) place target (carry_out_for c target orders w) (λ t e. tt)) in
     let both = does_then is_taken_at is_done_at is_step_at (λ s marks place w. take_in marks c place frame w)
     (λ s marks place w. settle_for marks place target (carry_out_for c target orders w)) kept kept (starved_if failed c) starved given ended after
-    taken_done done_taken taken_step done_step back (λ s marks place w. on-then w (carry_out_for c target orders w) _
-    (on-carry_out_for (goes_walk []) c target orders w (λ t e. tt)) (on-settle_for (goes_walk marks) place target (carry_out_for c target orders w) (λ t e. tt)))
-    first second in
+    taken_done done_taken taken_step done_step back (λ s marks place w. taking marks place w) (λ s marks place w. finishing marks place w) first second in
     does_from both (λ place. all_wider (is_step_at place) (is_of_frame place) (both.failed place) (step_within place) (both.of_kind place))
     (λ s sent half w place marks agree ahead h.
     (let there = at_work s sent half w given c k.session k.in_range h k.phase in
@@ -225,7 +227,9 @@ takes_served failed goes_on orders c target frame given middle ended after starv
     ∙ ap (λ (t : Option ℕ). settle_for marks place t (carry_out_for c t (orders_in marks c place frame v) (take_in marks c place frame v)))
     (own_past (λ f place. served f place frame) failed goes_on orders c target given middle ended k l e there.0 there.2)
     ∙ ap (λ (os : List (List ℕ)). settle_for marks place target (carry_out_for c target os (take_in marks c place frame v))) acted in
-    rw step (both.stands s sent half v place marks inner ahead here)))
+    let at = both.stands s sent half v place marks inner ahead here in
+    rw step (at.0, reached_both [] (both.failed place) w v _ (on-reaching c (Arriving place ∷ []) w) 
+    (on-then v (take_in marks c place frame v) _ (taking marks place v) (finishing marks place (take_in marks c place frame v))) refl at.1, at.2)))
 
 -- ---- the sessions of a target are settled, one after the other
 
@@ -280,6 +284,7 @@ settled_next target c a b given middle after back so_far one =
     (does_then (is_done_below c) (is_done_by c) (is_done_below (c + 1))
     (λ s marks place w. fold (settle_one marks place target) w (range_with_len 0 c)) (λ s marks place w. settle_one marks place target w c)
     kept kept a b given middle after (below_here c) (here_below c) (below_more c) (here_more c) back
+    (λ s marks place w. on-fold (goes_walk marks) (settle_one marks place target) w (range_with_len 0 c) (λ v d. on-settle_one (goes_walk marks) place target v d tt))
     (λ s marks place w. on-settle_one (goes_walk marks) place target w c tt) so_far one)
 
 pub all_settled : (target : ℕ) (starved : Option ℕ) (given after : Machine) → SettledBelow target connection_limit starved given after

@@ -23,7 +23,7 @@ use Rattle.iscsi_target.proofs.Choices.{eqb_self, cond_true, cond_false, and_tru
 use Rattle.iscsi_target.proofs.Linked.{link_is, reads_there, some_reads, serves_one, serves_as, serves_world, serves_reaching, closes, present-close, present-reaching, units_with}
 use Rattle.iscsi_target.proofs.Standing.{nothing_long, machine_same}
 use Rattle.iscsi_target.proofs.Marks.{Apart, Wider, all_wider}
-use Rattle.iscsi_target.proofs.Walks.{any_arrival, on-arrive}
+use Rattle.iscsi_target.proofs.Walks.{any_arrival, any_arrivals, on-arrive, on-arrivals}
 use Rattle.iscsi_target.proofs.Keeping.{goes}
 use Rattle.iscsi_target.proofs.Doing.{Act, Halves, does_nothing, does_from, does_then}
 use Rattle.iscsi_target.proofs.Comings.{comings_close}
@@ -385,6 +385,7 @@ takes_more c a b first machine new done more so_far one =
     (λ s marks place w. fold (arrive s marks c) w (enumerate_from place done)) (λ s marks place w. arrive s marks c w (place + n, one.arrival))
     (with_half c more) (with_half c one.more) a b first machine new (among_here n) (here_among n)
     (λ place. among_more n (n + 1) place (omega arith)) (here_more n) one.leaves.back
+    (λ s marks place w. on-arrivals (goes s marks c) w (enumerate_from place done) (any_arrivals c (enumerate_from place done)))
     (λ s marks place w. on-arrive (goes s marks c) w (place + n, one.arrival) (any_arrival c (place + n, one.arrival))) so_far second in
     let P : ℕ → Type 0 = λ k. Does (is_among k) (λ s marks place w. fold (arrive s marks c) w (enumerate_from place (done ++ one.arrival ∷ [])))
     (with_half c one.more) (first_of a b) first new in

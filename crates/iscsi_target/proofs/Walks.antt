@@ -40,7 +40,7 @@ module _ {marks : List Mark} {R : World → World → Type 0} {IsKnown : ℕ →
   on-served_by None c place frame w at known = k.same w
   on-served_by (Some past) c place frame w at known = k.serves c past frame place w at known
 
-  on-take_in : (c place : ℕ) (frame : Frame) (w : World) → IsKnown c frame → R w (take_in marks c place frame w)
+  pub on-take_in : (c place : ℕ) (frame : Frame) (w : World) → IsKnown c frame → R w (take_in marks c place frame w)
   unfolding take_in
   on-take_in c place frame w known = on-served_by (past_of (present c w)) c place frame w refl known
 

@@ -8,7 +8,7 @@ use Rattle.iscsi_target.specs.History.{Point, Arriving, Before, AtEnd, Mark, is_
 use Rattle.iscsi_target.specs.World.{Setting, World, present, is_marked, arrive, settle_one, settle, settle_for}
 use Rattle.iscsi_target.specs.Machine.{LinkState, Machine, IsSound, IsSoundAt, ReflectsSoundness, IsSure, Feeds, KeepsPart, link_at, is_reading, is_closing, closed}
 use Rattle.iscsi_target.specs.Bounded.{AddsAtMost}
-use Rattle.iscsi_target.specs.Stands.{IsQuiet, IsSent, Begins, machine_with, are_reached}
+use Rattle.iscsi_target.specs.Stands.{IsQuiet, IsSent, Begins, machine_with, stand_in}
 use Rattle.iscsi_target.specs.declared.fault.Starved.{Starved}
 
 -- As StandsAt, but of the bytes that are no whole frame yet only that these are kept.
@@ -51,11 +51,15 @@ Agrees kind marks these = (mark : Mark) → kind mark ≡ true → is_marked mar
 
 -- ---- what a call does
 
+-- the points that were reached since
+abbrev pub reached_since : World → World → List Mark
+reached_since before after = drop (length before.reached) after.reached
+
 -- What the call of an act did: where the code stood with a World, it stands with what the act makes of that World, whatever
 -- marks of other kinds there are. The place is that of the frame at work; halves is what is done to the bytes kept.
 pub record Does (kind : ℕ → Mark → Bool) (act : Setting → List Mark → ℕ → World → World) (halves : (ℕ → List ℕ) → ℕ → List ℕ)
     (starved : Option ℕ) (given after : Machine) : Type 0 where
-  -- where allocations failed
+  -- where allocations failed, in this order
   pub failed : ℕ → List Mark
   pub first : (place : ℕ) → Begins starved (failed place)
   pub of_kind : (place : ℕ) → list_all (kind place) (failed place) ≡ true
@@ -65,7 +69,7 @@ pub record Does (kind : ℕ → Mark → Bool) (act : Setting → List Mark → 
   pub calm : (target : ℕ) → IsSoundAt target after → IsCalm target came
   pub stands : (s : Setting) (sent : ℕ → ℕ) (half : ℕ → List ℕ) (w : World) (place : ℕ) (marks : List Mark)
       → Agrees (kind place) marks (failed place) → AreAhead came w.comings → Serves s sent half w given
-      → Serves s sent (halves half) (act s marks place w) after × (are_reached (failed place) (act s marks place w) ≡ true)
+      → Serves s sent (halves half) (act s marks place w) after × (stand_in (failed place) (reached_since w (act s marks place w)) ≡ true)
       × ((act s marks place w).comings ≡ drop (length came) w.comings)
 
 abbrev pub kept : (ℕ → List ℕ) → ℕ → List ℕ

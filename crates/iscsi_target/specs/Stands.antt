@@ -1,6 +1,5 @@
 -- When the code stands where the World does: what it remembers is a function of the past.
 use Rattle.std.specs.Prelude.{◌≡◌, ℕ, ◌+◌, ◌<◌, ◌≤◌, List, [], ◌∷◌, ◌++◌, length, drop, map, Bool, true, false, ◌==◌, Option, Some, None, if◌then◌else◌, ⊤}
-use Rattle.std.specs.List.{list_any, list_all}
 use Rattle.iscsi_pdu.specs.Frames.{rest, is_long}
 use Rattle.iscsi_login.specs.Login.{remembered}
 use Rattle.iscsi_session.specs.State.{IsLawful, remembered as session_remembered}
@@ -91,10 +90,17 @@ abbrev pub IsFirst : ℕ → List Mark → Type 0
 IsFirst c [] = ⊥
 IsFirst c (mark ∷ marks) = mark.connection ≡ c
 
-abbrev pub are_reached : List Mark → World → Bool
-are_reached marks w = list_all (λ mark. list_any (is_same mark) w.reached) marks
+-- the marks stand among these points in this order
+abbrev pub stand_in : List Mark → List Mark → Bool
+stand_in [] points = true
+stand_in (mark ∷ marks) [] = false
+stand_in (mark ∷ marks) (point ∷ points) = if is_same mark point then stand_in marks points else stand_in (mark ∷ marks) points
 
--- Allocations failed at these points of an event, first at one of this connection, and each of the points was reached.
+-- each of the points was reached, one behind the other
+abbrev pub are_reached : List Mark → World → Bool
+are_reached marks w = stand_in marks w.reached
+
+-- Allocations failed at these points of an event, in this order, and so first at one of this connection.
 pub record IsStarved (s : Setting) (w : World) (event : Event) (c : ℕ) (marks : List Mark) : Type 0 where
   pub first : IsFirst c marks
   pub reached : are_reached marks (happen s marks (begun_event [] w) event) ≡ true
@@ -105,7 +111,7 @@ Begins None marks = marks ≡ []
 Begins (Some c) marks = IsFirst c marks
 
 -- The code stands where the World of this history does with one more event, whatever its stores did: in it allocations failed
--- at these points, each of which was reached, and its commands came out so: as defined where the units of their target are sound.
+-- at these points, which were reached in this order, and its commands came out so: as defined where the units of their target are sound.
 pub record StandsAfter (s : Setting) (sent : ℕ → ℕ) (history : History) (event : Event) (starved : Option ℕ) (machine : Machine) : Type 0 where
   pub marks : List Mark
   pub comings : List Coming
