@@ -14,8 +14,9 @@ use Rattle.iscsi_target.specs.World.{Setting, World, is_present, present, sessio
 use Rattle.iscsi_target.specs.Output.{outputs, media, media_in}
 use Rattle.iscsi_target.specs.Machine.{Machine}
 use Rattle.iscsi_target.specs.Stands.{Stands}
-use Rattle.iscsi_target.specs.Isolation.{kept_from, connection_of, next_after, last_after, only_from, only, named_in, Selects, names, plain_world, events_of, AreUnmarked, AreCalm, kept, TargetsAreIsolated, TargetsSeeTheirOwn, StrangersAreAlone, GivesItsOwn}
+use Rattle.iscsi_target.specs.Isolation.{kept_from, connection_of, next_after, last_after, last_among, life_of, only_from, only, named_in, Selects, Watches, AreAlike, EventsAreLocal, names, plain_world, events_of, AreUnmarked, AreCalm, kept, TargetsAreIsolated, TargetsSeeTheirOwn, StrangersAreAlone, GivesItsOwn}
 use Rattle.iscsi_target.proofs.Choices.{cond_true, cond_false, and_true, not_true, eqb_self}
+use Rattle.iscsi_target.proofs.Keeping.{world-push}
 use Rattle.iscsi_target.proofs.IsolatedLives.{AllFrom, Selection, HasTarget, Fits, kept_in, kept_out, kept_append, kept_map, over_out, all_map, all_as, all_push, all_places}
 use Rattle.iscsi_target.proofs.IsolatedNames.{is_configured}
 use Rattle.iscsi_target.proofs.IsolatedAsking.{Named, AreNamed, adds-bring, same_count, named_first}
@@ -249,10 +250,10 @@ follow_out s target keeps (Gone c) comings opened last next w v may keep calm na
 
 -- ---- one event after the other
 
--- the kept lives, and the target's units
-record Parts (target : ℕ) (keeps : ℕ → Bool) (w v : World) : Type 0 where
-  lives : v.lives ≡ kept_from keeps 0 w.lives
-  units : slice_index_or v.units target [] ≡ slice_index_or w.units target []
+-- as Follow, behind these events
+abbrev Followed : ℕ → (ℕ → Bool) → List ℕ → (ℕ → ℕ) → ℕ → List Event → World → World → Type 0
+Followed target keeps opened last next events w v =
+    Follow target keeps (fold open_after opened events) (last_among next last events) (fold next_after next events) w v
 
 after : Setting → World → History → World
 after s w history = fold (happened s) w history
@@ -268,19 +269,22 @@ along_by : (b : Bool) (s : Setting) (target : ℕ) (keeps : ℕ → Bool) (event
     → AreNamed (selection target keeps opened last) s.directory (after s w (happening [] comings event ∷ history)) → Follow target keeps opened last next w v
     → ((x : World) → Follow target keeps (open_after opened event) (last_after next last event) (next_after next event)
     (happened s w (happening [] comings event)) x
-    → Parts target keeps (after s w (happening [] comings event ∷ history))
+    → Followed target keeps opened last next (event ∷ events_of history) (after s w (happening [] comings event ∷ history))
     (after s x (map plain (only_from keeps (next_after next event) (last_after next last event) (events_of history)))))
-    → Parts target keeps (after s w (happening [] comings event ∷ history)) (after s v (map plain (only_from keeps next last (event ∷ events_of history))))
+    → Followed target keeps opened last next (event ∷ events_of history) (after s w (happening [] comings event ∷ history))
+    (after s v (map plain (only_from keeps next last (event ∷ events_of history))))
 unfolding after
 along_by true s target keeps event comings history opened last next w v keep may calm named follow further =
     let others = only_from keeps (next_after next event) (last_after next last event) (events_of history) in
-    subst (λ (l : List Event). Parts target keeps (after s w (happening [] comings event ∷ history)) (after s v (map plain l)))
+    subst (λ (l : List Event). Followed target keeps opened last next (event ∷ events_of history) (after s w (happening [] comings event ∷ history))
+    (after s v (map plain l)))
     (sym (cond_true (keeps (last_after next last event (connection_of event))) (event ∷ others) others keep))
     (further (happened s v (plain event)) (follow_in s target keeps event comings opened last next w v may keep calm
     (named_first (selection target keeps opened last) s (happened s w (happening [] comings event)) history named) follow))
 along_by false s target keeps event comings history opened last next w v keep may calm named follow further =
     let others = only_from keeps (next_after next event) (last_after next last event) (events_of history) in
-    subst (λ (l : List Event). Parts target keeps (after s w (happening [] comings event ∷ history)) (after s v (map plain l)))
+    subst (λ (l : List Event). Followed target keeps opened last next (event ∷ events_of history) (after s w (happening [] comings event ∷ history))
+    (after s v (map plain l)))
     (sym (cond_false (keeps (last_after next last event (connection_of event))) (event ∷ others) others keep))
     (further v (follow_out s target keeps event comings opened last next w v may keep calm
     (named_first (selection target keeps opened last) s (happened s w (happening [] comings event)) history named) follow))
@@ -295,13 +299,13 @@ is_unmarked x e = ap (λ (marks : List Mark). happening marks x.comings x.event)
 along : (s : Setting) (target : ℕ) (keeps : ℕ → Bool) (history : History) (opened : List ℕ) (last : ℕ → ℕ) (next : ℕ) (w v : World)
     → may_follow opened (events_of history) ≡ true → AreUnmarked history → AreCalm target history
     → AreNamed (selection target keeps opened last) s.directory (after s w history) → Follow target keeps opened last next w v
-    → Parts target keeps (after s w history) (after s v (map plain (only_from keeps next last (events_of history))))
+    → Followed target keeps opened last next (events_of history) (after s w history) (after s v (map plain (only_from keeps next last (events_of history))))
 unfolding after
-along s target keeps [] opened last next w v may unmarked calm named follow = record { lives = follow.agree.lives; units = follow.agree.units.units }
+along s target keeps [] opened last next w v may unmarked calm named follow = follow
 along s target keeps (x ∷ history) opened last next w v may unmarked calm named follow =
     let both = and_true (may_come opened x.event) (may_follow (open_after opened x.event) (events_of history)) may in
     let same = is_unmarked x unmarked.0 in
-    let P : Happening → Type 0 = λ y. Parts target keeps (after s w (y ∷ history))
+    let P : Happening → Type 0 = λ y. Followed target keeps opened last next (x.event ∷ events_of history) (after s w (y ∷ history))
     (after s v (map plain (only_from keeps next last (x.event ∷ events_of history)))) in
     let Q : Happening → Type 0 = λ y. AreNamed (selection target keeps opened last) s.directory (after s w (y ∷ history)) in
     let named_ = subst Q (sym same) named in
@@ -328,23 +332,22 @@ selected s target keeps w selects =
     all_places (Named (selection target keeps [] (λ c. 0)) s.directory) 0 w.lives (λ k x at t e. (let here : 0 + k ≡ k = omega arith in
     ap keeps here ∙ selects k x t at e))
 
-parts : (s : Setting) (target : ℕ) (keeps : ℕ → Bool) (history : History) → well_formed (events_of history) ≡ true
-    → AreUnmarked history → AreCalm target history → Selects s.directory target keeps (world s history).lives
-    → Parts target keeps (world s history) (plain_world s (only keeps (events_of history)))
+followed : (s : Setting) (target : ℕ) (keeps : ℕ → Bool) (history : History) → may_follow [] (events_of history) ≡ true
+    → AreUnmarked history → AreCalm target history → AreNamed (selection target keeps [] (λ c. 0)) s.directory (world s history)
+    → Followed target keeps [] (λ c. 0) 0 (events_of history) (world s history) (plain_world s (only keeps (events_of history)))
 unfolding world only after
-parts s target keeps history formed unmarked calm selects =
-    along s target keeps history [] (λ c. 0) 0 (new_world s) (new_world s) formed unmarked calm
-    (selected s target keeps (after s (new_world s) history) selects) (none_yet s target keeps)
+followed s target keeps history formed unmarked calm named =
+    along s target keeps history [] (λ c. 0) 0 (new_world s) (new_world s) formed unmarked calm named (none_yet s target keeps)
 
 pub targets_are_isolated : TargetsAreIsolated
 unfolding outputs
 targets_are_isolated s target keeps history formed unmarked calm selects =
-    let both = parts s target keeps history formed unmarked calm selects in
+    let both = (followed s target keeps history formed unmarked calm (selected s target keeps (world s history) selects)).agree in
     record {
       lives = sym both.lives;
-      units = sym both.units;
+      units = sym both.units.units;
       answers = kept_map keeps out_of 0 (world s history).lives ∙ ap (map out_of) (sym both.lives);
-      media = ap (map kept_of) (sym both.units);
+      media = ap (map kept_of) (sym both.units.units);
     }
 
 pub targets_see_their_own : TargetsSeeTheirOwn
@@ -402,6 +405,95 @@ strangers_are_alone s history k life formed unmarked at none =
     let n = length s.directory.names + top_of history in
     (targets_are_isolated s n (λ j. eqb j k) history formed unmarked (all_calm history n (omega arith))
     (λ j other named there e. one_by (eqb j k) s n (world s history).lives j k named life other (omega arith) refl at none there e)).answers
+
+-- ---- one event
+
+-- no life is kept, of a number that no target has: so there are as many targets as before
+none_kept : (next : ℕ) (last : ℕ → ℕ) (events : List Event) → only_from (λ k. false) next last events ≡ []
+none_kept next last [] = refl
+none_kept next last (event ∷ events) = none_kept (next_after next event) (last_after next last event) events
+
+as_many : (s : Setting) (history : History) → may_follow [] (events_of history) ≡ true → AreUnmarked history
+    → length (world s history).units ≡ length s.units
+unfolding only world
+as_many s history formed unmarked =
+    let n = length s.directory.names + top_of history in
+    let f = followed s n (λ k. false) history formed unmarked (all_calm history n (omega arith)) (selected s n (λ k. false) (world s history)
+    (λ k life named at e. sym (ne_eqb named n (λ same. (let below = is_configured s.directory life named e in absurd (omega (arith, below, same))))))) in
+    sym f.agree.units.count ∙ ap (λ (events : List Event). length (plain_world s events).units) (none_kept 0 (λ c. 0) (events_of history))
+
+may_split : (opened : List ℕ) (events : List Event) (event : Event) → may_follow opened (events ++ event ∷ []) ≡ true
+    → (may_follow opened events ≡ true) × (may_come (fold open_after opened events) event ≡ true)
+may_split opened [] event may = (refl, (and_true (may_come opened event) true may).0)
+may_split opened (x ∷ events) event may =
+    let both = and_true (may_come opened x) (may_follow (open_after opened x) (events ++ event ∷ [])) may in
+    let rest = may_split (open_after opened x) events event both.1 in (rw both.0 rest.0, rest.1)
+
+module _ (s : Setting) (target : ℕ) (keeps : ℕ → Bool) (h : History) (came : List Coming) (event : Event) (at : Watches s target keeps h came event) where
+  abbrev before : World → Type 0
+  before v = Followed target keeps [] (λ c. 0) 0 (events_of h) (world s h) v
+
+  named_there : AreNamed (selection target keeps [] (λ c. 0)) s.directory (happened s (world s h) (happening [] came event))
+  named_there = selected s target keeps (happened s (world s h) (happening [] came event)) (subst (λ (w : World). Selects s.directory target keeps w.lives) (world-push s h (happening [] came event)) at.selects)
+
+  stood : before (plain_world s (only keeps (events_of h)))
+  stood = followed s target keeps h (may_split [] (events_of h) event at.formed).0 at.unmarked at.calm.0
+      (named_first (selection target keeps [] (λ c. 0)) s (world s h) (happening [] came event ∷ []) named_there)
+
+  seen_in : (v : World) → before v → keeps (life_of (events_of h) event) ≡ true
+      → Agree (selection target keeps (open_after (fold open_after [] (events_of h)) event) (last_after (fold next_after 0 (events_of h))
+      (last_among 0 (λ c. 0) (events_of h)) event)) (happened s (world s h) (happening [] came event)) (happened s v (plain event))
+  seen_in v follow keep =
+      let opened = fold open_after [] (events_of h) in
+      let last = last_among 0 (λ c. 0) (events_of h) in
+      (follow_in s target keeps event came opened last (fold next_after 0 (events_of h)) (world s h) v (may_split [] (events_of h) event at.formed).1 keep
+      at.calm.1 (renamed s target keeps [] opened (λ c. 0) last (happened s (world s h) (happening [] came event)) named_there) follow).agree
+
+  seen_out : (v : World) → before v → keeps (life_of (events_of h) event) ≡ false
+      → Agree (selection target keeps (open_after (fold open_after [] (events_of h)) event) (last_after (fold next_after 0 (events_of h))
+      (last_among 0 (λ c. 0) (events_of h)) event)) (happened s (world s h) (happening [] came event)) v
+  seen_out v follow keep =
+      let opened = fold open_after [] (events_of h) in
+      let last = last_among 0 (λ c. 0) (events_of h) in
+      (follow_out s target keeps event came opened last (fold next_after 0 (events_of h)) (world s h) v (may_split [] (events_of h) event at.formed).1 keep
+      at.calm.1 (renamed s target keeps [] opened (λ c. 0) last (happened s (world s h) (happening [] came event)) named_there) follow).agree
+
+  count_there : length (world s h).units ≡ length s.units
+  count_there = as_many s h (may_split [] (events_of h) event at.formed).0 at.unmarked
+
+-- where the second of two Worlds is that which follows the first, they are as two that follow it
+agrees_there : (target : ℕ) (keeps others : ℕ → Bool) (opened opened_there : List ℕ) (last last_there : ℕ → ℕ) (next next_there : ℕ) (w u v x : World)
+    → Follow target keeps opened last next w v → Follow target others opened_there last_there next_there u x → AreAlike target keeps others w u
+    → length w.units ≡ length u.units → Follow target others opened_there last_there next_there u v
+agrees_there target keeps others opened opened_there last last_there next next_there w u v x one two alike count = record {
+  agree = record {
+    lives = one.agree.lives ∙ alike.lives;
+    units = record { units = one.agree.units.units ∙ alike.units; count = one.agree.units.count ∙ count };
+    fits = two.agree.fits;
+    calm = two.agree.calm;
+    silent = one.agree.silent;
+  };
+  count = two.count;
+}
+
+pub events_are_local : EventsAreLocal
+events_are_local = record {
+  own = λ s target keeps others h g came came_there event a b keep keep_there alike.
+      (let v = plain_world s (only keeps (events_of h)) in
+      let one = stood s target keeps h came event a in
+      let two = agrees_there target keeps others _ _ _ _ _ _ (world s h) (world s g) v (plain_world s (only others (events_of g))) one
+      (stood s target others g came_there event b) alike (count_there s target keeps h came event a ∙ sym (count_there s target others g came_there event b)) in
+      let here = seen_in s target keeps h came event a v one keep in
+      let there = seen_in s target others g came_there event b v two keep_there in
+      rw (world-push s h (happening [] came event), world-push s g (happening [] came_there event))
+      (record { lives = sym here.lives ∙ there.lives; units = sym here.units.units ∙ there.units.units }));
+  other = λ s target keeps h came event a keep.
+      (let v = plain_world s (only keeps (events_of h)) in
+      let one = stood s target keeps h came event a in
+      let there = seen_out s target keeps h came event a v one keep in
+      rw (world-push s h (happening [] came event))
+      (record { lives = sym one.agree.lives ∙ there.lives; units = sym one.agree.units.units ∙ there.units.units }));
+}
 
 -- ---- what a run gives
 

@@ -1,11 +1,11 @@
 -- What one target's initiators see: its part of a history, without the connections of the other targets.
-use Rattle.std.specs.Prelude.{◌≡◌, ℕ, suc, ◌+◌, List, [], ◌∷◌, map, Bool, true, ◌==◌, Option, Some, None, slice_get, if◌then◌else◌, ⊤}
+use Rattle.std.specs.Prelude.{◌≡◌, ℕ, suc, ◌+◌, List, [], ◌∷◌, ◌++◌, fold, map, Bool, true, false, ◌==◌, Option, Some, None, slice_get, if◌then◌else◌, ⊤}
 use Rattle.std.specs.Option.{option_and_then}
 use Rattle.iscsi_login.specs.Directory.{KnownTargets}
 use Rattle.iscsi_login.specs.Session.{is_same_target}
 use Rattle.iscsi_login.specs.Login.{remembered}
-use Rattle.iscsi_session.specs.Comings.{IsCalm}
-use Rattle.iscsi_target.specs.History.{Event, Open, Bytes, Gone, History, plain, well_formed}
+use Rattle.iscsi_session.specs.Comings.{Coming, IsCalm}
+use Rattle.iscsi_target.specs.History.{Event, Open, Bytes, Gone, History, happening, plain, well_formed}
 use Rattle.iscsi_target.specs.Life.{Life}
 use Rattle.iscsi_target.specs.World.{Setting, World, world, units_at}
 use Rattle.iscsi_target.specs.Output.{outputs, media, media_in}
@@ -108,6 +108,43 @@ abbrev pub StrangersAreAlone : Type 0
 StrangersAreAlone = (s : Setting) (history : History) (k : ℕ) (life : Life) → well_formed (events_of history) ≡ true → AreUnmarked history
     → slice_get (world s history).lives k ≡ Some life → named_in s.directory life ≡ None
     → kept (λ j. j == k) (outputs s history) ≡ outputs s (map plain (only (λ j. j == k) (events_of history)))
+
+-- ---- one event
+
+-- the number of the last life of each connection behind these events
+abbrev pub last_among : ℕ → (ℕ → ℕ) → List Event → ℕ → ℕ
+last_among next last [] = last
+last_among next last (event ∷ events) = last_among (next_after next event) (last_after next last event) events
+
+-- the number of an event's life, where these events came before it
+abbrev pub life_of : List Event → Event → ℕ
+life_of events event = last_after (fold next_after 0 events) (last_among 0 (λ c. 0) events) event (connection_of event)
+
+-- One more event of a history, in which no allocation failed and no store of this target, and some of the lives: each that names
+-- the target is kept, and none that names another one.
+pub record Watches (s : Setting) (target : ℕ) (keeps : ℕ → Bool) (history : History) (comings : List Coming) (event : Event) : Type 0 where
+  pub formed : well_formed (events_of history ++ event ∷ []) ≡ true
+  pub unmarked : AreUnmarked history
+  pub calm : AreCalm target history × IsCalm target comings
+  pub selects : Selects s.directory target keeps (world s (history ++ happening [] comings event ∷ [])).lives
+
+-- the same lives are kept, with the same answers, and the target has the same units
+pub record AreAlike (target : ℕ) (keeps others : ℕ → Bool) (one other : World) : Type 0 where
+  pub lives : kept keeps one.lives ≡ kept others other.lives
+  pub units : units_at (Some target) one.units ≡ units_at (Some target) other.units
+
+-- What an event does to its own life and to a target is a function of the target's part, of the life and of the event: two histories
+-- that agree on this agree on it behind the event, be it of a login, of a discovery session or of a session with the target (own).
+-- Of the event of a life that is not kept nothing is seen there (other).
+pub record EventsAreLocal : Type 0 where
+  pub own : (s : Setting) (target : ℕ) (keeps others : ℕ → Bool) (h g : History) (came came_there : List Coming) (event : Event)
+      → Watches s target keeps h came event → Watches s target others g came_there event
+      → keeps (life_of (events_of h) event) ≡ true → others (life_of (events_of g) event) ≡ true
+      → AreAlike target keeps others (world s h) (world s g)
+      → AreAlike target keeps others (world s (h ++ happening [] came event ∷ [])) (world s (g ++ happening [] came_there event ∷ []))
+  pub other : (s : Setting) (target : ℕ) (keeps : ℕ → Bool) (h : History) (came : List Coming) (event : Event)
+      → Watches s target keeps h came event → keeps (life_of (events_of h) event) ≡ false
+      → AreAlike target keeps keeps (world s h) (world s (h ++ happening [] came event ∷ []))
 
 -- ---- what a run gives
 

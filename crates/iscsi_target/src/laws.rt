@@ -1,7 +1,7 @@
 //! What holds of the definitions. The functions do nothing: their contracts are the laws.
 
 ghost use Rattle.iscsi_target.specs.History.{ArrivalsInPieces};
-ghost use Rattle.iscsi_target.specs.Isolation.{TargetsAreIsolated, TargetsSeeTheirOwn, StrangersAreAlone};
+ghost use Rattle.iscsi_target.specs.Isolation.{TargetsAreIsolated, TargetsSeeTheirOwn, StrangersAreAlone, EventsAreLocal};
 ghost use Rattle.iscsi_target.specs.Bounded.{CallsKeepBounded};
 ghost use Rattle.iscsi_target.specs.Laws.{AnswersStay, SureIsSound, SessionsFinishAsTaken, OthersStay, OthersGoOn};
 
@@ -51,6 +51,13 @@ pub fn targets_are_isolated()
     ensures selected { TargetsAreIsolated }
     ensures named { TargetsSeeTheirOwn }
     ensures strangers { StrangersAreAlone }
+{}
+
+/// What one event does to its own connection and to a target is a function of that target's units and connections, of what came on
+/// the connection before, and of the event; of an event elsewhere nothing is seen there.
+#[tactic(auto, using(crate::proofs::Isolation::events_are_local))]
+pub fn events_are_local()
+    ensures { EventsAreLocal }
 {}
 
 /// No connection of a new target makes it hold more than it may, and none does where connections open and end, and
