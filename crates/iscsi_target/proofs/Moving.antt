@@ -44,7 +44,7 @@ moves_none b machine = record {
   eases = λ d other. adds_none 0 (link_at machine d);
 }
 
-keeps_by : (b : Bool) (half : List ℕ) (now after : LinkState) → is_reading now.phase ≡ b → KeepsHalf half now
+pub keeps_by : (b : Bool) (half : List ℕ) (now after : LinkState) → is_reading now.phase ≡ b → KeepsHalf half now
     → (is_reading now.phase ≡ true → KeepsHalf now.half after) → (is_reading now.phase ≡ false → after ≡ now) → KeepsHalf half after
 keeps_by true half now after r first next still = let k = next r in record { reading = λ e. k.reading e ∙ first.reading r; idle = k.idle }
 keeps_by false half now after r first next still = subst (KeepsHalf half) (sym (still r)) first

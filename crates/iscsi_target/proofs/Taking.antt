@@ -31,7 +31,7 @@ use Rattle.iscsi_target.proofs.Frames.{idle, arrived, starves}
 use Rattle.iscsi_target.proofs.Apart.{part_none, part_closed, part_halved, part_as, part_then}
 use Rattle.iscsi_target.proofs.Bounding.{adds_none, adds_then, adds_more}
 use Rattle.iscsi_target.proofs.Heavier.{closed_loads, halved_adds}
-use Rattle.iscsi_target.proofs.Moving.{keeps_same, link_other, Changes, reading_open, own_self, feeds_then, closed_then, changes_feeds, closed_moves, starved_moves, moves_as, moves_none}
+use Rattle.iscsi_target.proofs.Moving.{keeps_same, keeps_by, link_other, Changes, reading_open, own_self, feeds_then, closed_then, changes_feeds, closed_moves, starved_moves, moves_as, moves_none}
 
 -- ---- the bytes that are kept
 
@@ -167,6 +167,8 @@ takes_frame old given new c frame starved lt count r gives is takes moves part l
             (part_halved old c more (omega (arith, count)))) part;
         eases = λ d other. subst (λ (l : LinkState). AddsAtMost 0 l (link_at new d)) (ap (λ (m : Machine). link_at m d) is
             ∙ link_other old old.units c d (record (link_at old c) { half = more }) other) (moves.eases d other);
+        keeps = λ d other. (let P : LinkState → Type 0 = λ l. is_reading l.phase ≡ true → KeepsHalf l.half (link_at new d) in
+            subst P (ap (λ (m : Machine). link_at m d) is ∙ link_other old old.units c d (record (link_at old c) { half = more }) other) (moves.keeps d));
         loads = halved_adds 1 (link_at old c) (link_at new c) more (subst (λ (l : LinkState). AddsAtMost 1 l (link_at new c)) link loads);
       };
     }
@@ -182,6 +184,7 @@ closes_leaves c starved old new lt is moves = record {
   part = part_as c old (closed old c) new is (part_closed old c lt);
   eases = moves.eases;
   loads = closed_loads 1 old new c lt is;
+  keeps = λ d other reads_. moves.keeps d reads_;
 }
 
 -- a header that names too much data
@@ -275,6 +278,7 @@ begins machine c lt r = record {
     part = part_none c machine;
     eases = (moves_none c machine).eases;
     loads = adds_none 0 (link_at machine c);
+    keeps = λ d other reads_. keeps_same (link_at machine d) reads_;
   };
 }
 
@@ -408,6 +412,8 @@ leaves_then c n m a b first machine new r p one = record {
   part = part_then c first machine new r p.part one.part;
   eases = λ d other. adds_then 0 0 (link_at first d) (link_at machine d) (link_at new d) (p.eases d other) (one.eases d other);
   loads = adds_then n m (link_at first c) (link_at machine c) (link_at new c) p.loads one.loads;
+  keeps = λ d other reads_. keeps_by (is_reading (link_at machine d).phase) (link_at first d).half (link_at machine d) (link_at new d) refl
+      (p.keeps d other reads_) (one.keeps d other) (one.feeds.still d);
 }
 
 pub goes_on : (c : ℕ) (a b : Option ℕ) (first machine new : Machine) → is_reading (link_at machine c).phase ≡ true → Progress c a first machine
@@ -468,12 +474,13 @@ ends_idle c starved first machine lt r p =
         closing = p.leaves.closing;
         part = p.leaves.part;
         eases = p.leaves.eases;
+        keeps = p.leaves.keeps;
         loads = adds_more (length p.done) (length (arrivals half0)) (link_at first c) (link_at machine c) count p.leaves.loads;
       };
     }
 
 -- nothing whole is left
-nothing_by : (b : Bool) (bytes : List ℕ) → has_frame bytes ≡ b → arrivals bytes ≡ [] → has_frame bytes ≡ false
+pub nothing_by : (b : Bool) (bytes : List ℕ) → has_frame bytes ≡ b → arrivals bytes ≡ [] → has_frame bytes ≡ false
 nothing_by true bytes e none = absurd (cc (
   none,
   some_whole bytes (drop (frame_length bytes) bytes) (first_frame bytes) (frames_step bytes e)
@@ -481,7 +488,7 @@ nothing_by true bytes e none = absurd (cc (
 ))
 nothing_by false bytes e none = e
 
-short_by : (b : Bool) (bytes : List ℕ) → is_long bytes ≡ b → arrivals bytes ≡ [] → is_long bytes ≡ false
+pub short_by : (b : Bool) (bytes : List ℕ) → is_long bytes ≡ b → arrivals bytes ≡ [] → is_long bytes ≡ false
 short_by true bytes e none = absurd (cc (none, long_whole bytes e))
 short_by false bytes e none = e
 

@@ -11,20 +11,15 @@ use Rattle.iscsi_login.specs.Directory.{KnownTargets}
 use Rattle.scsi_unit.specs.Units.{UnitStates}
 use Rattle.iscsi_session.specs.Weight.{request_weight, most_added}
 use Rattle.iscsi_session.proofs.AtRest.{few_pending}
-use Rattle.iscsi_target.specs.History.{History, arrivals, connection_limit}
-use Rattle.iscsi_target.specs.Life.{Life, reads}
-use Rattle.iscsi_target.specs.World.{Setting, present, world}
+use Rattle.iscsi_target.specs.History.{arrivals, connection_limit}
 use Rattle.iscsi_target.specs.Machine.{LinkState, Machine, link_at, with_link, free_link, shut_link, opened_link, sent_link, closed, new_machine, is_reading, is_closing, most_waiting, want_of}
-use Rattle.iscsi_target.specs.Stands.{Stands, IsShort, link_of, half_of}
-use Rattle.iscsi_target.specs.Serving.{Serves, TakesAll}
-use Rattle.iscsi_target.specs.Bounded.{most_weight, weight_in, Rests, WeighsAtMost, Bounded, AddsAtMost, CallsKeepBounded}
+use Rattle.iscsi_target.specs.Serving.{KeepsHalf, TakesAll}
+use Rattle.iscsi_target.specs.Bounded.{most_weight, weight_in, Rests, WeighsAtMost, IsBounded, Bounded, AddsAtMost, CallsKeepBounded}
 use Rattle.iscsi_target.specs.declared.phase.Phase.{Phase}
 use Rattle.iscsi_target.specs.declared.phase.Phase.TheVariants as phases
 use Rattle.iscsi_target.proofs.Lending.{none_linked}
-use Rattle.iscsi_target.proofs.Linked.{link_is}
-use Rattle.iscsi_target.proofs.Standing.{nothing_long}
 use Rattle.iscsi_target.proofs.Moving.{link_set, link_other, closed_count}
-use Rattle.iscsi_target.proofs.Taking.{none_whole, some_whole, long_whole, no_bytes}
+use Rattle.iscsi_target.proofs.Taking.{none_whole, some_whole, long_whole, no_bytes, nothing_by, short_by}
 use Rattle.iscsi_target.proofs.Bounding.{adds_shut}
 
 -- ---- frames
@@ -96,31 +91,17 @@ rest_no_frame bytes = by_frame (has_frame (rest bytes)) refl
 
 -- ---- what a connection keeps between two events
 
-pub record IsHalf (link : LinkState) : Type 0 where
-  frame : has_frame link.half ≡ false
-  short : is_long link.half ≡ false
+-- nothing whole, and no header that names too much data
+abbrev IsPartial : List ℕ → Type 0
+IsPartial half = (has_frame half ≡ false) × (is_long half ≡ false)
 
-half_by : (directory : KnownTargets) (sent : ℕ) (o : Option Life) → IsShort o → is_reading (link_of directory sent (half_of o) o).phase ≡ true
-    → IsHalf (link_of directory sent (half_of o) o)
-half_by directory sent None short reads_ = absurd cc
-half_by directory sent (Some life) short reads_ = by_phase (reads life.phase) refl
-  where
-    by_phase : (b : Bool) → reads life.phase ≡ b → IsHalf (link_of directory sent (half_of (Some life)) (Some life))
-    by_phase true e =
-        let half : (link_of directory sent (half_of (Some life)) (Some life)).half ≡ rest life.bytes = rw e refl in
-        record { frame = ap has_frame half ∙ rest_no_frame life.bytes; short = ap is_long half ∙ short e }
-    by_phase false e =
-        let half : (link_of directory sent (half_of (Some life)) (Some life)).half ≡ [] = rw e refl in
-        record { frame = ap has_frame half ∙ no_frame; short = ap is_long half ∙ nothing_long }
+partial_of : (half : List ℕ) → arrivals half ≡ [] → IsPartial half
+partial_of half none = (nothing_by (has_frame half) half refl none, short_by (is_long half) half refl none)
 
-pub half_there : (s : Setting) (sent : ℕ → ℕ) (h : History) (machine : Machine) (c : ℕ) → c < connection_limit → Stands s sent machine h
-    → is_reading (link_at machine c).phase ≡ true → IsHalf (link_at machine c)
-half_there s sent h machine c lt at reads_ =
-    let w = world s h in
-    let serves : Serves s sent (λ d. half_of (present d w)) w machine = record { is = at.is; answered = at.answered; quiet = at.quiet } in
-    let is = link_is s sent (λ d. half_of (present d w)) w machine c lt serves in
-    subst IsHalf (sym is)
-    (half_by s.directory (sent c) (present c w) (at.short c lt) (ap (λ (l : LinkState). is_reading l.phase) (sym is) ∙ reads_))
+kept_partial : (b : Bool) (half : List ℕ) (link : LinkState) → is_reading link.phase ≡ b → KeepsHalf half link
+    → (is_reading link.phase ≡ true → arrivals half ≡ []) → arrivals link.half ≡ []
+kept_partial true half link reads_ kept none = ap arrivals (kept.reading reads_) ∙ none reads_
+kept_partial false half link reads_ kept none = ap arrivals (kept.idle reads_) ∙ no_bytes
 
 -- ---- as heavy as it may be
 
@@ -128,20 +109,20 @@ least_of : (waiting : ℕ) (phase : Phase) → Rests phase → weight_in waiting
 least_of waiting (phases.FullFeature session) r = omega (arith, few_pending session r)
 least_of waiting _ r = omega arith
 
-weighs_by : (b : Bool) (old new : LinkState) (piece : List ℕ) → ltb most_waiting (length old.waiting) ≡ b → IsHalf old → is_closing old.phase ≡ false
+weighs_by : (b : Bool) (old new : LinkState) (piece : List ℕ) → ltb most_waiting (length old.waiting) ≡ b → IsPartial old.half → is_closing old.phase ≡ false
     → length piece ≤ want_of old → AddsAtMost (length (arrivals (old.half ++ piece))) old new → WeighsAtMost most_weight old → WeighsAtMost most_weight new
 weighs_by true old new piece much half open_ le adds w =
     let none : want_of old ≡ 0 = rw (open_, much) refl in
     let empty : piece ≡ [] = nil_from_length piece (omega (arith, le, none)) in
     let all : arrivals (old.half ++ piece) ≡ [] = ap (λ (l : List ℕ). arrivals (old.half ++ l)) empty ∙ ap arrivals (append-nil old.half)
-    ∙ none_whole old.half half.frame half.short in
+    ∙ none_whole old.half half.0 half.1 in
     let a = adds w.rests in
     let fits = a.fits in
     let was = w.fits in
     record { fits = omega (arith, fits, was, ap (λ l. length l * most_added) all); rests = a.rests }
 weighs_by false old new piece few half open_ le adds w =
     let is : want_of old ≡ wanted old.half = rw (open_, few) refl in
-    let one = wanted_few old.half piece half.frame half.short (omega (arith, le, is)) in
+    let one = wanted_few old.half piece half.0 half.1 (omega (arith, le, is)) in
     let a = adds w.rests in
     let fits = a.fits in
     record {
@@ -156,33 +137,49 @@ reading_no_closing _ e = refl
 pub eased : (old new : LinkState) → AddsAtMost 0 old new → WeighsAtMost most_weight old → WeighsAtMost most_weight new
 eased old new adds w = let a = adds w.rests in let fits = a.fits in let was = w.fits in record { fits = omega (arith, fits, was); rests = a.rests }
 
+-- another connection keeps its bytes, or none
+other_partial : (b : Bool) (old new : LinkState) → is_reading old.phase ≡ b → (is_reading old.phase ≡ true → KeepsHalf old.half new)
+    → (is_reading old.phase ≡ false → new ≡ old) → arrivals old.half ≡ [] → arrivals new.half ≡ []
+other_partial true old new reads_ keeps still none = kept_partial (is_reading new.phase) old.half new refl (keeps reads_) (λ on. none)
+other_partial false old new reads_ keeps still none = ap (λ (l : LinkState). arrivals l.half) (still reads_) ∙ none
+
 -- a piece that is no longer than what is wanted, and what is whole is taken
 pub fed_bounded : (old kept new : Machine) (c : ℕ) (piece : List ℕ) (starved : Option ℕ) → c < length old.links
-    → is_reading (link_at old c).phase ≡ true → IsHalf (link_at old c)
+    → is_reading (link_at old c).phase ≡ true
     → kept ≡ with_link old c (record (link_at old c) { half = (link_at old c).half ++ piece }) → TakesAll c starved kept new
     → length piece ≤ want_of (link_at old c) → Bounded old → Bounded new
-fed_bounded old kept new c piece starved lt reads_ half is takes le bounded d = elim (eqb_tells d c) [
+fed_bounded old kept new c piece starved lt reads_ is takes le bounded d = elim (eqb_tells d c) [
   | inl same ↦
+      let bytes = (link_at kept c).half in
       let link = record (link_at old c) { half = (link_at old c).half ++ piece } in
       let there : link_at kept c ≡ link = ap (λ (m : Machine). link_at m c) is ∙ link_set old old.units c link lt in
       let P : LinkState → Type 0 = λ l. AddsAtMost (length (arrivals l.half)) l (link_at new c) in
-      subst (λ (k : ℕ). WeighsAtMost most_weight (link_at new k)) (sym same.1)
-      (weighs_by (ltb most_waiting (length (link_at old c).waiting)) (link_at old c) (link_at new c) piece refl half
-      (reading_no_closing (link_at old c).phase reads_) le (subst P there takes.leaves.loads) (bounded c))
+      subst (λ (k : ℕ). IsBounded (link_at new k)) (sym same.1) (record {
+        weighs = weighs_by (ltb most_waiting (length (link_at old c).waiting)) (link_at old c) (link_at new c) piece refl
+            (partial_of (link_at old c).half (bounded c).partial)
+            (reading_no_closing (link_at old c).phase reads_) le (subst P there takes.leaves.loads) (bounded c).weighs;
+        partial = kept_partial (is_reading (link_at new c).phase) (rest bytes) (link_at new c) refl takes.kept
+            (λ on. none_whole (rest bytes) (rest_no_frame bytes) (takes.short on));
+      })
   | inr differ ↦
       let link = record (link_at old c) { half = (link_at old c).half ++ piece } in
       let there : link_at kept d ≡ link_at old d = ap (λ (m : Machine). link_at m d) is ∙ link_other old old.units c d link differ.1 in
-      eased (link_at old d) (link_at new d) (subst (λ (l : LinkState). AddsAtMost 0 l (link_at new d)) there (takes.leaves.eases d differ.1)) (bounded d)
+      record {
+        weighs = eased (link_at old d) (link_at new d) (subst (λ (l : LinkState). AddsAtMost 0 l (link_at new d)) there (takes.leaves.eases d differ.1))
+            (bounded d).weighs;
+        partial = other_partial (is_reading (link_at kept d).phase) (link_at kept d) (link_at new d) refl (takes.leaves.keeps d differ.1)
+            (takes.leaves.feeds.still d) (ap (λ (l : LinkState). arrivals l.half) there ∙ (bounded d).partial);
+      }
 ]
 
 -- ---- the other calls
 
-pub with_bounded : (machine : Machine) (c : ℕ) (link : LinkState) → c < length machine.links → Bounded machine → WeighsAtMost most_weight link
+pub with_bounded : (machine : Machine) (c : ℕ) (link : LinkState) → c < length machine.links → Bounded machine → IsBounded link
     → Bounded (with_link machine c link)
 with_bounded machine c link lt bounded w d = elim (eqb_tells d c) [
-  | inl same ↦ subst (λ (k : ℕ). WeighsAtMost most_weight (link_at (with_link machine c link) k)) (sym same.1)
-      (subst (WeighsAtMost most_weight) (sym (link_set machine machine.units c link lt)) w)
-  | inr differ ↦ subst (WeighsAtMost most_weight) (sym (link_other machine machine.units c d link differ.1)) (bounded d)
+  | inl same ↦ subst (λ (k : ℕ). IsBounded (link_at (with_link machine c link) k)) (sym same.1)
+      (subst IsBounded (sym (link_set machine machine.units c link lt)) w)
+  | inr differ ↦ subst IsBounded (sym (link_other machine machine.units c d link differ.1)) (bounded d)
 ]
 
 closed_links : (machine : Machine) (c d : ℕ) → link_at (closed machine c) d ≡ link_at (with_link machine c (shut_link (link_at machine c))) d
@@ -191,16 +188,16 @@ closed_links machine c d = refl
 
 pub closed_bounded : (machine : Machine) (c : ℕ) → c < length machine.links → Bounded machine → Bounded (closed machine c)
 closed_bounded machine c lt bounded d =
-    subst (WeighsAtMost most_weight) (sym (closed_links machine c d))
-    (with_bounded machine c (shut_link (link_at machine c)) lt bounded (eased (link_at machine c) _ (adds_shut 0 (link_at machine c)) (bounded c)) d)
+    subst IsBounded (sym (closed_links machine c d)) (with_bounded machine c (shut_link (link_at machine c)) lt bounded
+    (record { weighs = eased (link_at machine c) _ (adds_shut 0 (link_at machine c)) (bounded c).weighs; partial = no_bytes }) d)
 
 pub opened_bounded : (machine : Machine) (c : ℕ) → c < length machine.links → Bounded machine → Bounded (with_link machine c (opened_link c))
-opened_bounded machine c lt bounded = with_bounded machine c (opened_link c) lt bounded (record { fits = omega arith; rests = tt })
+opened_bounded machine c lt bounded = with_bounded machine c (opened_link c) lt bounded (record { weighs = record { fits = omega arith; rests = tt }; partial = no_bytes })
 
 pub gone_bounded : (machine : Machine) (c : ℕ) → c < length machine.links → Bounded machine → Bounded (with_link (closed machine c) c free_link)
 gone_bounded machine c lt bounded =
     with_bounded (closed machine c) c free_link (omega (arith, lt, closed_count machine c)) (closed_bounded machine c lt bounded)
-    (record { fits = omega arith; rests = tt })
+    (record { weighs = record { fits = omega arith; rests = tt }; partial = no_bytes })
 
 sent_weight : (waiting less : ℕ) (phase : Phase) → less ≤ waiting → weight_in less phase ≤ weight_in waiting phase
 sent_weight waiting less (phases.FullFeature session) le = omega (arith, le)
@@ -210,14 +207,18 @@ pub sent_bounded : (machine : Machine) (c n : ℕ) → c < length machine.links 
 sent_bounded machine c n lt bounded =
     let link = link_at machine c in
     let w = bounded c in
-    let fits = w.fits in
+    let fits = w.weighs.fits in
     with_bounded machine c (sent_link link n) lt bounded (record {
-      fits = omega (arith, fits, sent_weight (length link.waiting) (length (drop n link.waiting)) link.phase (omega (arith, length-drop n link.waiting)));
-      rests = w.rests;
+      weighs = record {
+        fits = omega (arith, fits, sent_weight (length link.waiting) (length (drop n link.waiting)) link.phase (omega (arith, length-drop n link.waiting)));
+        rests = w.weighs.rests;
+      };
+      partial = w.partial;
     })
 
 pub new_bounded : (directory : KnownTargets) (units : List UnitStates) → Bounded (new_machine directory units)
-new_bounded directory units c = subst (WeighsAtMost most_weight) (sym (none_linked connection_limit c)) (record { fits = omega arith; rests = tt })
+new_bounded directory units c = subst IsBounded (sym (none_linked connection_limit c))
+    (record { weighs = record { fits = omega arith; rests = tt }; partial = no_bytes })
 
 pub bounded_as : (a b : Machine) → b ≡ a → Bounded a → Bounded b
 bounded_as a b e bounded = subst Bounded (sym e) bounded
@@ -227,5 +228,5 @@ calls_keep_bounded = record { made = new_bounded; opened = opened_bounded; gone 
 
 -- a machine with the connections of this one
 pub bounded_links : (machine : Machine) (links : List LinkState) → machine.links ≡ links → Bounded machine → (c : ℕ)
-    → WeighsAtMost most_weight (get_or links c free_link)
-bounded_links machine links e bounded c = subst (λ (l : List LinkState). WeighsAtMost most_weight (get_or l c free_link)) e (bounded c)
+    → IsBounded (get_or links c free_link)
+bounded_links machine links e bounded c = subst (λ (l : List LinkState). IsBounded (get_or l c free_link)) e (bounded c)

@@ -1,8 +1,9 @@
 -- What a connection may make the target hold (profile): what waits to be sent on it, and the requests of its session.
-use Rattle.std.specs.Prelude.{ℕ, ◌+◌, ◌*◌, ◌<◌, ◌≤◌, List, length, ⊤}
+use Rattle.std.specs.Prelude.{◌≡◌, ℕ, ◌+◌, ◌*◌, ◌<◌, ◌≤◌, List, [], length, ⊤}
 use Rattle.iscsi_session.specs.Weight.{weight_with, most_added, IsAtRest}
 use Rattle.iscsi_login.specs.Directory.{KnownTargets}
 use Rattle.scsi_unit.specs.Units.{UnitStates}
+use Rattle.iscsi_target.specs.History.{arrivals}
 use Rattle.iscsi_target.specs.Machine.{LinkState, Machine, link_at, with_link, free_link, opened_link, sent_link, closed, new_machine}
 use Rattle.iscsi_target.specs.declared.phase.Phase.{Phase}
 use Rattle.iscsi_target.specs.declared.phase.Phase.TheVariants.{Free, Login, FullFeature, Closing}
@@ -33,9 +34,14 @@ pub record WeighsAtMost (most : ℕ) (link : LinkState) : Type 0 where
   pub fits : weight link ≤ most
   pub rests : Rests link.phase
 
+-- a connection that is, and keeps no bytes that are whole
+pub record IsBounded (link : LinkState) : Type 0 where
+  pub weighs : WeighsAtMost most_weight link
+  pub partial : arrivals link.half ≡ []
+
 -- each connection is
 abbrev pub Bounded : Machine → Type 0
-Bounded machine = (c : ℕ) → WeighsAtMost most_weight (link_at machine c)
+Bounded machine = (c : ℕ) → IsBounded (link_at machine c)
 
 -- what so many frames make of a connection: with none it is no heavier
 abbrev pub AddsAtMost : ℕ → LinkState → LinkState → Type 0

@@ -143,6 +143,7 @@ pub record Leaves (c n : ℕ) (starved : Option ℕ) (old new : Machine) : Type 
   pub part : KeepsPart c old new
   pub eases : (d : ℕ) → d ≢ c → AddsAtMost 0 (link_at old d) (link_at new d)
   pub loads : AddsAtMost n (link_at old c) (link_at new c)
+  pub keeps : (d : ℕ) → d ≢ c → is_reading (link_at old d).phase ≡ true → KeepsHalf (link_at old d).half (link_at new d)
 
 -- the first of what is whole is taken
 pub record TakesOne (c : ℕ) (starved : Option ℕ) (old new : Machine) : Type 0 where

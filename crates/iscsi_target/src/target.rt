@@ -130,8 +130,7 @@ impl<S: Store> Target<S> {
         ensures open { (d : ℕ) → is_open_at self.new d ≡ is_open_at self.old d }
 
         // Where no more comes than is wanted, no connection makes the target hold more than it may.
-        ensures bounded { (s : Setting) (sent : ℕ → ℕ) (h : History) → WhereSound self.old (Stands s sent self.old h)
-            → length piece.now ≤ want_of (link_at self.old c) → Bounded self.old → WhereSound self.new (Bounded self.new) }
+        ensures bounded { length piece.now ≤ want_of (link_at self.old c) → Bounded self.old → Bounded self.new }
         ensures empty { piece.now ≡ [] → IsOk result }
         ensures idle { is_closing (link_at self.old c).phase ≡ true → IsOk result }
     {

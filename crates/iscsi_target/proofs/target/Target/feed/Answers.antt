@@ -8,7 +8,7 @@ use Rattle.iscsi_target.proofs.Feeding.{comes_idle, comes_empty, all_came, ok_ca
 use Rattle.iscsi_target.proofs.Moving.{own_self, closed_closing, closing_if, closed_moves, feeds_then, moves_as}
 use Rattle.iscsi_target.proofs.Sound.{sound_back, closed_back, at_as, at_units, closed_sound, closed_sure, sound_as, sure_as}
 use Rattle.iscsi_target.proofs.Standing.{stands_as}
-use Rattle.iscsi_target.proofs.Wanting.{half_there, fed_bounded, closed_bounded, bounded_as}
+use Rattle.iscsi_target.proofs.Wanting.{fed_bounded, closed_bounded, bounded_as}
 use Rattle.iscsi_target.proofs.target.Target.feed.Goals as goal
 
 pub returns-then-is_empty-clause-stands : goal.returns-then-is_empty-clause-stands
@@ -144,23 +144,14 @@ returns-then-not-reads-clause-part g c = part_none c.args.c c.args.self.now
 
 -- ---- no connection makes the target hold too much
 
-pub returns-then-is_empty-clause-bounded : goal.returns-then-is_empty-clause-bounded
-returns-then-is_empty-clause-bounded g c = λ s sent h at le bounded sound. bounded
-
-pub returns-then-not-reads-clause-bounded : goal.returns-then-not-reads-clause-bounded
-returns-then-not-reads-clause-bounded g c = λ s sent h at le bounded sound. bounded
-
 pub returns-in-Err-clause-bounded : goal.returns-in-Err-clause-bounded
-returns-in-Err-clause-bounded g c = λ s sent h at le bounded sound.
+returns-in-Err-clause-bounded g c = λ le bounded.
     (let same : c.starve.new.self ≡ closed c.args.self.now c.args.c = c.starve.ensures.closed ∙ ap (λ (m : Machine). closed m c.args.c) c.in-Err.ensures.err in
     let lt : c.args.c < length c.args.self.now.links = (let below = c.requires.in_range in omega (arith, c.reads.ensures.count)) in
     bounded_as (closed c.args.self.now c.args.c) c.starve.new.self same (closed_bounded c.args.self.now c.args.c lt bounded))
 
 pub returns-clause-bounded : goal.returns-clause-bounded
-returns-clause-bounded g c = λ s sent h at le bounded sound.
+returns-clause-bounded g c = λ le bounded.
     (let lt : c.args.c < length c.args.self.now.links = (let below = c.requires.in_range in omega (arith, c.reads.ensures.count)) in
-    let reading : is_reading (link_at c.args.self.now c.args.c).phase ≡ true = sym c.reads.ensures.value ∙ c.if-not-reads.false in
-    let sound_old : IsSound c.args.self.now = sound_as c.keep.new.self _ c.in_default.ensures.ok
-    (sound_back c.keep.new.self c.take_frames.new.self c.take_frames.ensures.takes.leaves.back sound) in
-    fed_bounded c.args.self.now c.keep.new.self c.take_frames.new.self c.args.c c.args.piece.now _ lt reading
-    (half_there s sent h c.args.self.now c.args.c c.requires.in_range (at sound_old) reading) c.in_default.ensures.ok c.take_frames.ensures.takes le bounded)
+    fed_bounded c.args.self.now c.keep.new.self c.take_frames.new.self c.args.c c.args.piece.now _ lt (sym c.reads.ensures.value ∙ c.if-not-reads.false)
+    c.in_default.ensures.ok c.take_frames.ensures.takes le bounded)
