@@ -15,7 +15,7 @@ use Rattle.iscsi_session.proofs.Came.{plain_calm, others_calm}
 use Rattle.iscsi_session.specs.Runs.{output, Starts, is_failed, IsReached, Runs}
 use Rattle.iscsi_session.proofs.Steps.{served_agrees, settled_agrees}
 use Rattle.iscsi_login.specs.Session.{is_same_target}
-use Rattle.iscsi_target.specs.History.{Point, Before, Mark, is_same, connection_limit}
+use Rattle.iscsi_target.specs.History.{Point, Before, Mark, connection_limit}
 use Rattle.iscsi_target.specs.World.{Setting, World, present, past_of, is_marked, fails, work_of, changed, close, worked_on, worked, served_by, take_in, settled_by, settle_one, units_at, orders_by, orders_in}
 use Rattle.iscsi_target.specs.Machine.{Machine, IsSound, IsSoundAt, ReflectsSoundness, link_at}
 use Rattle.iscsi_target.specs.SessionCalls.{LeavesSession, ChangesOne, called}

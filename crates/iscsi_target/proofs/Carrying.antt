@@ -126,7 +126,8 @@ loses_called header target c d given after k other l =
 
 -- ---- one after the other
 
-pub carried_then : (f g : World → World) (given middle after : Machine) → ((w : World) → Goes w (f w)) → ((w : World) → Goes w (g w)) → Preserves 0 None middle after
+pub carried_then : (f g : World → World) (given middle after : Machine) → ((w : World) → Goes w (f w)) → ((w : World) → Goes w (g w))
+    → Preserves 0 None middle after
     → CarriesOut f given middle → CarriesOut g middle after → CarriesOut (λ w. g (f w)) given after
 carried_then f g given middle after goes further moves first second =
     does_then is_of_none is_of_none is_of_none (λ s marks place w. f w) (λ s marks place w. g w) kept kept None None given middle after

@@ -127,27 +127,28 @@ unfoldable pub does_then : (one two both : ℕ → Mark → Bool) (act_one act_t
     → ((s : Setting) (marks : List Mark) (place : ℕ) (w : World) → Goes w (act_two s marks place w))
     → Does one act_one halves_one a given middle → Does two act_two halves_two b middle after
     → Does both (λ s marks place w. act_two s marks place (act_one s marks place w)) (λ half. halves_two (halves_one half)) (first_of a b) given after
-does_then one two both act_one act_two halves_one halves_two a b given middle after one_two two_one wide_one wide_two back goes_one goes_two first second = record {
-  failed = λ place. first.failed place ++ second.failed place;
-  first = λ place. begins_both a b (first.failed place) (second.failed place) (first.first place) (second.first place);
-  of_kind = λ place. all_append (both place) (first.failed place) (second.failed place)
-      (all_wider (one place) (both place) (first.failed place) (wide_one place) (first.of_kind place))
-      (all_wider (two place) (both place) (second.failed place) (wide_two place) (second.of_kind place));
-  came = first.came ++ second.came;
-  plain = λ sound. plain_both first.came second.came (first.plain (sound_back middle after back sound)) (second.plain sound);
-  calm = λ target sound. calm_both target first.came second.came (first.calm target (back target sound)) (second.calm target sound);
-  stands = λ s sent half w place marks agree ahead h.
-      (let left = agrees_left (one place) (two place) (both place) marks (first.failed place) (second.failed place) (one_two place) (wide_one place)
-      (second.of_kind place) agree in
-      let right = agrees_right (one place) (two place) (both place) marks (first.failed place) (second.failed place) (two_one place)
-      (wide_two place) (first.of_kind place) agree in
-      let v = act_one s marks place w in
-      let at_first = first.stands s sent half w place marks left (ahead_of first.came second.came w.comings ahead) h in
-      let then_ : AreAhead second.came v.comings = subst (AreAhead second.came) (sym at_first.2) (ahead_behind first.came second.came w.comings ahead) in
-      let at_second = second.stands s sent (halves_one half) v place marks right then_ at_first.0 in (
-        at_second.0,
-        reached_both (first.failed place) (second.failed place) w v (act_two s marks place v) (goes_one s marks place w) (goes_two s marks place v)
-            at_first.1 at_second.1,
-        at_second.2 ∙ ap (drop (length second.came)) at_first.2 ∙ left_behind first.came second.came w.comings,
-      ));
-}
+does_then one two both act_one act_two halves_one halves_two a b given middle after one_two two_one wide_one wide_two back goes_one goes_two first
+    second = record {
+      failed = λ place. first.failed place ++ second.failed place;
+      first = λ place. begins_both a b (first.failed place) (second.failed place) (first.first place) (second.first place);
+      of_kind = λ place. all_append (both place) (first.failed place) (second.failed place)
+          (all_wider (one place) (both place) (first.failed place) (wide_one place) (first.of_kind place))
+          (all_wider (two place) (both place) (second.failed place) (wide_two place) (second.of_kind place));
+      came = first.came ++ second.came;
+      plain = λ sound. plain_both first.came second.came (first.plain (sound_back middle after back sound)) (second.plain sound);
+      calm = λ target sound. calm_both target first.came second.came (first.calm target (back target sound)) (second.calm target sound);
+      stands = λ s sent half w place marks agree ahead h.
+          (let left = agrees_left (one place) (two place) (both place) marks (first.failed place) (second.failed place) (one_two place) (wide_one place)
+          (second.of_kind place) agree in
+          let right = agrees_right (one place) (two place) (both place) marks (first.failed place) (second.failed place) (two_one place)
+          (wide_two place) (first.of_kind place) agree in
+          let v = act_one s marks place w in
+          let at_first = first.stands s sent half w place marks left (ahead_of first.came second.came w.comings ahead) h in
+          let then_ : AreAhead second.came v.comings = subst (AreAhead second.came) (sym at_first.2) (ahead_behind first.came second.came w.comings ahead) in
+          let at_second = second.stands s sent (halves_one half) v place marks right then_ at_first.0 in (
+            at_second.0,
+            reached_both (first.failed place) (second.failed place) w v (act_two s marks place v) (goes_one s marks place w) (goes_two s marks place v)
+                at_first.1 at_second.1,
+            at_second.2 ∙ ap (drop (length second.came)) at_first.2 ∙ left_behind first.came second.came w.comings,
+          ));
+    }

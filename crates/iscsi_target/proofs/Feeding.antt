@@ -1,5 +1,5 @@
 -- A whole event of bytes keeps the code where the World is.
-use Rattle.std.proofs.Common.{◌≡◌, ◌≢◌, ℕ, ◌+◌, ◌<◌, List, [], ◌∷◌, ◌++◌, length, drop, Bool, true, false, ◌&&◌, eqb, Option, Some, None, refl, sym, ap, ◌∙◌, subst, arith, inl, inr}
+use Rattle.std.proofs.Common.{◌≡◌, ◌≢◌, ℕ, ◌+◌, ◌<◌, List, [], ◌∷◌, ◌++◌, length, drop, Bool, true, false, eqb, Option, Some, None, refl, sym, ap, ◌∙◌, subst, arith, inl, inr}
 use Rattle.std.specs.Prelude.{All, Result, Ok, Err, OnOk, IfErr}
 use Rattle.std.specs.List.{fold, enumerate_from}
 use Rattle.std.proofs.lemmas.Bool.Decides.{eqb_tells}

@@ -185,7 +185,8 @@ pub finishes : (c : ℕ) (target : Option ℕ) (orders : List (List ℕ)) (starv
 finishes c target orders starved middle carried after back carries settles =
     does_then is_of_none is_done_at is_done_at (λ s marks place w. carry_out_for c target orders w) (λ s marks place w. settle_for marks place target w)
     kept kept None starved middle carried after (λ place mark e. absurd cc) (λ place mark e. refl) (λ place mark e. absurd cc) (λ place mark e. e) back
-    (λ s marks place w. on-carry_out_for (goes_walk []) c target orders w (λ t e. tt)) (λ s marks place w. on-settle_for (goes_walk marks) place target w (λ t e. tt)) carries settles
+    (λ s marks place w. on-carry_out_for (goes_walk []) c target orders w (λ t e. tt))
+    (λ s marks place w. on-settle_for (goes_walk marks) place target w (λ t e. tt)) carries settles
 
 -- its session served the frame
 pub takes_served : (failed : Option (ℕ → Step)) (goes_on : Bool) (orders : List (List ℕ)) (c : ℕ) (target : Option ℕ) (frame : Frame)
@@ -228,8 +229,12 @@ takes_served failed goes_on orders c target frame given middle ended after starv
     (own_past (λ f place. served f place frame) failed goes_on orders c target given middle ended k l e there.0 there.2)
     ∙ ap (λ (os : List (List ℕ)). settle_for marks place target (carry_out_for c target os (take_in marks c place frame v))) acted in
     let at = both.stands s sent half v place marks inner ahead here in
-    rw step (at.0, reached_both [] (both.failed place) w v _ (on-reaching c (Arriving place ∷ []) w) 
-    (on-then v (take_in marks c place frame v) _ (taking marks place v) (finishing marks place (take_in marks c place frame v))) refl at.1, at.2)))
+    rw step (
+      at.0,
+      reached_both [] (both.failed place) w v _ (on-reaching c (Arriving place ∷ []) w)
+          (on-then v (take_in marks c place frame v) _ (taking marks place v) (finishing marks place (take_in marks c place frame v))) refl at.1,
+      at.2,
+    )))
 
 -- ---- the sessions of a target are settled, one after the other
 
@@ -284,7 +289,8 @@ settled_next target c a b given middle after back so_far one =
     (does_then (is_done_below c) (is_done_by c) (is_done_below (c + 1))
     (λ s marks place w. fold (settle_one marks place target) w (range_with_len 0 c)) (λ s marks place w. settle_one marks place target w c)
     kept kept a b given middle after (below_here c) (here_below c) (below_more c) (here_more c) back
-    (λ s marks place w. on-fold (goes_walk marks) (settle_one marks place target) w (range_with_len 0 c) (λ v d. on-settle_one (goes_walk marks) place target v d tt))
+    (λ s marks place w. on-fold (goes_walk marks) (settle_one marks place target) w (range_with_len 0 c)
+    (λ v d. on-settle_one (goes_walk marks) place target v d tt))
     (λ s marks place w. on-settle_one (goes_walk marks) place target w c tt) so_far one)
 
 pub all_settled : (target : ℕ) (starved : Option ℕ) (given after : Machine) → SettledBelow target connection_limit starved given after

@@ -13,12 +13,12 @@ use Rattle.iscsi_target.specs.History.{Point, Arriving, AtEnd, Arrival, Whole, T
 use Rattle.iscsi_target.specs.Life.{Life, Phase, LoggingIn, FullFeature, Closing, Over, session_in}
 use Rattle.iscsi_target.specs.World.{Setting, World, present, changed, reads_life, session_of, live, close, reaching, is_marked, take_step, asked, requests_of, lookup_for, replied, log_in, is_login, taken_in, taken_by, comes, arrive, brought, longer, bring}
 use Rattle.iscsi_target.specs.Isolation.{named_in}
-use Rattle.iscsi_target.proofs.Lives.{some_is, present-changed, present_is}
+use Rattle.iscsi_target.proofs.Lives.{present-changed, present_is}
 use Rattle.iscsi_target.proofs.IsolatedLives.{AllFrom, Selection, HasTarget, Fits, on_it, number_of, found_fits, all_both}
 use Rattle.iscsi_target.proofs.IsolatedLogin.{target_of, named_asked, full_target, reply_alike}
 use Rattle.iscsi_target.specs.Laws.{LogsIn}
-use Rattle.iscsi_target.proofs.Walks.{any_arrivals, logs_there, on-arrivals}
-use Rattle.iscsi_target.proofs.Keeping.{goes, on-replied, asked_logs}
+use Rattle.iscsi_target.proofs.Walks.{EventWalk, IsAnyFrame, any_arrivals, logs_there, on-arrivals, on-brought}
+use Rattle.iscsi_target.proofs.Keeping.{Goes, goes, on-replied, asked_logs}
 use Rattle.iscsi_target.proofs.IsolatedAsking.{Named, AreNamed, named_before, adds-goes}
 use Rattle.iscsi_target.proofs.IsolatedWorlds.{Agree, present_in, session_target, named_same}
 use Rattle.iscsi_target.proofs.IsolatedFits.{keeps_asked, keeps_longer}
@@ -108,12 +108,6 @@ in_enter : (b : Bool) (g : Selection) (s : Setting) (c : ℕ) (frame : Frame) (w
 in_enter true g s c frame w v life at logs on named agree = in_log_in g s c frame w v life at logs on named agree
 in_enter false g s c frame w v life at logs on named agree = in_close g c w v on agree
 
-out_enter : (b : Bool) (g : Selection) (s : Setting) (c : ℕ) (frame : Frame) (w v : World) (life : Life) → present c w ≡ Some life → LogsIn c w
-    → g.keeps_on c ≡ false
-    → AreNamed g s.directory (cond b (log_in s c frame w) (close c w)) → Agree g w v → Agree g (cond b (log_in s c frame w) (close c w)) v
-out_enter true g s c frame w v life at logs on named agree = other_log_in g s c frame w v life at logs on named agree
-out_enter false g s c frame w v life at logs on named agree = out_close g c w v on agree
-
 -- the target of the session of a present life
 phase_target : (g : Selection) (b : Bool) (c : ℕ) (w v : World) (life : Life) (p : Params) → present c w ≡ Some life → session_in life.phase ≡ Some p
     → g.keeps_on c ≡ b → Agree g w v → HasTarget g b p.target
@@ -130,25 +124,10 @@ in_taken_in g s c place frame (FullFeature session) w v life at e on named agree
 in_taken_in g s c place frame Closing w v life at e on named agree = agree
 in_taken_in g s c place frame Over w v life at e on named agree = agree
 
-out_taken_in : (g : Selection) (s : Setting) (c place : ℕ) (frame : Frame) (phase : Phase) (w v : World) (life : Life) → present c w ≡ Some life
-    → life.phase ≡ phase → g.keeps_on c ≡ false → AreNamed g s.directory (taken_in s [] c place frame phase w) → Agree g w v
-    → Agree g (taken_in s [] c place frame phase w) v
-out_taken_in g s c place frame LoggingIn w v life at e on named agree =
-    out_enter (is_login frame) g s c frame w v life at (logs_there c w life at e) on named agree
-out_taken_in g s c place frame (FullFeature session) w v life at e on named agree =
-    out_serve g [] c place session.params.target frame w v on (phase_target g false c w v life session.params at (ap session_in e) on agree) agree
-out_taken_in g s c place frame Closing w v life at e on named agree = agree
-out_taken_in g s c place frame Over w v life at e on named agree = agree
-
 in_taken_by : (g : Selection) (s : Setting) (c place : ℕ) (frame : Frame) (o : Option Life) (w v : World) → present c w ≡ o → g.keeps_on c ≡ true
     → AreNamed g s.directory (taken_by s [] c place frame o w) → Agree g w v → Agree g (taken_by s [] c place frame o w) (taken_by s [] c place frame o v)
 in_taken_by g s c place frame None w v at on named agree = agree
 in_taken_by g s c place frame (Some life) w v at on named agree = in_taken_in g s c place frame life.phase w v life at refl on named agree
-
-out_taken_by : (g : Selection) (s : Setting) (c place : ℕ) (frame : Frame) (o : Option Life) (w v : World) → present c w ≡ o → g.keeps_on c ≡ false
-    → AreNamed g s.directory (taken_by s [] c place frame o w) → Agree g w v → Agree g (taken_by s [] c place frame o w) v
-out_taken_by g s c place frame None w v at on named agree = agree
-out_taken_by g s c place frame (Some life) w v at on named agree = out_taken_in g s c place frame life.phase w v life at refl on named agree
 
 in_comes : (g : Selection) (s : Setting) (c place : ℕ) (arrival : Arrival) (w v : World) → g.keeps_on c ≡ true
     → AreNamed g s.directory (comes s [] c place arrival w)
@@ -158,27 +137,14 @@ in_comes g s c place (Whole frame) w v on named agree =
     (in_taken_by g s c place frame (present c w) w v refl on named agree)
 in_comes g s c place TooLong w v on named agree = in_close g c w v on agree
 
-out_comes : (g : Selection) (s : Setting) (c place : ℕ) (arrival : Arrival) (w v : World) → g.keeps_on c ≡ false
-    → AreNamed g s.directory (comes s [] c place arrival w)
-    → Agree g w v → Agree g (comes s [] c place arrival w) v
-out_comes g s c place (Whole frame) w v on named agree = out_taken_by g s c place frame (present c w) w v refl on named agree
-out_comes g s c place TooLong w v on named agree = out_close g c w v on agree
-
 -- ---- one step after the other
 
 reached_both : (g : Selection) (c : ℕ) (points : List Point) (w v : World) → Agree g w v → Agree g (reaching c points w) (reaching c points v)
 reached_both g c points w v agree = record { lives = agree.lives; units = agree.units; fits = agree.fits; calm = agree.calm; silent = agree.silent }
 
-reached_here : (g : Selection) (c : ℕ) (points : List Point) (w v : World) → Agree g w v → Agree g (reaching c points w) v
-reached_here g c points w v agree = record { lives = agree.lives; units = agree.units; fits = agree.fits; calm = agree.calm; silent = agree.silent }
-
 -- an act does the same where the other lives are left out
 abbrev InBoth : Selection → KnownTargets → (World → World) → Type 0
 InBoth g directory act = (w v : World) → AreNamed g directory (act w) → Agree g w v → Agree g (act w) (act v)
-
--- it leaves no trace there
-abbrev InNeither : Selection → KnownTargets → (World → World) → Type 0
-InNeither g directory act = (w v : World) → AreNamed g directory (act w) → Agree g w v → Agree g (act w) v
 
 in_step_by : (b : Bool) (g : Selection) (directory : KnownTargets) (c : ℕ) (points : List Point) (act : World → World) (w v : World) → InBoth g directory act
     → AreNamed g directory (cond b w (act (reaching c points w))) → Agree g w v
@@ -195,31 +161,12 @@ in_step g directory c point act w v on acts named agree =
     (cond (not (reads_life o)) v (act (reaching c (point ∷ []) v)))) (sym (present_in g c w v on agree))
     (in_step_by (not (reads_life (present c w))) g directory c (point ∷ []) act w v acts named agree)
 
-out_step_by : (b : Bool) (g : Selection) (directory : KnownTargets) (c : ℕ) (points : List Point) (act : World → World) (w v : World)
-    → InNeither g directory act
-    → AreNamed g directory (cond b w (act (reaching c points w))) → Agree g w v → Agree g (cond b w (act (reaching c points w))) v
-out_step_by true g directory c points act w v acts named agree = agree
-out_step_by false g directory c points act w v acts named agree = acts (reaching c points w) v named (reached_here g c points w v agree)
-
-out_step : (g : Selection) (directory : KnownTargets) (c : ℕ) (point : Point) (act : World → World) (w v : World) → InNeither g directory act
-    → AreNamed g directory (take_step [] c point act w) → Agree g w v → Agree g (take_step [] c point act w) v
-unfolding take_step is_marked
-out_step g directory c point act w v acts named agree =
-    out_step_by (not (reads_life (present c w))) g directory c (point ∷ []) act w v acts named agree
-
 in_arrive : (g : Selection) (s : Setting) (c : ℕ) (w v : World) (arrival : ℕ × Arrival) → g.keeps_on c ≡ true
     → AreNamed g s.directory (arrive s [] c w arrival)
     → Agree g w v → Agree g (arrive s [] c w arrival) (arrive s [] c v arrival)
 unfolding arrive
 in_arrive g s c w v arrival on named agree = in_step g s.directory c (Arriving arrival.0) (comes s [] c arrival.0 arrival.1) w v on
     (λ x y n a. in_comes g s c arrival.0 arrival.1 x y on n a) named agree
-
-out_arrive : (g : Selection) (s : Setting) (c : ℕ) (w v : World) (arrival : ℕ × Arrival) → g.keeps_on c ≡ false
-    → AreNamed g s.directory (arrive s [] c w arrival)
-    → Agree g w v → Agree g (arrive s [] c w arrival) v
-unfolding arrive
-out_arrive g s c w v arrival on named agree = out_step g s.directory c (Arriving arrival.0) (comes s [] c arrival.0 arrival.1) w v
-    (λ x y n a. out_comes g s c arrival.0 arrival.1 x y on n a) named agree
 
 named_at_first : (g : Selection) (s : Setting) (c : ℕ) (w : World) (all : List (ℕ × Arrival)) → AreNamed g s.directory (fold (arrive s [] c) w all)
     → AreNamed g s.directory w
@@ -233,20 +180,10 @@ in_arrivals g s c w v (arrival ∷ all) on named agree =
     in_arrivals g s c (arrive s [] c w arrival) (arrive s [] c v arrival) all on named
     (in_arrive g s c w v arrival on (named_at_first g s c (arrive s [] c w arrival) all named) agree)
 
-out_arrivals : (g : Selection) (s : Setting) (c : ℕ) (w v : World) (all : List (ℕ × Arrival)) → g.keeps_on c ≡ false
-    → AreNamed g s.directory (fold (arrive s [] c) w all) → Agree g w v → Agree g (fold (arrive s [] c) w all) v
-out_arrivals g s c w v [] on named agree = agree
-out_arrivals g s c w v (arrival ∷ all) on named agree =
-    out_arrivals g s c (arrive s [] c w arrival) v all on named
-    (out_arrive g s c w v arrival on (named_at_first g s c (arrive s [] c w arrival) all named) agree)
-
 -- ---- a piece
 
 in_same : (g : Selection) (directory : KnownTargets) → InBoth g directory (λ x. x)
 in_same g directory w v named agree = agree
-
-out_same : (g : Selection) (directory : KnownTargets) → InNeither g directory (λ x. x)
-out_same g directory w v named agree = agree
 
 step_names : (g : Selection) (directory : KnownTargets) (c : ℕ) (point : Point) (w : World) → AreNamed g directory (take_step [] c point (λ x. x) w)
     → AreNamed g directory w
@@ -270,11 +207,37 @@ in_bring g s c piece w v on named agree =
     (take_step [] c AtEnd (λ y. y) (fold (arrive s [] c) (changed (longer piece) c v) (brought o piece)))) (sym (present_in g c w v on agree))
     (in_step g s.directory c AtEnd (λ y. y) u x on (in_same g s.directory) named all)
 
+-- what is done on a connection of another life leaves no trace where the other lives are left out
+out_event : (g : Selection) (s : Setting) (c : ℕ) (v : World) → g.keeps_on c ≡ false
+    → EventWalk s [] c (λ w u. Goes w u × (AreNamed g s.directory u → Agree g w v → Agree g u v)) IsAnyFrame
+out_event g s c v on =
+    let k = goes s [] c in
+    record {
+      same = λ w. (k.same w, λ named agree. agree);
+      then_ = λ w x u first second. (
+        k.then_ w x u first.0 second.0,
+        λ named agree. second.1 named (first.1 (named_before g s.directory x u (adds-goes x u second.0) named) agree),
+      );
+      closes = λ w. (k.closes w, λ named agree. out_close g c w v on agree);
+      reaches = λ points w. (
+        k.reaches points w,
+        λ named agree. record { lives = agree.lives; units = agree.units; fits = agree.fits; calm = agree.calm; silent = agree.silent },
+      );
+      logs_in = λ request life w at is. (
+        k.logs_in request life w at is,
+        λ named agree. other_log_in g s c request w v life at (logs_there c w life at is) on named agree,
+      );
+      serves = λ place frame life session w at is known. (
+        k.serves place frame life session w at is known,
+        λ named agree. out_serve g [] c place session.params.target frame w v on
+            (phase_target g false c w v life session.params at (ap session_in is) on agree) agree,
+      );
+    }
+
 pub out_bring : (g : Selection) (s : Setting) (c : ℕ) (piece : List ℕ) (w v : World) → g.keeps_on c ≡ false → AreNamed g s.directory (bring s [] c piece w)
     → Agree g w v → Agree g (bring s [] c piece w) v
 unfolding bring
 out_bring g s c piece w v on named agree =
-    let u = fold (arrive s [] c) (changed (longer piece) c w) (brought (present c w) piece) in
-    let first : Agree g (changed (longer piece) c w) v = out_changed g (longer piece) c w v on (keeps_longer g piece c w) agree in
-    out_step g s.directory c AtEnd (λ y. y) u v (out_same g s.directory) named
-    (out_arrivals g s c (changed (longer piece) c w) v (brought (present c w) piece) on (step_names g s.directory c AtEnd u named) first)
+    let all = brought (present c w) piece in
+    (on-brought (out_event g s c v on) (changed (longer piece) c w) all (any_arrivals c all)).1 named
+    (out_changed g (longer piece) c w v on (keeps_longer g piece c w) agree)

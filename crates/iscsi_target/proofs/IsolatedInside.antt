@@ -65,6 +65,11 @@ pub in_cond : (g : Selection) (b : Bool) (w u v x : World) → Agree g w v → A
 in_cond g true w u v x a b = a
 in_cond g false w u v x a b = b
 
+pub in_fold : {X : Type 0} (g : Selection) (f : World → X → World) (w v : World) (xs : List X)
+    → ((u x : World) (item : X) → Agree g u x → Agree g (f u item) (f x item)) → Agree g w v → Agree g (fold f w xs) (fold f v xs)
+in_fold g f w v [] each agree = agree
+in_fold g f w v (item ∷ xs) each agree = in_fold g f (f w item) (f v item) xs each (each w v item agree)
+
 -- ---- a login
 
 in_end_older : (g : Selection) (o : Option ℕ) (w v : World) → ((d : ℕ) → o ≡ Some d → g.keeps_on d ≡ true) → Agree g w v
@@ -198,15 +203,9 @@ settle_by false g marks place t c w v on own agree =
     subst (λ (o : Option Life). Agree g (settled_by (past_of (present c w)) marks place t c w) (settled_by (past_of o) marks place t c v))
     (sym (present_out g c w v on agree)) (in_passed g (past_of (present c w)) marks place t c w v own on refl agree)
 
-in_settle_all : (g : Selection) (marks : List Mark) (place t : ℕ) (w v : World) (cs : List ℕ) → HasTarget g true (Some t) → Agree g w v
-    → Agree g (fold (settle_one marks place t) w cs) (fold (settle_one marks place t) v cs)
-in_settle_all g marks place t w v [] own agree = agree
-in_settle_all g marks place t w v (c ∷ cs) own agree =
-    in_settle_all g marks place t (settle_one marks place t w c) (settle_one marks place t v c) cs own
-    (settle_by (g.keeps_on c) g marks place t c w v refl own agree)
-
 pub in_settle_for : (g : Selection) (marks : List Mark) (place : ℕ) (o : Option ℕ) (w v : World) → HasTarget g true o → Agree g w v
     → Agree g (settle_for marks place o w) (settle_for marks place o v)
 unfolding settle
 in_settle_for g marks place None w v own agree = agree
-in_settle_for g marks place (Some t) w v own agree = in_settle_all g marks place t w v connections own agree
+in_settle_for g marks place (Some t) w v own agree =
+    in_fold g (settle_one marks place t) w v connections (λ u x c both. settle_by (g.keeps_on c) g marks place t c u x refl own both) agree

@@ -1,5 +1,5 @@
 -- A frame of a session, and what the Task Management Functions that acted in it do to the other sessions of its target, stay within the target.
-use Rattle.std.proofs.Common.{◌≡◌, ℕ, List, [], ◌∷◌, Bool, true, false, cond, eqb, Option, Some, None, refl, sym, ap, ◌∙◌, subst}
+use Rattle.std.proofs.Common.{◌≡◌, ℕ, List, Bool, true, false, cond, eqb, Option, Some, None, refl, sym, ap, ◌∙◌, subst}
 use Rattle.std.specs.List.{fold}
 use Rattle.iscsi_pdu.specs.Header.{lun_field}
 use Rattle.iscsi_pdu.specs.Frames.{Frame}
@@ -11,7 +11,7 @@ use Rattle.iscsi_target.specs.Life.{Life}
 use Rattle.iscsi_target.specs.World.{World, present, past_of, work_of, worked_on, take_in, orders_by, orders_in, function_of, reaches_others, losing, lost_by, lose_one, reset_by, reset, carry_out, carry_out_for, settle_for, serve}
 use Rattle.iscsi_target.proofs.IsolatedLives.{Selection, HasTarget}
 use Rattle.iscsi_target.proofs.IsolatedWorlds.{Agree, agree_with, present_in, present_out, past_target, one_target}
-use Rattle.iscsi_target.proofs.IsolatedInside.{in_cond, in_worked_on, own_changed, same_work, same_served, in_take_in, in_settle_for}
+use Rattle.iscsi_target.proofs.IsolatedInside.{in_cond, in_fold, in_worked_on, own_changed, same_work, same_served, in_take_in, in_settle_for}
 
 -- ---- of this target
 
@@ -48,35 +48,31 @@ lost_in false g header t d w v on own agree =
     subst (λ (o : Option Life). Agree g (lost_by (past_of (present d w)) header t d w) (lost_by (past_of o) header t d v)) (sym (present_out g d w v on agree))
     (unlost_by g (past_of (present d w)) header t d w v on own refl agree)
 
-in_lose_all : (g : Selection) (header : List ℕ) (t c : ℕ) (w v : World) (ds : List ℕ) → HasTarget g true (Some t) → Agree g w v
-    → Agree g (fold (lose_one header t c) w ds) (fold (lose_one header t c) v ds)
+in_lose_one : (g : Selection) (header : List ℕ) (t c : ℕ) (w v : World) (d : ℕ) → HasTarget g true (Some t) → Agree g w v
+    → Agree g (lose_one header t c w d) (lose_one header t c v d)
 unfolding lose_one
-in_lose_all g header t c w v [] own agree = agree
-in_lose_all g header t c w v (d ∷ ds) own agree =
-    in_lose_all g header t c (lose_one header t c w d) (lose_one header t c v d) ds own
-    (in_cond g (eqb d c) w (lost_by (past_of (present d w)) header t d w) v (lost_by (past_of (present d v)) header t d v) agree
-    (lost_in (g.keeps_on d) g header t d w v refl own agree))
+in_lose_one g header t c w v d own agree =
+    in_cond g (eqb d c) w (lost_by (past_of (present d w)) header t d w) v (lost_by (past_of (present d v)) header t d v) agree
+    (lost_in (g.keeps_on d) g header t d w v refl own agree)
 
 in_reset : (g : Selection) (header : List ℕ) (t : ℕ) (w v : World) → HasTarget g true (Some t) → Agree g w v → Agree g (reset header t w) (reset header t v)
 unfolding reset
 in_reset g header t w v own agree = agree_with g _ _ _ _ agree refl refl
     (own_changed g (reset_by (function_of header) (lun_field header)) (Some t) w.units v.units own agree.units) agree.calm agree.silent
 
-in_carry_out_all : (g : Selection) (c t : ℕ) (w v : World) (headers : List (List ℕ)) → HasTarget g true (Some t) → Agree g w v
-    → Agree g (fold (carry_out c t) w headers) (fold (carry_out c t) v headers)
+in_carry_out : (g : Selection) (c t : ℕ) (w v : World) (header : List ℕ) → HasTarget g true (Some t) → Agree g w v
+    → Agree g (carry_out c t w header) (carry_out c t v header)
 unfolding carry_out
-in_carry_out_all g c t w v [] own agree = agree
-in_carry_out_all g c t w v (header ∷ headers) own agree =
+in_carry_out g c t w v header own agree =
     let u = fold (lose_one header t c) w connections in
     let x = fold (lose_one header t c) v connections in
-    in_carry_out_all g c t (carry_out c t w header) (carry_out c t v header) headers own
-    (in_cond g (reaches_others (function_of header)) (reset header t u) w (reset header t x) v
-    (in_reset g header t u x own (in_lose_all g header t c w v connections own agree)) agree)
+    in_cond g (reaches_others (function_of header)) (reset header t u) w (reset header t x) v
+    (in_reset g header t u x own (in_fold g (lose_one header t c) w v connections (λ y z d both. in_lose_one g header t c y z d own both) agree)) agree
 
 pub in_carry_out_for : (g : Selection) (c : ℕ) (o : Option ℕ) (headers : List (List ℕ)) (w v : World) → HasTarget g true o → Agree g w v
     → Agree g (carry_out_for c o headers w) (carry_out_for c o headers v)
 in_carry_out_for g c None headers w v own agree = agree
-in_carry_out_for g c (Some t) headers w v own agree = in_carry_out_all g c t w v headers own agree
+in_carry_out_for g c (Some t) headers w v own agree = in_fold g (carry_out c t) w v headers (λ u x header both. in_carry_out g c t u x header own both) agree
 
 -- the functions that acted in a frame are the same
 orders_same : (g : Selection) (o : Option Past) (marks : List Mark) (c place : ℕ) (frame : Frame) (w v : World) → g.keeps_on c ≡ true

@@ -1,6 +1,6 @@
 -- Of every history: the kept lives and the target's units are those of the kept lives' events alone.
 use Rattle.std.proofs.Common.{◌≡◌, ◌≢◌, ℕ, suc, ◌+◌, ◌≤◌, List, [], ◌∷◌, ◌++◌, length, map, Bool, true, false, not, ◌||◌, eqb, Option, Some, None, refl, sym, ap, ◌∙◌, subst, arith}
-use Rattle.std.specs.Prelude.{filter, ◌==◌, slice_get, slice_index_or, nat_lt}
+use Rattle.std.specs.Prelude.{filter, ◌==◌, slice_get, nat_lt}
 use Rattle.std.specs.List.{fold}
 use Rattle.std.specs.Option.{option_and_then}
 use Rattle.std.proofs.lemmas.Bool.{eqb-true, ne_eqb}
@@ -434,7 +434,8 @@ module _ (s : Setting) (target : ℕ) (keeps : ℕ → Bool) (h : History) (came
   before v = Followed target keeps [] (λ c. 0) 0 (events_of h) (world s h) v
 
   named_there : AreNamed (selection target keeps [] (λ c. 0)) s.directory (happened s (world s h) (happening [] came event))
-  named_there = selected s target keeps (happened s (world s h) (happening [] came event)) (subst (λ (w : World). Selects s.directory target keeps w.lives) (world-push s h (happening [] came event)) at.selects)
+  named_there = selected s target keeps (happened s (world s h) (happening [] came event))
+      (subst (λ (w : World). Selects s.directory target keeps w.lives) (world-push s h (happening [] came event)) at.selects)
 
   stood : before (plain_world s (only keeps (events_of h)))
   stood = followed s target keeps h (may_split [] (events_of h) event at.formed).0 at.unmarked at.calm.0

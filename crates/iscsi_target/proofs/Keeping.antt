@@ -195,7 +195,8 @@ logs_in_is phase e = rw e (refl, refl)
 
 on-answered : (answer : Answer) (c : ℕ) (w : World) → LogsIn c w → Goes w (changed (answered answer) c w)
 on-answered answer c w logs = on-changed (answered answer) c w (λ life. refl) (λ life at.
-    (let is = logs_in_is life.phase (logs life at) in record { goes = answered_continues answer life is.0 is.1; bytes = refl; reads_so = λ e. e; past_login = λ past. (past, refl) }))
+    (let is = logs_in_is life.phase (logs life at) in
+    record { goes = answered_continues answer life is.0 is.1; bytes = refl; reads_so = λ e. e; past_login = λ past. (past, refl) }))
 
 begun_continues : (session : Params) (answer : Answer) (life : Life) → life.phase ≡ LoggingIn → Continues (begun session answer) life
 begun_continues session answer life e = record {
@@ -211,7 +212,8 @@ begun_continues session answer life e = record {
 }
 
 begun_keeps : (session : Params) (answer : Answer) (life : Life) → life.phase ≡ LoggingIn → Keeps (begun session answer) life
-begun_keeps session answer life e = record { goes = begun_continues session answer life e; bytes = refl; reads_so = λ r. ap reads e; past_login = λ past. (refl, refl) }
+begun_keeps session answer life e =
+    record { goes = begun_continues session answer life e; bytes = refl; reads_so = λ r. ap reads e; past_login = λ past. (refl, refl) }
 
 on-begins : (session : Params) (answer : Answer) (c : ℕ) (w : World) → LogsIn c w → Goes w (begins session answer c w)
 on-begins session answer c w logs =

@@ -31,7 +31,8 @@ use Rattle.iscsi_target.proofs.Keeping.{Goes, Stays, goes_walk, on-close, on-end
 -- ---- a session that is settled goes on, where no allocation fails
 
 first_goes : (fails : Step → Bool) (step : Step) (does : ℕ → Work → Work) (requests : List ℕ) (work : Work) → fails step ≡ false
-    → ((k : ℕ) (w : Work) → w.goes_on ≡ true → (does k w).goes_on ≡ true) → work.goes_on ≡ true → (first_steps fails step does requests work).goes_on ≡ true
+    → ((k : ℕ) (w : Work) → w.goes_on ≡ true → (does k w).goes_on ≡ true) → work.goes_on ≡ true
+    → (first_steps fails step does requests work).goes_on ≡ true
 first_goes fails step does [] work free goes on = on
 first_goes fails step does (k ∷ others) work free goes on =
     ap (λ (w : Work). w.goes_on) (step_done fails step (does k) work on free) ∙ goes k (reaches step work) on
@@ -91,7 +92,8 @@ spares d marks free = record {
   settles = λ c target past place w at same own r.
       (let work = settled (fails marks c) place (work_of past w) in elim (eqb_tells d c) [
         | inl here ↦ ap (λ (k : ℕ). reads_life (present k (worked c work w))) here.1 ∙ settled_reads c past work w at
-            (settled_goes (fails marks c) place (work_of past w) (λ step. no_mark c marks (Before step) (ap (λ (k : ℕ). are_elsewhere k marks) (sym here.1) ∙ free)) refl)
+            (settled_goes (fails marks c) place (work_of past w)
+            (λ step. no_mark c marks (Before step) (ap (λ (k : ℕ). are_elsewhere k marks) (sym here.1) ∙ free)) refl)
         | inr differ ↦ ap reads_life (worked_other c d work w differ.1) ∙ r
       ]);
   loses = λ e target past header w at same own r.
@@ -174,7 +176,8 @@ module _ (s : Setting) (c d : ℕ) (w : World) (differ : d ≢ c) where
   reaches_ points v spared =
       let same : (e : ℕ) → present e (reaching c points v) ≡ present e v = λ e. present-reaching e c points v in
       record {
-        fresh = λ life there is. (let f = spared.fresh life (sym (same c) ∙ there) is in (live-lives (reaching c points v) v refl ∙ f.0, f.1, ap reads_life (same d) ∙ f.2));
+        fresh = λ life there is. (let f = spared.fresh life (sym (same c) ∙ there) is in
+            (live-lives (reaching c points v) v refl ∙ f.0, f.1, ap reads_life (same d) ∙ f.2));
         on = led_on v (reaching c points v) (ap requests_of (same c)) (λ r. ap reads_life (same d) ∙ r) spared.on;
       }
 
@@ -225,7 +228,8 @@ module _ (s : Setting) (c d : ℕ) (w : World) (differ : d ≢ c) where
       (let on = and_true (eqb x.connection c) (not (is_over x.phase)) here in rw on.0 refl) in
       let reads_y : reads_life (present d y) ≡ true = ap reads_life (present-lives d y (changed (begun session answer) c u) refl
       ∙ present-changed_other (begun session answer) c d u (λ l. refl) differ ∙ present-changed_other (asked request) c d v (λ l. refl) differ) ∙ a.reads_ in
-      let kept = past_kept m (present c (end_older o y)) (subst (λ (p : Option Life). Stays p (present c (end_older o y))) now ((on-end_older o y).stays c)) refl in
+      let kept = past_kept m (present c (end_older o y))
+      (subst (λ (p : Option Life). Stays p (present c (end_older o y))) now ((on-end_older o y).stays c)) refl in
       record { fresh = λ life there is. absurd (kept.1 life there is); on = ended o y reads_y kept.0 e }
     where
       ended : (o : Option ℕ) (y : World) → reads_life (present d y) ≡ true → requests_of (present c (end_older o y)) ≡ x.requests ++ request ∷ []
@@ -233,15 +237,15 @@ module _ (s : Setting) (c d : ℕ) (w : World) (differ : d ≢ c) where
       ended None y r requests e = inl r
       ended (Some k) y r requests e = elim (eqb_tells d k) [
         | inl same ↦ inr (record {
-            logs_in = a.before;
-            earlier = x.requests;
-            request = request;
-            response = response;
-            session = session;
-            requests = requests;
-            begins = begins_;
-            older = e ∙ ap (λ (n : ℕ). Some n) (sym same.1);
-          })
+          logs_in = a.before;
+          earlier = x.requests;
+          request = request;
+          response = response;
+          session = session;
+          requests = requests;
+          begins = begins_;
+          older = e ∙ ap (λ (n : ℕ). Some n) (sym same.1);
+        })
         | inr other ↦ inl (ap reads_life (present-changed_other (ended_in Closing) k d y (λ l. refl) other.1) ∙ r)
       ]
 

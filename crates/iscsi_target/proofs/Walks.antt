@@ -5,7 +5,7 @@ use Rattle.std.specs.List.{AllByRecursion, fold}
 use Rattle.iscsi_pdu.specs.Frames.{Frame}
 use Rattle.iscsi_login.specs.Session.{is_same_target}
 use Rattle.iscsi_session.specs.Requests.{Past}
-use Rattle.iscsi_session.specs.Steps.{Step, served, settled}
+use Rattle.iscsi_session.specs.Steps.{served, settled}
 use Rattle.iscsi_target.specs.History.{Mark, Point, Arriving, AtEnd, Arrival, Whole, TooLong, connections}
 use Rattle.iscsi_target.specs.Life.{Life, Phase, LoggingIn, FullFeature}
 use Rattle.iscsi_target.specs.Laws.{LogsIn}

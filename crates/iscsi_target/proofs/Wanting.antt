@@ -1,11 +1,11 @@
 -- A piece of no more bytes than are wanted brings one frame at most, and each connection stays as light as it may be.
-use Rattle.std.proofs.Common.{◌≡◌, ℕ, ◌+◌, ◌-◌, ◌*◌, ◌<◌, ◌≤◌, max, List, [], ◌++◌, length, drop, get_or, Bool, true, false, ltb, Option, Some, None, refl, sym, ap, ◌∙◌, subst, arith, inl, inr, append-nil}
+use Rattle.std.proofs.Common.{◌≡◌, ℕ, ◌+◌, ◌-◌, ◌*◌, ◌<◌, ◌≤◌, max, List, [], ◌++◌, length, drop, get_or, Bool, true, false, ltb, Option, refl, sym, ap, ◌∙◌, subst, arith, inl, inr, append-nil}
 use Rattle.std.proofs.lemmas.Bool.{ltb-false, le-leb, lt-leb}
 use Rattle.std.proofs.lemmas.Bool.Decides.{eqb_tells, leb_tells}
 use Rattle.std.proofs.lemmas.List.{length-append, length-drop, get_or_append_left, nil_from_length}
 use Rattle.iscsi_pdu.specs.Header.{header_length, additional_length, data_length}
 use Rattle.iscsi_pdu.specs.Frames.{Frame, frames, rest, has_header, has_frame, is_long, first_frame, frame_length, missing, wanted}
-use Rattle.iscsi_pdu.proofs.Frames.{no_frame, has_frame-from, is_long-from, frame_length-header, frames_step, rest_step}
+use Rattle.iscsi_pdu.proofs.Frames.{has_frame-from, is_long-from, frame_length-header, frames_step, rest_step}
 use Rattle.iscsi_pdu.proofs.Cuts.{frames_in_pieces}
 use Rattle.iscsi_login.specs.Directory.{KnownTargets}
 use Rattle.scsi_unit.specs.Units.{UnitStates}
@@ -192,7 +192,8 @@ closed_bounded machine c lt bounded d =
     (record { weighs = eased (link_at machine c) _ (adds_shut 0 (link_at machine c)) (bounded c).weighs; partial = no_bytes }) d)
 
 pub opened_bounded : (machine : Machine) (c : ℕ) → c < length machine.links → Bounded machine → Bounded (with_link machine c (opened_link c))
-opened_bounded machine c lt bounded = with_bounded machine c (opened_link c) lt bounded (record { weighs = record { fits = omega arith; rests = tt }; partial = no_bytes })
+opened_bounded machine c lt bounded = with_bounded machine c (opened_link c) lt bounded
+    (record { weighs = record { fits = omega arith; rests = tt }; partial = no_bytes })
 
 pub gone_bounded : (machine : Machine) (c : ℕ) → c < length machine.links → Bounded machine → Bounded (with_link (closed machine c) c free_link)
 gone_bounded machine c lt bounded =

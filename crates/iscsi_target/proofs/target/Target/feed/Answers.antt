@@ -1,7 +1,7 @@
-use Rattle.std.proofs.Common.{◌≡◌, ◌<◌, [], length, true, None, refl, sym, ap, ◌∙◌, arith}
+use Rattle.std.proofs.Common.{◌≡◌, ◌<◌, [], length, true, None, refl, sym, ap, ◌∙◌, arith, rules}
 use Rattle.std.proofs.lemmas.Bool.{eqb-true}
 use Rattle.std.proofs.lemmas.List.{nil_from_length}
-use Rattle.iscsi_target.specs.Machine.{Machine, IsSound, link_at, closed, is_closing, is_reading}
+use Rattle.iscsi_target.specs.Machine.{Machine, link_at, closed, is_closing, is_reading}
 use Rattle.iscsi_target.specs.World.{world}
 use Rattle.iscsi_target.proofs.Apart.{part_none, part_as, part_closed, part_halved, part_then}
 use Rattle.iscsi_target.proofs.Feeding.{comes_idle, comes_empty, all_came, ok_came, err_came, none_after, starved_after, starved_came, kept_feeds, kept_reads}
@@ -43,55 +43,33 @@ returns-then-not-reads-clause-each g c = λ target sound. sound
 
 -- ---- the piece could not be kept
 
-pub returns-in-Err-clause-each : goal.returns-in-Err-clause-each
-returns-in-Err-clause-each g c = λ target sound.
-    (let same : c.starve.new.self ≡ closed c.args.self.now c.args.c = c.starve.ensures.closed ∙ ap (λ (m : Machine). closed m c.args.c) c.in-Err.ensures.err in
-    closed_back c.args.self.now c.args.c target (at_as c.starve.new.self _ target same sound))
-
-pub returns-in-Err-clause-came : goal.returns-in-Err-clause-came
-returns-in-Err-clause-came g c = λ s sent h at.
-    (let same : c.starve.new.self ≡ closed c.args.self.now c.args.c = c.starve.ensures.closed ∙ ap (λ (m : Machine). closed m c.args.c) c.in-Err.ensures.err in
-    starved_after s sent h c.args.self.now c.starve.new.self c.args.c c.starve.result.connection c.args.piece.now c.starve.ensures.names c.requires.in_range
-    at (sym c.reads.ensures.value ∙ c.if-not-reads.false) same)
-
-pub returns-in-Err-clause-starved : goal.returns-in-Err-clause-starved
-returns-in-Err-clause-starved g c = λ s sent h at sound.
-    (let same : c.starve.new.self ≡ closed c.args.self.now c.args.c = c.starve.ensures.closed ∙ ap (λ (m : Machine). closed m c.args.c) c.in-Err.ensures.err in
-    starved_came s sent h c.args.self.now c.starve.new.self c.args.c c.starve.result.connection c.args.piece.now c.starve.ensures.names c.requires.in_range
-    (at (closed_sound c.args.self.now c.args.c (sound_as c.starve.new.self _ same sound))) (sym c.reads.ensures.value ∙ c.if-not-reads.false) same)
-
-pub returns-in-Err-clause-sound : goal.returns-in-Err-clause-sound
-returns-in-Err-clause-sound g c = λ sound.
-    (let same : c.starve.new.self ≡ closed c.args.self.now c.args.c = c.starve.ensures.closed ∙ ap (λ (m : Machine). closed m c.args.c) c.in-Err.ensures.err in
-    closed_sound c.args.self.now c.args.c (sound_as c.starve.new.self _ same sound))
-
-pub returns-in-Err-clause-sure : goal.returns-in-Err-clause-sure
-returns-in-Err-clause-sure g c = λ sure.
-    (let same : c.starve.new.self ≡ closed c.args.self.now c.args.c = c.starve.ensures.closed ∙ ap (λ (m : Machine). closed m c.args.c) c.in-Err.ensures.err in
-    sure_as _ c.starve.new.self (sym same) (closed_sure c.args.self.now c.args.c sure))
-
-pub returns-in-Err-clause-feeds : goal.returns-in-Err-clause-feeds
-returns-in-Err-clause-feeds g c =
-    let same : c.starve.new.self ≡ closed c.args.self.now c.args.c = c.starve.ensures.closed ∙ ap (λ (m : Machine). closed m c.args.c) c.in-Err.ensures.err in
-    let lt : c.args.c < length c.args.self.now.links = (let below = c.requires.in_range in omega (arith, c.reads.ensures.count)) in
-    (moves_as c.args.c None c.args.self.now _ c.starve.new.self same (closed_moves c.args.c c.args.self.now c.args.c lt (sym c.reads.ensures.value
-    ∙ c.if-not-reads.false) (own_self c.args.c c.args.self.now))).feeds
-
-pub returns-in-Err-clause-closing : goal.returns-in-Err-clause-closing
-returns-in-Err-clause-closing g c =
-    let same : c.starve.new.self ≡ closed c.args.self.now c.args.c = c.starve.ensures.closed ∙ ap (λ (m : Machine). closed m c.args.c) c.in-Err.ensures.err in
-    let lt : c.args.c < length c.args.self.now.links = (let below = c.requires.in_range in omega (arith, c.reads.ensures.count)) in
-    ap (λ k. is_closing (link_at c.starve.new.self k).phase) c.starve.ensures.names
-    ∙ ap (λ (m : Machine). is_closing (link_at m c.args.c).phase) same ∙ closed_closing c.args.self.now c.args.c lt
-
-pub returns-in-Err-clause-part : goal.returns-in-Err-clause-part
-returns-in-Err-clause-part g c =
-    let same : c.starve.new.self ≡ closed c.args.self.now c.args.c = c.starve.ensures.closed ∙ ap (λ (m : Machine). closed m c.args.c) c.in-Err.ensures.err in
-    let lt : c.args.c < length c.args.self.now.links = (let below = c.requires.in_range in omega (arith, c.reads.ensures.count)) in
-    part_as c.args.c c.args.self.now _ c.starve.new.self same (part_closed c.args.self.now c.args.c lt)
-
-pub returns-in-Err-clause-open : goal.returns-in-Err-clause-open
-returns-in-Err-clause-open g c = (returns-in-Err-clause-feeds g c).opens
+pub returns-in-Err : goal.returns-in-Err
+returns-in-Err g c =
+    let machine = c.args.self.now in
+    let at = c.args.c in
+    let new = c.starve.new.self in
+    let same : new ≡ closed machine at = c.starve.ensures.closed ∙ ap (λ (m : Machine). closed m at) c.in-Err.ensures.err in
+    let lt : at < length machine.links = (let below = c.requires.in_range in omega (arith, c.reads.ensures.count)) in
+    let reads_so : is_reading (link_at machine at).phase ≡ true = sym c.reads.ensures.value ∙ c.if-not-reads.false in
+    let feeds = (moves_as at None machine _ new same (closed_moves at machine at lt reads_so (own_self at machine))).feeds in
+    record {
+      stands = tt;
+      starved = λ s sent h stands sound. starved_came s sent h machine new at c.starve.result.connection c.args.piece.now c.starve.ensures.names
+          c.requires.in_range (stands (closed_sound machine at (sound_as new _ same sound))) reads_so same;
+      came = λ s sent h stands. starved_after s sent h machine new at c.starve.result.connection c.args.piece.now c.starve.ensures.names
+          c.requires.in_range stands reads_so same;
+      sound = λ sound. closed_sound machine at (sound_as new _ same sound);
+      each = λ target sound. closed_back machine at target (at_as new _ target same sound);
+      sure = λ sure. sure_as _ new (sym same) (closed_sure machine at sure);
+      feeds = feeds;
+      part = part_as at machine _ new same (part_closed machine at lt);
+      closing = ap (λ k. is_closing (link_at new k).phase) c.starve.ensures.names
+          ∙ ap (λ (m : Machine). is_closing (link_at m at).phase) same ∙ closed_closing machine at lt;
+      «open» = feeds.opens;
+      bounded = λ le bounded. bounded_as (closed machine at) new same (closed_bounded machine at lt bounded);
+      empty = search rules;
+      idle = search rules;
+    }
 
 -- ---- it was kept, and its frames were taken
 
@@ -143,12 +121,6 @@ pub returns-then-not-reads-clause-part : goal.returns-then-not-reads-clause-part
 returns-then-not-reads-clause-part g c = part_none c.args.c c.args.self.now
 
 -- ---- no connection makes the target hold too much
-
-pub returns-in-Err-clause-bounded : goal.returns-in-Err-clause-bounded
-returns-in-Err-clause-bounded g c = λ le bounded.
-    (let same : c.starve.new.self ≡ closed c.args.self.now c.args.c = c.starve.ensures.closed ∙ ap (λ (m : Machine). closed m c.args.c) c.in-Err.ensures.err in
-    let lt : c.args.c < length c.args.self.now.links = (let below = c.requires.in_range in omega (arith, c.reads.ensures.count)) in
-    bounded_as (closed c.args.self.now c.args.c) c.starve.new.self same (closed_bounded c.args.self.now c.args.c lt bounded))
 
 pub returns-clause-bounded : goal.returns-clause-bounded
 returns-clause-bounded g c = λ le bounded.
