@@ -6,6 +6,7 @@ use Rattle.std.proofs.lemmas.Bool.Decides.{eqb_tells}
 use Rattle.std.proofs.lemmas.List.{length-set, length-map, get_or-map, get_or_default, get_or-set_same, get_or-set_other}
 use Rattle.std.proofs.lemmas.List.Elements.{All-map}
 use Rattle.scsi_sense.specs.Nexus.{NexusName}
+use Rattle.scsi_sense.specs.declared.condition.Attention.{Attention}
 use Rattle.scsi_sense.specs.declared.condition.Attention.TheVariants.{BusDeviceResetFunctionOccurred, CommandsClearedByAnotherInitiator}
 use Rattle.iscsi_pdu.specs.Header.{lun_field}
 use Rattle.iscsi_pdu.specs.declared.task_management.TaskFunction.{TaskFunction}
@@ -23,7 +24,8 @@ use Rattle.iscsi_login.specs.Login.{advanced, reply_of}
 use Rattle.iscsi_login.specs.declared.params.Params.{Params}
 use Rattle.iscsi_login.specs.declared.reply.Reply.{Reply}
 use Rattle.iscsi_login.specs.declared.reply.Reply.TheVariants.{Full}
-use Rattle.iscsi_target.specs.World.{left, changed_units, lookup_for, function_of, told_by, reset_by}
+use Rattle.iscsi_session.specs.Scope.{attention_of}
+use Rattle.iscsi_target.specs.World.{left, changed_units, lookup_for, function_of, told, told_by, reset_by}
 use Rattle.iscsi_target.specs.Machine.{Machine, IsSound, IsSoundAt, ReflectsSoundness, IsSure, link_at, with_link, begun_link, closed, session_in_phase, sessions, shut_older, begun, replied, logged_in}
 
 -- ---- one target, and all
@@ -116,9 +118,9 @@ media_where : (lun : List ℕ) (f : UnitState → UnitState) (units : UnitStates
     → media (map (where_named lun f) units) ≡ media units
 media_where lun f units same = media_map (where_named lun f) units (λ unit. media_named (names_unit lun unit) f unit (same unit))
 
-media_told : (kind : TaskFunction) (lun : List ℕ) (nexus : NexusName) (units : UnitStates) → media (told_by kind lun nexus units) ≡ media units
+media_told : (o : Option Attention) (lun : List ℕ) (nexus : NexusName) (units : UnitStates) → media (told o lun nexus units) ≡ media units
 unfolding raised_at
-media_told functions.ClearTaskSet lun nexus units = media_where lun (raised_unit nexus CommandsClearedByAnotherInitiator) units (λ unit. refl)
+media_told (Some CommandsClearedByAnotherInitiator) lun nexus units = media_where lun (raised_unit nexus CommandsClearedByAnotherInitiator) units (λ unit. refl)
 media_told _ lun nexus units = refl
 
 media_reset : (kind : TaskFunction) (lun : List ℕ) (units : UnitStates) → media (reset_by kind lun units) ≡ media units
@@ -177,11 +179,11 @@ over_units P a b e h = of_media P b (subst (All P) e (All-map P (λ (unit : Unit
 
 pub told_sound : (header : List ℕ) (nexus : NexusName) (units : UnitStates)
     → AreSound (told_by (function_of header) (lun_field header) nexus units) → AreSound units
-told_sound header nexus units sound = over_units IsSoundDevice _ units (media_told (function_of header) (lun_field header) nexus units) sound
+told_sound header nexus units sound = over_units IsSoundDevice _ units (media_told (attention_of (function_of header)) (lun_field header) nexus units) sound
 
 pub told_sure : (header : List ℕ) (nexus : NexusName) (units : UnitStates)
     → AreSure units → AreSure (told_by (function_of header) (lun_field header) nexus units)
-told_sure header nexus units sure = over_units IsSureDevice units _ (sym (media_told (function_of header) (lun_field header) nexus units)) sure
+told_sure header nexus units sure = over_units IsSureDevice units _ (sym (media_told (attention_of (function_of header)) (lun_field header) nexus units)) sure
 
 pub closed_sound : (machine : Machine) (c : ℕ) → IsSound (closed machine c) → IsSound machine
 closed_sound machine c sound = over_media IsSoundDevice (closed machine c).units machine.units (media_closed machine c) sound

@@ -1,5 +1,5 @@
 -- The machine that the target is: plain lists of what came and what was answered, and the units.
-use Rattle.std.specs.Prelude.{ℕ, ◌+◌, List, [], ◌∷◌, ◌++◌, fold, length, map, find, Bool, true, false, ◌&&◌, not, ◌==◌, Option, Some, None, slice_index_or, slice_set, if◌then◌else◌}
+use Rattle.std.specs.Prelude.{ℕ, ◌+◌, List, [], ◌∷◌, ◌++◌, fold, length, map, find, Bool, false, ◌&&◌, not, ◌==◌, Option, Some, None, slice_index_or, slice_set, if◌then◌else◌}
 use Rattle.std.specs.List.{list_any}
 use Rattle.iscsi_pdu.specs.Frames.{Frame}
 use Rattle.iscsi_pdu.specs.Header.{opcode_number}
@@ -11,6 +11,7 @@ use Rattle.iscsi_pdu.specs.TaskManagement.{task_function, function_code}
 use Rattle.iscsi_pdu.specs.declared.task_management.TaskFunction.{TaskFunction}
 use Rattle.iscsi_pdu.specs.declared.task_management.TaskFunction.TheVariants as functions
 use Rattle.scsi_sense.specs.Nexus.{NexusName}
+use Rattle.scsi_sense.specs.declared.condition.Attention.{Attention}
 use Rattle.scsi_sense.specs.declared.condition.Attention.TheVariants.{BusDeviceResetFunctionOccurred, CommandsClearedByAnotherInitiator}
 use Rattle.scsi_unit.specs.Units.{UnitStates, join, leave, numbers_of, raised_at, raised_for_all_at, raised_everywhere}
 use Rattle.iscsi_login.specs.Directory.{KnownTargets}
@@ -21,6 +22,7 @@ use Rattle.iscsi_login.specs.declared.params.Params.{Params}
 use Rattle.iscsi_login.specs.declared.reply.Reply.{Reply}
 use Rattle.iscsi_login.specs.declared.reply.Reply.TheVariants.{GoOn, Full, Refused}
 use Rattle.iscsi_session.specs.Requests.{Past, begun as begun_past, removing}
+use Rattle.iscsi_session.specs.Scope.{scope_of, is_for_all, attention_of}
 use Rattle.iscsi_session.specs.Functions.{FunctionReach, reached}
 use Rattle.iscsi_session.specs.Comings.{Coming, lend}
 use Rattle.iscsi_session.specs.Steps.{Step, Work, begun_work, served, settled}
@@ -208,15 +210,15 @@ function_of header = task_function (function_code header)
 
 -- those that reach the commands of all sessions of the target
 abbrev pub reaches_others : TaskFunction → Bool
-reaches_others functions.ClearTaskSet = true
-reaches_others functions.LogicalUnitReset = true
-reaches_others functions.TargetWarmReset = true
-reaches_others _ = false
+reaches_others function = is_for_all (scope_of function)
+
+abbrev pub told : Option Attention → List ℕ → NexusName → UnitStates → UnitStates
+told (Some CommandsClearedByAnotherInitiator) lun nexus units = raised_at nexus lun CommandsClearedByAnotherInitiator units
+told _ lun nexus units = units
 
 -- SAM-5 "CLEAR TASK SET": a nexus that lost commands is to be told (COMMANDS CLEARED BY ANOTHER INITIATOR)
 abbrev pub told_by : TaskFunction → List ℕ → NexusName → UnitStates → UnitStates
-told_by functions.ClearTaskSet lun nexus units = raised_at nexus lun CommandsClearedByAnotherInitiator units
-told_by _ lun nexus units = units
+told_by function lun nexus units = told (attention_of function) lun nexus units
 
 -- the commands of a session that the function of another one reaches
 abbrev pub reach_from : List ℕ → UnitStates → FunctionReach

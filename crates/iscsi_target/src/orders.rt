@@ -10,7 +10,7 @@ ghost use Rattle.iscsi_login.specs.Session.{is_same_target as is_same};
 ghost use Rattle.iscsi_session.specs.Comings.{Coming, lend};
 ghost use Rattle.iscsi_session.specs.Runs.{output, Runs};
 ghost use Rattle.iscsi_session.specs.Weight.{IsAtRest, Eases};
-ghost use Rattle.iscsi_target.specs.World.{units_at, changed_units, function_of, reaches_others as reaches_others_by, told_by, losing, lose_one, reset_by, reset as reset_in, carry_out, carry_out_for};
+ghost use Rattle.iscsi_target.specs.World.{units_at, changed_units, function_of, told_by, losing, lose_one, reset_by, reset as reset_in, carry_out, carry_out_for};
 ghost use Rattle.iscsi_target.specs.History.{connections};
 ghost use Rattle.iscsi_target.specs.Machine.{Machine, KeepsApart, link_at};
 ghost use Rattle.iscsi_target.specs.Bounded.{AddsAtMost};
@@ -20,7 +20,7 @@ ghost use Rattle.iscsi_target.specs.SessionCalls.{InSession, LeavesSession, Lose
 use crate::connections::CONNECTIONS;
 use crate::target::Target;
 use iscsi_pdu::{Header, TaskFunction};
-use iscsi_session::{Reach, Session};
+use iscsi_session::{Reach, Session, attention_of, is_for_all_sessions};
 use media_store::Store;
 use scsi_sense::{Attention, Nexus};
 use scsi_unit::Units;
@@ -38,22 +38,12 @@ pub(crate) fn luns_of<S: Store>(all: &[Units<S>], target: Option<usize>) -> &[u8
     }
 }
 
-/// The function reaches the commands of all sessions of the target.
-fn reaches_others(function: &Header) -> bool
-    ensures { result ≡ reaches_others_by (function_of function.now) }
-{
-    matches!(
-        function.task_function(),
-        TaskFunction::ClearTaskSet | TaskFunction::LogicalUnitReset | TaskFunction::TargetWarmReset
-    )
-}
-
 /// A nexus that lost commands by CLEAR TASK SET is to be told.
 fn tell<S: Store>(units: &mut Units<S>, nexus: &Nexus, function: &Header)
     ensures { units.new ≡ told_by (function_of function.now) (lun_field function.now) nexus.now units.old }
 {
-    if let TaskFunction::ClearTaskSet = function.task_function() {
-        let attention = Attention::CommandsClearedByAnotherInitiator;
+    let attention = Attention::CommandsClearedByAnotherInitiator;
+    if let Some(Attention::CommandsClearedByAnotherInitiator) = attention_of(function) {
         units.raise(nexus, function.lun(), attention);
     }
 }
@@ -124,7 +114,7 @@ impl<S: Store> Target<S> {
         ensures apart { KeepsApart target self.old self.new }
         ensures moves { (b : ℕ) → Preserves b None self.old self.new }
     {
-        if reaches_others(function) {
+        if is_for_all_sessions(function) {
             self.lose_all(c, target, function);
             self.reset(target, function);
         }
