@@ -30,7 +30,7 @@ use Rattle.iscsi_target.proofs.Lives.{some_is, present-end_other, present-lives}
 
 -- ---- bytes
 
-abbrev AreBytes : List ℕ → Type 0
+abbrev pub AreBytes : List ℕ → Type 0
 AreBytes bytes = AllByRecursion (λ byte. byte < 256) bytes
 
 all_append : {X : Type 0} (P : X → Type 0) (xs ys : List X) → AllByRecursion P xs → AllByRecursion P ys → AllByRecursion P (xs ++ ys)
@@ -57,7 +57,7 @@ number_fits header a = omega (arith, byte_at header 24 a, byte_at header 25 a, b
 
 -- ---- frames of bytes
 
-abbrev Fits : Frame → Type 0
+abbrev pub Fits : Frame → Type 0
 Fits frame = cmd_sn frame.header < 2 ^ 32
 
 abbrev IsFramed : ℕ × Arrival → Type 0
@@ -101,7 +101,7 @@ new_framed bytes piece a b = all_drop IsFramed (length (arrivals bytes)) (enumer
 abbrev IsFit : Life → Type 0
 IsFit life = AreBytes life.bytes × IsQuietIn life.phase
 
-abbrev AreFit : World → Type 0
+abbrev pub AreFit : World → Type 0
 AreFit w = AllByRecursion IsFit w.lives
 
 found_by : (b : Bool) (c : ℕ) (x : Life) (lives : List Life) (life : Life) → is_present c x ≡ b → find (is_present c) (x ∷ lives) ≡ Some life → IsFit x
@@ -200,10 +200,10 @@ fit-reset header target w a = a
 
 -- ---- all that a piece of bytes sets off
 
-past_lawful : (c : ℕ) (w : World) (past : Past) → AreFit w → past_of (present c w) ≡ Some past → IsLawful past
+pub past_lawful : (c : ℕ) (w : World) (past : Past) → AreFit w → past_of (present c w) ≡ Some past → IsLawful past
 past_lawful c w past a at = lawful_of (present c w) c w past refl a at
 
-fit_walk : (marks : List Mark) → Walk marks (λ w v. AreFit w → AreFit v) (λ c frame. Fits frame) IsAny
+pub fit_walk : (marks : List Mark) → Walk marks (λ w v. AreFit w → AreFit v) (λ c frame. Fits frame) IsAny
 fit_walk marks = record {
   same = λ w a. a;
   then_ = λ w v u first second a. second (first a);
@@ -216,7 +216,7 @@ fit_walk marks = record {
   resets = λ header target w own a. fit-reset header target w a;
 }
 
-fit : (s : Setting) (marks : List Mark) (c : ℕ) → EventWalk s marks c (λ w v. AreFit w → AreFit v) (λ c frame. Fits frame)
+pub fit : (s : Setting) (marks : List Mark) (c : ℕ) → EventWalk s marks c (λ w v. AreFit w → AreFit v) (λ c frame. Fits frame)
 fit s marks c = record {
   same = λ w a. a;
   then_ = λ w v u first second a. second (first a);
@@ -226,17 +226,19 @@ fit s marks c = record {
   serves = λ place frame life session w at is fits a. on-serve (fit_walk marks) c place session.params.target frame w fits (λ target own. tt) a;
 }
 
-brought_framed : (o : Option Life) (c : ℕ) (w : World) (piece : List ℕ) → present c w ≡ o → AreFit w → AreBytes piece
+pub brought_framed : (o : Option Life) (c : ℕ) (w : World) (piece : List ℕ) → present c w ≡ o → AreFit w → AreBytes piece
     → AllByRecursion IsFramed (brought o piece)
 brought_framed None c w piece at a bytes = tt
 brought_framed (Some life) c w piece at a bytes = new_framed life.bytes piece (present_fit c w life a at).0 bytes
 
+pub fit-longer : (c : ℕ) (piece : List ℕ) (w : World) → AreBytes piece → AreFit w → AreFit (changed (longer piece) c w)
+fit-longer c piece w bytes a = fit-changed (longer piece) c w (λ life fit. (all_append _ life.bytes piece fit.0 bytes, fit.1)) a
+
 fit-bring : (s : Setting) (marks : List Mark) (c : ℕ) (piece : List ℕ) (w : World) → AreBytes piece → AreFit w → AreFit (bring s marks c piece w)
 unfolding bring
 fit-bring s marks c piece w bytes a =
-    let longer_ : AreFit (changed (longer piece) c w) = fit-changed (longer piece) c w (λ life fit. (all_append _ life.bytes piece fit.0 bytes, fit.1)) a in
-    let all = brought (present c w) piece in
-    on-brought (fit s marks c) (changed (longer piece) c w) all (brought_framed (present c w) c w piece refl a bytes) longer_
+    on-brought (fit s marks c) (changed (longer piece) c w) (brought (present c w) piece)
+    (brought_framed (present c w) c w piece refl a bytes) (fit-longer c piece w bytes a)
 
 over_by : (b : Bool) (c : ℕ) (x : Life) → is_present c x ≡ b → IsFit x → IsFit (over c x)
 over_by true c x e fit = subst IsFit (sym (cond_true (is_present c x) (ended_in Over x) x e)) (fit.0, tt)
@@ -250,7 +252,7 @@ fit-end : (c : ℕ) (w : World) → AreFit w → AreFit (end c w)
 unfolding end
 fit-end c w a = all_over c w.lives a
 
-fit-happen : (s : Setting) (marks : List Mark) (w : World) (event : Event) → HasBytes event → AreFit w → AreFit (happen s marks w event)
+pub fit-happen : (s : Setting) (marks : List Mark) (w : World) (event : Event) → HasBytes event → AreFit w → AreFit (happen s marks w event)
 fit-happen s marks w (Open c) bytes a = all_append IsFit w.lives (born c ∷ []) a ((tt, tt), tt)
 fit-happen s marks w (Bytes c piece) bytes a = fit-bring s marks c piece w bytes a
 fit-happen s marks w (Gone c) bytes a = fit-end c w a

@@ -11,6 +11,7 @@ pub mod Walks
 mod Following
 pub mod Keeping
 mod Lawful
+mod Moment
 mod Sparing
 mod IsolatedLives
 mod IsolatedLogin

@@ -40,6 +40,7 @@ pub mod Serving
 pub mod Isolation
 pub mod Runs
 pub mod Laws
+pub mod Moment
 pub mod ExamplesBytes
 pub mod ExamplesWorld
 pub mod ExamplesData

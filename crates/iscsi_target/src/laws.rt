@@ -3,6 +3,7 @@
 ghost use Rattle.iscsi_target.specs.History.{ArrivalsInPieces};
 ghost use Rattle.iscsi_target.specs.Isolation.{TargetsAreIsolated, TargetsSeeTheirOwn, StrangersAreAlone, EventsAreLocal};
 ghost use Rattle.iscsi_target.specs.Bounded.{CallsKeepBounded};
+ghost use Rattle.iscsi_target.specs.Moment.{SessionsAreAtRest};
 ghost use Rattle.iscsi_target.specs.Laws.{AnswersStay, SureIsSound, SessionsFinishAsTaken, OthersStay, OthersGoOn};
 
 /// However the bytes of a connection are cut into pieces, the frames that become whole are those of
@@ -27,6 +28,13 @@ pub fn sure_is_sound()
 #[tactic(auto, using(crate::proofs::Lawful::sessions_finish_as_taken))]
 pub fn sessions_finish_as_taken()
     ensures { SessionsFinishAsTaken }
+{}
+
+/// At the moment: behind each event nothing is due in any session that goes on. No request that was taken has to act, no R2T to be
+/// sent, no Task Management Function Request to be answered, and no command to be done.
+#[tactic(auto, using(crate::proofs::Moment::sessions_are_at_rest))]
+pub fn sessions_are_at_rest()
+    ensures { SessionsAreAtRest }
 {}
 
 /// The end of a session, after a violation, a step that failed or a Logout, and the end of a connection change
