@@ -62,8 +62,7 @@ others_same : (past : Past) (x : Request) (names : List ℕ) → Below past name
 others_same past x names below = filter_cong _ _ names (λ i d lt. ap (λ (r : Request). not (is_command r.frame)) (request_before past.came x _ (below i d lt)))
 
 counted_same : (past : Past) (x : Request) (names : List ℕ) → Below past names → counted (past.came ++ x ∷ []) names ≡ counted past.came names
-counted_same past x names below =
-    ap (λ (l : List ℕ). length l) (filter_cong _ _ names (λ i d lt. ap (λ (r : Request). is_some r.number) (request_before past.came x _ (below i d lt))))
+counted_same past x names below = grind (arith, filter_cong, request_before)
 
 pub counted_append : (came : List Request) (a b : List ℕ) → counted came (a ++ b) ≡ counted came a + counted came b
 counted_append came a b = grind (arith, filter-append, length-append)
@@ -101,8 +100,10 @@ takes_one : (past : Past) (h : ℕ) (line : List Frame) → counted past.came (o
 takes_one past h line few beyond =
     let next : ((past.params.first_cmd_sn + h) % 2 ^ 32 + 1) % 2 ^ 32 ≡ (past.params.first_cmd_sn + suc h) % 2 ^ 32 = omega arith in
     let more : h - counted past.came (over past) + 1 ≡ suc h - counted past.came (over past) = omega arith in
-    let turned : map (frame_numbered (standing past)) (range_with_len (h + 1) 31) ++ None ∷ [] ≡ map (frame_numbered (standing past)) (range_with_len (suc h) window) =
-    ap (λ (o : Option Frame). map (frame_numbered (standing past)) (range_with_len (h + 1) 31) ++ o ∷ []) (sym (frame_missing (standing past) (h + window) (ap (λ (l : List ℕ). order.has_come l (h + window)) (numbered_standing past) ∙ beyond)))
+    let turned : map (frame_numbered (standing past)) (range_with_len (h + 1) 31) ++ None ∷ []
+    ≡ map (frame_numbered (standing past)) (range_with_len (suc h) window) =
+    ap (λ (o : Option Frame). map (frame_numbered (standing past)) (range_with_len (h + 1) 31) ++ o ∷ [])
+    (sym (frame_missing (standing past) (h + window) (ap (λ (l : List ℕ). order.has_come l (h + window)) (numbered_standing past) ∙ beyond)))
     ∙ sym (map-range_with_len_more (frame_numbered (standing past)) (h + 1) 31 (h + window) (omega arith))
     ∙ ap (λ (k : ℕ). map (frame_numbered (standing past)) (range_with_len k window)) (add-one h) in
     rw (next, more, turned) refl
@@ -118,7 +119,8 @@ takes_many past (suc d) h line few beyond =
     let at : suc h + d ≡ h + suc d = omega arith in
     let frames : more ++ filter_map (λ o. o) (map (frame_numbered (standing past)) (range_with_len (suc h) d)) ≡ line ++ filter_map (λ o. o)
     (map (frame_numbered (standing past)) (range_with_len h (suc d))) =
-    append_assoc line (filter_map (λ o. o) (frame_numbered (standing past) h ∷ [])) (filter_map (λ o. o) (map (frame_numbered (standing past)) (range_with_len (suc h) d)))
+    append_assoc line (filter_map (λ o. o) (frame_numbered (standing past) h ∷ []))
+    (filter_map (λ o. o) (map (frame_numbered (standing past)) (range_with_len (suc h) d)))
     ∙ ap (λ (l : List Frame). line ++ l)
     (sym (filter_map-append (λ (o : Option Frame). o) (frame_numbered (standing past) h ∷ []) (map (frame_numbered (standing past)) (range_with_len (suc h) d)))
     ∙ ap (λ (k : ℕ). filter_map (λ (o : Option Frame). o) (frame_numbered (standing past) h ∷ map (frame_numbered (standing past)) (range_with_len k d)))
@@ -223,7 +225,8 @@ module _ (past : Past) (lawful : IsLawful past) where
 
   -- the numbers and the queue are the same
   same_tasks : (x : Request) (handed : ℕ) (line : List Frame)
-      → tasks_with past handed line ≡ record (tasks_with (joined x past) handed line) { held = map (frame_numbered (standing past)) (range_with_len handed window) }
+      → tasks_with past handed line
+      ≡ record (tasks_with (joined x past) handed line) { held = map (frame_numbered (standing past)) (range_with_len handed window) }
   same_tasks x handed line = grind (arith, counted_same, over_below, joined, queue_same, frames_same, queue_below)
 
   -- ---- as they stand

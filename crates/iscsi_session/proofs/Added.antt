@@ -105,7 +105,8 @@ judged_adds Accepted past frame e whole w =
     record {
       within = record {
         lawful = comes.lawful;
-        headers = All-push (λ (request : Request). length request.frame.header ≡ header_length) past.came (record { number = number_for past frame; frame = frame })
+        headers = All-push (λ (request : Request). length request.frame.header ≡ header_length) past.came
+            (record { number = number_for past frame; frame = frame })
             w.headers whole;
         few = comes.immediate;
       };
@@ -258,7 +259,8 @@ function_short luns past k f = by_case (awaited past (reach_of luns k past)) ref
     by_case [] e = omega (arith, ap (λ (l : List Answer). length (flat_map spelling l)) (function_is luns k past f e))
     by_case (first ∷ others) e = omega (arith, ap (λ (l : List Answer). length (flat_map spelling l)) (function_waits luns k past first others f e))
 
-act_adds_by : (c f : Bool) (luns : List ℕ) (past : Past) (k : ℕ) (rest : List ℕ) → is_command (frame_of past.came k) ≡ c → is_function (frame_of past.came k) ≡ f
+act_adds_by : (c f : Bool) (luns : List ℕ) (past : Past) (k : ℕ) (rest : List ℕ) → is_command (frame_of past.came k) ≡ c
+    → is_function (frame_of past.came k) ≡ f
     → due past ≡ k ∷ rest → k < length past.came → IsWithinLimits past → IsLawful (acted luns k past) → Adds 48 0 past (acted luns k past)
 unfolding act_answers
 act_adds_by true f luns past k rest e g is lt w lawful =
@@ -270,7 +272,8 @@ act_adds_by false true luns past k rest e g is lt w lawful =
     acted_adds luns 0 past k w lawful (function_turns luns _ past k rest refl g w is) (omega (arith, one))
 act_adds_by false false luns past k rest e g is lt w lawful =
     let frame = frame_of past.came k in
-    let long = most_answered (opcode_of (opcode_number frame.header)) (awaited past (reach_of luns k past)) (function_result past (reach_of luns k past)) (exchange_of past)
+    let long = most_answered (opcode_of (opcode_number frame.header)) (awaited past (reach_of luns k past)) (function_result past (reach_of luns k past))
+    (exchange_of past)
     (stamp (ended luns k past)) past.params frame (header_whole past k w lt) in
     acted_adds luns 1 past k w lawful (subst (Turns 1 past) (sym (behind_plain luns past k g)) (other_turns past k rest e w is)) (omega (arith, long))
 
@@ -338,7 +341,8 @@ unfolding drained_functions
 first_waits past k rest is =
     in_filter k (λ a. not (lacks past a)) (awaiting past) (ap (λ (l : List ℕ). is_in k l) is ∙ in_at (k ∷ rest) 0 0 (omega arith))
 
-pub tell_adds : (work : Work) (k : ℕ) (rest : List ℕ) → drained_functions work.past ≡ k ∷ rest → IsWithinLimits work.past → Adds 48 0 work.past (tell k work).past
+pub tell_adds : (work : Work) (k : ℕ) (rest : List ℕ) → drained_functions work.past ≡ k ∷ rest → IsWithinLimits work.past
+    → Adds 48 0 work.past (tell k work).past
 unfolding tell
 tell_adds work k rest is w =
     let past = work.past in

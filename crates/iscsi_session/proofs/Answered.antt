@@ -102,8 +102,7 @@ answers_of luns k past is = grind arith
 pub goes_on_act : (k : ℕ) (past : Past) {o : Opcode} → kind_of (frame_of past.came k) ≡ o → ends_by o past.params (frame_of past.came k) ≡ false
     → Taken ≡ cond (ends past.params (frame_of past.came k)) Ended Taken
 unfolding ends
-goes_on_act k past is none =
-    sym (ap (λ (o : Opcode). cond (ends_by o past.params (frame_of past.came k)) Ended Taken) is ∙ ap (λ (b : Bool). cond b Ended Taken) none)
+goes_on_act k past is none = grind arith
 
 pub command_answers_none : (luns : List ℕ) (k : ℕ) (past : Past) → is_command (frame_of past.came k) ≡ true → act_answers luns k past ≡ []
 command_answers_none luns k past e = answers_of luns k past (command_kind (frame_of past.came k) e)
@@ -203,8 +202,7 @@ ping_data length_is n most body e =
 -- ---- what is left of the session
 
 pub answering_none : (past : Past) (more : List Answer) → more ≡ [] → past ≡ answering more past
-answering_none past more e = ap (λ (l : List Answer). record past { answers = l }) (sym (append-nil past.answers))
-    ∙ ap (λ (l : List Answer). answering l past) (sym e)
+answering_none past more e = grind (arith, append-nil)
 
 moved_command : (k : ℕ) (past : Past) → is_command (frame_of past.came k) ≡ true → record past { acted = past.acted ++ k ∷ [] } ≡ moved k past
 moved_command k past e = rw e refl
@@ -221,8 +219,7 @@ first_due past state k rest s is = due_is past state s ∙ ap (frames_of (standi
 -- a request that is no SCSI Command stands as it came
 pub stands_other_kind : (past : Past) (state : SessionState) (k : ℕ) (rest : List ℕ) → Stands past state → due past ≡ k ∷ rest
     → is_command (frame_of past.came k) ≡ false → frame_of (standing past) k ≡ frame_of past.came k
-stands_other_kind past state k rest s is e =
-    standing_kept past k (due_came past s.lawful k rest is) (stays_other past s.lawful k rest is e)
+stands_other_kind past state k rest s is e = grind (arith, standing_kept, due_came, stays_other)
 
 -- and with it the others, in the code
 pub first_drops : (past : Past) (state : SessionState) (k : ℕ) (rest : List ℕ) → Stands past state → due past ≡ k ∷ rest
@@ -254,7 +251,8 @@ stands_command luns past state k rest s is e stays =
     (stands_tasks past after state _ s (lawful_command past s.lawful k rest is e) refl refl
     (ap (λ (t : TaskLists). record t { due = frames_of (standing past) rest; queue = t.queue ++ frame_of past.came k ∷ [] }) (parts past state s).tasks_is
     ∙ tasks_command past s.lawful k rest is stays e) (transfers_command past s.lawful k rest is) (functions_command past s.lawful k rest is)
-    (exchange_acted past after k refl refl refl ∙ exchange_other past.params (exchange_of past) (frame_of past.came k) (command_no_text (frame_of past.came k) e)))
+    (exchange_acted past after k refl refl refl
+    ∙ exchange_other past.params (exchange_of past) (frame_of past.came k) (command_no_text (frame_of past.came k) e)))
 
 -- one that was removed comes to nothing
 pub stands_gone : (past : Past) (state : SessionState) (k : ℕ) (rest : List ℕ) → Stands past state → due past ≡ k ∷ rest
@@ -271,7 +269,8 @@ stands_gone past state k rest s is e gone =
     (ap (λ (l : List Frame). one_fewer (frame_of (standing past) k) (record state.tasks { due = l })) dropped
     ∙ ap (λ (t : TaskLists). one_fewer (frame_of (standing past) k) (record t { due = frames_of (standing past) rest })) (parts past state s).tasks_is
     ∙ tasks_gone past s.lawful k rest is gone e) (transfers_command past s.lawful k rest is) (functions_command past s.lawful k rest is)
-    (exchange_acted past after k refl refl refl ∙ exchange_other past.params (exchange_of past) (frame_of past.came k) (command_no_text (frame_of past.came k) e)))
+    (exchange_acted past after k refl refl refl
+    ∙ exchange_other past.params (exchange_of past) (frame_of past.came k) (command_no_text (frame_of past.came k) e)))
 
 pub stands_queued : (luns : List ℕ) (past : Past) (state : SessionState) (k : ℕ) (rest : List ℕ) (frame : Frame) (others : List Frame) (tasks : TaskLists)
     → Stands past state → due past ≡ k ∷ rest → is_command (frame_of past.came k) ≡ true → is_in k past.removed ≡ false
@@ -304,13 +303,11 @@ no_function_there past state k rest s is e = either_way past state k rest is_fun
 
 pub text_there : (past : Past) (state : SessionState) (k : ℕ) (rest : List ℕ) → Stands past state → due past ≡ k ∷ rest
     → is_text (frame_of (standing past) k) ≡ true → is_text (frame_of past.came k) ≡ true
-text_there past state k rest s is e =
-    ap is_text (sym (kind_there past state k rest 0x04 s is (eqb-true _ 0x04 e) (λ h. absurd cc))) ∙ e
+text_there past state k rest s is e = grind (arith, kind_there, eqb-true)
 
 pub function_there : (past : Past) (state : SessionState) (k : ℕ) (rest : List ℕ) → Stands past state → due past ≡ k ∷ rest
     → is_function (frame_of (standing past) k) ≡ true → is_function (frame_of past.came k) ≡ true
-function_there past state k rest s is e =
-    ap is_function (sym (kind_there past state k rest 0x02 s is (eqb-true _ 0x02 e) (λ h. absurd cc))) ∙ e
+function_there past state k rest s is e = grind (arith, kind_there, eqb-true)
 
 -- a request of a kind that acts stands as it came
 pub came_as : (past : Past) (state : SessionState) (k : ℕ) (rest : List ℕ) {o : Opcode} → Stands past state → due past ≡ k ∷ rest
@@ -353,8 +350,7 @@ stands_other past state k rest headers s is e left_over =
 -- of another kind
 same_functions : (past : Past) (state : SessionState) (k : ℕ) → Stands past state → is_function (frame_of past.came k) ≡ false
     → state.functions ≡ functions_of (finished k past)
-same_functions past state k s e =
-    (parts past state s).functions_is ∙ sym (functions_kept past k (other_not_pending past k s.lawful.drained e) e)
+same_functions past state k s e = grind (arith, parts, functions_kept, other_not_pending)
 
 pub same_head : (a b : Frame) (x y l : List Frame) → l ≡ a ∷ x → l ≡ b ∷ y → a ≡ b
 same_head a b x y l p q = let both : a ∷ x ≡ b ∷ y = sym p ∙ q in cc
@@ -462,8 +458,7 @@ ping_same luns k past frame same kind = ap (ping_answers (stamp (moved k past)) 
 
 pub logout_same : (luns : List ℕ) (k : ℕ) (past : Past) (frame : Frame) → frame ≡ frame_of past.came k → kind_of (frame_of past.came k) ≡ opcodes.Logout
     → logout_answer (stamp (moved k past)) (moved k past).params frame ∷ [] ≡ act_answers luns k past
-logout_same luns k past frame same kind = ap (λ (f : Frame). logout_answer (stamp (moved k past)) (moved k past).params f ∷ []) same
-    ∙ sym (logout_is luns k past kind)
+logout_same luns k past frame same kind = grind (arith, logout_is)
 
 pub function_bears : (luns : List ℕ) (k : ℕ) (past : Past) → is_function (frame_of past.came k) ≡ true → awaited past (reach_of luns k past) ≡ []
     → bearing (act_answers luns k past) ≡ 1
@@ -480,19 +475,18 @@ pub text_same : (luns : List ℕ) (k : ℕ) (past : Past) (frame : Frame) (told 
 text_same luns k past frame told same heard e = grind (arith, text_is)
 
 pub one_spelled : (old : List ℕ) (answer : Answer) (all : List Answer) → answer ∷ [] ≡ all → old ++ spelling answer ≡ old ++ flat_map spelling all
-one_spelled old answer all e = ap (λ (bytes : List ℕ). old ++ bytes) (sym (append-nil (spelling answer)))
-    ∙ ap (λ (l : List Answer). old ++ flat_map spelling l) e
+one_spelled old answer all e = grind (arith, append-nil)
 
 pub none_spelled : (old : List ℕ) (all : List Answer) → all ≡ [] → old ≡ old ++ flat_map spelling all
 none_spelled old all e = sym (append-nil old) ∙ ap (λ (l : List Answer). old ++ flat_map spelling l) (sym e)
 
 pub stands_silent : (luns : List ℕ) (k : ℕ) (past : Past) (state : SessionState) → is_function (frame_of past.came k) ≡ false → act_answers luns k past ≡ []
     → Stands (moved k past) state → Stands (acted luns k past) state
-stands_silent luns k past state no_function e s =
-    stands_plain luns k past state no_function (subst (λ (p : Past). Stands p state) (answering_none (moved k past) (act_answers luns k past) e) s)
+stands_silent luns k past state no_function e s = grind (arith, stands_plain, answering_none)
 
 pub some_due : (past : Past) (state : SessionState) (k : ℕ) (rest : List ℕ) → Stands past state → due past ≡ k ∷ rest → state.tasks.due ≡ [] → ⊥
-some_due past state k rest s is none = let both : frame_of (standing past) k ∷ frames_of (standing past) rest ≡ [] = sym (first_due past state k rest s is) ∙ none in cc
+some_due past state k rest s is none = let both : frame_of (standing past) k ∷ frames_of (standing past) rest ≡ [] = sym (first_due past state k rest s is)
+    ∙ none in cc
 
 -- ---- the next act
 
@@ -556,7 +550,8 @@ done_here past state k rest frame tasks transfers s is some same gone =
           ∙ tasks_finished past s.lawful k rest is)
           (gone ∙ ap (λ (f : Frame). record state.transfers { list = removed_at state.transfers.list (place_for f state.transfers.list) }) here
           ∙ removed_is past state k rest s is)
-          ((parts past state s).functions_is ∙ sym (functions_of_finished past s.lawful k rest is)) ((parts past state s).exchange_is ∙ sym (exchange_finished k past)),
+          ((parts past state s).functions_is ∙ sym (functions_of_finished past s.lawful k rest is))
+          ((parts past state s).exchange_is ∙ sym (exchange_finished k past)),
     )
 
 logout_by : (a b c : Bool) (w x y z : Answer) → a ≡ false → b ≡ false → c ≡ false → cond a w (cond b x (cond c y z)) ≡ z
@@ -565,5 +560,4 @@ logout_by a b c w x y z p q r = rw (p, q, r) refl
 pub logout_refused : (numbers_now : Stamp) (params : Params) (frame : Frame) (given : Answer) → closes params frame ≡ false
     → eqb (logout_reason frame.header) 1 ≡ false → eqb (logout_reason frame.header) 2 ≡ false
     → given ≡ reject reasons.InvalidField numbers_now frame → given ≡ logout_answer numbers_now params frame
-logout_refused numbers_now params frame given open_still no_cid no_recovery is = is
-    ∙ sym (logout_by (closes params frame) (logout_reason frame.header == 1) (logout_reason frame.header == 2) _ _ _ _ open_still no_cid no_recovery)
+logout_refused numbers_now params frame given open_still no_cid no_recovery is = grind (arith, logout_by)

@@ -101,7 +101,8 @@ asked_drains : (past : Past) (k i : ℕ) → AreDrained past → slice_get (unfi
 asked_drains past k i drained at =
     drains_kept past (asked k past) k drained (in_get (unfinished past) i k at) refl (λ j differ. asked_elsewhere past k j differ)
 
-asked_transfers : (past : Past) (k i : ℕ) → AreDrained past → slice_get (unfinished past) i ≡ Some k → asked_at (transfers_of past) (Some i) ≡ transfers_of (asked k past)
+asked_transfers : (past : Past) (k i : ℕ) → AreDrained past → slice_get (unfinished past) i ≡ Some k
+    → asked_at (transfers_of past) (Some i) ≡ transfers_of (asked k past)
 unfolding transfers_of
 asked_transfers past k i drained at = grind (arith, length-append, asked_list, unfinished_asked, asked_drains)
 

@@ -52,8 +52,7 @@ calm_both target (coming ∷ a) b first second = (first.0, calm_both target a b 
 -- another target has none of them
 pub others_calm : (own : Option ℕ) (target : ℕ) (came : List Coming) → is_for own (Some target) ≡ false → AreOf own came → IsCalm target came
 others_calm own target [] other are = tt
-others_calm own target (coming ∷ more) other are =
-    (λ named. absurd (cc (ap (λ (o : Option ℕ). is_for o (Some target)) are.0, other, named)), others_calm own target more other are.1)
+others_calm own target (coming ∷ more) other are = grind (arith, others_calm own target more other are.1)
 
 -- ---- calls
 
@@ -90,8 +89,7 @@ came_then target First Second Both units middle after first second back joined =
 -- what each comes to
 pub came_as : (target : Option ℕ) (Leads Other : TargetUnits → TargetUnits → Type 0) (units after : UnitStates) → CameAs target Leads units after
     → ((a b : TargetUnits) → Leads a b → Other a b) → CameAs target Other units after
-came_as target Leads Other units after came also =
-    record { came = came.came; own = came.own; leads = λ comings ahead. also _ _ (came.leads comings ahead); plain = came.plain }
+came_as target Leads Other units after came also = grind arith
 
 pub came_with : (target other : Option ℕ) (Leads : TargetUnits → TargetUnits → Type 0) (units after : UnitStates) → target ≡ other
     → CameAs target Leads units after → CameAs other Leads units after

@@ -24,8 +24,7 @@ telling_located past lawful =
 
 none_drained : (past : Past) → find (λ k. not (lacks past k)) (map (λ d. d.function) (drains_of past)) ≡ None → drained_functions past ≡ []
 unfolding drained_functions
-none_drained past e =
-    ap (filter (λ k. not (lacks past k))) (pending_named past) ∙ none_passes (λ k. not (lacks past k)) (map (λ d. d.function) (drains_of past)) e
+none_drained past e = grind (arith, pending_named, none_passes)
 
 one_drained : (past : Past) (k : ℕ) → find (λ k. not (lacks past k)) (map (λ d. d.function) (drains_of past)) ≡ Some k
     → (others : List ℕ) × (drained_functions past ≡ k ∷ others)
@@ -111,5 +110,4 @@ told_bears past k = refl
 pub told_same : (past : Past) (state : SessionState) (header : List ℕ) (t : Telling past state header)
     → function_answer (stamp (told t.function past)) results.Complete header ∷ [] ≡ told_by (drained_functions past) past
 unfolding told_answers
-told_same past state header t =
-    ap (λ (h : List ℕ). function_answer (stamp (told t.function past)) results.Complete h ∷ []) t.header_is ∙ ap (λ (l : List ℕ). told_by l past) (sym t.first)
+told_same past state header t = grind arith

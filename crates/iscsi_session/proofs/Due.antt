@@ -105,7 +105,11 @@ same_open : (p q : ℕ → Bool) (a : ℕ) (l : List Drain) → All (λ d. q d.c
     → list_any (waits_on q a) l ≡ list_any (waits_on p a) l
 same_open p q a [] same = refl
 same_open p q a (d ∷ l) same =
-    grind (arith, All-head (λ (x : Drain). q x.command ≡ p x.command) d l same, same_open p q a l (All-tail (λ (x : Drain). q x.command ≡ p x.command) d l same))
+    grind (
+      arith,
+      All-head (λ (x : Drain). q x.command ≡ p x.command) d l same,
+      same_open p q a l (All-tail (λ (x : Drain). q x.command ≡ p x.command) d l same),
+    )
 
 -- ---- no more is due
 
@@ -220,7 +224,8 @@ none_behind luns true past k rest e is lawful =
 none_act : (work : Work) (k : ℕ) (rest : List ℕ) → due work.past ≡ k ∷ rest → IsLawful work.past → OwesNoMore work.past (act k work).past
 unfolding act
 none_act work k rest is lawful =
-    then_no_more (none_behind (numbers_of work.units.states) _ work.past k rest refl is lawful) (none_answering (act_answers (numbers_of work.units.states) k work.past) _)
+    then_no_more (none_behind (numbers_of work.units.states) _ work.past k rest refl is lawful)
+    (none_answering (act_answers (numbers_of work.units.states) k work.past) _)
 
 -- fewer acts can follow
 
@@ -252,7 +257,12 @@ waits_draining k names past = refl
 ended_fewer : (luns : List ℕ) (b : Bool) (past : Past) (k : ℕ) (rest : List ℕ) → is_function (frame_of past.came k) ≡ b → IsLawful past → due past ≡ k ∷ rest
     → waiting (tasks_of (ended luns k past)) + cond b 2 1 ≤ waiting (tasks_of past)
 ended_fewer luns false past k rest f lawful is =
-    omega (arith, ap (λ (p : Past). waiting (tasks_of p)) (ended_plain luns k past f), moved_fewer past k rest lawful is, weight_some (frame_of (standing past) k))
+    omega (
+      arith,
+      ap (λ (p : Past). waiting (tasks_of p)) (ended_plain luns k past f),
+      moved_fewer past k rest lawful is,
+      weight_some (frame_of (standing past) k),
+    )
 ended_fewer luns true past k rest f lawful is =
     let reach = reach_of luns k past in
     let p = moved k past in
@@ -279,7 +289,13 @@ behind_fewer luns true past k rest e lawful is =
     let m = more_over luns past k rest both.0 (plugs_unasked past (reach_of luns k past) both.1) lawful is moves in
     let tasks = plugged_tasks n past (ended luns k past) m.1 m.2 lawful (ended_lawful luns _ past k rest refl lawful is moves) m.0
     (plugs_new past (reach_of luns k past) both.1) in
-    rw e (omega (arith, ap waiting tasks, waiting_held n plug (tasks_of (ended luns k past)), weight_by false plug refl, ended_fewer luns true past k rest both.0 lawful is))
+    rw e (omega (
+      arith,
+      ap waiting tasks,
+      waiting_held n plug (tasks_of (ended luns k past)),
+      weight_by false plug refl,
+      ended_fewer luns true past k rest both.0 lawful is,
+    ))
 
 act_fewer : (work : Work) (k : ℕ) (rest : List ℕ) → due work.past ≡ k ∷ rest → IsLawful work.past
     → waiting (tasks_of (act k work).past) < waiting (tasks_of work.past)
@@ -345,12 +361,10 @@ owes_still {c} {f} {past} {after} m lawful o = record {
 }
 
 owes_nothing : {past : Past} → IsLawful past → NothingIsDue past → Owes None None past
-owes_nothing {past} lawful n =
-    record { lawful = lawful; asks = only_none (asking past) n.asks; answers = only_none (drained_functions past) n.answers; discovery = n.discovery }
+owes_nothing {past} lawful n = grind (arith, only_none)
 
 nothing_is_due : {past : Past} → due past ≡ [] → Owes None None past → NothingIsDue past
-nothing_is_due {past} idle o =
-    record { acts = idle; asks = none_in (asking past) o.asks; answers = none_in (drained_functions past) o.answers; discovery = o.discovery }
+nothing_is_due {past} idle o = grind (arith, idle, none_in)
 
 -- the only one is gone
 owes_less : (past after : Past) (line : Past → List ℕ) (one : Option ℕ) (k : ℕ) (rest : List ℕ) → line past ≡ k ∷ rest → Only one (line past)
@@ -371,8 +385,7 @@ other_open p q k a (d ∷ l) same none = grind (arith, same d.command, other_ope
 the_waiter : (p q : ℕ → Bool) (k a : ℕ) (l : List Drain) → AreDistinct (map (λ d. d.command) l) → ((j : ℕ) → j ≢ k → q j ≡ p j)
     → list_any (waits_on p a) l ≡ true → list_any (waits_on q a) l ≡ false → Some a ≡ waiter k l
 the_waiter p q k a [] distinct same before now = absurd cc
-the_waiter p q k a (d ∷ l) distinct same before now =
-    grind (arith, other_open p q k a l same, the_waiter p q k a l distinct.1 same, same d.command, distinct.0)
+the_waiter p q k a (d ∷ l) distinct same before now = grind (arith, the_waiter p q k a l distinct.1 same, other_open)
 
 abbrev Owing : Past → Type 0
 Owing past = (command : Option ℕ) × (function : Option ℕ) × Owes command function past
@@ -431,7 +444,8 @@ fed_owes (Some k) past frame lawful n now = (
     answers a h =
         let t = told_in after a h in
         let told : list_any (waits_on (is_asked_of past) a) past.drains ≡ false → ⊥ = λ e.
-        (let no = only_none (drained_functions past) n.answers a (told_back past a (record { waits = t.waits; unanswered = t.unanswered; complete = e })) in cc) in
+        (let no = only_none (drained_functions past) n.answers a
+        (told_back past a (record { waits = t.waits; unanswered = t.unanswered; complete = e })) in cc) in
         the_waiter (is_asked_of past) (is_asked_of after) k a past.drains lawful.drained.once (λ j differs. ap is_asked (same j differs)) (grind (arith, told))
         t.complete
 

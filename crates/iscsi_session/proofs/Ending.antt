@@ -160,8 +160,7 @@ some_reached past state reach s =
 pub finds_is : {past : Past} {state : SessionState} (reach : FunctionReach) (live back new plugged_it : Bool) → Stands past state
     → live ≡ reaches_some reach state.transfers.list → back ≡ refers_back reach.function → new ≡ order.is_new (numbers past) (ref_cmd_sn reach.function)
     → plugged_it ≡ is_some_plug (held_numbered state.tasks (ref_cmd_sn reach.function)) → found_by live back new plugged_it ≡ abort_finds past reach
-finds_is {past} {state} reach live back new plugged_it s e f g h =
-    rw (e ∙ some_reached past state reach s, f, g, h ∙ plugged_is past state (ref_cmd_sn reach.function) s) refl
+finds_is {past} {state} reach live back new plugged_it s e f g h = grind (arith, some_reached, plugged_is)
 
 -- a number that is vacant still is, where a request is finished
 pub vacant_still : (frame : Frame) (others : List Frame) (tasks : TaskLists) (n : ℕ) → is_vacant tasks n ≡ true

@@ -43,7 +43,8 @@ located_with past tag = located (bears tag) (transfer_of past) (unfinished past)
 drain_located : (past : Past) (tag : ℕ)
     → LocatedAmong (is_asked_of past) (λ k. tag_of past.came k == tag) (drains_of past) (drain_with tag (map (drained_of past) (drains_of past)))
 drain_located past tag =
-    located_among (λ (x : Drained). is_draining x && bears tag x.transfer) (drained_of past) (is_asked_of past) (λ k. tag_of past.came k == tag) (drains_of past)
+    located_among (λ (x : Drained). is_draining x && bears tag x.transfer) (drained_of past) (is_asked_of past) (λ k. tag_of past.came k == tag)
+    (drains_of past)
     (λ d. ap (λ (b : Bool). b && bears tag (transfer_of past d.command)) (asked_blanked (transfer_of past d.command)))
 
 pub drains_are : (past : Past) (state : SessionState) → Stands past state → state.transfers.drains ≡ map (drained_of past) (drains_of past)
@@ -213,8 +214,7 @@ fed_list past k i frame at =
 -- the others are as they were
 fed_others : (past : Past) (k : ℕ) (frame : Frame) → is_in k (unfinished past) ≡ false
     → map (transfer_of past) (unfinished past) ≡ map (transfer_of (feeding k frame past)) (unfinished past)
-fed_others past k frame none =
-    same_all (transfer_of past) (transfer_of (feeding k frame past)) k (unfinished past) none (λ j differ. fed_elsewhere past k j frame differ)
+fed_others past k frame none = grind (arith, same_all, fed_elsewhere)
 
 drain_elsewhere : (past : Past) (k : ℕ) (frame : Frame) (d : Drain) → d.command ≢ k → drained_of (feeding k frame past) d ≡ drained_of past d
 drain_elsewhere past k frame d differ = ap (drained_with (frame_of past.came d.function).header) (fed_elsewhere past k d.command frame differ)
@@ -236,7 +236,8 @@ fed_place past frame (Some i) drained found =
 -- or of one whose data is drained
 drain_there : (past : Past) (i : ℕ) (d : Drain) → AreDrained past → slice_get (drains_of past) i ≡ Some d → is_in d.command (unfinished past) ≡ false
 drain_there past i d drained at = false_from_ne_true (is_in d.command (unfinished past)) (λ there.
-    drain_at (λ e. e.command ≢ d.command) (drains_of past) i d (drains_all (λ e. e.command ≢ d.command) past (drains_apart past d.command drained there)) at refl)
+    drain_at (λ e. e.command ≢ d.command) (drains_of past) i d
+    (drains_all (λ e. e.command ≢ d.command) past (drains_apart past d.command drained there)) at refl)
 
 fed_drained : (past : Past) (frame : Frame) (at : Option ℕ) → AreDrained past
     → LocatedAmong (is_asked_of past) (λ k. tag_of past.came k == tag_in frame) (drains_of past) at
@@ -248,9 +249,11 @@ fed_drained past frame (Some i) drained found =
     let d = found.0 in
     let k = d.command in
     let set_there : fed_drain (map (drained_of past) (drains_of past)) frame (Some i) ≡ map (drained_of (feeding k frame past)) (drains_of past) =
-    ap (λ (x : Drained). set (map (drained_of past) (drains_of past)) i (record x { transfer = record x.transfer { task = blank (with_data x.transfer.task frame) } }))
+    ap (λ (x : Drained). set (map (drained_of past) (drains_of past)) i
+    (record x { transfer = record x.transfer { task = blank (with_data x.transfer.task frame) } }))
     (index_drains (drained_of past) no_drained (drains_of past) i d found.2)
-    ∙ ap (λ (task : TaskState). (let x : Drained = record { function = (frame_of past.came d.function).header; transfer = record (transfer_of past k) { task = task } } in
+    ∙ ap (λ (task : TaskState).
+    (let x : Drained = record { function = (frame_of past.came d.function).header; transfer = record (transfer_of past k) { task = task } } in
     set (map (drained_of past) (drains_of past)) i x)) (with_blank (transfer_of past k).task frame)
     ∙ ap (λ (t : Transfer). set (map (drained_of past) (drains_of past)) i (drained_with (frame_of past.came d.function).header t))
     (sym (fed_there past k frame))
@@ -342,8 +345,7 @@ place_self past k lawful there = located_self past k _ lawful there (located_wit
 
 -- the first of the queue is not finished
 pub first_unfinished : (past : Past) (k : ℕ) (rest : List ℕ) → IsLawful past → queue past ≡ k ∷ rest → is_in k (unfinished past) ≡ true
-first_unfinished past k rest lawful is =
-    queue_unfinished past k lawful.below (ap (λ (l : List ℕ). is_in k l) is ∙ in_at (k ∷ rest) 0 0 (omega arith))
+first_unfinished past k rest lawful is = grind (arith, queue_unfinished, in_at)
 
 pub whole_is : (past : Past) (state : SessionState) (k : ℕ) → Stands past state → is_in k (unfinished past) ≡ true
     → whole_at state.transfers.list (place_for (frame_of past.came k) state.transfers.list) ≡ is_whole_of past k

@@ -51,8 +51,7 @@ pending_in past = length (held past) + length (due past) + length (queue past)
 
 pub pending_is : (past : Past) → pending (tasks_of past) ≡ pending_in past
 unfolding tasks_of
-pending_is past =
-    omega (arith, held_length past, length-map (due past) (frame_of (standing past)), length-map (queue past) (frame_of past.came))
+pending_is past = grind (arith, held_length, length-map)
 
 -- the same requests came, so the same are held
 held_same : (past : Past) (acted finished removed : List ℕ) → held (record past { acted = acted; finished = finished; removed = removed }) ≡ held past

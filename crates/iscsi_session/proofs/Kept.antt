@@ -93,8 +93,7 @@ kept_joined c q past x e finished_below removed_below = grind (arith, all_joined
 -- ---- one is finished
 
 pub kept_without : (q : Frame → Bool) (past : Past) (k : ℕ) → kept_of q (finished k past) ≡ left (k ∷ []) (kept_of q past)
-kept_without q past k =
-    ap (left past.removed) (left_more past.finished (k ∷ []) (all_of q past)) ∙ left_swap past.removed (k ∷ []) (left past.finished (all_of q past))
+kept_without q past k = grind (arith, left_more, left_swap)
 
 -- one of another kind
 pub kept_other : (q : Frame → Bool) (past : Past) (k : ℕ) → q (frame_of past.came k) ≡ false → kept_of q (finished k past) ≡ kept_of q past
@@ -106,8 +105,7 @@ kept_other q past k e =
 -- ---- their tags
 
 tags_before : (past : Past) (x : Request) (names : List ℕ) → Below past names → map (tag_of (past.came ++ x ∷ [])) names ≡ map (tag_of past.came) names
-tags_before past x names below = map_cong _ _ names (λ i d lt. ap (λ (r : Request). initiator_task_tag r.frame.header)
-    (request_before past.came x _ (below i d lt)))
+tags_before past x names below = grind (arith, map_cong, request_before)
 
 -- where a request comes whose tag is not among these
 pub tags_with : (c : Bool) (past : Past) (x : Request) (names : List ℕ) → Below past names → AreDistinct (map (tag_of past.came) names)

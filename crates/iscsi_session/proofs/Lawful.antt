@@ -98,7 +98,8 @@ unfolding judge
 judge_lawful frame work lawful = judged_by _ work.past frame refl lawful
 
 -- what a function removes
-pub ended_lawful : (luns : List ℕ) (b : Bool) (past : Past) (k : ℕ) (rest : List ℕ) → is_function (frame_of past.came k) ≡ b → IsLawful past → due past ≡ k ∷ rest
+pub ended_lawful : (luns : List ℕ) (b : Bool) (past : Past) (k : ℕ) (rest : List ℕ) → is_function (frame_of past.came k) ≡ b → IsLawful past
+    → due past ≡ k ∷ rest
     → IsLawful (moved k past) → IsLawful (ended luns k past)
 ended_lawful luns false past k rest f lawful is moves = rw f moves
 ended_lawful luns true past k rest f lawful is moves = by_case (awaited past (reach_of luns k past)) refl

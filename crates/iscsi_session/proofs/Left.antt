@@ -176,8 +176,7 @@ filter_none q a (suc n) none = rw (none a (omega arith) (omega arith)) (filter_n
 
 pub filter_every : (q : ℕ → Bool) (a n : ℕ) → ((k : ℕ) → a ≤ k → k < a + n → q k ≡ true) → filter q (range_with_len a n) ≡ range_with_len a n
 filter_every q a zero all = refl
-filter_every q a (suc n) all = rw (all a (omega arith) (omega arith))
-    (ap (λ (l : List ℕ). a ∷ l) (filter_every q (a + 1) n (λ k le lt. all k (omega arith) (omega arith))))
+filter_every q a (suc n) all = grind (arith, filter_every q (a + 1) n (λ k le lt. all k (omega arith) (omega arith)))
 
 -- ---- distinct values of names
 
@@ -197,8 +196,7 @@ distinct_map_filter_with false f q a names e here rest = rw e rest
 
 pub distinct_map_filter : {A : Type 0} (f : A → ℕ) (q : A → Bool) (names : List A) → AreDistinct (map f names) → AreDistinct (map f (filter q names))
 distinct_map_filter f q [] distinct = tt
-distinct_map_filter f q (a ∷ names) distinct =
-    distinct_map_filter_with (q a) f q a names refl (in_map_filter f q (f a) names distinct.0) (distinct_map_filter f q names distinct.1)
+distinct_map_filter f q (a ∷ names) distinct = grind (arith, distinct_map_filter f q names distinct.1, distinct_map_filter_with, in_map_filter)
 
 -- one more that does not stand there
 pub distinct_push : (names : List ℕ) (n : ℕ) → AreDistinct names → is_in n names ≡ false → AreDistinct (names ++ n ∷ [])

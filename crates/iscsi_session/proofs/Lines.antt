@@ -140,8 +140,7 @@ there_by slot n e some = grind arith
 pub marks_same : (requests : Slab Frame) (keys : List (Option ℕ)) (due queue : List ℕ)
     → ((key : ℕ) → times key (keys_in keys) + times key due + times key queue ≡ holds requests key)
     → map is_some (map (held_at requests) keys) ≡ map is_some keys
-marks_same requests keys due queue once = marks_kept requests keys
-    (λ key some. there_by (get requests key) (times key (keys_in keys) + times key due + times key queue) (once key) (omega arith))
+marks_same requests keys due queue once = grind (arith, marks_kept, there_by)
 
 -- one more key
 pub times_set : (j key i : ℕ) (keys : List (Option ℕ)) → i < length keys → get_or keys i None ≡ None

@@ -208,8 +208,7 @@ module _ (past : Past) (lawful : IsLawful past) where
 
     -- a function that is due is not finished
     pub due_function : is_function (frame_of past.came k) ≡ true → is_in k (functions past) ≡ true
-    due_function e = in_functions past k due_came e (not_by k _ past.finished (in_left k (pending past) past.finished) not_finished)
-        (not_removed past k lawful.removed_commands (function_no_command (frame_of past.came k) e))
+    due_function e = grind (arith, in_functions, due_came, not_by, in_left, not_finished, not_removed, function_no_command)
 
     pub transfers_other : is_command (frame_of past.came k) ≡ false → transfers_of with_other ≡ transfers_of past
     unfolding transfers_of task_at outs_of tags_of
@@ -265,8 +264,7 @@ module _ (past : Past) (lawful : IsLawful past) where
     queue_stays = not_gone k past.removed (left past.finished (commands past.came past.acted)) queued_here
 
     pub is_done : is_command (frame_of past.came k) ≡ true
-    is_done = passes_in k (λ a. is_command (frame_of past.came a)) past.acted
-        (in_left k past.finished _ (in_left k past.removed _ (ap (λ (l : List ℕ). is_in k l) (sym (queue_is past lawful)) ∙ queued_here)))
+    is_done = grind (arith, passes_in, in_left, queue_is, queued_here)
 
     is_not_pending : is_in k (pending past) ≡ false
     is_not_pending = command_not_pending past k lawful.drained is_done

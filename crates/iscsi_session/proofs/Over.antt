@@ -18,7 +18,8 @@ filter_swap : (p q : ℕ → Bool) (names : List ℕ) → filter p (filter q nam
 filter_swap p q names = grind (arith, filter_filter, filter_cong, and_swap)
 
 -- those for which it holds, and the others
-pub split : (q : ℕ → Bool) (came : List Request) (names : List ℕ) → counted came names ≡ counted came (filter q names) + counted came (filter (λ a. not (q a)) names)
+pub split : (q : ℕ → Bool) (came : List Request) (names : List ℕ)
+    → counted came names ≡ counted came (filter q names) + counted came (filter (λ a. not (q a)) names)
 split q came [] = refl
 split q came (k ∷ names) = grind (arith, split q came names)
 
@@ -91,7 +92,8 @@ over_other past k e free =
     let came = past.came in
     let done = left (pending past) past.finished in
     let gone = filter (λ a. is_in a past.removed) past.acted in
-    let a = ap (counted came) (ap (λ (l : List ℕ). l ++ filter (λ a. is_in a past.removed) (past.acted ++ k ∷ [])) (left_push (pending past) past.finished k free)
+    let a = ap (counted came)
+    (ap (λ (l : List ℕ). l ++ filter (λ a. is_in a past.removed) (past.acted ++ k ∷ [])) (left_push (pending past) past.finished k free)
     ∙ over_by false past k (done ++ k ∷ []) e ∙ append-nil ((done ++ k ∷ []) ++ gone)) in
     let b = counted_append came (done ++ k ∷ []) gone in
     let c = counted_append came done (k ∷ []) in

@@ -159,13 +159,11 @@ kept_by false past state frame h s free tag =
     )
 
 same_headers : (past : Past) (lawful : IsLawful past) (frame : Frame) → is_function frame ≡ false → functions_of (accepted frame past) ≡ functions_of past
-same_headers past lawful frame e =
-    functions_of_joined past lawful _ ∙ ap (λ (b : Bool). functions_of past ++ cond b (frame.header ∷ []) []) e ∙ append-nil (functions_of past)
+same_headers past lawful frame e = grind (arith, functions_of_joined, append-nil)
 
 one_more_header : (past : Past) (lawful : IsLawful past) (frame : Frame) → is_function frame ≡ true
     → functions_of past ++ frame.header ∷ [] ≡ functions_of (accepted frame past)
-one_more_header past lawful frame e =
-    sym (functions_of_joined past lawful _ ∙ ap (λ (b : Bool). functions_of past ++ cond b (frame.header ∷ []) []) e)
+one_more_header past lawful frame e = grind (arith, functions_of_joined)
 
 same_transfers : (past : Past) (frame : Frame) → IsLawful past → is_command frame ≡ false → transfers_of (accepted frame past) ≡ transfers_of past
 same_transfers past frame lawful e =

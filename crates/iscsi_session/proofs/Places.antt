@@ -31,8 +31,7 @@ located_with false p f a names e found = behind p f a names (position p (map f n
 
 pub located : {Y : Type 0} (p : Y → Bool) (f : ℕ → Y) (names : List ℕ) → Located p f names (position p (map f names))
 located p f [] = refl
-located p f (a ∷ names) =
-    rw (position_with (p (f a)) p (f a) (map f names) refl) (located_with (p (f a)) p f a names refl (located p f names))
+located p f (a ∷ names) = grind (arith, located p f names, position_with, located_with)
 
 -- what stands there
 pub index_map : {Y : Type 0} (f : ℕ → Y) (d : Y) (names : List ℕ) (i k : ℕ) → slice_get names i ≡ Some k → slice_index_or (map f names) i d ≡ f k

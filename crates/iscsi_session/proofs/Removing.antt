@@ -106,7 +106,7 @@ module _ (reach : FunctionReach) (past : Past) (lawful : IsLawful past) where
 
   functions_gone : functions after ≡ left gone (functions past)
   unfolding functions
-  functions_gone = left_again (left (left (pending past) past.finished) (filter (λ k. is_function (frame_of past.came k)) (range_with_len 0 (length past.came))))
+  functions_gone = grind (arith, left_again)
 
   pub functions_same : functions after ≡ functions past
   functions_same = functions_gone ∙ left_all gone (functions past) (λ i d lt. no_function _ (function_in past _ (in_at (functions past) i d lt)))
@@ -280,7 +280,8 @@ module _ (reach : FunctionReach) (past : Past) (lawful : IsLawful past) where
       ≡ (numbers after).handed - counted past.came (over after) = omega (arith, counts_queue, over_more, handed_same) in
       let held : map (option_map (void_if reach)) (map (frame_numbered (standing past)) (range_with_len (numbers past).handed window))
       ≡ map (frame_numbered (standing after)) (range_with_len (numbers after).handed window) =
-      sym (held_range (numbers past).handed window (omega arith)) ∙ ap (λ (h : ℕ). map (frame_numbered (standing after)) (range_with_len h window)) (sym handed_same) in
+      sym (held_range (numbers past).handed window (omega arith))
+      ∙ ap (λ (h : ℕ). map (frame_numbered (standing after)) (range_with_len h window)) (sym handed_same) in
       rw (fewer, held, ← due_voids, queue_stays, ← handed_same) refl
 
   -- ---- their data

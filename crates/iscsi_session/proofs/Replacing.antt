@@ -57,7 +57,8 @@ replaced old mid new n gone key frame w due queue some at found takes lines vaca
     record {
       first = out.first;
       middle = ap (λ (x : WindowKeys). lists_of mid x (remove due 0) queue) shape
-          ∙ rw (out.left, out.same_held, out.same_others) (sym (one_fewer_by _ frame (record (lists_of old w due queue) { due = drop 1 (requests_at old due) }) refl));
+          ∙ rw (out.left, out.same_held, out.same_others)
+          (sym (one_fewer_by _ frame (record (lists_of old w due queue) { due = drop 1 (requests_at old due) }) refl));
       once = once;
       count = held.count ∙ ap (λ (l : List (Option ℕ)). length l) keys_same;
       lines = held.lines;

@@ -137,8 +137,7 @@ data_answer_at numbers values frame sent k d piece is =
 pub data_answers_count : (numbers : Stamp) (values : Values) (frame : Frame) (sent : List ℕ)
     → length (data_answers numbers values frame sent) ≡ length (sent_pieces values sent)
 unfolding data_answers
-data_answers_count numbers values frame sent = length-map (enumerate_from 0 (sent_pieces values sent)) (data_in numbers frame sent)
-    ∙ length-enumerate_from 0 (sent_pieces values sent)
+data_answers_count numbers values frame sent = grind (arith, length-map, length-enumerate_from)
 
 -- one more answer is written behind the first k
 pub record IsWritten (all : List Answer) (k : ℕ) (items before : List ℕ) (left room : ℕ) : Type 0 where

@@ -53,7 +53,8 @@ pub starts_again : (given work : Work) (state : SessionState) (before waiting : 
 starts_again given work state before waiting units l goes_on = record { lawful = l.lawful; remembered = l.remembered; units = l.units; goes_on = goes_on }
 
 -- the same session, whatever was reached
-pub starts_reaching : (step : Step) (work : Work) (state : SessionState) (units : TargetUnits) → Starts work state units → Starts (reaches step work) state units
+pub starts_reaching : (step : Step) (work : Work) (state : SessionState) (units : TargetUnits) → Starts work state units
+    → Starts (reaches step work) state units
 starts_reaching step work state units s = record { lawful = s.lawful; remembered = s.remembered; units = s.units; goes_on = s.goes_on }
 
 pub leaves_nothing : (work : Work) (state : SessionState) (before : Output) (units : TargetUnits) → Starts work state units
@@ -110,13 +111,11 @@ leaves_as given work given_too work_too state before waiting units g go w wo u l
 
 pub leaves_reaching : (step : Step) (work next : Work) (state : SessionState) (before waiting : Output) (units : TargetUnits)
     → Leaves (reaches step work) next state before waiting units → Leaves work next state before waiting units
-leaves_reaching step work next state before waiting units l =
-    leaves_as (reaches step work) next work next state before waiting units refl refl refl refl refl l
+leaves_reaching step work next state before waiting units l = grind (arith, leaves_as)
 
 pub leaves_stopped : (step : Step) (given work : Work) (state : SessionState) (before waiting : Output) (units : TargetUnits)
     → Leaves given work state before waiting units → Leaves given (record (reaches step work) { goes_on = false }) state before waiting units
-leaves_stopped step given work state before waiting units l =
-    leaves_as given work given (record (reaches step work) { goes_on = false }) state before waiting units refl refl refl refl refl l
+leaves_stopped step given work state before waiting units l = grind (arith, leaves_as)
 
 -- ---- more waits behind what did
 

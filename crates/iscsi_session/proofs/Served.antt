@@ -145,8 +145,7 @@ act_stops luns turn old now next before waiting items same is runs = (turn, λ u
 pub judged_same : (v : Verdict) (frame : Frame) (past : Past)
     → ((judged v frame past).params ≡ past.params) × ((judged v frame past).answers ≡ past.answers ++ judged_answers v past frame)
 judged_same Accepted frame past = (refl, sym (append-nil past.answers))
-judged_same Feeding frame past =
-    let same = fed_same past frame (command_with past (initiator_task_tag frame.header)) in (same.0, same.1 ∙ sym (append-nil past.answers))
+judged_same Feeding frame past = grind (arith, fed_same, append-nil)
 judged_same (Rejected reason) frame past = (refl, refl)
 judged_same Ignored frame past = (refl, sym (append-nil past.answers))
 judged_same Dropped frame past = (refl, sym (append-nil past.answers))

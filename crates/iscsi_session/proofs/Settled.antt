@@ -51,8 +51,7 @@ waits_by b past k l e h = grind arith
 none_ready_in : (past : Past) (state : SessionState) (l : List ℕ) → Stands past state → queue past ≡ l
     → is_waiting_by (frames_of past.came l) state.transfers.list ≡ true → ready_in past l ≡ []
 none_ready_in past state [] s is e = refl
-none_ready_in past state (k ∷ l) s is e =
-    waits_by _ past k l refl (ap not (sym (whole_is past state k s (first_unfinished past k l s.lawful is))) ∙ e)
+none_ready_in past state (k ∷ l) s is e = grind (arith, waits_by, whole_is, first_unfinished)
 
 pub none_ready : (work : Work) (state : SessionState) (units : TargetUnits) → Starts work state units → is_waiting state ≡ true → ready work.past ≡ []
 unfolding ready
@@ -67,8 +66,7 @@ goes_by b past k l e h = grind arith
 all_ready_in : (past : Past) (state : SessionState) (l : List ℕ) → Stands past state → queue past ≡ l
     → is_waiting_by (frames_of past.came l) state.transfers.list ≡ false → (k : ℕ) × (others : List ℕ) × (l ≡ k ∷ others) × (ready_in past l ≡ l)
 all_ready_in past state [] s is e = absurd cc
-all_ready_in past state (k ∷ l) s is e =
-    (k, l, refl, goes_by _ past k l refl (ap not (sym (whole_is past state k s (first_unfinished past k l s.lawful is))) ∙ e))
+all_ready_in past state (k ∷ l) s is e = grind (arith, goes_by, whole_is, first_unfinished)
 
 all_ready : (work : Work) (state : SessionState) (units : TargetUnits) → Starts work state units → is_waiting state ≡ false
     → (k : ℕ) × (others : List ℕ) × (queue work.past ≡ k ∷ others) × (ready work.past ≡ queue work.past)
@@ -87,8 +85,7 @@ some_queued state e = some_by state.tasks.queue state e
 
 pub not_waiting : (state : SessionState) (frame : Frame) (rest : List Frame) → state.tasks.queue ≡ frame ∷ rest
     → whole_at state.transfers.list (place_for frame state.transfers.list) ≡ true → is_waiting state ≡ false
-not_waiting state frame rest first whole =
-    ap (λ (l : List Frame). is_waiting_by l state.transfers.list) first ∙ ap not whole
+not_waiting state frame rest first whole = grind arith
 
 -- ---- a command is done
 

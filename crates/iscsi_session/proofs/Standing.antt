@@ -60,15 +60,15 @@ standing_at past k lt = at_from past.removed 0 k k past.came lt (omega arith)
 
 -- of one that is not removed
 pub standing_kept : (past : Past) (k : ℕ) → k < length past.came → is_in k past.removed ≡ false → frame_of (standing past) k ≡ frame_of past.came k
-standing_kept past k lt none = ap (λ (r : Request). r.frame) (standing_at past k lt ∙ ap (λ (b : Bool). cond b (voided (request_at past.came k)) (request_at past.came k)) none)
+standing_kept past k lt none = grind (arith, standing_at)
 
 immediate_by : (b : Bool) (r : Request) → is_immediate (cond b (voided r) r).frame.header ≡ is_immediate r.frame.header
 immediate_by b r = grind arith
 
 -- it is for immediate delivery, or not, as it was
-pub standing_immediate : (past : Past) (k : ℕ) → k < length past.came → is_immediate (frame_of (standing past) k).header ≡ is_immediate (frame_of past.came k).header
-standing_immediate past k lt =
-    ap (λ (r : Request). is_immediate r.frame.header) (standing_at past k lt) ∙ immediate_by (is_in k past.removed) (request_at past.came k)
+pub standing_immediate : (past : Past) (k : ℕ) → k < length past.came
+    → is_immediate (frame_of (standing past) k).header ≡ is_immediate (frame_of past.came k).header
+standing_immediate past k lt = grind (arith, standing_at, immediate_by)
 
 -- ---- of which kind it is
 

@@ -201,13 +201,15 @@ unfolding taken
 distinct_taken came = distinct_over came (range_with_len 0 (length came)) (range_below (length came)) (distinct_range 0 (length came))
 
 -- a request with a number before which one is missing is not taken
-pub beyond_not_taken : (came : List Request) (n : ℕ) → place_of came n < length came → length came ≤ moment came n → is_in (place_of came n) (taken came) ≡ false
+pub beyond_not_taken : (came : List Request) (n : ℕ) → place_of came n < length came → length came ≤ moment came n
+    → is_in (place_of came n) (taken came) ≡ false
 unfolding taken key
 beyond_not_taken came n lt le =
     let p = place_of came n in
     let is : key came p ≡ moment came n = key_of_number (request_at came p).number came n p (place_has came n lt) in
     not_taken came p (range_with_len 0 (length came)) (range_below (length came))
-    (false_from_ne_true (is_in (key came p) (range_with_len 0 (length came))) (λ h. let less = below_of (length came) (key came p) _ (range_below (length came)) h
+    (false_from_ne_true (is_in (key came p) (range_with_len 0 (length came)))
+    (λ h. let less = below_of (length came) (key came p) _ (range_below (length came)) h
     in absurd (omega arith)))
 
 -- what is taken came

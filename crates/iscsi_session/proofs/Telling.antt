@@ -86,7 +86,7 @@ module _ (past : Past) (lawful : IsLawful past) where
 
   -- of each there is data
   pub drains_pending : All (λ d. is_in d.function (pending past) ≡ true) (drains_of past)
-  drains_pending = λ i none lt. ap (λ (l : List ℕ). is_in (get_or (drains_of past) i none).function l) (pending_named past) ∙ all_named (drains_of past) i none lt
+  drains_pending = grind (arith, pending_named, all_named)
 
   -- their tags tell them apart
   pub same_tag : (a k : ℕ) → is_in a (pending past) ≡ true → is_in k (pending past) ≡ true → (tag_of past.came a == tag_of past.came k) ≡ (a == k)
@@ -111,8 +111,7 @@ module _ (past : Past) (lawful : IsLawful past) where
     waits_at a e = ap (λ (n : ℕ). is_in n (pending past)) (eqb-true a k e) ∙ waits
 
     no_command : (a : ℕ) → (a == k) ≡ true → is_command (frame_of past.came a) ≡ false
-    no_command a e = ap (λ (n : ℕ). is_command (frame_of past.came n)) (eqb-true a k e)
-        ∙ function_no_command (frame_of past.came k) (pending_function k waits)
+    no_command a e = grind (arith, eqb-true, function_no_command, pending_function)
 
     -- it is finished once
     once_others : (names : List ℕ) → filter (λ a. a == k) (others past.came names) ≡ filter (λ a. a == k) names

@@ -102,8 +102,7 @@ pub transfers_joined : (c : Bool) (past : Past) (x : Request) → is_command x.f
     → transfers_of (joined x past) ≡ record (transfers_of past)
     { list = (transfers_of past).list ++ cond c (begun_transfer x.frame.header (task_of (begun past.params.values x.frame)) ∷ []) [] }
 unfolding transfers_of
-transfers_joined c past x e below gone fed asked drained =
-    rw (list_joined c past x e below gone fed asked, drained_before past x drained below gone) refl
+transfers_joined c past x e below gone fed asked drained = grind (arith, list_joined, drained_before)
 
 -- their tags, where a request comes whose tag is not among them
 pub tags_joined : (c : Bool) (past : Past) (x : Request) → is_command x.frame ≡ c → Below past past.finished → Below past past.removed

@@ -28,7 +28,8 @@ unfolding task_verdict
 task_told past frame fresh over taken faulty fresh_is over_is taken_is faulty_is = rw (fresh_is, over_is, taken_is, faulty_is) refl
 
 -- the data of a SCSI Command is as agreed
-pub faultless_agreed : (values : Values) (frame : Frame) → is_command frame ≡ true → is_faulty values frame ≡ false → is_some (command_fault values frame) ≡ false
+pub faultless_agreed : (values : Values) (frame : Frame) → is_command frame ≡ true → is_faulty values frame ≡ false
+    → is_some (command_fault values frame) ≡ false
 faultless_agreed values frame e none = let h = rw e at none in h
 
 -- ---- by the opcode

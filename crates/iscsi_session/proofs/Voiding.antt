@@ -41,8 +41,7 @@ slot_by : (b : Bool) (reach : FunctionReach) (slot : Option Frame) → is_some (
 slot_by b reach slot = grind arith
 
 holds_same : (reach : FunctionReach) (keys : List ℕ) (old new : Slab Frame) (key : ℕ) → Voids reach keys old new → holds new key ≡ holds old key
-holds_same reach keys old new key voided =
-    ap (λ (b : Bool). cond b 1 0) (ap is_some (voided.at key) ∙ slot_by (is_in key keys) reach (get old key))
+holds_same reach keys old new key voided = grind (arith, slot_by)
 
 line_voids : (reach : FunctionReach) (all : List ℕ) (old new : Slab Frame) (keys : List ℕ) → Voids reach all old new → All (λ k. is_in k all ≡ true) keys
     → requests_at new keys ≡ map (void_if reach) (requests_at old keys)

@@ -161,7 +161,8 @@ module _ (past : Past) (lawful : IsLawful past) (k : ℕ) (rest : List ℕ) (is 
       map_for [] = refl
       map_for (c ∷ l) = ap (λ (x : List Drained). drained_of past (drain_for k c) ∷ x) (map_for l)
 
-  transfers_waiting : record (transfers_of past) { drains = (transfers_of past).drains ++ map (λ c. drained_of past (drain_for k c)) names } ≡ transfers_of after
+  transfers_waiting : record (transfers_of past) { drains = (transfers_of past).drains ++ map (λ c. drained_of past (drain_for k c)) names }
+      ≡ transfers_of after
   unfolding transfers_of task_at outs_of tags_of
   transfers_waiting = grind (arith, drains_after, unfinished_after)
 

@@ -32,7 +32,8 @@ map_all P (d ∷ l) all =
     All-cons P d.command (map (λ d. d.command) l) (All-head (λ (x : Drain). P x.command) d l all)
     (map_all P l (All-tail (λ (x : Drain). P x.command) d l all))
 
-module _ (luns : List ℕ) (past : Past) (lawful : IsLawful past) (k : ℕ) (rest : List ℕ) (is : due past ≡ k ∷ rest) (f : is_function (frame_of past.came k) ≡ true)
+module _ (luns : List ℕ) (past : Past) (lawful : IsLawful past) (k : ℕ) (rest : List ℕ) (is : due past ≡ k ∷ rest)
+    (f : is_function (frame_of past.came k) ≡ true)
     (first : ℕ) (others : List ℕ) (e : awaited past (reach_of luns k past) ≡ first ∷ others) where
   abbrev gone : List ℕ
   gone = reached (reach_of luns k past) past

@@ -40,7 +40,8 @@ there l = filter_map (λ o. o) l
 there_push : (l : List (Option Frame)) → there (l ++ None ∷ []) ≡ there l
 there_push l = filter_map-append (λ (o : Option Frame). o) l (None ∷ []) ∙ append-nil (there l)
 
-turned_by : (l : List (Option Frame)) (line : List Frame) → weigh (there (drop 1 l ++ None ∷ [])) + weigh (line ++ there (take 1 l)) ≡ weigh (there l) + weigh line
+turned_by : (l : List (Option Frame)) (line : List Frame)
+    → weigh (there (drop 1 l ++ None ∷ [])) + weigh (line ++ there (take 1 l)) ≡ weigh (there l) + weigh line
 turned_by [] line = omega (arith, weigh_append line [])
 turned_by (None ∷ l) line = omega (arith, weigh_append line [], ap weigh (there_push l))
 turned_by (Some frame ∷ l) line = omega (arith, weigh_append line (frame ∷ []), ap weigh (there_push l))
@@ -70,8 +71,7 @@ waiting_first frame others tasks is = omega (arith, ap weigh is)
 
 pub finishes_one : (frame : Frame) (old new : TaskLists) → old.due ≡ frame ∷ drop 1 old.due
     → new ≡ one_fewer frame (record old { due = drop 1 old.due }) → waiting new < waiting old
-finishes_one frame old new is same =
-    omega (arith, ap waiting same, waiting_fewer frame (record old { due = drop 1 old.due }), waiting_first frame (drop 1 old.due) old is, weight_some frame)
+finishes_one frame old new is same = grind (arith, waiting_fewer, waiting_first, weight_some)
 
 pub queues_one : (frame : Frame) (others queue : List Frame) (old new : TaskLists) → old.due ≡ frame ∷ others
     → new ≡ record old { due = others; queue = queue } → waiting new < waiting old

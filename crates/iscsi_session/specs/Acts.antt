@@ -87,7 +87,8 @@ unfoldable pub act_answers : List ℕ → ℕ → Past → List Answer
 act_answers luns k past =
     let frame = frame_of past.came k in
     let result = function_result past (reach_of luns k past) in
-    act_answers_by (opcode_of (opcode_number frame.header)) (awaited past (reach_of luns k past)) result (exchange_of past) (stamp (ended luns k past)) past.params frame
+    act_answers_by (opcode_of (opcode_number frame.header)) (awaited past (reach_of luns k past)) result (exchange_of past)
+    (stamp (ended luns k past)) past.params frame
 
 -- a request that was taken acts
 abbrev pub acted : List ℕ → ℕ → Past → Past

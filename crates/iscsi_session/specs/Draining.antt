@@ -3,12 +3,12 @@ use Rattle.std.specs.Prelude.{ℕ, List, [], map, Bool, ◌&&◌, ◌||◌, not,
 use Rattle.std.specs.List.{list_any}
 use Rattle.iscsi_pdu.specs.Header.{initiator_task_tag}
 use Rattle.iscsi_pdu.specs.Frames.{Frame}
-use Rattle.iscsi_transfer.specs.Task.{fault_of, lacks_data, with_data, blank}
+use Rattle.iscsi_transfer.specs.Task.{lacks_data, with_data, blank}
 use Rattle.iscsi_session.specs.Functions.{FunctionReach, reaches, waits}
 use Rattle.iscsi_session.specs.declared.transfers.Transfer.{Transfer}
 use Rattle.iscsi_session.specs.Drained.{Drained, blanked}
 use Rattle.iscsi_session.specs.declared.verdict.Verdict.{Verdict}
-use Rattle.iscsi_session.specs.declared.verdict.Verdict.TheVariants.{Dropped, Violating, Feeding}
+use Rattle.iscsi_session.specs.Transfers.{verdict_on}
 use Rattle.iscsi_session.specs.State.{TransferList, no_transfer, bears, place_with, place_for, due_of, judged_at, fed_at}
 
 -- the data of those that were removed, as long as an R2T is open
@@ -31,8 +31,7 @@ abbrev pub drained_at : List Drained → ℕ → Drained
 drained_at drains i = slice_index_or drains i no_drained
 
 abbrev pub judged_drain : List Drained → Frame → Option ℕ → Verdict
-judged_drain drains frame None = Dropped
-judged_drain drains frame (Some i) = if is_some (fault_of (drained_at drains i).transfer.task frame) then Violating else Feeding
+judged_drain drains frame at = verdict_on frame (option_map (λ i. (drained_at drains i).transfer.task) at)
 
 abbrev pub fed_drain : List Drained → Frame → Option ℕ → List Drained
 fed_drain drains frame None = drains

@@ -1,5 +1,5 @@
 -- What a frame in full feature phase is judged to be.
-use Rattle.std.specs.Prelude.{ℕ, ◌+◌, List, [], ◌∷◌, Bool, true, false, ◌&&◌, ◌||◌, not, ◌==◌, nat_lt, Option, Some, None, is_some, is_none, if◌then◌else◌}
+use Rattle.std.specs.Prelude.{ℕ, ◌+◌, List, [], ◌∷◌, Bool, true, false, ◌&&◌, ◌||◌, not, ◌==◌, nat_lt, Option, Some, None, is_some, is_none, option_map, if◌then◌else◌}
 use Rattle.iscsi_pdu.specs.Header.{opcode_of, opcode_number, is_immediate, cmd_sn, initiator_task_tag}
 use Rattle.iscsi_pdu.specs.Frames.{Frame}
 use Rattle.iscsi_pdu.specs.declared.header.Opcode.{Opcode}
@@ -15,7 +15,7 @@ use Rattle.iscsi_order.specs.Window as order
 use Rattle.iscsi_transfer.specs.Task.{command_fault}
 use Rattle.iscsi_login.specs.declared.values.Values.{Values}
 use Rattle.iscsi_session.specs.Requests.{Past, is_command, numbers, unfinished, functions, accepted, answering, stamp}
-use Rattle.iscsi_session.specs.Transfers.{command_with, data_fault_of, fed}
+use Rattle.iscsi_session.specs.Transfers.{command_with, task_at, verdict_on, fed}
 use Rattle.iscsi_session.specs.Functions.{function_with, immediate_in}
 use Rattle.iscsi_session.specs.declared.verdict.Verdict.{Verdict}
 use Rattle.iscsi_session.specs.declared.verdict.Verdict.TheVariants.{Ignored, Dropped, Rejected, Violating, Accepted, Feeding}
@@ -63,8 +63,7 @@ task_verdict past frame =
 
 -- a Data-Out for this command
 abbrev pub data_verdict : Past → Frame → Option ℕ → Verdict
-data_verdict past frame None = Dropped
-data_verdict past frame (Some k) = if is_some (data_fault_of past k frame) then Violating else Feeding
+data_verdict past frame at = verdict_on frame (option_map (task_at past) at)
 
 -- own: a discovery session serves Text, and a Logout of the session
 abbrev pub is_none_of_discovery : Opcode → Frame → Bool

@@ -53,7 +53,18 @@ pub record Past : Type 0 where
   pub answers : List Answer
 
 abbrev pub begun : Params → Past
-begun params = record { params = params; came = []; data_outs = []; r2ts = []; acted = []; finished = []; removed = []; drains = []; answered = []; answers = [] }
+begun params = record {
+  params = params;
+  came = [];
+  data_outs = [];
+  r2ts = [];
+  acted = [];
+  finished = [];
+  removed = [];
+  drains = [];
+  answered = [];
+  answers = [];
+}
 
 -- ---- names
 
@@ -154,7 +165,8 @@ unfinished past = left past.removed (left past.finished (commands past.came (ran
 
 -- the Task Management Function Requests that came and are not finished, held or taken, in the order in which they came
 unfoldable pub functions : Past → List ℕ
-functions past = left past.removed (left (left (pending past) past.finished) (filter (λ k. is_function (frame_of past.came k)) (range_with_len 0 (length past.came))))
+functions past = left past.removed
+    (left (left (pending past) past.finished) (filter (λ k. is_function (frame_of past.came k)) (range_with_len 0 (length past.came))))
 
 abbrev pub frames_of : List Request → List ℕ → List Frame
 frames_of came names = map (frame_of came) names

@@ -11,16 +11,15 @@ use Rattle.iscsi_order.specs.Stat.{stat_sn}
 use Rattle.iscsi_session.specs.Requests.{Request, Past, Drain, has_number, numbers, numbered, counted, over, left, is_command, commands, others, is_in, frame_of, taken, due, queue, frames_of, unfinished, is_function, functions, statuses}
 use Rattle.iscsi_pdu.specs.declared.r2t.R2t.{R2t}
 use Rattle.iscsi_pdu.specs.declared.stamp.Stamp.{Stamp}
-use Rattle.iscsi_transfer.specs.Task.{TaskState, fault_of, due_ask, is_whole, with_data, command_fault}
+use Rattle.iscsi_transfer.specs.Task.{TaskState, due_ask, is_whole, with_data, command_fault}
 use Rattle.iscsi_transfer.specs.declared.progress.Ask.{Ask}
 use Rattle.iscsi_session.specs.declared.transfers.Transfer.{Transfer}
 use Rattle.iscsi_session.specs.Drained.{Drained, blanked}
 use Rattle.iscsi_session.specs.declared.verdict.Verdict.{Verdict}
-use Rattle.iscsi_session.specs.declared.verdict.Verdict.TheVariants.{Dropped, Violating, Feeding}
 use Rattle.iscsi_session.specs.Texts.{exchange_of}
 use Rattle.iscsi_session.specs.Functions.{FunctionReach, reaches, plug, is_plug}
 use Rattle.iscsi_exchange.specs.ExchangeState.{ExchangeState}
-use Rattle.iscsi_session.specs.Transfers.{tag_of, tags_of, task_at, next_transfer_tag, unsent, drains_of, r2t_for}
+use Rattle.iscsi_session.specs.Transfers.{tag_of, tags_of, task_at, verdict_on, next_transfer_tag, unsent, drains_of, r2t_for}
 
 -- the requests that are not finished, and the numbers
 pub record TaskLists : Type 0 where
@@ -291,8 +290,7 @@ immediate_transfers transfers = length (filter (λ transfer. is_immediate transf
 
 -- a Data-Out for the command at this place
 abbrev pub judged_at : List Transfer → Frame → Option ℕ → Verdict
-judged_at transfers frame None = Dropped
-judged_at transfers frame (Some i) = if is_some (fault_of (transfer_at transfers i).task frame) then Violating else Feeding
+judged_at transfers frame at = verdict_on frame (option_map (λ i. (transfer_at transfers i).task) at)
 
 abbrev pub fed_at : List Transfer → Frame → Option ℕ → List Transfer
 fed_at transfers frame None = transfers

@@ -10,7 +10,8 @@ use Rattle.iscsi_pdu.specs.DataOut.{no_transfer_tag}
 use Rattle.iscsi_transfer.specs.Payload as payloads
 use Rattle.iscsi_transfer.specs.Task.{TaskState, remembered as task_of, fault_of, due_ask, lacks_data, is_whole}
 use Rattle.iscsi_transfer.specs.declared.progress.Ask.{Ask}
-use Rattle.iscsi_transfer.specs.declared.fault.DataFault.{DataFault}
+use Rattle.iscsi_session.specs.declared.verdict.Verdict.{Verdict}
+use Rattle.iscsi_session.specs.declared.verdict.Verdict.TheVariants.{Dropped, Violating, Feeding}
 use Rattle.iscsi_session.specs.Requests.{Request, Past, Drain, frame_of, is_in, unfinished, stamp, answering}
 
 abbrev pub tag_of : List Request → ℕ → ℕ
@@ -44,9 +45,10 @@ payload_of past k = (task_at past k).payload
 abbrev pub is_whole_of : Past → ℕ → Bool
 is_whole_of past k = is_whole (task_at past k)
 
--- why this Data-Out for it is unlawful
-abbrev pub data_fault_of : Past → ℕ → Frame → Option DataFault
-data_fault_of past k frame = fault_of (task_at past k) frame
+-- a Data-Out for a command whose data stands so; one for none is dropped
+abbrev pub verdict_on : Frame → Option TaskState → Verdict
+verdict_on frame None = Dropped
+verdict_on frame (Some task) = if is_some (fault_of task frame) then Violating else Feeding
 
 -- RFC 7143 §11.8.1: R2Ts of a command are numbered, and each is sent once
 abbrev pub unsent : ℕ → Option Ask → Option Ask

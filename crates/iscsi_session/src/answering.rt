@@ -19,7 +19,7 @@ impl Session {
     /// The first command of the queue is done: it is finished, and answered behind what waits to be sent.
     /// There must be room for its answers ([`make_room`](crate::answers::make_room)), so it takes no memory.
     /// A buffer comes back that is used no more.
-    pub(crate) fn done(&mut self, out: &mut BytesMut, done: Done) -> BytesMut
+    pub(crate) fn answer_command(&mut self, out: &mut BytesMut, done: Done) -> BytesMut
         requires values { AreInRange self.old.params.values }
         requires given { length done.given ≤ most_given }
         requires room { (frame : pdu.Frame) (others : List pdu.Frame) → self.old.tasks.queue ≡ frame ∷ others

@@ -39,7 +39,7 @@ impl Session {
 
     /// The function whose data has come is finished, and answered at the end of the buffer. Where an allocation fails
     /// nothing changes.
-    pub(crate) fn tell_due(&mut self, out: &mut BytesMut) -> Result<(), Memory>
+    pub(crate) fn answer_drained(&mut self, out: &mut BytesMut) -> Result<(), Memory>
         ensures ok { OnOk result ((orders : List (List ℕ)) (units : TargetUnits) → Runs tell_due None true self.old self.new
             (output out.old.items orders) (output out.new.items orders) units units) }
         ensures stops { OnErr result ((orders : List (List ℕ)) (units : TargetUnits) → Runs tell_due (Some (λ place. Answering place)) false self.old self.new

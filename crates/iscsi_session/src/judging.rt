@@ -30,7 +30,7 @@ impl Session {
     /// A frame is judged: its opcode, its number, the limit of commands for immediate delivery, its tag
     /// and its data, in this order. One that is accepted is kept until it acts, and one that is rejected
     /// is answered at the end of the buffer. Where an allocation fails nothing changes.
-    pub(crate) fn take(&mut self, frame: Frame, out: &mut BytesMut) -> Result<Verdict, Memory>
+    pub(crate) fn receive(&mut self, frame: Frame, out: &mut BytesMut) -> Result<Verdict, Memory>
         requires { 1 ≤ self.old.params.values.max_burst_length }
         ensures verdict { IfOk result (λ v. (past : Past) → Stands past self.old → v ≡ verdict past frame) }
         ensures stands { OnOk result ((past : Past) → Stands past self.old → Stands (judged (verdict past frame) frame past) self.new) }

@@ -74,14 +74,14 @@ impl Session {
         ensures idle { IfOk result (λ goes_on. goes_on ≡ true → self.new.tasks.due ≡ []) }
         ensures params { self.new.params ≡ self.old.params }
     {
-        if let Verdict::Violating = self.take(frame, out)? {
+        if let Verdict::Violating = self.receive(frame, out)? {
             return Ok(false);
         }
         if !self.act_all(luns, out, orders)? {
             return Ok(false);
         }
         self.ask_due(out)?;
-        self.tell_due(out)?;
+        self.answer_drained(out)?;
         Ok(true)
     }
 
@@ -173,7 +173,7 @@ impl Session {
         let payload = self.transfers.payload(frame.header.initiator_task_tag());
         let done = carry_out(alloc, units, &self.params.nexus, frame, payload)?;
         // There is room for the answers, so nothing fails any more.
-        let buffer = self.done(out, done);
+        let buffer = self.answer_command(out, done);
         units.give_back(buffer);
         Ok(true)
     }

@@ -87,7 +87,7 @@ impl Session {
     }
 
     /// The first command of the queue, where all its data has come: it is to be done now, and then it is
-    /// answered by [`Session::done`].
+    /// answered by [`Session::answer_command`].
     pub(crate) fn first(&self) -> Option<&Frame>
         ensures some { IfSome result (λ frame. self.now.tasks.queue ≡ frame.now ∷ drop 1 self.now.tasks.queue) }
         ensures whole { IfSome result (λ frame. whole_at self.now.transfers.list (place_for frame.now self.now.transfers.list) ≡ true) }

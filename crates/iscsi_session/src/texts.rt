@@ -82,12 +82,12 @@ impl Session {
         };
         let told = self.exchange.hear(frame, &self.params)?;
         out.reserve(text_length(&told.piece) + ROOM_TO_TELL)?;
-        Ok(self.tell(out, told))
+        Ok(self.answer_told(out, told))
     }
 
     /// The first request that is due, a Text, is finished and answered so. There must be room for its answer, so
     /// it takes no memory.
-    fn tell(&mut self, out: &mut BytesMut, told: Told) -> Act
+    fn answer_told(&mut self, out: &mut BytesMut, told: Told) -> Act
         requires short { IsShort told.piece }
         requires room { room_to_tell told.piece ≤ out.old.spare }
         ensures taken { 0 < length self.old.tasks.due → result ≡ Act.Taken }

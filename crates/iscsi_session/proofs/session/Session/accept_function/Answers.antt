@@ -19,4 +19,5 @@ returns-clause-stands c past s =
     let is : c.keep.new.self ≡ kept c.args.frame c.self.inside.tasks = on_ok_known c.keep.result (sym c.is_err.ensures.value ∙ c.if-is_err.false)
     c.keep.ensures.ok in
     let header : c.frame.inside.header ≡ c.args.frame.header = ap (λ (f : Frame). f.header) c.frame.view_is in
-    rw (is, c.in_ok-begin.ensures.ok, header) (stands_function past _ c.args.frame known vacant c.requires.function (free_tag past _ c.args.frame known free none))
+    rw (is, c.in_ok-begin.ensures.ok, header)
+    (stands_function past _ c.args.frame known vacant c.requires.function (free_tag past _ c.args.frame known free none))

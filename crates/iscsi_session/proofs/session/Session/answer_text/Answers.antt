@@ -14,9 +14,10 @@ returns-in_default-clause-acts c luns past k rest s is e orders =
 pub returns-clause-acts : goal.returns-clause-acts
 returns-clause-acts c luns past k rest s is e orders =
     let known = seen c.self.view_is s in
-    let here = same_head c.in-Some.frame.now (frame_of (standing past) k) _ (frames_of (standing past) rest) _ c.in-Some.ensures.some (first_due past _ k rest known is)
+    let here = same_head c.in-Some.frame.now (frame_of (standing past) k) _ (frames_of (standing past) rest) _ c.in-Some.ensures.some
+    (first_due past _ k rest known is)
     ∙ stands_other_kind past _ k rest known is (text_no_command (frame_of past.came k) e) in
     let told = c.in_ok-told.ensures.told ∙ ap (λ (f : Frame). hears c.self.inside.exchange f c.self.inside.params) here
     ∙ ap (λ (x : SessionState). hears x.exchange (frame_of past.came k) x.params) c.self.view_is in
-    subst (λ (bytes : List ℕ). ActsAs luns k past c.tell.result c.tell.new.self (output bytes orders) (output c.tell.new.out.items orders))
-    c.in_ok-reserve.ensures.items (c.tell.ensures.acts luns past k rest s is e told orders)
+    subst (λ (bytes : List ℕ). ActsAs luns k past c.answer_told.result c.answer_told.new.self (output bytes orders) (output c.answer_told.new.out.items orders))
+    c.in_ok-reserve.ensures.items (c.answer_told.ensures.acts luns past k rest s is e told orders)

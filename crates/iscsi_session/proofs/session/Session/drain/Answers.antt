@@ -44,4 +44,10 @@ returns-clause-fewer c frame others is =
     let g = given_frame c.drop_due.result c.remove.new.self.due c.drop_due.ensures.some c.drop_due.ensures.same c.drop_due.ensures.none
     (still_due c.args.reach.now c.self.inside.tasks c.remove.new.self c.remove.ensures some) in
     let less = queues_one g.0 (drop 1 c.remove.new.self.due) c.remove.new.self.queue c.remove.new.self c.drop_due.new.self g.1 g.2 in
-    omega (arith, less, ap waiting c.remove.ensures, waiting_without c.args.reach.now c.self.inside.tasks, ap (λ (x : SessionState). waiting x.tasks) c.self.view_is)
+    omega (
+      arith,
+      less,
+      ap waiting c.remove.ensures,
+      waiting_without c.args.reach.now c.self.inside.tasks,
+      ap (λ (x : SessionState). waiting x.tasks) c.self.view_is,
+    )

@@ -27,7 +27,7 @@ returns-clause-steps g c =
     (ap (λ (x : SessionState). x.params.nexus) c.self.view_is)
     next
     (came.1 ∙ ap (carried_out came.0 c.args.units.now c.self.inside.params.nexus c.in-Some.frame.now) payload)
-    (rw c.make_room.ensures.same at c.done-buffer.ensures.answers)) came.2)
+    (rw c.make_room.ensures.same at c.answer_command-buffer.ensures.answers)) came.2)
 
 pub returns-clause-back : goal.returns-clause-back
 returns-clause-back g c = rw c.give_back.ensures c.carry_out.ensures.back
@@ -43,5 +43,5 @@ returns-clause-sure g c = rw c.give_back.ensures c.carry_out.ensures.sure
 
 pub returns-clause-eases : goal.returns-clause-eases
 returns-clause-eases g c r =
-    done_eases c.args.self.now c.done-buffer.new.self c.in-Some.frame.now _ c.in_ok-done.done c.args.out.now.items c.done-buffer.new.out.items
-    c.in-Some.ensures.some c.requires c.in_ok-done.ensures.given (rw c.make_room.ensures.same at c.done-buffer.ensures.answers) r
+    done_eases c.args.self.now c.answer_command-buffer.new.self c.in-Some.frame.now _ c.in_ok-done.done c.args.out.now.items c.answer_command-buffer.new.out.items
+    c.in-Some.ensures.some c.requires c.in_ok-done.ensures.given (rw c.make_room.ensures.same at c.answer_command-buffer.ensures.answers) r

@@ -7,4 +7,11 @@ pub returns : goal.returns
 returns c =
     let number : c.args.params.next_stat_sn ≡ stat_sn (c.args.params.next_stat_sn + 0) = omega arith in
     let fits : c.args.params.first_cmd_sn < 2 ^ 32 = omega arith in
-    rw (c.new.ensures ∙ number, c.new-2.ensures ∙ begun_tasks c.args.params fits, c.new-3.ensures ∙ begun_transfers c.args.params, c.new-4.ensures ∙ begun_functions c.args.params, c.none.ensures ∙ begun_exchange c.args.params) refl
+    rw (
+      c.new.ensures ∙ number,
+      c.new-2.ensures ∙ begun_tasks c.args.params fits,
+      c.new-3.ensures ∙ begun_transfers c.args.params,
+      c.new-4.ensures
+          ∙ begun_functions c.args.params,
+      c.none.ensures ∙ begun_exchange c.args.params,
+    ) refl

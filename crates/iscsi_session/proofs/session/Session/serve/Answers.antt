@@ -5,50 +5,50 @@ use Rattle.iscsi_session.proofs.Parts.{on_err_known}
 use Rattle.iscsi_session.proofs.Stages.{judging_stops, judging_ends, taken_on, taken_fails, taken_ended, asked_then, asked_ended, told_then, served_stops, taken_stops}
 use Rattle.iscsi_session.proofs.session.Session.serve.Goals as goal
 
-pub returns-in_err-take-clause-err : goal.returns-in_err-take-clause-err
-returns-in_err-take-clause-err c = on_err_known _ (taken_stops c.args.luns.now c.args.frame _ _ _ _
-    (judging_stops c.args.luns.now c.args.frame _ _ _ _ _ c.in_err-take.ensures.err c.in_err-take.ensures.out_err))
+pub returns-in_err-receive-clause-err : goal.returns-in_err-receive-clause-err
+returns-in_err-receive-clause-err c = on_err_known _ (taken_stops c.args.luns.now c.args.frame _ _ _ _
+    (judging_stops c.args.luns.now c.args.frame _ _ _ _ _ c.in_err-receive.ensures.err c.in_err-receive.ensures.out_err))
 
 pub returns-in-Violating-clause-ok : goal.returns-in-Violating-clause-ok
 returns-in-Violating-clause-ok c units numbers =
-    let taken = c.in_ok-take.ensures in
+    let taken = c.in_ok-receive.ensures in
     taken_ended c.args.frame
     (judging_ends c.args.frame (record { judged_is = taken.verdict; stands = taken.stands; out = taken.out; orders = refl }) c.in-Violating.is)
 
 pub returns-in_err-act_all-clause-err : goal.returns-in_err-act_all-clause-err
 returns-in_err-act_all-clause-err c =
-    let taken = c.in_ok-take.ensures in
+    let taken = c.in_ok-receive.ensures in
     on_err_known _ (taken_stops c.args.luns.now c.args.frame _ _ _ _ (taken_fails c.args.luns.now _ c.args.frame
     (record { judged_is = taken.verdict; stands = taken.stands; out = taken.out; orders = refl }) c.in_default.not-Violating c.in_err-act_all.ensures.err))
 
 pub returns-then-not-branch-clause-ok : goal.returns-then-not-branch-clause-ok
 returns-then-not-branch-clause-ok c units numbers =
-    let taken = c.in_ok-take.ensures in
+    let taken = c.in_ok-receive.ensures in
     taken_ended c.args.frame (taken_on _ c.args.frame (record { judged_is = taken.verdict; stands = taken.stands; out = taken.out; orders = refl })
     c.in_default.not-Violating (λ place. refl) (rw c.if-not-branch.true at (c.in_ok-act_all.ensures.ok units numbers)))
 
 pub returns-in_err-ask_due-clause-err : goal.returns-in_err-ask_due-clause-err
 returns-in_err-ask_due-clause-err c =
-    let taken = c.in_ok-take.ensures in
+    let taken = c.in_ok-receive.ensures in
     on_err_known _ (served_stops c.args.luns.now c.args.frame _ _ _ _ Asking (λ place. eq-eqb place place refl) (λ place. refl) (λ units numbers.
     asked_ended c.args.frame (asked_then c.args.frame (λ place. refl) (λ place turn. refl)
     (taken_on _ c.args.frame (record { judged_is = taken.verdict; stands = taken.stands; out = taken.out; orders = refl })
     c.in_default.not-Violating (λ place. refl) (rw c.if-not-branch.false at (c.in_ok-act_all.ensures.ok units numbers)))
     (c.in_err-ask_due.ensures.stops _ units))))
 
-pub returns-in_err-tell_due-clause-err : goal.returns-in_err-tell_due-clause-err
-returns-in_err-tell_due-clause-err c =
-    let taken = c.in_ok-take.ensures in
+pub returns-in_err-answer_drained-clause-err : goal.returns-in_err-answer_drained-clause-err
+returns-in_err-answer_drained-clause-err c =
+    let taken = c.in_ok-receive.ensures in
     on_err_known _ (served_stops c.args.luns.now c.args.frame _ _ _ _ Answering (λ place. eq-eqb place place refl) (λ place. refl) (λ units numbers.
     told_then c.args.frame (λ place. refl) (λ place turn. refl) (λ place. refl) (asked_then c.args.frame (λ place. refl) (λ place turn. refl)
     (taken_on _ c.args.frame (record { judged_is = taken.verdict; stands = taken.stands; out = taken.out; orders = refl })
     c.in_default.not-Violating (λ place. refl) (rw c.if-not-branch.false at (c.in_ok-act_all.ensures.ok units numbers)))
-    (c.in_ok-ask_due.ensures.ok _ units)) (c.in_err-tell_due.ensures.stops _ units)))
+    (c.in_ok-ask_due.ensures.ok _ units)) (c.in_err-answer_drained.ensures.stops _ units)))
 
 pub returns-clause-ok : goal.returns-clause-ok
 returns-clause-ok c units numbers =
-    let taken = c.in_ok-take.ensures in
+    let taken = c.in_ok-receive.ensures in
     told_then c.args.frame (λ place. refl) (λ place turn. refl) (λ place. refl) (asked_then c.args.frame (λ place. refl) (λ place turn. refl)
     (taken_on _ c.args.frame (record { judged_is = taken.verdict; stands = taken.stands; out = taken.out; orders = refl })
     c.in_default.not-Violating (λ place. refl) (rw c.if-not-branch.false at (c.in_ok-act_all.ensures.ok units numbers)))
-    (c.in_ok-ask_due.ensures.ok _ units)) (c.in_ok-tell_due.ensures.ok _ units)
+    (c.in_ok-ask_due.ensures.ok _ units)) (c.in_ok-answer_drained.ensures.ok _ units)

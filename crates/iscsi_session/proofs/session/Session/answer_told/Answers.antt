@@ -8,7 +8,7 @@ use Rattle.iscsi_session.specs.Texts.{text_answer}
 use Rattle.iscsi_session.specs.State.{SessionState, Stands}
 use Rattle.iscsi_session.proofs.Exchanging.{text_kind}
 use Rattle.iscsi_session.proofs.Answered.{seen, text_here, text_same, text_bears, goes_on_act, some_due, one_spelled, none_ordered, stands_plain, text_no_function}
-use Rattle.iscsi_session.proofs.session.Session.tell.Goals as goal
+use Rattle.iscsi_session.proofs.session.Session.answer_told.Goals as goal
 
 pub returns-in_default-clause-acts : goal.returns-in_default-clause-acts
 returns-in_default-clause-acts c luns past k rest s is e heard orders =

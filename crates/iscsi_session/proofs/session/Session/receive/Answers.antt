@@ -6,7 +6,7 @@ use Rattle.iscsi_session.specs.Judging.{verdict, judged, judged_answers, reject}
 use Rattle.iscsi_session.specs.Requests.{stamp}
 use Rattle.iscsi_session.specs.State.{Stands}
 use Rattle.iscsi_session.proofs.Answered.{one_spelled}
-use Rattle.iscsi_session.proofs.session.Session.take.Goals as goal
+use Rattle.iscsi_session.proofs.session.Session.receive.Goals as goal
 
 pub accept-requires : goal.accept-requires
 accept-requires c = record {

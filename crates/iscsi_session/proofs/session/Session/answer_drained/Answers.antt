@@ -14,7 +14,7 @@ use Rattle.iscsi_session.proofs.Answered.{one_spelled}
 use Rattle.iscsi_session.proofs.Drained.{telling_none, telling_here, told_bears, told_same}
 use Rattle.iscsi_session.specs.Steps.{Answering, tell, tell_due}
 use Rattle.iscsi_session.proofs.Stages.{none_runs, first_stops, sent_runs, tells}
-use Rattle.iscsi_session.proofs.session.Session.tell_due.Goals as goal
+use Rattle.iscsi_session.proofs.session.Session.answer_drained.Goals as goal
 
 pub returns-in_default-clause-ok : goal.returns-in_default-clause-ok
 unfolding tell_due

@@ -12,7 +12,7 @@ use Rattle.iscsi_pdu.specs.Header.{initiator_task_tag}
 use Rattle.iscsi_session.proofs.Parts.{parts}
 use Rattle.iscsi_session.proofs.Answered.{seen, done_here, some_queued}
 use Rattle.iscsi_session.proofs.Settled.{command_bears}
-use Rattle.iscsi_session.proofs.session.Session.done.Goals as goal
+use Rattle.iscsi_session.proofs.session.Session.answer_command.Goals as goal
 
 pub returns-in_default-clause-answers : goal.returns-in_default-clause-answers
 returns-in_default-clause-answers c past k rest s is = absurd (some_queued past _ k rest (seen c.self.view_is s) is c.in_default.ensures.none)

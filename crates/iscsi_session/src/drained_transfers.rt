@@ -1,0 +1,219 @@
+//! The data of SCSI Commands that were removed, for which functions wait.
+
+ghost use Rattle.std.specs.Prelude.{◌≡◌, ◌++◌, ◌&&◌, ◌==◌, is_some, OnOk, OnErr};
+ghost use Rattle.std.specs.List.{list_any};
+ghost use Rattle.iscsi_session.specs.declared.verdict.Verdict.TheVariants.{Feeding};
+ghost use Rattle.iscsi_session.specs.Draining.{is_asked, is_awaited, drained_for, awaited_in, awaits_in, is_draining, drain_with, drain_for, judged_drain, fed_drain, function_tag, lacks_for, telling_place, function_at, drains_without};
+ghost use Rattle.iscsi_session.specs.State.{bears, due_of, transfers_without};
+
+use crate::reach::Reach;
+use crate::transfers::{Transfer, Transfers};
+use crate::verdict::Verdict;
+use iscsi_pdu::{Frame, Header};
+use iscsi_transfer::Progress;
+use out_of_memory::Memory;
+use std::marker::Model;
+
+/// How far the data of a SCSI Command has come that was removed while an R2T was open, and for which a function waits. The
+/// data itself is not kept.
+#[derive(Drop)]
+pub(crate) struct DrainedTransfer {
+    /// The header of the function.
+    function: Header,
+    /// The header of the command.
+    header: Header,
+    progress: Progress,
+    /// How many R2Ts were sent for it.
+    sent: usize,
+}
+
+impl Model for DrainedTransfer {
+    ghost use Rattle.iscsi_session.specs.Drained.{Drained};
+    ghost use Rattle.iscsi_session.specs.declared.transfers.Transfer.{Transfer};
+
+    ghost Value = { Drained };
+
+    ghost view = { λ d. record { function = d.function; transfer = record { header = d.header; task = d.progress; sent = d.sent } } };
+}
+
+impl Transfer {
+    /// An R2T is open: not all that it asked for has come.
+    fn is_asked(&self) -> bool
+        ensures { result ≡ is_asked self.now }
+    {
+        self.task.lacks_data() && self.due().is_none()
+    }
+
+    /// It is removed, and this function waits for its data.
+    fn into_drained(self, function: Header) -> DrainedTransfer
+        ensures { result ≡ drained_for function self }
+    {
+        DrainedTransfer {
+            function,
+            header: self.header,
+            progress: self.task.into_progress(),
+            sent: self.sent,
+        }
+    }
+
+    /// A function reaches it, and an R2T is open.
+    fn is_awaited(&self, reach: &Reach) -> bool
+        ensures { result ≡ is_awaited reach.now self.now }
+    {
+        reach.has(&self.header) && self.is_asked()
+    }
+}
+
+impl DrainedTransfer {
+    /// An R2T is open: not all that it asked for has come.
+    fn is_draining(&self) -> bool
+        ensures { result ≡ is_draining self.now }
+    {
+        self.progress.lacks_data() && !self.is_due()
+    }
+
+    /// All that the open R2T asked for has come.
+    fn is_due(&self) -> bool
+        ensures { result ≡ is_some (due_of self.now.transfer) }
+    {
+        match self.progress.due() {
+            Some(ask) => ask.number as usize == self.sent,
+            None => false,
+        }
+    }
+
+    /// The command with this tag is drained here.
+    fn drains(&self, tag: u32) -> bool
+        ensures { result ≡ (is_draining self.now && bears tag self.now.transfer) }
+    {
+        self.is_draining() && self.header.initiator_task_tag() == tag
+    }
+
+    /// The function with this tag waits for it.
+    fn is_for(&self, tag: u32) -> bool
+        ensures { result ≡ (function_tag self.now == tag) }
+    {
+        self.function.initiator_task_tag() == tag
+    }
+
+    /// The function with this tag waits for it, and not all has come.
+    fn holds_up(&self, tag: u32) -> bool
+        ensures { result ≡ (function_tag self.now == tag && is_draining self.now) }
+    {
+        self.is_for(tag) && self.is_draining()
+    }
+}
+
+impl Transfers {
+    /// Where the data of the command with this tag is drained.
+    pub(crate) fn drain_of(&self, tag: u32) -> Option<usize>
+        ensures { result ≡ drain_with tag self.now.drains }
+    {
+        self.drains.iter().position(|drained| drained.drains(tag))
+    }
+
+    /// What a Data-Out is judged to be whose tag no command bears that is not finished.
+    pub(crate) fn judge_drained(&self, frame: &Frame) -> Verdict
+        ensures { result ≡ judged_drain self.now.drains frame.now (drain_for frame.now self.now.drains) }
+    {
+        let Some(place) = self.drain_of(frame.header.initiator_task_tag()) else {
+            return Verdict::Dropped;
+        };
+        match self.drains[place].progress.fault_of(frame) {
+            Some(_) => Verdict::Violating,
+            None => Verdict::Feeding,
+        }
+    }
+
+    /// The data of a lawful Data-Out is taken whose tag no command bears that is not finished.
+    pub(crate) fn feed_drained(&mut self, frame: &Frame)
+        requires { judged_drain self.old.drains frame.now (drain_for frame.now self.old.drains) ≡ Feeding }
+        ensures { self.new ≡ record self.old { drains = fed_drain self.old.drains frame.now (drain_for frame.now self.old.drains) } }
+    {
+        let Some(place) = self.drain_of(frame.header.initiator_task_tag()) else {
+            return;
+        };
+        // It is lawful, so this does not fail.
+        let _ = self.drains[place].progress.data_out(frame);
+    }
+
+    /// A function is to wait for data of the commands that it reaches.
+    pub(crate) fn awaits(&self, reach: &Reach) -> bool
+        ensures { result ≡ awaits_in reach.now self.now.list }
+    {
+        if !reach.waits() {
+            return false;
+        }
+        self.has_asked(reach)
+    }
+
+    /// An R2T is open for one that a function reaches.
+    fn has_asked(&self, reach: &Reach) -> bool
+        ensures { result ≡ list_any (is_awaited reach.now) self.now.list }
+    {
+        self.list.iter().any(|transfer| transfer.is_awaited(reach))
+    }
+
+    /// The commands that a function reaches are removed, and the function waits for the data that R2Ts have asked
+    /// for of them. Where an allocation fails nothing changes.
+    pub(crate) fn drain(&mut self, reach: &Reach) -> Result<(), Memory>
+        ensures ok { OnOk result (self.new ≡ record self.old
+            { list = transfers_without reach.now self.old.list; drains = self.old.drains ++ awaited_in reach.now self.old.list }) }
+        ensures err { OnErr result (self.new ≡ self.old) }
+    {
+        self.drains.reserve(self.list.len())?;
+        let mut place = 0;
+        while place < self.list.len() {
+            if reach.has(&self.list[place].header) {
+                let transfer = self.list.remove(place);
+                if transfer.is_asked() {
+                    self.drains
+                        .push_reserved(transfer.into_drained(reach.function));
+                }
+            } else {
+                place += 1;
+            }
+        }
+        Ok(())
+    }
+
+    /// Not all has come that the function with this tag waits for.
+    fn lacks_for(&self, tag: u32) -> bool
+        ensures { result ≡ lacks_for self.now.drains tag }
+    {
+        self.drains.iter().any(|drained| drained.holds_up(tag))
+    }
+
+    /// Where data stands of the first function that need wait no more.
+    fn telling(&self) -> Option<usize>
+        ensures { result ≡ telling_place self.now.drains }
+    {
+        self.drains.iter().position(|drained| !self.lacks_for(
+            drained.function.initiator_task_tag(),
+        ))
+    }
+
+    /// The header of the first function whose data has come.
+    pub(crate) fn drained(&self) -> Option<Header>
+        ensures { result ≡ function_at self.now.drains (telling_place self.now.drains) }
+    {
+        match self.telling() {
+            Some(place) => Some(self.drains[place].function),
+            None => None,
+        }
+    }
+
+    /// The function with this tag waits for nothing any more.
+    pub(crate) fn forget(&mut self, tag: u32)
+        ensures { self.new ≡ record self.old { drains = drains_without tag self.old.drains } }
+    {
+        let mut place = 0;
+        while place < self.drains.len() {
+            if self.drains[place].is_for(tag) {
+                self.drains.remove(place);
+            } else {
+                place += 1;
+            }
+        }
+    }
+}
