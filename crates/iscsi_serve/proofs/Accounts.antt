@@ -1,10 +1,10 @@
 -- Each byte that the system gives is handed on or is ahead, call by call.
-use Rattle.std.proofs.Common.{◌≡◌, ℕ, ◌<◌, min, List, [], ◌∷◌, ◌++◌, length, take, drop, set, Option, None, Ok, eq-eqb, append_assoc, refl, sym, ap, subst, ◌∙◌, inl, inr}
+use Rattle.std.proofs.Common.{◌≡◌, ℕ, ◌<◌, ◌≤◌, min, List, [], ◌∷◌, ◌++◌, length, take, drop, set, Option, None, Ok, eq-eqb, append_assoc, refl, sym, ap, subst, ◌∙◌, inl, inr}
 use Rattle.std.proofs.lemmas.Bool.{ne_eqb, cases_eq}
 use Rattle.std.proofs.lemmas.List.{append-nil, take-append-drop, get_or-set_same, get_or-set_other, drop_min}
 use Rattle.iscsi_target.specs.History.{connection_limit}
-use Rattle.iscsi_serve.specs.Calls.{Call, Reading, Handing}
-use Rattle.iscsi_serve.specs.ReadBuffer.{given, handed, bytes_in, ahead_on, IsAccounted}
+use Rattle.iscsi_serve.specs.Calls.{Call, Reading, Handing, Closing}
+use Rattle.iscsi_serve.specs.ReadBuffer.{given, handed, bytes_in, ahead_on, IsAccounted, AreDropped}
 
 -- on the connection itself, and on the others
 handed_here : (calls : List Call) (places : List (Option (List ℕ))) (place : Option (List ℕ)) (c room n : ℕ) (piece : List ℕ)
@@ -26,7 +26,7 @@ pub accounted_handing : (calls : List Call) (places : List (Option (List ℕ))) 
 accounted_handing calls places place c room n piece was lt piece_is rest = λ d in_range.
     elim (cases_eq c d) [
       | inl same ↦
-          let P : ℕ → Type 0 = λ e. e < connection_limit
+          let P : ℕ → Type 0 = λ e. e ≤ connection_limit
           → given e (Handing c room piece ∷ calls) ≡ handed e (Handing c room piece ∷ calls) ++ ahead_on e (set places c place) in
           subst P same (λ here. handed_here calls places place c room n piece (was c here) lt piece_is rest) in_range
       | inr other ↦ handed_elsewhere calls places place c d room piece (was d in_range) other
@@ -53,8 +53,13 @@ pub accounted_reading : (calls : List Call) (places : List (Option (List ℕ))) 
 accounted_reading calls places place c room n bytes was lt none count rest = λ d in_range.
     elim (cases_eq c d) [
       | inl same ↦
-          let P : ℕ → Type 0 = λ e. e < connection_limit
+          let P : ℕ → Type 0 = λ e. e ≤ connection_limit
           → given e (Reading c room (Ok bytes) ∷ calls) ≡ handed e (Reading c room (Ok bytes) ∷ calls) ++ ahead_on e (set places c place) in
           subst P same (λ here. read_here calls places place c room n bytes (was c here) lt none count rest) in_range
       | inr other ↦ read_elsewhere calls places place c d room bytes (was d in_range) other
     ]
+
+-- what is ahead at a close is dropped
+pub dropped_closing : (calls : List Call) (places : List (Option (List ℕ))) (c : ℕ) (dropped : List ℕ) → IsAccounted calls places → AreDropped calls
+    → c ≤ connection_limit → dropped ≡ ahead_on c places → AreDropped (Closing c dropped ∷ calls)
+dropped_closing calls places c dropped accounted so_far le is = let here = accounted c le in cc

@@ -1,5 +1,8 @@
 -- When ports over sockets ask the system, when they put off a write, and what they remember of it.
-use Rattle.std.specs.Prelude.{ℕ, ◌+◌, ◌*◌, min, nat_lt, nat_le, Bool, true, false, ◌&&◌, ◌||◌, not, Result, Ok, Err}
+use Rattle.std.specs.Prelude.{◌≡◌, ◌≤◌, ℕ, ◌+◌, ◌*◌, min, nat_lt, nat_le, List, Bool, true, false, ◌&&◌, ◌||◌, not, Option, option_map, Result, Ok, Err}
+use Rattle.std.specs.Duration.{as_nanos}
+use Rattle.iscsi_serve.specs.Calls.{Call}
+use Rattle.iscsi_serve.specs.Polls.{wait_for, unasked_in}
 use Rattle.iscsi_serve.specs.Readiness.{flag_of, flags_with, none_of, goes_on, accept_goes_on, after_accept, after_write}
 use Rattle.iscsi_serve.specs.declared.readiness.Readiness.{Readiness}
 use Rattle.iscsi_serve.specs.declared.socket_ports.SocketPorts.{SocketPorts}
@@ -40,6 +43,15 @@ is_refused answer = false
 module _ {K : Type 0} where
   abbrev pub asks_now : SocketPorts K → Bool
   asks_now ports = asks ports.holding ports.busy ports.unasked ports.most_unasked
+
+  abbrev pub wait_now : SocketPorts K → Option ℕ
+  wait_now ports = wait_for ports.busy ports.refused (option_map as_nanos ports.wait)
+
+  -- own: by these calls it counts the polls that were answered without asking, of which 63 may stand in a row
+  pub record AsksInTime (calls : List Call) (ports : SocketPorts K) : Type 0 where
+    pub counts : unasked_in calls ≡ ports.unasked
+    pub few : ports.unasked ≤ 63
+    pub limit : ports.most_unasked ≤ 63
 
   -- own: the connection takes none now, or its answers are put off
   abbrev pub has_to_wait : ℕ → ℕ → ℕ → SocketPorts K → Bool

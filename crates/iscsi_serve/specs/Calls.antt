@@ -1,5 +1,5 @@
 -- The calls of the system on sockets, how they are noted, and what they tell.
-use Rattle.std.specs.Prelude.{ℕ, ℤ, zero, suc, pos, List, [], ◌∷◌, ◌++◌, map, take, Bool, true, false, ◌==◌, ◌||◌, Option, Some, None, Result, Ok, Err, slice_index, slice_index_or, if◌then◌else◌}
+use Rattle.std.specs.Prelude.{ℕ, ◌+◌, ◌*◌, ℤ, zero, suc, pos, List, [], ◌∷◌, ◌++◌, map, take, Bool, true, false, ◌==◌, ◌||◌, Option, Some, None, Result, Ok, Err, slice_index, slice_index_or, if◌then◌else◌}
 use Rattle.std.specs.Ordering.{int_eq}
 use Rattle.std.specs.declared.io.ErrorKind.{ErrorKind}
 use Rattle.std.specs.declared.io.ErrorKind.TheVariants as kinds
@@ -36,8 +36,8 @@ failure_of _ code = if is_broken code then Broken else Refused
 pub data Call : Type 0 where
   -- a listener was made at the address that this text spells
   Listening : (text : List ℕ) → Call
-  -- a poll, and who may be ready behind it
-  Polling : (answer : Result Named SocketFailure) → Call
+  -- a poll, for how many nanoseconds it waits, or without limit, and who may be ready behind it
+  Polling : (wait : Option ℕ) (answer : Result Named SocketFailure) → Call
   -- none was made of the system: this is who is known to be ready
   Naming : (named : Named) → Call
   -- an accept under this number, and whether the system watches the connection
@@ -50,7 +50,8 @@ pub data Call : Type 0 where
   Writing : (c offered : ℕ) (answer : Result (List ℕ) SocketFailure) → Call
   -- none was made: a write of so many bytes is put off
   PuttingOff : (c offered : ℕ) → Call
-  Closing : (c : ℕ) → Call
+  -- a close, and the bytes that were ahead, which are dropped
+  Closing : (c : ℕ) (dropped : List ℕ) → Call
   -- the address that is listened on was asked for, and this is what the system told
   Located : (octets : List ℕ) (port : ℕ) → Call
 
@@ -102,14 +103,14 @@ accepted c (Err _) = NobodyCame
 
 abbrev pub told_by : Call → List Entry
 told_by (Listening text) = log.Listened text ∷ []
-told_by (Polling answer) = Polled (polled answer) ∷ []
+told_by (Polling wait answer) = Polled (polled answer) ∷ []
 told_by (Naming named) = Polled (Some named) ∷ []
 told_by (Accepting c answer) = accepted c answer ∷ []
 told_by (Reading c room answer) = Read c room (read_carried (in_room room answer)) ∷ []
 told_by (Handing c room piece) = Read c room (Bytes piece) ∷ []
 told_by (Writing c offered answer) = Wrote c offered (write_carried answer) ∷ []
 told_by (PuttingOff c offered) = Wrote c offered (Bytes []) ∷ []
-told_by (Closing c) = Close c ∷ []
+told_by (Closing c dropped) = Close c ∷ []
 told_by (Located octets port) = log.Located octets port ∷ []
 
 -- the newest call stands first, and what it told last
@@ -139,20 +140,27 @@ answered _ x = Err Broken
 abbrev pub named_in : List ℕ → List Bool → Named
 named_in numbers flags = record { listener = slice_index numbers 2 == 1; connections = flags }
 
+-- a time in nanoseconds, by whether there is one, its seconds and what is more
+abbrev pub time_of : ℕ → ℕ → ℕ → Option ℕ
+time_of is_limited seconds nanoseconds = if is_limited == 1 then Some (seconds * 1000000000 + nanoseconds) else None
+
+abbrev pub wait_in : List ℕ → Option ℕ
+wait_in numbers = time_of (slice_index numbers 3) (slice_index numbers 4) (slice_index numbers 5)
+
 -- by its kind, and the number of a connection where it is of one
 abbrev pub call_by : ℕ → ℕ → List ℕ → List ℕ → List Bool → Call
 call_by kind c numbers bytes flags =
     let failure = slice_index numbers 1 in
     let count = slice_index numbers 3 in
     if kind == LISTENING then Listening bytes
-    else if kind == POLLING then Polling (answered failure (named_in numbers flags))
+    else if kind == POLLING then Polling (wait_in numbers) (answered failure (named_in numbers flags))
     else if kind == NAMING then Naming (named_in numbers flags)
     else if kind == ACCEPTING then Accepting c (answered failure (slice_index_or flags 0 false))
     else if kind == READING then Reading c count (answered failure bytes)
     else if kind == HANDING then Handing c count bytes
     else if kind == WRITING then Writing c count (answered failure bytes)
     else if kind == PUTTING_OFF then PuttingOff c count
-    else if kind == CLOSING then Closing c
+    else if kind == CLOSING then Closing c bytes
     else Located bytes c
 
 abbrev pub calls_of : List Noted → List Call

@@ -2,7 +2,7 @@
 use Rattle.std.specs.Prelude.{◌≡◌, List, [], ◌∷◌, true, Some, None, Ok, Err, refl}
 use Rattle.iscsi_serve.specs.Log.{Bytes, End, Open, Read, Wrote}
 use Rattle.iscsi_serve.specs.Calls.{Call, Accepting, Reading, Handing, PuttingOff, Closing, log_by}
-use Rattle.iscsi_serve.specs.ReadBuffer.{given, handed, ahead_on}
+use Rattle.iscsi_serve.specs.ReadBuffer.{given, handed, ahead_on, AreDropped}
 use Rattle.iscsi_serve.specs.declared.socket_failure.SocketFailure.TheVariants.{WouldWait}
 
 -- a read for two bytes meets five, of which two more are handed on; then a write is put off, and the next read
@@ -28,10 +28,14 @@ log_of_them : log_by calls ≡ Open 0 ∷ Read 0 2 (Bytes (1 ∷ 2 ∷ [])) ∷ 
 unfolding calls
 log_of_them = refl
 
--- what is ahead of a connection that is closed is never handed on: the next one under its number begins with nothing
-after_the_close : given 0 (Accepting 0 (Ok true) ∷ Closing 0 ∷ calls) ≡ []
+-- what is ahead of a connection that is closed is dropped, and the next one under its number begins with nothing
+after_the_close : given 0 (Accepting 0 (Ok true) ∷ Closing 0 (5 ∷ []) ∷ calls) ≡ []
 unfolding calls
 after_the_close = refl
+
+dropped_by_them : AreDropped (Closing 0 (5 ∷ []) ∷ calls)
+unfolding calls
+dropped_by_them = refl
 
 -- an end is told by the system alone
 end_of_it : log_by (Reading 0 48 (Ok []) ∷ []) ≡ Read 0 48 End ∷ []

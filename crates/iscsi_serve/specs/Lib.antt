@@ -12,6 +12,7 @@ pub mod Entries
 pub mod Calls
 pub mod ReadBuffer
 pub mod Readiness
+pub mod Polls
 pub mod Asking
 pub mod Lingering
 pub mod Served

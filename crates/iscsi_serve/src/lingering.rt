@@ -5,9 +5,10 @@
 //! writing first, then what its peer sends is read and thrown away until the peer ends too, within a bound
 //! of bytes and of turns, and only then it is closed.
 
-ghost use Rattle.std.specs.Prelude.{◌≡◌, ◌≢◌, ◌≤◌, ◌<◌, ℕ, true, length, replicate, is_none, None, Some, IfOk, IfSome};
+ghost use Rattle.std.specs.Prelude.{◌≡◌, ◌≢◌, ◌≤◌, ◌<◌, ℕ, true, length, replicate, is_none, None, Some, option_map, IfOk, IfSome};
 ghost use Rattle.std.specs.List.{list_all};
 ghost use Rattle.std.specs.Duration.{as_nanos};
+ghost use Rattle.iscsi_serve.specs.Polls.{IsNoLonger};
 ghost use Rattle.iscsi_serve.specs.Lingering.{place_of, place_to_take, turns_later, Drains};
 
 use crate::places::free_places;
@@ -204,7 +205,8 @@ impl LingeringSockets {
 
     /// Reads a piece of each. For how long a turn waits that would wait as long as this.
     pub(crate) fn drain(&mut self, wait: Option<Duration>) -> Option<Duration>
-        ensures no_longer { (limit : Duration) → wait ≡ Some limit → IfSome result (λ time. as_nanos time ≤ as_nanos limit) }
+        ensures no_longer { IsNoLonger (option_map as_nanos result) (option_map as_nanos wait) }
+        ensures as_told { list_all is_none self.old.places.items ≡ true → result ≡ wait }
         ensures drains { (d : ℕ) → Drains (place_of d self.old.places.items) (place_of d self.new.places.items) }
     {
         if self.is_empty() {

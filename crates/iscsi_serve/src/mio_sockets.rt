@@ -4,24 +4,29 @@
 //! read fills a whole buffer where it can; what the reader has no room for is handed on at the next reads,
 //! which are noted without a call.
 
-ghost use Rattle.std.specs.Prelude.{◌≡◌, ◌≢◌, ◌<◌, ◌≤◌, ◌-◌, ◌++◌, ◌∷◌, [], ◌==◌, ℕ, true, false, fold, length, slice_index_or, None, Ok, IsSome, IfOk, OnOk, OnErr};
+ghost use Rattle.std.specs.Prelude.{◌≡◌, ◌≢◌, ◌<◌, ◌≤◌, ◌-◌, ◌++◌, ◌∷◌, [], ◌==◌, ℕ, true, false, fold, length, slice_index_or, Option, None, is_none, option_map, Ok, IsSome, IfOk, OnOk, OnErr};
 ghost use Rattle.std.specs.Io.{WritesAtMost};
 ghost use Rattle.std.specs.Net.Socket.{socket_ip, socket_port};
 ghost use Rattle.std.specs.Result.{IsErrOf};
 ghost use Rattle.std.specs.Net.Grammar.{IsSocketText};
 ghost use Rattle.std.specs.declared.net.socket_addr.SocketAddr.{SocketAddr};
 ghost use Rattle.iscsi_serve.specs.Log.{Read};
-ghost use Rattle.iscsi_serve.specs.Calls.{Accepting, Closing, Listening, Located, Polling, ip_octets, calls_of, log_by, moved, named_by, read_carried};
+ghost use Rattle.iscsi_serve.specs.Calls.{Accepting, Closing, Listening, Located, Polling, ip_octets, calls_of, log_by, moved, named_by, read_carried, time_of};
 ghost use Rattle.iscsi_serve.specs.Lingering.{place_of, place_to_take, turns_left};
 ghost use Rattle.iscsi_serve.specs.Readiness.{after_event, after_taking, given_in_all, read_by, took_all as all_taken};
 ghost use Rattle.mio.specs.Events.{items};
-ghost use Rattle.iscsi_serve.specs.ReadBuffer.{IsAccounted, ahead_on};
+ghost use Rattle.iscsi_serve.specs.ReadBuffer.{IsAccounted, AreDropped, ahead_on};
+ghost use Rattle.iscsi_serve.specs.Polls.{IsNoLonger, unasked_in};
+ghost use Rattle.std.specs.Duration.{as_nanos};
+ghost use Rattle.std.specs.List.{list_all};
 
 use crate::bind_fault::{BindFault, bind_fault};
 use crate::events::see_all;
 use crate::lingering::{LingeringSockets, turns_of};
 use crate::places::free_places;
-use crate::read_buffer::{MOST_AHEAD, ReadBuffer, count_ahead, give_back, hand_from, take_spare};
+use crate::read_buffer::{
+    MOST_AHEAD, ReadBuffer, count_ahead, give_back, hand_from, slice_ahead, take_spare,
+};
 use crate::readiness::Readiness;
 use crate::results::Named;
 use crate::socket_calls::SocketCalls;
@@ -81,6 +86,7 @@ pub struct MioSockets {
     ghost places: { length streams.items ≡ 65 },
     ghost ahead_places: { length ahead.items ≡ 65 },
     ghost accounted: { IsAccounted (calls_of noted.calls) ahead.items },
+    ghost dropped: { AreDropped (calls_of noted.calls) },
 }
 
 impl MioSockets {
@@ -184,6 +190,16 @@ fn bit(flag: bool) -> u64
     if flag { 1 } else { 0 }
 }
 
+/// A time as numbers of a note: whether there is one, its seconds, and the nanoseconds that are more.
+fn wait_numbers(wait: Option<Duration>) -> (u64, u64, u64)
+    ensures { time_of result.0 result.1 result.2 ≡ option_map as_nanos wait }
+{
+    match wait {
+        Some(time) => (1, time.as_secs(), u64::from(time.subsec_nanos())),
+        None => (0, 0, 0),
+    }
+}
+
 /// What the answer to a read says of what the system still has: it gave all, or perhaps not.
 fn took_all(answer: Result<usize, SocketFailure>, room: usize) -> bool
     ensures { result ≡ all_taken answer room }
@@ -201,6 +217,7 @@ impl MioSockets {
         ensures count { WritesAtMost result buffer.new }
         ensures told { log_by (⟦<MioSockets as SocketCalls>⟧.calls self.new) ≡ log_by (⟦<MioSockets as SocketCalls>⟧.calls self.old)
             ++ Read c (length buffer.new) (read_carried (moved result buffer.new)) ∷ [] }
+        ensures unasked { unasked_in (⟦<MioSockets as SocketCalls>⟧.calls self.new) ≡ unasked_in (⟦<MioSockets as SocketCalls>⟧.calls self.old) }
     {
         let room = buffer.len() as u64;
         let place = &mut self.ahead[c];
@@ -212,6 +229,19 @@ impl MioSockets {
             return Err(SocketFailure::WouldWait);
         }
         Ok(count)
+    }
+
+    /// What is ahead of a connection is dropped, and noted with its close.
+    fn note_close(&mut self, c: usize)
+        requires { c ≤ 64 }
+        ensures noted { ⟦<MioSockets as SocketCalls>⟧.calls self.new
+            ≡ Closing c (ahead_on c self.old.ahead.items) ∷ ⟦<MioSockets as SocketCalls>⟧.calls self.old }
+        ensures lingering { self.new.lingering ≡ self.old.lingering }
+        ensures streams { self.new.streams ≡ self.old.streams }
+    {
+        let dropped = slice_ahead(&self.ahead[c]);
+        self.noted.note(&[CLOSING, DONE, c as u64], dropped, &[]);
+        self.ahead[c] = None;
     }
 
     /// Reads into the reader's buffer.
@@ -226,6 +256,7 @@ impl MioSockets {
         ensures count { WritesAtMost result buffer.new }
         ensures told { log_by (⟦<MioSockets as SocketCalls>⟧.calls self.new) ≡ log_by (⟦<MioSockets as SocketCalls>⟧.calls self.old)
             ++ Read c (length buffer.new) (read_carried (moved result buffer.new)) ∷ [] }
+        ensures unasked { unasked_in (⟦<MioSockets as SocketCalls>⟧.calls self.new) ≡ unasked_in (⟦<MioSockets as SocketCalls>⟧.calls self.old) }
         ensures readiness { readiness.new ≡ after_taking c (all_taken result (length buffer.new)) readiness.old }
         ensures ahead { self.new.ahead ≡ self.old.ahead }
     {
@@ -254,6 +285,7 @@ impl MioSockets {
         ensures count { WritesAtMost result buffer.new }
         ensures told { log_by (⟦<MioSockets as SocketCalls>⟧.calls self.new) ≡ log_by (⟦<MioSockets as SocketCalls>⟧.calls self.old)
             ++ Read c (length buffer.new) (read_carried (moved result buffer.new)) ∷ [] }
+        ensures unasked { unasked_in (⟦<MioSockets as SocketCalls>⟧.calls self.new) ≡ unasked_in (⟦<MioSockets as SocketCalls>⟧.calls self.old) }
         ensures readiness { readiness.new ≡ after_taking c
             (all_taken (given_in_all result (length (ahead_on c self.new.ahead.items))) 65536) readiness.old }
     {
@@ -286,6 +318,7 @@ impl MioSockets {
         ensures count { WritesAtMost result buffer.new }
         ensures told { log_by (⟦<MioSockets as SocketCalls>⟧.calls self.new) ≡ log_by (⟦<MioSockets as SocketCalls>⟧.calls self.old)
             ++ Read c (length buffer.new) (read_carried (moved result buffer.new)) ∷ [] }
+        ensures unasked { unasked_in (⟦<MioSockets as SocketCalls>⟧.calls self.new) ≡ unasked_in (⟦<MioSockets as SocketCalls>⟧.calls self.old) }
         ensures readiness { (capacity : ℕ) × (length buffer.new ≤ capacity) × (readiness.new ≡ read_by capacity c (length buffer.new)
             (length (ahead_on c self.old.ahead.items)) (length (ahead_on c self.new.ahead.items)) result readiness.old) }
     {
@@ -312,18 +345,29 @@ impl SocketCalls for MioSockets {
         readiness: &mut Readiness,
         wait: Option<Duration>,
     ) -> Result<(), SocketFailure>
-        ensures noted { ⟦<MioSockets as SocketCalls>⟧.calls self.new
-            ≡ Polling (named_by result readiness.new.named) ∷ ⟦<MioSockets as SocketCalls>⟧.calls self.old }
+        ensures noted { (handed : Option ℕ) × IsNoLonger handed (option_map as_nanos wait)
+            × (list_all is_none self.old.lingering.places.items ≡ true → handed ≡ option_map as_nanos wait)
+            × (⟦<MioSockets as SocketCalls>⟧.calls self.new
+            ≡ Polling handed (named_by result readiness.new.named) ∷ ⟦<MioSockets as SocketCalls>⟧.calls self.old) }
         ensures seen { OnOk result (readiness.new ≡ fold after_event readiness.old (items self.new.events)) }
         ensures unseen { OnErr result (readiness.new ≡ readiness.old) }
         ensures lingering { OnOk result ((d : ℕ) → turns_left (place_of d self.new.lingering.places.items)
             ≤ turns_left (place_of d self.old.lingering.places.items) - 1) }
     {
         let wait = self.lingering.drain(wait);
+        let (is_limited, seconds, nanoseconds) = wait_numbers(wait);
         let record = &mut self.noted;
         if let Err(error) = self.poll.poll(&mut self.events, wait) {
             let failure = socket_failure(&error);
-            record.note(&[POLLING, failure.number(), 0], &[], &[]);
+            let numbers = [
+                POLLING,
+                failure.number(),
+                0,
+                is_limited,
+                seconds,
+                nanoseconds,
+            ];
+            record.note(&numbers, &[], &[]);
             return Err(failure);
         }
         see_all(readiness, &self.events);
@@ -331,7 +375,8 @@ impl SocketCalls for MioSockets {
         self.lingering.count_turns(turns);
         let named = &readiness.named;
         let listener = bit(named.listener);
-        record.note(&[POLLING, DONE, listener], &[], &named.connections);
+        let numbers = [POLLING, DONE, listener, is_limited, seconds, nanoseconds];
+        record.note(&numbers, &[], &named.connections);
         Ok(())
     }
 
@@ -410,17 +455,18 @@ impl SocketCalls for MioSockets {
 
     fn close(&mut self, c: usize)
         requires { c ≤ 64 }
-        ensures noted { ⟦<MioSockets as SocketCalls>⟧.calls self.new ≡ Closing c ∷ ⟦<MioSockets as SocketCalls>⟧.calls self.old }
+        ensures noted { ⟦<MioSockets as SocketCalls>⟧.calls self.new ≡ Closing c (ahead_on c self.old.ahead.items) ∷ ⟦<MioSockets as SocketCalls>⟧.calls self.old }
         ensures closed { slice_index_or self.new.streams.items c None ≡ None }
         ensures others { (d : ℕ) → d ≢ place_to_take self.old.lingering.places.items
             → place_of d self.new.lingering.places.items ≡ place_of d self.old.lingering.places.items }
     {
+        self.note_close(c);
         if let Some(stream) = self.streams[c].take() {
             self.lingering.begin(self.poll.registry(), stream);
         }
-        self.ahead[c] = None;
-        self.noted.note(&[CLOSING, DONE, c as u64], &[], &[]);
     }
 
     ghost accounted = { λ sockets c lt. sockets.accounted c lt };
+
+    ghost dropped = { λ sockets. sockets.dropped };
 }

@@ -91,6 +91,16 @@ pub(crate) fn hand_from(place: &mut Option<ReadBuffer>, buffer: &mut [u8]) -> us
     }
 }
 
+/// What is ahead.
+pub(crate) fn slice_ahead(place: &Option<ReadBuffer>) -> &[u8]
+    ensures { result.now ≡ bytes_in place.now }
+{
+    match place {
+        Some(ahead) => ahead.as_slice(),
+        None => &[],
+    }
+}
+
 /// How many bytes are ahead.
 pub(crate) fn count_ahead(place: &Option<ReadBuffer>) -> usize
     ensures { result ≡ length (bytes_in place.now) }

@@ -1,10 +1,12 @@
 //! The calls of the system on a listener and its connections.
 
-ghost use Rattle.std.specs.Prelude.{◌≡◌, ◌<◌, ◌≤◌, ◌++◌, ◌∷◌, ℕ, List, [], length};
+ghost use Rattle.std.specs.Prelude.{◌≡◌, ◌<◌, ◌≤◌, ◌++◌, ◌∷◌, ℕ, List, [], length, Option, option_map};
+ghost use Rattle.std.specs.Duration.{as_nanos};
 ghost use Rattle.std.specs.Io.{WritesAtMost};
 ghost use Rattle.iscsi_serve.specs.Log.{Read};
 ghost use Rattle.iscsi_serve.specs.Calls.{Call, Polling, Naming, Accepting, Writing, PuttingOff, Closing, named_by, moved, read_carried, log_by};
-ghost use Rattle.iscsi_serve.specs.ReadBuffer.{given, handed};
+ghost use Rattle.iscsi_serve.specs.ReadBuffer.{given, handed, AreDropped};
+ghost use Rattle.iscsi_serve.specs.Polls.{IsNoLonger, unasked_in};
 ghost use Rattle.iscsi_serve.specs.Readiness.{after_write, IsReadBy};
 
 use crate::readiness::Readiness;
@@ -29,7 +31,8 @@ pub trait SocketCalls {
         readiness: &mut Readiness,
         wait: Option<Duration>,
     ) -> Result<(), SocketFailure>
-        ensures { calls self.new ≡ Polling (named_by result readiness.new.named) ∷ calls self.old };
+        ensures { (handed : Option ℕ) × IsNoLonger handed (option_map as_nanos wait)
+            × (calls self.new ≡ Polling handed (named_by result readiness.new.named) ∷ calls self.old) };
 
     /// Notes that a poll tells who is known to be ready.
     fn note_named(&mut self, named: &Named)
@@ -57,6 +60,7 @@ pub trait SocketCalls {
         ensures count { WritesAtMost result buffer.new }
         ensures told { log_by (calls self.new) ≡ log_by (calls self.old)
             ++ Read c (length buffer.new) (read_carried (moved result buffer.new)) ∷ [] }
+        ensures unasked { unasked_in (calls self.new) ≡ unasked_in (calls self.old) }
         ensures readiness { IsReadBy c (length buffer.new) (length (ahead self.old c)) (length (ahead self.new c)) result
             readiness.old readiness.new };
 
@@ -77,11 +81,14 @@ pub trait SocketCalls {
         requires { c < 64 }
         ensures { calls self.new ≡ PuttingOff c offered ∷ calls self.old };
 
-    /// Closes a connection, if there is one under this number. What is ahead of it is thrown away.
+    /// Closes a connection, if there is one under this number. What is ahead of it is dropped, and noted.
     fn close(&mut self, c: usize)
         requires { c ≤ 64 }
-        ensures { calls self.new ≡ Closing c ∷ calls self.old };
+        ensures { calls self.new ≡ Closing c (ahead self.old c) ∷ calls self.old };
 
     /// Each byte that the system gave was handed on or is ahead, in the order in which they were given.
-    ghost accounted: { (sockets : Self) (c : ℕ) → c < 64 → given c (calls sockets) ≡ handed c (calls sockets) ++ ahead sockets c };
+    ghost accounted: { (sockets : Self) (c : ℕ) → c ≤ 64 → given c (calls sockets) ≡ handed c (calls sockets) ++ ahead sockets c };
+
+    /// At each close, what was given and not handed on is dropped.
+    ghost dropped: { (sockets : Self) → AreDropped (calls sockets) };
 }

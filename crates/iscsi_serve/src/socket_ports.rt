@@ -1,6 +1,6 @@
 //! Ports over sockets.
 
-ghost use Rattle.std.specs.Prelude.{◌≡◌, ◌<◌, ◌≤◌, ◌∷◌, ◌++◌, ℕ, List, [], Bool, true, false, length, Result, IfOk, IfSome};
+ghost use Rattle.std.specs.Prelude.{◌≡◌, ◌<◌, ◌≤◌, ◌∷◌, ◌++◌, ℕ, List, [], Bool, true, false, length, Option, option_map, Result, IfOk};
 ghost use Rattle.std.specs.Duration.{as_nanos};
 ghost use Rattle.std.specs.Io.{WritesAtMost};
 ghost use Rattle.std.specs.Net.Socket.{socket_ip, socket_port};
@@ -9,11 +9,12 @@ ghost use Rattle.std.specs.Net.Grammar.{IsSocketText};
 ghost use Rattle.std.specs.declared.net.socket_addr.SocketAddr.{SocketAddr};
 ghost use Rattle.iscsi_serve.specs.Results.{carried_by, count_of, poll_entry, accept_entry};
 ghost use Rattle.iscsi_serve.specs.Log.{Listened, Located, Read, Wrote, Close};
-ghost use Rattle.iscsi_serve.specs.Calls.{Polling, Naming, Accepting, Writing, PuttingOff, ip_octets, moved, accepted, read_carried, write_carried, log_by};
+ghost use Rattle.iscsi_serve.specs.Calls.{Polling, Naming, Accepting, Writing, PuttingOff, Closing, ip_octets, moved, accepted, read_carried, write_carried, log_by};
 ghost use Rattle.iscsi_serve.specs.Readiness as ready;
 ghost use Rattle.iscsi_serve.specs.Readiness.{forgotten, IsReadBy};
+ghost use Rattle.iscsi_serve.specs.Polls.{wait_for, IsNoLonger};
 ghost use Rattle.iscsi_serve.specs.Asking as asking;
-ghost use Rattle.iscsi_serve.specs.Asking.{asks, asks_now, after_asking, after_naming, after_accepting, after_reading, after_writing};
+ghost use Rattle.iscsi_serve.specs.Asking.{asks, asks_now, wait_now, AsksInTime, after_asking, after_naming, after_accepting, after_reading, after_writing};
 
 use crate::bind_fault::BindFault;
 use crate::mio_sockets::MioSockets;
@@ -87,6 +88,7 @@ impl SocketPorts<MioSockets> {
     ) -> Result<MioPorts, BindFault>
         ensures log { IfOk result (λ ports. ⟦<SocketPorts<MioSockets> as Ports>⟧.log ports ≡ Listened address.now ∷ []) }
         ensures tells { IfOk result (λ ports. ⟦<SocketPorts<MioSockets> as Ports>⟧.tells ports ≡ true) }
+        ensures in_time { IfOk result (λ ports. AsksInTime (⟦<MioSockets as SocketCalls>⟧.calls ports.sockets) ports) }
         ensures spelled { IfOk result (λ ports. (value : SocketAddr) × IsSocketText address.now value) }
         ensures unspelled { ((value : SocketAddr) → ¬ (IsSocketText address.now value)) → IsErrOf result BindFault.Socket }
     {
@@ -109,6 +111,8 @@ impl SocketPorts<MioSockets> {
         ensures told { IfOk result (λ address. ⟦<SocketPorts<MioSockets> as Ports>⟧.log self.new
             ≡ ⟦<SocketPorts<MioSockets> as Ports>⟧.log self.old ++ Located (ip_octets (socket_ip address)) (socket_port address) ∷ []) }
         ensures tells { ⟦<SocketPorts<MioSockets> as Ports>⟧.tells self.new ≡ true }
+        ensures in_time { AsksInTime (⟦<MioSockets as SocketCalls>⟧.calls self.old.sockets) self.old
+            → AsksInTime (⟦<MioSockets as SocketCalls>⟧.calls self.new.sockets) self.new }
     {
         self.sockets.address()
     }
@@ -144,10 +148,7 @@ fn is_put_off(has_read: bool, ahead: usize, offered: usize) -> bool
 /// For how long the next poll waits: not at all where there may be more, and no longer than
 /// [`SHORTLY`] where an accept is to be tried again.
 fn to_wait(busy: bool, refused: bool, wait: Option<Duration>) -> Option<Duration>
-    ensures more { busy ≡ true → (time : Duration) × (result ≡ Some time) × (as_nanos time ≡ 0) }
-    ensures shortly { refused ≡ true → (time : Duration) × (result ≡ Some time) × (as_nanos time ≤ 1000000000) }
-    ensures no_longer { (limit : Duration) → wait ≡ Some limit → IfSome result (λ time. as_nanos time ≤ as_nanos limit) }
-    ensures as_set { busy ≡ false → refused ≡ false → result ≡ wait }
+    ensures { option_map as_nanos result ≡ wait_for busy refused (option_map as_nanos wait) }
 {
     if busy {
         return Some(Duration::ZERO);
@@ -291,11 +292,13 @@ impl<K: SocketCalls + Drop> Ports for SocketPorts<K> {
     fn poll(&mut self) -> Result<Named, PortFault>
         ensures log { log_by (K.calls self.new.sockets) ≡ log_by (K.calls self.old.sockets) ++ poll_entry result ∷ [] }
         ensures asked { asks_now self.old ≡ true
-            → (named : Result Named SocketFailure) × (K.calls self.new.sockets ≡ Polling named ∷ K.calls self.old.sockets) }
+            → (handed : Option ℕ) × IsNoLonger handed (wait_now self.old)
+            × ((named : Result Named SocketFailure) × (K.calls self.new.sockets ≡ Polling handed named ∷ K.calls self.old.sockets)) }
         ensures after_asking { asks_now self.old ≡ true → self.new ≡ after_asking self.new.sockets self.new.readiness self.old }
         ensures unasked { asks_now self.old ≡ false
             → K.calls self.new.sockets ≡ Naming self.old.readiness.named ∷ K.calls self.old.sockets }
         ensures after_naming { asks_now self.old ≡ false → self.new ≡ after_naming self.new.sockets self.old }
+        ensures in_time { AsksInTime (K.calls self.old.sockets) self.old → AsksInTime (K.calls self.new.sockets) self.new }
     {
         let asks = is_to_ask(self.holding, self.busy, self.unasked, self.most_unasked);
         let wait = to_wait(self.busy, self.refused, self.wait);
@@ -321,6 +324,7 @@ impl<K: SocketCalls + Drop> Ports for SocketPorts<K> {
         ensures log { log_by (K.calls self.new.sockets) ≡ log_by (K.calls self.old.sockets) ++ accept_entry c result ∷ [] }
         ensures asked { (answer : Result Bool SocketFailure) × (K.calls self.new.sockets ≡ Accepting c answer ∷ K.calls self.old.sockets)
             × (self.new ≡ after_accepting c answer self.new.sockets self.old) }
+        ensures in_time { AsksInTime (K.calls self.old.sockets) self.old → AsksInTime (K.calls self.new.sockets) self.new }
     {
         let answer = self.sockets.accept(c);
         after_accept(&mut self.readiness, c, answer);
@@ -338,6 +342,7 @@ impl<K: SocketCalls + Drop> Ports for SocketPorts<K> {
             × IsReadBy c (length buffer.new) (length (K.ahead self.old.sockets c)) (length (K.ahead self.new.sockets c)) answer
             self.old.readiness self.new.readiness
             × (self.new ≡ after_reading c answer (length (K.ahead self.new.sockets c)) self.new.sockets self.new.readiness self.old) }
+        ensures in_time { AsksInTime (K.calls self.old.sockets) self.old → AsksInTime (K.calls self.new.sockets) self.new }
     {
         let answer = self.sockets.read(&mut self.readiness, c, buffer);
         self.after_read(c, answer);
@@ -356,6 +361,7 @@ impl<K: SocketCalls + Drop> Ports for SocketPorts<K> {
             → (answer : Result ℕ SocketFailure)
             × (K.calls self.new.sockets ≡ Writing c (length bytes.now) (moved answer bytes.now) ∷ K.calls self.old.sockets)
             × (self.new ≡ after_writing c answer self.new.sockets self.old) }
+        ensures in_time { AsksInTime (K.calls self.old.sockets) self.old → AsksInTime (K.calls self.new.sockets) self.new }
     {
         if self.has_to_wait(c, bytes.len()) {
             self.sockets.note_put_off(c, bytes.len());
@@ -371,6 +377,8 @@ impl<K: SocketCalls + Drop> Ports for SocketPorts<K> {
         requires { c ≤ 64 }
         ensures log { log_by (K.calls self.new.sockets) ≡ log_by (K.calls self.old.sockets) ++ Close c ∷ [] }
         ensures after { self.new ≡ record self.old { sockets = self.new.sockets; readiness = forgotten c self.old.readiness } }
+        ensures closed { K.calls self.new.sockets ≡ Closing c (K.ahead self.old.sockets c) ∷ K.calls self.old.sockets }
+        ensures in_time { AsksInTime (K.calls self.old.sockets) self.old → AsksInTime (K.calls self.new.sockets) self.new }
     {
         self.sockets.close(c);
         self.readiness.forget(c);
