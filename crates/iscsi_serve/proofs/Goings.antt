@@ -10,6 +10,7 @@ use Rattle.iscsi_target.specs.History.{connection_limit}
 use Rattle.iscsi_target.specs.Machine.{Machine, Feeds, link_at, with_link, is_open_at, is_closing, is_silent, opened_link, sent_link, closed, free_link}
 use Rattle.iscsi_target.proofs.Choices.{and_false, and_true, cond_true}
 use Rattle.iscsi_serve.specs.Log.{Carried, Bytes, Entry, Open, NobodyCame, Read, Wrote, Close, is_number}
+use Rattle.iscsi_serve.specs.Served.{IsFed}
 use Rattle.iscsi_serve.specs.Turn.{Moment, moment, changed, told, IfElse, opened, free_number, HasAccepted, is_read, room_for, HasFed, HasRead, Reads, piece_in, is_written, after_write, HasWritten, Writes, is_end, ends, is_closed, Closes}
 use Rattle.iscsi_serve.specs.Progress.{AreEnded, none_ended, IsDue, Goes}
 use Rattle.iscsi_serve.specs.declared.results.Named.{Named}
@@ -72,20 +73,21 @@ read_due m n named c room due does =
     (subst (λ (room : ℕ). HasRead c room m n) due.is_room does)
 
 fed : (m n : Moment) (c room : ℕ) (piece : List ℕ) (after : Machine) → 0 < length piece → Feeds c m.target after
-    → n ≡ changed (Read c room (Bytes piece)) after m → HasFed c (Read c room (Bytes piece)) (Bytes piece) m n
-fed m n c room [] after some feeds e = absurd (omega (arith, some))
-fed m n c room (byte ∷ piece) after some feeds e = (after, feeds, e)
+    → IsFed c piece m.target after → n ≡ changed (Read c room (Bytes piece)) after m → HasFed c (Read c room (Bytes piece)) (Bytes piece) m n
+fed m n c room [] after some feeds is_fed e = absurd (omega (arith, some))
+fed m n c room (byte ∷ piece) after some feeds is_fed e = (after, feeds, is_fed, e)
 
 -- it gave bytes, which were fed
 pub read_some : (log log_then : List Entry) (target after : Machine) (named : Named) (ended : List Bool) (c room : ℕ) (piece : List ℕ)
     → IsDue named c room target → 0 < length piece → length piece ≤ room
-    → log_then ≡ log ++ Read c room (Bytes piece) ∷ [] → Feeds c target after → Goes (Reads named c) log log_then target after ended ended
-read_some log log_then target after named ended c room piece due some fits e feeds =
+    → log_then ≡ log ++ Read c room (Bytes piece) ∷ [] → Feeds c target after
+    → IsFed c piece target after → Goes (Reads named c) log log_then target after ended ended
+read_some log log_then target after named ended c room piece due some fits e feeds is_fed =
     let entry : Entry = Read c room (Bytes piece) in
     one_more (Reads named c) log log_then target after ended ended entry (ended_same ended entry (λ d. and_false (eqb c d))) e
     (λ before turn are.
     let m = moment target before turn in let n = changed entry after m in
-    read_due m n named c room due (Bytes piece, fits, fed m n c room piece after some feeds refl))
+    read_due m n named c room due (Bytes piece, fits, fed m n c room piece after some feeds is_fed refl))
 
 -- it would have waited
 pub read_none : (log log_then : List Entry) (target : Machine) (named : Named) (ended : List Bool) (c room : ℕ) → IsDue named c room target

@@ -7,26 +7,39 @@ use Rattle.std.specs.List.{range_with_len}
 use Rattle.iscsi_target.specs.History as history
 use Rattle.iscsi_target.specs.History.{Happening, History, plain, marked, connection_limit}
 use Rattle.iscsi_target.specs.World.{Setting, world}
-use Rattle.iscsi_target.specs.Machine.{Machine, link_at, is_open_at}
+use Rattle.iscsi_target.specs.Machine.{Machine, link_at, is_open_at, new_machine}
 use Rattle.iscsi_target.specs.Stands.{Stands, with_sent}
 use Rattle.iscsi_target.proofs.Standing.{is_open_there, is_free_there, stands_sent, sent_here, sent_there}
-use Rattle.iscsi_serve.specs.Log.{Bytes, Entry, Open, Read, Wrote, Close, event_of, Written, written_after}
-use Rattle.iscsi_serve.specs.Served.{IsServed, MayFollow, StaysServed}
+use Rattle.iscsi_serve.specs.Log.{Bytes, Entry, Open, Read, Wrote, Close, event_of, events, Written, written_after, written}
+use Rattle.iscsi_serve.specs.Served.{IsServed, MayFollow, StaysServed, HasBeenServed}
 use Rattle.iscsi_serve.specs.Turn.{Moment, Along}
 use Rattle.iscsi_serve.specs.Progress.{StandsFed, Keeps, Does}
 use Rattle.iscsi_serve.proofs.Moments.{along_next}
-use Rattle.iscsi_serve.proofs.Steps.{sent_by, told_served, open_served, read_served, wrote_served, close_served}
+use Rattle.iscsi_serve.proofs.Steps.{sent_by, new_served, told_served, open_served, read_served, wrote_served, close_served}
 
 -- ---- one step after the other
 
 follow-append : (s : Setting) (h more others : History) → MayFollow s h more → MayFollow s (h ++ more) others → MayFollow s h (more ++ others)
 follow-append s h [] others first second = subst (λ (h : History). MayFollow s h others) (append-nil h) second
-follow-append s h (x ∷ more) others first second =
-    (first.0, follow-append s (h ++ x ∷ []) more others first.1 (subst (λ (h : History). MayFollow s h others) (sym (append_assoc h (x ∷ []) more)) second))
+follow-append s h (x ∷ more) others first second = (
+  first.0,
+  first.1,
+  follow-append s (h ++ x ∷ []) more others first.2
+      (subst (λ (h : History). MayFollow s h others) (sym (append_assoc h (x ∷ []) more)) second),
+)
 
 nothing_more : (s : Setting) (h : History) (log : List Entry) (target : Machine) → IsServed s h log target
     → (more : History) × MayFollow s h more × IsServed s (h ++ more) log target
 nothing_more s h log target v = ([], tt, subst (λ (h : History). IsServed s h log target) (sym (append-nil h)) v)
+
+pub stays_same : (log : List Entry) (target : Machine) → StaysServed log log target target
+stays_same log target = λ s h v. nothing_more s h log target v
+
+-- what stays served from a new target on has been served
+pub been_served : (s : Setting) (log log_then : List Entry) (target_then : Machine) → events log ≡ [] → written log ≡ []
+    → StaysServed log log_then (new_machine s.directory s.units) target_then → HasBeenServed s log_then target_then
+been_served s log log_then target_then no_events none stays =
+    let now = stays s [] (new_served s log no_events none) in record { history = now.0; follows = now.1; served = now.2 }
 
 pub keeps_same : (tells : Bool) (log : List Entry) (target : Machine) → Keeps tells tells log log target target
 keeps_same tells log target = record {
@@ -99,7 +112,7 @@ open_stays log log_then target after c lt is_free e stands = λ s h v.
     let none = is_free_there s (sent_by log) (world s h) target c lt v.stands is_free in
     let now : IsServed s (h ++ x ∷ []) (log ++ Open c ∷ []) after = open_served s h log target after c (lt-ltb c connection_limit lt) none v
     (stands s (sent_by log) h v.stands) in
-    (x ∷ [], (inl refl, tt), subst (λ (log : List Entry). IsServed s (h ++ x ∷ []) log after) (sym e) now))
+    (x ∷ [], (inl refl, refl, tt), subst (λ (log : List Entry). IsServed s (h ++ x ∷ []) log after) (sym e) now))
 
 -- a piece was fed
 read_one_stays : (log log_then : List Entry) (target after : Machine) (c room byte : ℕ) (piece : List ℕ)
@@ -109,7 +122,7 @@ read_one_stays log log_then target after c room byte piece e stands = λ s h v.
     let x : Happening = marked fed.0 (history.Bytes c (byte ∷ piece)) in
     let now : IsServed s (h ++ x ∷ []) (log ++ Read c room (Bytes (byte ∷ piece)) ∷ []) after = read_served s h log target after c room byte piece
     fed.0 v fed.2 in
-    (x ∷ [], (fed.1, tt), subst (λ (log : List Entry). IsServed s (h ++ x ∷ []) log after) (sym e) now))
+    (x ∷ [], (fed.1, refl, tt), subst (λ (log : List Entry). IsServed s (h ++ x ∷ []) log after) (sym e) now))
 
 pub read_stays : (log log_then : List Entry) (target after : Machine) (c room : ℕ) (piece : List ℕ) → 0 < length piece
     → log_then ≡ log ++ Read c room (Bytes piece) ∷ [] → StandsFed c piece target after → StaysServed log log_then target after
@@ -156,4 +169,4 @@ close_stays log log_then target after c lt e stands = λ s h v.
     (let x : Happening = plain (history.Gone c) in
     let now : IsServed s (h ++ x ∷ []) (log ++ Close c ∷ []) after = close_served s h log target after c (lt-ltb c connection_limit lt) v
     (stands s (sent_by log) h v.stands) in
-    (x ∷ [], (inl refl, tt), subst (λ (log : List Entry). IsServed s (h ++ x ∷ []) log after) (sym e) now))
+    (x ∷ [], (inl refl, refl, tt), subst (λ (log : List Entry). IsServed s (h ++ x ∷ []) log after) (sym e) now))

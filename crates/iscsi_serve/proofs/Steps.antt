@@ -11,13 +11,13 @@ use Rattle.iscsi_target.specs.History.{Event, Happening, History, Mark, plain, m
 use Rattle.iscsi_target.specs.Life.{Life, born, out_of}
 use Rattle.iscsi_target.specs.World.{Setting, World, is_present, present, over, end, world}
 use Rattle.iscsi_target.specs.Output.{out_now}
-use Rattle.iscsi_target.specs.Machine.{Machine, link_at}
+use Rattle.iscsi_target.specs.Machine.{Machine, link_at, new_machine}
 use Rattle.iscsi_target.specs.Stands.{Stands, with_sent}
 use Rattle.iscsi_target.proofs.Choices.{cond_true}
 use Rattle.iscsi_target.proofs.Keeping.{world-push, answers_stay}
-use Rattle.iscsi_target.proofs.Standing.{waits_there, stands_sent, sent_here, sent_there}
+use Rattle.iscsi_target.proofs.Standing.{new_stands, waits_there, stands_sent, sent_here, sent_there}
 use Rattle.iscsi_serve.specs.Log.{Bytes, Entry, Open, Read, Wrote, Close, is_number, event_of, events, Written, nothing_written, is_on, closed_row, written_after, written, bytes_in, written_on}
-use Rattle.iscsi_serve.specs.Served.{IsFront, AreFronts, IsServed}
+use Rattle.iscsi_serve.specs.Served.{IsFront, AreFronts, IsServed, NewIsServed}
 use Rattle.iscsi_serve.proofs.Rows.{AreBeside, HasMore, with_piece, found, fronts_more, found_more, nothing_in, fronts_go, fronts_wrote, wrote_here, wrote_there, fronts_closed, none_closed, other_closed}
 
 -- ---- one more entry
@@ -79,6 +79,18 @@ happened_more : (h : History) (log : List Entry) (entry : Entry) (x : Happening)
 happened_more h log entry x es e =
     map-append (λ (x : Happening). x.event) h (x ∷ []) ∙ ap (λ (all : List Event). all ++ x.event ∷ []) es
     ∙ ap (λ (more : List Event). events log ++ more) (sym e) ∙ sym (events-push log entry)
+
+-- ---- a new target
+
+nothing_on : (c : ℕ) (log : List Entry) → written log ≡ [] → 0 ≡ sent_by log c
+nothing_on c log none = sym (ap length (on-is c log) ∙ ap (λ (rows : List Written). length (bytes_in (find (is_on c) rows))) none)
+
+pub new_served : NewIsServed
+unfolding world
+new_served s log no_events none =
+    let target = new_machine s.directory s.units in
+    served s [] log target (sym no_events) (stands_by s (λ c. 0) log target [] (λ c lt. nothing_on c log none) (new_stands s))
+    (subst (λ (rows : List Written). AreFronts rows (world s []).lives) (sym none) tt)
 
 -- ---- nothing happened, and nothing was written
 

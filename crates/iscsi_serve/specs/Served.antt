@@ -1,12 +1,12 @@
--- What the running loop keeps of a sound target.
-use Rattle.std.specs.Prelude.{◌≡◌, ◌⊎◌, ◌<◌, ℕ, List, [], ◌∷◌, ◌++◌, length, map, ⊤}
-use Rattle.iscsi_target.specs.History.{Happening, History, connection_limit}
+-- What the running loop makes of a target, and keeps of a sound one.
+use Rattle.std.specs.Prelude.{◌≡◌, ◌⊎◌, ◌<◌, ℕ, List, [], ◌∷◌, ◌++◌, length, map, Option, ⊤}
+use Rattle.iscsi_target.specs.History.{Bytes, Happening, History, connection_limit}
 use Rattle.iscsi_target.specs.Life.{Life, is_over, out_of}
 use Rattle.iscsi_target.specs.World.{Setting, World, present, world}
 use Rattle.iscsi_target.specs.Output.{out_now}
-use Rattle.iscsi_target.specs.Machine.{Machine, link_at}
+use Rattle.iscsi_target.specs.Machine.{Machine, link_at, new_machine}
 use Rattle.iscsi_target.specs.Bounded.{Bounded}
-use Rattle.iscsi_target.specs.Stands.{Stands, IsStarved}
+use Rattle.iscsi_target.specs.Stands.{Stands, StandsAfter, IsStarved}
 use Rattle.iscsi_serve.specs.Log.{Entry, Written, events, written, written_on}
 
 -- what was written on a connection is a front of what the World answers in its life
@@ -34,16 +34,33 @@ pub record IsServed (s : Setting) (history : History) (log : List Entry) (target
 abbrev pub MayHappen : Setting → World → Happening → Type 0
 MayHappen s w x = (x.marks ≡ []) ⊎ ((c : ℕ) × IsStarved s w x.event c x.marks)
 
--- each further happening may come where those before it lead
+-- each further happening may come where those before it lead, and its commands came out as defined
 abbrev pub MayFollow : Setting → History → History → Type 0
 MayFollow s h [] = ⊤
-MayFollow s h (x ∷ more) = MayHappen s (world s h) x × MayFollow s (h ++ x ∷ []) more
+MayFollow s h (x ∷ more) = MayHappen s (world s h) x × (x.comings ≡ []) × MayFollow s (h ++ x ∷ []) more
+
+-- a piece was fed to a target, whatever its stores do: where it stood before the piece, it stands behind it, by how the
+-- commands came out
+abbrev pub IsFed : ℕ → List ℕ → Machine → Machine → Type 0
+IsFed c piece target target_then =
+    (s : Setting) (sent : ℕ → ℕ) (h : History) → Stands s sent target h
+    → (starved : Option ℕ) × StandsAfter s sent h (Bytes c piece) starved target_then
 
 -- what is served stays so, whatever has happened in between
 abbrev pub StaysServed : List Entry → List Entry → Machine → Machine → Type 0
 StaysServed log log_then target target_then =
     (s : Setting) (h : History) → IsServed s h log target
     → (more : History) × MayFollow s h more × IsServed s (h ++ more) log_then target_then
+
+-- what the ports told in all is what has happened to a target since it was made
+pub record HasBeenServed (s : Setting) (log : List Entry) (target : Machine) : Type 0 where
+  pub history : History
+  pub follows : MayFollow s [] history
+  pub served : IsServed s history log target
+
+-- a new target is served by ports that have told nothing of a connection
+abbrev pub NewIsServed : Type 0
+NewIsServed = (s : Setting) (log : List Entry) → events log ≡ [] → written log ≡ [] → IsServed s [] log (new_machine s.directory s.units)
 
 -- and where no connection makes a target that is served hold more than it may, none does after
 abbrev pub StaysBounded : List Entry → Machine → Machine → Type 0

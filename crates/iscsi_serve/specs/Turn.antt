@@ -4,6 +4,7 @@ use Rattle.std.specs.List.{list_any}
 use Rattle.iscsi_target.specs.History.{connection_limit, connections}
 use Rattle.iscsi_target.specs.Machine.{Machine, LinkState, Feeds, link_at, with_link, is_open_at, is_free, is_closing, want_of, opened_link, sent_link, closed, free_link}
 use Rattle.iscsi_serve.specs.Log.{Entry, Carried, Bytes, End, Fault, Polled, Open, NobodyCame, AcceptFailed, Read, Wrote, Close, is_number}
+use Rattle.iscsi_serve.specs.Served.{IsFed}
 use Rattle.iscsi_serve.specs.declared.results.Named.{Named}
 use Rattle.iscsi_serve.specs.declared.fault.ServeFault.{ServeFault}
 use Rattle.iscsi_serve.specs.declared.fault.ServeFault.TheVariants as faults
@@ -62,9 +63,10 @@ is_read named c link = slice_index_or named.connections c false && is_open link 
 abbrev pub room_for : LinkState → ℕ
 room_for link = min (want_of link) 65536
 
--- what a read gave is fed
+-- what a read gave is fed: the target stands behind this piece
 abbrev pub HasFed : ℕ → Entry → Carried → Moment → Moment → Type 0
-HasFed c entry (Bytes (byte ∷ piece)) m n = (after : Machine) × Feeds c m.target after × (n ≡ changed entry after m)
+HasFed c entry (Bytes (byte ∷ piece)) m n =
+    (after : Machine) × Feeds c m.target after × IsFed c (byte ∷ piece) m.target after × (n ≡ changed entry after m)
 HasFed c entry _ m n = n ≡ told entry m
 
 abbrev pub piece_in : Carried → List ℕ

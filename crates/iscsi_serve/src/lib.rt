@@ -14,6 +14,7 @@ mod bind_fault;
 mod entry;
 mod events;
 mod fault;
+pub mod laws;
 mod lingering;
 mod mem_ports;
 mod mio_sockets;

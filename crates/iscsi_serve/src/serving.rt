@@ -7,7 +7,7 @@ ghost use Rattle.iscsi_target.specs.Machine.{Feeds, IsSound, IsSure, link_at, is
 ghost use Rattle.iscsi_target.specs.Stands.{Stands};
 ghost use Rattle.iscsi_target.specs.World.{Setting};
 ghost use Rattle.iscsi_serve.specs.Log.{Entry, AcceptFailed};
-ghost use Rattle.iscsi_serve.specs.Served.{StaysServed, StaysBounded};
+ghost use Rattle.iscsi_serve.specs.Served.{IsFed, StaysServed, StaysBounded};
 ghost use Rattle.iscsi_serve.specs.Turn.{Moment, moment, log_of, beginning, free_number as lowest_free, HasAccepted, is_read, Accepts, Reads, Writes, Closes, Along, Carries, EndsTurn, EndsTurns};
 ghost use Rattle.iscsi_serve.specs.Progress.{AreEnded, none_ended, is_to_close, NoneToClose, KeepsOthers, IsDue, StandsFed, Goes, Keeps, Does};
 ghost use Rattle.iscsi_serve.specs.declared.results.Named.{Named};
@@ -67,6 +67,7 @@ fn feed<S: Store>(target: &mut Target<S>, c: usize, piece: &[u8])
     ensures bounded { IsSound target.new → (s : Setting) (sent : ℕ → ℕ) (h : History) → Stands s sent target.old h
         → length piece.now ≤ want_of (link_at target.old c) → Bounded target.old → Bounded target.new }
     ensures feeds { Feeds c target.old target.new }
+    ensures fed { IsFed c piece.now target.old target.new }
     ensures sound { IsSound target.new → IsSound target.old }
     ensures sure { IsSure target.old → IsSure target.new }
 {

@@ -13,3 +13,9 @@ returns-in-Err-clause-bounded g c = λ sound s sent h stands le bounded. c.in-Er
 
 pub returns-in-Ok-clause-bounded : goal.returns-in-Ok-clause-bounded
 returns-in-Ok-clause-bounded g c = λ sound s sent h stands le bounded. c.in-Ok.ensures.bounded s sent h (λ was. stands) le bounded sound
+
+pub returns-in-Err-clause-fed : goal.returns-in-Err-clause-fed
+returns-in-Err-clause-fed g c = λ s sent h stands. (_, c.in-Err.ensures.came s sent h stands)
+
+pub returns-in-Ok-clause-fed : goal.returns-in-Ok-clause-fed
+returns-in-Ok-clause-fed g c = λ s sent h stands. (_, c.in-Ok.ensures.came s sent h stands)

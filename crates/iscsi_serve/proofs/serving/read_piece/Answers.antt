@@ -39,7 +39,7 @@ returns-in-Bytes g c = λ named due.
       };
       goes = λ tells.
           read_some _ _ _ _ named _ c.args.c (length c.args.piece.now) piece due some fits (rw same at (c.in-Bytes.ensures.log tells))
-          c.feed.ensures.feeds;
+          c.feed.ensures.feeds c.feed.ensures.fed;
     })
 
 pub returns-in-End : goal.returns-in-End
