@@ -47,7 +47,7 @@ keeps_same tells log target = record {
   sound = λ sound. sound;
   sure = λ sure. sure;
   served = λ e sound s h v. nothing_more s h log target v;
-  bounded = λ e sound s h v bounded. bounded;
+  bounded = λ bounded. bounded;
 }
 
 pub keeps_then : (tells between tells_then : Bool) (log middle log_then : List Entry) (target after target_then : Machine)
@@ -64,9 +64,7 @@ keeps_then tells between tells_then log middle log_then target after target_then
         follow-append s h one.0 two.0 one.1 two.1,
         subst (λ (h : History). IsServed s h log_then target_then) (append_assoc h one.0 two.0) two.2,
       ));
-  bounded = λ e sound s h v bounded.
-      (let one = first.served (second.back e) (second.sound sound) s h v in
-      second.bounded e sound s (h ++ one.0) one.2 (first.bounded (second.back e) (second.sound sound) s h v bounded));
+  bounded = λ bounded. second.bounded (first.bounded bounded);
 }
 
 pub none_does : (R : ℕ → Moment → Moment → Type 0) (tells : Bool) (log : List Entry) (target : Machine) (ended : List Bool)
@@ -97,7 +95,7 @@ keeps_told tells tells_then log log_then target entry none silent back e = recor
   sure = λ sure. sure;
   served = λ t sound s h v.
       nothing_more s h log_then target (subst (λ (log : List Entry). IsServed s h log target) (sym (e t)) (told_served s h log target entry none silent v));
-  bounded = λ t sound s h v bounded. bounded;
+  bounded = λ bounded. bounded;
 }
 
 -- ---- what happened to the target

@@ -7,7 +7,8 @@ use Rattle.iscsi_target.specs.World.{Setting, world}
 use Rattle.iscsi_target.specs.Stands.{Stands, IsStarved}
 use Rattle.iscsi_target.specs.Machine.{Machine, LinkState, IsSound, IsSure, link_at, is_open_at, is_closing}
 use Rattle.iscsi_serve.specs.Log.{Entry}
-use Rattle.iscsi_serve.specs.Served.{StaysServed, StaysBounded}
+use Rattle.iscsi_target.specs.Bounded.{Bounded}
+use Rattle.iscsi_serve.specs.Served.{StaysServed}
 use Rattle.iscsi_serve.specs.Turn.{Moment, moment, is_open, is_read, room_for, ends}
 use Rattle.iscsi_serve.specs.declared.results.Named.{Named}
 
@@ -62,7 +63,7 @@ pub record Keeps (tells tells_then : Bool) (log log_then : List Entry) (target t
   pub sound : IsSound target_then → IsSound target
   pub sure : IsSure target → IsSure target_then
   pub served : tells_then ≡ true → IsSound target_then → StaysServed log log_then target target_then
-  pub bounded : tells_then ≡ true → IsSound target_then → StaysBounded log target target_then
+  pub bounded : Bounded target → Bounded target_then
 
 -- what a step by R does, and keeps
 pub record Does (R : Moment → Moment → Type 0) (tells tells_then : Bool) (log log_then : List Entry)

@@ -5,7 +5,6 @@ use Rattle.iscsi_target.specs.Life.{Life, is_over, out_of}
 use Rattle.iscsi_target.specs.World.{Setting, World, present, world}
 use Rattle.iscsi_target.specs.Output.{out_now}
 use Rattle.iscsi_target.specs.Machine.{Machine, link_at, new_machine}
-use Rattle.iscsi_target.specs.Bounded.{Bounded}
 use Rattle.iscsi_target.specs.Stands.{Stands, StandsAfter, IsStarved}
 use Rattle.iscsi_serve.specs.Log.{Entry, Written, events, written, written_on}
 
@@ -61,7 +60,3 @@ pub record HasBeenServed (s : Setting) (log : List Entry) (target : Machine) : T
 -- a new target is served by ports that have told nothing of a connection
 abbrev pub NewIsServed : Type 0
 NewIsServed = (s : Setting) (log : List Entry) → events log ≡ [] → written log ≡ [] → IsServed s [] log (new_machine s.directory s.units)
-
--- and where no connection makes a target that is served hold more than it may, none does after
-abbrev pub StaysBounded : List Entry → Machine → Machine → Type 0
-StaysBounded log target target_then = (s : Setting) (h : History) → IsServed s h log target → Bounded target → Bounded target_then

@@ -42,5 +42,5 @@ returns-else-is_err-clause-keeps g c =
       served = λ tells sound.
           open_stays _ _ _ _ _ lt (c.free_number-c.ensures.free lt) (rw c.in-Ok-Connection.field-0-is at (c.in-Ok-Connection.ensures.log tells))
           (λ s sent h stands. c.open.ensures.stands s sent h (λ was. stands) sound);
-      bounded = λ tells sound s h v bounded. c.open.ensures.bounded bounded;
+      bounded = c.open.ensures.bounded;
     }

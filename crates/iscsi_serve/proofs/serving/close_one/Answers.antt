@@ -18,7 +18,7 @@ returns-then-is_done g c = record {
     sure = c.gone.ensures.sure;
     served = λ tells sound.
         close_stays _ _ _ _ _ c.requires (c.close.ensures.log tells) (λ s sent h stands. c.gone.ensures.stands s sent h (λ was. stands) sound);
-    bounded = λ tells sound s h v bounded. c.gone.ensures.bounded bounded;
+    bounded = c.gone.ensures.bounded;
   };
   goes = λ tells. close_due _ _ _ _ _ _ c.requires (sym c.if-not-is_open.ensures) (sym c.if-is_done.ensures) (c.close.ensures.log tells) c.gone.ensures.now;
 }

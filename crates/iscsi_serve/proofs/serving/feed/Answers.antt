@@ -8,12 +8,6 @@ returns-in-Err-clause-stands g c = λ sound s sent h stands.
 pub returns-in-Ok-clause-stands : goal.returns-in-Ok-clause-stands
 returns-in-Ok-clause-stands g c = λ sound s sent h stands. ([], inl refl, c.in-Ok.ensures.stands s sent h (λ was. stands) sound)
 
-pub returns-in-Err-clause-bounded : goal.returns-in-Err-clause-bounded
-returns-in-Err-clause-bounded g c = λ sound s sent h stands le bounded. c.in-Err.ensures.bounded s sent h (λ was. stands) le bounded sound
-
-pub returns-in-Ok-clause-bounded : goal.returns-in-Ok-clause-bounded
-returns-in-Ok-clause-bounded g c = λ sound s sent h stands le bounded. c.in-Ok.ensures.bounded s sent h (λ was. stands) le bounded sound
-
 pub returns-in-Err-clause-fed : goal.returns-in-Err-clause-fed
 returns-in-Err-clause-fed g c = λ s sent h stands. (_, c.in-Err.ensures.came s sent h stands)
 

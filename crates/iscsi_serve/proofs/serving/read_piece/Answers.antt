@@ -1,6 +1,6 @@
 use Rattle.std.proofs.Common.{◌≡◌, ◌<◌, ◌≤◌, [], length, take, rules, arith, inl, inr, refl}
 use Rattle.std.proofs.lemmas.List.{length-take-le}
-use Rattle.iscsi_serve.specs.Log.{Read, Bytes, End, Fault, written_on}
+use Rattle.iscsi_serve.specs.Log.{Read, Bytes, End, Fault}
 use Rattle.iscsi_serve.proofs.Goings.{read_some, read_none, read_ended}
 use Rattle.iscsi_serve.proofs.Keeping.{keeps_told, read_stays}
 use Rattle.iscsi_serve.proofs.serving.read_piece.Goals as goal
@@ -33,9 +33,7 @@ returns-in-Bytes g c = λ named due.
         served = λ tells sound.
             read_stays _ _ _ _ c.args.c (length c.args.piece.now) piece some (rw same at (c.in-Bytes.ensures.log tells))
             (c.feed.ensures.stands sound);
-        bounded = λ tells sound s h v bounded.
-            c.feed.ensures.bounded sound s (λ d. length (written_on d (g.P.Ports.log c.args.ports.now))) h v.stands
-            (let room = due.is_room in omega (arith, fits, room)) bounded;
+        bounded = (let room = due.is_room in c.feed.ensures.bounded (omega (arith, fits, room)));
       };
       goes = λ tells.
           read_some _ _ _ _ named _ c.args.c (length c.args.piece.now) piece due some fits (rw same at (c.in-Bytes.ensures.log tells))

@@ -26,7 +26,7 @@ returns-in-Bytes-eq0-clause-does g c =
         served = λ tells sound.
             nothing_stays _ _ c.args.target.now c.args.c c.out-offered.result.now c.requires.in_range c.requires.open (sym c.out-offered.ensures)
             (rw c.in-Bytes-eq0.field-0-test at (c.in-Bytes-eq0.ensures.log tells));
-        bounded = λ tells sound s h v bounded. bounded;
+        bounded = λ bounded. bounded;
       };
       goes = λ tells.
           write_some _ _ c.args.target.now _ _ c.args.c 0 c.out-offered.result.now c.requires.open (sym c.out-offered.ensures) some (omega arith)
@@ -45,7 +45,7 @@ returns-in-Bytes-clause-does g c =
             write_stays _ _ _ _ _ _ _ c.requires.in_range c.requires.open (sym c.out-offered.ensures) c.in-Bytes.ensures.count
             (c.in-Bytes.ensures.log tells)
             (λ s sent h stands. c.sent.ensures.stands s sent h (λ was. stands) sound);
-        bounded = λ tells sound s h v bounded. c.sent.ensures.bounded bounded;
+        bounded = c.sent.ensures.bounded;
       };
       goes = λ tells.
           write_some _ _ _ _ _ _ _ _ c.requires.open (sym c.out-offered.ensures) some c.in-Bytes.ensures.count
