@@ -4,6 +4,12 @@ pub mod Writes
 pub mod Positions
 pub mod Commands
 pub mod Results
-pub mod Spacing
+pub mod Runs
+pub mod RunEnds
+pub mod Indexes
+pub mod SizeWays
+pub mod RunSpacing
+pub mod Sizes
+pub mod Walks
+pub mod Indexed
 pub mod There
-pub mod Ends

@@ -1,22 +1,41 @@
 -- A position among the items of a content, when one is passed and when others are put behind it.
 use Rattle.std.proofs.Common.{◌≡◌, ℕ, ◌+◌, ◌-◌, ◌*◌, zero, suc, ◌^◌, ◌≤◌, ◌<◌, List, [], ◌∷◌, ◌++◌, length, take, drop, slice_range, Some}
-use Rattle.std.proofs.Common.{None, refl, ap, sym, subst, ◌∙◌, arith}
-use Rattle.std.proofs.Math.Seq.{take-add}
+use Rattle.std.proofs.Common.{None, refl, ap, sym, ◌∙◌, arith, Bool, false, map, sum}
+use Rattle.std.proofs.lemmas.List.{take-map, length-map}
 use Rattle.std.proofs.lemmas.List.{append-nil, take_all, drop_all, take-take, drop-take, drop-drop, take_at, drop_at, length-append}
 use Rattle.std.proofs.lemmas.List.{length-drop, length-take-le}
 use Rattle.byteorder.specs.Endian.{big_bytes, big_number}
 use Rattle.byteorder.specs.Numbers.{big_number-reads_back, length-bytes_high_first}
-use Rattle.media_tape.specs.Items.{most_bytes, Item, Record, item_of, size_of, front, items_in, items_of, Filemark}
+use Rattle.media_tape.specs.Items.{most_bytes, Item, Record, item_of, size, size_of, front, items_in, items_of, Filemark}
 use Rattle.std.proofs.Common.{replicate}
-use Rattle.std.proofs.lemmas.List.{length-replicate}
-use Rattle.media_tape.specs.Tape.{Lies, IsPlace, length_told, first_told, first_data}
+use Rattle.media_tape.specs.Tape.{AreIn, length_told, first_told, first_data}
+use Rattle.media_tape.proofs.Sizes.{sum-sizes}
 use Rattle.media_tape.proofs.Commands.{first_told-item, first_data-item}
 use Rattle.media_tape.specs.Writing.{KeepsBefore}
-use Rattle.media_tape.proofs.Items.{is-front, items_of-next, items_of-none, front-is, items_of-replaced, drop-items_of, length-front, item_of-data_of}
+use Rattle.media_tape.proofs.Items.{is-front, items_of-next, items_of-none, front-is, items_of-replaced, drop-items_of, item_of-data_of}
 
 size_of-append : (xs ys : List Item) → size_of (xs ++ ys) ≡ size_of xs + size_of ys
 size_of-append [] ys = omega arith
 size_of-append (x ∷ xs) ys = let rest = size_of-append xs ys in omega (arith, rest)
+
+-- a position and its place in bytes, among the items in front of an end
+pub record Lies (content : List ℕ) (position place count end : ℕ) : Type 0 where
+  pub long : end ≤ length content
+  pub whole : size_of (items_of (take end content)) ≡ end
+  pub as_many : length (items_of (take end content)) ≡ count
+  pub placed : size_of (take position (items_of (take end content))) ≡ place
+
+-- the place by the sizes of the items
+pub lies : (content sizes : List ℕ) (is_torn : Bool) (position : ℕ) → AreIn content sizes is_torn
+    → Lies content position (sum (take position sizes)) (length sizes) (sum sizes)
+lies content sizes is_torn position are =
+    let items = items_of (take (sum sizes) content) in
+    record {
+      long = are.long;
+      whole = sym (sum-sizes items) ∙ ap sum are.sized;
+      as_many = sym (length-map items size) ∙ ap length are.sized;
+      placed = sym (sum-sizes (take position items)) ∙ ap sum (sym (take-map size position items) ∙ ap (take position) are.sized);
+    }
 
 -- ---- all items of a content lie before the position
 
@@ -26,15 +45,18 @@ pub record Stands (content : List ℕ) (all : List Item) (position place : ℕ) 
   pub as_many : length all ≡ position
   pub sized : size_of all ≡ place
 
-pub Stands-lies : (content : List ℕ) (all : List Item) (position place : ℕ) → Stands content all position place → Lies content position place position place
-Stands-lies content all position place stands =
-    record {
-      long = stands.long;
-      whole = ap size_of stands.is ∙ stands.sized;
-      as_many = ap length stands.is ∙ stands.as_many;
-      placed = ap (λ (xs : List Item). size_of (take position xs)) stands.is
-          ∙ ap size_of (take_all position all (omega (arith, stands.as_many))) ∙ stands.sized;
-    }
+-- and they are of these sizes
+pub Stands-in : (content sizes : List ℕ) (all : List Item) (position place : ℕ) (is_torn : Bool) → Stands content all position place → map size all ≡ sizes
+    → (is_torn ≡ false → length content ≡ place) → (sum sizes ≡ place) × AreIn content sizes is_torn
+Stands-in content sizes all position place is_torn stands are whole =
+    let end : sum sizes ≡ place = sym (ap sum are) ∙ sum-sizes all ∙ stands.sized in (
+      end,
+      record {
+        long = omega (arith, end, stands.long);
+        sized = ap (λ (n : ℕ). map size (items_of (take n content))) end ∙ ap (map size) stands.is ∙ are;
+        whole = λ none. whole none ∙ sym end;
+      },
+    )
 
 pub Stands-before : (content : List ℕ) (all : List Item) (position place : ℕ) → Stands content all position place
     → take position (items_of (take place content)) ≡ all
@@ -111,20 +133,10 @@ items_of-record bytes some most =
     items_of-next all n found
     ∙ rw (behind, take_at bytes head n refl, drop_all (n + 8) all (omega (arith, long)), item_of-data_of (Record bytes) (some, most)) refl
 
-length-record : (bytes : List ℕ) → length (big_bytes 4 (length bytes) ++ (bytes ++ big_bytes 4 (length bytes))) ≡ length bytes + 8
+pub length-record : (bytes : List ℕ) → length (big_bytes 4 (length bytes) ++ (bytes ++ big_bytes 4 (length bytes))) ≡ length bytes + 8
 length-record bytes =
     let head = big_bytes 4 (length bytes) in
     length-append head (bytes ++ head) ∙ omega (arith, length-append bytes head, length-bytes_high_first 4 (length bytes))
-
--- a record that was written
-pub written-record : (content new bytes : List ℕ) (position place count end : ℕ) → Lies content position place count end → position ≤ count → place ≤ end
-    → 0 < length bytes → length bytes ≤ most_bytes
-    → (place ≤ length content → new ≡ take place content ++ (big_bytes 4 (length bytes) ++ (bytes ++ big_bytes 4 (length bytes))))
-    → Stands new (take position (items_of (take end content)) ++ Record bytes ∷ []) (position + 1) (place + (length bytes + 8))
-    × (drop (place + (length bytes + 8)) new ≡ [])
-written-record content new bytes position place count end lies few below some most is =
-    appended content new (big_bytes 4 (length bytes) ++ (bytes ++ big_bytes 4 (length bytes))) (Record bytes ∷ []) position place count end 1 (length bytes + 8)
-    lies few below (is (omega (arith, lies.long))) (items_of-record bytes some most) refl (omega arith) (length-record bytes)
 
 -- ---- the item behind a position
 
@@ -152,23 +164,6 @@ some-behind content position place count end n lies few some =
     let rest : drop (position + 1) items ≡ items_of (drop (n + 8) bytes) =
     sym (drop-drop 1 position items) ∙ ap (drop 1) here in
     here ∙ ap (λ (xs : List Item). item_of (data_at content place end n) ∷ xs) (sym rest)
-
--- the position behind it
-pub Lies-next : (content : List ℕ) (position place count end n : ℕ) → Lies content position place count end → position ≤ count
-    → Some n ≡ front (drop place (take end content)) → Lies content (position + 1) (place + (n + 8)) count end
-Lies-next content position place count end n lies few some =
-    let items = items_of (take end content) in
-    let here = some-behind content position place count end n lies few some in
-    let one : take 1 (drop position items) ≡ item_of (data_at content place end n) ∷ [] = ap (take 1) here in
-    let sized : size_of (item_of (data_at content place end n) ∷ []) ≡ n + 8 =
-    ap (λ (m : ℕ). m + 0) (length-front (drop place (take end content)) n (sym some)) ∙ omega arith in
-    record {
-      long = lies.long;
-      whole = lies.whole;
-      as_many = lies.as_many;
-      placed = ap size_of (take-add position 1 items ∙ ap (λ (xs : List Item). take position items ++ xs) one)
-          ∙ size_of-append (take position items) (item_of (data_at content place end n) ∷ []) ∙ omega (arith, lies.placed, sized);
-    }
 
 -- with no item there, it is the last position
 pub last-position : (content : List ℕ) (position place count end : ℕ) → Lies content position place count end → position ≤ count
@@ -206,34 +201,6 @@ data-behind content position place count end n lies few some within =
     ap (λ (m : ℕ). take m ys) many ∙ sym (ap (take n) here ∙ take-take n (end - (place + 4)) ys (omega arith))
     ∙ sym (ap first_data (some-behind content position place count end n lies few some) ∙ first_data-item (data_at content place end n) rest)
 
--- ---- from item to item
-
-pub IsPlace-next : (bytes : List ℕ) (position place n : ℕ) → IsPlace bytes position place → Some n ≡ front (drop place bytes)
-    → IsPlace bytes (position + 1) (place + (n + 8))
-IsPlace-next bytes position place n is some =
-    let items = items_of bytes in
-    let rest = drop place bytes in
-    let here : drop position items ≡ item_of (take n (drop 4 rest)) ∷ items_of (drop (n + 8) rest) =
-    rw is.placed at (drop-items_of position bytes is.few) ∙ items_of-next rest n (sym some) in
-    let more : 1 ≤ length items - position =
-    subst (λ (m : ℕ). 1 ≤ m) (sym (ap length here) ∙ length-drop position items) (omega arith) in
-    let sized : size_of (item_of (take n (drop 4 rest)) ∷ []) ≡ n + 8 = ap (λ (m : ℕ). m + 0) (length-front rest n (sym some)) ∙ omega arith in
-    record {
-      few = omega (arith, more, is.few);
-      placed = ap size_of (take-add position 1 items ∙ ap (λ (xs : List Item). take position items ++ xs) (ap (take 1) here))
-          ∙ size_of-append (take position items) (item_of (take n (drop 4 rest)) ∷ []) ∙ omega (arith, is.placed, sized);
-    }
-
-pub IsPlace-last : (bytes : List ℕ) (position place : ℕ) → IsPlace bytes position place → None ≡ front (drop place bytes) → position ≡ length (items_of bytes)
-IsPlace-last bytes position place is none =
-    let items = items_of bytes in
-    let here : drop position items ≡ [] = rw is.placed at (drop-items_of position bytes is.few) ∙ items_of-none (drop place bytes) (sym none) in
-    omega (arith, sym (ap length here) ∙ length-drop position items, is.few)
-
-pub IsPlace-all : (bytes : List ℕ) (position place : ℕ) → IsPlace bytes position place → position ≡ length (items_of bytes) → place ≡ size_of (items_of bytes)
-IsPlace-all bytes position place is all =
-    sym is.placed ∙ ap size_of (take_all position (items_of bytes) (omega (arith, all)))
-
 -- ---- filemarks that were written
 
 zeros-front : (rest : List ℕ) → front (0 ∷ 0 ∷ 0 ∷ 0 ∷ 0 ∷ 0 ∷ 0 ∷ 0 ∷ rest) ≡ Some 0
@@ -257,11 +224,6 @@ pub size_of-filemarks : (count : ℕ) → size_of (replicate count Filemark) ≡
 size_of-filemarks zero = refl
 size_of-filemarks (suc count) = let rest = size_of-filemarks count in omega (arith, rest)
 
-pub written-filemarks : (content new : List ℕ) (many position place count end : ℕ) → Lies content position place count end → position ≤ count → place ≤ end
-    → (place ≤ length content → new ≡ take place content ++ replicate (8 * many) 0)
-    → Stands new (take position (items_of (take end content)) ++ replicate many Filemark) (position + many) (place + 8 * many)
-    × (drop (place + 8 * many) new ≡ [])
-written-filemarks content new many position place count end lies few below is =
-    appended content new (replicate (8 * many) 0) (replicate many Filemark) position place count end many (8 * many)
-    lies few below (is (omega (arith, lies.long))) (items_of-zeros many) (length-replicate many Filemark) (size_of-filemarks many)
-    (length-replicate {A = ℕ} (8 * many) 0)
+pub sizes-filemarks : (count : ℕ) → map size (replicate count Filemark) ≡ replicate count 8
+sizes-filemarks zero = refl
+sizes-filemarks (suc count) = ap (λ (xs : List ℕ). 8 ∷ xs) (sizes-filemarks count)

@@ -1,11 +1,12 @@
 -- There and back: a record that was written, and records that were spaced over.
 use Rattle.std.proofs.Common.{◌≡◌, ◌≢◌, ℕ, zero, suc, ◌+◌, ◌-◌, List, [], ◌∷◌, ◌++◌, length, take}
 use Rattle.std.proofs.Common.{drop, reverse, map, refl, ap, sym, ◌∙◌, arith}
-use Rattle.std.proofs.lemmas.List.{append-nil, take_at, drop_at, length-append, length-map, length-reverse, reverse-append, map-append, append_assoc}
+use Rattle.std.proofs.lemmas.List.{append-nil, take_at, drop_at, length-append, length-map, length-reverse, reverse-append, append_assoc}
 use Rattle.media_tape.specs.Items.{Item, Record, Filemark}
 use Rattle.media_tape.specs.Tape.{TapeState, items, located_at, write_told, tape_written, wrote, wrote_if_told}
 use Rattle.media_tape.specs.Space.{Way, way, one_more, spaced_told, tape_spaced}
 use Rattle.media_tape.specs.Laws.{IsReadBack}
+use Rattle.media_tape.proofs.Sizes.{map-reverse}
 use Rattle.media_tape.specs.declared.outcome.Written.{Written}
 use Rattle.media_tape.specs.declared.outcome.Written.TheVariants as written
 use Rattle.media_tape.specs.declared.outcome.Over.TheVariants.{Records}
@@ -28,13 +29,6 @@ read-back (byte ∷ bytes) tape some told =
       before = ap (take (length tape.before)) all ∙ take_at tape.before (Record (byte ∷ bytes) ∷ []) (length tape.before) refl;
       after = ap (drop (length tape.before)) all ∙ drop_at tape.before (Record (byte ∷ bytes) ∷ []) (length tape.before) refl;
     }
-
-map-reversed : (records : List (List ℕ)) → map Record (reverse records) ≡ reverse (map Record records)
-map-reversed [] = refl
-map-reversed (bytes ∷ records) =
-    ap (map Record) (reverse-append (bytes ∷ []) records) ∙ map-append Record (reverse records) (bytes ∷ [])
-    ∙ ap (λ (xs : List Item). xs ++ Record bytes ∷ []) (map-reversed records)
-    ∙ sym (reverse-append (Record bytes ∷ []) (map Record records))
 
 -- spacing over records and no others
 way-records : (direction : Direction) (records : List (List ℕ)) (others : List Item)
@@ -82,7 +76,7 @@ there-and-back count tape told =
     (ap (λ (ys : List Item). tape.before ++ ys) next.is ∙ sym (append_assoc tape.before xs next.rest)) in
     let moved : TapeState = record tape { before = tape.before ++ xs; after = next.rest } in
     let before_is : reverse (tape.before ++ xs) ≡ map Record (reverse next.records) ++ reverse tape.before =
-    reverse-append tape.before xs ∙ ap (λ (ys : List Item). ys ++ reverse tape.before) (sym (map-reversed next.records)) in
+    reverse-append tape.before xs ∙ ap (λ (ys : List Item). ys ++ reverse tape.before) (sym (map-reverse Record next.records)) in
     let back_long : length (reverse next.records) ≡ count = length-reverse next.records ∙ next.long in
     let back = ap (λ (ys : List Item). way Backward Records count ys) before_is
     ∙ ap (λ (n : ℕ). way Backward Records n (map Record (reverse next.records) ++ reverse tape.before)) (sym back_long)

@@ -1,7 +1,7 @@
 -- What writes from a place on leave of a content, and what they put there.
 use Rattle.std.proofs.Common.{◌≡◌, ℕ, ◌+◌, ◌-◌, ◌≤◌, min, nat_lt, true, List, [], ◌∷◌, ◌++◌, length, take, drop, replicate, refl, ap, sym}
 use Rattle.std.proofs.Common.{subst, ◌∙◌, arith, rules, Result, Ok, Err, OnOk, OnErr}
-use Rattle.std.proofs.lemmas.List.{append_assoc, append-nil, take-take, take_at, take-append-le, length-append, length-take, length-take-le}
+use Rattle.std.proofs.lemmas.List.{append_assoc, append-nil, take-take, take_at, take_all, drop_all, take-append-le, length-append, length-take, length-take-le}
 use Rattle.std.proofs.lemmas.List.{length-replicate, replicate-append-replicate}
 use Rattle.media_store.specs.Content.{resized, written, KeepsOutside, KeepsFront}
 use Rattle.media_tape.specs.Writing.{KeepsBefore}
@@ -107,3 +107,19 @@ KeepsBefore-ends place old new rest is within =
     let front = length-take-le place old within in
     let both = length-append (take place old) rest in
     rw (is within) (omega (arith, front, both), take_at (take place old) rest place front)
+
+-- bytes behind all others
+pub written-behind : (at : ℕ) (bytes content : List ℕ) → length content ≡ at → written at bytes content ≡ content ++ bytes
+written-behind at [] content is = sym (append-nil content)
+written-behind at (byte ∷ bytes) content is =
+    let some : nat_lt 0 (length (byte ∷ bytes)) ≡ true = search rules in
+    let none : at - length content ≡ 0 = omega arith in
+    rw (
+      some,
+      none,
+      take_all at content (omega arith),
+      drop_all (at + length (byte ∷ bytes)) content (omega arith),
+      append-nil content,
+      append-nil
+          (byte ∷ bytes),
+    ) refl

@@ -1,6 +1,6 @@
 -- What stands on a tape (SSC-4 "Tape model"): records and filemarks, item after item, and how their bytes are laid out.
-use Rattle.std.specs.Prelude.{ℕ, zero, suc, ◌+◌, ◌-◌, ◌*◌, ◌≤◌, ◌<◌, ◌==◌, ◌&&◌, nat_le, nat_lt, List, [], ◌∷◌, ◌++◌, length, take, drop}
-use Rattle.std.specs.Prelude.{flat_map, slice_range, Bool, Option, Some, None, if◌then◌else◌}
+use Rattle.std.specs.Prelude.{ℕ, zero, suc, ◌+◌, ◌≤◌, ◌<◌, ◌==◌, ◌&&◌, nat_le, List, [], ◌∷◌, ◌++◌, length, take, drop}
+use Rattle.std.specs.Prelude.{flat_map, Bool, Option, Some, None, if◌then◌else◌}
 use Rattle.byteorder.specs.Endian.{big_bytes, big_number}
 
 -- profile: the greatest length of a record in bytes
@@ -68,12 +68,3 @@ torn_at bytes = size_of (items_of bytes)
 -- profile: bytes that are items and nothing else
 abbrev pub is_tape : List ℕ → Bool
 is_tape bytes = torn_at bytes == length bytes
-
--- profile: the length that is told again before a place, where an item ends
-abbrev pub length_before : ℕ → List ℕ → ℕ
-length_before place bytes = big_number 4 (slice_range bytes (place - 4) place)
-
--- own: unless so many items up to there, of eight bytes at least, leave no room for it
-abbrev pub found_before : ℕ → ℕ → List ℕ → Option ℕ
-found_before position place bytes =
-    if nat_lt (place - 8 * position) (length_before place bytes) then None else Some (length_before place bytes)

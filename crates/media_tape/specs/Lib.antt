@@ -2,6 +2,9 @@ pub use Rattle.media_store.specs.Failures
 pub mod Items
 pub mod Tape
 pub mod Space
+pub mod Index
+pub mod Runs
+pub mod SizeSpace
 pub mod Writing
 pub mod Fault
 pub mod Examples

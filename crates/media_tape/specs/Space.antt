@@ -1,5 +1,5 @@
 -- SPACE (6) (SSC-4): from item to item, over records or over filemarks, behind the position or before it.
-use Rattle.std.specs.Prelude.{◌≡◌, ℕ, zero, suc, ◌+◌, ◌-◌, ◌==◌, List, [], ◌∷◌, length, take, drop, reverse, Option, Some, None, if◌then◌else◌}
+use Rattle.std.specs.Prelude.{◌≡◌, ℕ, zero, suc, ◌+◌, ◌-◌, List, [], ◌∷◌, length, reverse}
 use Rattle.media_tape.specs.Items.{Item, Record, Filemark}
 use Rattle.media_tape.specs.Tape.{TapeState, items, located_at}
 use Rattle.media_tape.specs.declared.outcome.Over.{Over}
@@ -31,11 +31,6 @@ way direction Records (suc left) (Filemark ∷ items) = record { passed = 1; tol
 way direction Filemarks (suc left) (Record bytes ∷ items) = one_more (way direction Filemarks (suc left) items)
 way direction Filemarks (suc left) (Filemark ∷ items) = one_more (way direction Filemarks left items)
 
--- own: what is left of a count behind an item of this length: none, where spacing ends there
-abbrev pub left_behind : Over → ℕ → ℕ → Option ℕ
-left_behind Records left length = if length == 0 then None else Some (left - 1)
-left_behind Filemarks left length = if length == 0 then Some (left - 1) else Some left
-
 -- the items on the way, the nearest first
 abbrev pub ahead : Direction → TapeState → List Item
 ahead Forward tape = tape.after
@@ -44,11 +39,6 @@ ahead Backward tape = reverse tape.before
 abbrev pub spaced_to : Direction → ℕ → ℕ → ℕ
 spaced_to Forward position passed = position + passed
 spaced_to Backward position passed = position - passed
-
--- own: the way from a position among these items
-abbrev pub way_from : Direction → Over → ℕ → ℕ → List Item → Way
-way_from Forward over count position items = way Forward over count (drop position items)
-way_from Backward over count position items = way Backward over count (reverse (take position items))
 
 -- own: spacing over so many can end so: on these items it does
 abbrev pub Ends : Direction → Over → ℕ → Spaced → Type 0

@@ -1,9 +1,9 @@
 -- A tape as the items before its position and those behind it (SSC-4 "Position within a partition"), and what commands
 -- do to it.
 use Rattle.std.specs.Prelude.{◌≡◌, ℕ, ◌+◌, ◌*◌, ◌≤◌, ◌==◌, nat_lt, nat_le, List, [], ◌∷◌, ◌++◌, length, take, drop, replicate}
-use Rattle.std.specs.Prelude.{Bool, true, false, if◌then◌else◌}
+use Rattle.std.specs.Prelude.{Bool, true, false, IsTrue, sum, map, if◌then◌else◌}
 use Rattle.media_store.specs.Failures.{risen}
-use Rattle.media_tape.specs.Items.{Item, Record, Filemark, size_of, items_of}
+use Rattle.media_tape.specs.Items.{Item, Record, Filemark, size, size_of, items_of}
 use Rattle.media_tape.specs.declared.outcome.Located.{Located}
 use Rattle.media_tape.specs.declared.outcome.Located.TheVariants as located
 use Rattle.media_tape.specs.declared.outcome.Passed.{Passed}
@@ -146,22 +146,15 @@ lost tail synced tape = record tape { after = []; tail = tail; synced = synced; 
 
 -- ---- own: what a tape knows of the content of its store
 
--- a position and its place in bytes, among the items in front of an end
-pub record Lies (content : List ℕ) (position place count end : ℕ) : Type 0 where
-  pub long : end ≤ length content
-  pub whole : size_of (items_of (take end content)) ≡ end
-  pub as_many : length (items_of (take end content)) ≡ count
-  pub placed : size_of (take position (items_of (take end content))) ≡ place
+-- the items in front of an end are of these sizes, and nothing else stands there; where no write or cut failed, nor does
+-- anything behind them
+pub record AreIn (content sizes : List ℕ) (is_torn : Bool) : Type 0 where
+  pub long : sum sizes ≤ length content
+  pub sized : map size (items_of (take (sum sizes) content)) ≡ sizes
+  pub whole : is_torn ≡ false → length content ≡ sum sizes
 
--- a place among the items in front of bytes
-pub record IsPlace (bytes : List ℕ) (position place : ℕ) : Type 0 where
-  pub few : position ≤ length (items_of bytes)
-  pub placed : size_of (take position (items_of bytes)) ≡ place
-
--- numbers that fit
-pub record AreNumbers (position place count end capacity : ℕ) : Type 0 where
-  pub before : position ≤ count
-  pub all : 8 * count ≤ end
-  pub within : place ≤ end
-  pub some : 8 * position ≤ place
-  pub most : end ≤ capacity
+-- where a store is honest its items are of these sizes, and the position is among them
+pub record IsIndexed (honest : Bool) (content sizes : List ℕ) (is_torn : Bool) (position capacity : ℕ) : Type 0 where
+  pub within : position ≤ length sizes
+  pub fits : sum sizes ≤ capacity
+  pub are_in : IsTrue honest → AreIn content sizes is_torn

@@ -1,11 +1,9 @@
 //! The item at a place of a store.
 
-ghost use Rattle.std.specs.Prelude.{◌≡◌, ◌+◌, ◌*◌, ◌≤◌, ◌<◌, ◌^◌, length, take, drop, slice_range, IsTrue, IsOk, IfOk, IfSome, OnOk};
-ghost use Rattle.std.specs.Prelude.{length as length_of};
+ghost use Rattle.std.specs.Prelude.{◌≡◌, ◌+◌, ◌≤◌, length, take, drop, slice_range, IsTrue, IsOk, IfOk, IfSome};
 ghost use Rattle.byteorder.specs.Endian.{big_number};
 ghost use Rattle.media_store.specs.Failures.{counted};
-ghost use Rattle.media_tape.specs.Items.{front, most_bytes, found_before};
-ghost use Rattle.media_tape.specs.Tape.{filled};
+ghost use Rattle.media_tape.specs.Items.{front, most_bytes};
 
 use byteorder::{BigEndian, ByteOrder};
 use media_store::{Store, StoreFault};
@@ -62,58 +60,4 @@ pub(crate) fn item_at<S: Store>(
     }
     let again = number_at(store, place + 4 + u64::from(length))?;
     Ok(if again == length { Some(length) } else { None })
-}
-
-/// The length of the item that ends at a place, the last of so many items.
-pub(crate) fn item_before<S: Store>(
-    store: &mut S,
-    position: u64,
-    place: u64,
-) -> Result<Option<u32>, StoreFault>
-    requires some { 0 < position }
-    requires few { 8 * position ≤ place }
-    ensures found { IfOk result (λ found. IsTrue (S.Store.honest store.new)
-        → found ≡ found_before position place (S.Store.content store.old)) }
-    ensures within { IfOk result (λ found. IfSome found (λ n. n + 8 * position ≤ place)) }
-    ensures back { IsTrue (S.Store.honest store.new) → IsTrue (S.Store.honest store.old) }
-    ensures content { S.Store.content store.new ≡ S.Store.content store.old }
-    ensures synced { S.Store.synced store.new ≡ S.Store.synced store.old }
-    ensures failures { S.Store.failures store.new ≡ counted result (S.Store.failures store.old) }
-    ensures steady { S.Store.steady store.new ≡ S.Store.steady store.old }
-    ensures reach { S.Store.reach store.new ≡ S.Store.reach store.old }
-    ensures succeeds { IsTrue (S.Store.steady store.old) → place ≤ length (S.Store.content store.old)
-        → IsOk result × (S.Store.honest store.new ≡ S.Store.honest store.old) }
-{
-    let length = number_at(store, place - 4)?;
-    Ok(if place - LENGTHS * position < u64::from(length) {
-        None
-    } else {
-        Some(length)
-    })
-}
-
-/// Puts as many bytes of the item at a place into a buffer as there is room for.
-pub(crate) fn data_at<S: Store>(
-    store: &mut S,
-    place: u64,
-    length: u32,
-    bytes: &mut [u8],
-) -> Result<(), StoreFault>
-    requires { place + length + 8 < 2 ^ 64 }
-    ensures given { OnOk result (IsTrue (S.Store.honest store.new) → place + length + 8 ≤ length_of (S.Store.content store.old)
-        → bytes.new ≡ filled (slice_range (S.Store.content store.old) (place + 4) (place + 4 + length)) bytes.old) }
-    ensures back { IsTrue (S.Store.honest store.new) → IsTrue (S.Store.honest store.old) }
-    ensures content { S.Store.content store.new ≡ S.Store.content store.old }
-    ensures synced { S.Store.synced store.new ≡ S.Store.synced store.old }
-    ensures failures { S.Store.failures store.new ≡ counted result (S.Store.failures store.old) }
-    ensures steady { S.Store.steady store.new ≡ S.Store.steady store.old }
-    ensures reach { S.Store.reach store.new ≡ S.Store.reach store.old }
-    ensures succeeds { IsTrue (S.Store.steady store.old) → place + length + 8 ≤ length_of (S.Store.content store.old)
-        → IsOk result × (S.Store.honest store.new ≡ S.Store.honest store.old) }
-{
-    let given = bytes.len().min(length as usize);
-    if given == 0 {
-        return Ok(());
-    }
-    store.read_at(place + 4, &mut bytes[..given])
 }

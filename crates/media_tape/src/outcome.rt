@@ -1,7 +1,7 @@
 //! How calls on a tape come out, where its store did not fail.
 
 ghost use Rattle.std.specs.Prelude.{◌≡◌};
-ghost use Rattle.media_tape.specs.Tape.{length_told, passed_length};
+ghost use Rattle.media_tape.specs.Tape.{length_told};
 
 /// What a read passed.
 #[derive(Clone, Copy, Debug, PartialEq, Eq)]
@@ -13,18 +13,6 @@ pub enum Passed {
     Filemark,
     /// Nothing, since no item stands behind the position.
     EndOfData,
-}
-
-impl Passed {
-    /// The length of a record that was passed.
-    pub(crate) fn length(self) -> u32
-        ensures { result ≡ passed_length self }
-    {
-        match self {
-            Passed::Record(length) => length,
-            Passed::Nothing | Passed::Filemark | Passed::EndOfData => 0,
-        }
-    }
 }
 
 /// Whether items were written.

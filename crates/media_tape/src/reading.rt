@@ -1,17 +1,48 @@
 //! READ of a tape.
 
-ghost use Rattle.std.specs.Prelude.{◌≡◌, ◌+◌, ◌≤◌, ◌++◌, length, take, min, IsTrue, IsOk, IfOk, OnOk, OnErr};
+ghost use Rattle.std.specs.Prelude.{◌≡◌, ◌+◌, ◌≤◌, ◌++◌, length, take, slice_range, min, IsTrue, IsOk, IfOk, OnOk, OnErr};
 ghost use Rattle.media_store.specs.Failures.{counted, risen};
 ghost use Rattle.media_tape.specs.Items.{most_bytes};
 ghost use Rattle.media_tape.specs.Tape.{read_told, passed_length, first_data, tape_read};
 ghost use Rattle.media_tape.specs.declared.outcome.Passed.TheVariants as passed;
 
-use crate::item::MOST_BYTES;
-use crate::outcome::Passed;
+use crate::outcome::{Passed, passed_item};
+use crate::run::MARK_SIZE;
 use crate::tape::Tape;
 use bytes::BytesMut;
 use media_store::{Store, StoreFault};
 use out_of_memory::Memory;
+
+/// The bytes of a record stand behind its length.
+const LENGTH: u64 = 4;
+
+/// Reads so many bytes from an offset on, behind those of a buffer that has room for them.
+fn read_behind<S: Store>(
+    store: &mut S,
+    at: u64,
+    count: usize,
+    buffer: &mut BytesMut,
+) -> Result<(), StoreFault>
+    requires { count ≤ buffer.old.spare }
+    ensures read { OnOk result (IsTrue (S.Store.honest store.new) → at + count ≤ length (S.Store.content store.old)
+        → buffer.new.items ≡ buffer.old.items ++ slice_range (S.Store.content store.old) at (at + count)) }
+    ensures length { length buffer.new.items ≡ length buffer.old.items + count }
+    ensures back { IsTrue (S.Store.honest store.new) → IsTrue (S.Store.honest store.old) }
+    ensures content { S.Store.content store.new ≡ S.Store.content store.old }
+    ensures synced { S.Store.synced store.new ≡ S.Store.synced store.old }
+    ensures failures { S.Store.failures store.new ≡ counted result (S.Store.failures store.old) }
+    ensures steady { S.Store.steady store.new ≡ S.Store.steady store.old }
+    ensures reach { S.Store.reach store.new ≡ S.Store.reach store.old }
+    ensures succeeds { IsTrue (S.Store.steady store.old) → at + count ≤ length (S.Store.content store.old)
+        → IsOk result × (S.Store.honest store.new ≡ S.Store.honest store.old) }
+{
+    if count == 0 {
+        return Ok(());
+    }
+    let front = buffer.len();
+    buffer.advance_mut(count);
+    store.read_at(at, &mut buffer.as_mut_slice()[front..])
+}
 
 impl<S: Store> Tape<S> {
     /// Passes the item behind the position, and puts as many bytes of a record as are asked for behind those
@@ -44,35 +75,22 @@ impl<S: Store> Tape<S> {
             → IsOk done × (self.new.honest ≡ self.old.honest)) }
         ensures err { OnErr result (self.new ≡ self.old) }
     {
-        let most = asked.min(MOST_BYTES);
-        buffer.reserve(most as usize + behind as usize)?;
-        Ok(self.read_within(most, buffer))
-    }
-
-    /// Reads behind the bytes of a buffer that has room for as many as are asked for.
-    fn read_within(&mut self, asked: u32, buffer: &mut BytesMut) -> Result<Passed, StoreFault>
-        requires few { asked ≤ most_bytes }
-        requires room { asked ≤ buffer.old.spare }
-        ensures passed { IfOk result (λ passed. IsTrue self.new.honest → passed ≡ read_told asked self.old) }
-        ensures nothing { IfOk result (λ told. told ≡ passed.Nothing → asked ≡ 0) }
-        ensures fits { IfOk result (λ passed. passed_length passed ≤ most_bytes) }
-        ensures given { OnOk result (IsTrue self.new.honest → buffer.new.items ≡ buffer.old.items ++ take asked (first_data self.old.after)) }
-        ensures length { IfOk result (λ passed. length buffer.new.items ≡ length buffer.old.items + min asked (passed_length passed)) }
-        ensures tape { OnOk result (IsTrue self.new.honest → self.new ≡ tape_read asked self.old) }
-        ensures failed { OnErr result (self.new ≡ record self.old { failures = risen self.old.failures; honest = self.new.honest }) }
-        ensures rest { self.new ≡ record self.old {
-          before = self.new.before;
-          after = self.new.after;
-          honest = self.new.honest;
-          failures = counted result self.old.failures;
-        } }
-        ensures back { IsTrue self.new.honest → IsTrue self.old.honest }
-        ensures succeeds { IsTrue self.old.steady → IsTrue self.old.honest → IsOk result × (self.new.honest ≡ self.old.honest) }
-    {
-        let front = buffer.len();
-        buffer.advance_mut(asked as usize);
-        let passed = self.read_into(&mut buffer.as_mut_slice()[front..])?;
-        buffer.truncate(front + asked.min(passed.length()) as usize);
-        Ok(passed)
+        if asked == 0 {
+            return Ok(Ok(Passed::Nothing));
+        }
+        if self.position == self.index.count() {
+            return Ok(Ok(Passed::EndOfData));
+        }
+        let length = self.index.size_at(self.position) - MARK_SIZE;
+        let given = asked.min(length) as usize;
+        buffer.reserve(given + behind as usize)?;
+        let place = self.index.place_of(self.position) + LENGTH;
+        match read_behind(&mut self.store, place, given, buffer) {
+            Ok(()) => {
+                self.position += 1;
+                Ok(Ok(passed_item(length)))
+            }
+            Err(fault) => Ok(Err(fault)),
+        }
     }
 }

@@ -1,165 +1,113 @@
 //! From item to item, over records or over filemarks (SSC-4 "SPACE (6)").
 
-ghost use Rattle.std.specs.Prelude.{◌≡◌, ◌+◌, ◌*◌, ◌≤◌, ◌<◌, length, take, drop, reverse, IsTrue, IsOk, IfOk};
-ghost use Rattle.media_store.specs.Failures.{counted};
-ghost use Rattle.media_tape.specs.Items.{items_of};
-ghost use Rattle.media_tape.specs.Tape.{Lies};
-ghost use Rattle.media_tape.specs.Space.{Ends, left_behind, spaced_to, way, way_from};
+ghost use Rattle.std.specs.Prelude.{◌≡◌, ℕ, ◌+◌, ◌-◌, ◌≤◌, ◌<◌, List, ◌++◌, replicate, take, drop, reverse};
+ghost use Rattle.media_tape.specs.Runs.{AreAllRuns, sizes_of};
+ghost use Rattle.media_tape.specs.SizeSpace.{size_way, through, IsWithin};
+ghost use Rattle.media_tape.specs.declared.outcome.Direction.{Direction as Toward};
 ghost use Rattle.media_tape.specs.declared.outcome.Direction.TheVariants.{Forward, Backward};
 
-use crate::item::{LENGTHS, item_at, item_before};
 use crate::outcome::{Direction, Over, Spaced};
-use crate::walk::Walked;
-use media_store::{Store, StoreFault};
+use crate::run::{MARK_SIZE, Run, first_of, run_of};
 
 /// Where spacing ended, and why.
-#[derive(Drop)]
+#[derive(Clone, Copy, Debug, PartialEq, Eq)]
 pub(crate) struct Ended {
-    pub at: Walked,
+    /// Behind so many items.
+    pub number: u64,
     pub told: Spaced,
 }
 
-/// What is left of a count behind an item of this length, unless spacing ends there.
-fn left_of(over: Over, left: u32, length: u32) -> Option<u32>
-    requires { 0 < left }
-    ensures { result ≡ left_behind over left length }
+/// How far spacing goes within items of one size.
+pub(crate) enum Within {
+    /// Over all of them, and so much is left of the count.
+    All(u32),
+    /// Over so many, and there it ends.
+    Part(u64, Spaced),
+}
+
+/// How far spacing goes within so many items of one size.
+fn within_run(over: Over, left: u32, size: u32, many: u64) -> Within
+    requires left { 0 < left }
+    requires some { 0 < many }
+    ensures way { (direction : Toward) (sizes : List ℕ)
+        → size_way direction over left (replicate many size ++ sizes) ≡ through result direction over many sizes }
+    ensures within { IsWithin many result }
 {
     match over {
-        Over::Records if length == 0 => None,
-        Over::Filemarks if length > 0 => Some(left),
-        _ => Some(left - 1),
+        Over::Records if size == MARK_SIZE => Within::Part(1, Spaced::Filemark(left)),
+        Over::Filemarks if size != MARK_SIZE => Within::All(left),
+        _ if u64::from(left) <= many => Within::Part(u64::from(left), Spaced::Whole),
+        _ => Within::All(left - many as u32),
     }
 }
 
-/// Spaces over items, behind a place or before it.
-pub(crate) fn space_toward<S: Store>(
-    store: &mut S,
-    toward: Direction,
-    over: Over,
-    count: u32,
-    from: Walked,
-    all: Walked,
-) -> Result<Ended, StoreFault>
-    requires before { from.count ≤ all.count }
-    requires few { 8 * from.count ≤ from.place }
-    requires below { from.place ≤ all.place }
-    ensures ended { IfOk result (λ ended. IsTrue (S.Store.honest store.new) → Lies (S.Store.content store.old) from.count from.place all.count all.place
-        → Lies (S.Store.content store.old) ended.at.count ended.at.place all.count all.place
-        × (ended.at.count ≡ spaced_to toward from.count (way_from toward over count from.count (items_of (take all.place (S.Store.content store.old)))).passed)
-        × (ended.told ≡ (way_from toward over count from.count (items_of (take all.place (S.Store.content store.old)))).told)) }
-    ensures shown { IfOk result (λ ended. Ends toward over count ended.told) }
-    ensures within { IfOk result (λ ended. (ended.at.place ≤ all.place) × (8 * ended.at.count ≤ ended.at.place) × (ended.at.count ≤ all.count)) }
-    ensures back { IsTrue (S.Store.honest store.new) → IsTrue (S.Store.honest store.old) }
-    ensures content { S.Store.content store.new ≡ S.Store.content store.old }
-    ensures synced { S.Store.synced store.new ≡ S.Store.synced store.old }
-    ensures failures { S.Store.failures store.new ≡ counted result (S.Store.failures store.old) }
-    ensures steady { S.Store.steady store.new ≡ S.Store.steady store.old }
-    ensures reach { S.Store.reach store.new ≡ S.Store.reach store.old }
-    ensures succeeds { IsTrue (S.Store.steady store.old) → all.place ≤ length (S.Store.content store.old)
-        → IsOk result × (S.Store.honest store.new ≡ S.Store.honest store.old) }
-{
-    match toward {
-        Direction::Forward => space_on(store, over, count, from, all),
-        Direction::Backward => space_back(store, over, count, from, all),
-    }
-}
-
-/// Spaces over the items behind a place.
-pub(crate) fn space_on<S: Store>(
-    store: &mut S,
-    over: Over,
-    count: u32,
-    from: Walked,
-    all: Walked,
-) -> Result<Ended, StoreFault>
-    requires before { from.count ≤ all.count }
-    requires few { 8 * from.count ≤ from.place }
-    requires below { from.place ≤ all.place }
-    ensures ended { IfOk result (λ ended. IsTrue (S.Store.honest store.new) → Lies (S.Store.content store.old) from.count from.place all.count all.place
-        → Lies (S.Store.content store.old) ended.at.count ended.at.place all.count all.place
-        × (ended.at.count ≡ from.count + (way Forward over count (drop from.count (items_of (take all.place (S.Store.content store.old))))).passed)
-        × (ended.told ≡ (way Forward over count (drop from.count (items_of (take all.place (S.Store.content store.old))))).told)) }
-    ensures shown { IfOk result (λ ended. Ends Forward over count ended.told) }
-    ensures within { IfOk result (λ ended. (ended.at.place ≤ all.place) × (8 * ended.at.count ≤ ended.at.place) × (ended.at.count ≤ all.count)) }
-    ensures back { IsTrue (S.Store.honest store.new) → IsTrue (S.Store.honest store.old) }
-    ensures content { S.Store.content store.new ≡ S.Store.content store.old }
-    ensures synced { S.Store.synced store.new ≡ S.Store.synced store.old }
-    ensures failures { S.Store.failures store.new ≡ counted result (S.Store.failures store.old) }
-    ensures steady { S.Store.steady store.new ≡ S.Store.steady store.old }
-    ensures reach { S.Store.reach store.new ≡ S.Store.reach store.old }
-    ensures succeeds { IsTrue (S.Store.steady store.old) → all.place ≤ length (S.Store.content store.old)
-        → IsOk result × (S.Store.honest store.new ≡ S.Store.honest store.old) }
+/// Spaces over the items behind a position.
+pub(crate) fn space_on(runs: &[Run], all: u64, over: Over, from: u64, count: u32) -> Ended
+    requires runs { AreAllRuns all runs.now }
+    requires within { from ≤ all }
+    ensures from { from ≤ result.number }
+    ensures within { result.number ≤ all }
+    ensures way { size_way Forward over count (drop from (sizes_of all runs.now)) ≡ record { passed = result.number - from; told = result.told } }
 {
     let mut at = from;
     let mut left = count;
-    while left > 0 {
-        if at.count == all.count {
-            let told = Spaced::EndOfData(left);
-            return Ok(Ended { at, told });
-        }
-        let Some(length) = item_at(store, at.place, all.place)? else {
-            // A store that is honest has an item here.
-            let told = Spaced::EndOfData(left);
-            return Ok(Ended { at, told });
-        };
-        at.count += 1;
-        at.place += u64::from(length) + LENGTHS;
-        let Some(rest) = left_of(over, left, length) else {
-            let told = Spaced::Filemark(left);
-            return Ok(Ended { at, told });
-        };
-        left = rest;
+    if count == 0 {
+        let told = Spaced::Whole;
+        return Ended { number: at, told };
     }
-    let told = Spaced::Whole;
-    Ok(Ended { at, told })
+    if from == all {
+        let told = Spaced::EndOfData(left);
+        return Ended { number: at, told };
+    }
+    for i in run_of(runs, all, from)..runs.len() {
+        let next = first_of(runs, all, i + 1);
+        match within_run(over, left, runs[i].size, next - at) {
+            Within::All(rest) => {
+                at = next;
+                left = rest;
+            }
+            Within::Part(passed, told) => {
+                let number = at + passed;
+                return Ended { number, told };
+            }
+        }
+    }
+    let told = Spaced::EndOfData(left);
+    Ended { number: at, told }
 }
 
-/// Spaces over the items before a place, the last first.
-pub(crate) fn space_back<S: Store>(
-    store: &mut S,
-    over: Over,
-    count: u32,
-    from: Walked,
-    all: Walked,
-) -> Result<Ended, StoreFault>
-    requires before { from.count ≤ all.count }
-    requires few { 8 * from.count ≤ from.place }
-    requires below { from.place ≤ all.place }
-    ensures ended { IfOk result (λ ended. IsTrue (S.Store.honest store.new) → Lies (S.Store.content store.old) from.count from.place all.count all.place
-        → Lies (S.Store.content store.old) ended.at.count ended.at.place all.count all.place
-        × (ended.at.count + (way Backward over count (reverse (take from.count (items_of (take all.place (S.Store.content store.old)))))).passed ≡ from.count)
-        × (ended.told ≡ (way Backward over count (reverse (take from.count (items_of (take all.place (S.Store.content store.old)))))).told)) }
-    ensures shown { IfOk result (λ ended. Ends Backward over count ended.told) }
-    ensures within { IfOk result (λ ended. (ended.at.place ≤ all.place) × (8 * ended.at.count ≤ ended.at.place) × (ended.at.count ≤ all.count)) }
-    ensures back { IsTrue (S.Store.honest store.new) → IsTrue (S.Store.honest store.old) }
-    ensures content { S.Store.content store.new ≡ S.Store.content store.old }
-    ensures synced { S.Store.synced store.new ≡ S.Store.synced store.old }
-    ensures failures { S.Store.failures store.new ≡ counted result (S.Store.failures store.old) }
-    ensures steady { S.Store.steady store.new ≡ S.Store.steady store.old }
-    ensures reach { S.Store.reach store.new ≡ S.Store.reach store.old }
-    ensures succeeds { IsTrue (S.Store.steady store.old) → all.place ≤ length (S.Store.content store.old)
-        → IsOk result × (S.Store.honest store.new ≡ S.Store.honest store.old) }
+/// Spaces over the items before a position, the last first.
+pub(crate) fn space_back(runs: &[Run], all: u64, over: Over, from: u64, count: u32) -> Ended
+    requires runs { AreAllRuns all runs.now }
+    requires within { from ≤ all }
+    ensures within { result.number ≤ from }
+    ensures way { size_way Backward over count (reverse (take from (sizes_of all runs.now))) ≡ record { passed = from - result.number; told = result.told } }
 {
     let mut at = from;
     let mut left = count;
-    while left > 0 {
-        if at.count == 0 {
-            let told = Spaced::Beginning(left);
-            return Ok(Ended { at, told });
-        }
-        let Some(length) = item_before(store, at.count, at.place)? else {
-            // A store that is honest has an item here.
-            let told = Spaced::Beginning(left);
-            return Ok(Ended { at, told });
-        };
-        at.count -= 1;
-        at.place -= u64::from(length) + LENGTHS;
-        let Some(rest) = left_of(over, left, length) else {
-            let told = Spaced::Filemark(left);
-            return Ok(Ended { at, told });
-        };
-        left = rest;
+    if count == 0 {
+        let told = Spaced::Whole;
+        return Ended { number: at, told };
     }
-    let told = Spaced::Whole;
-    Ok(Ended { at, told })
+    if from == 0 {
+        let told = Spaced::Beginning(left);
+        return Ended { number: at, told };
+    }
+    let mut behind = run_of(runs, all, from - 1) + 1;
+    while behind > 0 {
+        let run = runs[behind - 1];
+        match within_run(over, left, run.size, at - run.first) {
+            Within::All(rest) => {
+                at = run.first;
+                left = rest;
+            }
+            Within::Part(passed, told) => {
+                let number = at - passed;
+                return Ended { number, told };
+            }
+        }
+        behind -= 1;
+    }
+    let told = Spaced::Beginning(left);
+    Ended { number: at, told }
 }

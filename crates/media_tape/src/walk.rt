@@ -1,68 +1,56 @@
 //! The items of a store, one after the other.
 
-ghost use Rattle.std.specs.Prelude.{◌≡◌, ◌*◌, ◌≤◌, length, take, IsTrue, IsOk, IfOk};
-ghost use Rattle.media_store.specs.Failures.{counted};
-ghost use Rattle.media_tape.specs.Items.{items_of, size_of};
+ghost use Rattle.std.specs.Prelude.{◌≡◌, ℕ, ◌≤◌, length, take, map, sum, IsTrue, IfOk, IfErr, OnOk};
+ghost use Rattle.media_tape.specs.Fault.{failures_after, Explains};
+ghost use Rattle.media_tape.specs.Items.{items_of, size, size_of};
+ghost use Rattle.media_tape.specs.declared.fault.TapeOpenFault.TheVariants.{OutOfMemory, Device};
 
-use crate::item::{LENGTHS, item_at};
+use crate::fault::TapeOpenFault;
+use crate::index::Index;
+use crate::item::item_at;
+use crate::run::MARK_SIZE;
 use media_store::{Store, StoreFault};
+use std::alloc::{AllocError, Global};
 
-/// How many items there are, and their size in bytes.
-#[derive(Clone, Copy)]
-pub(crate) struct Walked {
-    pub count: u64,
-    pub place: u64,
+impl From<StoreFault> for TapeOpenFault {
+    ghost from_gives = { λ _ fault. fault ≡ Device };
+
+    fn from(_fault: StoreFault) -> TapeOpenFault {
+        TapeOpenFault::Device
+    }
+}
+
+impl From<AllocError> for TapeOpenFault {
+    ghost from_gives = { λ _ fault. fault ≡ OutOfMemory };
+
+    fn from(_error: AllocError) -> TapeOpenFault {
+        TapeOpenFault::OutOfMemory
+    }
 }
 
 /// Goes over the items below an end, as far as whole ones stand there.
-pub(crate) fn walk<S: Store>(store: &mut S, end: u64) -> Result<Walked, StoreFault>
-    ensures count { IfOk result (λ walked. IsTrue (S.Store.honest store.new) → end ≤ length (S.Store.content store.old)
-        → walked.count ≡ length (items_of (take end (S.Store.content store.old)))) }
-    ensures place { IfOk result (λ walked. IsTrue (S.Store.honest store.new) → end ≤ length (S.Store.content store.old)
-        → walked.place ≡ size_of (items_of (take end (S.Store.content store.old)))) }
-    ensures within { IfOk result (λ walked. (walked.place ≤ end) × (8 * walked.count ≤ walked.place)) }
+pub(crate) fn walk<S: Store>(alloc: Global, store: &mut S, end: u64) -> Result<Index, TapeOpenFault>
+    ensures sizes { IfOk result (λ index. IsTrue (S.Store.honest store.new) → end ≤ length (S.Store.content store.old)
+        → index.sizes ≡ map size (items_of (take end (S.Store.content store.old)))) }
+    ensures place { IfOk result (λ index. IsTrue (S.Store.honest store.new) → end ≤ length (S.Store.content store.old)
+        → sum index.sizes ≡ size_of (items_of (take end (S.Store.content store.old)))) }
+    ensures within { IfOk result (λ index. sum index.sizes ≤ end) }
+    ensures why { IfErr result (λ fault. (capacity : ℕ) → Explains (S.Store.content store.old) capacity fault) }
     ensures back { IsTrue (S.Store.honest store.new) → IsTrue (S.Store.honest store.old) }
     ensures content { S.Store.content store.new ≡ S.Store.content store.old }
     ensures synced { S.Store.synced store.new ≡ S.Store.synced store.old }
-    ensures failures { S.Store.failures store.new ≡ counted result (S.Store.failures store.old) }
+    ensures failures { OnOk result (S.Store.failures store.new ≡ S.Store.failures store.old) }
+    ensures failed { IfErr result (λ fault. S.Store.failures store.new ≡ failures_after fault (S.Store.failures store.old)) }
     ensures steady { S.Store.steady store.new ≡ S.Store.steady store.old }
     ensures reach { S.Store.reach store.new ≡ S.Store.reach store.old }
-    ensures succeeds { IsTrue (S.Store.steady store.old) → end ≤ length (S.Store.content store.old)
-        → IsOk result × (S.Store.honest store.new ≡ S.Store.honest store.old) }
+    ensures stays { IsTrue (S.Store.steady store.old) → end ≤ length (S.Store.content store.old)
+        → S.Store.honest store.new ≡ S.Store.honest store.old }
+    ensures succeeds { IfErr result (λ fault. IsTrue (S.Store.steady store.old) → end ≤ length (S.Store.content store.old)
+        → fault ≡ OutOfMemory) }
 {
-    let mut count = 0;
-    let mut place = 0;
-    while let Some(length) = item_at(store, place, end)? {
-        place += u64::from(length) + LENGTHS;
-        count += 1;
+    let mut index = Index::new(alloc);
+    while let Some(length) = item_at(store, index.end(), end)? {
+        index.push(length + MARK_SIZE, 1)?;
     }
-    Ok(Walked { count, place })
-}
-
-/// Goes over so many items below an end.
-pub(crate) fn walk_to<S: Store>(store: &mut S, number: u64, end: u64) -> Result<Walked, StoreFault>
-    ensures place { IfOk result (λ walked. IsTrue (S.Store.honest store.new) → end ≤ length (S.Store.content store.old)
-        → number ≤ length (items_of (take end (S.Store.content store.old)))
-        → (walked.count ≡ number) × (size_of (take number (items_of (take end (S.Store.content store.old)))) ≡ walked.place)) }
-    ensures within { IfOk result (λ walked. (walked.place ≤ end) × (8 * walked.count ≤ walked.place) × (walked.count ≤ number)) }
-    ensures back { IsTrue (S.Store.honest store.new) → IsTrue (S.Store.honest store.old) }
-    ensures content { S.Store.content store.new ≡ S.Store.content store.old }
-    ensures synced { S.Store.synced store.new ≡ S.Store.synced store.old }
-    ensures failures { S.Store.failures store.new ≡ counted result (S.Store.failures store.old) }
-    ensures steady { S.Store.steady store.new ≡ S.Store.steady store.old }
-    ensures reach { S.Store.reach store.new ≡ S.Store.reach store.old }
-    ensures succeeds { IsTrue (S.Store.steady store.old) → end ≤ length (S.Store.content store.old)
-        → IsOk result × (S.Store.honest store.new ≡ S.Store.honest store.old) }
-{
-    let mut count = 0;
-    let mut place = 0;
-    while count < number {
-        let Some(length) = item_at(store, place, end)? else {
-            // A store that is honest has an item here.
-            return Ok(Walked { count, place });
-        };
-        place += u64::from(length) + LENGTHS;
-        count += 1;
-    }
-    Ok(Walked { count, place })
+    Ok(index)
 }

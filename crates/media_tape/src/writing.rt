@@ -1,15 +1,37 @@
 //! WRITE and WRITE FILEMARKS of a tape.
 
-ghost use Rattle.std.specs.Prelude.{◌≡◌, ◌≢◌, ◌+◌, ◌*◌, ◌≤◌, [], length, true, false, IsTrue, IsOk, IfOk, OnOk, OnErr};
+ghost use Rattle.std.specs.Prelude.{◌≡◌, ◌≢◌, ◌+◌, ◌*◌, ◌≤◌, [], length, nat_lt, true, false, if◌then◌else◌, ◌||◌, IsTrue, IsOk, IfOk, OnOk, OnErr};
 ghost use Rattle.media_store.specs.Failures.{counted, risen};
 ghost use Rattle.media_tape.specs.Items.{most_bytes, size_of};
-ghost use Rattle.media_tape.specs.Tape.{write_told, tape_written, written_synced, marks_told, marked_synced, tape_marked, lost};
+ghost use Rattle.media_tape.specs.Tape.{write_told, tape_written, written_synced, marks_told, marked_synced, tape_marked, lost, erased};
 ghost use Rattle.media_tape.specs.declared.outcome.Written.TheVariants as written;
 
+use crate::item::LENGTHS;
 use crate::outcome::Written;
+use crate::run::MARK_SIZE;
 use crate::tape::Tape;
+use crate::write::{spelled, write_item};
+use crate::zeros::write_filemarks;
 use media_store::{Store, StoreFault};
 use out_of_memory::Memory;
+
+/// What is told of items that were written up to this place.
+fn told(early_mark: u64, end: u64) -> Written
+    ensures { result ≡ (if nat_lt early_mark end then written.Early else written.Whole) }
+{
+    if early_mark < end {
+        Written::Early
+    } else {
+        Written::Whole
+    }
+}
+
+/// Whether something may stand behind a position among so many items.
+fn is_longer(is_torn: bool, position: u64, count: u64) -> bool
+    ensures { result ≡ (is_torn || nat_lt position count) }
+{
+    is_torn || position < count
+}
 
 impl<S: Store> Tape<S> {
     /// Writes a record in the place of all that stands behind the position (SSC-4 "WRITE (6)"). One of
@@ -36,7 +58,31 @@ impl<S: Store> Tape<S> {
         ensures succeeds { IfOk result (λ done. IsTrue self.old.steady → self.old.capacity ≤ self.old.reach → IsOk done) }
         ensures err { OnErr result (self.new ≡ self.old) }
     {
-        Ok(self.write_record(bytes))
+        if bytes.is_empty() {
+            return Ok(Ok(Written::Whole));
+        }
+        let size = bytes.len() as u32 + MARK_SIZE;
+        let place = self.index.place_of(self.position);
+        if self.capacity - place < u64::from(size) {
+            return Ok(Ok(Written::Refused));
+        }
+        let item = spelled(self.alloc, bytes)?;
+        self.index.reserve_one()?;
+        let is_longer = is_longer(self.is_torn, self.position, self.index.count());
+        // What stands behind the position is lost, also where a call fails.
+        self.index.truncate(self.position);
+        match write_item(&mut self.store, place, is_longer, item) {
+            Ok(()) => {
+                self.is_torn = false;
+                self.index.push_reserved(size, 1);
+                self.position = self.index.count();
+                Ok(Ok(told(self.early_mark, place + u64::from(size))))
+            }
+            Err(fault) => {
+                self.is_torn = true;
+                Ok(Err(fault))
+            }
+        }
     }
 
     /// Writes filemarks in the place of all that stands behind the position, and waits until all is on the
@@ -65,6 +111,63 @@ impl<S: Store> Tape<S> {
         ensures succeeds { IfOk result (λ done. IsTrue self.old.steady → self.old.capacity ≤ self.old.reach → IsOk done) }
         ensures err { OnErr result (self.new ≡ self.old) }
     {
-        Ok(self.write_marks(count))
+        if count == 0 {
+            return Ok(self.sync());
+        }
+        let many = u64::from(count);
+        let size = LENGTHS * many;
+        let place = self.index.place_of(self.position);
+        if self.capacity - place < size {
+            return Ok(Ok(Written::Refused));
+        }
+        self.index.reserve_one()?;
+        let is_longer = is_longer(self.is_torn, self.position, self.index.count());
+        // What stands behind the position is lost, also where a call fails.
+        self.index.truncate(self.position);
+        match write_filemarks(&mut self.store, place, is_longer, size) {
+            Ok(()) => {
+                self.is_torn = false;
+                self.index.push_reserved(MARK_SIZE, many);
+                self.position = self.index.count();
+                Ok(Ok(told(self.early_mark, place + size)))
+            }
+            Err(fault) => {
+                self.is_torn = true;
+                Ok(Err(fault))
+            }
+        }
+    }
+
+    /// Waits until all is on the medium.
+    fn sync(&mut self) -> Result<Written, StoreFault>
+        ensures whole { IfOk result (λ told. (told ≡ written.Whole) × (self.new ≡ record self.old { synced = true })) }
+        ensures failed { OnErr result (self.new ≡ record self.old { failures = risen self.old.failures }) }
+        ensures succeeds { IsTrue self.old.steady → IsOk result }
+    {
+        self.store.sync()?;
+        Ok(Written::Whole)
+    }
+
+    /// Removes all that stands behind the position (SSC-4 "ERASE (6)"). Where it fails, the items before
+    /// the position are left.
+    pub fn erase(&mut self) -> Result<(), StoreFault>
+        ensures tape { OnOk result (IsTrue self.old.honest → self.new ≡ erased self.old) }
+        ensures failed { OnErr result (IsTrue self.old.honest → self.new ≡ lost self.new.tail false self.old) }
+        ensures honest { self.new.honest ≡ self.old.honest }
+        ensures rest { self.new ≡ record self.old {
+          before = self.new.before;
+          after = self.new.after;
+          tail = self.new.tail;
+          synced = false;
+          failures = counted result self.old.failures;
+        } }
+        ensures succeeds { IsTrue self.old.steady → IsTrue self.old.honest → IsOk result }
+    {
+        let place = self.index.place_of(self.position);
+        self.index.truncate(self.position);
+        self.is_torn = true;
+        self.store.set_len(place)?;
+        self.is_torn = false;
+        Ok(())
     }
 }

@@ -1,129 +1,79 @@
-use Rattle.std.proofs.Common.{◌≡◌, ◌+◌, ◌-◌, ◌≤◌, ◌<◌, rules, length, take, arith, ◌∙◌}
-use Rattle.media_tape.proofs.Spacing.{Lies-is, is-Lies, back-next, back-mark, back-edge, back-whole, found-some, found-none}
-use Rattle.media_tape.proofs.Ends.{ends-next, ends-mark, ends-edge, ends-whole}
+use Rattle.std.proofs.Common.{◌≡◌, ◌∙◌, ◌+◌, ◌-◌, take, reverse, get_or, ap, arith}
+use Rattle.media_tape.specs.Runs.{first_at, sizes_of}
+use Rattle.media_tape.specs.SizeSpace.{size_way}
 use Rattle.media_tape.specs.declared.outcome.Direction.TheVariants.{Backward}
+use Rattle.media_tape.specs.declared.outcome.Spaced.TheVariants as spaced
+use Rattle.media_tape.proofs.Runs.{first_at-zero, no_run}
+use Rattle.media_tape.proofs.RunSpacing.{AtRun, at_before, before, on-run, on-next, on-edge}
 use Rattle.media_tape.proofs.space.space_back.Goals as goal
 
-pub loop-left-init : goal.loop-left-init
-loop-left-init g c =
-    record {
-      within = c.requires.below;
-      few = c.requires.few;
-      before = c.requires.before;
-      content = search rules;
-      synced = search rules;
-      failures = search rules;
-      steady = search rules;
-      reach = search rules;
-      back = λ honest. honest;
-      stays = λ steady long. search rules;
-      shown = λ told ends. ends;
-      is = λ honest lies.
-          record {
-            is = Lies-is (g.S.Store.content c.args.store.now) c.args.from.count c.args.from.place c.args.all.count c.args.all.place lies c.requires.before;
-            passed = search rules;
-            told = search rules;
-          };
-    }
+pub run_of-behind-requires-clause-first : goal.run_of-behind-requires-clause-first
+run_of-behind-requires-clause-first c = omega (arith, first_at-zero c.args.all c.args.runs.now c.requires.runs)
 
-pub loop-left-preserved : goal.loop-left-preserved
-loop-left-preserved g c =
-    let n = c.in-Some.length in
-    let content = g.S.Store.content c.args.store.now in
-    let at = c.loop-left.at in
-    let kept = c.loop-left.invariant in
-    let told = c.in_ok-length.ensures in
-    let within = rw c.in-Some.is at told.within in
-    let size : c.from.result ≡ n = c.from.ensures in
+here : (c : goal.After-struct_known-1) → AtRun c.args.all c.args.runs.now (c.loop-behind.behind - 1) c.loop-behind.at
+here c =
+    let l = c.loop-behind in
+    at_before c.args.all c.args.runs.now l.behind l.at c.requires.runs c.loop-behind-test.true l.invariant.within
+    (l.invariant.low c.loop-behind-test.true) l.invariant.high
+
+pub overflow_sub-at : goal.overflow_sub-at
+overflow_sub-at c = omega (arith, (here c).first, c.loop-behind.invariant.low c.loop-behind-test.true)
+
+pub within_run-requires-clause-some : goal.within_run-requires-clause-some
+within_run-requires-clause-some c = omega (arith, (here c).first, c.loop-behind.invariant.low c.loop-behind-test.true)
+
+pub loop-behind-preserved : goal.loop-behind-preserved
+loop-behind-preserved c =
+    let runs = c.args.runs.now in
+    let all = c.args.all in
+    let l = c.loop-behind in
+    let kept = l.invariant in
+    let low = kept.low c.loop-behind-test.true in
+    let that = at_before all runs l.behind l.at c.requires.runs c.loop-behind-test.true kept.within low kept.high in
+    let run = get_or runs (l.behind - 1) no_run in
+    let sizes = sizes_of all runs in
     record {
+      some = c.in-All.ensures.within;
+      from = omega (arith, that.first, low, kept.from);
+      low = λ more. before all runs l.behind c.requires.runs kept.within more that.first;
+      high = omega (arith, that.first);
       within = omega (arith, kept.within);
-      few = omega (arith, size, within, kept.few);
-      before = omega (arith, kept.before);
-      content = told.content ∙ kept.content;
-      synced = told.synced ∙ kept.synced;
-      failures = told.failures ∙ kept.failures;
-      steady = told.steady ∙ kept.steady;
-      reach = told.reach ∙ kept.reach;
-      back = λ honest. kept.back (told.back honest);
-      stays = λ steady long.
-          let within_store : at.place ≤ length content = omega (arith, long, kept.within) in
-          (told.succeeds (kept.steady ∙ steady) (rw kept.content within_store)).1 ∙ kept.stays steady long;
-      shown = λ told ends. kept.shown told (ends-next Backward c.args.over c.loop-left.left n c.in-Some-left_of.rest told c.loop-left-test.true
-          (rw c.in-Some-left_of.is at c.left_of.ensures) ends);
-      is = λ honest lies.
-          let found = rw (c.in-Some.is, kept.content) at (told.found honest) in
-          let rest = rw c.in-Some-left_of.is at c.left_of.ensures in
-          let more : 0 < at.count = omega (arith, c.if-at-eq0.false) in
-          let on = kept.is (told.back honest) lies in
-          rw size (back-next (take c.args.all.place content) c.args.over c.args.count c.args.from.count c.loop-left.left at.count at.place
-          n c.in-Some-left_of.rest on c.loop-left-test.true more
-          (found-some content at.count at.place c.args.all.place n lies.long more on.is found) rest);
+      on = on-next Backward c.args.over c.args.count (reverse (take c.args.from sizes)) (c.args.from - l.at) l.left run.size (l.at - run.first)
+          (reverse (take l.at sizes)) (reverse (take run.first sizes)) c.in-All.rest (c.args.from - run.first) kept.on that.is.back
+          (c.in-All.ensures.way Backward (reverse (take run.first sizes))) (omega (arith, that.first, low, kept.from));
     }
 
-pub returns-then-at-eq0-clause-ended : goal.returns-then-at-eq0-clause-ended
-returns-then-at-eq0-clause-ended g c honest lies =
-    let content = g.S.Store.content c.args.store.now in
-    let from = c.args.from in
+part_is : (c : goal.In-Part) → size_way Backward c.args.over c.args.count (reverse (take c.args.from (sizes_of c.args.all c.args.runs.now)))
+    ≡ record { passed = (c.args.from - c.loop-behind.at) + c.in-Part.passed; told = c.in-Part.told }
+part_is c =
+    let runs = c.args.runs.now in
     let all = c.args.all in
-    let at = c.loop-left.at in
-    let reached = back-edge (take all.place content) c.args.over c.args.count from.count c.loop-left.left at.count at.place
-    (c.loop-left.invariant.is honest lies) c.loop-left-test.true c.if-at-eq0.true in
-    (is-Lies content from.count from.place at.count at.place all.count all.place lies reached.is, reached.passed, reached.ended)
+    let l = c.loop-behind in
+    let kept = l.invariant in
+    let that = at_before all runs l.behind l.at c.requires.runs c.loop-behind-test.true kept.within (kept.low c.loop-behind-test.true) kept.high in
+    let run = get_or runs (l.behind - 1) no_run in
+    let sizes = sizes_of all runs in
+    on-run Backward c.args.over c.args.count (reverse (take c.args.from sizes)) (c.args.from - l.at) l.left run.size (l.at - run.first)
+    (reverse (take l.at sizes)) (reverse (take run.first sizes)) (record { passed = c.in-Part.passed; told = c.in-Part.told }) kept.on that.is.back
+    (c.in-Part.ensures.way Backward (reverse (take run.first sizes)))
 
-pub returns-in_default-clause-ended : goal.returns-in_default-clause-ended
-returns-in_default-clause-ended g c honest lies =
-    let content = g.S.Store.content c.args.store.now in
-    let at = c.loop-left.at in
-    let kept = c.loop-left.invariant in
-    let told = c.in_ok-length.ensures in
-    let found = rw (c.in_default.is, kept.content) at (told.found honest) in
-    let more : 0 < at.count = omega (arith, c.if-at-eq0.false) in
-    absurd (found-none content at.count at.place c.args.all.place lies.long more (kept.is (told.back honest) lies).is found)
-
-pub returns-in_default-left_of-clause-ended : goal.returns-in_default-left_of-clause-ended
-returns-in_default-left_of-clause-ended g c honest lies =
-    let n = c.in-Some.length in
-    let content = g.S.Store.content c.args.store.now in
-    let from = c.args.from in
+ended : (c : goal.After-loop-behind) → size_way Backward c.args.over c.args.count (reverse (take c.args.from (sizes_of c.args.all c.args.runs.now)))
+    ≡ record { passed = c.args.from - c.loop-behind.at; told = spaced.Beginning c.loop-behind.left }
+ended c =
+    let runs = c.args.runs.now in
     let all = c.args.all in
-    let at = c.loop-left.at in
-    let kept = c.loop-left.invariant in
-    let told = c.in_ok-length.ensures in
-    let size : c.from.result ≡ n = c.from.ensures in
-    let found = rw (c.in-Some.is, kept.content) at (told.found honest) in
-    let none = rw c.in_default-left_of.is at c.left_of.ensures in
-    let more : 0 < at.count = omega (arith, c.if-at-eq0.false) in
-    let on = kept.is (told.back honest) lies in
-    let reached = back-mark (take all.place content) c.args.over c.args.count from.count c.loop-left.left at.count at.place
-    n on c.loop-left-test.true more (found-some content at.count at.place all.place n lies.long more on.is found) none in
-    (rw size (is-Lies content from.count from.place (at.count - 1) (at.place - (n + 8)) all.count all.place lies reached.is), reached.passed, reached.ended)
+    let l = c.loop-behind in
+    let kept = l.invariant in
+    let sizes = sizes_of all runs in
+    let start : l.behind ≡ 0 = omega (arith, c.loop-behind-test.false) in
+    let none : l.at ≡ 0 = omega (arith, kept.high, ap (first_at all runs) start, first_at-zero all runs c.requires.runs) in
+    on-edge Backward c.args.over c.args.count (reverse (take c.args.from sizes)) (c.args.from - l.at) l.left (reverse (take l.at sizes)) kept.on
+    (ap (λ n. reverse (take n sizes)) none) kept.some
 
-pub returns-clause-ended : goal.returns-clause-ended
-returns-clause-ended g c honest lies =
-    let content = g.S.Store.content c.args.store.now in
-    let from = c.args.from in
-    let all = c.args.all in
-    let at = c.loop-left.at in
-    let on = c.loop-left.invariant.is honest lies in
-    let reached = back-whole (take all.place content) c.args.over c.args.count from.count c.loop-left.left at.count at.place
-    on (omega (arith, c.loop-left-test.false)) in
-    (is-Lies content from.count from.place at.count at.place all.count all.place lies reached.is, reached.passed, reached.ended)
+pub returns-in-Part-clause-way : goal.returns-in-Part-clause-way
+returns-in-Part-clause-way c =
+    let kept = c.loop-behind.invariant in
+    part_is c ∙ ap (λ n. record { passed = n; told = c.in-Part.told }) (omega (arith, kept.from, c.in-Part.ensures.within))
 
--- ---- what it tells is what it tells of some items, also where the store lies
-
-pub returns-then-at-eq0-clause-shown : goal.returns-then-at-eq0-clause-shown
-returns-then-at-eq0-clause-shown g c =
-    c.loop-left.invariant.shown _ (ends-edge Backward c.args.over c.loop-left.left c.loop-left-test.true)
-
-pub returns-in_default-clause-shown : goal.returns-in_default-clause-shown
-returns-in_default-clause-shown g c =
-    c.loop-left.invariant.shown _ (ends-edge Backward c.args.over c.loop-left.left c.loop-left-test.true)
-
-pub returns-in_default-left_of-clause-shown : goal.returns-in_default-left_of-clause-shown
-returns-in_default-left_of-clause-shown g c =
-    c.loop-left.invariant.shown _ (ends-mark Backward c.args.over c.loop-left.left c.in-Some.length c.loop-left-test.true
-    (rw c.in_default-left_of.is at c.left_of.ensures))
-
-pub returns-clause-shown : goal.returns-clause-shown
-returns-clause-shown g c =
-    c.loop-left.invariant.shown _ (ends-whole Backward c.args.over c.loop-left.left (omega (arith, c.loop-left-test.false)))
+pub returns-clause-way : goal.returns-clause-way
+returns-clause-way c = ended c

@@ -1,45 +1,47 @@
-use Rattle.std.proofs.Common.{◌≡◌, take, arith, ◌∙◌}
-use Rattle.media_tape.proofs.Positions.{IsPlace-next, IsPlace-last, IsPlace-all}
+use Rattle.std.proofs.Common.{◌+◌, take, sum, ap, ◌∙◌, arith}
+use Rattle.std.specs.Prelude.{replicate}
+use Rattle.media_tape.specs.Items.{items_of}
+use Rattle.media_tape.proofs.Runs.{sum-append, sum-replicate}
+use Rattle.media_tape.proofs.Sizes.{sum-sizes}
+use Rattle.media_tape.proofs.Walks.{walked-next, walked-last}
 use Rattle.media_tape.proofs.walk.walk.Goals as goal
 
-pub loop-length-preserved : goal.loop-length-preserved
-loop-length-preserved g c =
+pub loop-index-preserved : goal.loop-index-preserved
+loop-index-preserved g c =
     let n = c.in-Some.length in
     let content = g.S.Store.content c.args.store.now in
-    let kept = c.loop-length.invariant in
+    let sizes = c.loop-index.index.sizes in
+    let kept = c.loop-index.invariant in
     let told = c.in_ok-length.ensures in
     let within = rw c.in-Some.is at told.within in
-    let size : c.from.result ≡ n = c.from.ensures in
+    let grown = c.in_ok-push.ensures.ok in
     record {
-      within = omega (arith, size, within.0);
-      few = omega (arith, kept.few);
+      within = rw grown (omega (arith, sum-append sizes (replicate 1 (n + 8)), sum-replicate 1 (n + 8), within.0, c.end.ensures.end));
       content = told.content ∙ kept.content;
       synced = told.synced ∙ kept.synced;
       failures = told.failures ∙ kept.failures;
       steady = told.steady ∙ kept.steady;
       reach = told.reach ∙ kept.reach;
       back = λ honest. kept.back (told.back honest);
-      stays = λ steady long.
-          (told.succeeds (kept.steady ∙ steady) (rw kept.content long)).1 ∙ kept.stays steady long;
+      stays = λ steady long. (told.succeeds (kept.steady ∙ steady) (rw kept.content long)).1 ∙ kept.stays steady long;
       is = λ honest long.
-          let some = rw (c.in-Some.is, kept.content) at (told.found honest (rw kept.content long)) in
-          rw size (IsPlace-next (take c.args.end content) c.loop-length.count c.loop-length.place n (kept.is (told.back honest) long) some);
+          let some = rw (c.in-Some.is, kept.content, c.end.ensures.end) at (told.found honest (rw kept.content long)) in
+          rw grown (walked-next (take c.args.end content) sizes n (kept.is (told.back honest) long) some);
     }
 
-pub returns-clause-count : goal.returns-clause-count
-returns-clause-count g c honest long =
+pub returns-clause-sizes : goal.returns-clause-sizes
+returns-clause-sizes g c honest long =
     let content = g.S.Store.content c.args.store.now in
-    let kept = c.loop-length.invariant in
+    let kept = c.loop-index.invariant in
     let told = c.in_ok-length.ensures in
-    let none = rw (c.in_default.is, kept.content) at (told.found honest (rw kept.content long)) in
-    IsPlace-last (take c.args.end content) c.loop-length.count c.loop-length.place (kept.is (told.back honest) long) none
+    let none = rw (c.in_default.is, kept.content, c.end.ensures.end) at (told.found honest (rw kept.content long)) in
+    walked-last (take c.args.end content) c.loop-index.index.sizes (kept.is (told.back honest) long) none
 
 pub returns-clause-place : goal.returns-clause-place
 returns-clause-place g c honest long =
-    let content = g.S.Store.content c.args.store.now in
-    let kept = c.loop-length.invariant in
+    let items = items_of (take c.args.end (g.S.Store.content c.args.store.now)) in
+    let kept = c.loop-index.invariant in
     let told = c.in_ok-length.ensures in
-    let is = kept.is (told.back honest) long in
-    let none = rw (c.in_default.is, kept.content) at (told.found honest (rw kept.content long)) in
-    IsPlace-all (take c.args.end content) c.loop-length.count c.loop-length.place is
-    (IsPlace-last (take c.args.end content) c.loop-length.count c.loop-length.place is none)
+    let none = rw (c.in_default.is, kept.content, c.end.ensures.end) at (told.found honest (rw kept.content long)) in
+    ap sum (walked-last (take c.args.end (g.S.Store.content c.args.store.now)) c.loop-index.index.sizes (kept.is (told.back honest) long) none)
+    ∙ sum-sizes items

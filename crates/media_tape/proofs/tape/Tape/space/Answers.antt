@@ -1,0 +1,38 @@
+use Rattle.std.proofs.Common.{take, drop, map, sum, sym, ap, ◌∙◌, arith}
+use Rattle.media_tape.specs.Items.{items_of}
+use Rattle.media_tape.specs.Tape.{TapeState}
+use Rattle.media_tape.specs.Space.{Way}
+use Rattle.media_tape.specs.SizeSpace.{sizes_ahead}
+use Rattle.media_tape.proofs.Items.{items_of-have}
+use Rattle.media_tape.proofs.Positions.{lies}
+use Rattle.media_tape.proofs.Sizes.{ways_ahead, spaced_is, ways_sized, item_sized}
+use Rattle.media_tape.proofs.tape.Tape.space.Goals as goal
+
+pub returns-clause-told : goal.returns-clause-told
+returns-clause-told g c honest =
+    let old = c.self.inside in
+    let tape = c.args.self.now in
+    let bytes = take (sum old.index.sizes) (g.S.Store.content old.store) in
+    let are = c.self.invariant.are_in honest in
+    c.space-ended.ensures.told ∙ ap (λ (w : Way). w.told) (ways_ahead c.args.toward c.args.over c.args.count old.position old.index.sizes tape (items_of bytes)
+    (ap (λ (t : TapeState). t.before) (sym c.self.view_is)) (ap (λ (t : TapeState). t.after) (sym c.self.view_is)) are.sized (items_of-have bytes))
+
+pub returns-clause-shown : goal.returns-clause-shown
+returns-clause-shown g c =
+    let on = sizes_ahead c.args.toward c.self.inside.position c.self.inside.index.sizes in
+    (map item_sized on, c.space-ended.ensures.told ∙ ap (λ (w : Way). w.told) (ways_sized c.args.toward c.args.over c.args.count on))
+
+pub returns-clause-tape : goal.returns-clause-tape
+returns-clause-tape g c honest =
+    let old = c.self.inside in
+    let tape = c.args.self.now in
+    let number = c.space-ended.result.number in
+    let content = g.S.Store.content old.store in
+    let items = items_of (take (sum old.index.sizes) content) in
+    let are = c.self.invariant.are_in honest in
+    ap (λ (t : TapeState). record t { before = take number items; after = drop number items }) c.self.view_is
+    ∙ spaced_is c.args.toward c.args.over c.args.count old.position number old.index.sizes tape items
+    (ap (λ (t : TapeState). t.before) (sym c.self.view_is)) (ap (λ (t : TapeState). t.after) (sym c.self.view_is)) are.sized
+    (items_of-have (take (sum old.index.sizes) content))
+    (omega (arith, c.self.invariant.within, (lies content old.index.sizes old.is_torn old.position are).as_many))
+    c.space-ended.ensures.number

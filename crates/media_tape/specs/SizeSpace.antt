@@ -1,0 +1,43 @@
+-- SPACE (6) (SSC-4): from item to item, over records or over filemarks, behind the position or before it.
+use Rattle.std.specs.Prelude.{ℕ, zero, suc, ◌+◌, ◌≤◌, ◌<◌, ◌==◌, List, [], ◌∷◌, take, drop, reverse, if◌then◌else◌}
+use Rattle.media_tape.specs.Index.{mark_size}
+use Rattle.media_tape.specs.Space.{Way, edge}
+use Rattle.media_tape.specs.declared.outcome.Over.{Over}
+use Rattle.media_tape.specs.declared.outcome.Over.TheVariants.{Records, Filemarks}
+use Rattle.media_tape.specs.declared.outcome.Direction.{Direction}
+use Rattle.media_tape.specs.declared.outcome.Direction.TheVariants.{Forward, Backward}
+use Rattle.media_tape.specs.declared.outcome.Spaced.TheVariants as spaced
+use Rattle.media_tape.specs.declared.space.Within.{Within}
+use Rattle.media_tape.specs.declared.space.Within.TheVariants as within
+
+abbrev pub further : ℕ → Way → Way
+further many size_way = record { passed = many + size_way.passed; told = size_way.told }
+
+-- SSC-4: spacing over records ends behind a filemark, which is not counted; spacing over filemarks passes records
+abbrev pub size_way : Direction → Over → ℕ → List ℕ → Way
+size_way direction over zero sizes = record { passed = 0; told = spaced.Whole }
+size_way direction over (suc left) [] = record { passed = 0; told = edge direction (suc left) }
+size_way direction Records (suc left) (size ∷ sizes) =
+    if size == mark_size then record { passed = 1; told = spaced.Filemark (suc left) }
+    else further 1 (size_way direction Records left sizes)
+size_way direction Filemarks (suc left) (size ∷ sizes) =
+    if size == mark_size then further 1 (size_way direction Filemarks left sizes)
+    else further 1 (size_way direction Filemarks (suc left) sizes)
+
+-- the items on the size_way from a number, the nearest first
+abbrev pub sizes_ahead : Direction → ℕ → List ℕ → List ℕ
+sizes_ahead Forward from sizes = drop from sizes
+sizes_ahead Backward from sizes = reverse (take from sizes)
+
+abbrev pub size_way_from : Direction → Over → ℕ → ℕ → List ℕ → Way
+size_way_from direction over count from sizes = size_way direction over count (sizes_ahead direction from sizes)
+
+-- own: the size_way through a run and then through these items
+abbrev pub through : Within → Direction → Over → ℕ → List ℕ → Way
+through (within.All left) direction over many sizes = further many (size_way direction over left sizes)
+through (within.Part passed told) direction over many sizes = record { passed = passed; told = told }
+
+-- own: something is left behind a run that is passed, and no more than it has is passed of one that is not
+abbrev pub IsWithin : ℕ → Within → Type 0
+IsWithin many (within.All left) = 0 < left
+IsWithin many (within.Part passed told) = passed ≤ many
