@@ -4,7 +4,7 @@ use Rattle.std.specs.Prelude.{filter_map, is_some, All}
 use Rattle.std.specs.List.{range_with_len, prefix_len}
 use Rattle.std.proofs.lemmas.Bool.{ne_eqb, eq-eqb, false_from_ne_true}
 use Rattle.std.proofs.lemmas.List.{append-nil, map-append}
-use Rattle.std.proofs.lemmas.List.Elements.{filter-append, filter_map-append, All-push, All-nil, All-append, All-filter}
+use Rattle.std.proofs.lemmas.List.Elements.{filter-append, filter_map-append, All-push, All-append, All-filter}
 use Rattle.std.proofs.lemmas.List.FromFn.{map-range_with_len_more}
 use Rattle.iscsi_pdu.specs.Header.{is_immediate, initiator_task_tag}
 use Rattle.iscsi_pdu.specs.Frames.{Frame}
@@ -16,7 +16,7 @@ use Rattle.iscsi_order.specs.Serial.{distance}
 use Rattle.iscsi_order.proofs.Front.{front, front_come, front_missing}
 use Rattle.iscsi_order.proofs.Held.{prefix_range}
 use Rattle.iscsi_order.proofs.Standing.{front_more, front_within, lawful_with as window_with}
-use Rattle.iscsi_session.specs.Requests.{Request, DataOut, SentR2t, Drain, pending, unfinished, is_function, functions, Past, request_at, frame_of, is_in, left, is_command, commands, others, counted, over, numbered, place_of, taken, taken_at, numbers, due, queue, frames_of, begun}
+use Rattle.iscsi_session.specs.Requests.{Request, pending, unfinished, is_function, functions, Past, request_at, frame_of, is_in, left, is_command, commands, others, counted, over, numbered, place_of, taken, taken_at, numbers, due, queue, frames_of, begun}
 use Rattle.iscsi_session.specs.State.{TaskLists, functions_of, standing, frame_numbered, tasks_with, tasks_of, AreDistinct, IsDelivered, IsLawful, holding, takes_next, takes, takes_all}
 use Rattle.iscsi_session.proofs.Left.{filter_cong, map_cong, left_append, left_all, in_at, in_front, in_left, in_filter, not_by, below_of, apart_behind, distinct_push}
 use Rattle.iscsi_session.proofs.Kept.{joined, Below, tags_with}

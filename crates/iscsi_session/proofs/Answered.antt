@@ -62,10 +62,6 @@ command_kind frame e = ap opcode_of (eqb-true (opcode_number frame.header) 0x01 
 pub function_kind : (frame : Frame) → is_function frame ≡ true → kind_of frame ≡ opcodes.TaskManagement
 function_kind frame e = ap opcode_of (eqb-true (opcode_number frame.header) 0x02 e)
 
--- a request of another kind
-pub no_function_kind : (frame : Frame) {o : Opcode} → kind_of frame ≡ o → (opcodes.TaskManagement ≡ o → ⊥) → is_function frame ≡ false
-no_function_kind frame is other = false_from_ne_true (is_function frame) (λ h. absurd (other (sym (function_kind frame h) ∙ is)))
-
 pub ended_plain : (luns : List ℕ) (k : ℕ) (past : Past) → is_function (frame_of past.came k) ≡ false → ended luns k past ≡ moved k past
 ended_plain luns k past e = rw e refl
 
@@ -554,10 +550,7 @@ done_here past state k rest frame tasks transfers s is some same gone =
           ((parts past state s).exchange_is ∙ sym (exchange_finished k past)),
     )
 
-logout_by : (a b c : Bool) (w x y z : Answer) → a ≡ false → b ≡ false → c ≡ false → cond a w (cond b x (cond c y z)) ≡ z
-logout_by a b c w x y z p q r = rw (p, q, r) refl
-
 pub logout_refused : (numbers_now : Stamp) (params : Params) (frame : Frame) (given : Answer) → closes params frame ≡ false
     → eqb (logout_reason frame.header) 1 ≡ false → eqb (logout_reason frame.header) 2 ≡ false
     → given ≡ reject reasons.InvalidField numbers_now frame → given ≡ logout_answer numbers_now params frame
-logout_refused numbers_now params frame given open_still no_cid no_recovery is = grind (arith, logout_by)
+logout_refused numbers_now params frame given open_still no_cid no_recovery is = grind arith

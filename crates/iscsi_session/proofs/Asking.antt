@@ -1,6 +1,6 @@
 -- An R2T is sent, and a command of the queue is done where its data is whole.
 use Rattle.std.proofs.Common.{◌≡◌, ◌≢◌, ◌==◌, ℕ, ◌<◌, List, [], ◌∷◌, ◌++◌, length, map, set, true, false, Option, Some, None, refl, sym, ap, subst, ◌∙◌, arith, append-nil}
-use Rattle.std.specs.Prelude.{filter, fold, find, is_some, option_map, slice_get}
+use Rattle.std.specs.Prelude.{filter, fold, find, is_some, slice_get}
 use Rattle.std.proofs.lemmas.Bool.{eq-eqb, ne_eqb}
 use Rattle.std.proofs.lemmas.List.{length-append}
 use Rattle.std.proofs.lemmas.List.Elements.{All-push}
@@ -10,7 +10,7 @@ use Rattle.iscsi_transfer.specs.Task.{TaskState, remembered as task_of}
 use Rattle.iscsi_transfer.proofs.Standing.{remembered-asked}
 use Rattle.iscsi_session.specs.declared.transfers.Transfer.{Transfer}
 use Rattle.iscsi_session.specs.Requests.{Past, SentR2t, frame_of, is_in, due, queue, unfinished, stamp, statuses, bearing, functions}
-use Rattle.iscsi_session.specs.Transfers.{outs_of, tags_of, last_tag, data_past, task_at, ask_of, asking, next_transfer_tag, drains_of, r2t_for, r2t_answers, r2t_of, asked, asked_by, r2ts_by}
+use Rattle.iscsi_session.specs.Transfers.{outs_of, tags_of, last_tag, data_past, task_at, ask_of, asking, next_transfer_tag, drains_of, r2t_answers, r2t_of, asked, asked_by, r2ts_by}
 use Rattle.iscsi_session.specs.State.{SessionState, TransferList, AreDrained, drained_of, IsLawful, Stands, tasks_of, transfers_of, transfer_of, transfer_at, no_transfer, due_of, asking_place, r2t_at, asked_at, sent_to, functions_of, standing}
 use Rattle.iscsi_session.specs.Steps.{ready, ready_in}
 use Rattle.iscsi_order.specs.Stat.{stat_sn}

@@ -1,6 +1,6 @@
 -- The function whose data has come: which it is, and what the session remembers behind its answer.
 use Rattle.std.proofs.Common.{◌≡◌, ℕ, ◌-◌, List, [], ◌∷◌, map, true, false, not, cond, Option, Some, None, refl, sym, ap, subst, ◌∙◌, arith}
-use Rattle.std.specs.Prelude.{filter, find, is_some}
+use Rattle.std.specs.Prelude.{find, is_some}
 use Rattle.iscsi_pdu.specs.Header.{is_immediate, initiator_task_tag}
 use Rattle.iscsi_session.specs.Drained.{Drained}
 use Rattle.iscsi_session.specs.Requests.{Past, frame_of, is_in, pending, stamp, bearing}

@@ -51,10 +51,6 @@ pub drains_are : (past : Past) (state : SessionState) → Stands past state → 
 unfolding transfers_of
 drains_are past state s = ap (λ (t : TransferList). t.drains) (parts past state s).transfers_is
 
-some_among : (a q : ℕ → Bool) (drains : List Drain) (at : Option ℕ) → LocatedAmong a q drains at
-    → is_some at ≡ is_some (find q (filter a (map (λ d. d.command) drains)))
-some_among a q drains at found = grind arith
-
 drained_live : (past : Past) (state : SessionState) (tag : ℕ) → Stands past state
     → is_some (drain_with tag state.transfers.drains) ≡ is_some (command_among past tag (drained past))
 unfolding drained
@@ -106,12 +102,9 @@ full_is past state s =
 pub none_by : {A : Type 0} (at : Option A) → is_some at ≡ false → at ≡ None
 none_by at e = grind arith
 
-first_none : (a b : Option ℕ) → is_some (if is_some a then a else b) ≡ false → a ≡ None
-first_none a b e = grind arith
-
 pub free_by_past : (past : Past) (frame : Frame) → ((is_command frame || is_function frame) ≡ true → is_live past (initiator_task_tag frame.header) ≡ false)
     → HasFreeTag past frame
-free_by_past past frame free = grind (arith, missing, first_none, or_parts, none_by, or_known)
+free_by_past past frame free = grind (arith, missing, or_parts, none_by, or_known)
 
 -- nothing bears its tag
 pub free_tag : (past : Past) (state : SessionState) (frame : Frame) → Stands past state → place_for frame state.transfers.list ≡ None

@@ -6,7 +6,7 @@ use Rattle.std.proofs.lemmas.List.Elements.{filter_map-append, filter-append}
 use Rattle.iscsi_pdu.specs.Frames.{Frame}
 use Rattle.iscsi_order.specs.Window.{taken as taken_numbers}
 use Rattle.iscsi_session.specs.Requests.{Past, is_command, left, frame_of, held, due, queue, moved, finished, removing}
-use Rattle.iscsi_session.specs.State.{TaskLists, IsLawful, standing, tasks_of, holding, takes_next, takes, takes_all}
+use Rattle.iscsi_session.specs.State.{TaskLists, IsLawful, tasks_of, holding, takes_next, takes, takes_all}
 use Rattle.iscsi_session.specs.Weight.{pending}
 use Rattle.iscsi_session.proofs.Left.{left_append, left_more, left_swap}
 use Rattle.iscsi_session.proofs.Weights.{held_length}

@@ -19,9 +19,6 @@ pub filter_filter : {A : Type 0} (p q : A → Bool) (xs : List A) → filter p (
 filter_filter p q [] = refl
 filter_filter p q (x ∷ xs) = grind (arith, filter_filter p q xs)
 
-not_or : (a b : Bool) → not a && not b ≡ not (a || b)
-not_or a b = grind arith
-
 pub map_cong : {A B : Type 0} (f g : A → B) (xs : List A) → All (λ x. f x ≡ g x) xs → map f xs ≡ map g xs
 map_cong f g [] same = refl
 map_cong f g (x ∷ xs) same = rw (All-head (λ x. f x ≡ g x) x xs same, map_cong f g xs (All-tail (λ x. f x ≡ g x) x xs same)) refl
@@ -30,7 +27,7 @@ map_cong f g (x ∷ xs) same = rw (All-head (λ x. f x ≡ g x) x xs same, map_c
 
 pub left_more : (gone more names : List ℕ) → left (gone ++ more) names ≡ left more (left gone names)
 unfolding left
-left_more gone more names = grind (arith, filter_filter, filter_cong, not_or, list_any-append)
+left_more gone more names = grind (arith, filter_filter, filter_cong, list_any-append)
 
 pub both_true : (a b : Bool) → (a && not b) ≡ true → (a ≡ true) × (b ≡ false)
 both_true a b e = grind arith
@@ -40,7 +37,7 @@ and_swap a b = grind arith
 
 pub left_swap : (a b names : List ℕ) → left a (left b names) ≡ left b (left a names)
 unfolding left
-left_swap a b names = grind (arith, filter_filter, filter_cong, and_swap)
+left_swap a b names = grind (arith, filter_filter, filter_cong)
 
 pub left_append : (gone a b : List ℕ) → left gone (a ++ b) ≡ left gone a ++ left gone b
 unfolding left

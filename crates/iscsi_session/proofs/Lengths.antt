@@ -18,7 +18,6 @@ use Rattle.iscsi_pdu.specs.declared.reject.RejectReason.{RejectReason}
 use Rattle.iscsi_pdu.specs.declared.reject.RejectReason.TheVariants as reasons
 use Rattle.iscsi_pdu.specs.declared.stamp.Stamp.{Stamp}
 use Rattle.iscsi_pdu.specs.declared.task_management_response.TaskResult.{TaskResult}
-use Rattle.iscsi_pdu.specs.LogoutRequest.{logout_reason}
 use Rattle.iscsi_login.specs.declared.params.Params.{Params}
 use Rattle.iscsi_login.specs.declared.values.Values.{Values}
 use Rattle.iscsi_login.specs.Values.{AreInRange}
@@ -30,7 +29,7 @@ use Rattle.iscsi_exchange.specs.Exchange.{TextPiece, IsShort}
 use Rattle.iscsi_exchange.proofs.Short.{hears_short}
 use Rattle.iscsi_session.specs.Judging.{reserved_tag, reject}
 use Rattle.iscsi_session.specs.Texts.{text_answer}
-use Rattle.iscsi_session.specs.Acts.{ping_answers, closes, logout_answer, act_answers_by}
+use Rattle.iscsi_session.specs.Acts.{ping_answers, logout_answer, act_answers_by}
 use Rattle.iscsi_session.specs.Requests.{Past}
 use Rattle.iscsi_session.specs.Transfers.{r2t_of}
 use Rattle.iscsi_session.specs.Answers.{scsi_answer, command_answers}

@@ -9,13 +9,13 @@ use Rattle.iscsi_pdu.specs.Frames.{Frame}
 use Rattle.iscsi_order.specs.Window.{taken as taken_numbers}
 use Rattle.iscsi_session.specs.Requests.{Request, Past, frame_of, is_in, left, is_command, commands, others, counted, over, pending, taken, numbers, due, queue, Drain, functions, unfinished}
 use Rattle.iscsi_session.specs.State.{TaskLists, IsLawful, one_fewer, AreDistinct, AreDrained}
-use Rattle.iscsi_session.proofs.Left.{filter_filter, filter_cong, and_swap, left_all, all_in}
+use Rattle.iscsi_session.proofs.Left.{filter_filter, filter_cong, left_all, all_in}
 use Rattle.iscsi_session.proofs.Pending.{left_push}
 use Rattle.iscsi_session.specs.Transfers.{tag_of}
 use Rattle.iscsi_session.proofs.Accepted.{counted_append, handed_le}
 
 filter_swap : (p q : ℕ → Bool) (names : List ℕ) → filter p (filter q names) ≡ filter q (filter p names)
-filter_swap p q names = grind (arith, filter_filter, filter_cong, and_swap)
+filter_swap p q names = grind (arith, filter_filter, filter_cong)
 
 -- those for which it holds, and the others
 pub split : (q : ℕ → Bool) (came : List Request) (names : List ℕ)

@@ -1,7 +1,6 @@
 -- A number is plugged: what the session remembers, and that its past stays lawful.
-use Rattle.std.proofs.Common.{◌≡◌, ℕ, ◌+◌, ◌-◌, ◌^◌, ◌<◌, ◌≤◌, List, length, true, false, ◌&&◌, ◌==◌, refl, sym, ap, subst, ◌∙◌, arith, append-nil, inl, inr}
-use Rattle.std.specs.Prelude.{◌⊎◌}
-use Rattle.std.proofs.lemmas.Bool.{ltb-true, lt-ltb, and_parts}
+use Rattle.std.proofs.Common.{◌≡◌, ℕ, ◌+◌, ◌-◌, ◌^◌, ◌<◌, ◌≤◌, List, length, true, false, ◌&&◌, refl, sym, ap, subst, ◌∙◌, arith, append-nil, inl, inr}
+use Rattle.std.proofs.lemmas.Bool.{ltb-true, and_parts}
 use Rattle.std.proofs.lemmas.Bool.Decides.{leb_tells}
 use Rattle.iscsi_order.specs.Window as order
 use Rattle.iscsi_order.specs.Window.{taken as taken_numbers, window}
@@ -16,7 +15,6 @@ use Rattle.iscsi_session.proofs.Left.{both_true}
 use Rattle.iscsi_session.proofs.Kept.{joined}
 use Rattle.iscsi_session.proofs.Exchanging.{exchange_joined}
 use Rattle.iscsi_session.proofs.Unfinished.{transfers_joined}
-use Rattle.iscsi_session.proofs.Places.{or_known}
 use Rattle.iscsi_session.proofs.Accepted.{HasFreeTag, IsAhead, finished_below, removed_below, functions_of_joined, with, lawful_with, held_now}
 use Rattle.iscsi_session.proofs.Parts.{parts, stands_tasks, ahead_of}
 
@@ -39,16 +37,10 @@ stands_plugged n past state s free =
 
 -- ---- a number inside the window, whatever its size
 
-at_most_cases : (a b : ℕ) → is_at_most a b ≡ true → (a ≡ b) ⊎ ((0 < distance a b) × (distance a b < 2 ^ 31))
-at_most_cases a b e = grind arith
-
-at_most_of : (a b : ℕ) → 0 < distance a b → distance a b < 2 ^ 31 → is_at_most a b ≡ true
-at_most_of a b some few = or_known (a == b) _ (rw (lt-ltb 0 (distance a b) some) (lt-ltb (distance a b) (2 ^ 31) few))
-
 -- one that is too great is inside where the same number, modulo 2^32, is
 wrapped : (x m n : ℕ) → x < 2 ^ 32 → m < 2 ^ 32 → 2 ^ 32 ≤ n → is_at_most x n ≡ true → is_at_most n m ≡ true
     → (n - 2 ^ 32 < 2 ^ 32) × (distance x (n - 2 ^ 32) ≡ distance x n) × ((is_at_most x (n - 2 ^ 32) && is_at_most (n - 2 ^ 32) m) ≡ true)
-wrapped x m n p r le a b = grind (arith, at_most_cases, at_most_of)
+wrapped x m n p r le a b = grind arith
 
 pub near_window : (past : order.Past) (n : ℕ) → windows.IsLawful past → order.in_window past n ≡ true
     → distance (order.exp_cmd_sn past) n < past.finished + window - length (taken_numbers past)

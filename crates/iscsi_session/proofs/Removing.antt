@@ -13,7 +13,7 @@ use Rattle.iscsi_session.specs.Requests.{Past, request_at, frame_of, frames_of, 
 use Rattle.iscsi_session.specs.Transfers.{tag_of, task_at, outs_of, tags_of}
 use Rattle.iscsi_session.specs.Functions.{FunctionReach, reaches, reached}
 use Rattle.iscsi_session.specs.Texts.{exchange_of}
-use Rattle.iscsi_session.specs.State.{SessionState, TransferList, Stands, AreDistinct, IsDelivered, IsLawful, void, standing, frame_numbered, tasks_of, transfer_of, transfers_of, functions_of, void_if, stays, counts_out, reaches_frame, without, transfers_without}
+use Rattle.iscsi_session.specs.State.{SessionState, TransferList, Stands, AreDistinct, IsDelivered, IsLawful, standing, frame_numbered, tasks_of, transfers_of, functions_of, void_if, stays, counts_out, reaches_frame, without, transfers_without}
 use Rattle.iscsi_session.proofs.Left.{filter_cong, filter_filter, map_cong, left_more, left_append, left_all, in_at, in_filter, in_filter_back, in_left, passes_in, not_gone, not_in, is_in_append, below_of, distinct_map_filter}
 use Rattle.iscsi_session.proofs.Places.{count_map}
 use Rattle.iscsi_session.proofs.Kept.{function_no_command, in_kept}
@@ -33,9 +33,6 @@ filter_map_names {Y = Y} p f (k ∷ names) = grind (arith, filter_map_names p f 
 pub map_map_names : {Y Z : Type 0} (g : Y → Z) (f : ℕ → Y) (names : List ℕ) → map g (map f names) ≡ map (λ k. g (f k)) names
 map_map_names g f [] = refl
 map_map_names {Z = Z} g f (k ∷ names) = ap (λ (l : List Z). g (f k) ∷ l) (map_map_names g f names)
-
-pub void_kept : (reach : FunctionReach) (b : Bool) → void_if reach (void b) ≡ void b
-void_kept reach b = grind arith
 
 and_true : (a b : Bool) → a ≡ true → (a && b) ≡ b
 and_true a b e = grind arith
@@ -187,7 +184,7 @@ module _ (reach : FunctionReach) (past : Past) (lawful : IsLawful past) where
   stands_at : (a b c : Bool) (k : ℕ) → k < length past.came → is_in k past.finished ≡ false → is_in k past.removed ≡ a → is_in k gone ≡ b
       → is_command (frame_of past.came k) ≡ c
       → frame_of (standing after) k ≡ void_if reach (frame_of (standing past) k)
-  stands_at true b c k lt un e f g = grind (arith, is_in_append, standing_at, void_kept)
+  stands_at true b c k lt un e f g = grind (arith, is_in_append, standing_at)
   stands_at false true c k lt un e f g = grind (arith, is_in_append, unfinished_command, gone_unfinished, gone_hit, standing_at)
   stands_at false false c k lt un e f g = grind (arith, is_in_append, and_false, gone_is, still_there, standing_at)
 
@@ -286,13 +283,9 @@ module _ (reach : FunctionReach) (past : Past) (lawful : IsLawful past) where
 
   -- ---- their data
 
-  transfer_same : (k : ℕ) → transfer_of past k ≡ transfer_of after k
-  unfolding task_at outs_of tags_of
-  transfer_same k = refl
-
   pub transfers_removing : record (transfers_of past) { list = transfers_without reach (transfers_of past).list } ≡ transfers_of after
   unfolding transfers_of task_at outs_of tags_of
-  transfers_removing = grind (arith, filter_map_names, map_cong, transfer_same, unfinished_hit)
+  transfers_removing = grind (arith, filter_map_names, map_cong, unfinished_hit)
 
   pub functions_removing : functions_of past ≡ functions_of after
   unfolding functions_of

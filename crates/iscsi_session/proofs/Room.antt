@@ -1,5 +1,5 @@
 -- The answers of a command fit into the room that is made for them.
-use Rattle.std.proofs.Common.{◌≡◌, ℕ, ◌+◌, ◌*◌, ◌<◌, ◌≤◌, ◌==◌, min, List, [], ◌∷◌, ◌++◌, length, map, take, get_or, Bool, cond, ◌||◌, Some, refl, ap, subst, ◌∙◌, arith}
+use Rattle.std.proofs.Common.{◌≡◌, ℕ, ◌+◌, ◌*◌, ◌<◌, ◌≤◌, List, [], ◌∷◌, ◌++◌, length, map, take, get_or, Some, refl, ap, subst, ◌∙◌, arith}
 use Rattle.std.specs.Prelude.{flat_map}
 use Rattle.std.specs.List.{enumerate_from, slice_get}
 use Rattle.std.proofs.lemmas.Option.{slice_get-get_or, slice_get_within}
@@ -71,11 +71,8 @@ pub answers_long : (numbers : Stamp) (values : Values) (frame : Frame) (sent : L
 unfolding data_answers
 answers_long numbers values frame sent range = grind (arith, pieces_are_joined, all_long)
 
-sent_by : (b : Bool) (n e most : ℕ) → n ≤ most → min (cond ((n == 0) || b) e 0) n ≤ cond b (min most e) 0
-sent_by b n e most le = grind arith
-
 pub sent_short : (frame : Frame) (done : Outcome) → length done.given ≤ most_given → length (data_sent frame done) ≤ most_sent frame
-sent_short frame done le = grind (arith, sent_by, length-take)
+sent_short frame done le = grind (arith, length-take)
 
 pub pieces_within : (values : Values) (frame : Frame) (done : Outcome) → AreInRange values → length done.given ≤ most_given
     → piece_count (length (data_sent frame done)) values.max_burst_length values.max_recv_data_segment_length ≤ most_pieces values frame

@@ -101,7 +101,7 @@ pub leaves_answering : (given work : Work) (state : SessionState) (before waitin
     → Stands work.past state → work.past.params ≡ given.past.params → work.past.answers ≡ given.past.answers ++ more
     → waiting.bytes ≡ before.bytes ++ flat_map spelling more → waiting.orders ≡ before.orders → work.orders ≡ given.orders → work.units ≡ units
     → Leaves given work state before waiting units
-leaves_answering given work state before waiting units more s params answers spelled ordered acted same = grind (arith, leaves_standing, append-nil)
+leaves_answering given work state before waiting units more s params answers spelled ordered acted same = grind (arith, append-nil)
 
 -- the same, but for the steps that were reached and whether it goes on
 pub leaves_as : (given work given_too work_too : Work) (state : SessionState) (before waiting : Output) (units : TargetUnits)

@@ -13,20 +13,18 @@ use Rattle.iscsi_session.specs.Judging.{judged, judged_answers}
 use Rattle.iscsi_session.specs.Acts.{ends}
 use Rattle.iscsi_session.specs.Steps.{Step, Taking, Work, act, act_all, waiting_in}
 use Rattle.iscsi_session.specs.Runs.{Output, Starts, Leaves, Runs, ActsAs, ActsFirst}
-use Rattle.iscsi_pdu.specs.Header.{initiator_task_tag}
-use Rattle.iscsi_session.specs.Transfers.{command_with}
 use Rattle.iscsi_session.proofs.Feeding.{fed_same}
 use Rattle.iscsi_session.proofs.Parts.{due_is}
 use Rattle.iscsi_session.proofs.Weights.{waiting_fits, waiting_some}
 use Rattle.iscsi_session.proofs.Answered.{acted_same}
-use Rattle.iscsi_session.proofs.Runs.{Ran, tasks_count, all_of, ran_more, ran_idle, ran_ended, ran_failed, runs_as, taking_kind, stands_of, leaves_standing, leaves_nothing}
+use Rattle.iscsi_session.proofs.Runs.{Ran, tasks_count, all_of, ran_more, ran_idle, ran_ended, ran_failed, runs_as, taking_kind, stands_of, leaves_nothing}
 
 -- ---- what an act leaves
 
 act_leaves : (work : Work) (k : ℕ) (a : Act) (new : SessionState) (before waiting : Output) (units : TargetUnits) → work.units ≡ units
     → ActsAs (numbers_of work.units.states) k work.past a new before waiting → Leaves work (act k work) new before waiting units
 unfolding act
-act_leaves work k a new before waiting units same acts = grind (arith, acted_same, leaves_standing, acts)
+act_leaves work k a new before waiting units same acts = grind (arith, acted_same, acts)
 
 act_goes_on : (work : Work) (k : ℕ) → (act k work).goes_on ≡ not (ends work.past.params (frame_of work.past.came k))
 unfolding act

@@ -1,10 +1,10 @@
 -- The requests as they stand: those that were removed are voided, and keep their numbers.
-use Rattle.std.proofs.Common.{◌≡◌, ℕ, zero, suc, ◌+◌, ◌<◌, List, [], ◌∷◌, ◌++◌, length, Bool, true, false, cond, refl, ap, ◌∙◌, arith}
+use Rattle.std.proofs.Common.{◌≡◌, ℕ, zero, suc, ◌+◌, ◌<◌, List, [], ◌∷◌, ◌++◌, length, true, false, cond, refl, ap, arith}
 use Rattle.std.specs.Prelude.{All}
 use Rattle.std.proofs.lemmas.Bool.{false_from_ne_true}
 use Rattle.iscsi_session.specs.Requests.{Request, Past, request_at, frame_of, is_in, numbered, place_of}
 use Rattle.iscsi_pdu.specs.Header.{opcode_number, is_immediate}
-use Rattle.iscsi_session.specs.State.{void, voided, standing_from, standing}
+use Rattle.iscsi_session.specs.State.{voided, standing_from, standing}
 use Rattle.iscsi_session.proofs.Left.{below_of}
 
 -- the numbers are the same
@@ -62,24 +62,18 @@ standing_at past k lt = at_from past.removed 0 k k past.came lt (omega arith)
 pub standing_kept : (past : Past) (k : ℕ) → k < length past.came → is_in k past.removed ≡ false → frame_of (standing past) k ≡ frame_of past.came k
 standing_kept past k lt none = grind (arith, standing_at)
 
-immediate_by : (b : Bool) (r : Request) → is_immediate (cond b (voided r) r).frame.header ≡ is_immediate r.frame.header
-immediate_by b r = grind arith
-
 -- it is for immediate delivery, or not, as it was
 pub standing_immediate : (past : Past) (k : ℕ) → k < length past.came
     → is_immediate (frame_of (standing past) k).header ≡ is_immediate (frame_of past.came k).header
-standing_immediate past k lt = grind (arith, standing_at, immediate_by)
+standing_immediate past k lt = grind (arith, standing_at)
 
 -- ---- of which kind it is
-
-void_opcode : (b : Bool) → opcode_number (void b).header ≡ 0x3F
-void_opcode b = grind arith
 
 -- a request of any other opcode was not removed
 pub stands_as : (past : Past) (k : ℕ) → k < length past.came → (opcode_number (frame_of (standing past) k).header ≡ 0x3F → ⊥)
     → frame_of (standing past) k ≡ frame_of past.came k
-stands_as past k lt other = grind (arith, standing_at, void_opcode, standing_kept)
+stands_as past k lt other = grind (arith, standing_at, standing_kept)
 
 -- one that was removed
 pub stands_void : (past : Past) (k : ℕ) → k < length past.came → is_in k past.removed ≡ true → opcode_number (frame_of (standing past) k).header ≡ 0x3F
-stands_void past k lt e = grind (arith, standing_at, void_opcode)
+stands_void past k lt e = grind (arith, standing_at)

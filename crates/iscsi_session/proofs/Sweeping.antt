@@ -8,7 +8,6 @@ use Rattle.iscsi_pdu.specs.Frames.{Frame}
 use Rattle.iscsi_session.specs.Functions.{FunctionReach}
 use Rattle.iscsi_session.specs.State.{TaskLists, stays, counts_out, reaches_frame, swept_one}
 use Rattle.iscsi_session.specs.Tasks.{requests_at, times, holds}
-use Rattle.iscsi_session.proofs.Over.{one_fewer_by}
 use Rattle.iscsi_session.proofs.Left.{in_at}
 use Rattle.iscsi_session.proofs.Voiding.{in_times}
 
@@ -48,28 +47,14 @@ pub record Swept (reach : FunctionReach) (given now : TaskLists) (left : ℕ) : 
   pub fewer : now.unfinished - length (filter (counts_out reach) rest) ≡ given.unfinished - length (filter (counts_out reach) given.queue)
   pub same : now ≡ record given { unfinished = now.unfinished; queue = now.queue }
 
-filter_true : (p : Frame → Bool) (frame : Frame) (l : List Frame) → p frame ≡ true → filter p (frame ∷ l) ≡ frame ∷ filter p l
-filter_true p frame l e = rw e refl
-
-filter_false : (p : Frame → Bool) (frame : Frame) (l : List Frame) → p frame ≡ false → filter p (frame ∷ l) ≡ filter p l
-filter_false p frame l e = rw e refl
-
 -- the first stays
 pub turned : (reach : FunctionReach) (frame : Frame) (others : List Frame) (tasks : TaskLists) → reaches_frame reach frame ≡ false
     → swept_one reach frame others tasks ≡ record tasks { queue = others ++ frame ∷ [] }
 turned reach frame others tasks e = rw e refl
 
-left_out : (b : Bool) (reach : FunctionReach) (frame : Frame) (others : List Frame) (tasks : TaskLists) → reaches_frame reach frame ≡ true
-    → is_immediate frame.header ≡ b
-    → swept_one reach frame others tasks ≡ record tasks { unfinished = cond b tasks.unfinished (tasks.unfinished - 1); queue = others }
-left_out b reach frame others tasks e i = rw e (one_fewer_by b frame (record tasks { queue = others }) i)
-
 counted_out : (b : Bool) (reach : FunctionReach) (frame : Frame) (rest : List Frame) → reaches_frame reach frame ≡ true → is_immediate frame.header ≡ b
     → length (filter (counts_out reach) (frame ∷ rest)) ≡ cond b 0 1 + length (filter (counts_out reach) rest)
 counted_out b reach frame rest e i = grind arith
-
-less_by : (b : Bool) (u n : ℕ) → cond b u (u - 1) - n ≡ u - (cond b 0 1 + n)
-less_by b u n = grind arith
 
 sweeps_by : (b c : Bool) (reach : FunctionReach) (given now next : TaskLists) (left : ℕ) (frame : Frame) (rest done : List Frame)
     → reaches_frame reach frame ≡ b
@@ -77,8 +62,8 @@ sweeps_by : (b c : Bool) (reach : FunctionReach) (given now next : TaskLists) (l
     → done ++ filter (stays reach) (frame ∷ rest) ≡ filter (stays reach) given.queue
     → now.unfinished - length (filter (counts_out reach) (frame ∷ rest)) ≡ given.unfinished - length (filter (counts_out reach) given.queue)
     → now ≡ record given { unfinished = now.unfinished; queue = now.queue } → next ≡ swept_one reach frame (rest ++ done) now → Swept reach given next left
-sweeps_by true c reach given now next left frame rest done e i queue count kept fewer same is = grind (arith, left_out, filter_false, less_by, counted_out)
-sweeps_by false c reach given now next left frame rest done e i queue count kept fewer same is = grind (arith, turned, append_assoc, filter_true, filter_false)
+sweeps_by true c reach given now next left frame rest done e i queue count kept fewer same is = grind (arith, counted_out)
+sweeps_by false c reach given now next left frame rest done e i queue count kept fewer same is = grind (arith, turned, append_assoc)
 
 pub sweep_goes_on : (reach : FunctionReach) (given now next : TaskLists) (left : ℕ) → Swept reach given now (suc left)
     → ((frame : Frame) (others : List Frame) → now.queue ≡ frame ∷ others → next ≡ swept_one reach frame others now) → Swept reach given next left

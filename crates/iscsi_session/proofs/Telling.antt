@@ -54,9 +54,6 @@ first_kind p q e is = grind arith
 second_kind : (p q e : Bool) → q ≡ (p && not e) → (e ≡ true → p ≡ true) → (not q && not e) ≡ not p
 second_kind p q e is known = grind arith
 
-third_kind : (f p e : Bool) → (e ≡ true → p ≡ true) → (e ≡ true → f ≡ true) → (f && not (p && not e)) ≡ ((f && not p) || e)
-third_kind f p e known there = grind arith
-
 others_by : (c e : Bool) → (e ≡ true → c ≡ false) → (not c && e) ≡ e
 others_by c e known = grind arith
 
@@ -158,7 +155,7 @@ module _ (past : Past) (lawful : IsLawful past) where
     finished_told names = filter_cong _ _ names (λ i d lt. ap not (each (get_or names i d)))
       where
         each : (a : ℕ) → is_in a more ≡ is_in a (left (pending past) past.finished ++ k ∷ [])
-        each a = grind (arith, in_left_is, same_pending, third_kind, waits_at, eqb-true, pending_finished, in_one, is_in_append)
+        each a = grind (arith, in_left_is, same_pending, waits_at, eqb-true, pending_finished, in_one, is_in_append)
 
     pub functions_told : functions (told k past) ≡ left (k ∷ []) (functions past)
     unfolding functions

@@ -1,6 +1,6 @@
 -- The requests of a slab that a Task Management Function Request reaches are voided.
-use Rattle.std.proofs.Common.{◌≡◌, ℕ, zero, suc, ◌<◌, ◌≤◌, List, [], ◌∷◌, ◌++◌, length, map, take, get_or, Bool, true, false, cond, ◌||◌, eqb, Option, Some, None, refl, sym, ap, ◌∙◌, arith, inl, inr}
-use Rattle.std.specs.Prelude.{All, option_map, is_some}
+use Rattle.std.proofs.Common.{◌≡◌, ℕ, zero, suc, ◌<◌, ◌≤◌, List, [], ◌∷◌, ◌++◌, length, map, take, get_or, Bool, true, false, cond, eqb, Option, Some, None, refl, sym, ap, ◌∙◌, arith, inl, inr}
+use Rattle.std.specs.Prelude.{All, option_map}
 use Rattle.std.proofs.lemmas.Bool.{cases_eq, eq-eqb, ne_eqb}
 use Rattle.std.proofs.lemmas.List.Elements.{filter_map-append}
 use Rattle.std.proofs.lemmas.List.Sums.{sum_by-cons}
@@ -17,13 +17,9 @@ use Rattle.iscsi_session.proofs.Places.{or_known}
 abbrev voids : FunctionReach → Option Frame → Option Frame
 voids reach slot = option_map (void_if reach) slot
 
-both_ways : (a b : Bool) (reach : FunctionReach) (slot : Option Frame)
-    → cond b (voids reach (cond a (voids reach slot) slot)) (cond a (voids reach slot) slot) ≡ cond (a || b) (voids reach slot) slot
-both_ways a b reach slot = grind arith
-
 pub voids_then : (reach : FunctionReach) (a b : List ℕ) (old mid new : Slab Frame) → Voids reach a old mid → Voids reach b mid new
     → Voids reach (a ++ b) old new
-voids_then reach a b old mid new first second = grind (arith, both_ways, is_in_append)
+voids_then reach a b old mid new first second = grind (arith, is_in_append)
 
 -- ---- one key more
 
@@ -37,11 +33,8 @@ keys_more l i lt = ap keys_in (take_more l i None lt) ∙ filter_map-append (λ 
 
 -- ---- the lines
 
-slot_by : (b : Bool) (reach : FunctionReach) (slot : Option Frame) → is_some (cond b (voids reach slot) slot) ≡ is_some slot
-slot_by b reach slot = grind arith
-
 holds_same : (reach : FunctionReach) (keys : List ℕ) (old new : Slab Frame) (key : ℕ) → Voids reach keys old new → holds new key ≡ holds old key
-holds_same reach keys old new key voided = grind (arith, slot_by)
+holds_same reach keys old new key voided = grind arith
 
 line_voids : (reach : FunctionReach) (all : List ℕ) (old new : Slab Frame) (keys : List ℕ) → Voids reach all old new → All (λ k. is_in k all ≡ true) keys
     → requests_at new keys ≡ map (void_if reach) (requests_at old keys)

@@ -13,7 +13,6 @@ use Rattle.iscsi_session.specs.State.{TaskLists, standing, frame_numbered, tasks
 use Rattle.iscsi_session.specs.Steps.{waiting_in}
 use Rattle.iscsi_session.proofs.Standing.{numbered_standing}
 use Rattle.iscsi_session.proofs.Fronts.{frame_marked}
-use Rattle.iscsi_session.proofs.Over.{one_fewer_by}
 
 pub weight_by : (b : Bool) (frame : Frame) → is_function frame ≡ b → weight frame ≡ cond b 2 1
 weight_by b frame e = grind arith
@@ -62,16 +61,13 @@ waiting_held n frame tasks = grind (arith, waiting_takes, held_more)
 
 -- ---- one that is due is finished
 
-pub waiting_fewer : (frame : Frame) (tasks : TaskLists) → waiting (one_fewer frame tasks) ≡ waiting tasks
-waiting_fewer frame tasks = ap waiting (one_fewer_by _ frame tasks refl)
-
 pub waiting_first : (frame : Frame) (others : List Frame) (tasks : TaskLists) → tasks.due ≡ frame ∷ others
     → waiting tasks ≡ weight frame + waiting (record tasks { due = others })
 waiting_first frame others tasks is = omega (arith, ap weigh is)
 
 pub finishes_one : (frame : Frame) (old new : TaskLists) → old.due ≡ frame ∷ drop 1 old.due
     → new ≡ one_fewer frame (record old { due = drop 1 old.due }) → waiting new < waiting old
-finishes_one frame old new is same = grind (arith, waiting_fewer, waiting_first, weight_some)
+finishes_one frame old new is same = grind (arith, waiting_first, weight_some)
 
 pub queues_one : (frame : Frame) (others queue : List Frame) (old new : TaskLists) → old.due ≡ frame ∷ others
     → new ≡ record old { due = others; queue = queue } → waiting new < waiting old
@@ -88,7 +84,7 @@ waiting_some tasks some = by_line tasks.due refl
 
 pub waiting_plugged : (n : ℕ) (frame : Frame) (others : List Frame) (tasks : TaskLists) → tasks.due ≡ frame ∷ others → is_function frame ≡ true
     → waiting (plugged_behind n tasks (frame ∷ others)) < waiting tasks
-waiting_plugged n frame others tasks is function = grind (arith, waiting_held, waiting_fewer, waiting_first, weight_by)
+waiting_plugged n frame others tasks is function = grind (arith, waiting_held, waiting_first, weight_by)
 
 -- ---- SCSI Commands are removed
 
