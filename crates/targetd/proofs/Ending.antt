@@ -18,8 +18,11 @@ use Rattle.iscsi_target.specs.World.{Setting, present, world}
 use Rattle.iscsi_target.specs.Stands.{Stands}
 use Rattle.iscsi_target.proofs.Standing.{stands_sent}
 use Rattle.iscsi_target.specs.Machine.{Machine, IsSound, IsSure, new_machine}
-use Rattle.iscsi_serve.specs.Log.{Entry}
+use Rattle.iscsi_target.specs.Bounded.{Bounded}
+use Rattle.iscsi_serve.specs.Log.{Entry, written}
+use Rattle.iscsi_serve.specs.Served.{StaysServed}
 use Rattle.iscsi_serve.specs.declared.fault.ServeFault.{ServeFault}
+use Rattle.iscsi_serve.proofs.Keeping.{stays_same, been_served}
 use Rattle.target_config.specs.Configuration.{Document, MediumEntry, MemoryDisk, FileDisk, MemoryTape, FileTape, UnitEntry, TargetEntry, names_of, is_in_memory}
 use Rattle.target_config.specs.declared.fault.ConfigFault.{ConfigFault}
 use Rattle.target_config.specs.declared.fault.ConfigFault.TheVariants as why
@@ -159,16 +162,35 @@ sure_behind : (line : List ℕ) (count : ℕ) (tells : Bool) (log log_then : Lis
 sure_behind line count tells log log_then target target_then w0 w1 result (inl unserved) sure = subst IsSure (sym unserved.2) sure
 sure_behind line count tells log log_then target target_then w0 w1 result (inr served) sure = served.2.sure sure
 
+-- nothing was served, or what was served stays so, within the bound
+stays_behind : (line : List ℕ) (count : ℕ) (log log_then : List Entry) (target target_then : Machine) (w0 w1 : Option (List ℕ))
+    (result : Result (Unit {0}) Fault) → Serves line count true log log_then target target_then w0 w1 result → IsSound target_then
+    → StaysServed log log_then target target_then
+stays_behind line count log log_then target target_then w0 w1 result (inl unserved) sound = rw (unserved.1, unserved.2) (stays_same log target)
+stays_behind line count log log_then target target_then w0 w1 result (inr served) sound = served.2.served refl sound
+
+bounded_behind : (line : List ℕ) (count : ℕ) (tells : Bool) (log log_then : List Entry) (target target_then : Machine) (w0 w1 : Option (List ℕ))
+    (result : Result (Unit {0}) Fault) → Serves line count tells log log_then target target_then w0 w1 result → Bounded target → Bounded target_then
+bounded_behind line count tells log log_then target target_then w0 w1 result (inl unserved) bounded = subst Bounded (sym unserved.2) bounded
+bounded_behind line count tells log log_then target target_then w0 w1 result (inr served) bounded = served.2.bounded bounded
+
+nothing_told : (text : List ℕ) (address : SocketAddr) → written (listening text address) ≡ []
+unfolding written
+nothing_told text address = refl
+
 pub serving : (held : Held) (left : LeftState) (w0 w1 : Option (List ℕ)) (document : Document) (count : ℕ) (units : List UnitStates)
     (address : SocketAddr) (log : List Entry) (first : Machine) (served : ServedState)
     (result : Result (Unit {0}) Fault) → AreUnitsOf held document.targets units → left.served ≡ Some served → log ≡ listening document.listen address
-    → first ≡ new_machine (known_of document) units
+    → first ≡ new_machine (known_of document) units → Bounded first
     → Serves (listening_line address) count true log served.log first served.target w0 w1 result → IsServing held left w0 w1 document count result
-serving held left w0 w1 document count units address log first served result opened is asked made serves =
-    let from_listening : Serves (listening_line address) count true (listening document.listen address) served.log
-    (new_machine (known_of document) units) served.target w0 w1 result =
-    subst (λ (m : Machine). Serves (listening_line address) count true (listening document.listen address) served.log m served.target w0 w1 result) made
+serving held left w0 w1 document count units address log first served result opened is asked made bounded serves =
+    let told = listening document.listen address in
+    let target = new_machine (known_of document) units in
+    let s = setting_of document units in
+    let from_listening : Serves (listening_line address) count true told served.log target served.target w0 w1 result =
+    subst (λ (m : Machine). Serves (listening_line address) count true told served.log m served.target w0 w1 result) made
     (subst (λ (es : List Entry). Serves (listening_line address) count true es served.log first served.target w0 w1 result) asked serves) in
+    let nothing = nothing_told document.listen address in
     record {
       units = units;
       opened = opened;
@@ -178,6 +200,8 @@ serving held left w0 w1 document count units address log first served result ope
           (targets_sure held document.targets units opened in_memory));
       address = address;
       serves = from_listening;
+      whole = λ sound. been_served s told served.log served.target refl nothing (stays_behind _ _ _ _ _ _ _ _ result from_listening sound);
+      bounded = bounded_behind _ _ _ _ _ _ _ _ _ result from_listening (subst Bounded made bounded);
     }
 
 -- ---- a run

@@ -9,8 +9,10 @@ use Rattle.scsi_unit.specs.Units.{UnitStates}
 use Rattle.iscsi_login.specs.Directory.{KnownTargets}
 use Rattle.iscsi_target.specs.World.{Setting}
 use Rattle.iscsi_target.specs.Machine.{Machine, WhereSound, IsSound, new_machine}
+use Rattle.iscsi_target.specs.Bounded.{Bounded}
 use Rattle.iscsi_serve.specs.Log.{Entry, Listened, Located}
 use Rattle.iscsi_serve.specs.Calls.{ip_octets}
+use Rattle.iscsi_serve.specs.Served.{HasBeenServed}
 use Rattle.target_config.specs.Configuration.{Document, names_of, keeps_in_memory}
 use Rattle.target_config.specs.Config.{file_config_of}
 use Rattle.target_config.specs.declared.fault.ConfigFault.{ConfigFault}
@@ -72,6 +74,11 @@ module _ (held : Held) (left : LeftState) (printed printed_then : Option (List �
     pub address : SocketAddr
     pub serves : Serves (listening_line address) count true (listening document.listen address) served.log
         (new_machine (known_of document) units) served.target printed printed_then result
+    -- So, in all, of a sound target: what was written on each open connection, and then what waits, is what the World of the
+    -- log's events answers, a front of it on one that is over.
+    pub whole : IsSound served.target → HasBeenServed (setting_of document units) served.log served.target
+    -- no connection made the target hold more than it may
+    pub bounded : Bounded served.target
 
   abbrev pub IsServingAt : ℕ → Result Document ConfigFault → Result (Unit {0}) Fault → Type 0
   IsServingAt count (Ok document) result = IsServing document count result
