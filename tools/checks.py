@@ -27,7 +27,7 @@ class Tally:
             self.passed += 1
         except Skipped as why:
             self.skip(name, str(why))
-        except (Failed, OSError) as error:
+        except (Failed, AssertionError, OSError) as error:
             self.failed += 1
             print(f"FAIL {name}: {error}", flush=True)
 

@@ -177,11 +177,8 @@ def answer_of(client):
         data += segment
 
 
-def writing(client, number, address, content):
-    """Sends a WRITE (10), and for each R2T its data in pieces; says None for it, and last the status."""
-    client.sendall(notation.data(f"[SCSI-Command F W ITT={number} CmdSN={number} "
-                                 f"ExpectedDataTransferLength={len(content)} "
-                                 f"CDB=2a00{address:08x}00{len(content) // 512:04x}]", {}))
+def data_asked_for(client, number, content):
+    """For each R2T of the command with this number sends its data in pieces; says None for it, and last the status."""
     while (header := read(client, pdu.HEADER))[0] == 0x31:
         tag, at, length = struct.unpack(">I", header[20:24]) + struct.unpack(">II", header[40:48])
         starts = range(at, at + length, 65536)
@@ -192,6 +189,14 @@ def writing(client, number, address, content):
                 f"BufferOffset={start} DataSegmentLength={len(piece)}]", {}) + piece)
         yield None
     yield header[3]
+
+
+def writing(client, number, address, content):
+    """Sends a WRITE (10), and for each R2T its data in pieces; says None for it, and last the status."""
+    client.sendall(notation.data(f"[SCSI-Command F W ITT={number} CmdSN={number} "
+                                 f"ExpectedDataTransferLength={len(content)} "
+                                 f"CDB=2a00{address:08x}00{len(content) // 512:04x}]", {}))
+    yield from data_asked_for(client, number, content)
 
 
 def held_clients(address, count):
