@@ -134,7 +134,7 @@ def configuration_of(run):
 
 def explains_every_configuration_of_the_cases_by_its_number():
     count = 0
-    for path in sorted((TOP / "cases").glob("*.case")):
+    for path in transcript.cases():
         for run in transcript.read(path):
             if run.stderr == b"targetd: usage\n":
                 continue

@@ -36,6 +36,17 @@ class Run:
     stderr: bytes = b""
 
 
+def cases():
+    """Every case of cases/, folder by folder."""
+    return sorted(CASES.glob("*/*.case"))
+
+
+def case(name):
+    """The case of this name, in whichever folder it is."""
+    path, = CASES.glob(f"*/{name}.case")
+    return path
+
+
 def statements(text):
     """Each statement of a case: the number of its first line, that line, and its indented lines."""
     found = []
