@@ -6,8 +6,9 @@ use Rattle.std.proofs.lemmas.Grind.{flat_map-append}
 use Rattle.std.proofs.lemmas.List.{map-append, length-append}
 use Rattle.std.proofs.lemmas.List.Sums.{fold-append}
 use Rattle.std.proofs.Math.Seq.{drop-append_seam}
+use Rattle.iscsi_session.specs.Comings.{Coming}
 use Rattle.iscsi_target.specs.History as history
-use Rattle.iscsi_target.specs.History.{Event, Happening, History, Mark, plain, marked, connection_limit}
+use Rattle.iscsi_target.specs.History.{Event, Happening, History, Mark, happening, plain, connection_limit}
 use Rattle.iscsi_target.specs.Life.{Life, born, out_of}
 use Rattle.iscsi_target.specs.World.{Setting, World, is_present, present, over, end, world}
 use Rattle.iscsi_target.specs.Output.{out_now}
@@ -144,18 +145,18 @@ open_served s h log target after c number free v stands =
 -- ---- bytes come
 
 pub read_served : (s : Setting) (h : History) (log : List Entry) (target after : Machine) (c room byte : ℕ) (piece : List ℕ) (marks : List Mark)
-    → IsServed s h log target
-    → Stands s (sent_by log) after (h ++ marked marks (history.Bytes c (byte ∷ piece)) ∷ [])
-    → IsServed s (h ++ marked marks (history.Bytes c (byte ∷ piece)) ∷ []) (log ++ Read c room (Bytes (byte ∷ piece)) ∷ []) after
-read_served s h log target after c room byte piece marks v stands =
-    let x : Happening = marked marks (history.Bytes c (byte ∷ piece)) in
+    (comings : List Coming) → IsServed s h log target
+    → Stands s (sent_by log) after (h ++ happening marks comings (history.Bytes c (byte ∷ piece)) ∷ [])
+    → IsServed s (h ++ happening marks comings (history.Bytes c (byte ∷ piece)) ∷ []) (log ++ Read c room (Bytes (byte ∷ piece)) ∷ []) after
+read_served s h log target after c room byte piece marks comings v stands =
+    let x : Happening = happening marks comings (history.Bytes c (byte ∷ piece)) in
     let entry : Entry = Read c room (Bytes (byte ∷ piece)) in
     let same : (d : ℕ) → sent_by log d ≡ sent_by (log ++ entry ∷ []) d = λ d. ap length (on-is d log ∙ sym (on-push d log entry)) in
     served s (h ++ x ∷ []) (log ++ entry ∷ []) after
     (happened_more h log entry x v.events refl)
     (stands_by s (sent_by log) (log ++ entry ∷ []) after (h ++ x ∷ []) (λ d lt. same d) stands)
     (subst (λ (rows : List Written). AreFronts rows (world s (h ++ x ∷ [])).lives) (sym (written-push log entry))
-    (fronts_go (written log) (world s h).lives (world s (h ++ x ∷ [])).lives v.fronts (answers_stay s h marks c (byte ∷ piece))))
+    (fronts_go (written log) (world s h).lives (world s (h ++ x ∷ [])).lives v.fronts (answers_stay s h marks comings c (byte ∷ piece))))
 
 -- ---- bytes are written
 

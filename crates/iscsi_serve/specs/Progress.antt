@@ -1,14 +1,15 @@
 -- How far the loop has come in a turn, and what each of its steps keeps.
-use Rattle.std.specs.Prelude.{◌≡◌, ◌≢◌, ◌⊎◌, ◌<◌, ℕ, List, [], ◌∷◌, ◌++◌, Bool, true, false, ◌&&◌, ◌||◌, ◌==◌, length, replicate, slice_index_or}
+use Rattle.std.specs.Prelude.{◌≡◌, ◌≢◌, ◌<◌, ℕ, List, [], ◌∷◌, ◌++◌, Bool, true, false, ◌&&◌, ◌||◌, ◌==◌, length, replicate, slice_index_or}
 use Rattle.std.specs.List.{list_any}
 use Rattle.iscsi_target.specs.History as history
-use Rattle.iscsi_target.specs.History.{History, Mark, marked, connection_limit}
-use Rattle.iscsi_target.specs.World.{Setting, world}
-use Rattle.iscsi_target.specs.Stands.{Stands, IsStarved}
-use Rattle.iscsi_target.specs.Machine.{Machine, LinkState, IsSound, IsSure, link_at, is_open_at, is_closing}
+use Rattle.iscsi_session.specs.Comings.{Coming}
+use Rattle.iscsi_target.specs.History.{Happening, History, Mark, happening, connection_limit}
+use Rattle.iscsi_target.specs.World.{Setting, World, world}
+use Rattle.iscsi_target.specs.Stands.{Stands}
+use Rattle.iscsi_target.specs.Machine.{Machine, LinkState, IsSound, ReflectsSoundness, IsSure, link_at, is_open_at, is_closing}
 use Rattle.iscsi_serve.specs.Log.{Entry}
 use Rattle.iscsi_target.specs.Bounded.{Bounded}
-use Rattle.iscsi_serve.specs.Served.{StaysServed}
+use Rattle.iscsi_serve.specs.Served.{StaysServed, ComesOutServed}
 use Rattle.iscsi_serve.specs.Turn.{Moment, moment, is_open, is_read, room_for, ends}
 use Rattle.iscsi_serve.specs.declared.results.Named.{Named}
 
@@ -43,13 +44,12 @@ pub record IsDue (named : Named) (c room : ℕ) (target : Machine) : Type 0 wher
   pub open_ : is_open_at target c ≡ true
   pub is_room : room ≡ room_for (link_at target c)
 
--- a piece of a connection was fed: the target stands where the World of it does, and where an allocation failed in it,
--- that is told by marks
-abbrev pub StandsFed : ℕ → List ℕ → Machine → Machine → Type 0
-StandsFed c piece target target_then =
+-- a piece of a connection was fed: the target stands behind it where the World does, by what may happen to it
+abbrev pub StandsFed : (Setting → World → Happening → Type 0) → ℕ → List ℕ → Machine → Machine → Type 0
+StandsFed May c piece target target_then =
     (s : Setting) (sent : ℕ → ℕ) (h : History) → Stands s sent target h
-    → (marks : List Mark) × ((marks ≡ []) ⊎ ((d : ℕ) × IsStarved s (world s h) (history.Bytes c piece) d marks))
-    × Stands s sent target_then (h ++ marked marks (history.Bytes c piece) ∷ [])
+    → (marks : List Mark) × (comings : List Coming) × May s (world s h) (happening marks comings (history.Bytes c piece))
+    × Stands s sent target_then (h ++ happening marks comings (history.Bytes c piece) ∷ [])
 
 -- in the turn that began at this log, from one moment to another by R
 abbrev pub Goes : (Moment → Moment → Type 0) → List Entry → List Entry → Machine → Machine → List Bool → List Bool → Type 0
@@ -61,8 +61,10 @@ Goes R log log_then target target_then ended ended_then =
 pub record Keeps (tells tells_then : Bool) (log log_then : List Entry) (target target_then : Machine) : Type 0 where
   pub back : tells_then ≡ true → tells ≡ true
   pub sound : IsSound target_then → IsSound target
+  pub each : ReflectsSoundness target target_then
   pub sure : IsSure target → IsSure target_then
   pub served : tells_then ≡ true → IsSound target_then → StaysServed log log_then target target_then
+  pub came : tells_then ≡ true → ComesOutServed log log_then target target_then
   pub bounded : Bounded target → Bounded target_then
 
 -- what a step by R does, and keeps

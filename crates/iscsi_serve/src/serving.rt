@@ -3,9 +3,9 @@
 ghost use Rattle.std.specs.Prelude.{◌≡◌, ◌<◌, ◌≤◌, ◌++◌, ◌∷◌, [], List, true, false, ◌||◌, ◌&&◌, ◌==◌, length, slice_index_or, OnOk, IfErr};
 ghost use Rattle.iscsi_target.specs.Bounded.{Bounded};
 ghost use Rattle.iscsi_target.specs.History.{connections};
-ghost use Rattle.iscsi_target.specs.Machine.{Feeds, IsSound, IsSure, link_at, is_open_at, is_closing, want_of};
+ghost use Rattle.iscsi_target.specs.Machine.{Feeds, IsSound, ReflectsSoundness, IsSure, link_at, is_open_at, is_closing, want_of};
 ghost use Rattle.iscsi_serve.specs.Log.{Entry, AcceptFailed};
-ghost use Rattle.iscsi_serve.specs.Served.{IsFed, StaysServed};
+ghost use Rattle.iscsi_serve.specs.Served.{MayHappen, IsFed, StaysServed, ComesOutServed};
 ghost use Rattle.iscsi_serve.specs.Turn.{Moment, moment, log_of, beginning, free_number as lowest_free, HasAccepted, is_read, Accepts, Reads, Writes, Closes, Along, Carries, EndsTurn, EndsTurns};
 ghost use Rattle.iscsi_serve.specs.Progress.{AreEnded, none_ended, is_to_close, NoneToClose, KeepsOthers, IsDue, StandsFed, Goes, Keeps, Does};
 ghost use Rattle.iscsi_serve.specs.declared.results.Named.{Named};
@@ -61,11 +61,12 @@ fn accept_one<P: Ports, S: Store>(ports: &mut P, target: &mut Target<S>) -> Resu
 fn feed<S: Store>(target: &mut Target<S>, c: usize, piece: &[u8])
     requires in_range { c < 64 }
     requires open { is_open_at target.old c ≡ true }
-    ensures stands { IsSound target.new → StandsFed c piece.now target.old target.new }
+    ensures stands { IsSound target.new → StandsFed MayHappen c piece.now target.old target.new }
     ensures bounded { length piece.now ≤ want_of (link_at target.old c) → Bounded target.old → Bounded target.new }
     ensures feeds { Feeds c target.old target.new }
     ensures fed { IsFed c piece.now target.old target.new }
     ensures sound { IsSound target.new → IsSound target.old }
+    ensures each { ReflectsSoundness target.old target.new }
     ensures sure { IsSure target.old → IsSure target.new }
 {
     match target.feed(c, piece) {
@@ -346,9 +347,13 @@ pub fn turn<P: Ports, S: Store>(ports: &mut P, target: &mut Target<S>) -> Result
     ensures turned { P.tells ports.new ≡ true
         → (m : Moment) × (P.log ports.new ≡ log_of m) × (target.new ≡ m.target) × EndsTurn (beginning target.old (P.log ports.old)) result m }
     ensures served { P.tells ports.new ≡ true → IsSound target.new → StaysServed (P.log ports.old) (P.log ports.new) target.old target.new }
+
+    // Of every target, whatever its stores do: the commands came out in this way.
+    ensures came { P.tells ports.new ≡ true → ComesOutServed (P.log ports.old) (P.log ports.new) target.old target.new }
     ensures bounded { Bounded target.old → Bounded target.new }
     ensures back { P.tells ports.new ≡ true → P.tells ports.old ≡ true }
     ensures sound { IsSound target.new → IsSound target.old }
+    ensures each { ReflectsSoundness target.old target.new }
     ensures sure { IsSure target.old → IsSure target.new }
 {
     let mut buffer = [0; MOST_READ];
@@ -364,9 +369,13 @@ pub fn turns<P: Ports, S: Store>(
     ensures turned { P.tells ports.new ≡ true
         → (m : Moment) × (P.log ports.new ≡ log_of m) × (target.new ≡ m.target) × EndsTurns count (beginning target.old (P.log ports.old)) result m }
     ensures served { P.tells ports.new ≡ true → IsSound target.new → StaysServed (P.log ports.old) (P.log ports.new) target.old target.new }
+
+    // Of every target, whatever its stores do: the commands came out in this way.
+    ensures came { P.tells ports.new ≡ true → ComesOutServed (P.log ports.old) (P.log ports.new) target.old target.new }
     ensures bounded { Bounded target.old → Bounded target.new }
     ensures back { P.tells ports.new ≡ true → P.tells ports.old ≡ true }
     ensures sound { IsSound target.new → IsSound target.old }
+    ensures each { ReflectsSoundness target.old target.new }
     ensures sure { IsSure target.old → IsSure target.new }
 {
     let mut buffer = [0; MOST_READ];

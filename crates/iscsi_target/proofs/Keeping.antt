@@ -15,7 +15,7 @@ use Rattle.iscsi_login.specs.declared.reply.Reply.TheVariants.{GoOn, Full, Refus
 use Rattle.iscsi_session.specs.Requests.{Past}
 use Rattle.iscsi_session.specs.Steps.{Work, served, settled}
 use Rattle.iscsi_session.proofs.Steps.{Extends, served_extends, settled_extends}
-use Rattle.iscsi_target.specs.History.{Mark, Point, Bytes, marked, History, Happening}
+use Rattle.iscsi_target.specs.History.{Mark, Point, Bytes, happening, History, Happening}
 use Rattle.iscsi_target.specs.Life.{Life, Phase, LoggingIn, FullFeature, Closing, Over, logs_in, is_over, reads, past_in, session_answers, out_of, ended_in}
 use Rattle.iscsi_target.specs.World.{Setting, World, is_present, present, changed, past_of, live, close, reaching, answered, asked, begun, begins, requests_of, lookup_for, end_older, replied, log_in, work_of, fails, with_past, worked_on, worked, brought, longer, bring, begun_event, happened, new_world, world, losing, reset}
 use Rattle.iscsi_target.specs.Runs.{RowState, open_row, row_of}
@@ -345,10 +345,10 @@ on-bring s marks c piece w =
     (λ life at. silent (longer piece) life (asks_same life (longer piece life) refl refl) (open_life c w life at) (out-longer life piece))) behind.lives
 
 pub answers_stay : AnswersStay
-answers_stay s h marks c piece =
+answers_stay s h marks comings c piece =
     let w = world s h in
-    subst (λ (v : World). LivesGoOn w.lives v.lives) (sym (world-push s h (marked marks (Bytes c piece))))
-    (lives_go w.lives _ (on-bring s marks c piece (begun_event [] w)))
+    subst (λ (v : World). LivesGoOn w.lives v.lives) (sym (world-push s h (happening marks comings (Bytes c piece))))
+    (lives_go w.lives _ (on-bring s marks c piece (begun_event comings w)))
 
 -- ---- the rows
 

@@ -29,10 +29,10 @@ LivesGoOn (x ∷ xs) (y ∷ ys) = GoesOn x y × LivesGoOn xs ys
 LivesGoOn _ _ = ⊥
 
 -- What was answered stays answered: bytes begin and end no life, and each goes on from what it was, also
--- where allocations failed.
+-- where allocations failed, and however the commands came out.
 abbrev pub AnswersStay : Type 0
-AnswersStay = (s : Setting) (h : History) (marks : List Mark) (c : ℕ) (piece : List ℕ)
-    → LivesGoOn (world s h).lives (world s (h ++ marked marks (Bytes c piece) ∷ [])).lives
+AnswersStay = (s : Setting) (h : History) (marks : List Mark) (comings : List Coming) (c : ℕ) (piece : List ℕ)
+    → LivesGoOn (world s h).lives (world s (h ++ happening marks comings (Bytes c piece) ∷ [])).lives
 
 -- A target whose stores cannot fail is sound.
 abbrev pub SureIsSound : Type 0

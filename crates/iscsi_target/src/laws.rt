@@ -13,7 +13,7 @@ pub fn arrivals_in_pieces()
 {}
 
 /// What was answered stays answered: bytes begin and end no life of a connection, and each life is
-/// answered what it was answered before, and perhaps more.
+/// answered what it was answered before, and perhaps more, however the commands come out.
 pub fn answers_stay()
     ensures { AnswersStay }
 {}

@@ -20,7 +20,7 @@ use Rattle.iscsi_target.proofs.Standing.{stands_sent}
 use Rattle.iscsi_target.specs.Machine.{Machine, IsSound, IsSure, new_machine}
 use Rattle.iscsi_target.specs.Bounded.{Bounded}
 use Rattle.iscsi_serve.specs.Log.{Entry, written}
-use Rattle.iscsi_serve.specs.Served.{StaysServed}
+use Rattle.iscsi_serve.specs.Served.{MayHappen, MayComeOut, StaysServed, ComesOutServed}
 use Rattle.iscsi_serve.specs.declared.fault.ServeFault.{ServeFault}
 use Rattle.iscsi_serve.proofs.Keeping.{stays_same, been_served}
 use Rattle.target_config.specs.Configuration.{Document, MediumEntry, MemoryDisk, FileDisk, MemoryTape, FileTape, UnitEntry, TargetEntry, names_of, is_in_memory}
@@ -166,8 +166,13 @@ sure_behind line count tells log log_then target target_then w0 w1 result (inr s
 stays_behind : (line : List ℕ) (count : ℕ) (log log_then : List Entry) (target target_then : Machine) (w0 w1 : Option (List ℕ))
     (result : Result (Unit {0}) Fault) → Serves line count true log log_then target target_then w0 w1 result → IsSound target_then
     → StaysServed log log_then target target_then
-stays_behind line count log log_then target target_then w0 w1 result (inl unserved) sound = rw (unserved.1, unserved.2) (stays_same log target)
+stays_behind line count log log_then target target_then w0 w1 result (inl unserved) sound = rw (unserved.1, unserved.2) (stays_same MayHappen log target)
 stays_behind line count log log_then target target_then w0 w1 result (inr served) sound = served.2.served refl sound
+
+came_behind : (line : List ℕ) (count : ℕ) (log log_then : List Entry) (target target_then : Machine) (w0 w1 : Option (List ℕ))
+    (result : Result (Unit {0}) Fault) → Serves line count true log log_then target target_then w0 w1 result → ComesOutServed log log_then target target_then
+came_behind line count log log_then target target_then w0 w1 result (inl unserved) = rw (unserved.1, unserved.2) (stays_same (MayComeOut target) log target)
+came_behind line count log log_then target target_then w0 w1 result (inr served) = served.2.came refl
 
 bounded_behind : (line : List ℕ) (count : ℕ) (tells : Bool) (log log_then : List Entry) (target target_then : Machine) (w0 w1 : Option (List ℕ))
     (result : Result (Unit {0}) Fault) → Serves line count tells log log_then target target_then w0 w1 result → Bounded target → Bounded target_then
@@ -200,7 +205,8 @@ serving held left w0 w1 document count units address log first served result ope
           (targets_sure held document.targets units opened in_memory));
       address = address;
       serves = from_listening;
-      whole = λ sound. been_served s told served.log served.target refl nothing (stays_behind _ _ _ _ _ _ _ _ result from_listening sound);
+      whole = λ sound. been_served MayHappen s told served.log served.target refl nothing (stays_behind _ _ _ _ _ _ _ _ result from_listening sound);
+      came = been_served (MayComeOut served.target) s told served.log served.target refl nothing (came_behind _ _ _ _ _ _ _ _ result from_listening);
       bounded = bounded_behind _ _ _ _ _ _ _ _ _ result from_listening (subst Bounded made bounded);
     }
 

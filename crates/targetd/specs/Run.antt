@@ -12,7 +12,7 @@ use Rattle.iscsi_target.specs.Machine.{Machine, WhereSound, IsSound, new_machine
 use Rattle.iscsi_target.specs.Bounded.{Bounded}
 use Rattle.iscsi_serve.specs.Log.{Entry, Listened, Located}
 use Rattle.iscsi_serve.specs.Calls.{ip_octets}
-use Rattle.iscsi_serve.specs.Served.{HasBeenServed}
+use Rattle.iscsi_serve.specs.Served.{MayHappen, MayComeOut, HasBeenServed}
 use Rattle.target_config.specs.Configuration.{Document, names_of, keeps_in_memory}
 use Rattle.target_config.specs.Config.{file_config_of}
 use Rattle.target_config.specs.declared.fault.ConfigFault.{ConfigFault}
@@ -76,7 +76,9 @@ module _ (held : Held) (left : LeftState) (printed printed_then : Option (List �
         (new_machine (known_of document) units) served.target printed printed_then result
     -- So, in all, of a sound target: what was written on each open connection, and then what waits, is what the World of the
     -- log's events answers, a front of it on one that is over.
-    pub whole : IsSound served.target → HasBeenServed (setting_of document units) served.log served.target
+    pub whole : IsSound served.target → HasBeenServed MayHappen (setting_of document units) served.log served.target
+    -- and of every target, by how its commands came out: as defined in each target whose units are sound
+    pub came : HasBeenServed (MayComeOut served.target) (setting_of document units) served.log served.target
     -- no connection made the target hold more than it may
     pub bounded : Bounded served.target
 

@@ -6,7 +6,7 @@ use Rattle.std.specs.declared.net.socket_addr.SocketAddr.{SocketAddr}
 use Rattle.iscsi_target.specs.Bounded.{Bounded}
 use Rattle.iscsi_target.specs.Machine.{Machine, IsSound, IsSure}
 use Rattle.iscsi_serve.specs.Log.{Entry}
-use Rattle.iscsi_serve.specs.Served.{StaysServed}
+use Rattle.iscsi_serve.specs.Served.{StaysServed, ComesOutServed}
 use Rattle.iscsi_serve.specs.Turn.{Moment, log_of, beginning, EndsTurns}
 use Rattle.iscsi_serve.specs.declared.fault.ServeFault.{ServeFault}
 use Rattle.targetd.specs.declared.fault.Fault.{Fault}
@@ -27,12 +27,14 @@ module _ (line : List ℕ) (count : ℕ) (tells : Bool) (log log_then : List Ent
   FailsToPrint fault = ((fault ≡ faults.OutOfMemory) × Keeps printed printed_then)
       ⊎ ((fault ≡ faults.Output) × ((front : List ℕ) × (unprinted : List ℕ) × (line ≡ front ++ unprinted) × Appends printed printed_then front))
 
-  -- the line was printed, and the loop made so many turns, or those up to its first fault: of every target what it did
-  -- turn by turn, within the bound, and of a sound one that what was written stays what the World answers
+  -- The line was printed, and the loop made so many turns, or those up to its first fault. Of every target: what it did turn by
+  -- turn, within the bound, and that what was written stays what the World answers, by how the commands came out; of a sound one,
+  -- as they are defined.
   pub record HasServed (ended : Result (Unit {0}) ServeFault) : Type 0 where
     pub announced : Appends printed printed_then line
     pub turned : tells ≡ true → (m : Moment) × (log_then ≡ log_of m) × (target_then ≡ m.target) × EndsTurns count (beginning target log) ended m
     pub served : tells ≡ true → IsSound target_then → StaysServed log log_then target target_then
+    pub came : tells ≡ true → ComesOutServed log log_then target target_then
     pub bounded : Bounded target → Bounded target_then
     pub sure : IsSure target → IsSure target_then
 

@@ -1,7 +1,9 @@
 use Rattle.std.proofs.Common.{◌<◌, arith, refl}
 use Rattle.iscsi_serve.specs.Log.{Open, Close, NobodyCame, AcceptFailed}
 use Rattle.iscsi_serve.proofs.Goings.{nobody, somebody, too_many}
-use Rattle.iscsi_serve.proofs.Keeping.{keeps_then, keeps_told, open_stays}
+use Rattle.iscsi_target.specs.History as history
+use Rattle.iscsi_serve.specs.Served.{MayHappen, MayComeOut}
+use Rattle.iscsi_serve.proofs.Keeping.{keeps_then, keeps_told, open_stays, plain_happens, plain_comes_out}
 use Rattle.iscsi_serve.proofs.serving.accept_one.Goals as goal
 
 pub returns-in-Err-clause-keeps : goal.returns-in-Err-clause-keeps
@@ -38,9 +40,13 @@ returns-else-is_err-clause-keeps g c =
     record {
       back = c.accept.ensures.back;
       sound = c.open.ensures.sound;
+      each = c.open.ensures.each;
       sure = c.open.ensures.sure;
       served = λ tells sound.
-          open_stays _ _ _ _ _ lt (c.free_number-c.ensures.free lt) (rw c.in-Ok-Connection.field-0-is at (c.in-Ok-Connection.ensures.log tells))
-          (λ s sent h stands. c.open.ensures.stands s sent h (λ was. stands) sound);
+          open_stays MayHappen _ _ _ _ _ (plain_happens _) lt (c.free_number-c.ensures.free lt)
+          (rw c.in-Ok-Connection.field-0-is at (c.in-Ok-Connection.ensures.log tells)) c.open.ensures.always;
+      came = λ tells.
+          open_stays (MayComeOut c.open.new.self) _ _ _ _ _ (plain_comes_out c.open.new.self (history.Open c.free_number-c.result)) lt
+          (c.free_number-c.ensures.free lt) (rw c.in-Ok-Connection.field-0-is at (c.in-Ok-Connection.ensures.log tells)) c.open.ensures.always;
       bounded = c.open.ensures.bounded;
     }

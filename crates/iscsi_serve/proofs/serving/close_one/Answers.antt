@@ -1,6 +1,8 @@
 use Rattle.std.proofs.Common.{sym}
 use Rattle.iscsi_serve.proofs.Goings.{free_close, open_close, close_due}
-use Rattle.iscsi_serve.proofs.Keeping.{keeps_same, close_stays}
+use Rattle.iscsi_target.specs.History as history
+use Rattle.iscsi_serve.specs.Served.{MayHappen, MayComeOut}
+use Rattle.iscsi_serve.proofs.Keeping.{keeps_same, close_stays, plain_happens, plain_comes_out}
 use Rattle.iscsi_serve.proofs.serving.close_one.Goals as goal
 
 pub returns-then-not-is_open : goal.returns-then-not-is_open
@@ -15,9 +17,12 @@ returns-then-is_done g c = record {
   keeps = record {
     back = c.close.ensures.back;
     sound = c.gone.ensures.sound;
+    each = c.gone.ensures.each;
     sure = c.gone.ensures.sure;
-    served = λ tells sound.
-        close_stays _ _ _ _ _ c.requires (c.close.ensures.log tells) (λ s sent h stands. c.gone.ensures.stands s sent h (λ was. stands) sound);
+    served = λ tells sound. close_stays MayHappen _ _ _ _ _ (plain_happens _) c.requires (c.close.ensures.log tells) c.gone.ensures.always;
+    came = λ tells.
+        close_stays (MayComeOut c.gone.new.self) _ _ _ _ _ (plain_comes_out c.gone.new.self (history.Gone c.args.c)) c.requires
+        (c.close.ensures.log tells) c.gone.ensures.always;
     bounded = c.gone.ensures.bounded;
   };
   goes = λ tells. close_due _ _ _ _ _ _ c.requires (sym c.if-not-is_open.ensures) (sym c.if-is_done.ensures) (c.close.ensures.log tells) c.gone.ensures.now;

@@ -1,8 +1,9 @@
 use Rattle.std.proofs.Common.{◌≡◌, ◌<◌, ◌≤◌, [], length, take, rules, arith, inl, inr, refl}
 use Rattle.std.proofs.lemmas.List.{length-take-le}
 use Rattle.iscsi_serve.specs.Log.{Read, Bytes, End, Fault}
+use Rattle.iscsi_serve.specs.Served.{MayHappen, MayComeOut}
 use Rattle.iscsi_serve.proofs.Goings.{read_some, read_none, read_ended}
-use Rattle.iscsi_serve.proofs.Keeping.{keeps_told, read_stays}
+use Rattle.iscsi_serve.proofs.Keeping.{keeps_told, read_stays, fed_comes_out}
 use Rattle.iscsi_serve.proofs.serving.read_piece.Goals as goal
 
 pub returns-in-Bytes-eq0 : goal.returns-in-Bytes-eq0
@@ -29,10 +30,14 @@ returns-in-Bytes g c = λ named due.
       keeps = record {
         back = c.read.ensures.back;
         sound = c.feed.ensures.sound;
+        each = c.feed.ensures.each;
         sure = c.feed.ensures.sure;
         served = λ tells sound.
-            read_stays _ _ _ _ c.args.c (length c.args.piece.now) piece some (rw same at (c.in-Bytes.ensures.log tells))
+            read_stays MayHappen _ _ _ _ c.args.c (length c.args.piece.now) piece some (rw same at (c.in-Bytes.ensures.log tells))
             (c.feed.ensures.stands sound);
+        came = λ tells.
+            read_stays (MayComeOut c.feed.new.target) _ _ _ _ c.args.c (length c.args.piece.now) piece some (rw same at (c.in-Bytes.ensures.log tells))
+            (fed_comes_out _ _ _ _ c.feed.ensures.fed);
         bounded = (let room = due.is_room in c.feed.ensures.bounded (omega (arith, fits, room)));
       };
       goes = λ tells.

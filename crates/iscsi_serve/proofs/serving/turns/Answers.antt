@@ -36,8 +36,10 @@ returns-in_err-turn_with g c =
                 c.loop-test.true so_far.3 turn.3,
           ));
       served = keeps.served;
+      came = keeps.came;
       bounded = keeps.bounded;
       back = keeps.back;
       sound = keeps.sound;
+      each = keeps.each;
       sure = keeps.sure;
     }

@@ -1,6 +1,7 @@
 use Rattle.std.proofs.Common.{◌≡◌, ◌<◌, ◌∙◌, length, sym, refl, rules, inl, inr, arith}
 use Rattle.std.proofs.lemmas.List.{nil_from_length}
 use Rattle.iscsi_serve.specs.Log.{Wrote, Fault, End}
+use Rattle.iscsi_serve.specs.Served.{MayHappen, MayComeOut}
 use Rattle.iscsi_serve.proofs.Closing.{open_sent, sent_none, others_same, others_sent, others_ended}
 use Rattle.iscsi_serve.proofs.Goings.{empty_write, write_some, write_ended}
 use Rattle.iscsi_serve.proofs.Keeping.{keeps_same, keeps_told, write_stays, nothing_stays}
@@ -22,10 +23,14 @@ returns-in-Bytes-eq0-clause-does g c =
       keeps = record {
         back = c.write.ensures.back;
         sound = λ sound. sound;
+        each = λ number sound. sound;
         sure = λ sure. sure;
         served = λ tells sound.
-            nothing_stays _ _ c.args.target.now c.args.c c.out-offered.result.now c.requires.in_range c.requires.open (sym c.out-offered.ensures)
-            (rw c.in-Bytes-eq0.field-0-test at (c.in-Bytes-eq0.ensures.log tells));
+            nothing_stays MayHappen _ _ c.args.target.now c.args.c c.out-offered.result.now c.requires.in_range c.requires.open
+            (sym c.out-offered.ensures) (rw c.in-Bytes-eq0.field-0-test at (c.in-Bytes-eq0.ensures.log tells));
+        came = λ tells.
+            nothing_stays (MayComeOut c.args.target.now) _ _ c.args.target.now c.args.c c.out-offered.result.now c.requires.in_range c.requires.open
+            (sym c.out-offered.ensures) (rw c.in-Bytes-eq0.field-0-test at (c.in-Bytes-eq0.ensures.log tells));
         bounded = λ bounded. bounded;
       };
       goes = λ tells.
@@ -40,11 +45,14 @@ returns-in-Bytes-clause-does g c =
       keeps = record {
         back = c.write.ensures.back;
         sound = c.sent.ensures.sound;
+        each = c.sent.ensures.each;
         sure = c.sent.ensures.sure;
         served = λ tells sound.
-            write_stays _ _ _ _ _ _ _ c.requires.in_range c.requires.open (sym c.out-offered.ensures) c.in-Bytes.ensures.count
-            (c.in-Bytes.ensures.log tells)
-            (λ s sent h stands. c.sent.ensures.stands s sent h (λ was. stands) sound);
+            write_stays MayHappen _ _ _ _ _ _ _ c.requires.in_range c.requires.open (sym c.out-offered.ensures) c.in-Bytes.ensures.count
+            (c.in-Bytes.ensures.log tells) c.sent.ensures.always;
+        came = λ tells.
+            write_stays (MayComeOut c.sent.new.self) _ _ _ _ _ _ _ c.requires.in_range c.requires.open (sym c.out-offered.ensures) c.in-Bytes.ensures.count
+            (c.in-Bytes.ensures.log tells) c.sent.ensures.always;
         bounded = c.sent.ensures.bounded;
       };
       goes = λ tells.

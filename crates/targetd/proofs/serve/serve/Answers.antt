@@ -15,6 +15,7 @@ returns-in_err-turns g c =
       announced = rw (c.as_bytes.ensures.value, c.in_ok-line.ensures) at c.in_ok-print_all.ensures.whole;
       turned = c.in_err-turns.ensures.turned;
       served = c.in_err-turns.ensures.served;
+      came = c.in_err-turns.ensures.came;
       bounded = c.in_err-turns.ensures.bounded;
       sure = c.in_err-turns.ensures.sure;
     })
@@ -28,6 +29,7 @@ returns g c =
         announced = rw (c.as_bytes.ensures.value, c.in_ok-line.ensures) at c.in_ok-print_all.ensures.whole;
         turned = c.in_ok-turns.ensures.turned;
         served = c.in_ok-turns.ensures.served;
+        came = c.in_ok-turns.ensures.came;
         bounded = c.in_ok-turns.ensures.bounded;
         sure = c.in_ok-turns.ensures.sure;
       },
