@@ -5,7 +5,8 @@ use Rattle.iscsi_pdu.specs.Frames.{frames, rest, has_frame, is_long, first_frame
 use Rattle.iscsi_target.specs.History.{History, arrivals, new_arrivals}
 use Rattle.scsi_unit.specs.Identity.{without_unit}
 use Rattle.scsi_unit.specs.Joined.{told}
-use Rattle.scsi_unit.specs.Device.{DeviceState, opened, opened_tape}
+use Rattle.scsi_unit.specs.Device.{DeviceState, opened}
+pub use Rattle.scsi_unit.specs.Examples.{empty_tape}
 use Rattle.scsi_unit.specs.Checks.{judged}
 use Rattle.scsi_unit.specs.Lun.{lun_number}
 use Rattle.scsi_unit.specs.Unit.{free_unit, unit_done, performed_as}
@@ -25,22 +26,6 @@ use Rattle.iscsi_target.specs.Output.{outputs}
 -- a disk of 4096 zero blocks
 abbrev pub zero_disk : DeviceState
 zero_disk = opened (record { blocks = replicate 4096 (replicate 512 0); synced = false; failures = 0; honest = true; steady = true })
-
--- an empty tape of 100000 bytes, with the early warning mark at 90000
-abbrev pub empty_tape : DeviceState
-empty_tape = opened_tape (record {
-  before = [];
-  after = [];
-  tail = [];
-  is_loaded = true;
-  capacity = 100000;
-  early_mark = 90000;
-  synced = false;
-  failures = 0;
-  honest = true;
-  steady = true;
-  reach = 100000;
-})
 
 -- the target `t1` with LUN 0, a disk, and LUN 1, a tape
 abbrev pub one_target : Setting

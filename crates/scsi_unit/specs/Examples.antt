@@ -115,8 +115,8 @@ is_not_ready : ((perform_at a test_unit_ready [] (unit_with failed (a_was_told â
 unfolding performed_as judged told unit_done inquiry_outcome
 is_not_ready = (refl, refl, refl, refl, refl)
 
--- an empty tape, loaded
-abbrev empty_tape : DeviceState
+-- an empty tape of 100000 bytes, loaded, with the early warning mark at 90000
+abbrev pub empty_tape : DeviceState
 empty_tape = opened_tape (record {
   before = [];
   after = [];
