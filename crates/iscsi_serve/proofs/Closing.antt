@@ -5,7 +5,7 @@ use Rattle.std.proofs.lemmas.List.{get_or-set_other, set-get_or}
 use Rattle.std.specs.List.{range_with_len}
 use Rattle.iscsi_target.specs.History.{connection_limit, connections}
 use Rattle.iscsi_target.specs.Machine.{Machine, LinkState, link_at, with_link, sent_link, is_open_at, is_closing, is_silent, closed, free_link}
-use Rattle.iscsi_serve.specs.Log.{Entry, Close}
+use Rattle.iscsi_ports.specs.Log.{Entry, Close}
 use Rattle.iscsi_serve.specs.Turn.{Moment, moment, changed, is_open, is_closed, Closes, Along}
 use Rattle.iscsi_serve.specs.Progress.{AreEnded, Does, is_over, is_to_close, NoneToClose, KeepsOthers}
 use Rattle.iscsi_serve.proofs.Goings.{where_not}

@@ -10,7 +10,8 @@ use Rattle.iscsi_target.specs.World.{Setting, World, world}
 use Rattle.iscsi_target.specs.Machine.{Machine, ReflectsSoundness, link_at, is_open_at, new_machine}
 use Rattle.iscsi_target.specs.Stands.{Stands, with_sent}
 use Rattle.iscsi_target.proofs.Standing.{is_open_there, is_free_there, stands_sent, sent_here, sent_there}
-use Rattle.iscsi_serve.specs.Log.{Bytes, Entry, Open, Read, Wrote, Close, event_of, events, Written, written_after, written}
+use Rattle.iscsi_ports.specs.Log.{Bytes, Entry, Open, Read, Wrote, Close, Written, written_after, written}
+use Rattle.iscsi_serve.specs.Events.{event_of, events}
 use Rattle.iscsi_serve.specs.Served.{IsServed, IsFed, MayFollow, MayHappen, MayComeOut, Stays, ComesOutServed, HasBeenServed}
 use Rattle.iscsi_serve.specs.Turn.{Moment, Along}
 use Rattle.iscsi_serve.specs.Progress.{StandsFed, Keeps, Does}

@@ -1,11 +1,7 @@
 pub mod Rows
 pub mod Steps
-pub mod Numbers
 pub mod Moments
 pub mod Goings
 pub mod Keeping
 pub mod Turning
-pub mod Accounts
-pub mod Buffers
-pub mod LingeringPlaces
 pub mod Closing

@@ -2,7 +2,7 @@
 use Rattle.std.proofs.Common.{◌≡◌, ℕ, ◌+◌, zero, suc, List, [], ◌∷◌, ◌++◌, Bool, refl, ap, ◌∙◌, subst, sym, arith, append_assoc}
 use Rattle.std.specs.List.{range_with_len}
 use Rattle.iscsi_target.specs.Machine.{Machine}
-use Rattle.iscsi_serve.specs.Log.{Entry}
+use Rattle.iscsi_ports.specs.Log.{Entry}
 use Rattle.iscsi_serve.specs.Turn.{Moment, moment, Along}
 use Rattle.iscsi_serve.specs.Progress.{AreEnded, Goes}
 

@@ -7,7 +7,7 @@ use Rattle.iscsi_target.specs.World.{is_present, over}
 use Rattle.iscsi_target.specs.Laws.{GoesOn, LivesGoOn}
 use Rattle.iscsi_target.proofs.Choices.{and_true}
 use Rattle.iscsi_target.proofs.Linked.{out-ended}
-use Rattle.iscsi_serve.specs.Log.{Written, nothing_written, is_on, wrote, closed_row, bytes_in}
+use Rattle.iscsi_ports.specs.Log.{Written, nothing_written, is_on, wrote, closed_row, bytes_in}
 use Rattle.iscsi_serve.specs.Served.{IsFront, AreFronts}
 
 -- ---- the row that is open under a number, and the life that is present

@@ -1,7 +1,7 @@
 -- One turn after the other.
 use Rattle.std.proofs.Common.{◌≡◌, ℕ, ◌+◌, ◌<◌, suc, List, sym, subst, arith, Result, Err}
 use Rattle.iscsi_target.specs.Machine.{Machine}
-use Rattle.iscsi_serve.specs.Log.{Entry}
+use Rattle.iscsi_ports.specs.Log.{Entry}
 use Rattle.iscsi_serve.specs.Turn.{Moment, log_of, beginning, IsTurn, EndsTurn, next, Turns, EndsTurns}
 use Rattle.iscsi_serve.specs.declared.fault.ServeFault.{ServeFault}
 

@@ -1,7 +1,8 @@
 -- What is read from a log, computed.
 use Rattle.std.specs.Prelude.{◌≡◌, List, [], ◌∷◌, map, true, false, refl}
 use Rattle.iscsi_target.specs.History as history
-use Rattle.iscsi_serve.specs.Log.{Entry, Bytes, End, Open, NobodyCame, Read, Wrote, Close, events, written, written_on}
+use Rattle.iscsi_ports.specs.Log.{Entry, Bytes, End, Open, NobodyCame, Read, Wrote, Close, written, written_on}
+use Rattle.iscsi_serve.specs.Events.{events}
 
 -- A connection brings two bytes, is answered two of three, and ends. One comes for which no number is
 -- free. Another comes under the first one's number, is written one byte, and sends nothing more.

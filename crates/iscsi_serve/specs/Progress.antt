@@ -7,11 +7,11 @@ use Rattle.iscsi_target.specs.History.{Happening, History, Mark, happening, conn
 use Rattle.iscsi_target.specs.World.{Setting, World, world}
 use Rattle.iscsi_target.specs.Stands.{Stands}
 use Rattle.iscsi_target.specs.Machine.{Machine, LinkState, IsSound, ReflectsSoundness, IsSure, link_at, is_open_at, is_closing}
-use Rattle.iscsi_serve.specs.Log.{Entry}
+use Rattle.iscsi_ports.specs.Log.{Entry}
 use Rattle.iscsi_target.specs.Bounded.{Bounded}
 use Rattle.iscsi_serve.specs.Served.{StaysServed, ComesOutServed}
 use Rattle.iscsi_serve.specs.Turn.{Moment, moment, is_open, is_read, room_for, ends}
-use Rattle.iscsi_serve.specs.declared.results.Named.{Named}
+use Rattle.iscsi_ports.specs.declared.results.Named.{Named}
 
 -- the test at each number is whether the connection ended in this turn
 abbrev pub AreEnded : List Bool → List Entry → Type 0

@@ -7,7 +7,8 @@ use Rattle.iscsi_target.specs.World.{Setting, World, present, happen, begun_even
 use Rattle.iscsi_target.specs.Output.{out_now}
 use Rattle.iscsi_target.specs.Machine.{Machine, IsSoundAt, link_at, new_machine}
 use Rattle.iscsi_target.specs.Stands.{Stands, StandsAfter, IsStarved, are_reached}
-use Rattle.iscsi_serve.specs.Log.{Entry, Written, events, written, written_on}
+use Rattle.iscsi_ports.specs.Log.{Entry, Written, written, written_on}
+use Rattle.iscsi_serve.specs.Events.{events}
 
 -- what was written on a connection is a front of what the World answers in its life
 pub record IsFront (row : Written) (life : Life) : Type 0 where

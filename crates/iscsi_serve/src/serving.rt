@@ -4,16 +4,16 @@ ghost use Rattle.std.specs.Prelude.{◌≡◌, ◌<◌, ◌≤◌, ◌++◌, ◌
 ghost use Rattle.iscsi_target.specs.Bounded.{Bounded};
 ghost use Rattle.iscsi_target.specs.History.{connections};
 ghost use Rattle.iscsi_target.specs.Machine.{Feeds, IsSound, ReflectsSoundness, IsSure, link_at, is_open_at, is_closing, want_of};
-ghost use Rattle.iscsi_serve.specs.Log.{Entry, AcceptFailed};
+ghost use Rattle.iscsi_ports.specs.Log.{Entry, AcceptFailed};
 ghost use Rattle.iscsi_serve.specs.Served.{MayHappen, IsFed, StaysServed, ComesOutServed};
 ghost use Rattle.iscsi_serve.specs.Turn.{Moment, moment, log_of, beginning, free_number as lowest_free, HasAccepted, is_read, Accepts, Reads, Writes, Closes, Along, Carries, EndsTurn, EndsTurns};
 ghost use Rattle.iscsi_serve.specs.Progress.{AreEnded, none_ended, is_to_close, NoneToClose, KeepsOthers, IsDue, StandsFed, Goes, Keeps, Does};
-ghost use Rattle.iscsi_serve.specs.declared.results.Named.{Named};
+ghost use Rattle.iscsi_ports.specs.declared.results.Named.{Named};
 
 use crate::fault::ServeFault;
-use crate::ports::Ports;
-use crate::results::{Accepted, IoResult, Named, PortFault};
-use iscsi_target::{CONNECTIONS, Starved, Target};
+use connection_numbers::CONNECTIONS;
+use iscsi_ports::{Accepted, IoResult, Named, PortFault, Ports};
+use iscsi_target::{Starved, Target};
 use media_store::Store;
 
 /// A read has room for as many bytes at most.

@@ -1,7 +1,8 @@
 -- What happens to the target: connections open, bring bytes and end, one event after the other.
 use Rattle.std.specs.Prelude.{◌≡◌, false, ℕ, List, [], ◌∷◌, ◌++◌, length, drop, map, filter, Bool, true, ◌&&◌, not, ◌==◌, nat_lt, if◌then◌else◌}
-use Rattle.std.specs.List.{list_any, range_with_len, enumerate_from}
+use Rattle.std.specs.List.{list_any, enumerate_from}
 use Rattle.iscsi_pdu.specs.Frames.{Frame, frames, rest, is_long}
+pub use Rattle.connection_numbers.specs.Numbers.{connection_limit, connections}
 use Rattle.iscsi_session.specs.Comings.{Coming}
 use Rattle.iscsi_session.specs.Steps.{Step, is_step, is_of}
 
@@ -64,13 +65,6 @@ abbrev pub plain : Event → Happening
 plain event = marked [] event
 
 -- ---- which events may come
-
--- profile: connections are numbered from 0 to 63
-abbrev pub connection_limit : ℕ
-connection_limit = 64
-
-abbrev pub connections : List ℕ
-connections = range_with_len 0 connection_limit
 
 abbrev pub is_among : ℕ → List ℕ → Bool
 is_among c open_connections = list_any (λ d. d == c) open_connections

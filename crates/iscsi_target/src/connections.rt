@@ -6,12 +6,10 @@ ghost use Rattle.iscsi_target.specs.Lending.{LendsLink};
 ghost use Rattle.iscsi_target.specs.Machine.{free_link, is_settled, is_silent};
 
 use crate::connection::Connection;
+use connection_numbers::CONNECTIONS;
 use out_of_memory::Memory;
 use std::alloc::Global;
 use std::marker::Model;
-
-/// Connections are numbered from 0 to one less than this.
-pub const CONNECTIONS: usize = 64;
 
 /// The connections under their numbers. Clauses see them as a list.
 ///

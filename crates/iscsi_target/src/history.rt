@@ -5,8 +5,8 @@ ghost use Rattle.iscsi_target.specs.History.{may_come, open_after, well_formed a
 ghost use Rattle.iscsi_target.specs.Events.{event_view, events_view};
 ghost use Rattle.iscsi_target.specs.Runs.{IsTable};
 
-use crate::connections::CONNECTIONS;
 use crate::event::Event;
+use connection_numbers::CONNECTIONS;
 
 /// Whether the event may come where these connections are open, and if so, which are open after it.
 fn come(table: &mut [bool; CONNECTIONS], event: &Event) -> bool

@@ -26,7 +26,7 @@ mod sessions;
 mod target;
 
 pub use config::Config;
-pub use connections::CONNECTIONS;
+pub use connection_numbers::CONNECTIONS;
 pub use event::Event;
 pub use fault::Starved;
 pub use history::well_formed;

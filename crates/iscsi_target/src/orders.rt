@@ -17,8 +17,8 @@ ghost use Rattle.iscsi_target.specs.Bounded.{AddsAtMost};
 ghost use Rattle.iscsi_target.specs.Serving.{Preserves, CarriesOut};
 ghost use Rattle.iscsi_target.specs.SessionCalls.{InSession, LeavesSession, LosesCommands, ChangesOne};
 
-use crate::connections::CONNECTIONS;
 use crate::target::Target;
+use connection_numbers::CONNECTIONS;
 use iscsi_pdu::{Header, TaskFunction};
 use iscsi_session::{Reach, Session, attention_of, is_for_all_sessions};
 use media_store::Store;

@@ -13,10 +13,10 @@ ghost use Rattle.iscsi_target.specs.Bounded.{AddsAtMost};
 ghost use Rattle.iscsi_target.specs.Serving.{Takes, Settles, SettlesFor, SettlesOne, Preserves, first_starved, first_of, goes_on_by};
 ghost use Rattle.iscsi_target.specs.SessionCalls.{InSession, LeavesSession, Ends, ServesFrame, SettlesUnits, ChangesOne, ended_link};
 
-use crate::connections::CONNECTIONS;
 use crate::fault::Starved;
 use crate::orders::luns_of;
 use crate::target::Target;
+use connection_numbers::CONNECTIONS;
 use iscsi_pdu::{Frame, Header};
 use media_store::Store;
 use out_of_memory::Memory;

@@ -17,9 +17,10 @@ ghost use Rattle.iscsi_target.specs.Serving.{Takes, TakesOne, TakesAll, Preserve
 
 use crate::config::Config;
 use crate::connection::Connection;
-use crate::connections::{CONNECTIONS, Connections};
+use crate::connections::Connections;
 use crate::fault::Starved;
 use crate::phase::Phase;
+use connection_numbers::CONNECTIONS;
 use iscsi_login::{Directory, is_same_target};
 use media_store::Store;
 use out_of_memory::Memory;

@@ -19,7 +19,7 @@ use Rattle.iscsi_target.specs.Stands.{Stands}
 use Rattle.iscsi_target.proofs.Standing.{stands_sent}
 use Rattle.iscsi_target.specs.Machine.{Machine, IsSound, IsSure, new_machine}
 use Rattle.iscsi_target.specs.Bounded.{Bounded}
-use Rattle.iscsi_serve.specs.Log.{Entry, written}
+use Rattle.iscsi_ports.specs.Log.{Entry, written}
 use Rattle.iscsi_serve.specs.Served.{MayHappen, MayComeOut, StaysServed, ComesOutServed}
 use Rattle.iscsi_serve.specs.declared.fault.ServeFault.{ServeFault}
 use Rattle.iscsi_serve.proofs.Keeping.{stays_same, been_served}
@@ -37,7 +37,7 @@ use Rattle.targetd.specs.ConfigFile.{Loads}
 use Rattle.target_units.specs.Opened.{Held, IsMediumOf, IsUnitOf, AreEach, AreUnitsOf}
 use Rattle.targetd.specs.Help.{RefusesWords}
 use Rattle.targetd.specs.Serve.{listening_line, HasServed, Serves}
-use Rattle.targetd.specs.Run.{FailsEarly, LeftState, ServedState, listening, known_of, setting_of, IsReplay, IsServing, Runs}
+use Rattle.targetd.specs.Run.{FailsEarly, LeftState, ServedState, listening, known_of, setting_of, IsReplay, IsServing, ServesAt, Runs}
 
 -- ---- before a target is made
 
@@ -140,6 +140,13 @@ replay_fails held left r0 r1 w0 w1 document units first last target (Err seen) f
     }
 
 -- ---- serving
+
+-- an allocation failed before the address was listened on
+pub serving_starves : (held : Held) (left : LeftState) (w : Option (List ℕ)) (count : ℕ) (configured : Result Document ConfigFault)
+    (result : Result (Unit {0}) Fault) → IsErrAnd result (λ seen. seen ≡ faults.OutOfMemory) → ServesAt held left w w count configured result
+serving_starves held left w count configured (Ok end) is = absurd is
+serving_starves held left w count configured (Err seen) is =
+    inl (Keeps-refl w, inr (subst (FailsEarly configured) (sym is) (early_memory configured)))
 
 pub fails_to_print : (line : List ℕ) (count : ℕ) (tells : Bool) (log : List Entry) (target : Machine) (w0 w1 : Option (List ℕ))
     (result : Result (Unit {0}) Fault) (fault : ReplayFault) (text : List ℕ)

@@ -2,8 +2,8 @@
 use Rattle.std.specs.Prelude.{ℕ, Option, Some, None, Result, Ok, Err}
 use Rattle.command_line.specs.declared.fault.WordsFault.{WordsFault}
 use Rattle.command_line.specs.declared.fault.WordsFault.TheVariants as words
-use Rattle.iscsi_serve.specs.declared.bind_fault.BindFault.{BindFault}
-use Rattle.iscsi_serve.specs.declared.bind_fault.BindFault.TheVariants as binds
+use Rattle.iscsi_ports.specs.declared.bind_fault.BindFault.{BindFault}
+use Rattle.iscsi_ports.specs.declared.bind_fault.BindFault.TheVariants as binds
 use Rattle.target_config.specs.Fault.{number_of}
 use Rattle.target_config.specs.declared.fault.ConfigFault.{ConfigFault}
 use Rattle.target_replay.specs.declared.fault.ReplayFault.{ReplayFault}

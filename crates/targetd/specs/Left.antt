@@ -1,8 +1,8 @@
 -- What a run leaves, as clauses see it.
 use Rattle.std.specs.Prelude.{List, option_map}
-use Rattle.iscsi_serve.specs.Log.{Entry}
-use Rattle.iscsi_serve.specs.declared.socket_ports.SocketPorts.{SocketPorts}
-use Rattle.iscsi_serve.specs.declared.mio_sockets.MioSockets.{MioSockets}
+use Rattle.iscsi_ports.specs.Log.{Entry}
+use Rattle.iscsi_ports.specs.declared.socket_ports.SocketPorts.{SocketPorts}
+use Rattle.iscsi_ports.specs.declared.mio_sockets.MioSockets.{MioSockets}
 use Rattle.targetd.specs.declared.left.Left.{Left}
 use Rattle.targetd.specs.declared.left.Served.{Served}
 use Rattle.targetd.specs.Run.{ServedState, LeftState}

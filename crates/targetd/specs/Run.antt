@@ -10,8 +10,8 @@ use Rattle.iscsi_login.specs.Directory.{KnownTargets}
 use Rattle.iscsi_target.specs.World.{Setting}
 use Rattle.iscsi_target.specs.Machine.{Machine, WhereSound, IsSound, new_machine}
 use Rattle.iscsi_target.specs.Bounded.{Bounded}
-use Rattle.iscsi_serve.specs.Log.{Entry, Listened, Located}
-use Rattle.iscsi_serve.specs.Calls.{ip_octets}
+use Rattle.iscsi_ports.specs.Log.{Entry, Listened, Located}
+use Rattle.iscsi_ports.specs.Calls.{ip_octets}
 use Rattle.iscsi_serve.specs.Served.{MayHappen, MayComeOut, HasBeenServed}
 use Rattle.target_config.specs.Configuration.{Document, names_of, keeps_in_memory}
 use Rattle.target_config.specs.Config.{file_config_of}

@@ -5,7 +5,7 @@ use Rattle.std.specs.Net.Text.{socket_text}
 use Rattle.std.specs.declared.net.socket_addr.SocketAddr.{SocketAddr}
 use Rattle.iscsi_target.specs.Bounded.{Bounded}
 use Rattle.iscsi_target.specs.Machine.{Machine, IsSound, IsSure}
-use Rattle.iscsi_serve.specs.Log.{Entry}
+use Rattle.iscsi_ports.specs.Log.{Entry}
 use Rattle.iscsi_serve.specs.Served.{StaysServed, ComesOutServed}
 use Rattle.iscsi_serve.specs.Turn.{Moment, log_of, beginning, EndsTurns}
 use Rattle.iscsi_serve.specs.declared.fault.ServeFault.{ServeFault}

@@ -5,7 +5,8 @@ ghost use Rattle.targetd.specs.Fault.{status_of as exit_status, words_fault, con
 ghost use Rattle.targetd.specs.declared.fault.Fault.TheVariants.{OutOfMemory, Socket};
 
 use command_line::WordsFault;
-use iscsi_serve::{BindFault, ServeFault};
+use iscsi_ports::BindFault;
+use iscsi_serve::ServeFault;
 use iscsi_target::Memory;
 use std::alloc::{AllocError, AllocFailed};
 use target_config::ConfigFault;

@@ -3,7 +3,7 @@
 ghost use Rattle.std.specs.Prelude.{◌≡◌, [], None};
 
 use call_record::Record;
-use iscsi_serve::MioPorts;
+use iscsi_ports::MioPorts;
 use iscsi_target::Target;
 use media_store::Start;
 use target_units::SystemStore;

@@ -15,7 +15,7 @@ use crate::opening::{Setup, open};
 use crate::serve::serve;
 use crate::words::texts;
 use command_line::{Mode, WordsFault, mode_of};
-use iscsi_serve::{MioPorts, Ports};
+use iscsi_ports::{MioPorts, Ports};
 use iscsi_target::Target;
 use media_store::Start;
 use std::fs::File;

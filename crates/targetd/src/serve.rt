@@ -4,7 +4,8 @@ ghost use Rattle.std.specs.Prelude.{◌≡◌, ◌++◌, ◌∷◌, [], IfOk, st
 ghost use Rattle.targetd.specs.Serve.{listening_line, Serves};
 
 use crate::fault::Fault;
-use iscsi_serve::{Ports, turns};
+use iscsi_ports::Ports;
+use iscsi_serve::turns;
 use iscsi_target::Target;
 use media_store::Store;
 use std::alloc::{AllocError, Global};

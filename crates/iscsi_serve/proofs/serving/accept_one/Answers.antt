@@ -1,5 +1,5 @@
 use Rattle.std.proofs.Common.{◌<◌, arith, refl}
-use Rattle.iscsi_serve.specs.Log.{Open, Close, NobodyCame, AcceptFailed}
+use Rattle.iscsi_ports.specs.Log.{Open, Close, NobodyCame, AcceptFailed}
 use Rattle.iscsi_serve.proofs.Goings.{nobody, somebody, too_many}
 use Rattle.iscsi_target.specs.History as history
 use Rattle.iscsi_serve.specs.Served.{MayHappen, MayComeOut}

@@ -2,7 +2,7 @@ use Rattle.std.proofs.Common.{ℕ, Option, ◌≡◌, not, ap, sym, arith}
 use Rattle.std.specs.Prelude.{unwrap_or}
 use Rattle.iscsi_target.specs.Machine.{is_open_at}
 use Rattle.iscsi_serve.specs.Turn.{free_number}
-use Rattle.iscsi_serve.proofs.Numbers.{free_here, free_next}
+use Rattle.iscsi_ports.proofs.Numbers.{free_here, free_next}
 use Rattle.iscsi_serve.proofs.serving.free_number.Goals as goal
 
 pub returns-then-not-is_open-clause-value : goal.returns-then-not-is_open-clause-value

@@ -1,6 +1,6 @@
 use Rattle.std.proofs.Common.{◌≡◌, ◌<◌, ◌≤◌, [], length, take, rules, arith, inl, inr, refl}
 use Rattle.std.proofs.lemmas.List.{length-take-le}
-use Rattle.iscsi_serve.specs.Log.{Read, Bytes, End, Fault}
+use Rattle.iscsi_ports.specs.Log.{Read, Bytes, End, Fault}
 use Rattle.iscsi_serve.specs.Served.{MayHappen, MayComeOut}
 use Rattle.iscsi_serve.proofs.Goings.{read_some, read_none, read_ended}
 use Rattle.iscsi_serve.proofs.Keeping.{keeps_told, read_stays, fed_comes_out}

@@ -1,5 +1,5 @@
 use Rattle.std.proofs.Common.{◌∙◌, List, [], ◌∷◌, ◌++◌, Some, None, refl, ap, append_assoc}
-use Rattle.iscsi_serve.specs.Log.{Entry, Polled, AcceptFailed}
+use Rattle.iscsi_ports.specs.Log.{Entry, Polled, AcceptFailed}
 use Rattle.iscsi_serve.specs.Turn.{moment, beginning, told}
 use Rattle.iscsi_serve.proofs.Goings.{none_ended_by}
 use Rattle.iscsi_serve.proofs.Keeping.{keeps_then, keeps_told}

@@ -1,6 +1,6 @@
 use Rattle.std.proofs.Common.{◌≡◌, ◌<◌, ◌∙◌, length, sym, refl, rules, inl, inr, arith}
 use Rattle.std.proofs.lemmas.List.{nil_from_length}
-use Rattle.iscsi_serve.specs.Log.{Wrote, Fault, End}
+use Rattle.iscsi_ports.specs.Log.{Wrote, Fault, End}
 use Rattle.iscsi_serve.specs.Served.{MayHappen, MayComeOut}
 use Rattle.iscsi_serve.proofs.Closing.{open_sent, sent_none, others_same, others_sent, others_ended}
 use Rattle.iscsi_serve.proofs.Goings.{empty_write, write_some, write_ended}

@@ -1,18 +1,25 @@
-use Rattle.std.proofs.Common.{inr, refl, ap, ◌∙◌, ◌++◌, ◌∷◌, [], List, ℕ}
+use Rattle.std.proofs.Common.{inl, inr, refl, ap, ◌∙◌, ◌++◌, ◌∷◌, [], List, ℕ}
+use Rattle.std.proofs.KnownBytes.{Keeps-refl}
 use Rattle.std.specs.Net.Socket.{socket_ip, socket_port}
 use Rattle.iscsi_login.specs.Directory.{KnownTargets}
 use Rattle.iscsi_target.specs.Machine.{new_machine}
-use Rattle.iscsi_serve.specs.Log.{Entry, Listened, Located}
-use Rattle.iscsi_serve.specs.Calls.{ip_octets}
+use Rattle.iscsi_ports.specs.Log.{Entry, Listened, Located}
+use Rattle.iscsi_ports.specs.Calls.{ip_octets}
 use Rattle.target_config.specs.Configuration.{configuration_view, targets_view}
 use Rattle.targetd.proofs.Made.{as_many, known_is}
-use Rattle.targetd.proofs.Ending.{serving}
+use Rattle.targetd.proofs.Ending.{serving, serving_starves}
 use Rattle.targetd.proofs.run.serve_at.Goals as goal
 
 pub new-requires-2 : goal.new-requires-2
 new-requires-2 g c =
     as_many g.S.Start.held (targets_view c.in_ok-configuration.configuration.targets.items) c.in_ok-config.field-0.units.items
     c.in_ok-config.field-0.config.targets.items c.in_ok-config.ensures.units c.in_ok-config.ensures.names
+
+pub returns-in_default-clause-ends : goal.returns-in_default-clause-ends
+returns-in_default-clause-ends g c = inl (Keeps-refl _, inl refl)
+
+pub returns-in_err-target-clause-ends : goal.returns-in_err-target-clause-ends
+returns-in_err-target-clause-ends g c = serving_starves _ _ _ _ _ c.from_residual-in_err-target.result c.from_residual-in_err-target.ensures.1
 
 pub returns-clause-ends : goal.returns-clause-ends
 returns-clause-ends g c =

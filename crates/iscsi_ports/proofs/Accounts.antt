@@ -1,0 +1,65 @@
+-- Each byte that the system gives is handed on or is ahead, call by call.
+use Rattle.std.proofs.Common.{◌≡◌, ℕ, ◌<◌, ◌≤◌, min, List, [], ◌∷◌, ◌++◌, length, take, drop, set, Option, None, Ok, eq-eqb, append_assoc, refl, sym, ap, subst, ◌∙◌, inl, inr}
+use Rattle.std.proofs.lemmas.Bool.{ne_eqb, cases_eq}
+use Rattle.std.proofs.lemmas.List.{append-nil, take-append-drop, get_or-set_same, get_or-set_other, drop_min}
+use Rattle.connection_numbers.specs.Numbers.{connection_limit}
+use Rattle.iscsi_ports.specs.Calls.{Call, Reading, Handing, Closing}
+use Rattle.iscsi_ports.specs.ReadBuffer.{given, handed, bytes_in, ahead_on, IsAccounted, AreDropped}
+
+-- on the connection itself, and on the others
+handed_here : (calls : List Call) (places : List (Option (List ℕ))) (place : Option (List ℕ)) (c room n : ℕ) (piece : List ℕ)
+    → given c calls ≡ handed c calls ++ ahead_on c places → c < length places → piece ≡ take n (ahead_on c places)
+    → bytes_in place ≡ drop n (ahead_on c places)
+    → given c (Handing c room piece ∷ calls) ≡ handed c (Handing c room piece ∷ calls) ++ ahead_on c (set places c place)
+handed_here calls places place c room n piece was lt piece_is rest =
+    rw (eq-eqb c c refl, get_or-set_same places c place None lt, rest, piece_is, append_assoc, take-append-drop n (ahead_on c places)) was
+
+handed_elsewhere : (calls : List Call) (places : List (Option (List ℕ))) (place : Option (List ℕ)) (c d room : ℕ) (piece : List ℕ)
+    → given d calls ≡ handed d calls ++ ahead_on d places → (c ≡ d → ⊥)
+    → given d (Handing c room piece ∷ calls) ≡ handed d (Handing c room piece ∷ calls) ++ ahead_on d (set places c place)
+handed_elsewhere calls places place c d room piece was other =
+    rw (ne_eqb c d other, get_or-set_other places c d place None (λ same. other (sym same))) was
+
+pub accounted_handing : (calls : List Call) (places : List (Option (List ℕ))) (place : Option (List ℕ)) (c room n : ℕ) (piece : List ℕ)
+    → IsAccounted calls places → c < length places → piece ≡ take n (ahead_on c places) → bytes_in place ≡ drop n (ahead_on c places)
+    → IsAccounted (Handing c room piece ∷ calls) (set places c place)
+accounted_handing calls places place c room n piece was lt piece_is rest = λ d in_range.
+    elim (cases_eq c d) [
+      | inl same ↦
+          let P : ℕ → Type 0 = λ e. e ≤ connection_limit
+          → given e (Handing c room piece ∷ calls) ≡ handed e (Handing c room piece ∷ calls) ++ ahead_on e (set places c place) in
+          subst P same (λ here. handed_here calls places place c room n piece (was c here) lt piece_is rest) in_range
+      | inr other ↦ handed_elsewhere calls places place c d room piece (was d in_range) other
+    ]
+
+read_here : (calls : List Call) (places : List (Option (List ℕ))) (place : Option (List ℕ)) (c room n : ℕ) (bytes : List ℕ)
+    → given c calls ≡ handed c calls ++ ahead_on c places → c < length places → ahead_on c places ≡ [] → n ≡ min room (length bytes)
+    → bytes_in place ≡ drop n bytes
+    → given c (Reading c room (Ok bytes) ∷ calls) ≡ handed c (Reading c room (Ok bytes) ∷ calls) ++ ahead_on c (set places c place)
+read_here calls places place c room n bytes was lt none count rest =
+    let all : given c calls ≡ handed c calls = was ∙ ap (λ ahead. handed c calls ++ ahead) none ∙ append-nil (handed c calls) in
+    rw (eq-eqb c c refl, get_or-set_same places c place None lt, rest, count, drop_min room bytes, append_assoc, take-append-drop room bytes)
+    (ap (λ before. before ++ bytes) all)
+
+read_elsewhere : (calls : List Call) (places : List (Option (List ℕ))) (place : Option (List ℕ)) (c d room : ℕ) (bytes : List ℕ)
+    → given d calls ≡ handed d calls ++ ahead_on d places → (c ≡ d → ⊥)
+    → given d (Reading c room (Ok bytes) ∷ calls) ≡ handed d (Reading c room (Ok bytes) ∷ calls) ++ ahead_on d (set places c place)
+read_elsewhere calls places place c d room bytes was other =
+    rw (ne_eqb c d other, get_or-set_other places c d place None (λ same. other (sym same))) was
+
+pub accounted_reading : (calls : List Call) (places : List (Option (List ℕ))) (place : Option (List ℕ)) (c room n : ℕ) (bytes : List ℕ)
+    → IsAccounted calls places → c < length places → ahead_on c places ≡ [] → n ≡ min room (length bytes) → bytes_in place ≡ drop n bytes
+    → IsAccounted (Reading c room (Ok bytes) ∷ calls) (set places c place)
+accounted_reading calls places place c room n bytes was lt none count rest = λ d in_range.
+    elim (cases_eq c d) [
+      | inl same ↦
+          let P : ℕ → Type 0 = λ e. e ≤ connection_limit
+          → given e (Reading c room (Ok bytes) ∷ calls) ≡ handed e (Reading c room (Ok bytes) ∷ calls) ++ ahead_on e (set places c place) in
+          subst P same (λ here. read_here calls places place c room n bytes (was c here) lt none count rest) in_range
+      | inr other ↦ read_elsewhere calls places place c d room bytes (was d in_range) other
+    ]
+
+-- what is ahead at a close is dropped
+pub dropped_closing : (calls : List Call) (places : List (Option (List ℕ))) (c : ℕ) (dropped : List ℕ) → IsAccounted calls places → AreDropped calls
+    → c ≤ connection_limit → dropped ≡ ahead_on c places → AreDropped (Closing c dropped ∷ calls)
+dropped_closing calls places c dropped accounted so_far le is = let here = accounted c le in cc

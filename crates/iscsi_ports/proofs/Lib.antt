@@ -1,0 +1,4 @@
+pub mod Numbers
+mod Accounts
+mod Buffers
+mod LingeringPlaces

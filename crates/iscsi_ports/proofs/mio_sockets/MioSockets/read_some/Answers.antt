@@ -1,0 +1,26 @@
+use Rattle.std.proofs.Common.{◌≡◌, ℕ, nat_lt, true, false, length, Result, Ok, Err, refl, ap, arith, rules}
+use Rattle.iscsi_ports.specs.ReadBuffer.{ahead_on}
+use Rattle.iscsi_ports.specs.Readiness.{given_in_all}
+use Rattle.iscsi_ports.specs.declared.socket_failure.SocketFailure.{SocketFailure}
+use Rattle.iscsi_ports.proofs.mio_sockets.MioSockets.read_some.Goals as goal
+
+-- nothing is ahead behind the read
+given-none : (answer : Result ℕ SocketFailure) → given_in_all answer 0 ≡ answer
+given-none (Ok count) = ap Ok (omega arith)
+given-none (Err failure) = refl
+
+pub returns-in-Some-clause-readiness : goal.returns-in-Some-clause-readiness
+returns-in-Some-clause-readiness c =
+    let room : nat_lt 0 (length c.read_ahead.new.buffer) ≡ true = search rules in
+    let none : nat_lt 0 (length (ahead_on c.args.c c.args.self.now.ahead.items)) ≡ false = search rules in
+    (65536, omega (arith, c.if-buffer-ge-MOST_AHEAD.false), rw (room, none) c.read_ahead.ensures.readiness)
+
+pub returns-in-None-clause-readiness : goal.returns-in-None-clause-readiness
+returns-in-None-clause-readiness c =
+    let room : nat_lt 0 (length c.read_at_once-in-None.new.buffer) ≡ true = search rules in
+    let none : nat_lt 0 (length (ahead_on c.args.c c.args.self.now.ahead.items)) ≡ false = search rules in
+    let left : length (ahead_on c.args.c c.read_at_once-in-None.new.self.ahead.items) ≡ 0 = search rules in (
+      length c.read_at_once-in-None.new.buffer,
+      omega arith,
+      rw (room, none, left, given-none c.read_at_once-in-None.result) c.read_at_once-in-None.ensures.readiness,
+    )

@@ -1,0 +1,13 @@
+pub use Rattle.connection_numbers.specs.Numbers
+pub mod Log
+pub mod Results
+pub mod Script
+pub mod Entries
+pub mod Calls
+pub mod ReadBuffer
+pub mod Readiness
+pub mod Polls
+pub mod Asking
+pub mod Lingering
+pub mod ExamplesReadBuffer
+pub mod ExamplesScript

@@ -1,0 +1,37 @@
+//! What the events of the system tell of the ports.
+
+ghost use Rattle.std.specs.Prelude.{◌≡◌, fold};
+ghost use Rattle.mio.specs.Events.{items};
+ghost use Rattle.iscsi_ports.specs.Readiness.{after_event};
+
+use crate::readiness::{Readiness, ReadyEvent};
+use crate::watching::LISTENER;
+use connection_numbers::CONNECTIONS;
+use mio::event::Event;
+use mio::{Events, Token};
+
+/// Takes note of an event.
+fn see(readiness: &mut Readiness, event: &Event)
+    ensures { readiness.new ≡ after_event readiness.old event.now }
+{
+    let Token(token) = event.token();
+    if token == LISTENER {
+        readiness.named.listener = true;
+    } else if token < CONNECTIONS {
+        let event = ReadyEvent {
+            is_readable: event.is_readable(),
+            is_writable: event.is_writable(),
+            has_ended: event.is_read_closed() || event.is_error(),
+        };
+        readiness.see(token, event);
+    }
+}
+
+/// Takes note of all events.
+pub(crate) fn see_all(readiness: &mut Readiness, events: &Events)
+    ensures { readiness.new ≡ fold after_event readiness.old (items events.now) }
+{
+    for event in events {
+        see(readiness, event);
+    }
+}

@@ -1,0 +1,50 @@
+//! A listener and its connections, each a port that may be ready.
+
+ghost use Rattle.std.specs.Prelude.{◌≡◌, ◌<◌, ◌≤◌, ◌++◌, ◌∷◌, List, [], Bool, true, length};
+ghost use Rattle.iscsi_ports.specs.Log.{Entry, Read, Wrote, Close};
+ghost use Rattle.iscsi_ports.specs.Results.{carried_by, count_of, poll_entry, accept_entry};
+
+use crate::results::{Accepted, IoResult, Named, PortFault};
+
+/// A listener and the connections that it accepted, each under a number that the caller chose: 0 to
+/// 63, and 64 for one that is closed at once.
+///
+/// `log` is what they told, call by call. It says so where `tells` holds after the call; where it
+/// does not hold, it does not hold again.
+pub trait Ports {
+    ghost log: { Self → List Entry };
+
+    ghost tells: { Self → Bool };
+
+    /// Waits until a port may be ready, or for as long as the ports wait, and names those that may
+    /// be.
+    fn poll(&mut self) -> Result<Named, PortFault>
+        ensures log { tells self.new ≡ true → log self.new ≡ log self.old ++ poll_entry result ∷ [] }
+        ensures back { tells self.new ≡ true → tells self.old ≡ true };
+
+    /// Accepts a connection that waits, under this number.
+    fn accept(&mut self, c: usize) -> Result<Accepted, PortFault>
+        requires { c ≤ 64 }
+        ensures log { tells self.new ≡ true → log self.new ≡ log self.old ++ accept_entry c result ∷ [] }
+        ensures back { tells self.new ≡ true → tells self.old ≡ true };
+
+    /// Reads what has come on a connection into the front of the buffer.
+    fn read(&mut self, c: usize, buffer: &mut [u8]) -> IoResult
+        requires { c < 64 }
+        ensures count { count_of result ≤ length buffer.new }
+        ensures log { tells self.new ≡ true → log self.new ≡ log self.old ++ Read c (length buffer.new) (carried_by result buffer.new) ∷ [] }
+        ensures back { tells self.new ≡ true → tells self.old ≡ true };
+
+    /// Writes a front of these bytes to a connection.
+    fn write(&mut self, c: usize, bytes: &[u8]) -> IoResult
+        requires { c < 64 }
+        ensures count { count_of result ≤ length bytes.now }
+        ensures log { tells self.new ≡ true → log self.new ≡ log self.old ++ Wrote c (length bytes.now) (carried_by result bytes.now) ∷ [] }
+        ensures back { tells self.new ≡ true → tells self.old ≡ true };
+
+    /// Closes a connection.
+    fn close(&mut self, c: usize)
+        requires { c ≤ 64 }
+        ensures log { tells self.new ≡ true → log self.new ≡ log self.old ++ Close c ∷ [] }
+        ensures back { tells self.new ≡ true → tells self.old ≡ true };
+}

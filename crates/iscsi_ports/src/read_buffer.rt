@@ -1,0 +1,134 @@
+//! Bytes of a connection that the system gave and that were not handed on yet.
+
+ghost use Rattle.std.specs.Prelude.{◌≡◌, [], min, length, take, drop, None, IsSome, IfOk};
+ghost use Rattle.iscsi_ports.specs.ReadBuffer.{bytes_in};
+
+use std::alloc::{AllocError, Global};
+use std::io::{self, Read};
+use std::marker::Model;
+
+/// How many bytes may be ahead of a connection.
+pub(crate) const MOST_AHEAD: usize = 65_536;
+
+/// A buffer with bytes that are ahead. It is seen as the list of these.
+#[derive(Drop)]
+pub(crate) struct ReadBuffer {
+    buffer: Vec<u8>,
+    from: usize,
+    to: usize,
+}
+
+impl Model for ReadBuffer {
+    ghost use Rattle.std.specs.Prelude.{ℕ, List, ◌≤◌, length, slice_range};
+
+    ghost Value = { List ℕ };
+
+    ghost view = { λ ahead. slice_range ahead.buffer.items ahead.from ahead.to };
+
+    ghost invariant = { λ ahead. (ahead.from ≤ ahead.to) × (ahead.to ≤ length ahead.buffer.items) };
+}
+
+impl ReadBuffer {
+    /// A buffer with nothing in it.
+    pub(crate) fn new(alloc: Global) -> Result<ReadBuffer, AllocError>
+        ensures { IfOk result (λ ahead. ahead ≡ []) }
+    {
+        Ok(ReadBuffer {
+            buffer: vec![in alloc; 0; MOST_AHEAD]?,
+            from: 0,
+            to: 0,
+        })
+    }
+
+    /// What is ahead.
+    pub(crate) fn as_slice(&self) -> &[u8]
+        ensures { result.now ≡ self.now }
+    {
+        &self.buffer.as_slice()[self.from..self.to]
+    }
+
+    /// How many bytes are ahead.
+    pub(crate) fn len(&self) -> usize
+        ensures { result ≡ length self.now }
+    {
+        self.to - self.from
+    }
+
+    /// Reads once into the whole buffer, in the place of what was ahead. How many bytes came.
+    pub(crate) fn fill(&mut self, reader: &mut impl Read) -> io::Result<usize>
+        ensures { IfOk result (λ count. count ≡ length self.new) }
+    {
+        self.from = 0;
+        self.to = 0;
+        let count = reader.read(self.buffer.as_mut_slice())?;
+        self.to = count;
+        Ok(count)
+    }
+
+    /// Hands on as many bytes as the buffer of the reader has room for.
+    pub(crate) fn hand(&mut self, buffer: &mut [u8]) -> usize
+        ensures count { result ≡ min (length self.old) (length buffer.old) }
+        ensures piece { take result buffer.new ≡ take result self.old }
+        ensures rest { self.new ≡ drop result self.old }
+    {
+        let count = (self.to - self.from).min(buffer.len());
+        let end = self.from + count;
+        buffer[..count].copy_from_slice(&self.buffer.as_slice()[self.from..end]);
+        self.from = end;
+        count
+    }
+}
+
+/// Hands on what is ahead, if anything is.
+pub(crate) fn hand_from(place: &mut Option<ReadBuffer>, buffer: &mut [u8]) -> usize
+    ensures count { result ≡ min (length (bytes_in place.old)) (length buffer.old) }
+    ensures piece { take result buffer.new ≡ take result (bytes_in place.old) }
+    ensures rest { bytes_in place.new ≡ drop result (bytes_in place.old) }
+{
+    match place {
+        Some(ahead) => ahead.hand(buffer),
+        None => 0,
+    }
+}
+
+/// What is ahead.
+pub(crate) fn slice_ahead(place: &Option<ReadBuffer>) -> &[u8]
+    ensures { result.now ≡ bytes_in place.now }
+{
+    match place {
+        Some(ahead) => ahead.as_slice(),
+        None => &[],
+    }
+}
+
+/// How many bytes are ahead.
+pub(crate) fn count_ahead(place: &Option<ReadBuffer>) -> usize
+    ensures { result ≡ length (bytes_in place.now) }
+{
+    match place {
+        Some(ahead) => ahead.len(),
+        None => 0,
+    }
+}
+
+/// Where nothing is ahead any more, the buffer is kept for the next read.
+pub(crate) fn give_back(place: &mut Option<ReadBuffer>, spare: &mut Option<ReadBuffer>)
+    ensures { bytes_in place.new ≡ bytes_in place.old }
+{
+    if count_ahead(place) == 0 {
+        if let Some(empty) = place.take() {
+            *spare = Some(empty);
+        }
+    }
+}
+
+/// A buffer to read into: the one that is kept, or a new one. None where an allocation fails.
+pub(crate) fn take_spare(alloc: Global, spare: &mut Option<ReadBuffer>) -> Option<ReadBuffer>
+    ensures kept { IsSome spare.old → result ≡ spare.old }
+    ensures taken { spare.new ≡ None }
+{
+    match spare.take() {
+        Some(ahead) => Some(ahead),
+        None => ReadBuffer::new(alloc).ok(),
+    }
+}

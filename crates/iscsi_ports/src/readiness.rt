@@ -1,0 +1,140 @@
+//! Which ports may be ready, as far as it is known.
+//!
+//! The system tells a change once (EPOLLET of epoll(7)). So a connection stays readable until a read of
+//! it would wait or gave less than it had room for. Where its peer has ended, or it failed, no further
+//! event tells of it, and it stays readable until a read says so. One whose write would have waited takes
+//! nothing until an event says that it can.
+
+ghost use Rattle.std.specs.Prelude.{◌≡◌, ◌<◌};
+ghost use Rattle.iscsi_ports.specs.Readiness.{nothing_ready, may_give, may_take, still_readable, flags_with, flag_of, with_event, after_taking, named_again, filled, forgotten};
+
+use crate::results::Named;
+use connection_numbers::CONNECTIONS;
+
+/// What the system told in an event of a connection.
+#[derive(Clone, Copy, Debug)]
+pub(crate) struct ReadyEvent {
+    pub(crate) is_readable: bool,
+    pub(crate) is_writable: bool,
+    /// Its peer has ended, or it failed.
+    pub(crate) has_ended: bool,
+}
+
+/// The ports that may be ready.
+#[derive(Clone, Copy, Debug)]
+pub struct Readiness {
+    /// Those whom a poll names: the listener, and the connections of which the system or what is ahead may
+    /// give bytes.
+    pub named: Named,
+    /// Those of which the system may give bytes.
+    readable: [bool; CONNECTIONS],
+    /// Those whose peers have ended, and those that failed.
+    ended: [bool; CONNECTIONS],
+    /// Those whose last write would have waited.
+    full: [bool; CONNECTIONS],
+}
+
+impl ReadyEvent {
+    /// The system may give bytes, or tell that there are no more.
+    fn may_give(self) -> bool
+        ensures { result ≡ may_give self }
+    {
+        self.is_readable || self.has_ended
+    }
+
+    /// A write may be taken, or tell that none is.
+    fn may_take(self) -> bool
+        ensures { result ≡ may_take self }
+    {
+        self.is_writable || self.has_ended
+    }
+}
+
+/// Whether the system may still give bytes of a connection after a read of it, which took all that there was.
+fn stays_readable(is_readable: bool, took_all: bool, has_ended: bool) -> bool
+    ensures { result ≡ still_readable is_readable took_all has_ended }
+{
+    is_readable && (!took_all || has_ended)
+}
+
+/// Gives a connection this flag, where something says so.
+pub(crate) fn set_where(says: bool, flags: &mut [bool; CONNECTIONS], c: usize, flag: bool)
+    requires { c < 64 }
+    ensures { flags.new ≡ flags_with says c flag flags.old }
+{
+    if says {
+        flags[c] = flag;
+    }
+}
+
+impl Readiness {
+    /// None is ready.
+    pub(crate) fn new() -> Readiness
+        ensures { result ≡ nothing_ready }
+    {
+        Readiness {
+            named: Named {
+                listener: false,
+                connections: [false; CONNECTIONS],
+            },
+            readable: [false; CONNECTIONS],
+            ended: [false; CONNECTIONS],
+            full: [false; CONNECTIONS],
+        }
+    }
+
+    /// Takes note of an event of a connection.
+    pub(crate) fn see(&mut self, c: usize, event: ReadyEvent)
+        requires { c < 64 }
+        ensures { self.new ≡ with_event c event self.old }
+    {
+        set_where(event.may_give(), &mut self.readable, c, true);
+        set_where(event.may_give(), &mut self.named.connections, c, true);
+        set_where(event.has_ended, &mut self.ended, c, true);
+        set_where(event.may_take(), &mut self.full, c, false);
+    }
+
+    /// A read of the system took all that there was, or perhaps not.
+    pub(crate) fn took(&mut self, c: usize, took_all: bool)
+        requires { c < 64 }
+        ensures { self.new ≡ after_taking c took_all self.old }
+    {
+        self.readable[c] = stays_readable(self.readable[c], took_all, self.ended[c]);
+    }
+
+    /// After a read: the connection is named as long as the system or what is ahead may give bytes of it.
+    pub(crate) fn name(&mut self, c: usize, is_ahead: bool)
+        requires { c < 64 }
+        ensures { self.new ≡ named_again c is_ahead self.old }
+    {
+        self.named.connections[c] = self.readable[c] || is_ahead;
+    }
+
+    /// A write would have waited.
+    pub(crate) fn fill(&mut self, c: usize)
+        requires { c < 64 }
+        ensures { self.new ≡ filled c self.old }
+    {
+        self.full[c] = true;
+    }
+
+    /// It takes nothing, as far as it is known.
+    pub(crate) fn is_full(&self, c: usize) -> bool
+        requires { c < 64 }
+        ensures { result ≡ flag_of c self.now.full }
+    {
+        self.full[c]
+    }
+
+    /// Nothing is known of a connection, if this is the number of one: it has just come, or was closed.
+    pub(crate) fn forget(&mut self, c: usize)
+        ensures { self.new ≡ forgotten c self.old }
+    {
+        if c < CONNECTIONS {
+            self.named.connections[c] = false;
+            self.readable[c] = false;
+            self.ended[c] = false;
+            self.full[c] = false;
+        }
+    }
+}

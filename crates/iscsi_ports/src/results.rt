@@ -1,0 +1,33 @@
+//! What the calls of the ports tell.
+
+use connection_numbers::CONNECTIONS;
+
+/// Whom a poll names: those that may have something to accept, to read, or room to write.
+#[derive(Clone, Copy, Debug)]
+pub struct Named {
+    pub listener: bool,
+    pub connections: [bool; CONNECTIONS],
+}
+
+/// What a read or a write told.
+#[derive(Clone, Copy, Debug, PartialEq, Eq)]
+pub enum IoResult {
+    /// So many bytes were read or written: none where the call would have waited.
+    Bytes(usize),
+    /// The peer sends nothing more.
+    End,
+    /// The connection failed.
+    Fault,
+}
+
+/// What an accept met.
+#[derive(Clone, Copy, Debug, PartialEq, Eq)]
+pub enum Accepted {
+    Connection,
+    /// None waits, or it was aborted before.
+    Nobody,
+}
+
+/// The call failed.
+#[derive(Clone, Copy, Debug, PartialEq, Eq)]
+pub struct PortFault;

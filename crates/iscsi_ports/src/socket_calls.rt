@@ -1,0 +1,94 @@
+//! The calls of the system on a listener and its connections.
+
+ghost use Rattle.std.specs.Prelude.{◌≡◌, ◌<◌, ◌≤◌, ◌++◌, ◌∷◌, ℕ, List, [], length, Option, option_map};
+ghost use Rattle.std.specs.Duration.{as_nanos};
+ghost use Rattle.std.specs.Io.{WritesAtMost};
+ghost use Rattle.iscsi_ports.specs.Log.{Read};
+ghost use Rattle.iscsi_ports.specs.Calls.{Call, Polling, Naming, Accepting, Writing, PuttingOff, Closing, named_by, moved, read_carried, log_by};
+ghost use Rattle.iscsi_ports.specs.ReadBuffer.{given, handed, AreDropped};
+ghost use Rattle.iscsi_ports.specs.Polls.{IsNoLonger, unasked_in};
+ghost use Rattle.iscsi_ports.specs.Readiness.{after_write, IsReadBy};
+
+use crate::readiness::Readiness;
+use crate::results::Named;
+use crate::socket_failure::SocketFailure;
+use std::time::Duration;
+
+/// The plain calls on sockets, and what each answered: `calls` has them all, the newest first. What the
+/// ports tell without a call is noted among them.
+///
+/// A connection is kept under the number under which it was accepted, 64 among them. A read may take more
+/// from the system than there is room for: the rest is `ahead`, and later reads get it first, with no call.
+pub trait SocketCalls {
+    ghost calls: { Self → List Call };
+
+    ghost ahead: { Self → ℕ → List ℕ };
+
+    /// Waits for an event, no longer than this where a time is given, and makes known whom the system
+    /// names.
+    fn poll(
+        &mut self,
+        readiness: &mut Readiness,
+        wait: Option<Duration>,
+    ) -> Result<(), SocketFailure>
+        ensures { (handed : Option ℕ) × IsNoLonger handed (option_map as_nanos wait)
+            × (calls self.new ≡ Polling handed (named_by result readiness.new.named) ∷ calls self.old) };
+
+    /// Notes that a poll tells who is known to be ready.
+    fn note_named(&mut self, named: &Named)
+        ensures { calls self.new ≡ Naming named.now ∷ calls self.old };
+
+    /// Accepts a connection under this number. Whether the system watches it: one that it does not
+    /// watch is dropped at once.
+    fn accept(&mut self, c: usize) -> Result<bool, SocketFailure>
+        requires { c ≤ 64 }
+        ensures { calls self.new ≡ Accepting c result ∷ calls self.old };
+
+    /// How many bytes are ahead of a connection.
+    fn count_ahead(&self, c: usize) -> usize
+        requires { c < 64 }
+        ensures { result ≡ length (ahead self.now c) };
+
+    /// Reads into the front of the buffer: what is ahead, or else what the system gives.
+    fn read(
+        &mut self,
+        readiness: &mut Readiness,
+        c: usize,
+        buffer: &mut [u8],
+    ) -> Result<usize, SocketFailure>
+        requires { c < 64 }
+        ensures count { WritesAtMost result buffer.new }
+        ensures told { log_by (calls self.new) ≡ log_by (calls self.old)
+            ++ Read c (length buffer.new) (read_carried (moved result buffer.new)) ∷ [] }
+        ensures unasked { unasked_in (calls self.new) ≡ unasked_in (calls self.old) }
+        ensures readiness { IsReadBy c (length buffer.new) (length (ahead self.old c)) (length (ahead self.new c)) result
+            readiness.old readiness.new };
+
+    /// Writes a front of these bytes.
+    fn write(
+        &mut self,
+        readiness: &mut Readiness,
+        c: usize,
+        bytes: &[u8],
+    ) -> Result<usize, SocketFailure>
+        requires { c < 64 }
+        ensures count { WritesAtMost result bytes.now }
+        ensures call { calls self.new ≡ Writing c (length bytes.now) (moved result bytes.now) ∷ calls self.old }
+        ensures readiness { readiness.new ≡ after_write c result readiness.old };
+
+    /// Notes that a write of so many bytes is put off.
+    fn note_put_off(&mut self, c: usize, offered: usize)
+        requires { c < 64 }
+        ensures { calls self.new ≡ PuttingOff c offered ∷ calls self.old };
+
+    /// Closes a connection, if there is one under this number. What is ahead of it is dropped, and noted.
+    fn close(&mut self, c: usize)
+        requires { c ≤ 64 }
+        ensures { calls self.new ≡ Closing c (ahead self.old c) ∷ calls self.old };
+
+    /// Each byte that the system gave was handed on or is ahead, in the order in which they were given.
+    ghost accounted: { (sockets : Self) (c : ℕ) → c ≤ 64 → given c (calls sockets) ≡ handed c (calls sockets) ++ ahead sockets c };
+
+    /// At each close, what was given and not handed on is dropped.
+    ghost dropped: { (sockets : Self) → AreDropped (calls sockets) };
+}

@@ -1,0 +1,386 @@
+//! Ports over sockets.
+
+ghost use Rattle.std.specs.Prelude.{◌≡◌, ◌<◌, ◌≤◌, ◌∷◌, ◌++◌, ℕ, List, [], Bool, true, false, length, Option, option_map, Result, IfOk};
+ghost use Rattle.std.specs.Duration.{as_nanos};
+ghost use Rattle.std.specs.Io.{WritesAtMost};
+ghost use Rattle.std.specs.Net.Socket.{socket_ip, socket_port};
+ghost use Rattle.std.specs.Result.{IsErrOf};
+ghost use Rattle.std.specs.Net.Grammar.{IsSocketText};
+ghost use Rattle.std.specs.declared.net.socket_addr.SocketAddr.{SocketAddr};
+ghost use Rattle.iscsi_ports.specs.Results.{carried_by, count_of, poll_entry, accept_entry};
+ghost use Rattle.iscsi_ports.specs.Log.{Listened, Located, Read, Wrote, Close};
+ghost use Rattle.iscsi_ports.specs.Calls.{Polling, Naming, Accepting, Writing, PuttingOff, Closing, ip_octets, moved, accepted, read_carried, write_carried, log_by};
+ghost use Rattle.iscsi_ports.specs.Readiness as ready;
+ghost use Rattle.iscsi_ports.specs.Readiness.{forgotten, IsReadBy};
+ghost use Rattle.iscsi_ports.specs.Polls.{wait_for, IsNoLonger};
+ghost use Rattle.iscsi_ports.specs.Asking as asking;
+ghost use Rattle.iscsi_ports.specs.Asking.{asks, asks_now, wait_now, AsksInTime, after_asking, after_naming, after_accepting, after_reading, after_writing};
+
+use crate::bind_fault::BindFault;
+use crate::mio_sockets::MioSockets;
+use crate::ports::Ports;
+use crate::readiness::{Readiness, set_where};
+use crate::results::{Accepted, IoResult, Named, PortFault};
+use crate::socket_calls::SocketCalls;
+use crate::socket_failure::SocketFailure;
+use connection_numbers::CONNECTIONS;
+use std::alloc::Global;
+use std::io;
+use std::net::{Net, SocketAddr};
+use std::time::Duration;
+
+/// For how many seconds a poll waits at most where an accept is to be tried again.
+const SHORTLY: u64 = 1;
+
+/// So many polls in a row at most are answered without asking the system.
+const MOST_UNASKED: u32 = 63;
+
+/// The bytes of a header (RFC 7143 §11.2.1).
+const HEADER: usize = 48;
+
+/// A write of fewer bytes may be put off.
+const MOST_PUT_OFF: usize = 262_144;
+
+/// Ports over the calls of the system, whose record they tell.
+///
+/// A read takes as many bytes from the system as it gives, and those that the reader has no room for are
+/// told by the next reads. While such bytes are ahead the system is asked for events at each 64th poll
+/// alone, and what is to be written waits for the answers to the commands that are ahead. Behind a write that
+/// would have waited the next poll asks, then every other one, every fourth and so on, so that the connection is
+/// offered the rest soon.
+///
+/// A port is named from an event of the system on until a read or an accept of it would wait, and as long as
+/// bytes of it are ahead.
+#[derive(Drop)]
+pub struct SocketPorts<K: SocketCalls + Drop> {
+    sockets: K,
+    /// Which ports may be ready.
+    readiness: Readiness,
+    /// Something was read, written or accepted since the last poll, so that there may be more.
+    busy: bool,
+    /// Bytes were read since the last poll of a connection of which more are ahead.
+    holding: bool,
+    /// The connections of which bytes were read since the last poll.
+    has_read: [bool; CONNECTIONS],
+    /// So many polls in a row were answered without asking the system.
+    unasked: u32,
+    /// So many in a row may be.
+    most_unasked: u32,
+    /// The last accept was refused: those who wait are still there, and no event will tell of them.
+    refused: bool,
+    /// For how long a poll waits. `None`: until there is an event.
+    wait: Option<Duration>,
+}
+
+/// Ports over the system's sockets.
+pub type MioPorts = SocketPorts<MioSockets>;
+
+impl SocketPorts<MioSockets> {
+    /// Listens on an address with a port, as `127.0.0.1:3260` or `[::1]:3260`; port 0 takes a free
+    /// one. A poll waits for so many milliseconds, or without limit.
+    ///
+    /// `Socket`: the text spells no address, or the system does not let it be listened on.
+    pub fn new(
+        net: &impl Net,
+        alloc: Global,
+        address: &str,
+        wait: Option<u64>,
+    ) -> Result<MioPorts, BindFault>
+        ensures log { IfOk result (λ ports. ⟦<SocketPorts<MioSockets> as Ports>⟧.log ports ≡ Listened address.now ∷ []) }
+        ensures tells { IfOk result (λ ports. ⟦<SocketPorts<MioSockets> as Ports>⟧.tells ports ≡ true) }
+        ensures in_time { IfOk result (λ ports. AsksInTime (⟦<MioSockets as SocketCalls>⟧.calls ports.sockets) ports) }
+        ensures spelled { IfOk result (λ ports. (value : SocketAddr) × IsSocketText address.now value) }
+        ensures unspelled { ((value : SocketAddr) → ¬ (IsSocketText address.now value)) → IsErrOf result BindFault.Socket }
+    {
+        let sockets = MioSockets::listen(net, alloc, address)?;
+        Ok(SocketPorts {
+            sockets,
+            readiness: Readiness::new(),
+            busy: false,
+            holding: false,
+            has_read: [false; CONNECTIONS],
+            unasked: 0,
+            most_unasked: MOST_UNASKED,
+            refused: false,
+            wait: wait.map(Duration::from_millis),
+        })
+    }
+
+    /// The address that is listened on, with its port. What the system told is noted beside the calls.
+    pub fn address(&mut self) -> io::Result<SocketAddr>
+        ensures told { IfOk result (λ address. ⟦<SocketPorts<MioSockets> as Ports>⟧.log self.new
+            ≡ ⟦<SocketPorts<MioSockets> as Ports>⟧.log self.old ++ Located (ip_octets (socket_ip address)) (socket_port address) ∷ []) }
+        ensures tells { ⟦<SocketPorts<MioSockets> as Ports>⟧.tells self.new ≡ true }
+        ensures in_time { AsksInTime (⟦<MioSockets as SocketCalls>⟧.calls self.old.sockets) self.old
+            → AsksInTime (⟦<MioSockets as SocketCalls>⟧.calls self.new.sockets) self.new }
+    {
+        self.sockets.address()
+    }
+}
+
+/// Whether a poll asks the system: not where bytes that are ahead were just read, nor at once after
+/// something was done, but whatever happens where so many polls were answered without asking.
+fn is_to_ask(holding: bool, busy: bool, unasked: u32, most_unasked: u32) -> bool
+    ensures { result ≡ asks holding busy unasked most_unasked }
+{
+    unasked >= most_unasked || !holding && !(busy && unasked == 0)
+}
+
+/// How many polls in a row may be answered without asking, once the system was asked: twice as many and one,
+/// up to 63.
+fn longer(most_unasked: u32) -> u32
+    ensures { result ≡ asking.longer most_unasked }
+{
+    if most_unasked >= MOST_UNASKED / 2 {
+        return MOST_UNASKED;
+    }
+    2 * most_unasked + 1
+}
+
+/// Whether a write of so many bytes is put off, on a connection of which bytes were just read and so many are
+/// ahead: as long as these may hold a whole header, whose answer can go with it.
+fn is_put_off(has_read: bool, ahead: usize, offered: usize) -> bool
+    ensures { result ≡ asking.is_put_off has_read ahead offered }
+{
+    has_read && ahead >= HEADER && offered < MOST_PUT_OFF
+}
+
+/// For how long the next poll waits: not at all where there may be more, and no longer than
+/// [`SHORTLY`] where an accept is to be tried again.
+fn to_wait(busy: bool, refused: bool, wait: Option<Duration>) -> Option<Duration>
+    ensures { option_map as_nanos result ≡ wait_for busy refused (option_map as_nanos wait) }
+{
+    if busy {
+        return Some(Duration::ZERO);
+    }
+    if !refused {
+        return wait;
+    }
+    let shortly = Duration::from_secs(SHORTLY);
+    Some(wait.map_or(shortly, |limit| limit.min(shortly)))
+}
+
+/// What an accept came to.
+fn accept_told(answer: Result<bool, SocketFailure>) -> Result<Accepted, PortFault>
+    ensures { (c : ℕ) → accept_entry c result ≡ accepted c answer }
+{
+    match answer {
+        Ok(true) => Ok(Accepted::Connection),
+        Ok(false) => Ok(Accepted::Nobody),
+        Err(SocketFailure::WouldWait) => Ok(Accepted::Nobody),
+        Err(SocketFailure::Interrupted) => Ok(Accepted::Nobody),
+        Err(SocketFailure::Passing) => Ok(Accepted::Nobody),
+        Err(SocketFailure::Refused) => Ok(Accepted::Nobody),
+        Err(SocketFailure::Broken) => Err(PortFault),
+    }
+}
+
+/// What a read came to. No bytes are the end of the stream.
+fn read_told(answer: Result<usize, SocketFailure>) -> IoResult
+    ensures count { (buffer : List ℕ) → WritesAtMost answer buffer → count_of result ≤ length buffer }
+    ensures told { (buffer : List ℕ) → WritesAtMost answer buffer → carried_by result buffer ≡ read_carried (moved answer buffer) }
+{
+    match answer {
+        Ok(0) => IoResult::End,
+        Ok(count) => IoResult::Bytes(count),
+        Err(SocketFailure::WouldWait) => IoResult::Bytes(0),
+        Err(SocketFailure::Interrupted) => IoResult::Bytes(0),
+        Err(SocketFailure::Passing) => IoResult::Fault,
+        Err(SocketFailure::Refused) => IoResult::Fault,
+        Err(SocketFailure::Broken) => IoResult::Fault,
+    }
+}
+
+/// What a write came to.
+fn write_told(answer: Result<usize, SocketFailure>) -> IoResult
+    ensures count { (bytes : List ℕ) → WritesAtMost answer bytes → count_of result ≤ length bytes }
+    ensures told { (bytes : List ℕ) → carried_by result bytes ≡ write_carried (moved answer bytes) }
+{
+    match answer {
+        Ok(count) => IoResult::Bytes(count),
+        Err(SocketFailure::WouldWait) => IoResult::Bytes(0),
+        Err(SocketFailure::Interrupted) => IoResult::Bytes(0),
+        Err(SocketFailure::Passing) => IoResult::Fault,
+        Err(SocketFailure::Refused) => IoResult::Fault,
+        Err(SocketFailure::Broken) => IoResult::Fault,
+    }
+}
+
+/// After an accept: the listener is not ready where it would wait, and of a connection that has just come
+/// nothing is known.
+fn after_accept(readiness: &mut Readiness, c: usize, answer: Result<bool, SocketFailure>)
+    ensures { readiness.new ≡ ready.after_accept c answer readiness.old }
+{
+    match answer {
+        Ok(true) => readiness.forget(c),
+        Err(SocketFailure::WouldWait) => readiness.named.listener = false,
+        Ok(false) | Err(_) => {}
+    }
+}
+
+/// Somebody came, or the accept is to be tried again at once.
+fn accept_goes_on(answer: Result<bool, SocketFailure>) -> bool
+    ensures { result ≡ ready.accept_goes_on answer }
+{
+    matches!(
+        answer,
+        Ok(_) | Err(SocketFailure::Interrupted | SocketFailure::Passing)
+    )
+}
+
+/// Those who wait are still there, and no event will tell of them.
+fn is_refused(answer: Result<bool, SocketFailure>) -> bool
+    ensures { result ≡ asking.is_refused answer }
+{
+    matches!(answer, Err(SocketFailure::Refused))
+}
+
+/// Something was done, or is to be tried again at once.
+fn goes_on(answer: Result<usize, SocketFailure>) -> bool
+    ensures { result ≡ ready.goes_on answer }
+{
+    matches!(answer, Ok(_) | Err(SocketFailure::Interrupted))
+}
+
+/// A read gave bytes.
+fn gave(answer: Result<usize, SocketFailure>) -> bool
+    ensures { result ≡ asking.gave answer }
+{
+    match answer {
+        Ok(count) => count > 0,
+        Err(_) => false,
+    }
+}
+
+/// How many polls in a row may be answered without asking, behind a write.
+fn most_after(answer: Result<usize, SocketFailure>, most_unasked: u32) -> u32
+    ensures { result ≡ asking.most_after answer most_unasked }
+{
+    match answer {
+        Err(SocketFailure::WouldWait) => 0,
+        _ => most_unasked,
+    }
+}
+
+impl<K: SocketCalls + Drop> SocketPorts<K> {
+    /// After a read.
+    fn after_read(&mut self, c: usize, answer: Result<usize, SocketFailure>)
+        requires { c < 64 }
+        ensures { self.new ≡ after_reading c answer (length (K.ahead self.old.sockets c)) self.old.sockets self.old.readiness self.old }
+    {
+        let gave = gave(answer);
+        self.busy |= goes_on(answer);
+        self.holding |= gave & (self.sockets.count_ahead(c) > 0);
+        set_where(gave, &mut self.has_read, c, true);
+    }
+
+    /// Whether a write of so many bytes has to wait: the connection takes none now, or its answers are put off.
+    fn has_to_wait(&self, c: usize, offered: usize) -> bool
+        requires { c < 64 }
+        ensures { result ≡ asking.has_to_wait c (length (K.ahead self.now.sockets c)) offered self.now }
+    {
+        self.readiness.is_full(c)
+            || is_put_off(self.has_read[c], self.sockets.count_ahead(c), offered)
+    }
+}
+
+impl<K: SocketCalls + Drop> Ports for SocketPorts<K> {
+    ghost log = { λ ports. log_by (K.calls ports.sockets) };
+
+    ghost tells = { λ _. true };
+
+    fn poll(&mut self) -> Result<Named, PortFault>
+        ensures log { log_by (K.calls self.new.sockets) ≡ log_by (K.calls self.old.sockets) ++ poll_entry result ∷ [] }
+        ensures asked { asks_now self.old ≡ true
+            → (handed : Option ℕ) × IsNoLonger handed (wait_now self.old)
+            × ((named : Result Named SocketFailure) × (K.calls self.new.sockets ≡ Polling handed named ∷ K.calls self.old.sockets)) }
+        ensures after_asking { asks_now self.old ≡ true → self.new ≡ after_asking self.new.sockets self.new.readiness self.old }
+        ensures unasked { asks_now self.old ≡ false
+            → K.calls self.new.sockets ≡ Naming self.old.readiness.named ∷ K.calls self.old.sockets }
+        ensures after_naming { asks_now self.old ≡ false → self.new ≡ after_naming self.new.sockets self.old }
+        ensures in_time { AsksInTime (K.calls self.old.sockets) self.old → AsksInTime (K.calls self.new.sockets) self.new }
+    {
+        let asks = is_to_ask(self.holding, self.busy, self.unasked, self.most_unasked);
+        let wait = to_wait(self.busy, self.refused, self.wait);
+        self.busy = false;
+        self.holding = false;
+        self.has_read = [false; CONNECTIONS];
+        if !asks {
+            self.unasked += 1;
+            self.sockets.note_named(&self.readiness.named);
+            return Ok(self.readiness.named);
+        }
+        self.unasked = 0;
+        self.most_unasked = longer(self.most_unasked);
+        self.refused = false;
+        match self.sockets.poll(&mut self.readiness, wait) {
+            Ok(()) => Ok(self.readiness.named),
+            Err(_) => Err(PortFault),
+        }
+    }
+
+    fn accept(&mut self, c: usize) -> Result<Accepted, PortFault>
+        requires { c ≤ 64 }
+        ensures log { log_by (K.calls self.new.sockets) ≡ log_by (K.calls self.old.sockets) ++ accept_entry c result ∷ [] }
+        ensures asked { (answer : Result Bool SocketFailure) × (K.calls self.new.sockets ≡ Accepting c answer ∷ K.calls self.old.sockets)
+            × (self.new ≡ after_accepting c answer self.new.sockets self.old) }
+        ensures in_time { AsksInTime (K.calls self.old.sockets) self.old → AsksInTime (K.calls self.new.sockets) self.new }
+    {
+        let answer = self.sockets.accept(c);
+        after_accept(&mut self.readiness, c, answer);
+        self.busy |= accept_goes_on(answer);
+        self.refused = is_refused(answer);
+        accept_told(answer)
+    }
+
+    fn read(&mut self, c: usize, buffer: &mut [u8]) -> IoResult
+        requires { c < 64 }
+        ensures count { count_of result ≤ length buffer.new }
+        ensures log { log_by (K.calls self.new.sockets) ≡ log_by (K.calls self.old.sockets)
+            ++ Read c (length buffer.new) (carried_by result buffer.new) ∷ [] }
+        ensures after { (answer : Result ℕ SocketFailure) × (carried_by result buffer.new ≡ read_carried (moved answer buffer.new))
+            × IsReadBy c (length buffer.new) (length (K.ahead self.old.sockets c)) (length (K.ahead self.new.sockets c)) answer
+            self.old.readiness self.new.readiness
+            × (self.new ≡ after_reading c answer (length (K.ahead self.new.sockets c)) self.new.sockets self.new.readiness self.old) }
+        ensures in_time { AsksInTime (K.calls self.old.sockets) self.old → AsksInTime (K.calls self.new.sockets) self.new }
+    {
+        let answer = self.sockets.read(&mut self.readiness, c, buffer);
+        self.after_read(c, answer);
+        read_told(answer)
+    }
+
+    fn write(&mut self, c: usize, bytes: &[u8]) -> IoResult
+        requires { c < 64 }
+        ensures count { count_of result ≤ length bytes.now }
+        ensures log { log_by (K.calls self.new.sockets) ≡ log_by (K.calls self.old.sockets)
+            ++ Wrote c (length bytes.now) (carried_by result bytes.now) ∷ [] }
+        ensures put_off { asking.has_to_wait c (length (K.ahead self.old.sockets c)) (length bytes.now) self.old ≡ true
+            → (K.calls self.new.sockets ≡ PuttingOff c (length bytes.now) ∷ K.calls self.old.sockets)
+            × (self.new ≡ record self.old { sockets = self.new.sockets }) }
+        ensures written { asking.has_to_wait c (length (K.ahead self.old.sockets c)) (length bytes.now) self.old ≡ false
+            → (answer : Result ℕ SocketFailure)
+            × (K.calls self.new.sockets ≡ Writing c (length bytes.now) (moved answer bytes.now) ∷ K.calls self.old.sockets)
+            × (self.new ≡ after_writing c answer self.new.sockets self.old) }
+        ensures in_time { AsksInTime (K.calls self.old.sockets) self.old → AsksInTime (K.calls self.new.sockets) self.new }
+    {
+        if self.has_to_wait(c, bytes.len()) {
+            self.sockets.note_put_off(c, bytes.len());
+            return IoResult::Bytes(0);
+        }
+        let answer = self.sockets.write(&mut self.readiness, c, bytes);
+        self.busy |= goes_on(answer);
+        self.most_unasked = most_after(answer, self.most_unasked);
+        write_told(answer)
+    }
+
+    fn close(&mut self, c: usize)
+        requires { c ≤ 64 }
+        ensures log { log_by (K.calls self.new.sockets) ≡ log_by (K.calls self.old.sockets) ++ Close c ∷ [] }
+        ensures after { self.new ≡ record self.old { sockets = self.new.sockets; readiness = forgotten c self.old.readiness } }
+        ensures closed { K.calls self.new.sockets ≡ Closing c (K.ahead self.old.sockets c) ∷ K.calls self.old.sockets }
+        ensures in_time { AsksInTime (K.calls self.old.sockets) self.old → AsksInTime (K.calls self.new.sockets) self.new }
+    {
+        self.sockets.close(c);
+        self.readiness.forget(c);
+    }
+}

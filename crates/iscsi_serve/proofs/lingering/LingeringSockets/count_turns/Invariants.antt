@@ -1,7 +1,0 @@
-use Rattle.std.proofs.Common.{◌≡◌}
-use Rattle.iscsi_serve.specs.Lingering.{turns_later}
-use Rattle.iscsi_serve.proofs.LingeringPlaces.{IsWalked}
-use Rattle.iscsi_serve.proofs.lingering.LingeringSockets.count_turns.Given as goal
-
-abbrev pub invariant-loop-place : goal.invariant-loop-place
-invariant-loop-place l = IsWalked (λ place after. after ≡ turns_later l.turns place) l.fn.self.places.items l.self.places.items l.place

@@ -1,6 +1,0 @@
-use Rattle.iscsi_serve.specs.Lingering.{Drains}
-use Rattle.iscsi_serve.proofs.LingeringPlaces.{IsWalked}
-use Rattle.iscsi_serve.proofs.lingering.LingeringSockets.drain_all.Given as goal
-
-abbrev pub invariant-loop-place : goal.invariant-loop-place
-invariant-loop-place l = IsWalked Drains l.fn.self.places.items l.self.places.items l.place

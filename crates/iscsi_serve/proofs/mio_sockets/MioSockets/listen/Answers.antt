@@ -1,8 +1,0 @@
-use Rattle.std.proofs.Common.{ap, sym, None, arith}
-use Rattle.std.proofs.lemmas.List.{get_or-replicate}
-use Rattle.iscsi_serve.specs.ReadBuffer.{bytes_in}
-use Rattle.iscsi_serve.proofs.mio_sockets.MioSockets.listen.Goals as goal
-
-pub invariant_of-result-clause-accounted : goal.invariant_of-result-clause-accounted
-invariant_of-result-clause-accounted g c =
-    rw (c.note.ensures, c.new-record.ensures, c.in_ok-free_places-2.ensures.free) (λ d lt. ap bytes_in (sym (get_or-replicate 65 d None None (omega arith))))
