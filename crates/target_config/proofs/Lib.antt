@@ -3,3 +3,4 @@ pub mod Lists
 pub mod Files
 pub mod Entries
 pub mod Faults
+mod Contents

@@ -4,4 +4,5 @@ pub mod Document
 pub mod Limits
 pub mod Distinct
 pub mod Config
+pub mod Loading
 pub mod Examples

@@ -18,7 +18,7 @@
 //!
 //! Promised, and proved: [`file_config`] gives exactly the configuration that the contents of a file
 //! describe, or the first fault that they have, in the order of [`ConfigFault`]. What it gives keeps
-//! every limit. The one other end is that an allocation failed.
+//! every limit. The one other end is that an allocation failed. [`load`] reads the file and notes what the system told of it.
 #![tactic(auto)]
 
 mod block_count;
@@ -28,6 +28,7 @@ mod distinct;
 mod fault;
 mod fields;
 mod limits;
+mod loading;
 
 pub use block_count::BlockCount;
 pub use config_file::{MOST_BYTES, config, file_config};
@@ -35,3 +36,4 @@ pub use configuration::{
     Configuration, MediumConfiguration, TargetConfiguration, UnitConfiguration,
 };
 pub use fault::ConfigFault;
+pub use loading::load;

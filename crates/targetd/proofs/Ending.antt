@@ -33,7 +33,7 @@ use Rattle.target_replay.specs.declared.fault.ReplayFault.TheVariants as replays
 use Rattle.targetd.specs.declared.fault.Fault.{Fault}
 use Rattle.targetd.specs.declared.fault.Fault.TheVariants as faults
 use Rattle.targetd.specs.Fault.{words_fault, config_fault, replay_fault}
-use Rattle.targetd.specs.ConfigFile.{Loads}
+use Rattle.target_config.specs.Loading.{Loads}
 use Rattle.target_units.specs.Opened.{Held, IsMediumOf, IsUnitOf, AreEach, AreUnitsOf}
 use Rattle.targetd.specs.Help.{RefusesWords}
 use Rattle.targetd.specs.Serve.{listening_line, HasServed, Serves}

@@ -1,6 +1,5 @@
 pub mod Fault
 pub mod Unopened
-pub mod ConfigFile
 pub mod Serve
 pub mod Help
 pub mod Run

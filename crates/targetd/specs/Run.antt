@@ -22,7 +22,7 @@ use Rattle.target_replay.specs.declared.fault.ReplayFault.{ReplayFault}
 use Rattle.targetd.specs.declared.fault.Fault.{Fault}
 use Rattle.targetd.specs.declared.fault.Fault.TheVariants.{Socket, OutOfMemory}
 use Rattle.targetd.specs.Fault.{config_fault, replay_fault}
-use Rattle.targetd.specs.ConfigFile.{told_of}
+use Rattle.target_config.specs.Loading.{told_of}
 use Rattle.target_units.specs.Opened.{Held, AreUnitsOf}
 use Rattle.targetd.specs.Unopened.{IsUnopened}
 use Rattle.targetd.specs.Help.{RefusesWords}

@@ -28,14 +28,12 @@
 #![tactic(auto)]
 
 mod arguments;
-mod config_file;
 mod fault;
 mod help;
 mod left;
 mod opening;
 mod run;
 mod serve;
-mod words;
 
 use arguments::arguments;
 use fault::{Fault, status_of};

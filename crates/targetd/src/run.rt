@@ -7,14 +7,12 @@ ghost use Rattle.target_config.specs.Config.{file_config_of};
 ghost use Rattle.targetd.specs.Left.{left_view};
 ghost use Rattle.targetd.specs.Run.{Replays, ServesAt, Runs};
 
-use crate::config_file::load;
 use crate::fault::Fault;
 use crate::help::refuse_words;
 use crate::left::{Left, Served};
 use crate::opening::{Setup, open};
 use crate::serve::serve;
-use crate::words::texts;
-use command_line::{Mode, WordsFault, mode_of};
+use command_line::{Mode, WordsFault, as_texts, mode_of};
 use iscsi_ports::{MioPorts, Ports};
 use iscsi_target::Target;
 use media_store::Start;
@@ -22,7 +20,7 @@ use std::fs::File;
 use std::io::{Read, Write};
 use std::net::Net;
 use std::rt::Files;
-use target_config::file_config;
+use target_config::{file_config, load};
 use target_replay::{Engine, replay};
 
 /// Replays the input at the target of the configuration whose file has these contents.
@@ -87,7 +85,7 @@ pub fn run<S: Start, R: Read, W: Write>(
         (mode_in (map string_bytes words.now)) result }
 {
     let alloc = rt.alloc();
-    let texts = texts(alloc, words)?;
+    let texts = as_texts(alloc, words)?;
     let texts = texts.as_slice();
     let mode = match mode_of(alloc, texts) {
         Ok(mode) => mode,

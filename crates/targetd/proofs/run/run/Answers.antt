@@ -1,6 +1,6 @@
 use Rattle.std.proofs.Common.{inr, refl, true, Some, ap, sym, ◌∙◌, List, ℕ}
 use Rattle.std.proofs.KnownBytes.{Keeps-refl}
-use Rattle.targetd.specs.ConfigFile.{told_of}
+use Rattle.target_config.specs.Loading.{told_of}
 use Rattle.targetd.proofs.Ending.{run_starves, run_refused, none_named, serve_unread}
 use Rattle.targetd.proofs.run.run.Goals as goal
 

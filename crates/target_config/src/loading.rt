@@ -2,15 +2,16 @@
 
 ghost use Rattle.std.specs.Prelude.{◌≡◌, ◌≢◌, IfOk, IfErr, IfSome, take};
 ghost use Rattle.std.specs.IoError.{error_kind};
-ghost use Rattle.targetd.specs.ConfigFile.{Loads};
+ghost use Rattle.target_config.specs.Loading.{Loads};
 
+use crate::config_file::MOST_BYTES;
+use crate::fault::ConfigFault;
 use call_record::Record;
 use std::alloc::Global;
 use std::fs::File;
 use std::io;
 use std::io::{ErrorKind, Read};
 use std::rt::Files;
-use target_config::{ConfigFault, MOST_BYTES};
 
 /// The notes: a path, what its file holds, and that it cannot be read.
 const NAMED: u64 = 0;

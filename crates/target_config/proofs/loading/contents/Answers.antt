@@ -1,5 +1,5 @@
-use Rattle.targetd.proofs.Contents.{taken_contents}
-use Rattle.targetd.proofs.config_file.contents.Goals as goal
+use Rattle.target_config.proofs.Contents.{taken_contents}
+use Rattle.target_config.proofs.loading.contents.Goals as goal
 
 pub returns-in-Ok-clause-contents : goal.returns-in-Ok-clause-contents
 returns-in-Ok-clause-contents g c =
