@@ -1,6 +1,6 @@
 -- A Login request at one connection of the code, before its answer is sent.
 use Rattle.std.specs.Result.{OnErr, OnOk}
-use Rattle.std.proofs.Common.{◌≡◌, ℕ, ◌<◌, List, Result, Ok, Err, is_err, false, length, set, get_or, true, Option, Some, None, refl, sym, ap, ◌∙◌}
+use Rattle.std.proofs.Common.{◌≡◌, ℕ, arith, ◌<◌, List, Result, Ok, Err, is_err, false, length, set, get_or, true, Option, Some, None, refl, sym, ap, ◌∙◌}
 use Rattle.std.proofs.lemmas.List.{length-map, get_or-map, get_or-set_same, map-set, set-set, set-get_or}
 use Rattle.iscsi_pdu.specs.Frames.{Frame}
 use Rattle.iscsi_pdu.specs.declared.answer.Answer.{Answer}
@@ -15,6 +15,7 @@ use Rattle.iscsi_login.specs.declared.reply.Reply.TheVariants.{Full}
 use Rattle.scsi_unit.specs.Units.{UnitStates, join}
 use Rattle.iscsi_target.specs.World.{left, changed_units, lookup_for}
 use Rattle.iscsi_target.specs.Machine.{LinkState, Machine, link_at, with_link, closed, begun, begun_link, shut_link, shut_older, logged_in, is_logging_in, is_reading, session_in_phase, sessions, free_link, IsAnswered}
+use Rattle.iscsi_target.proofs.Lending.{get_or_any}
 use Rattle.iscsi_target.specs.declared.phase.Phase.{Phase}
 use Rattle.iscsi_target.specs.declared.phase.Phase.TheVariants.{Login, Closing}
 
@@ -54,11 +55,29 @@ waits _ after old new response session h = let no = h.0 in absurd cc
 
 -- ---- the machine with that connection
 
+-- the connection that was lent, of a machine on which it logs in
+pub record Enters (machine given : Machine) (c : ℕ) (was : LinkState) : Type 0 where
+  pub same : machine ≡ given
+  pub in_range : c < length machine.links
+  pub old : was ≡ link_at machine c
+  pub logs : is_logging_in (link_at machine c).phase ≡ true
+  pub login : LoginState
+  pub there : was.phase ≡ Login login
+
+pub enters : (machine given : Machine) (c : ℕ) (was d : LinkState) → machine ≡ given → length machine.links ≡ 64 → c < 64
+    → was ≡ get_or machine.links c d → is_logging_in (link_at given c).phase ≡ true → Enters machine given c was
+enters machine given c was d same count lt is logs_given =
+    let below : c < length machine.links = omega (arith, count, lt) in
+    let old : was ≡ link_at machine c = is ∙ get_or_any machine.links c d free_link below in
+    let logs : is_logging_in (link_at machine c).phase ≡ true = ap (λ (m : Machine). is_logging_in (link_at m c).phase) same ∙ logs_given in
+    let login = login_there was.phase (ap (λ (l : LinkState). is_logging_in l.phase) old ∙ logs) in
+    record { same = same; in_range = below; old = old; logs = logs; login = login.0; there = login.1 }
+
 pub link_there : (machine : Machine) (c : ℕ) (link : LinkState) → c < length machine.links → link_at (with_link machine c link) c ≡ link
 link_there machine c link lt = get_or-set_same machine.links c link free_link lt
 
 -- closing it is closing the connection as it was
-pub closed_alike : (machine : Machine) (c : ℕ) (link : LinkState) → c < length machine.links → link.waiting ≡ (link_at machine c).waiting
+closed_alike : (machine : Machine) (c : ℕ) (link : LinkState) → c < length machine.links → link.waiting ≡ (link_at machine c).waiting
     → session_in_phase link.phase ≡ None → is_logging_in (link_at machine c).phase ≡ true → closed (with_link machine c link) c ≡ closed machine c
 unfolding closed
 closed_alike machine c link lt waiting none logs =
@@ -77,6 +96,14 @@ closed_alike machine c link lt waiting none logs =
       links = ls;
     }) links
     ∙ ap (λ (us : List UnitStates). record { directory = machine.directory; units = us; links = set machine.links c (shut_link (link_at machine c)) }) units
+
+module _ (machine given : Machine) (c : ℕ) (was link : LinkState) (e : Enters machine given c was) where
+  pub closed_asked : link.waiting ≡ was.waiting → session_in_phase link.phase ≡ None → closed (with_link machine c link) c ≡ closed given c
+  closed_asked waiting none = closed_alike machine c link e.in_range (waiting ∙ ap (λ (l : LinkState). l.waiting) e.old) none e.logs
+      ∙ ap (λ (m : Machine). closed m c) e.same
+
+  pub reads_asked : is_logging_in link.phase ≡ true → is_reading (link_at (with_link machine c link) c).phase ≡ true
+  reads_asked logs = ap (λ (l : LinkState). is_reading l.phase) (link_there machine c link e.in_range) ∙ still_reading link.phase logs
 
 set_own : {X : Type 0} (xs : List X) (i : ℕ) (x d : X) → get_or xs i d ≡ x → i < length xs → set xs i x ≡ xs
 set_own xs i x d e lt = rw (← e) (set-get_or xs i d)

@@ -1,5 +1,5 @@
 -- What the Task Management Functions of one session do to the rest of its target, as calls of the target.
-use Rattle.std.proofs.Common.{◌≡◌, ℕ, ◌+◌, ◌<◌, List, [], ◌∷◌, ◌++◌, ◌≤◌, length, take, get_or, Bool, true, false, not, eqb, Option, Some, None, refl, sym, ap, ◌∙◌, subst, inl}
+use Rattle.std.proofs.Common.{◌≡◌, ℕ, ◌+◌, ◌<◌, List, [], ◌∷◌, ◌++◌, ◌≤◌, length, take, get_or, Bool, true, false, not, eqb, Option, Some, None, refl, sym, ap, ◌∙◌, subst, inl, arith, cond}
 use Rattle.std.specs.Prelude.{◌==◌}
 use Rattle.std.specs.List.{fold, range_with_len}
 use Rattle.std.proofs.lemmas.Bool.{eq-eqb}
@@ -29,7 +29,7 @@ use Rattle.iscsi_target.proofs.Comings.{comings_reset}
 use Rattle.iscsi_target.proofs.Doing.{does_nothing, does_as, does_on, does_then}
 use Rattle.iscsi_target.proofs.AtWork.{IsCalled, call_does}
 use Rattle.iscsi_target.proofs.SessionCalls.{IsElsewhere, elsewhere}
-use Rattle.iscsi_target.proofs.Moving.{moves_none}
+use Rattle.iscsi_target.proofs.Moving.{alters_same}
 use Rattle.iscsi_target.proofs.Sound.{reset_back, reset_sure, reset_units}
 
 -- ---- one session loses commands
@@ -84,18 +84,19 @@ unreached : (o : Option Past) (header : List ℕ) (target d : ℕ) (w : World) �
 unreached None header target d w e = refl
 unreached (Some past) header target d w e = cond_false (is_same_target past.params.target (Some target)) _ w e
 
-lose_other : (b : Bool) (header : List ℕ) (target c d : ℕ) (w : World) → eqb d c ≡ b → lost_by (past_of (present d w)) header target d w ≡ w
-    → lose_one header target c w d ≡ w
+lose_other : (header : List ℕ) (target c d : ℕ) (w : World) → IsElsewhere target (past_of (present d w)) → lose_one header target c w d ≡ w
 unfolding lose_one
-lose_other true header target c d w e same = cond_true (eqb d c) w (lost_by (past_of (present d w)) header target d w) e
-lose_other false header target c d w e same = cond_false (eqb d c) w (lost_by (past_of (present d w)) header target d w) e ∙ same
+lose_other header target c d w other = by_test (eqb d c)
+  where
+    by_test : (b : Bool) → cond b w (lost_by (past_of (present d w)) header target d w) ≡ w
+    by_test true = refl
+    by_test false = unreached (past_of (present d w)) header target d w other
 
 pub loses_none : (machine : Machine) (header : List ℕ) (target c d : ℕ) → d < connection_limit → is_with target (link_at machine d).phase ≡ false
     → CarriesOut (λ w. lose_one header target c w d) machine machine
 loses_none machine header target c d lt other = does_nothing is_of_none (λ s marks place w. lose_one header target c w d) kept machine machine
     (λ s sent half w place marks agree h.
-    (let same = lose_other (eqb d c) header target c d w refl
-    (unreached (past_of (present d w)) header target d w (elsewhere s sent half w machine d target lt h other)) in
+    (let same = lose_other header target c d w (elsewhere s sent half w machine d target lt h other) in
     (serves_world s sent half w _ machine same h, ap (λ (v : World). v.comings) same)))
 
 -- ---- another session of the target
@@ -191,20 +192,17 @@ reset_does machine header target = does_nothing is_of_none (λ s marks place w. 
     (λ s sent half w place marks agree h. (reset_serves s sent half w machine header target h, comings_reset header target w))
 
 pub reset_moves : (b : ℕ) (machine : Machine) (header : List ℕ) (target : ℕ) → Preserves b None machine (reset_machine header target machine)
-reset_moves b machine header target = record {
-  back = reset_back header target machine;
-  sure = reset_sure header target machine;
-  feeds = record {
-    opens = λ d. refl;
-    waits = λ d. ([], sym (append-nil (link_at machine d).waiting));
-    still = λ d idle. refl;
-    others = λ d other logs. refl;
-  };
-  closing = tt;
-  units = reset_units header target machine;
-  keeps = λ d reads. (moves_none b machine).keeps d reads;
-  eases = (moves_none b machine).eases;
-}
+reset_moves b machine header target =
+    let a = alters_same b machine (reset_machine header target machine) refl in
+    record {
+      back = reset_back header target machine;
+      sure = reset_sure header target machine;
+      feeds = a.feeds;
+      closing = tt;
+      units = reset_units header target machine;
+      keeps = a.keeps;
+      eases = a.eases;
+    }
 
 pub reset_apart : (machine : Machine) (header : List ℕ) (target : ℕ) → KeepsApart target machine (reset_machine header target machine)
 unfolding changed_units
@@ -256,20 +254,10 @@ carried_all c target headers i given after whole d =
 
 -- ---- what a session that lost commands is told
 
-lost_by_count : (b : Bool) (count : Bool) → b ≡ not count → b ≡ true → count ≡ false
-lost_by_count b true e is = absurd (cc (e, is))
-lost_by_count b false e is = refl
-
-kept_by_count : (b : Bool) (count : Bool) → b ≡ not count → b ≡ false → count ≡ true
-kept_by_count b true e is = refl
-kept_by_count b false e is = absurd (cc (e, is))
-
 pub told_some : (header : List ℕ) (past : Past) (units units_then : UnitStates) (b : Bool) → b ≡ not (length (lost header units past) == 0) → b ≡ true
     → units_then ≡ told_by (function_of header) (lun_field header) past.params.nexus units → units_then ≡ told_loss header past units
-told_some header past units units_then b e is told =
-    told ∙ sym (cond_false (length (lost header units past) == 0) units _ (lost_by_count b (length (lost header units past) == 0) e is))
+told_some header past units units_then b e is told = grind arith
 
 pub told_none : (header : List ℕ) (past : Past) (units : UnitStates) (b : Bool) → b ≡ not (length (lost header units past) == 0) → b ≡ false
     → units ≡ told_loss header past units
-told_none header past units b e is =
-    sym (cond_true (length (lost header units past) == 0) units _ (kept_by_count b (length (lost header units past) == 0) e is))
+told_none header past units b e is = grind arith

@@ -1,6 +1,6 @@
 -- What acts leave of how the commands of an event come out: only a command that is done takes one away.
-use Rattle.std.specs.Prelude.{◌+◌, if◌then◌else◌}
-use Rattle.std.proofs.Common.{◌≡◌, ℕ, List, Bool, true, false, Option, Some, None, refl, ◌∙◌}
+use Rattle.std.specs.Prelude.{◌+◌}
+use Rattle.std.proofs.Common.{◌≡◌, ℕ, List, Bool, true, false, Option, Some, None, refl, ◌∙◌, cond}
 use Rattle.iscsi_pdu.specs.Frames.{Frame}
 use Rattle.iscsi_pdu.specs.declared.answer.Answer.TheVariants as answers
 use Rattle.iscsi_login.specs.Session.{older}
@@ -40,12 +40,11 @@ comings_log_in s c request w =
 -- those that its steps left
 pub comings_worked : (c : ℕ) (work : Work) (w : World) → (worked c work w).comings ≡ work.units.comings
 unfolding worked
-comings_worked c work w = by_going work.goes_on refl
+comings_worked c work w = by_going work.goes_on
   where
-    by_going : (b : Bool) → work.goes_on ≡ b
-        → (if work.goes_on then worked_on c work w else close c (worked_on c work w)).comings ≡ work.units.comings
-    by_going true e = rw e refl
-    by_going false e = rw e (comings_close c (worked_on c work w))
+    by_going : (b : Bool) → (cond b (worked_on c work w) (close c (worked_on c work w))).comings ≡ work.units.comings
+    by_going true = refl
+    by_going false = comings_close c (worked_on c work w)
 
 pub comings_reset : (header : List ℕ) (target : ℕ) (w : World) → (reset header target w).comings ≡ w.comings
 unfolding reset

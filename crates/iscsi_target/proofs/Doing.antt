@@ -1,11 +1,11 @@
 -- Calls one after the other: what each of them does, and what they do together.
-use Rattle.std.proofs.Common.{◌≡◌, ℕ, List, [], ◌∷◌, ◌++◌, length, Bool, true, false, cond, Option, Some, None, refl, sym, ap, ◌∙◌, subst, append_assoc}
+use Rattle.std.proofs.Common.{◌≡◌, ℕ, List, [], ◌∷◌, ◌++◌, length, Bool, true, Option, Some, None, refl, sym, ap, ◌∙◌, subst, append_assoc, arith}
 use Rattle.std.specs.Prelude.{drop}
 use Rattle.std.specs.List.{list_all}
 use Rattle.std.proofs.Math.Seq.{drop-append_seam}
 use Rattle.iscsi_session.specs.Comings.{AreAhead}
 use Rattle.iscsi_session.proofs.Came.{ahead_of, ahead_behind, left_behind, plain_both, calm_both}
-use Rattle.iscsi_target.specs.History.{Mark, is_same}
+use Rattle.iscsi_target.specs.History.{Mark}
 use Rattle.iscsi_target.specs.World.{Setting, World}
 use Rattle.iscsi_target.specs.Machine.{Machine, ReflectsSoundness}
 use Rattle.iscsi_target.specs.Stands.{stand_in, Begins}
@@ -29,33 +29,21 @@ begins_both (Some c) b (m ∷ xs) ys h g = h
 
 -- ---- what was reached, one behind the other
 
-either : (b : Bool) {x y : Bool} → x ≡ true → y ≡ true → cond b x y ≡ true
-either true h g = h
-either false h g = g
-
-one_of : (b : Bool) {x y : Bool} → cond b x y ≡ true → (y ≡ true → x ≡ true) → x ≡ true
-one_of true h further = h
-one_of false h further = further h
-
-both_ways : (b : Bool) {x y p q : Bool} → (x ≡ true → p ≡ true) → (y ≡ true → q ≡ true) → cond b x y ≡ true → cond b p q ≡ true
-both_ways true f g h = f h
-both_ways false f g h = g h
-
--- marks that stand among points stand among one more
-behind_by : (y : Mark) (ys marks : List Mark) → ((m : Mark) (more : List Mark) → stand_in (m ∷ more) ys ≡ true → stand_in more ys ≡ true)
-    → stand_in marks ys ≡ true → stand_in marks (y ∷ ys) ≡ true
-behind_by y ys [] fewer h = refl
-behind_by y ys (m ∷ marks) fewer h = either (is_same m y) (fewer m marks h) h
-
 fewer : (ys : List Mark) (m : Mark) (marks : List Mark) → stand_in (m ∷ marks) ys ≡ true → stand_in marks ys ≡ true
 fewer [] m marks h = absurd cc
-fewer (y ∷ ys) m marks h = behind_by y ys marks (fewer ys) (one_of (is_same m y) h (fewer ys m marks))
+fewer (y ∷ ys) m [] h = refl
+fewer (y ∷ ys) m (n ∷ marks) h = grind (arith, fewer ys m (n ∷ marks), fewer ys n marks)
+
+-- marks that stand among points stand among one more
+one_more : (y : Mark) (ys marks : List Mark) → stand_in marks ys ≡ true → stand_in marks (y ∷ ys) ≡ true
+one_more y ys [] h = refl
+one_more y ys (m ∷ marks) h = grind (arith, fewer ys m marks)
 
 pub in_order : (a b xs ys : List Mark) → stand_in a xs ≡ true → stand_in b ys ≡ true → stand_in (a ++ b) (xs ++ ys) ≡ true
 in_order [] b [] ys h g = g
 in_order (m ∷ a) b [] ys h g = absurd cc
-in_order [] b (x ∷ xs) ys h g = behind_by x (xs ++ ys) b (fewer (xs ++ ys)) (in_order [] b xs ys refl g)
-in_order (m ∷ a) b (x ∷ xs) ys h g = both_ways (is_same m x) (λ here. in_order a b xs ys here g) (λ later. in_order (m ∷ a) b xs ys later g) h
+in_order [] b (x ∷ xs) ys h g = one_more x (xs ++ ys) b (in_order [] b xs ys refl g)
+in_order (m ∷ a) b (x ∷ xs) ys h g = grind (arith, in_order a b xs ys, in_order (m ∷ a) b xs ys)
 
 pub since : (w v : World) (g : Goes w v) → reached_since w v ≡ g.reached.0
 since w v g = ap (drop (length w.reached)) g.reached.1 ∙ drop-append_seam w.reached g.reached.0

@@ -1,11 +1,11 @@
 -- What a life becomes where bytes come, on any connection: it asks and is answered more.
-use Rattle.std.proofs.Common.{◌≡◌, ℕ, List, [], ◌∷◌, ◌++◌, Bool, true, false, not, eqb, Some, refl, sym, ap, ◌∙◌, subst, append_assoc, append-nil}
+use Rattle.std.proofs.Common.{◌≡◌, ℕ, List, [], ◌∷◌, ◌++◌, Bool, true, false, not, eqb, Some, refl, sym, ap, ◌∙◌, append_assoc, append-nil}
 use Rattle.std.specs.Prelude.{find, ⊤}
 use Rattle.iscsi_pdu.specs.Frames.{Frame}
 use Rattle.iscsi_target.specs.Life.{Life, is_over, out_of}
 use Rattle.iscsi_target.specs.World.{is_present, changed_first}
 use Rattle.iscsi_target.specs.Laws.{GoesOn, LivesGoOn}
-use Rattle.iscsi_target.proofs.Choices.{cond_true, cond_false, and_true, not_true}
+use Rattle.iscsi_target.proofs.Choices.{and_true, not_true}
 
 pub is_open_here : (c : ℕ) (life : Life) → is_present c life ≡ true → is_over life.phase ≡ false
 is_open_here c life e = not_true (is_over life.phase) (and_true (eqb life.connection c) (not (is_over life.phase)) e).1
@@ -91,18 +91,13 @@ goes_by f x open_ c = record {
   asks = c.asks;
 }
 
-changed_by : (b : Bool) (f : Life → Life) (c : ℕ) (x : Life) (lives : List Life) → is_present c x ≡ b
-    → ((life : Life) → find (is_present c) (x ∷ lives) ≡ Some life → Continues f life)
-    → (((life : Life) → find (is_present c) lives ≡ Some life → Continues f life) → LivesFollow lives (changed_first (is_present c) f lives))
-    → LivesFollow (x ∷ lives) (changed_first (is_present c) f (x ∷ lives))
-changed_by true f c x lives e each further =
-    let go = goes_by f x (is_open_here c x e) (each x (cond_true (is_present c x) (Some x) (find (is_present c) lives) e)) in
-    subst (LivesFollow (x ∷ lives)) (sym (cond_true (is_present c x) (f x ∷ lives) (x ∷ changed_first (is_present c) f lives) e)) (go, lives_same lives)
-changed_by false f c x lives e each further =
-    let rest = further (λ life at. each life (cond_false (is_present c x) (Some x) (find (is_present c) lives) e ∙ at)) in
-    subst (LivesFollow (x ∷ lives)) (sym (cond_false (is_present c x) (f x ∷ lives) (x ∷ changed_first (is_present c) f lives) e)) (life_same x, rest)
-
 pub lives_changed : (f : Life → Life) (c : ℕ) (lives : List Life) → ((life : Life) → find (is_present c) lives ≡ Some life → Continues f life)
     → LivesFollow lives (changed_first (is_present c) f lives)
 lives_changed f c [] each = tt
-lives_changed f c (x ∷ lives) each = changed_by (is_present c x) f c x lives refl each (λ further. lives_changed f c lives further)
+lives_changed f c (x ∷ lives) each = by_test (is_present c x) refl (λ later. lives_changed f c lives later)
+  where
+    by_test : (b : Bool) → is_present c x ≡ b
+        → (((life : Life) → find (is_present c) lives ≡ Some life → Continues f life) → LivesFollow lives (changed_first (is_present c) f lives))
+        → LivesFollow (x ∷ lives) (changed_first (is_present c) f (x ∷ lives))
+    by_test true e further = rw e (goes_by f x (is_open_here c x e) (each x (rw e refl)), lives_same lives)
+    by_test false e further = rw e (life_same x, further (λ life at. each life (rw e at)))

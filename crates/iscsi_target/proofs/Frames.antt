@@ -1,10 +1,9 @@
 -- What taking a frame does: by the phase of its connection.
-use Rattle.std.proofs.Common.{◌≡◌, ℕ, ◌+◌, ◌<◌, List, [], ◌∷◌, Bool, true, false, ◌&&◌, eqb, Option, Some, None, refl, sym, ap, ◌∙◌, subst, arith}
+use Rattle.std.proofs.Common.{◌≡◌, ℕ, ◌+◌, ◌<◌, List, [], ◌∷◌, Bool, true, false, eqb, Option, Some, None, refl, sym, ap, ◌∙◌, subst, arith}
 use Rattle.std.specs.Prelude.{nat_lt}
 use Rattle.std.specs.List.{list_all, fold, range_with_len}
 use Rattle.std.proofs.lemmas.List.Sums.{fold-append}
 use Rattle.std.proofs.Math.Seq.{drop-append_seam}
-use Rattle.std.proofs.lemmas.Bool.{ltb-true, lt-ltb, le-ltb, eqb-true, ne_eqb}
 use Rattle.iscsi_pdu.specs.Frames.{Frame}
 use Rattle.iscsi_login.specs.Login.{remembered}
 use Rattle.iscsi_login.specs.LoginState.{LoginState}
@@ -29,6 +28,7 @@ use Rattle.iscsi_target.proofs.Walks.{on-fold, on-take_in, on-settle_one, on-set
 use Rattle.iscsi_target.proofs.Keeping.{Goes, goes_walk, on-then, on-reaching}
 use Rattle.iscsi_target.proofs.Doing.{reached_both, does_nothing, does_as, does_from, does_then}
 use Rattle.iscsi_target.proofs.AtWork.{IsCalled, CallDoes, last_there, marks_of, starved_if, call_does, own_past, served_orders, serve_acts, serve_agrees}
+use Rattle.std.proofs.lemmas.Bool.Decides.{nat_tests}
 
 -- ---- a connection that does not read
 
@@ -239,29 +239,16 @@ takes_served failed goes_on orders c target frame given middle ended after starv
 -- ---- the sessions of a target are settled, one after the other
 
 below_here : (c place : ℕ) → Apart (is_done_below c place) (is_done_by c place)
-below_here c place mark e =
-    let below : mark.connection < c = ltb-true mark.connection c (and_true (nat_lt mark.connection c) (is_done_at place mark) e).0 in
-    ap (λ (b : Bool). b && is_done_at place mark) (ne_eqb mark.connection c (λ same. absurd (omega (arith, below, same))))
+below_here c place mark e = grind (arith, nat_tests)
 
 here_below : (c place : ℕ) → Apart (is_done_by c place) (is_done_below c place)
-here_below c place mark e =
-    let here : mark.connection ≡ c = eqb-true mark.connection c (and_true (eqb mark.connection c) (is_done_at place mark) e).0 in
-    ap (λ (b : Bool). b && is_done_at place mark) (not_below mark.connection c here)
-  where
-    not_below : (a b : ℕ) → a ≡ b → nat_lt a b ≡ false
-    not_below a b e = le-ltb a b (omega (arith, e))
+here_below c place mark e = grind (arith, nat_tests)
 
 below_more : (c place : ℕ) → Wider (is_done_below c place) (is_done_below (c + 1) place)
-below_more c place mark e =
-    let both = and_true (nat_lt mark.connection c) (is_done_at place mark) e in
-    let below : mark.connection < c = ltb-true mark.connection c both.0 in
-    rw (lt-ltb mark.connection (c + 1) (omega (arith, below)), both.1) refl
+below_more c place mark e = grind (arith, nat_tests)
 
 here_more : (c place : ℕ) → Wider (is_done_by c place) (is_done_below (c + 1) place)
-here_more c place mark e =
-    let both = and_true (eqb mark.connection c) (is_done_at place mark) e in
-    let here : mark.connection ≡ c = eqb-true mark.connection c both.0 in
-    rw (lt-ltb mark.connection (c + 1) (omega (arith, here)), both.1) refl
+here_more c place mark e = grind (arith, nat_tests)
 
 below_all : (c place : ℕ) → Wider (is_done_below c place) (is_done_at place)
 below_all c place mark e = (and_true (nat_lt mark.connection c) (is_done_at place mark) e).1

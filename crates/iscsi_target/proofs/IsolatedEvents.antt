@@ -13,15 +13,15 @@ use Rattle.iscsi_target.specs.History.{Point, Arriving, AtEnd, Arrival, Whole, T
 use Rattle.iscsi_target.specs.Life.{Life, Phase, LoggingIn, FullFeature, Closing, Over, session_in}
 use Rattle.iscsi_target.specs.World.{Setting, World, present, changed, reads_life, session_of, live, close, reaching, is_marked, take_step, asked, requests_of, lookup_for, replied, log_in, is_login, taken_in, taken_by, comes, arrive, brought, longer, bring}
 use Rattle.iscsi_target.specs.Isolation.{named_in}
-use Rattle.iscsi_target.proofs.Lives.{present-changed, present_is}
-use Rattle.iscsi_target.proofs.IsolatedLives.{AllFrom, Selection, HasTarget, Fits, on_it, number_of, found_fits, all_both}
+use Rattle.iscsi_target.proofs.Lives.{present-changed, present_is, on_connection}
+use Rattle.iscsi_target.proofs.IsolatedLives.{AllFrom, Selection, HasTarget, Fits, number_of, found_fits, all_both}
 use Rattle.iscsi_target.proofs.IsolatedLogin.{target_of, named_asked, full_target, reply_alike}
 use Rattle.iscsi_target.specs.Laws.{LogsIn}
 use Rattle.iscsi_target.proofs.Walks.{EventWalk, IsAnyFrame, any_arrivals, logs_there, on-arrivals, on-brought}
 use Rattle.iscsi_target.proofs.Keeping.{Goes, goes, on-replied, asked_logs}
 use Rattle.iscsi_target.proofs.IsolatedAsking.{Named, AreNamed, named_before, adds-goes}
 use Rattle.iscsi_target.proofs.IsolatedWorlds.{Agree, present_in, session_target, named_same}
-use Rattle.iscsi_target.proofs.IsolatedFits.{keeps_asked, keeps_longer}
+use Rattle.iscsi_target.proofs.IsolatedFits.{keeps_same}
 use Rattle.iscsi_target.proofs.IsolatedOutside.{out_changed, out_close, out_log_in, out_serve}
 use Rattle.iscsi_target.proofs.IsolatedInside.{in_changed, in_close, in_replied}
 use Rattle.iscsi_target.proofs.IsolatedServing.{in_serve}
@@ -46,7 +46,7 @@ asked_target g directory c w life request at fits named =
     subst (λ (b : Bool). HasTarget g b (named_in directory (asked request life))) (number_of g c found.0 (asked request life) here found.1.0) found.1.1 in
     some_target g (g.keeps_on c) (named_in directory (asked request life)) _
     (named_asked directory life request
-    ∙ ap (λ (d : ℕ). target_of (advanced directory (remembered directory (d + 1) life.requests) request).session) (on_it c life here).0) kept
+    ∙ ap (λ (d : ℕ). target_of (advanced directory (remembered directory (d + 1) life.requests) request).session) (on_connection c life here)) kept
 
 -- the session that begins is with it
 full_own : (g : Selection) (b : Bool) (s : Setting) (c : ℕ) (w : World) (life : Life) (request : Frame) → present c w ≡ Some life
@@ -71,6 +71,18 @@ same_reply g s c w v life request at on agree own =
     (some_target g true _ session.target (ap target_of e) own) agree))
     ∙ sym (ap (λ (o : Option Life). login (c + 1) (requests_of o) (lookup_for s.directory (live w) request) request) at)
 
+-- so it is with the target where the life is kept, once the request is asked
+own_asked : (g : Selection) (b : Bool) (s : Setting) (c : ℕ) (request : Frame) (w x : World) (life : Life) → present c w ≡ Some life → LogsIn c w
+    → g.keeps_on c ≡ b → AreNamed g s.directory (log_in s c request w) → Agree g (changed (asked request) c w) x
+    → HasTarget g b (target_of (advanced s.directory (remembered s.directory (c + 1) life.requests) request).session)
+unfolding log_in
+own_asked g b s c request w x life at logs on named next =
+    let reply = login (c + 1) (requests_of (present c w)) (lookup_for s.directory (live w) request) request in
+    let u = changed (asked request) c w in
+    subst (λ (k : Bool). HasTarget g k (target_of (advanced s.directory (remembered s.directory (c + 1) life.requests) request).session)) on
+    (asked_target g s.directory c w life request at next.fits
+    (named_before g s.directory u (replied reply c u) (adds-goes u _ (on-replied reply c u (asked_logs c request w logs))) named))
+
 in_log_in : (g : Selection) (s : Setting) (c : ℕ) (request : Frame) (w v : World) (life : Life) → present c w ≡ Some life → LogsIn c w → g.keeps_on c ≡ true
     → AreNamed g s.directory (log_in s c request w) → Agree g w v → Agree g (log_in s c request w) (log_in s c request v)
 unfolding log_in
@@ -78,26 +90,16 @@ in_log_in g s c request w v life at logs on named agree =
     let reply = login (c + 1) (requests_of (present c w)) (lookup_for s.directory (live w) request) request in
     let u = changed (asked request) c w in
     let x = changed (asked request) c v in
-    let next : Agree g u x = in_changed g (asked request) c w v on (keeps_asked g request c w) agree in
-    let target = asked_target g s.directory c w life request at next.fits (named_before g s.directory u (replied reply c u) (adds-goes u _ (on-replied reply c u
-    (asked_logs c request w logs))) named) in
-    let own = subst (λ (b : Bool). HasTarget g b (target_of (advanced s.directory (remembered s.directory
-    (c + 1) life.requests) request).session)) on target in
+    let next : Agree g u x = in_changed g (asked request) c w v on (keeps_same g _ c w (λ life. (refl, refl))) agree in
+    let own = own_asked g true s c request w x life at logs on named next in
     subst (λ (r : Reply). Agree g (replied reply c u) (replied r c x)) (sym (same_reply g s c w v life request at on agree own))
     (in_replied g reply c u x on (full_own g true s c w life request at own) next)
 
 other_log_in : (g : Selection) (s : Setting) (c : ℕ) (request : Frame) (w v : World) (life : Life) → present c w ≡ Some life → LogsIn c w → g.keeps_on c ≡ false
     → AreNamed g s.directory (log_in s c request w) → Agree g w v → Agree g (log_in s c request w) v
-unfolding log_in
 other_log_in g s c request w v life at logs on named agree =
-    let reply = login (c + 1) (requests_of (present c w)) (lookup_for s.directory (live w) request) request in
-    let u = changed (asked request) c w in
-    let next : Agree g u v = out_changed g (asked request) c w v on (keeps_asked g request c w) agree in
-    let target = asked_target g s.directory c w life request at next.fits (named_before g s.directory u (replied reply c u) (adds-goes u _ (on-replied reply c u
-    (asked_logs c request w logs))) named) in
-    let other = subst (λ (b : Bool). HasTarget g b (target_of (advanced s.directory (remembered s.directory
-    (c + 1) life.requests) request).session)) on target in
-    out_log_in g s c request w v on (full_own g false s c w life request at other) agree
+    let next = out_changed g (asked request) c w v on (keeps_same g _ c w (λ life. (refl, refl))) agree in
+    out_log_in g s c request w v on (full_own g false s c w life request at (own_asked g false s c request w v life at logs on named next)) agree
 
 -- ---- one arrival
 
@@ -146,20 +148,16 @@ reached_both g c points w v agree = record { lives = agree.lives; units = agree.
 abbrev InBoth : Selection → KnownTargets → (World → World) → Type 0
 InBoth g directory act = (w v : World) → AreNamed g directory (act w) → Agree g w v → Agree g (act w) (act v)
 
-in_step_by : (b : Bool) (g : Selection) (directory : KnownTargets) (c : ℕ) (points : List Point) (act : World → World) (w v : World) → InBoth g directory act
-    → AreNamed g directory (cond b w (act (reaching c points w))) → Agree g w v
-    → Agree g (cond b w (act (reaching c points w))) (cond b v (act (reaching c points v)))
-in_step_by true g directory c points act w v acts named agree = agree
-in_step_by false g directory c points act w v acts named agree =
-    acts (reaching c points w) (reaching c points v) named (reached_both g c points w v agree)
-
 in_step : (g : Selection) (directory : KnownTargets) (c : ℕ) (point : Point) (act : World → World) (w v : World) → g.keeps_on c ≡ true → InBoth g directory act
     → AreNamed g directory (take_step [] c point act w) → Agree g w v → Agree g (take_step [] c point act w) (take_step [] c point act v)
 unfolding take_step is_marked
 in_step g directory c point act w v on acts named agree =
-    subst (λ (o : Option Life). Agree g (cond (not (reads_life (present c w))) w (act (reaching c (point ∷ []) w)))
-    (cond (not (reads_life o)) v (act (reaching c (point ∷ []) v)))) (sym (present_in g c w v on agree))
-    (in_step_by (not (reads_life (present c w))) g directory c (point ∷ []) act w v acts named agree)
+    rw (present_in g c w v on agree) (by_test (not (reads_life (present c w))) named)
+  where
+    by_test : (b : Bool) → AreNamed g directory (cond b w (act (reaching c (point ∷ []) w)))
+        → Agree g (cond b w (act (reaching c (point ∷ []) w))) (cond b v (act (reaching c (point ∷ []) v)))
+    by_test true named = agree
+    by_test false named = acts (reaching c (point ∷ []) w) (reaching c (point ∷ []) v) named (reached_both g c (point ∷ []) w v agree)
 
 in_arrive : (g : Selection) (s : Setting) (c : ℕ) (w v : World) (arrival : ℕ × Arrival) → g.keeps_on c ≡ true
     → AreNamed g s.directory (arrive s [] c w arrival)
@@ -200,7 +198,7 @@ unfolding bring
 in_bring g s c piece w v on named agree =
     let u = fold (arrive s [] c) (changed (longer piece) c w) (brought (present c w) piece) in
     let x = fold (arrive s [] c) (changed (longer piece) c v) (brought (present c w) piece) in
-    let first : Agree g (changed (longer piece) c w) (changed (longer piece) c v) = in_changed g (longer piece) c w v on (keeps_longer g piece c w) agree in
+    let first = in_changed g (longer piece) c w v on (keeps_same g (longer piece) c w (λ life. (refl, refl))) agree in
     let all : Agree g u x = in_arrivals g s c (changed (longer piece) c w) (changed (longer piece) c v) (brought (present c w) piece) on
     (step_names g s.directory c AtEnd u named) first in
     subst (λ (o : Option Life). Agree g (take_step [] c AtEnd (λ y. y) u)
@@ -240,4 +238,4 @@ unfolding bring
 out_bring g s c piece w v on named agree =
     let all = brought (present c w) piece in
     (on-brought (out_event g s c v on) (changed (longer piece) c w) all (any_arrivals c all)).1 named
-    (out_changed g (longer piece) c w v on (keeps_longer g piece c w) agree)
+    (out_changed g (longer piece) c w v on (keeps_same g _ c w (λ life. (refl, refl))) agree)

@@ -1,11 +1,10 @@
 -- What is done to a present life keeps what is true of its place and of its session's target.
-use Rattle.std.proofs.Common.{◌≡◌, ℕ, List, Bool, Some, sym, ap, ◌∙◌, subst}
-use Rattle.iscsi_pdu.specs.Frames.{Frame}
+use Rattle.std.proofs.Common.{◌≡◌, ℕ, Bool, Some, sym, ap, ◌∙◌, subst}
 use Rattle.iscsi_pdu.specs.declared.answer.Answer.{Answer}
 use Rattle.iscsi_login.specs.declared.params.Params.{Params}
 use Rattle.iscsi_session.specs.Requests.{Past}
 use Rattle.iscsi_target.specs.Life.{Life, Closing, ended_in}
-use Rattle.iscsi_target.specs.World.{World, is_present, present, changed_first, past_of, answered, asked, longer, begun, with_past}
+use Rattle.iscsi_target.specs.World.{World, is_present, present, changed_first, past_of, begun, with_past}
 use Rattle.iscsi_target.proofs.Lives.{present_is}
 use Rattle.iscsi_target.proofs.Keeping.{open_life}
 use Rattle.iscsi_target.proofs.IsolatedLives.{AllFrom, Selection, HasTarget, Fits, number_of, first_fits}
@@ -24,17 +23,14 @@ pub keeps_ended : (g : Selection) (c : ℕ) (w : World) → Keeps g (ended_in Cl
 unfolding Keeps
 keeps_ended g c w = λ life at k fit. record { placed = λ e. fit.placed (open_life c w life at); session = λ p e. absurd cc }
 
-pub keeps_answered : (g : Selection) (answer : Answer) (c : ℕ) (w : World) → Keeps g (answered answer) c w
+-- f changes neither its phase nor its connection
+pub keeps_same : (g : Selection) (f : Life → Life) (c : ℕ) (w : World)
+    → ((life : Life) → ((f life).phase ≡ life.phase) × ((f life).connection ≡ life.connection)) → Keeps g f c w
 unfolding Keeps
-keeps_answered g answer c w = λ life at k fit. record { placed = fit.placed; session = fit.session }
-
-pub keeps_asked : (g : Selection) (request : Frame) (c : ℕ) (w : World) → Keeps g (asked request) c w
-unfolding Keeps
-keeps_asked g request c w = λ life at k fit. record { placed = fit.placed; session = fit.session }
-
-pub keeps_longer : (g : Selection) (piece : List ℕ) (c : ℕ) (w : World) → Keeps g (longer piece) c w
-unfolding Keeps
-keeps_longer g piece c w = λ life at k fit. record { placed = fit.placed; session = fit.session }
+keeps_same g f c w same = λ life at k fit. record {
+  placed = rw ((same life).0, (same life).1) fit.placed;
+  session = rw (same life).0 fit.session;
+}
 
 some_params : (g : Selection) (b : Bool) (p q : Params) → HasTarget g b p.target → Some p ≡ Some q → HasTarget g b q.target
 some_params g b p q own e = let same : p ≡ q = cc in subst (λ (r : Params). HasTarget g b r.target) same own

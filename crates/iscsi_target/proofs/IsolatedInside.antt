@@ -20,7 +20,7 @@ use Rattle.iscsi_target.specs.Life.{Life, Closing, ended_in}
 use Rattle.iscsi_target.specs.World.{World, is_present, present, changed_first, changed, session_of, past_of, live, units_at, with_units, changed_units, left, close, answered, begun, begins, end_older, replied, fails, work_of, with_past, worked_on, worked, served_by, take_in, settled_by, settle_one, settle, settle_for}
 use Rattle.iscsi_target.proofs.IsolatedLives.{Selection, HasTarget, changed_in}
 use Rattle.iscsi_target.proofs.IsolatedWorlds.{UnitsAgree, units_own, with_own, Agree, agree_with, present_in, present_out, session_target, past_target, session_of_past, older_same, older_on, one_target, same_targets}
-use Rattle.iscsi_target.proofs.IsolatedFits.{Keeps, keeps_ended, keeps_answered, keeps_begun, keeps_worked, fits_changed}
+use Rattle.iscsi_target.proofs.IsolatedFits.{Keeps, keeps_ended, keeps_begun, keeps_worked, fits_changed, keeps_same}
 
 -- ---- what a connection's end does
 
@@ -88,10 +88,10 @@ pub in_replied : (g : Selection) (reply : Reply) (c : ℕ) (w v : World) → g.k
     → ((r : _) (session : Params) → reply ≡ Full r session → HasTarget g true session.target) → Agree g w v
     → Agree g (replied reply c w) (replied reply c v)
 in_replied g (GoOn response) c w v on own agree =
-    in_changed g (answered (answers.LoginResponse response)) c w v on (keeps_answered g (answers.LoginResponse response) c w) agree
+    in_changed g (answered (answers.LoginResponse response)) c w v on (keeps_same g _ c w (λ life. (refl, refl))) agree
 in_replied g (Refused response) c w v on own agree =
     in_close g c (changed (answered (answers.LoginResponse response)) c w) (changed (answered (answers.LoginResponse response)) c v) on
-    (in_changed g (answered (answers.LoginResponse response)) c w v on (keeps_answered g (answers.LoginResponse response) c w) agree)
+    (in_changed g (answered (answers.LoginResponse response)) c w v on (keeps_same g _ c w (λ life. (refl, refl))) agree)
 in_replied g (Full response session) c w v on own agree =
     let mine = own response session refl in
     let u = begins session (answers.LoginResponse response) c w in
@@ -148,64 +148,56 @@ in_take_in g marks c place frame w v on agree =
     subst (λ (o : Option Life). Agree g (served_by (past_of (present c w)) marks c place frame w) (served_by (past_of o) marks c place frame v))
     (sym (present_in g c w v on agree)) (in_served_by g (past_of (present c w)) marks c place frame w v on refl agree)
 
--- its target is this one
-own_target : (g : Selection) (o : Option ℕ) (t : ℕ) → is_same_target o (Some t) ≡ true → HasTarget g true o → o ≡ Some g.target
-unfolding HasTarget
-own_target g o t e own =
-    let same = same_targets o (Some t) e in
-    same.1 ∙ ap (λ (n : ℕ). Some n) (eqb-true same.0 g.target (sym (own same.0 same.1)))
+-- what is done with the session of a connection, where it is one of the target's: in the second World there is no other one
+module _ (g : Selection) (t c : ℕ) (by : Option Past → World → World) (act : Past → World → World) (none : (w : World) → by None w ≡ w)
+    (some : (past : Past) (w : World) → by (Some past) w ≡ cond (is_same_target past.params.target (Some t)) (act past w) w)
+    (w v : World) (own : HasTarget g true (Some t)) (agree : Agree g w v)
+    (acts : (past : Past) → g.keeps_on c ≡ true → past_of (present c w) ≡ Some past → past.params.target ≡ Some g.target
+    → Agree g (act past w) (act past v)) where
+  own_target : (past : Past) → is_same_target past.params.target (Some t) ≡ true → past.params.target ≡ Some g.target
+  unfolding HasTarget
+  own_target past e =
+      let same = same_targets past.params.target (Some t) e in same.1 ∙ ap (λ (n : ℕ). Some n) (eqb-true same.0 g.target (sym (own same.0 same.2)))
 
--- a session whose life is kept
-in_settled_by : (here : Bool) (g : Selection) (past : Past) (marks : List Mark) (place t c : ℕ) (w v : World) → g.keeps_on c ≡ true
-    → is_same_target past.params.target (Some t) ≡ here → past_of (present c w) ≡ Some past → Agree g w v
-    → Agree g (cond here (worked c (settled (fails marks c) place (work_of past w)) w) w)
-    (cond here (worked c (settled (fails marks c) place (work_of past v)) v) v)
-in_settled_by false g past marks place t c w v on e at agree = agree
-in_settled_by true g past marks place t c w v on e at agree =
-    let begun_ = work_of past w in
-    let work = settled (fails marks c) place begun_ in
-    let own = own_session g c w v on agree past.params (session_of_past (present c w) past at) in
-    let same : settled (fails marks c) place (work_of past v) ≡ quiet work =
-    ap (settled (fails marks c) place) (same_work g c past w v on at agree)
-    ∙ quiet_settled g.target (fails marks c) place begun_ (record { calm = agree.calm; own = own_target g past.params.target t e own }) in
-    subst (λ (other : Work). Agree g (worked c work w) (worked c other v)) (sym same)
-    (in_worked g c past work w v on at (settled_extends (fails marks c) place begun_).params
-    (calm_settled g.target (fails marks c) place begun_ agree.calm) agree)
+  kept : (here : Bool) (past : Past) → is_same_target past.params.target (Some t) ≡ here → g.keeps_on c ≡ true → past_of (present c w) ≡ Some past
+      → Agree g (cond here (act past w) w) (cond here (act past v) v)
+  kept true past e on at = acts past on at (own_target past e)
+  kept false past e on at = agree
 
-in_settled : (g : Selection) (o : Option Past) (marks : List Mark) (place t c : ℕ) (w v : World) → g.keeps_on c ≡ true → past_of (present c w) ≡ o
-    → Agree g w v → Agree g (settled_by o marks place t c w) (settled_by o marks place t c v)
-in_settled g None marks place t c w v on at agree = agree
-in_settled g (Some past) marks place t c w v on at agree =
-    in_settled_by (is_same_target past.params.target (Some t)) g past marks place t c w v on refl at agree
+  dropped : (here : Bool) (past : Past) → is_same_target past.params.target (Some t) ≡ here → g.keeps_on c ≡ false → past_of (present c w) ≡ Some past
+      → Agree g (cond here (act past w) w) v
+  dropped true past e on at =
+      let never : g.keeps_on c ≡ true = one_target g (g.keeps_on c) true past.params.target (Some t) (past_target g c w v past agree at) own e in absurd cc
+  dropped false past e on at = agree
 
--- .. is not kept, which is of another target
-passed_over : (g : Selection) (past : Past) (marks : List Mark) (place t c : ℕ) (w v : World) (here : Bool) → HasTarget g true (Some t) → g.keeps_on c ≡ false
-    → is_same_target past.params.target (Some t) ≡ here → past_of (present c w) ≡ Some past → Agree g w v
-    → Agree g (cond here (worked c (settled (fails marks c) place (work_of past w)) w) w) v
-passed_over g past marks place t c w v false own on e at agree = agree
-passed_over g past marks place t c w v true own on e at agree =
-    let never : g.keeps_on c ≡ true = one_target g (g.keeps_on c) true past.params.target (Some t) (past_target g c w v past agree at) own e in
-    absurd cc
+  kept_of : (o : Option Past) → g.keeps_on c ≡ true → past_of (present c w) ≡ o → Agree g (by o w) (by o v)
+  kept_of None on at = rw (none w, none v) agree
+  kept_of (Some past) on at = rw (some past w, some past v) (kept (is_same_target past.params.target (Some t)) past refl on at)
 
-in_passed : (g : Selection) (o : Option Past) (marks : List Mark) (place t c : ℕ) (w v : World) → HasTarget g true (Some t) → g.keeps_on c ≡ false
-    → past_of (present c w) ≡ o → Agree g w v → Agree g (settled_by o marks place t c w) v
-in_passed g None marks place t c w v own on at agree = agree
-in_passed g (Some past) marks place t c w v own on at agree =
-    passed_over g past marks place t c w v (is_same_target past.params.target (Some t)) own on refl at agree
+  dropped_of : (o : Option Past) → g.keeps_on c ≡ false → past_of (present c w) ≡ o → Agree g (by o w) (by None v)
+  dropped_of None on at = rw (none w, none v) agree
+  dropped_of (Some past) on at = rw (some past w, none v) (dropped (is_same_target past.params.target (Some t)) past refl on at)
 
-settle_by : (b : Bool) (g : Selection) (marks : List Mark) (place t c : ℕ) (w v : World) → g.keeps_on c ≡ b → HasTarget g true (Some t) → Agree g w v
+  pub in_of_target : (b : Bool) → g.keeps_on c ≡ b → Agree g (by (past_of (present c w)) w) (by (past_of (present c v)) v)
+  in_of_target true on = rw (present_in g c w v on agree) (kept_of (past_of (present c w)) on refl)
+  in_of_target false on = rw (present_out g c w v on agree) (dropped_of (past_of (present c w)) on refl)
+
+in_settle_one : (g : Selection) (marks : List Mark) (place t c : ℕ) (w v : World) → HasTarget g true (Some t) → Agree g w v
     → Agree g (settle_one marks place t w c) (settle_one marks place t v c)
 unfolding settle_one
-settle_by true g marks place t c w v on own agree =
-    subst (λ (o : Option Life). Agree g (settled_by (past_of (present c w)) marks place t c w) (settled_by (past_of o) marks place t c v))
-    (sym (present_in g c w v on agree)) (in_settled g (past_of (present c w)) marks place t c w v on refl agree)
-settle_by false g marks place t c w v on own agree =
-    subst (λ (o : Option Life). Agree g (settled_by (past_of (present c w)) marks place t c w) (settled_by (past_of o) marks place t c v))
-    (sym (present_out g c w v on agree)) (in_passed g (past_of (present c w)) marks place t c w v own on refl agree)
+in_settle_one g marks place t c w v own agree =
+    in_of_target g t c (λ o u. settled_by o marks place t c u) (λ past u. worked c (settled (fails marks c) place (work_of past u)) u) (λ u. refl)
+    (λ past u. refl) w v own agree (λ past on at target. (let begun_ = work_of past w in
+    let work = settled (fails marks c) place begun_ in
+    let same : settled (fails marks c) place (work_of past v) ≡ quiet work = ap (settled (fails marks c) place) (same_work g c past w v on at agree)
+    ∙ quiet_settled g.target (fails marks c) place begun_ (record { calm = agree.calm; own = target }) in
+    subst (λ (other : Work). Agree g (worked c work w) (worked c other v)) (sym same)
+    (in_worked g c past work w v on at (settled_extends (fails marks c) place begun_).params
+    (calm_settled g.target (fails marks c) place begun_ agree.calm) agree))) (g.keeps_on c) refl
 
 pub in_settle_for : (g : Selection) (marks : List Mark) (place : ℕ) (o : Option ℕ) (w v : World) → HasTarget g true o → Agree g w v
     → Agree g (settle_for marks place o w) (settle_for marks place o v)
 unfolding settle
 in_settle_for g marks place None w v own agree = agree
 in_settle_for g marks place (Some t) w v own agree =
-    in_fold g (settle_one marks place t) w v connections (λ u x c both. settle_by (g.keeps_on c) g marks place t c u x refl own both) agree
+    in_fold g (settle_one marks place t) w v connections (λ u x c both. in_settle_one g marks place t c u x own both) agree

@@ -20,7 +20,7 @@ use Rattle.iscsi_target.specs.World.{Setting, World, present, changed, session_o
 use Rattle.iscsi_target.proofs.Walks.{Walk, on-serve}
 use Rattle.iscsi_target.proofs.IsolatedLives.{Selection, HasTarget, changed_out}
 use Rattle.iscsi_target.proofs.IsolatedWorlds.{UnitsAgree, with_other, Agree, agree_with, session_target, past_target, session_of_past, older_on, one_target}
-use Rattle.iscsi_target.proofs.IsolatedFits.{Keeps, keeps_ended, keeps_answered, keeps_asked, keeps_begun, keeps_worked, fits_changed}
+use Rattle.iscsi_target.proofs.IsolatedFits.{Keeps, keeps_ended, keeps_begun, keeps_worked, fits_changed, keeps_same}
 
 -- ---- what a connection's end does
 
@@ -73,10 +73,10 @@ out_begins g session answer c w v on other agree =
 out_replied : (g : Selection) (reply : Reply) (c : ℕ) (w v : World) → g.keeps_on c ≡ false
     → ((r : _) (session : Params) → reply ≡ Full r session → HasTarget g false session.target) → Agree g w v → Agree g (replied reply c w) v
 out_replied g (GoOn response) c w v on other agree =
-    out_changed g (answered (answers.LoginResponse response)) c w v on (keeps_answered g (answers.LoginResponse response) c w) agree
+    out_changed g (answered (answers.LoginResponse response)) c w v on (keeps_same g _ c w (λ life. (refl, refl))) agree
 out_replied g (Refused response) c w v on other agree =
     out_close g c (changed (answered (answers.LoginResponse response)) c w) v on
-    (out_changed g (answered (answers.LoginResponse response)) c w v on (keeps_answered g (answers.LoginResponse response) c w) agree)
+    (out_changed g (answered (answers.LoginResponse response)) c w v on (keeps_same g _ c w (λ life. (refl, refl))) agree)
 out_replied g (Full response session) c w v on other agree =
     let own = other response session refl in
     out_end_older g (older session (live w)) (begins session (answers.LoginResponse response) c w) v
@@ -89,7 +89,7 @@ pub out_log_in : (g : Selection) (s : Setting) (c : ℕ) (request : Frame) (w v 
 unfolding log_in
 out_log_in g s c request w v on other agree =
     out_replied g (login (c + 1) (requests_of (present c w)) (lookup_for s.directory (live w) request) request) c (changed (asked request) c w) v on other
-    (out_changed g (asked request) c w v on (keeps_asked g request c w) agree)
+    (out_changed g (asked request) c w v on (keeps_same g _ c w (λ life. (refl, refl))) agree)
 
 -- ---- a session
 

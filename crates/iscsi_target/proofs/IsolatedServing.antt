@@ -1,59 +1,28 @@
 -- A frame of a session, and what the Task Management Functions that acted in it do to the other sessions of its target, stay within the target.
-use Rattle.std.proofs.Common.{◌≡◌, ℕ, List, Bool, true, false, cond, eqb, Option, Some, None, refl, sym, ap, ◌∙◌, subst}
+use Rattle.std.proofs.Common.{◌≡◌, ℕ, List, true, eqb, Option, Some, None, refl, sym, ap, ◌∙◌, subst}
 use Rattle.std.specs.List.{fold}
 use Rattle.iscsi_pdu.specs.Header.{lun_field}
 use Rattle.iscsi_pdu.specs.Frames.{Frame}
-use Rattle.iscsi_login.specs.Session.{is_same_target}
 use Rattle.iscsi_session.specs.Requests.{Past}
 use Rattle.iscsi_session.specs.Steps.{Work}
 use Rattle.iscsi_target.specs.History.{Mark, connections}
 use Rattle.iscsi_target.specs.Life.{Life}
 use Rattle.iscsi_target.specs.World.{World, present, past_of, work_of, worked_on, take_in, orders_by, orders_in, function_of, reaches_others, losing, lost_by, lose_one, reset_by, reset, carry_out, carry_out_for, settle_for, serve}
 use Rattle.iscsi_target.proofs.IsolatedLives.{Selection, HasTarget}
-use Rattle.iscsi_target.proofs.IsolatedWorlds.{Agree, agree_with, present_in, present_out, past_target, one_target}
-use Rattle.iscsi_target.proofs.IsolatedInside.{in_cond, in_fold, in_worked_on, own_changed, same_work, same_served, in_take_in, in_settle_for}
+use Rattle.iscsi_target.proofs.IsolatedWorlds.{Agree, agree_with, present_in}
+use Rattle.iscsi_target.proofs.IsolatedInside.{in_cond, in_fold, in_worked_on, own_changed, same_work, same_served, in_take_in, in_settle_for, in_of_target}
 
 -- ---- of this target
-
-in_lost_by : (g : Selection) (o : Option Past) (header : List ℕ) (t d : ℕ) (w v : World) → g.keeps_on d ≡ true → past_of (present d w) ≡ o → Agree g w v
-    → Agree g (lost_by o header t d w) (lost_by o header t d v)
-in_lost_by g None header t d w v on at agree = agree
-in_lost_by g (Some past) header t d w v on at agree =
-    let work = losing header (work_of past w) in
-    in_cond g (is_same_target past.params.target (Some t)) (worked_on d work w) w (worked_on d (losing header (work_of past v)) v) v
-    (subst (λ (begun_ : Work). Agree g (worked_on d work w) (worked_on d (losing header begun_) v)) (sym (same_work g d past w v on at agree))
-    (in_worked_on g d past work w v on at refl agree.calm agree)) agree
-
--- a session of another target loses nothing
-unlost : (here : Bool) (g : Selection) (past : Past) (header : List ℕ) (t d : ℕ) (w v : World) → is_same_target past.params.target (Some t) ≡ here
-    → g.keeps_on d ≡ false → HasTarget g true (Some t) → past_of (present d w) ≡ Some past → Agree g w v
-    → Agree g (cond here (worked_on d (losing header (work_of past w)) w) w) v
-unlost false g past header t d w v e on own at agree = agree
-unlost true g past header t d w v e on own at agree =
-    let never : g.keeps_on d ≡ true = one_target g (g.keeps_on d) true past.params.target (Some t) (past_target g d w v past agree at) own e in
-    absurd cc
-
-unlost_by : (g : Selection) (o : Option Past) (header : List ℕ) (t d : ℕ) (w v : World) → g.keeps_on d ≡ false → HasTarget g true (Some t)
-    → past_of (present d w) ≡ o → Agree g w v → Agree g (lost_by o header t d w) v
-unlost_by g None header t d w v on own at agree = agree
-unlost_by g (Some past) header t d w v on own at agree =
-    unlost (is_same_target past.params.target (Some t)) g past header t d w v refl on own at agree
-
-lost_in : (b : Bool) (g : Selection) (header : List ℕ) (t d : ℕ) (w v : World) → g.keeps_on d ≡ b → HasTarget g true (Some t) → Agree g w v
-    → Agree g (lost_by (past_of (present d w)) header t d w) (lost_by (past_of (present d v)) header t d v)
-lost_in true g header t d w v on own agree =
-    subst (λ (o : Option Life). Agree g (lost_by (past_of (present d w)) header t d w) (lost_by (past_of o) header t d v)) (sym (present_in g d w v on agree))
-    (in_lost_by g (past_of (present d w)) header t d w v on refl agree)
-lost_in false g header t d w v on own agree =
-    subst (λ (o : Option Life). Agree g (lost_by (past_of (present d w)) header t d w) (lost_by (past_of o) header t d v)) (sym (present_out g d w v on agree))
-    (unlost_by g (past_of (present d w)) header t d w v on own refl agree)
 
 in_lose_one : (g : Selection) (header : List ℕ) (t c : ℕ) (w v : World) (d : ℕ) → HasTarget g true (Some t) → Agree g w v
     → Agree g (lose_one header t c w d) (lose_one header t c v d)
 unfolding lose_one
 in_lose_one g header t c w v d own agree =
     in_cond g (eqb d c) w (lost_by (past_of (present d w)) header t d w) v (lost_by (past_of (present d v)) header t d v) agree
-    (lost_in (g.keeps_on d) g header t d w v refl own agree)
+    (in_of_target g t d (λ o u. lost_by o header t d u) (λ past u. worked_on d (losing header (work_of past u)) u) (λ u. refl) (λ past u. refl) w v own agree
+    (λ past on at target. (let work = losing header (work_of past w) in
+    subst (λ (begun_ : Work). Agree g (worked_on d work w) (worked_on d (losing header begun_) v)) (sym (same_work g d past w v on at agree))
+    (in_worked_on g d past work w v on at refl agree.calm agree))) (g.keeps_on d) refl)
 
 in_reset : (g : Selection) (header : List ℕ) (t : ℕ) (w v : World) → HasTarget g true (Some t) → Agree g w v → Agree g (reset header t w) (reset header t v)
 unfolding reset

@@ -19,16 +19,13 @@ use Rattle.iscsi_target.proofs.Choices.{and_true, and_false}
 use Rattle.iscsi_target.proofs.Lists.{position_of_map}
 use Rattle.iscsi_target.proofs.Lives.{present_is}
 use Rattle.iscsi_target.proofs.IsolatedLives.{AllFrom, Selection, HasTarget, Fits, number_of, find_in, find_out, found_fits}
+use Rattle.std.proofs.lemmas.Grind.{common_steps}
 
 -- ---- units
 
 set_alike : {X : Type 0} (xs ys : List X) (i : ℕ) (a d : X) → length xs ≡ length ys → slice_index_or xs i d ≡ slice_index_or ys i d
     → slice_index_or (slice_set xs i a) i d ≡ slice_index_or (slice_set ys i a) i d
-set_alike [] [] i a d e same = refl
-set_alike [] (y ∷ ys) i a d e same = absurd (omega arith)
-set_alike (x ∷ xs) [] i a d e same = absurd (omega arith)
-set_alike (x ∷ xs) (y ∷ ys) zero a d e same = refl
-set_alike (x ∷ xs) (y ∷ ys) (suc i) a d e same = set_alike xs ys i a d (omega arith) same
+set_alike xs ys i a d e same = grind (arith, common_steps)
 
 -- the target has the same units in both, and there are as many targets
 pub record UnitsAgree (g : Selection) (all some : List UnitStates) : Type 0 where
@@ -137,28 +134,25 @@ pub one_target : (g : Selection) (a b : Bool) (o p : Option ℕ) → HasTarget g
 unfolding HasTarget
 one_target g a b o p x y e = let s = same_targets o p e in x s.0 s.1 ∙ sym (y s.0 s.2)
 
-is_of_by : (b : Bool) (g : Selection) (nexus : NexusName) (o : Option ℕ) (p : Params) → is_same_target p.target o ≡ b → HasTarget g false p.target
-    → HasTarget g true o
-    → is_of nexus o (Some p) ≡ false
-is_of_by true g nexus o p e x y = let never : false ≡ true = one_target g false true p.target o x y e in absurd cc
-is_of_by false g nexus o p e x y = ap (λ (b : Bool). same_nexus p.nexus nexus && b) e ∙ and_false (same_nexus p.nexus nexus)
-
 -- a session of a life that is not kept is of no target of a life that is
 other_is_none : (g : Selection) (nexus : NexusName) (o : Option ℕ) (q : Option Params) → HasTarget g true o
     → ((p : Params) → q ≡ Some p → HasTarget g false p.target) → is_of nexus o None ≡ is_of nexus o q
 other_is_none g nexus o None own other = refl
-other_is_none g nexus o (Some p) own other = sym (is_of_by (is_same_target p.target o) g nexus o p refl (other p refl) own)
-
-session_by : (b : Bool) (g : Selection) (nexus : NexusName) (o : Option ℕ) (w v : World) (d : ℕ) → g.keeps_on d ≡ b → HasTarget g true o → Agree g w v
-    → is_of nexus o (session_of (present d v)) ≡ is_of nexus o (session_of (present d w))
-session_by true g nexus o w v d on own agree = ap (λ (x : Option Life). is_of nexus o (session_of x)) (present_in g d w v on agree)
-session_by false g nexus o w v d on own agree =
-    ap (λ (x : Option Life). is_of nexus o (session_of x)) (present_out g d w v on agree)
-    ∙ other_is_none g nexus o (session_of (present d w)) own (λ p e. subst (λ (b : Bool). HasTarget g b p.target) on (session_target g d w v p agree e))
+other_is_none g nexus o (Some p) own other = by_target (is_same_target p.target o) refl
+  where
+    by_target : (b : Bool) → is_same_target p.target o ≡ b → is_of nexus o None ≡ is_of nexus o (Some p)
+    by_target true e = let never : false ≡ true = one_target g false true p.target o (other p refl) own e in absurd cc
+    by_target false e = sym (ap (λ (b : Bool). same_nexus p.nexus nexus && b) e ∙ and_false (same_nexus p.nexus nexus))
 
 session_same : (g : Selection) (nexus : NexusName) (o : Option ℕ) (w v : World) (d : ℕ) → HasTarget g true o → Agree g w v
     → is_of nexus o (session_of (present d v)) ≡ is_of nexus o (session_of (present d w))
-session_same g nexus o w v d own agree = session_by (g.keeps_on d) g nexus o w v d refl own agree
+session_same g nexus o w v d own agree = by_choice (g.keeps_on d) refl
+  where
+    by_choice : (b : Bool) → g.keeps_on d ≡ b → is_of nexus o (session_of (present d v)) ≡ is_of nexus o (session_of (present d w))
+    by_choice true on = ap (λ (x : Option Life). is_of nexus o (session_of x)) (present_in g d w v on agree)
+    by_choice false on = ap (λ (x : Option Life). is_of nexus o (session_of x)) (present_out g d w v on agree)
+        ∙ other_is_none g nexus o (session_of (present d w)) own (λ p e. subst (λ (b : Bool). HasTarget g b p.target) on
+        (session_target g d w v p agree e))
 
 map_at : (p : Option Params → Bool) (f h : ℕ → Option Params) (cs : List ℕ) (i : ℕ) → ((c : ℕ) → p (f c) ≡ p (h c))
     → p (slice_index_or (map f cs) i None) ≡ p (slice_index_or (map h cs) i None)

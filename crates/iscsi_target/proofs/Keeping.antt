@@ -1,6 +1,6 @@
 -- What an event of bytes leaves of the World: it begins and ends no life, and each goes on from what it was.
-use Rattle.std.proofs.Common.{◌≡◌, ◌≢◌, ◌&&◌, ℕ, ◌+◌, List, [], ◌∷◌, ◌++◌, map, Bool, true, false, cond, not, eqb, Option, Some, None, refl, sym, ap, ◌∙◌, subst, append_assoc, append-nil, inl, inr}
-use Rattle.std.specs.Prelude.{find, flat_map, ⊤}
+use Rattle.std.proofs.Common.{◌≡◌, ℕ, ◌+◌, List, [], ◌∷◌, ◌++◌, map, Bool, true, false, cond, Option, Some, None, refl, sym, ap, ◌∙◌, subst, append_assoc, append-nil, inl, inr}
+use Rattle.std.specs.Prelude.{flat_map, ⊤}
 use Rattle.std.proofs.lemmas.Bool.Decides.{eqb_tells}
 use Rattle.std.proofs.lemmas.List.Sums.{fold-append}
 use Rattle.iscsi_pdu.specs.Answer.{spelling}
@@ -16,15 +16,15 @@ use Rattle.iscsi_session.specs.Requests.{Past}
 use Rattle.iscsi_session.specs.Steps.{Work, served, settled}
 use Rattle.iscsi_session.proofs.Steps.{Extends, served_extends, settled_extends}
 use Rattle.iscsi_target.specs.History.{Mark, Point, Bytes, happening, History, Happening}
-use Rattle.iscsi_target.specs.Life.{Life, Phase, LoggingIn, FullFeature, Closing, Over, logs_in, is_over, reads, past_in, session_answers, out_of, ended_in}
-use Rattle.iscsi_target.specs.World.{Setting, World, is_present, present, changed, past_of, live, close, reaching, answered, asked, begun, begins, requests_of, lookup_for, end_older, replied, log_in, work_of, fails, with_past, worked_on, worked, brought, longer, bring, begun_event, happened, new_world, world, losing, reset}
+use Rattle.iscsi_target.specs.Life.{Life, Phase, LoggingIn, FullFeature, Closing, logs_in, is_over, reads, past_in, session_answers, out_of, ended_in}
+use Rattle.iscsi_target.specs.World.{Setting, World, present, changed, past_of, live, close, reaching, answered, asked, begun, begins, requests_of, lookup_for, end_older, replied, log_in, work_of, fails, with_past, worked_on, worked, brought, longer, bring, begun_event, happened, new_world, world, losing, reset}
 use Rattle.iscsi_target.specs.Runs.{RowState, open_row, row_of}
 use Rattle.iscsi_target.specs.Laws.{GoesOn, LivesGoOn, AnswersStay, LogsIn}
 use Rattle.iscsi_target.proofs.Working.{answers_grow}
 use Rattle.iscsi_target.proofs.Following.{Asks, asks_same, LivesFollow, Continues, is_open_here, lives_same, lives_then, lives_go, lives_changed}
 use Rattle.iscsi_target.proofs.Walks.{Walk, EventWalk, IsAny, IsAnyFrame, any_arrivals, logs_there, on-serve, on-brought}
-use Rattle.iscsi_target.proofs.Choices.{cond_false, and_true}
-use Rattle.iscsi_target.proofs.Lives.{some_is, present-changed, present-changed_other, present-lives, present_is, changed_none}
+use Rattle.iscsi_target.proofs.Choices.{cond_false}
+use Rattle.iscsi_target.proofs.Lives.{present-changed_other, present-lives, present_is, IsPlaced, ended_placed, answered_placed, asked_placed, begun_placed, worked_placed, present-placed, present-changed_none, present-was}
 use Rattle.iscsi_target.proofs.Linked.{out-ended, out-more, present-reaching}
 
 pub open_life : (c : ℕ) (w : World) (life : Life) → present c w ≡ Some life → is_over life.phase ≡ false
@@ -99,20 +99,10 @@ on-then w v u a b = record {
   reached = (a.reached.0 ++ b.reached.0, b.reached.1 ∙ ap (λ (l : List Mark). l ++ b.reached.0) a.reached.1 ∙ append_assoc w.reached a.reached.0 b.reached.0);
 }
 
-changed_stays : (f : Life → Life) (c : ℕ) (w : World) (o : Option Life) → present c w ≡ o → ((life : Life) → present c w ≡ Some life → Keeps f life)
-    → Stays o (present c (changed f c w))
-unfolding changed present
-changed_stays f c w None at each = subst (λ (o : Option Life). Stays None o) (sym (ap (find (is_present c)) (changed_none f c w.lives at) ∙ at)) tt
-changed_stays f c w (Some x) at each =
-    let k = each x at in
-    let on = and_true (eqb x.connection c) (not (is_over x.phase)) (present_is c w x at) in
-    let here : is_present c (f x) ≡ true = ap (λ (n : ℕ). eqb n c && not (is_over (f x).phase)) k.goes.connection
-    ∙ ap (λ (b : Bool). b && not (is_over (f x).phase)) on.0 ∙ ap not k.goes.is_open in
-    subst (λ (o : Option Life). Stays (Some x) o) (sym (present-changed f c w x at here)) (k.bytes, k.reads_so, k.past_login)
-
-other_stays : (f : Life → Life) (c d : ℕ) (w : World) → ((life : Life) → (f life).connection ≡ life.connection) → d ≢ c
-    → Stays (present d w) (present d (changed f c w))
-other_stays f c d w on differ = subst (Stays (present d w)) (sym (present-changed_other f c d w on differ)) (stays_same (present d w))
+changed_stays : (f : Life → Life) (c : ℕ) (w : World) (o : Option Life) → present c w ≡ o → IsPlaced f
+    → ((life : Life) → present c w ≡ Some life → Keeps f life) → Stays o (present c (changed f c w))
+changed_stays f c w None at placed each = rw (present-changed_none f c w at) tt
+changed_stays f c w (Some x) at placed each = let k = each x at in rw (present-placed f placed c w x at) (k.bytes, k.reads_so, k.past_login)
 
 lives_of : (f : Life → Life) (c : ℕ) (w : World) → ((life : Life) → present c w ≡ Some life → Continues f life) → LivesFollow w.lives (changed f c w).lives
 unfolding changed present
@@ -122,13 +112,12 @@ reached_same : (f : Life → Life) (c : ℕ) (w : World) → (changed f c w).rea
 unfolding changed
 reached_same f c w = sym (append-nil w.reached)
 
-on-changed : (f : Life → Life) (c : ℕ) (w : World) → ((life : Life) → (f life).connection ≡ life.connection)
-    → ((life : Life) → present c w ≡ Some life → Keeps f life) → Goes w (changed f c w)
-on-changed f c w on each = record {
+on-changed : (f : Life → Life) (c : ℕ) (w : World) → IsPlaced f → ((life : Life) → present c w ≡ Some life → Keeps f life) → Goes w (changed f c w)
+on-changed f c w placed each = record {
   lives = lives_of f c w (λ life at. (each life at).goes);
   stays = λ d. elim (eqb_tells d c) [
-    | inl same ↦ rw same.1 (changed_stays f c w (present c w) refl each)
-    | inr differ ↦ other_stays f c d w on differ.1
+    | inl same ↦ rw same.1 (changed_stays f c w (present c w) refl placed each)
+    | inr differ ↦ rw (present-changed_other f c d w placed.on differ.1) (stays_same (present d w))
   ];
   reached = ([], reached_same f c w);
 }
@@ -164,7 +153,7 @@ ended_keeps life = record {
 pub on-close : (c : ℕ) (w : World) → Goes w (close c w)
 unfolding close
 on-close c w = with_lives w (changed (ended_in Closing) c w) (close c w)
-    (on-changed (ended_in Closing) c w (λ life. refl) (λ life at. ended_keeps life)) refl [] (sym (append-nil _))
+    (on-changed (ended_in Closing) c w ended_placed (λ life at. ended_keeps life)) refl [] (sym (append-nil _))
 
 pub on-reaching : (c : ℕ) (points : List Point) (w : World) → Goes w (reaching c points w)
 on-reaching c points w = record {
@@ -194,7 +183,7 @@ logs_in_is : (phase : Phase) → phase ≡ LoggingIn → (is_over phase ≡ fals
 logs_in_is phase e = rw e (refl, refl)
 
 on-answered : (answer : Answer) (c : ℕ) (w : World) → LogsIn c w → Goes w (changed (answered answer) c w)
-on-answered answer c w logs = on-changed (answered answer) c w (λ life. refl) (λ life at.
+on-answered answer c w logs = on-changed (answered answer) c w (answered_placed answer) (λ life at.
     (let is = logs_in_is life.phase (logs life at) in
     record { goes = answered_continues answer life is.0 is.1; bytes = refl; reads_so = λ e. e; past_login = λ past. (past, refl) }))
 
@@ -218,11 +207,12 @@ begun_keeps session answer life e =
 on-begins : (session : Params) (answer : Answer) (c : ℕ) (w : World) → LogsIn c w → Goes w (begins session answer c w)
 on-begins session answer c w logs =
     with_lives w (changed (begun session answer) c w) (begins session answer c w)
-    (on-changed (begun session answer) c w (λ life. refl) (λ life at. begun_keeps session answer life (logs life at))) refl [] (sym (append-nil _))
+    (on-changed (begun session answer) c w (begun_placed session answer) (λ life at. begun_keeps session answer life (logs life at))) refl []
+    (sym (append-nil _))
 
 pub on-end_older : (o : Option ℕ) (w : World) → Goes w (end_older o w)
 on-end_older None w = on-same w
-on-end_older (Some d) w = on-changed (ended_in Closing) d w (λ life. refl) (λ life at. ended_keeps life)
+on-end_older (Some d) w = on-changed (ended_in Closing) d w ended_placed (λ life at. ended_keeps life)
 
 pub on-replied : (reply : Reply) (c : ℕ) (w : World) → LogsIn c w → Goes w (replied reply c w)
 on-replied (GoOn response) c w logs = on-answered (answers.LoginResponse response) c w logs
@@ -233,24 +223,16 @@ on-replied (Full response session) c w logs =
     let v = begins session (answers.LoginResponse response) c w in
     on-then w v (end_older (older session (live w)) v) (on-begins session (answers.LoginResponse response) c w logs) (on-end_older (older session (live w)) v)
 
-asked_by : (c : ℕ) (request : Frame) (w : World) (o : Option Life) → present c w ≡ o → (life : Life)
-    → present c (changed (asked request) c w) ≡ Some life → LogsIn c w → life.phase ≡ LoggingIn
-unfolding changed present
-asked_by c request w None none life at logs = logs life (sym (ap (find (is_present c)) (changed_none (asked request) c w.lives none)) ∙ at)
-asked_by c request w (Some before) e life at logs =
-    let same : life ≡ asked request before = some_is life (asked request before) (sym at
-    ∙ present-changed (asked request) c w before e (present_is c w before e)) in
-    ap (λ (l : Life). l.phase) same ∙ logs before e
-
 pub asked_logs : (c : ℕ) (request : Frame) (w : World) → LogsIn c w → LogsIn c (changed (asked request) c w)
-asked_logs c request w logs = λ life at. asked_by c request w (present c w) refl life at logs
+asked_logs c request w logs = λ life at. (let was = present-was (asked request) c w life (asked_placed request) at in
+    ap (λ (l : Life). l.phase) (sym was.2) ∙ logs was.0 was.1)
 
 on-log_in : (s : Setting) (c : ℕ) (request : Frame) (w : World) → LogsIn c w → Goes w (log_in s c request w)
 unfolding log_in
 on-log_in s c request w logs =
     let v = changed (asked request) c w in
     on-then w v (log_in s c request w)
-    (on-changed (asked request) c w (λ life. refl) (λ life at. record {
+    (on-changed (asked request) c w (asked_placed request) (λ life at. record {
       goes =
           silent (asked request) life (record { connection = refl; more = request ∷ []; requests = refl })
           (logs_in_is life.phase (logs life at)).0 (out-asked life request);
@@ -262,19 +244,14 @@ on-log_in s c request w logs =
 
 -- ---- a session
 
-past_phase : (life : Life) (phase : Phase) (past : Past) → life.phase ≡ phase → past_in phase ≡ Some past → phase ≡ FullFeature past
-past_phase life LoggingIn past e at = absurd cc
-past_phase life (FullFeature session) past e at = ap FullFeature (some_past session past at)
-  where
-    some_past : (x y : Past) → Some x ≡ Some y → x ≡ y
-    some_past x y e = cc
-past_phase life Closing past e at = absurd cc
-past_phase life Over past e at = absurd cc
+past_phase : (phase : Phase) (past : Past) → past_in phase ≡ Some past → phase ≡ FullFeature past
+past_phase (FullFeature session) past at = cc
+past_phase _ past at = absurd cc
 
 past_continues : (c : ℕ) (w : World) (past then_ : Past) (life : Life) (more : List Answer) → present c w ≡ Some life
     → past_of (present c w) ≡ Some past → then_.answers ≡ past.answers ++ more → Continues (with_past then_) life
 past_continues c w past then_ life more there at grow =
-    let phase : life.phase ≡ FullFeature past = past_phase life life.phase past refl (sym (ap past_of there) ∙ at) in
+    let phase : life.phase ≡ FullFeature past = past_phase life.phase past (sym (ap past_of there) ∙ at) in
     record {
       connection = refl;
       is_open = refl;
@@ -287,7 +264,7 @@ past_keeps : (c : ℕ) (w : World) (past then_ : Past) (life : Life) (more : Lis
 past_keeps c w past then_ life more there at grow = record {
   goes = past_continues c w past then_ life more there at grow;
   bytes = refl;
-  reads_so = λ e. ap reads (past_phase life life.phase past refl (sym (ap past_of there) ∙ at));
+  reads_so = λ e. ap reads (past_phase life.phase past (sym (ap past_of there) ∙ at));
   past_login = λ past. (refl, refl);
 }
 
@@ -296,7 +273,7 @@ on-worked_on : (c : ℕ) (past : Past) (work : Work) (w : World) → past_of (pr
     → work.past.answers ≡ past.answers ++ more → Goes w (worked_on c work w)
 on-worked_on c past work w at more grow =
     with_lives w (changed (with_past work.past) c w) (worked_on c work w)
-    (on-changed (with_past work.past) c w (λ life. refl) (λ life there. past_keeps c w past work.past life more there at grow)) refl _ refl
+    (on-changed (with_past work.past) c w (worked_placed work.past) (λ life there. past_keeps c w past work.past life more there at grow)) refl _ refl
 
 on-worked : (c : ℕ) (past : Past) (work : Work) (w : World) → past_of (present c w) ≡ Some past → (more : List Answer)
     → work.past.answers ≡ past.answers ++ more → Goes w (worked c work w)
@@ -352,17 +329,18 @@ answers_stay s h marks comings c piece =
 
 -- ---- the rows
 
-row_goes : (b : Bool) (x y : Life) → GoesOn x y → is_over x.phase ≡ b → row_of y ≡ row_of x
-row_goes true x y goes e = ap row_of (goes.still e)
-row_goes false x y goes e = open_is y (goes.over ∙ e) ∙ ap open_row goes.connection ∙ sym (open_is x e)
+row_goes : (x y : Life) → GoesOn x y → row_of y ≡ row_of x
+row_goes x y goes = by_phase (is_over x.phase) refl
+  where
+    by_phase : (b : Bool) → is_over x.phase ≡ b → row_of y ≡ row_of x
+    by_phase true e = ap row_of (goes.still e)
+    by_phase false e = open_is y (goes.over ∙ e) ∙ ap open_row goes.connection ∙ sym (open_is x e)
 
 rows_go : (xs ys : List Life) → LivesGoOn xs ys → map row_of ys ≡ map row_of xs
 rows_go [] [] go = refl
 rows_go [] (y ∷ ys) go = absurd go
 rows_go (x ∷ xs) [] go = absurd go
-rows_go (x ∷ xs) (y ∷ ys) go =
-    ap (λ (r : RowState). r ∷ map row_of ys) (row_goes (is_over x.phase) x y go.0 refl)
-    ∙ ap (λ (rows : List RowState). row_of x ∷ rows) (rows_go xs ys go.1)
+rows_go (x ∷ xs) (y ∷ ys) go = cc (row_goes x y go.0, rows_go xs ys go.1)
 
 pub rows-bring : (s : Setting) (marks : List Mark) (c : ℕ) (piece : List ℕ) (w : World) → rows_in (bring s marks c piece w) ≡ rows_in w
 rows-bring s marks c piece w = rows_go w.lives (bring s marks c piece w).lives (lives_go w.lives _ (on-bring s marks c piece w))

@@ -10,6 +10,8 @@ mod Marks
 pub mod Walks
 mod Following
 pub mod Keeping
+mod Framed
+mod EachSession
 mod Lawful
 mod Moment
 mod Sparing

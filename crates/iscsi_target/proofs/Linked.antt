@@ -1,5 +1,5 @@
 -- What the code remembers of a World, where one connection changes.
-use Rattle.std.proofs.Common.{◌≡◌, ◌≢◌, ℕ, ◌<◌, ◌≤◌, List, [], ◌++◌, length, map, drop, set, get_or, true, not, eqb, Option, Some, None, refl, sym, ap, ◌∙◌, subst, arith, inl, inr}
+use Rattle.std.proofs.Common.{◌≡◌, ◌≢◌, ℕ, ◌<◌, ◌≤◌, List, [], ◌++◌, length, map, drop, set, get_or, true, Option, Some, None, refl, sym, ap, ◌∙◌, subst, arith, inl, inr}
 use Rattle.std.specs.Prelude.{flat_map, if◌then◌else◌}
 use Rattle.std.specs.List.{range_with_len}
 use Rattle.std.proofs.lemmas.Bool.Decides.{eqb_tells}
@@ -12,14 +12,14 @@ use Rattle.scsi_unit.specs.Units.{UnitStates}
 use Rattle.iscsi_login.specs.declared.params.Params.{Params}
 use Rattle.iscsi_login.specs.Directory.{KnownTargets}
 use Rattle.iscsi_target.specs.History.{Point, connection_limit}
-use Rattle.iscsi_target.specs.Life.{Life, Phase, LoggingIn, Closing, is_over, reads, session_in, session_answers, answers_of, out_of, ended_in}
+use Rattle.iscsi_target.specs.Life.{Life, Phase, LoggingIn, Closing, reads, session_in, session_answers, answers_of, out_of, ended_in}
 use Rattle.iscsi_target.specs.World.{Setting, World, present, changed, reads_life, session_of, live, left, close, reaching}
 use Rattle.iscsi_target.specs.Output.{out_now}
 use Rattle.iscsi_target.specs.Machine.{LinkState, Machine, link_at, with_link, free_link, is_reading, session_in_phase, sessions, closed}
 use Rattle.iscsi_target.specs.Stands.{phase_for, link_of, machine_with, IsQuiet, IsQuietIn}
 use Rattle.iscsi_target.specs.Serving.{Serves}
-use Rattle.iscsi_target.proofs.Choices.{cond_true, and_true}
-use Rattle.iscsi_target.proofs.Lives.{present-changed, present-changed_other, present-lives, present_is}
+use Rattle.iscsi_target.proofs.Choices.{cond_true}
+use Rattle.iscsi_target.proofs.Lives.{present-changed_other, present-lives, ended_placed, present-placed}
 
 -- ---- the links
 
@@ -193,9 +193,7 @@ half_there s sent half w machine c life lt h at r =
 pub present-close : (c : ℕ) (w : World) (life : Life) → present c w ≡ Some life → present c (close c w) ≡ Some (ended_in Closing life)
 unfolding close
 present-close c w life e =
-    present-lives c (close c w) (changed (ended_in Closing) c w) refl
-    ∙ present-changed (ended_in Closing) c w life e (let on = and_true (eqb life.connection c) (not (is_over life.phase)) (present_is c w life e) in
-    rw on.0 refl)
+    present-lives c (close c w) (changed (ended_in Closing) c w) refl ∙ present-placed (ended_in Closing) ended_placed c w life e
 
 pub present-close_other : (c d : ℕ) (w : World) → d ≢ c → present d (close c w) ≡ present d w
 unfolding close

@@ -1,6 +1,5 @@
 -- A Login request does to the World what it does to the code.
-use Rattle.std.proofs.Common.{◌≡◌, ◌≢◌, ℕ, ◌+◌, ◌<◌, List, [], ◌∷◌, ◌++◌, map, get_or, Bool, true, cond, not, eqb, Option, Some, None, refl, sym, ap, ◌∙◌, subst, arith, inl, inr}
-use Rattle.std.proofs.lemmas.Bool.{eqb-true}
+use Rattle.std.proofs.Common.{◌≡◌, ◌≢◌, ℕ, ◌+◌, ◌<◌, List, [], ◌∷◌, ◌++◌, map, get_or, Bool, true, cond, Option, Some, None, refl, sym, ap, ◌∙◌, subst, arith, inl, inr}
 use Rattle.std.proofs.lemmas.Bool.Decides.{eqb_tells}
 use Rattle.std.proofs.lemmas.List.{length-map, append-nil, get_or-map}
 use Rattle.std.proofs.lemmas.List.Sums.{fold-append}
@@ -19,16 +18,15 @@ use Rattle.iscsi_login.specs.declared.reply.Reply.TheVariants.{GoOn, Full, Refus
 use Rattle.iscsi_session.proofs.Accepted.{begun_lawful}
 use Rattle.iscsi_login.specs.Directory.{KnownTargets}
 use Rattle.iscsi_target.specs.History.{connection_limit, connections}
-use Rattle.iscsi_target.specs.Life.{Life, Phase, LoggingIn, Closing, is_over, reads, session_answers, out_of, ended_in}
-use Rattle.iscsi_target.specs.World.{Setting, World, is_present, present, changed, session_of, live, left, close, changed_units, answered, asked, begun, begins, end_older, requests_of, lookup_for, replied, log_in}
+use Rattle.iscsi_target.specs.Life.{Life, Phase, LoggingIn, Closing, reads, session_answers, out_of, ended_in}
+use Rattle.iscsi_target.specs.World.{Setting, World, present, changed, session_of, live, left, close, changed_units, answered, asked, begun, begins, end_older, requests_of, lookup_for, replied, log_in}
 use Rattle.iscsi_target.specs.Machine.{LinkState, Machine, link_at, with_link, shut_link, session_in_phase, sessions, free_link, gone_on_link, refused_link, begun_link, shut_older, replied as machine_replied, logged_in}
 use Rattle.iscsi_target.specs.Stands.{phase_for, IsQuietIn}
 use Rattle.iscsi_target.specs.declared.phase.Phase.{Phase as CodePhase}
 use Rattle.iscsi_target.specs.Serving.{Serves}
 use Rattle.iscsi_target.specs.declared.phase.Phase.TheVariants as phases
-use Rattle.iscsi_target.proofs.Choices.{and_true}
 use Rattle.iscsi_target.proofs.Moving.{is_of_none}
-use Rattle.iscsi_target.proofs.Lives.{present-changed, present-changed_other, present-lives, present_is}
+use Rattle.iscsi_target.proofs.Lives.{present-changed_other, present-lives, present_is, on_connection, ended_placed, answered_placed, asked_placed, begun_placed, present-placed}
 use Rattle.iscsi_target.proofs.Linked.{session_at, live_there, directory_with, units_with, count_there, out-ended, out-more, present-close, present-close_other, life_link, serves_life, half_there}
 
 -- a connection that logs in
@@ -84,10 +82,6 @@ remembered-push directory handle requests request = fold-append (advanced direct
 
 -- ---- a session begins
 
-begun_is : (c : ℕ) (life : Life) (session : Params) (answer : Answer) (request : Frame) → is_present c life ≡ true
-    → is_present c (begun session answer (asked request life)) ≡ true
-begun_is c life session answer request e = let on = and_true (eqb life.connection c) (not (is_over life.phase)) e in rw on.0 refl
-
 -- ---- an older session ends
 
 some_life : (session : Params) (o : Option Life) → is_of session.nexus session.target (session_of o) ≡ true → (life : Life) × (o ≡ Some life)
@@ -107,8 +101,7 @@ ends : (s : Setting) (sent : ℕ → ℕ) (half : ℕ → List ℕ) (w : World) 
     → Serves s sent half (changed (ended_in Closing) d w) (with_link machine d (shut_link (link_at machine d)))
 ends s sent half w machine d life lt h at =
     let v = changed (ended_in Closing) d w in
-    let now : present d v ≡ Some (ended_in Closing life) = present-changed (ended_in Closing) d w life at
-    (let on = and_true (eqb life.connection d) (not (is_over life.phase)) (present_is d w life at) in rw on.0 refl) in
+    let now : present d v ≡ Some (ended_in Closing life) = present-placed (ended_in Closing) ended_placed d w life at in
     subst (λ (bytes : List ℕ). Serves s sent half v (with_link machine d (life_link s.directory (half d) (ended_in Closing life) bytes)))
     (append-nil (link_at machine d).waiting) (serves_life s sent half w v machine d machine.units life (ended_in Closing life) [] lt h at now
     (λ k differ. present-changed_other (ended_in Closing) d k w (λ l. refl) differ) (out-ended life Closing refl ∙ sym (append-nil (out_of life))) tt
@@ -131,7 +124,7 @@ map_sessions w v (c ∷ cs) same = cc (same c, map_sessions w v cs same)
 module _ (s : Setting) (sent : ℕ → ℕ) (half : ℕ → List ℕ) (w : World) (machine : Machine) (c : ℕ) (life : Life) (request : Frame)
     (h : Entering s sent half w machine c life) where
   present_asked : present c (changed (asked request) c w) ≡ Some (asked request life)
-  present_asked = present-changed (asked request) c w life h.at (present_is c w life h.at)
+  present_asked = present-placed (asked request) (asked_placed request) c w life h.at
 
   refuses : (answer : Answer)
       → Serves s sent half (close c (changed (answered answer) c (changed (asked request) c w))) (with_link machine c (refused_link answer
@@ -141,8 +134,7 @@ module _ (s : Setting) (sent : ℕ → ℕ) (half : ℕ → List ℕ) (w : World
       let u = changed (asked request) c w in
       let m = answered answer (asked request life) in
       let v = changed (answered answer) c u in
-      let at_v : present c v ≡ Some m = present-changed (answered answer) c u (asked request life)
-      present_asked (present_is c w life h.at) in
+      let at_v : present c v ≡ Some m = present-placed (answered answer) (answered_placed answer) c u (asked request life) present_asked in
       let none : session_of (present c v) ≡ None = ap session_of at_v ∙ rw h.phase refl in
       serves_life s sent half w (close c v) machine c machine.units life (ended_in Closing m) (spelling answer) h.in_range h.serves h.at
       (present-close c v m at_v) (λ d differ. present-close_other c d v differ ∙ present-changed_other (answered answer) c d u (λ l. refl) differ
@@ -157,8 +149,7 @@ module _ (s : Setting) (sent : ℕ → ℕ) (half : ℕ → List ℕ) (w : World
       let u = changed (asked request) c w in
       let m = answered answer (asked request life) in
       let v = changed (answered answer) c u in
-      let now : present c v ≡ Some m = present-changed (answered answer) c u (asked request life)
-      present_asked (present_is c w life h.at) in
+      let now : present c v ≡ Some m = present-placed (answered answer) (answered_placed answer) c u (asked request life) present_asked in
       let login_ = advanced s.directory (remembered s.directory (life.connection + 1) life.requests) request in
       let waiting = (link_at machine c).waiting ++ spelling answer in
       let phase_now : phase_for s.directory m m.phase ≡ phases.Login login_ = ap (phase_for s.directory m) h.phase
@@ -180,8 +171,7 @@ module _ (s : Setting) (sent : ℕ → ℕ) (half : ℕ → List ℕ) (w : World
       let v = begins session answer c u in
       let now : present c v ≡ Some m =
       present-lives c v (changed (begun session answer) c u) refl
-      ∙ present-changed (begun session answer) c u (asked request life) present_asked
-      (begun_is c life session answer request (present_is c w life h.at)) in
+      ∙ present-placed (begun session answer) (begun_placed session answer) c u (asked request life) present_asked in
       let all = changed_units (join session.nexus) session.target machine.units in
       subst (λ (bytes : List ℕ). Serves s sent half v (record (with_link machine c (record (begun_link session answer (link_at machine c)) { half = bytes }))
       { units = all })) (sym (half_there s sent half w machine c life h.in_range h.serves h.at (ap reads h.phase)))
@@ -243,7 +233,7 @@ module _ (s : Setting) (sent : ℕ → ℕ) (half : ℕ → List ℕ) (w : World
   pub logs_in : Serves s sent half (log_in s c request w) (logged_in machine c (remembered s.directory (life.connection + 1) life.requests) request)
   unfolding log_in logged_in
   logs_in =
-      let on : life.connection ≡ c = eqb-true _ _ (and_true (eqb life.connection c) (not (is_over life.phase)) (present_is c w life h.at)).0 in
+      let on = on_connection c life (present_is c w life h.at) in
       let login_ = remembered s.directory (life.connection + 1) life.requests in
       let directory : machine.directory ≡ s.directory = ap (λ (m : Machine). m.directory) h.serves.is ∙ directory_with s sent half w in
       let reply = reply_of login_ (lookup_for s.directory (live w) request) request in

@@ -1,6 +1,6 @@
 -- What marks do: which points they name, and which a call looks at.
-use Rattle.std.proofs.Common.{◌≡◌, ℕ, List, [], ◌∷◌, ◌++◌, Bool, true, false, ◌&&◌, ◌||◌, eqb, refl, ap, ◌∙◌}
-use Rattle.std.specs.List.{list_any, list_all}
+use Rattle.std.proofs.Common.{◌≡◌, ℕ, List, [], ◌∷◌, ◌++◌, Bool, true, false, ◌&&◌, ◌||◌, eqb, refl, ap, ◌∙◌, arith}
+use Rattle.std.specs.List.{list_all}
 use Rattle.std.proofs.lemmas.Bool.{eqb-true}
 use Rattle.std.proofs.lemmas.List.Folds.{list_any-append}
 use Rattle.iscsi_session.specs.Steps.{Step, Judging, Taking, Asking, Answering, Doing, is_step, is_doing, is_serving}
@@ -37,6 +37,9 @@ point_self (Arriving p) = eqb_self p
 point_self (Before a) = step_self a
 point_self AtEnd = refl
 
+or_left : (a : Bool) → (a || false) ≡ a
+or_left a = grind arith
+
 pub same_self : (m : Mark) → is_same m m ≡ true
 same_self m = rw (eqb_self m.connection, point_self m.point) refl
 
@@ -55,11 +58,7 @@ marked_none c point = refl
 
 pub marked_as : (c : ℕ) (a b : Point) → is_marked (mark_at c a ∷ []) c b ≡ is_point a b
 unfolding is_marked
-marked_as c a b = or_false (eqb c c && is_point a b) ∙ ap (λ (x : Bool). x && is_point a b) (eqb_self c)
-  where
-    or_false : (x : Bool) → (x || false) ≡ x
-    or_false true = refl
-    or_false false = refl
+marked_as c a b = or_left (eqb c c && is_point a b) ∙ ap (λ (x : Bool). x && is_point a b) (eqb_self c)
 
 -- ---- marks of a kind
 
@@ -73,23 +72,12 @@ same_true a b e =
     ap (λ (c : ℕ). record a { connection = c }) (eqb-true a.connection b.connection both.0)
     ∙ ap (λ (p : Point). record b { point = p }) (point_true a.point b.point both.1)
 
-other_by : (b : Bool) (kind : Mark → Bool) (m mark : Mark) → is_same m mark ≡ b → kind m ≡ true → kind mark ≡ false → b ≡ false
-other_by true kind m mark e one other = absurd (cc (one, ap kind (same_true m mark e), other))
-other_by false kind m mark e one other = refl
-
 -- marks of a kind name nothing of another
 pub unmarked : (kind : Mark → Bool) (marks : List Mark) (mark : Mark) → list_all kind marks ≡ true → kind mark ≡ false
     → is_marked marks mark.connection mark.point ≡ false
 unfolding is_marked
 unmarked kind [] mark every other = refl
-unmarked kind (m ∷ marks) mark every other =
-    let both = and_true (kind m) (list_all kind marks) every in
-    ap (λ (b : Bool). b || list_any (λ (n : Mark). is_same n mark) marks) (other_by (is_same m mark) kind m mark refl both.0 other)
-    ∙ unmarked kind marks mark both.1 other
-
-or_left : (a : Bool) → (a || false) ≡ a
-or_left true = refl
-or_left false = refl
+unmarked kind (m ∷ marks) mark every other = grind (arith, unmarked kind marks mark, same_true m mark)
 
 -- two kinds that exclude one another
 abbrev pub Apart : (Mark → Bool) → (Mark → Bool) → Type 0
@@ -114,13 +102,11 @@ agrees_right one two both marks a b apart wider of_a agree = λ mark is.
 
 pub all_wider : (one other : Mark → Bool) (marks : List Mark) → Wider one other → list_all one marks ≡ true → list_all other marks ≡ true
 all_wider one other [] wider every = refl
-all_wider one other (m ∷ marks) wider every =
-    let both = and_true (one m) (list_all one marks) every in
-    rw (wider m both.0) (all_wider one other marks wider both.1)
+all_wider one other (m ∷ marks) wider every = grind (arith, all_wider one other marks wider, wider m)
 
 pub all_append : (p : Mark → Bool) (a b : List Mark) → list_all p a ≡ true → list_all p b ≡ true → list_all p (a ++ b) ≡ true
 all_append p [] b x y = y
-all_append p (m ∷ a) b x y = let both = and_true (p m) (list_all p a) x in rw both.0 (all_append p a b both.1 y)
+all_append p (m ∷ a) b x y = grind (arith, all_append p a b)
 
 -- ---- the kinds
 

@@ -28,21 +28,29 @@ use Rattle.iscsi_target.proofs.Sound.{set_back, sure_set, closed_back, closed_su
 pub keeps_same : (link : LinkState) → is_reading link.phase ≡ true → KeepsHalf link.half link
 keeps_same link r = record { reading = λ e. refl; idle = λ e. absurd (cc (r, e)) }
 
-pub moves_none : (b : ℕ) (machine : Machine) → Preserves b None machine machine
-moves_none b machine = record {
-  back = λ target sound. sound;
-  sure = λ sure. sure;
+-- what is done for a connection, but for what it makes of units
+pub record Alters (b : ℕ) (given after : Machine) : Type 0 where
+  pub feeds : Feeds b given after
+  pub keeps : (c : ℕ) → is_reading (link_at given c).phase ≡ true → KeepsHalf (link_at given c).half (link_at after c)
+  pub eases : (d : ℕ) → d ≢ b → AddsAtMost 0 (link_at given d) (link_at after d)
+
+-- the same connections
+pub alters_same : (b : ℕ) (given after : Machine) → after.links ≡ given.links → Alters b given after
+alters_same b given after same = subst (λ (links : List LinkState). Alters b given (record after { links = links })) (sym same) (record {
   feeds = record {
     opens = λ d. refl;
-    waits = λ d. ([], sym (append-nil (link_at machine d).waiting));
+    waits = λ d. ([], sym (append-nil (link_at given d).waiting));
     still = λ d idle. refl;
     others = λ d other logs. refl;
   };
-  closing = tt;
-  units = refl;
-  keeps = λ c reads. keeps_same (link_at machine c) reads;
-  eases = λ d other. adds_none 0 (link_at machine d);
-}
+  keeps = λ c reads. keeps_same (link_at given c) reads;
+  eases = λ d other. adds_none 0 (link_at given d);
+})
+
+pub moves_none : (b : ℕ) (machine : Machine) → Preserves b None machine machine
+moves_none b machine =
+    let a = alters_same b machine machine refl in
+    record { back = λ target sound. sound; sure = λ sure. sure; feeds = a.feeds; closing = tt; units = refl; keeps = a.keeps; eases = a.eases }
 
 pub keeps_by : (b : Bool) (half : List ℕ) (now after : LinkState) → is_reading now.phase ≡ b → KeepsHalf half now
     → (is_reading now.phase ≡ true → KeepsHalf now.half after) → (is_reading now.phase ≡ false → after ≡ now) → KeepsHalf half after
@@ -75,18 +83,30 @@ pub closing_if : (r : Result (Unit {0}) Starved) (machine : Machine) → IsClose
 closing_if (Ok u) machine closed_ = tt
 closing_if (Err e) machine closed_ = closed_
 
-pub moves_then : (b : ℕ) (x y : Option ℕ) (given now after : Machine) → Preserves b x given now → Preserves b y now after → Preserves b
-    (first_of x y) given after
-moves_then k x y given now after a b = record {
-  back = λ target sound. a.back target (b.back target sound);
-  sure = λ sure. b.sure (a.sure sure);
+alters_then : (b : ℕ) (given now after : Machine) → Alters b given now → Alters b now after → Alters b given after
+alters_then k given now after a b = record {
   feeds = feeds_then k given now after a.feeds b.feeds;
-  closing = closed_then x y k now after a.closing b.feeds b.closing;
-  units = b.units ∙ a.units;
   keeps = λ c reads. keeps_by (is_reading (link_at now c).phase) (link_at given c).half (link_at now c) (link_at after c) refl (a.keeps c reads)
       (b.keeps c) (b.feeds.still c);
   eases = λ d other. adds_then 0 0 (link_at given d) (link_at now d) (link_at after d) (a.eases d other) (b.eases d other);
 }
+
+alters_of : (b : ℕ) (x : Option ℕ) (given after : Machine) → Preserves b x given after → Alters b given after
+alters_of b x given after m = record { feeds = m.feeds; keeps = m.keeps; eases = m.eases }
+
+pub moves_then : (b : ℕ) (x y : Option ℕ) (given now after : Machine) → Preserves b x given now → Preserves b y now after → Preserves b
+    (first_of x y) given after
+moves_then k x y given now after a b =
+    let both = alters_then k given now after (alters_of k x given now a) (alters_of k y now after b) in
+    record {
+      back = λ target sound. a.back target (b.back target sound);
+      sure = λ sure. b.sure (a.sure sure);
+      feeds = both.feeds;
+      closing = closed_then x y k now after a.closing b.feeds b.closing;
+      units = b.units ∙ a.units;
+      keeps = both.keeps;
+      eases = both.eases;
+    }
 
 pub moves_as : (b : ℕ) (x : Option ℕ) (given now after : Machine) → after ≡ now → Preserves b x given now → Preserves b x given after
 moves_as b x given now after e m = let P : Machine → Type 0 = λ after. Preserves b x given after in subst P (sym e) m
@@ -149,17 +169,11 @@ changes_feeds b machine units c link lt ch own =
       ];
     }
 
-pub changes_moves : (b : ℕ) (machine : Machine) (units : List UnitStates) (c : ℕ) (link : LinkState) → c < length machine.links
-    → Changes (link_at machine c) link → IsOwn b machine c
-    → KeepsHalf (link_at machine c).half link → length units ≡ length machine.units → (c ≢ b → AddsAtMost 0 (link_at machine c) link)
-    → let after : Machine = record (with_link machine c link) { units = units } in ReflectsSoundness machine after
-    → (IsSure machine → IsSure after) → Preserves b None machine after
-changes_moves b machine units c link lt ch own half count light back sure = record {
-  back = back;
-  sure = sure;
-  units = count;
+changes_alters : (b : ℕ) (machine : Machine) (units : List UnitStates) (c : ℕ) (link : LinkState) → c < length machine.links
+    → Changes (link_at machine c) link → IsOwn b machine c → KeepsHalf (link_at machine c).half link
+    → (c ≢ b → AddsAtMost 0 (link_at machine c) link) → Alters b machine (record (with_link machine c link) { units = units })
+changes_alters b machine units c link lt ch own half light = record {
   feeds = changes_feeds b machine units c link lt ch own;
-  closing = tt;
   keeps = λ d reads. elim (eqb_tells d c) [
     | inl same ↦ rw same.1 (subst (KeepsHalf (link_at machine c).half) (sym (link_set machine units c link lt)) half)
     | inr differ ↦ subst (KeepsHalf (link_at machine d).half) (sym (link_other machine units c d link differ.1)) (keeps_same (link_at machine d) reads)
@@ -170,6 +184,15 @@ changes_moves b machine units c link lt ch own half count light back sure = reco
   ];
 }
 
+pub changes_moves : (b : ℕ) (machine : Machine) (units : List UnitStates) (c : ℕ) (link : LinkState) → c < length machine.links
+    → Changes (link_at machine c) link → IsOwn b machine c
+    → KeepsHalf (link_at machine c).half link → length units ≡ length machine.units → (c ≢ b → AddsAtMost 0 (link_at machine c) link)
+    → let after : Machine = record (with_link machine c link) { units = units } in ReflectsSoundness machine after
+    → (IsSure machine → IsSure after) → Preserves b None machine after
+changes_moves b machine units c link lt ch own half count light back sure =
+    let a = changes_alters b machine units c link lt ch own half light in
+    record { back = back; sure = sure; units = count; feeds = a.feeds; closing = tt; keeps = a.keeps; eases = a.eases }
+
 -- ---- a connection closes
 
 shuts : (link : LinkState) → is_reading link.phase ≡ true → Changes link (shut_link link)
@@ -178,29 +201,16 @@ shuts link r = record { reads = r; free = refl; waits = ([], sym (append-nil lin
 shut_half : (half : List ℕ) (link : LinkState) → KeepsHalf half (shut_link link)
 shut_half half link = record { reading = λ e. absurd cc; idle = λ e. refl }
 
-shut_moves : (b : ℕ) (machine : Machine) (c : ℕ) → c < length machine.links → is_reading (link_at machine c).phase ≡ true → IsOwn b machine c
-    → Preserves b None machine (with_link machine c (shut_link (link_at machine c)))
-shut_moves b machine c lt r own =
-    changes_moves b machine machine.units c (shut_link (link_at machine c)) lt (shuts (link_at machine c) r) own
-    (shut_half (link_at machine c).half (link_at machine c)) refl (λ other. adds_shut 0 (link_at machine c)) (λ target sound. sound) (λ sure. sure)
+-- whatever becomes of the units
+shut_alters : (b : ℕ) (machine : Machine) (units : List UnitStates) (c : ℕ) → c < length machine.links → is_reading (link_at machine c).phase ≡ true
+    → IsOwn b machine c → Alters b machine (record (with_link machine c (shut_link (link_at machine c))) { units = units })
+shut_alters b machine units c lt r own = changes_alters b machine units c (shut_link (link_at machine c)) lt (shuts (link_at machine c) r) own
+    (shut_half (link_at machine c).half (link_at machine c)) (λ other. adds_shut 0 (link_at machine c))
 
-closed_feeds : (b : ℕ) (machine : Machine) (c : ℕ) → c < length machine.links → is_reading (link_at machine c).phase ≡ true → IsOwn b machine c
-    → Feeds b machine (closed machine c)
+closed_alters : (b : ℕ) (machine : Machine) (c : ℕ) → c < length machine.links → is_reading (link_at machine c).phase ≡ true → IsOwn b machine c
+    → Alters b machine (closed machine c)
 unfolding closed
-closed_feeds b machine c lt r own = changes_feeds b machine (left (session_in_phase (link_at machine c).phase) machine.units) c
-    (shut_link (link_at machine c)) lt (shuts (link_at machine c) r) own
-
-closed_keeps : (machine : Machine) (c : ℕ) → c < length machine.links → is_reading (link_at machine c).phase ≡ true → (d : ℕ)
-    → is_reading (link_at machine d).phase ≡ true
-    → KeepsHalf (link_at machine d).half (link_at (closed machine c) d)
-unfolding closed
-closed_keeps machine c lt r d reads = (shut_moves c machine c lt r (own_self c machine)).keeps d reads
-
-closed_eases : (b : ℕ) (machine : Machine) (c : ℕ) → c < length machine.links → is_reading (link_at machine c).phase ≡ true → IsOwn b machine c →
-    (d : ℕ) → d ≢ b
-    → AddsAtMost 0 (link_at machine d) (link_at (closed machine c) d)
-unfolding closed
-closed_eases b machine c lt r own d other = (shut_moves b machine c lt r own).eases d other
+closed_alters b machine c lt r own = shut_alters b machine (left (session_in_phase (link_at machine c).phase) machine.units) c lt r own
 
 pub closed_closing : (machine : Machine) (c : ℕ) → c < length machine.links → is_closing (link_at (closed machine c) c).phase ≡ true
 unfolding closed
@@ -209,15 +219,17 @@ closed_closing machine c lt = ap (λ (l : LinkState). is_closing l.phase) (get_o
 closed_when : (x : Option ℕ) (b : ℕ) (machine : Machine) (c : ℕ) → c < length machine.links → is_reading (link_at machine c).phase ≡ true
     → IsOwn b machine c → IsClosed x (closed machine c)
     → Preserves b x machine (closed machine c)
-closed_when x b machine c lt r own closing = record {
-  back = closed_back machine c;
-  sure = λ sure. closed_sure machine c sure;
-  feeds = closed_feeds b machine c lt r own;
-  closing = closing;
-  units = closed_units machine c;
-  keeps = closed_keeps machine c lt r;
-  eases = closed_eases b machine c lt r own;
-}
+closed_when x b machine c lt r own closing =
+    let a = closed_alters b machine c lt r own in
+    record {
+      back = closed_back machine c;
+      sure = λ sure. closed_sure machine c sure;
+      feeds = a.feeds;
+      closing = closing;
+      units = closed_units machine c;
+      keeps = a.keeps;
+      eases = a.eases;
+    }
 
 pub closed_moves : (b : ℕ) (machine : Machine) (c : ℕ) → c < length machine.links → is_reading (link_at machine c).phase ≡ true → IsOwn b machine c
     → Preserves b None machine (closed machine c)
@@ -264,47 +276,9 @@ length_with (Some target) units all = length-set all target units
 
 -- ---- a Login request
 
--- what neither adds nor takes away soundness
-plain_moves : (machine : Machine) (units : List UnitStates) (c : ℕ) (link : LinkState) → c < length machine.links → Changes (link_at machine c) link
-    → KeepsHalf (link_at machine c).half link
-    → (d : ℕ) → is_reading (link_at machine d).phase ≡ true → KeepsHalf (link_at machine d).half
-    (link_at (record (with_link machine c link) { units = units }) d)
-plain_moves machine units c link lt ch half d reads =
-    (changes_moves c (record machine { units = units }) units c link lt ch (own_self c (record machine { units = units })) half refl
-    (λ other. absurd (other refl)) (λ target sound. sound) (λ sure. sure)).keeps d reads
-
-plain_eases : (machine : Machine) (units : List UnitStates) (c : ℕ) (link : LinkState) → c < length machine.links → Changes (link_at machine c) link
-    → KeepsHalf (link_at machine c).half link → (d : ℕ) → d ≢ c → AddsAtMost 0 (link_at machine d)
-    (link_at (record (with_link machine c link) { units = units }) d)
-plain_eases machine units c link lt ch half d other =
-    (changes_moves c (record machine { units = units }) units c link lt ch (own_self c (record machine { units = units })) half refl
-    (λ differs. absurd (differs refl)) (λ target sound. sound) (λ sure. sure)).eases d other
-
--- what is done for a connection, but for what it makes of units
-pub record Alters (b : ℕ) (given after : Machine) : Type 0 where
-  pub feeds : Feeds b given after
-  pub keeps : (c : ℕ) → is_reading (link_at given c).phase ≡ true → KeepsHalf (link_at given c).half (link_at after c)
-  pub eases : (d : ℕ) → d ≢ b → AddsAtMost 0 (link_at given d) (link_at after d)
-
-alters_then : (b : ℕ) (given now after : Machine) → Alters b given now → Alters b now after → Alters b given after
-alters_then k given now after a b = record {
-  feeds = feeds_then k given now after a.feeds b.feeds;
-  keeps = λ c reads. keeps_by (is_reading (link_at now c).phase) (link_at given c).half (link_at now c) (link_at after c) refl (a.keeps c reads)
-      (b.keeps c) (b.feeds.still c);
-  eases = λ d other. adds_then 0 0 (link_at given d) (link_at now d) (link_at after d) (a.eases d other) (b.eases d other);
-}
-
 alters : (machine : Machine) (units : List UnitStates) (c : ℕ) (link : LinkState) → c < length machine.links → Changes (link_at machine c) link
-    → KeepsHalf (link_at machine c).half link
-    → Alters c machine (record (with_link machine c link) { units = units })
-alters machine units c link lt ch half = record {
-  feeds = changes_feeds c machine units c link lt ch (own_self c machine);
-  keeps = plain_moves machine units c link lt ch half;
-  eases = plain_eases machine units c link lt ch half;
-}
-
-alters_none : (b : ℕ) (machine : Machine) → Alters b machine machine
-alters_none b machine = record { feeds = (moves_none b machine).feeds; keeps = (moves_none b machine).keeps; eases = (moves_none b machine).eases }
+    → KeepsHalf (link_at machine c).half link → Alters c machine (record (with_link machine c link) { units = units })
+alters machine units c link lt ch half = changes_alters c machine units c link lt ch (own_self c machine) half (λ other. absurd (other refl))
 
 pub is_of_none : (session : Params) (o : Option Params) → is_of session.nexus session.target o ≡ true → o ≡ None → ⊥
 is_of_none session None e n = absurd cc
@@ -331,7 +305,7 @@ older_reads machine session d e =
 older_alters : (o : Option ℕ) (given machine : Machine) (session : Params) (c : ℕ) (link : LinkState) (units : List UnitStates)
     → c < length given.links → is_reading link.phase ≡ true → machine ≡ record (with_link given c link) { units = units }
     → older session (sessions given.links) ≡ o → Alters c machine (shut_older o machine)
-older_alters None given machine session c link units lt reads is e = alters_none c machine
+older_alters None given machine session c link units lt reads is e = alters_same c machine machine refl
 older_alters (Some d) given machine session c link units lt reads is e =
     let p = older_reads given session d e in
     let there : is_reading (link_at machine d).phase ≡ true = ap (λ (m : Machine). is_reading (link_at m d).phase) is ∙ elim (eqb_tells d c) [
@@ -343,8 +317,7 @@ older_alters (Some d) given machine session c link units lt reads is e =
     let own : IsOwn c machine d = λ other.
     (ap (λ (m : Machine). is_logging_in (link_at m d).phase) is ∙ ap (λ (l : LinkState). is_logging_in l.phase)
     (link_other given units c d link other) ∙ session_past_login session (link_at given d).phase p.1) in
-    let m = shut_moves c machine d below there own in
-    record { feeds = m.feeds; keeps = m.keeps; eases = m.eases }
+    shut_alters c machine machine.units d below there own
 
 replied_alters : (reply : Reply) (login : LoginState) (c : ℕ) (machine : Machine) → c < length machine.links
     → is_reading (link_at machine c).phase ≡ true → Alters c machine (replied reply login c machine)

@@ -15,18 +15,19 @@ use Rattle.iscsi_session.specs.Steps.{Step, Doing, Work, reaches, first_steps, o
 use Rattle.iscsi_session.specs.Comings.{Coming}
 use Rattle.iscsi_session.proofs.Runs.{step_done}
 use Rattle.iscsi_target.specs.History.{Bytes, Before, Point, Mark, happening, connections}
-use Rattle.iscsi_target.specs.Life.{Life, LoggingIn, Closing, logs_in, is_over, session_in, ended_in}
+use Rattle.iscsi_target.specs.Life.{Life, LoggingIn, Closing, logs_in, session_in, ended_in}
 use Rattle.iscsi_target.specs.World.{Setting, World, is_present, present, changed, reads_life, session_of, past_of, live, close, reaching, is_marked, answered, asked, begun, begins, end_older, requests_of, lookup_for, replied, log_in, fails, work_of, with_past, worked_on, worked, losing, reset, serve, brought, longer, bring, begun_event, world}
 use Rattle.iscsi_target.specs.Laws.{LogsIn, Reinstates, are_elsewhere, OthersGoOn}
-use Rattle.iscsi_target.proofs.Choices.{cond_true, and_true, eqb_self}
-use Rattle.iscsi_target.proofs.Lives.{some_is, present-changed, present-changed_other, present-lives, present_is, changed_none}
+use Rattle.iscsi_target.proofs.Choices.{cond_true, eqb_self}
+use Rattle.iscsi_target.proofs.Lives.{some_is, present-changed_other, present-lives, IsPlaced, answered_placed, asked_placed, begun_placed, worked_placed, longer_placed, present-placed, present-changed_none}
 use Rattle.iscsi_target.proofs.Linked.{present-close, present-close_other, present-reaching}
 use Rattle.iscsi_target.proofs.Working.{present_worked_other}
 use Rattle.iscsi_target.proofs.Standing.{present-begun}
 use Rattle.iscsi_target.proofs.LoggingIn.{map_sessions}
 use Rattle.iscsi_target.proofs.Marks.{unmarked}
 use Rattle.iscsi_target.proofs.Walks.{Walk, EventWalk, IsAny, IsAnyFrame, any_arrivals, logs_there, on-serve, on-brought}
-use Rattle.iscsi_target.proofs.Keeping.{Goes, Stays, goes_walk, on-close, on-end_older, world-push}
+use Rattle.iscsi_target.proofs.Keeping.{Goes, Stays, goes_walk, on-end_older, world-push}
+use Rattle.iscsi_pdu.specs.declared.answer.Answer.{Answer}
 
 -- ---- a session that is settled goes on, where no allocation fails
 
@@ -52,21 +53,20 @@ settled_goes fails place work free on = all_go fails (Doing place) ready finish 
 
 -- ---- a frame of a session
 
-worked_other_by : (b : Bool) (e d : ℕ) (work : Work) (w : World) → d ≢ e → present d (cond b (worked_on e work w) (close e (worked_on e work w))) ≡ present d w
-worked_other_by true e d work w differ = present_worked_other w e d work differ
-worked_other_by false e d work w differ = present-close_other e d (worked_on e work w) differ ∙ present_worked_other w e d work differ
-
 worked_other : (e d : ℕ) (work : Work) (w : World) → d ≢ e → present d (worked e work w) ≡ present d w
 unfolding worked
-worked_other e d work w differ = worked_other_by work.goes_on e d work w differ
+worked_other e d work w differ = by_going work.goes_on
+  where
+    by_going : (b : Bool) → present d (cond b (worked_on e work w) (close e (worked_on e work w))) ≡ present d w
+    by_going true = present_worked_other w e d work differ
+    by_going false = present-close_other e d (worked_on e work w) differ ∙ present_worked_other w e d work differ
 
 reads_worked : (o : Option Life) (d : ℕ) (past : Past) (work : Work) (w : World) → present d w ≡ o → past_of o ≡ Some past
     → reads_life (present d (worked_on d work w)) ≡ true
 reads_worked None d past work w at has = absurd cc
 reads_worked (Some life) d past work w at has =
     ap reads_life (present-lives d (worked_on d work w) (changed (with_past work.past) d w) refl
-    ∙ present-changed (with_past work.past) d w life at (let on = and_true (eqb life.connection d) (not (is_over life.phase)) (present_is d w life at) in
-    rw on.0 refl))
+    ∙ present-placed (with_past work.past) (worked_placed work.past) d w life at)
 
 settled_reads : (d : ℕ) (past : Past) (work : Work) (w : World) → past_of (present d w) ≡ Some past → work.goes_on ≡ true
     → reads_life (present d (worked d work w)) ≡ true
@@ -111,14 +111,14 @@ live-lives : (w v : World) → w.lives ≡ v.lives → live w ≡ live v
 unfolding live present
 live-lives w v same = ap (λ (lives : List Life). map (λ c. session_of (find (is_present c) lives)) connections) same
 
-still_none : (f : Life → Life) (c : ℕ) (v : World) → present c v ≡ None → present c (changed f c v) ≡ None
-unfolding changed present
-still_none f c v at = ap (find (is_present c)) (changed_none f c v.lives at) ∙ at
-
 -- of another connection, since the event began: where the connection at work logs in, no session has changed
 record Spared (s : Setting) (c d : ℕ) (w v : World) : Type 0 where
   fresh : (life : Life) → present c v ≡ Some life → life.phase ≡ LoggingIn → (live v ≡ live w) × LogsIn c w × (reads_life (present d v) ≡ true)
   on : (reads_life (present d v) ≡ true) ⊎ Reinstates s c d w v
+
+close-lives : (c : ℕ) (w : World) → (close c w).lives ≡ (changed (ended_in Closing) c w).lives
+unfolding close
+close-lives c w = refl
 
 module _ (s : Setting) (c d : ℕ) (w : World) (differ : d ≢ c) where
   -- a later World, with as many Login requests on the connection at work
@@ -151,26 +151,23 @@ module _ (s : Setting) (c d : ℕ) (w : World) (differ : d ≢ c) where
         on = led_on v u (kept.0 ∙ sym (ap requests_of at)) forth spared.on;
       }
 
-  closes_by : (o : Option Life) (v : World) → present c v ≡ o → Stays (present c v) (present c (close c v)) → Spared s c d w v → Spared s c d w (close c v)
-  closes_by None v at stays spared =
-      let none = none_stays (present c (close c v)) (subst (λ (o : Option Life). Stays o (present c (close c v))) at stays) in
-      record {
-        fresh = λ life there is. absurd (cc (none, there));
-        on = led_on v (close c v) (ap requests_of none ∙ sym (ap requests_of at)) (λ r. ap reads_life (present-close_other c d v differ) ∙ r) spared.on;
-      }
-    where
-      none_stays : (o : Option Life) → Stays None o → o ≡ None
-      none_stays None h = refl
-      none_stays (Some y) h = absurd h
-  closes_by (Some x) v at stays spared =
-      let now = present-close c v x at in
-      record {
-        fresh = λ life there is. (let same : ended_in Closing x ≡ life = cc in absurd (cc (ap (λ (l : Life). l.phase) same, is)));
-        on = led_on v (close c v) (ap requests_of now ∙ sym (ap requests_of at)) (λ r. ap reads_life (present-close_other c d v differ) ∙ r) spared.on;
-      }
-
   closes : (v : World) → Spared s c d w v → Spared s c d w (close c v)
-  closes v spared = closes_by (present c v) v refl ((on-close c v).stays c) spared
+  closes v spared = closes_by (present c v) refl
+    where
+      further : (requests_of (present c (close c v)) ≡ requests_of (present c v)) → (reads_life (present d (close c v)) ≡ true) ⊎ Reinstates s c d w (close c v)
+      further same = led_on v (close c v) same (λ r. ap reads_life (present-close_other c d v differ) ∙ r) spared.on
+
+      closes_by : (o : Option Life) → present c v ≡ o → Spared s c d w (close c v)
+      closes_by None at =
+          let none : present c (close c v) ≡ None = present-lives c (close c v) (changed (ended_in Closing) c v) (close-lives c v)
+          ∙ present-changed_none (ended_in Closing) c v at in
+          record { fresh = λ life there is. absurd (cc (none, there)); on = further (ap requests_of none ∙ sym (ap requests_of at)) }
+      closes_by (Some x) at =
+          let now = present-close c v x at in
+          record {
+            fresh = λ life there is. (let same : ended_in Closing x ≡ life = cc in absurd (cc (ap (λ (l : Life). l.phase) same, is)));
+            on = further (ap requests_of now ∙ sym (ap requests_of at));
+          }
 
   reaches_ : (points : List Point) (v : World) → Spared s c d w v → Spared s c d w (reaching c points v)
   reaches_ points v spared =
@@ -183,13 +180,13 @@ module _ (s : Setting) (c d : ℕ) (w : World) (differ : d ≢ c) where
 
   -- ---- a Login request
 
-  live-changed : (f : Life → Life) (v : World) (x : Life) → present c v ≡ Some x → is_present c (f x) ≡ true → ((y : Life) → (f y).connection ≡ y.connection)
-      → session_of (Some (f x)) ≡ session_of (Some x) → live (changed f c v) ≡ live v
+  live-changed : (f : Life → Life) (v : World) (x : Life) → present c v ≡ Some x → IsPlaced f → session_of (Some (f x)) ≡ session_of (Some x)
+      → live (changed f c v) ≡ live v
   unfolding live
-  live-changed f v x at here stays same = map_sessions v (changed f c v) connections (λ e. elim (eqb_tells e c) [
-    | inl is ↦ ap (λ (k : ℕ). session_of (present k (changed f c v))) is.1 ∙ ap session_of (present-changed f c v x at here) ∙ same
+  live-changed f v x at placed same = map_sessions v (changed f c v) connections (λ e. elim (eqb_tells e c) [
+    | inl is ↦ ap (λ (k : ℕ). session_of (present k (changed f c v))) is.1 ∙ ap session_of (present-placed f placed c v x at) ∙ same
         ∙ sym (ap session_of at) ∙ ap (λ (k : ℕ). session_of (present k v)) (sym is.1)
-    | inr other ↦ ap session_of (present-changed_other f c e v stays other.1)
+    | inr other ↦ ap session_of (present-changed_other f c e v placed.on other.1)
   ])
 
   -- the connection logs in, and another one is read
@@ -203,14 +200,13 @@ module _ (s : Setting) (c d : ℕ) (w : World) (differ : d ≢ c) where
   still_logs : (v : World) (x : Life) → Asking_ v x → Spared s c d w v
   still_logs v x a = record { fresh = λ life there is. (a.live_, a.before, a.reads_); on = inl a.reads_ }
 
-  changed_logs : (f : Life → Life) (v : World) (x : Life) → is_present c (f x) ≡ true → ((y : Life) → (f y).connection ≡ y.connection)
-      → (f x).phase ≡ x.phase → Asking_ v x → Asking_ (changed f c v) (f x)
-  changed_logs f v x here stays phase a = record {
-    at = present-changed f c v x a.at here;
+  changed_logs : (f : Life → Life) (v : World) (x : Life) → IsPlaced f → (f x).phase ≡ x.phase → Asking_ v x → Asking_ (changed f c v) (f x)
+  changed_logs f v x placed phase a = record {
+    at = present-placed f placed c v x a.at;
     is = phase ∙ a.is;
-    live_ = live-changed f v x a.at here stays (ap session_in phase) ∙ a.live_;
+    live_ = live-changed f v x a.at placed (ap session_in phase) ∙ a.live_;
     before = a.before;
-    reads_ = ap reads_life (present-changed_other f c d v stays differ) ∙ a.reads_;
+    reads_ = ap reads_life (present-changed_other f c d v placed.on differ) ∙ a.reads_;
   }
 
   older_by : (v : World) (x : Life) (request : Frame) (response : LoginResponse) (session : Params) (o : Option ℕ) → Asking_ v x
@@ -221,11 +217,9 @@ module _ (s : Setting) (c d : ℕ) (w : World) (differ : d ≢ c) where
       let u = changed (asked request) c v in
       let m = begun session answer (asked request x) in
       let y = begins session answer c u in
-      let here = present_is c v x a.at in
-      let at_u : present c u ≡ Some (asked request x) = present-changed (asked request) c v x a.at here in
       let now : present c y ≡ Some m = present-lives c y (changed (begun session answer) c u) refl
-      ∙ present-changed (begun session answer) c u (asked request x) at_u
-      (let on = and_true (eqb x.connection c) (not (is_over x.phase)) here in rw on.0 refl) in
+      ∙ present-placed (begun session answer) (begun_placed session answer) c u (asked request x)
+      (present-placed (asked request) (asked_placed request) c v x a.at) in
       let reads_y : reads_life (present d y) ≡ true = ap reads_life (present-lives d y (changed (begun session answer) c u) refl
       ∙ present-changed_other (begun session answer) c d u (λ l. refl) differ ∙ present-changed_other (asked request) c d v (λ l. refl) differ) ∙ a.reads_ in
       let kept = past_kept m (present c (end_older o y))
@@ -249,19 +243,17 @@ module _ (s : Setting) (c d : ℕ) (w : World) (differ : d ≢ c) where
         | inr other ↦ inl (ap reads_life (present-changed_other (ended_in Closing) k d y (λ l. refl) other.1) ∙ r)
       ]
 
+  answered_logs : (v : World) (x : Life) (request : Frame) (answer : Answer) → Asking_ v x
+      → Spared s c d w (changed (answered answer) c (changed (asked request) c v))
+  answered_logs v x request answer a = still_logs _ _ (changed_logs (answered answer) (changed (asked request) c v) (asked request x)
+      (answered_placed answer) refl (changed_logs (asked request) v x (asked_placed request) refl a))
+
   replied_ : (v : World) (x : Life) (request : Frame) (reply : Reply) → Asking_ v x
       → login (c + 1) x.requests (lookup_for s.directory (live w) request) request ≡ reply → Spared s c d w (replied reply c (changed (asked request) c v))
-  replied_ v x request (GoOn response) a e =
-      let u = changed_logs (asked request) v x (present_is c v x a.at) (λ l. refl) refl a in
-      still_logs _ _ (changed_logs (answered (answers.LoginResponse response)) (changed (asked request) c v) (asked request x)
-      (present_is c v x a.at) (λ l. refl) refl u)
-  replied_ v x request (Refused response) a e =
-      let u = changed_logs (asked request) v x (present_is c v x a.at) (λ l. refl) refl a in
-      closes _ (still_logs _ _ (changed_logs (answered (answers.LoginResponse response)) (changed (asked request) c v) (asked request x)
-      (present_is c v x a.at) (λ l. refl) refl u))
+  replied_ v x request (GoOn response) a e = answered_logs v x request (answers.LoginResponse response) a
+  replied_ v x request (Refused response) a e = closes _ (answered_logs v x request (answers.LoginResponse response) a)
   replied_ v x request (Full response session) a e =
-      let u = changed_logs (asked request) v x (present_is c v x a.at) (λ l. refl) refl a in
-      rw u.live_ (older_by v x request response session (older session (live w)) a e refl)
+      rw (changed_logs (asked request) v x (asked_placed request) refl a).live_ (older_by v x request response session (older session (live w)) a e refl)
 
   logs_in_ : (request : Frame) (x : Life) (v : World) → present c v ≡ Some x → x.phase ≡ LoggingIn → Spared s c d w v → Spared s c d w (log_in s c request v)
   unfolding log_in
@@ -293,16 +285,16 @@ module _ (s : Setting) (c d : ℕ) (w : World) (differ : d ≢ c) where
       → ((life : Life) → present c v ≡ Some life → life.phase ≡ LoggingIn → LogsIn c w) → reads_life (present d v) ≡ true
       → Spared s c d w (changed (longer piece) c v)
   longer_by None piece v at same logs r = record {
-    fresh = λ life there is. absurd (cc (there, still_none (longer piece) c v at));
+    fresh = λ life there is. absurd (cc (there, present-changed_none (longer piece) c v at));
     on = inl (ap reads_life (present-changed_other (longer piece) c d v (λ l. refl) differ) ∙ r);
   }
   longer_by (Some x) piece v at same logs r =
-      let here = present_is c v x at in
       let still = ap reads_life (present-changed_other (longer piece) c d v (λ l. refl) differ) ∙ r in
       record {
         fresh = λ life there is. (
-          live-changed (longer piece) v x at here (λ l. refl) refl ∙ same,
-          logs x at (ap (λ (l : Life). l.phase) (some_is (longer piece x) life (sym (present-changed (longer piece) c v x at here) ∙ there)) ∙ is),
+          live-changed (longer piece) v x at (longer_placed piece) refl ∙ same,
+          logs x at (ap (λ (l : Life). l.phase)
+              (some_is (longer piece x) life (sym (present-placed (longer piece) (longer_placed piece) c v x at) ∙ there)) ∙ is),
           still,
         );
         on = inl still;

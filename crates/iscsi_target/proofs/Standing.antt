@@ -101,8 +101,7 @@ free_in directory sent half c w None e f = refl
 free_in directory sent half c w (Some life) e f = let open_ = present_open directory c w life e in absurd (cc (open_, f))
 
 free_from : (b : Bool) → not b ≡ false → b ≡ true
-free_from true e = refl
-free_from false e = absurd cc
+free_from b e = grind arith
 
 pub is_free_there : (s : Setting) (sent : ℕ → ℕ) (w : World) (machine : Machine) (c : ℕ) → c < connection_limit → StandsAt s sent w machine
     → is_open_at machine c ≡ false → present c w ≡ None

@@ -1,7 +1,6 @@
 -- Which connections are open, as a list of them and as a test at each number.
-use Rattle.std.proofs.Common.{◌≡◌, ◌≢◌, ℕ, zero, suc, replicate, ◌+◌, ◌<◌, List, [], ◌∷◌, length, drop, set, get_or, Bool, false, not, ◌&&◌, ◌||◌, eqb, refl, sym, ap, ◌∙◌, inl, inr, drop-cons, add-one}
+use Rattle.std.proofs.Common.{◌≡◌, ◌≢◌, ℕ, zero, suc, replicate, ◌+◌, ◌<◌, List, [], ◌∷◌, length, drop, set, get_or, Bool, false, not, ◌&&◌, eqb, refl, sym, ap, ◌∙◌, inl, inr, drop-cons, add-one, arith}
 use Rattle.std.specs.Prelude.{filter}
-use Rattle.std.proofs.lemmas.Bool.{ne_eqb}
 use Rattle.std.proofs.lemmas.Bool.Decides.{eqb_tells}
 use Rattle.std.proofs.lemmas.List.{get_or-set_same, get_or-set_other}
 use Rattle.iscsi_target.specs.History.{is_among, may_come, open_after, may_follow}
@@ -13,17 +12,11 @@ use Rattle.iscsi_target.specs.declared.event.Event.{Event}
 
 pub among-gone : (c : ℕ) (before : List ℕ) → is_among c (filter (λ k. not (eqb k c)) before) ≡ false
 among-gone c [] = refl
-among-gone c (k ∷ before) = elim (eqb_tells k c) [
-  | inl same ↦ rw same.0 (among-gone c before)
-  | inr differ ↦ rw (differ.0, differ.0) (among-gone c before)
-]
+among-gone c (k ∷ before) = grind (arith, among-gone c before)
 
 pub among-gone_other : (d c : ℕ) (before : List ℕ) → d ≢ c → is_among d (filter (λ k. not (eqb k c)) before) ≡ is_among d before
 among-gone_other d c [] differ = refl
-among-gone_other d c (k ∷ before) differ = elim (eqb_tells k c) [
-  | inl same ↦ (let other : eqb k d ≡ false = ne_eqb k d (λ e. differ (sym e ∙ same.1)) in rw (same.0, other) (among-gone_other d c before differ))
-  | inr ne ↦ rw ne.0 (ap (λ (b : Bool). eqb k d || b) (among-gone_other d c before differ))
-]
+among-gone_other d c (k ∷ before) differ = grind (arith, among-gone_other d c before differ, eqb_tells)
 
 pub gone_table : (table : List Bool) (before : List ℕ) (c : ℕ) → IsTable table before → c < length table
     → IsTable (set table c false) (filter (λ k. not (eqb k c)) before)

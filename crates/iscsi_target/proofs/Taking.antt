@@ -3,13 +3,13 @@ use Rattle.std.proofs.Common.{◌≡◌, ◌≢◌, ℕ, ◌+◌, ◌<◌, ◌�
 use Rattle.std.specs.Prelude.{All, nat_lt, slice_index_or}
 use Rattle.scsi_unit.specs.Units.{UnitStates, AreSound, AreSure}
 use Rattle.std.specs.List.{fold, enumerate_from}
-use Rattle.std.proofs.lemmas.Bool.{eqb-true, ltb-true, lt-ltb, le-ltb, ne_eqb}
-use Rattle.std.proofs.lemmas.Bool.Decides.{eqb_tells}
+use Rattle.std.proofs.lemmas.Bool.{ne_eqb}
+use Rattle.std.proofs.lemmas.Bool.Decides.{eqb_tells, nat_tests}
 use Rattle.std.proofs.lemmas.List.{append-nil, length-append, set-get_or, get_or-set_same}
 use Rattle.iscsi_pdu.specs.Frames.{Frame, frames, rest, is_long, has_frame, first_frame, frame_length}
 use Rattle.iscsi_pdu.proofs.Frames.{no_frame, frames_none, rest_none, frames_step, rest_step, drop_shorter}
 use Rattle.iscsi_pdu.proofs.Cuts.{long_is_no_frame}
-use Rattle.iscsi_session.specs.Steps.{Step, Judging, Taking, Asking, Answering, Doing, is_of}
+use Rattle.iscsi_session.specs.Steps.{Judging, Taking, Asking, Answering, Doing}
 use Rattle.iscsi_login.specs.Directory.{KnownTargets}
 use Rattle.iscsi_target.specs.History.{Point, Arriving, Before, AtEnd, Mark, Arrival, Whole, TooLong, arrivals, is_within, connection_limit}
 use Rattle.iscsi_target.specs.Life.{Life, reads}
@@ -19,7 +19,7 @@ use Rattle.iscsi_target.specs.Bounded.{AddsAtMost}
 use Rattle.iscsi_target.specs.Stands.{link_of}
 use Rattle.iscsi_target.specs.Serving.{Serves, Does, is_of_frame, has_place, place_of, is_among, first_of, with_half, KeepsHalf, Preserves, Takes, Leaves, TakesOne, TakesSome, TakesAll}
 use Rattle.iscsi_target.proofs.Arrivals.{long_end, fold-places}
-use Rattle.iscsi_target.proofs.Choices.{eqb_self, cond_true, cond_false, and_true, and_false}
+use Rattle.iscsi_target.proofs.Choices.{eqb_self, cond_true, cond_false}
 use Rattle.iscsi_target.proofs.Linked.{link_is, reads_there, some_reads, serves_one, serves_as, serves_world, serves_reaching, closes, present-close, present-reaching, units_with}
 use Rattle.iscsi_target.proofs.Standing.{nothing_long, machine_same}
 use Rattle.iscsi_target.proofs.Marks.{Apart, Wider, all_wider}
@@ -311,67 +311,52 @@ half_twice c x y half d = elim (eqb_tells d c) [
   | inr differ ↦ half_other c d y (with_half c x half) differ.1 ∙ half_other c d x half differ.1 ∙ sym (half_other c d y half differ.1)
 ]
 
-step_place : (q : ℕ) (step : Step) → is_of q step ≡ true → place_of step ≡ q
-step_place q (Judging p) e = eqb-true p q e
-step_place q (Taking p i) e = eqb-true p q e
-step_place q (Asking p) e = eqb-true p q e
-step_place q (Answering p) e = eqb-true p q e
-step_place q (Doing p i) e = eqb-true p q e
+-- a point of one frame is at its place
+within_place : (place : ℕ) (point : Point) → is_within place point ≡ has_place (λ p. eqb p place) point
+within_place place (Arriving p) = refl
+within_place place (Before (Judging p)) = refl
+within_place place (Before (Taking p i)) = refl
+within_place place (Before (Asking p)) = refl
+within_place place (Before (Answering p)) = refl
+within_place place (Before (Doing p i)) = refl
+within_place place AtEnd = refl
 
-place_step : (q : ℕ) (step : Step) → place_of step ≢ q → is_of q step ≡ false
-place_step q (Judging p) differ = ne_eqb p q differ
-place_step q (Taking p i) differ = ne_eqb p q differ
-place_step q (Asking p) differ = ne_eqb p q differ
-place_step q (Answering p) differ = ne_eqb p q differ
-place_step q (Doing p i) differ = ne_eqb p q differ
+-- what is so of places is so of the points at them
+at_places : (p q : ℕ → Bool) (b : Bool) (point : Point) → ((n : ℕ) → p n ≡ true → q n ≡ b) → has_place p point ≡ true → has_place q point ≡ b
+at_places p q b (Arriving n) each e = each n e
+at_places p q b (Before step) each e = each (place_of step) e
+at_places p q b AtEnd each e = absurd cc
 
-in_range : (n place p : ℕ) → (not (nat_lt p place) && nat_lt p (place + n)) ≡ true → p < place + n
-in_range n place p e = ltb-true p (place + n) (and_true (not (nat_lt p place)) (nat_lt p (place + n)) e).1
+-- one of so many places
+abbrev is_near : ℕ → ℕ → ℕ → Bool
+is_near n place p = not (nat_lt p place) && nat_lt p (place + n)
 
-from_place : (n place p : ℕ) → (not (nat_lt p place) && nat_lt p (place + n)) ≡ true → not (nat_lt p place) ≡ true
-from_place n place p e = (and_true (not (nat_lt p place)) (nat_lt p (place + n)) e).0
+abbrev is_place : ℕ → ℕ → Bool
+is_place place p = eqb p place
 
 among_here : (n place : ℕ) → Apart (is_among n place) (is_of_frame (place + n))
-among_here n place mark e = apart_at mark.point e
+among_here n place mark e = within_place (place + n) mark.point ∙ at_places (is_near n place) (is_place (place + n)) false mark.point apart e
   where
-    apart_at : (point : Point) → has_place (λ p. not (nat_lt p place) && nat_lt p (place + n)) point ≡ true → is_within (place + n) point ≡ false
-    apart_at (Arriving p) e = ne_eqb p (place + n) (λ same. absurd (omega (arith, in_range n place p e, same)))
-    apart_at (Before step) e = place_step (place + n) step (λ same. absurd (omega (arith, in_range n place (place_of step) e, same)))
-    apart_at AtEnd e = absurd cc
+    apart : (p : ℕ) → is_near n place p ≡ true → is_place (place + n) p ≡ false
+    apart p is = grind (arith, nat_tests)
 
 here_among : (n place : ℕ) → Apart (is_of_frame (place + n)) (is_among n place)
-here_among n place mark e = apart_at mark.point e
+here_among n place mark e = at_places (is_place (place + n)) (is_near n place) false mark.point apart (sym (within_place (place + n) mark.point) ∙ e)
   where
-    outside : (p : ℕ) → p ≡ place + n → (not (nat_lt p place) && nat_lt p (place + n)) ≡ false
-    outside p same = ap (λ (b : Bool). not (nat_lt p place) && b) (le-ltb p (place + n) (omega (arith, same))) ∙ and_false (not (nat_lt p place))
-
-    apart_at : (point : Point) → is_within (place + n) point ≡ true → has_place (λ p. not (nat_lt p place) && nat_lt p (place + n)) point ≡ false
-    apart_at (Arriving p) e = outside p (eqb-true p (place + n) e)
-    apart_at (Before step) e = outside (place_of step) (step_place (place + n) step e)
-    apart_at AtEnd e = absurd cc
+    apart : (p : ℕ) → is_place (place + n) p ≡ true → is_near n place p ≡ false
+    apart p is = grind (arith, nat_tests)
 
 among_more : (n m place : ℕ) → n ≤ m → Wider (is_among n place) (is_among m place)
-among_more n m place le mark e = wider_at mark.point e
+among_more n m place le mark e = at_places (is_near n place) (is_near m place) true mark.point wider e
   where
-    inside : (p : ℕ) → (not (nat_lt p place) && nat_lt p (place + n)) ≡ true → (not (nat_lt p place) && nat_lt p (place + m)) ≡ true
-    inside p e = rw (from_place n place p e) (lt-ltb p (place + m) (omega (arith, in_range n place p e, le)))
-
-    wider_at : (point : Point) → has_place (λ p. not (nat_lt p place) && nat_lt p (place + n)) point ≡ true
-        → has_place (λ p. not (nat_lt p place) && nat_lt p (place + m)) point ≡ true
-    wider_at (Arriving p) e = inside p e
-    wider_at (Before step) e = inside (place_of step) e
-    wider_at AtEnd e = absurd cc
+    wider : (p : ℕ) → is_near n place p ≡ true → is_near m place p ≡ true
+    wider p is = grind (arith, nat_tests)
 
 here_more : (n place : ℕ) → Wider (is_of_frame (place + n)) (is_among (n + 1) place)
-here_more n place mark e = wider_at mark.point e
+here_more n place mark e = at_places (is_place (place + n)) (is_near (n + 1) place) true mark.point wider (sym (within_place (place + n) mark.point) ∙ e)
   where
-    inside : (p : ℕ) → p ≡ place + n → (not (nat_lt p place) && nat_lt p (place + (n + 1))) ≡ true
-    inside p same = rw (le-ltb p place (omega (arith, same)), lt-ltb p (place + (n + 1)) (omega (arith, same))) refl
-
-    wider_at : (point : Point) → is_within (place + n) point ≡ true → has_place (λ p. not (nat_lt p place) && nat_lt p (place + (n + 1))) point ≡ true
-    wider_at (Arriving p) e = inside p (eqb-true p (place + n) e)
-    wider_at (Before step) e = inside (place_of step) (step_place (place + n) step e)
-    wider_at AtEnd e = absurd cc
+    wider : (p : ℕ) → is_place (place + n) p ≡ true → is_near (n + 1) place p ≡ true
+    wider p is = grind (arith, nat_tests)
 
 fold_more : (s : Setting) (marks : List Mark) (c place : ℕ) (w : World) (done : List Arrival) (arrival : Arrival)
     → fold (arrive s marks c) w (enumerate_from place (done ++ arrival ∷ []))

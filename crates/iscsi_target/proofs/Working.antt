@@ -1,5 +1,5 @@
 -- What the steps of a session make of the code and of the World.
-use Rattle.std.proofs.Common.{◌≡◌, ◌≢◌, ℕ, ◌<◌, List, [], ◌++◌, Bool, true, false, not, cond, eqb, Option, Some, None, refl, sym, ap, ◌∙◌, append_assoc, subst}
+use Rattle.std.proofs.Common.{◌≡◌, ◌≢◌, ℕ, ◌<◌, List, [], ◌++◌, Bool, true, false, cond, Option, Some, None, refl, sym, ap, ◌∙◌, append_assoc, subst}
 use Rattle.std.specs.Prelude.{flat_map}
 use Rattle.iscsi_pdu.specs.Answer.{spelling}
 use Rattle.iscsi_pdu.specs.declared.answer.Answer.{Answer}
@@ -11,14 +11,13 @@ use Rattle.iscsi_session.specs.Steps.{Work}
 use Rattle.iscsi_session.specs.Runs.{output, Leaves}
 use Rattle.iscsi_login.specs.Directory.{KnownTargets}
 use Rattle.iscsi_target.specs.History.{connection_limit}
-use Rattle.iscsi_target.specs.Life.{Life, Phase, reads, FullFeature, is_over, past_in, session_answers, answers_of}
+use Rattle.iscsi_target.specs.Life.{Life, Phase, reads, FullFeature, past_in, session_answers, answers_of}
 use Rattle.iscsi_target.specs.World.{Setting, World, present, changed, past_of, work_of, with_past, worked_on, worked, with_units}
 use Rattle.iscsi_target.specs.Machine.{LinkState, Machine, link_at, with_link, closed}
 use Rattle.iscsi_target.specs.Stands.{phase_for, link_of}
 use Rattle.iscsi_target.specs.Serving.{Serves}
 use Rattle.iscsi_target.specs.declared.phase.Phase.TheVariants as phases
-use Rattle.iscsi_target.proofs.Choices.{and_true}
-use Rattle.iscsi_target.proofs.Lives.{present-changed, present-changed_other, present-lives, present_is}
+use Rattle.iscsi_target.proofs.Lives.{present-changed_other, present-lives, worked_placed, present-placed}
 use Rattle.iscsi_target.proofs.Linked.{link_is, units_with, out-more, closes, life_link, serves_life, half_there}
 
 -- ---- a connection in full feature phase
@@ -56,8 +55,7 @@ past_at w c past a = ap past_of a.at ∙ ap past_in a.phase
 pub present_worked : (w : World) (c : ℕ) (past : Past) (work : Work) → (a : IsAtWork w c past) → present c (worked_on c work w) ≡ Some (with_past work.past a.life)
 present_worked w c past work a =
     present-lives c (worked_on c work w) (changed (with_past work.past) c w) refl
-    ∙ present-changed (with_past work.past) c w a.life a.at (let on = and_true (eqb a.life.connection c) (not (is_over a.life.phase))
-    (present_is c w a.life a.at) in rw on.0 refl)
+    ∙ present-placed (with_past work.past) (worked_placed work.past) c w a.life a.at
 
 pub present_worked_other : (w : World) (c d : ℕ) (work : Work) → d ≢ c → present d (worked_on c work w) ≡ present d w
 present_worked_other w c d work differ =

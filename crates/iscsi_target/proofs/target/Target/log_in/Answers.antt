@@ -1,4 +1,4 @@
-use Rattle.std.proofs.Common.{◌≡◌, ℕ, ◌<◌, List, length, true, Option, refl, arith, subst, sym, ap, ◌∙◌}
+use Rattle.std.proofs.Common.{◌≡◌, ℕ, List, Option, refl, subst, sym, ap, ◌∙◌}
 use Rattle.std.proofs.lemmas.Result.{on_ok_weaker, on_err_weaker}
 use Rattle.iscsi_pdu.specs.Frames.{Frame}
 use Rattle.iscsi_pdu.specs.LoginRequest.{tsih}
@@ -8,27 +8,17 @@ use Rattle.iscsi_login.specs.Login.{reply_of}
 use Rattle.iscsi_login.specs.Session.{named_by}
 use Rattle.iscsi_login.specs.declared.params.Params.{Params}
 use Rattle.iscsi_target.specs.World.{lookup_for}
-use Rattle.iscsi_target.specs.Machine.{LinkState, Machine, link_at, closed, free_link, IsWithin, is_logging_in, is_reading, logged_in, sessions}
-use Rattle.iscsi_target.proofs.Asking.{login_there, no_session, still_reading, waits, link_there, closed_alike, begun_alike, begun_by_request, on_err}
-use Rattle.iscsi_target.proofs.Lending.{get_or_any, lent_holds}
+use Rattle.iscsi_target.specs.Machine.{LinkState, Machine, link_at, closed, IsWithin, logged_in, sessions}
+use Rattle.iscsi_target.proofs.Asking.{enters, no_session, waits, closed_asked, reads_asked, begun_alike, begun_by_request, on_err}
+use Rattle.iscsi_target.proofs.Lending.{lent_holds}
 use Rattle.iscsi_target.proofs.target.Target.log_in.Goals as goal
 
 pub returns-in_err-response-clause-err : goal.returns-in_err-response-clause-err
 returns-in_err-response-clause-err g c =
-    let machine : Machine = record {
-      directory = c.self.inside.directory;
-      units = c.self.inside.units.items;
-      links = c.self.inside.connections;
-    } in
-    let lt : c.args.c < length c.self.inside.connections = (let below = c.requires.in_range in let count = c.self.invariant.0 in omega arith) in
-    let old : c.at_mut-connection.result.now ≡ link_at machine c.args.c = c.at_mut-connection.ensures.value
-    ∙ get_or_any c.self.inside.connections c.args.c _ free_link lt in
-    let logs : is_logging_in (link_at machine c.args.c).phase ≡ true = ap (λ (m : Machine). is_logging_in (link_at m c.args.c).phase) c.self.view_is
-    ∙ c.requires.logs_in in
+    let e = enters _ c.args.self.now c.args.c c.at_mut-connection.result.now _ c.self.view_is c.self.invariant.0 c.requires.in_range
+    c.at_mut-connection.ensures.value c.requires.logs_in in
     on_err c.from_residual-in_err-response.result
-    (closed_alike machine c.args.c c.log_in.new.self lt (c.in_err-response.ensures.waiting ∙ ap (λ (l : LinkState). l.waiting) old)
-    c.in_err-response.ensures.session logs
-    ∙ ap (λ (m : Machine). closed m c.args.c) c.self.view_is)
+    (closed_asked _ _ _ _ c.log_in.new.self e c.in_err-response.ensures.waiting c.in_err-response.ensures.session)
 
 pub invariant_of-self-in-Some : goal.invariant_of-self-in-Some
 invariant_of-self-in-Some g c =
@@ -40,19 +30,10 @@ invariant_of-self-in-Some g c =
 
 pub begin-requires-clause-reads : goal.begin-requires-clause-reads
 begin-requires-clause-reads g c =
-    let machine : Machine = record {
-      directory = c.self.inside.directory;
-      units = c.self.inside.units.items;
-      links = c.self.inside.connections;
-    } in
-    let lt : c.args.c < length c.self.inside.connections = (let below = c.requires.in_range in let count = c.self.invariant.0 in omega arith) in
-    let old : c.at_mut-connection.result.now ≡ link_at machine c.args.c = c.at_mut-connection.ensures.value
-    ∙ get_or_any c.self.inside.connections c.args.c _ free_link lt in
-    let logs : is_logging_in (link_at machine c.args.c).phase ≡ true = ap (λ (m : Machine). is_logging_in (link_at m c.args.c).phase) c.self.view_is
-    ∙ c.requires.logs_in in
-    let there = login_there c.at_mut-connection.result.now.phase (ap (λ (l : LinkState). is_logging_in l.phase) old ∙ logs) in
-    let waiting = waits _ _ _ _ _ _ (rw c.in-Some.is at (c.in_ok-response.ensures.answered there.0 there.1)) in
-    ap (λ (l : LinkState). is_reading l.phase) (link_there machine c.args.c c.log_in.new.self lt) ∙ still_reading c.log_in.new.self.phase waiting.logging_in
+    let e = enters _ c.args.self.now c.args.c c.at_mut-connection.result.now _ c.self.view_is c.self.invariant.0 c.requires.in_range
+    c.at_mut-connection.ensures.value c.requires.logs_in in
+    let waiting = waits _ _ _ _ _ _ (rw c.in-Some.is at (c.in_ok-response.ensures.answered e.login e.there)) in
+    reads_asked _ _ _ _ c.log_in.new.self e waiting.logging_in
 
 pub returns-in-Some-clause-ok : goal.returns-in-Some-clause-ok
 returns-in-Some-clause-ok g c =
@@ -61,42 +42,29 @@ returns-in-Some-clause-ok g c =
       units = c.self.inside.units.items;
       links = c.self.inside.connections;
     } in
-    let lt : c.args.c < length c.self.inside.connections = (let below = c.requires.in_range in let count = c.self.invariant.0 in omega arith) in
-    let old : c.at_mut-connection.result.now ≡ link_at machine c.args.c = c.at_mut-connection.ensures.value
-    ∙ get_or_any c.self.inside.connections c.args.c _ free_link lt in
-    let logs : is_logging_in (link_at machine c.args.c).phase ≡ true = ap (λ (m : Machine). is_logging_in (link_at m c.args.c).phase) c.self.view_is
-    ∙ c.requires.logs_in in
+    let a = enters machine c.args.self.now c.args.c c.at_mut-connection.result.now _ c.self.view_is c.self.invariant.0 c.requires.in_range
+    c.at_mut-connection.ensures.value c.requires.logs_in in
     let named : c.in_ok-named.named ≡ named_by (tsih c.args.request.now.header) (sessions c.self.inside.connections) =
     c.in_ok-named.ensures ∙ ap (λ (ls : List LinkState). named_by c.tsih.result (sessions ls)) c.as_slice.ensures.value
     ∙ ap (λ (n : ℕ). named_by n (sessions c.self.inside.connections)) (c.tsih.ensures ∙ ap (λ (f : Frame). tsih f.header) c.request.view_is) in
     let looked_up : lookup_in c.self.inside.directory c.in_ok-named.named ≡ lookup_for machine.directory (sessions machine.links) c.args.request.now =
     ap (λ (o : Option Params). lookup_in c.self.inside.directory o) named in
     on_ok_weaker c.begin.result (λ e login h.
-    (let is_so : c.at_mut-connection.result.now.phase ≡ _ = ap (λ (l : LinkState). l.phase) old
+    (let is_so : c.at_mut-connection.result.now.phase ≡ _ = ap (λ (l : LinkState). l.phase) a.old
     ∙ ap (λ (m : Machine). (link_at m c.args.c).phase) c.self.view_is ∙ h in
     let waiting = waits _ _ _ _ _ _ (rw c.in-Some.is at (c.in_ok-response.ensures.answered login is_so)) in
     let reply : reply_of login (lookup_for machine.directory (sessions machine.links) c.args.request.now) c.args.request.now ≡ _ =
     ap (λ (k : Lookup). reply_of login k c.args.request.now) (sym looked_up) ∙ waiting.reply_is in
-    e ∙ begun_alike machine c.args.c c.log_in.new.self c.in-Some.session (answers.LoginResponse c.in-Some.response) lt (waiting.same
-    ∙ ap (λ (l : LinkState). record l { phase = c.log_in.new.self.phase }) old) waiting.logging_in logs
+    e ∙ begun_alike machine c.args.c c.log_in.new.self c.in-Some.session (answers.LoginResponse c.in-Some.response) a.in_range (waiting.same
+    ∙ ap (λ (l : LinkState). record l { phase = c.log_in.new.self.phase }) a.old) waiting.logging_in a.logs
     ∙ begun_by_request machine c.args.c login c.args.request.now c.in-Some.session c.in-Some.response reply
     ∙ ap (λ (m : Machine). logged_in m c.args.c login c.args.request.now) c.self.view_is)) c.begin.ensures.ok
 
 pub returns-in-Some-clause-err : goal.returns-in-Some-clause-err
 returns-in-Some-clause-err g c =
-    let machine : Machine = record {
-      directory = c.self.inside.directory;
-      units = c.self.inside.units.items;
-      links = c.self.inside.connections;
-    } in
-    let lt : c.args.c < length c.self.inside.connections = (let below = c.requires.in_range in let count = c.self.invariant.0 in omega arith) in
-    let old : c.at_mut-connection.result.now ≡ link_at machine c.args.c = c.at_mut-connection.ensures.value
-    ∙ get_or_any c.self.inside.connections c.args.c _ free_link lt in
-    let logs : is_logging_in (link_at machine c.args.c).phase ≡ true = ap (λ (m : Machine). is_logging_in (link_at m c.args.c).phase) c.self.view_is
-    ∙ c.requires.logs_in in
-    let there = login_there c.at_mut-connection.result.now.phase (ap (λ (l : LinkState). is_logging_in l.phase) old ∙ logs) in
-    let waiting = waits _ _ _ _ _ _ (rw c.in-Some.is at (c.in_ok-response.ensures.answered there.0 there.1)) in
-    on_err_weaker c.begin.result (λ e. ap (λ (m : Machine). closed m c.args.c) e
-    ∙ closed_alike machine c.args.c c.log_in.new.self lt (ap (λ (l : LinkState). l.waiting) waiting.same ∙ ap (λ (l : LinkState). l.waiting) old)
-    (no_session c.log_in.new.self.phase waiting.logging_in) logs
-    ∙ ap (λ (m : Machine). closed m c.args.c) c.self.view_is) c.begin.ensures.err
+    let e = enters _ c.args.self.now c.args.c c.at_mut-connection.result.now _ c.self.view_is c.self.invariant.0 c.requires.in_range
+    c.at_mut-connection.ensures.value c.requires.logs_in in
+    let waiting = waits _ _ _ _ _ _ (rw c.in-Some.is at (c.in_ok-response.ensures.answered e.login e.there)) in
+    on_err_weaker c.begin.result (λ same. ap (λ (m : Machine). closed m c.args.c) same
+    ∙ closed_asked _ _ _ _ c.log_in.new.self e (ap (λ (l : LinkState). l.waiting) waiting.same) (no_session c.log_in.new.self.phase waiting.logging_in))
+    c.begin.ensures.err
