@@ -1,8 +1,8 @@
 -- What the steps of a session add to what it may hold: a request, and answers that are short.
-use Rattle.std.proofs.Common.{◌≡◌, ℕ, ◌+◌, ◌*◌, ◌<◌, ◌≤◌, List, [], ◌∷◌, ◌++◌, length, Bool, true, false, not, Option, Some, None, refl, sym, ap, subst, ◌∙◌, arith}
+use Rattle.std.proofs.Common.{◌≡◌, ℕ, ◌+◌, ◌*◌, ◌<◌, ◌≤◌, List, [], ◌∷◌, ◌++◌, length, Bool, true, false, ◌||◌, ◌==◌, not, map, Option, Some, None, refl, sym, ap, subst, ◌∙◌, arith}
 use Rattle.std.specs.Prelude.{All, flat_map}
 use Rattle.std.proofs.lemmas.Bool.{eq-eqb}
-use Rattle.std.proofs.lemmas.List.{length-append}
+use Rattle.std.proofs.lemmas.List.{length-append, map-append}
 use Rattle.std.proofs.lemmas.List.Elements.{All-push}
 use Rattle.std.proofs.lemmas.Grind.{flat_map-append}
 use Rattle.iscsi_pdu.specs.Header.{header_length, initiator_task_tag, opcode_of, opcode_number}
@@ -15,7 +15,7 @@ use Rattle.iscsi_order.specs.Window.{taken as taken_numbers}
 use Rattle.scsi_unit.specs.Units.{numbers_of}
 use Rattle.iscsi_session.specs.declared.verdict.Verdict.{Verdict}
 use Rattle.iscsi_session.specs.declared.verdict.Verdict.TheVariants.{Ignored, Dropped, Rejected, Violating, Accepted, Feeding}
-use Rattle.iscsi_session.specs.Requests.{Request, Past, frame_of, is_command, is_function, is_in, left, numbers, held, due, queue, unfinished, pending as awaiting, functions, moved, removing, draining, answering, stamp, taken, number_for}
+use Rattle.iscsi_session.specs.Requests.{Request, Past, Drain, drain_for, frame_of, is_command, is_function, is_in, left, numbers, held, due, queue, unfinished, pending as awaiting, functions, moved, removing, draining, answering, stamp, taken, number_for}
 use Rattle.iscsi_session.specs.Functions.{plug, plugged, reached, plugs, awaited, lacks, drained_functions, told, told_answers, function_result}
 use Rattle.iscsi_session.specs.Judging.{verdict, judged, reject}
 use Rattle.iscsi_session.specs.Transfers.{command_with, fed, asking, r2t_of, next_transfer_tag}
@@ -24,7 +24,7 @@ use Rattle.iscsi_session.specs.Acts.{reach_of, act_answers, ended, behind, acted
 use Rattle.iscsi_session.specs.State.{IsLawful, tasks_of, holding, takes_all}
 use Rattle.iscsi_session.specs.Steps.{Work, judge, act, ask, tell}
 use Rattle.iscsi_session.specs.Weight.{request_weight, pending, IsWithinLimits}
-use Rattle.iscsi_session.proofs.Left.{left_more, in_at, in_left, below_of, in_filter}
+use Rattle.iscsi_session.proofs.Left.{left_append, left_more, is_in_append, in_at, in_left, below_of, in_filter}
 use Rattle.iscsi_session.proofs.Taken.{taken_below}
 use Rattle.iscsi_session.proofs.Kept.{command_no_function, function_no_command}
 use Rattle.iscsi_session.proofs.Unfinished.{unfinished_without}
@@ -36,12 +36,12 @@ use Rattle.iscsi_session.proofs.Feeding.{lawful_fed}
 use Rattle.iscsi_session.proofs.Runs.{lawful_answering}
 use Rattle.iscsi_session.proofs.Plugging.{plugged_tasks}
 use Rattle.iscsi_session.proofs.Ending.{ended_function, ended_now, plugs_unasked, plugs_new}
-use Rattle.iscsi_session.proofs.Waits.{functions_waits, unfinished_waits, came_waits}
+use Rattle.iscsi_session.proofs.Waits.{ends_are, functions_waits, unfinished_waits, came_waits}
 use Rattle.iscsi_session.proofs.Telling.{functions_told}
-use Rattle.iscsi_session.proofs.Answered.{acted_same, command_answers_none, function_is, function_waits}
+use Rattle.iscsi_session.proofs.Answered.{moved_other, acted_same, command_answers_none, function_is, function_waits}
 use Rattle.iscsi_session.proofs.Lawful.{moved_by, ended_lawful, more_over, act_lawful, ask_lawful, tell_lawful}
-use Rattle.iscsi_session.proofs.Holding.{pending_in, pending_is, pending_held, pending_command, pending_other, pending_removing}
-use Rattle.iscsi_session.proofs.Limits.{immediate_of, left_few, immediate_less, immediate_joined, came_by}
+use Rattle.iscsi_session.proofs.Holding.{listed_in, listed_is, listed_other, listed_removing, waits_in, waiting_joined, waiting_more, waiting_told, functions_removing, left_few, pending_in, pending_held, pending_command, pending_other, pending_removing}
+use Rattle.iscsi_session.proofs.Limits.{immediate_of, immediate_less, immediate_joined, came_by}
 use Rattle.iscsi_session.proofs.Lengths.{one_spelled, reject_long, most_answered, ask_long}
 
 -- what waits of its answers, and its requests
@@ -66,7 +66,7 @@ pub spelled_more : (a b : List Answer) → length (flat_map spelling (a ++ b)) �
 spelled_more a b = ap (λ (l : List ℕ). length l) (flat_map-append spelling a b) ∙ length-append (flat_map spelling a) (flat_map spelling b)
 
 pub pending_answering : (more : List Answer) (past : Past) → pending_in (answering more past) ≡ pending_in past
-unfolding held due queue taken_numbers
+unfolding held due queue functions taken_numbers
 pending_answering more past = refl
 
 pub immediate_answering : (more : List Answer) (past : Past) → immediate_of (answering more past) ≡ immediate_of past
@@ -173,7 +173,15 @@ plug_turns past after n lawful tasks t =
     let joins = immediate_joined false false false after x lawful refl refl refl in
     record {
       headers = All-push (λ (request : Request). length request.frame.header ≡ header_length) after.came x t.headers refl;
-      pending = omega (arith, few, ap pending tasks, pending_held n plug (tasks_of after), pending_is after, pending_is (plugged n after));
+      pending = omega (
+        arith,
+        few,
+        ap pending tasks,
+        pending_held n plug (tasks_of after),
+        listed_is after,
+        listed_is (plugged n after),
+        waiting_joined after lawful x,
+      );
       immediate = omega (arith, less, joins);
     }
 
@@ -184,63 +192,101 @@ unfinished_removing : (past : Past) (gone : List ℕ) → unfinished (removing g
 unfolding unfinished
 unfinished_removing past gone = left_more past.removed gone _
 
-functions_removing : (past : Past) (gone : List ℕ) → functions (removing gone past) ≡ left gone (functions past)
-unfolding functions
-functions_removing past gone = left_more past.removed gone _
-
 -- one that waits for data is not finished
 waits_immediate : (luns : List ℕ) (past : Past) (k : ℕ) (rest : List ℕ) (first : ℕ) (others : List ℕ) → is_function (frame_of past.came k) ≡ true
     → awaited past (reach_of luns k past) ≡ first ∷ others → IsWithinLimits past → due past ≡ k ∷ rest → immediate_of (ended luns k past) ≤ immediate_of past
 waits_immediate luns past k rest first others f e w is =
     grind (arith, immediate_less, came_waits, unfinished_waits, unfinished_removing, functions_waits, functions_removing)
 
-pending_draining : (past : Past) (k : ℕ) (names : List ℕ) → pending_in (draining k names past) ≡ pending_in past
+-- and it is one more that waits
+listed_draining : (past : Past) (k : ℕ) (names : List ℕ) → listed_in (draining k names past) ≡ listed_in past
 unfolding held due queue taken_numbers
-pending_draining past k names = refl
+listed_draining past k names = refl
+
+named_again : (k j : ℕ) (names : List ℕ) → is_in j (map (λ d. d.function) (map (drain_for k) names)) ≡ true → (j == k) ≡ true
+named_again k j [] e = absurd cc
+named_again k j (c ∷ names) e = grind (arith, named_again k j names)
+
+either_of : (a b c : Bool) → (a || b) ≡ true → (b ≡ true → c ≡ true) → (a || c) ≡ true
+either_of a b c e known = grind arith
+
+waits_more : (past : Past) (k j : ℕ) (names : List ℕ) → waits_in (draining k names past) j ≡ true → (waits_in past j || j == k) ≡ true
+waits_more past k j names e =
+    let more = map (λ d. d.function) (map (drain_for k) names) in
+    let is : awaiting (draining k names past) ≡ awaiting past ++ left past.answered more = ap (left past.answered)
+    (map-append (λ (d : Drain). d.function) past.drains (map (drain_for k) names))
+    ∙ left_append past.answered (map (λ d. d.function) past.drains) more in
+    either_of (waits_in past j) (is_in j (left past.answered more)) (j == k)
+    (sym (is_in_append j (awaiting past) (left past.answered more)) ∙ ap (is_in j) (sym is) ∙ e)
+    (λ h. named_again k j names (in_left j past.answered more h))
+
+waits_pending : (luns : List ℕ) (past : Past) (k : ℕ) (rest : List ℕ) (first : ℕ) (others : List ℕ) → is_function (frame_of past.came k) ≡ true
+    → awaited past (reach_of luns k past) ≡ first ∷ others → IsWithinLimits past → due past ≡ k ∷ rest → pending_in (ended luns k past) ≤ pending_in past
+waits_pending luns past k rest first others f e w is =
+    let gone = reached (reach_of luns k past) past in
+    let no_command = function_no_command (frame_of past.came k) f in
+    let done : Past = record past { acted = past.acted ++ k ∷ []; finished = past.finished ++ k ∷ [] } in
+    let names = first ∷ others in
+    let after = draining k names (removing gone done) in
+    let is_after : after ≡ ended luns k past = ends_are luns past w.lawful k rest is f first others e in
+    let functions_are : functions after ≡ left gone (functions past) = ap functions is_after ∙ functions_waits luns past w.lawful k rest is f first others e
+    ∙ functions_removing past gone in
+    omega (
+      arith,
+      ap pending_in is_after,
+      listed_draining (removing gone done) k names,
+      listed_removing done gone,
+      ap listed_in (moved_other k past no_command),
+      listed_other past k rest no_command w.lawful is,
+      waiting_more past after gone k functions_are (λ j h. waits_more (removing gone done) k j names h),
+    )
+
+-- one that does not wait is finished
+now_turns : (luns : List ℕ) (past : Past) (k : ℕ) (rest : List ℕ) → is_function (frame_of past.came k) ≡ true → awaited past (reach_of luns k past) ≡ []
+    → IsWithinLimits past → due past ≡ k ∷ rest → Turns 1 past (ended luns k past)
+now_turns luns past k rest f none w is =
+    subst (Turns 1 past) (ended_now luns past k f none)
+    (removing_turns 1 past (moved k past) (reached (reach_of luns k past) past)
+    (other_turns past k rest (function_no_command (frame_of past.came k) f) w is))
+
+waits_turns : (luns : List ℕ) (past : Past) (k : ℕ) (rest : List ℕ) (first : ℕ) (others : List ℕ) → is_function (frame_of past.came k) ≡ true
+    → awaited past (reach_of luns k past) ≡ first ∷ others → IsWithinLimits past → due past ≡ k ∷ rest → Turns 0 past (ended luns k past)
+waits_turns luns past k rest first others f e w is =
+    let few = waits_pending luns past k rest first others f e w is in
+    record {
+      headers = subst (λ (l : List Request). All (λ (request : Request). length request.frame.header ≡ header_length) l)
+          (sym (came_waits luns past w.lawful k rest is f first others e)) w.headers;
+      pending = omega (arith, few);
+      immediate = waits_immediate luns past k rest first others f e w is;
+    }
 
 ended_turns : (luns : List ℕ) (past : Past) (k : ℕ) (rest : List ℕ) → is_function (frame_of past.came k) ≡ true → IsWithinLimits past → due past ≡ k ∷ rest
-    → Turns 1 past (ended luns k past)
+    → Turns 0 past (ended luns k past)
 ended_turns luns past k rest f w is = by_case (awaited past (reach_of luns k past)) refl
   where
-    removes : Turns 1 past (removing (reached (reach_of luns k past) past) (moved k past))
-    removes =
-        removing_turns 1 past (moved k past) (reached (reach_of luns k past) past)
-        (other_turns past k rest (function_no_command (frame_of past.came k) f) w is)
-
-    by_case : (names : List ℕ) → awaited past (reach_of luns k past) ≡ names → Turns 1 past (ended luns k past)
-    by_case [] e = subst (Turns 1 past) (ended_now luns past k f e) removes
-    by_case (first ∷ others) e =
-        let few = removes.pending in
-        record {
-          headers = subst (λ (l : List Request). All (λ (request : Request). length request.frame.header ≡ header_length) l)
-              (sym (came_waits luns past w.lawful k rest is f first others e)) w.headers;
-          pending = omega (
-            arith,
-            few,
-            ap pending_in (ended_function luns past k f),
-            pending_draining (removing (reached (reach_of luns k past) past) (moved k past)) k (awaited past (reach_of luns k past)),
-          );
-          immediate = waits_immediate luns past k rest first others f e w is;
-        }
+    by_case : (names : List ℕ) → awaited past (reach_of luns k past) ≡ names → Turns 0 past (ended luns k past)
+    by_case [] e =
+        let now = now_turns luns past k rest f e w is in
+        let few = now.pending in
+        record { headers = now.headers; pending = omega (arith, few); immediate = now.immediate }
+    by_case (first ∷ others) e = waits_turns luns past k rest first others f e w is
 
 function_turns : (luns : List ℕ) (b : Bool) (past : Past) (k : ℕ) (rest : List ℕ) → plugs past (reach_of luns k past) ≡ b
     → is_function (frame_of past.came k) ≡ true → IsWithinLimits past → due past ≡ k ∷ rest → Turns 0 past (behind luns k past (ended luns k past))
-function_turns luns b past k rest e f w is = by_plug b e (ended_turns luns past k rest f w is)
-  where
-    by_plug : (b : Bool) → plugs past (reach_of luns k past) ≡ b → Turns 1 past (ended luns k past) → Turns 0 past (behind luns k past (ended luns k past))
-    by_plug false e ends =
-        let same : ended luns k past ≡ behind luns k past (ended luns k past) = rw (f, e) refl in
-        let few = ends.pending in
-        subst (Turns 0 past) same (record { headers = ends.headers; pending = omega (arith, few); immediate = ends.immediate })
-    by_plug true e ends =
-        let n = ref_cmd_sn (frame_of past.came k).header in
-        let same : plugged n (ended luns k past) ≡ behind luns k past (ended luns k past) = rw (f, e) refl in
-        let moves = moved_by _ past k rest refl w.lawful is in
-        let m = more_over luns past k rest f (plugs_unasked past (reach_of luns k past) e) w.lawful is moves in
-        let lawful = ended_lawful luns _ past k rest refl w.lawful is moves in
-        subst (Turns 0 past) same
-        (plug_turns past (ended luns k past) n lawful
-        (plugged_tasks n past (ended luns k past) m.1 m.2 w.lawful lawful m.0 (plugs_new past (reach_of luns k past) e)) ends)
+function_turns luns false past k rest e f w is =
+    let same : ended luns k past ≡ behind luns k past (ended luns k past) = rw (f, e) refl in
+    subst (Turns 0 past) same (ended_turns luns past k rest f w is)
+function_turns luns true past k rest e f w is =
+    let n = ref_cmd_sn (frame_of past.came k).header in
+    let same : plugged n (ended luns k past) ≡ behind luns k past (ended luns k past) = rw (f, e) refl in
+    let moves = moved_by _ past k rest refl w.lawful is in
+    let unasked = plugs_unasked past (reach_of luns k past) e in
+    let m = more_over luns past k rest f unasked w.lawful is moves in
+    let lawful = ended_lawful luns _ past k rest refl w.lawful is moves in
+    subst (Turns 0 past) same
+    (plug_turns past (ended luns k past) n lawful
+    (plugged_tasks n past (ended luns k past) m.1 m.2 w.lawful lawful m.0 (plugs_new past (reach_of luns k past) e))
+    (now_turns luns past k rest f unasked w is))
 
 acted_adds : (luns : List ℕ) (n : ℕ) (past : Past) (k : ℕ) → IsWithinLimits past → IsLawful (acted luns k past)
     → Turns n past (behind luns k past (ended luns k past)) → length (flat_map spelling (act_answers luns k past)) ≤ n * request_weight + 48
@@ -295,7 +341,7 @@ act_adds work k rest is w =
 -- ---- an R2T is sent
 
 asked_pending : (past : Past) (k tag : ℕ) → pending_in (record past { r2ts = past.r2ts ++ record { command = k; tag = tag } ∷ [] }) ≡ pending_in past
-unfolding held due queue taken_numbers
+unfolding held due queue functions taken_numbers
 asked_pending past k tag = refl
 
 asked_immediate : (past : Past) (k tag : ℕ) → immediate_of (record past { r2ts = past.r2ts ++ record { command = k; tag = tag } ∷ [] }) ≡ immediate_of past
@@ -321,9 +367,12 @@ ask_adds work k rest is w =
 
 -- ---- a function is answered whose data has come
 
-told_pending : (past : Past) (k : ℕ) → pending_in (told k past) ≡ pending_in past
+told_listed : (past : Past) (k : ℕ) → listed_in (told k past) ≡ listed_in past
 unfolding held due queue taken_numbers
-told_pending past k = refl
+told_listed past k = refl
+
+told_pending : (past : Past) (k : ℕ) → IsLawful past → is_in k (awaiting past) ≡ true → pending_in (told k past) ≤ pending_in past
+told_pending past k lawful waits = omega (arith, told_listed past k, waiting_told past k lawful waits)
 
 told_unfinished : (past : Past) (k : ℕ) → unfinished (told k past) ≡ unfinished past
 unfolding unfinished
@@ -348,12 +397,14 @@ tell_adds work k rest is w =
     let past = work.past in
     let more = told_answers past k in
     let few = w.few in
+    let waits = first_waits past k rest is in
+    let fewer = told_pending past k w.lawful waits in
     record {
       within = record {
         lawful = tell_lawful work k rest is w.lawful;
         headers = w.headers;
-        few = omega (arith, few, immediate_answering more (told k past), told_immediate past k w.lawful (first_waits past k rest is));
+        few = omega (arith, few, immediate_answering more (told k past), told_immediate past k w.lawful waits);
       };
-      added = omega (arith, spelled_more past.answers more, told_short past k, pending_answering more (told k past), told_pending past k);
-      more = omega (arith, pending_answering more (told k past), told_pending past k);
+      added = omega (arith, spelled_more past.answers more, told_short past k, pending_answering more (told k past), fewer);
+      more = omega (arith, pending_answering more (told k past), fewer);
     }

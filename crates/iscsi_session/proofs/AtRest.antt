@@ -4,6 +4,7 @@ use Rattle.std.specs.Prelude.{filter, flat_map, is_some, IfOk, OnErr}
 use Rattle.std.specs.List.{range_with_len}
 use Rattle.std.proofs.lemmas.Bool.{eq-eqb, ne_eqb, cases_eq, or_right}
 use Rattle.std.proofs.lemmas.List.{length-append, length-map}
+use Rattle.std.proofs.lemmas.List.Elements.{All-filter}
 use Rattle.std.proofs.lemmas.List.Filters.{length-filter_both}
 use Rattle.iscsi_pdu.specs.Header.{header_length, is_immediate}
 use Rattle.iscsi_pdu.specs.Frames.{Frame}
@@ -23,19 +24,21 @@ use Rattle.iscsi_session.specs.Answers.{command_answers}
 use Rattle.iscsi_session.specs.State.{SessionState, AreDistinct, IsLawful, Stands, remembered}
 use Rattle.iscsi_session.specs.Steps.{Step, begun_work, answered_command, is_serving, served}
 use Rattle.iscsi_session.specs.Runs.{Output, Starts, is_failed, Runs, Stops, AnswersAs}
-use Rattle.iscsi_session.specs.Weight.{pending, IsWithinLimits, IsAtRest, Eases, Loads}
+use Rattle.iscsi_session.specs.Weight.{open_requests, IsWithinLimits, IsAtRest, Eases, Loads}
 use Rattle.iscsi_session.proofs.Answered.{none_due, queue_first}
 use Rattle.iscsi_session.proofs.Left.{filter_cong, in_at, in_left_back, distinct_filter, distinct_left, passes_in, below_of, in_filter, in_filter_back}
 use Rattle.iscsi_session.proofs.Unfinished.{unfinished_without, queue_unfinished}
 use Rattle.iscsi_session.proofs.Moved.{lawful_finished, is_done}
-use Rattle.iscsi_session.proofs.Pending.{functions_without, command_not_pending}
+use Rattle.iscsi_session.proofs.Pending.{functions_without, functions_distinct, functions_below, command_not_pending}
+use Rattle.iscsi_session.proofs.Kept.{Below}
+use Rattle.iscsi_session.proofs.Telling.{pending_finished as waits_finished}
 use Rattle.iscsi_order.proofs.Standing.{front_within}
 use Rattle.iscsi_session.proofs.Accepted.{begun_lawful, handed_is, counted_append, in_queue}
 use Rattle.iscsi_session.proofs.Over.{split, acted_counted}
 use Rattle.iscsi_session.proofs.Runs.{lawful_answering}
 use Rattle.iscsi_session.proofs.Taken.{distinct_taken}
 use Rattle.iscsi_session.proofs.Left.{distinct_front}
-use Rattle.iscsi_session.proofs.Holding.{filter_fewer, pending_in, pending_is, pending_finished, pending_removing}
+use Rattle.iscsi_session.proofs.Holding.{fewer_still, filter_fewer, waits_in, pending_in, pending_is, pending_finished, pending_removing}
 use Rattle.iscsi_session.proofs.Limits.{immediate_of, immediate_less}
 use Rattle.iscsi_session.proofs.Lengths.{command_long}
 use Rattle.iscsi_session.proofs.Added.{pending_answering, immediate_answering, spelled_more, removed_immediate}
@@ -58,28 +61,6 @@ held_few past lawful =
       few_below come ((numbers past).finished + window) (numbers past).handed window (λ k h. lawful.window.within k h),
     )
 
--- those that wait are not over
-done_counted : (past : Past) → counted past.came (left (awaiting past) past.finished) ≤ counted past.came past.finished
-unfolding left
-done_counted past = omega (arith, split (λ k. not (is_in k (awaiting past))) past.came past.finished)
-
--- with those that are over, the queue has all that are taken, where none is due
-queue_counted : (past : Past) → IsLawful past → due past ≡ [] → counted past.came (over past) + counted past.came (queue past) ≤ (numbers past).handed
-queue_counted past lawful idle =
-    let came = past.came in
-    let a = split (λ k. is_command (frame_of came k)) came past.finished in
-    let b = acted_counted past lawful.removed_commands in
-    let c : counted came (commands came past.finished) + counted came (queue past) ≡ counted came (left past.removed (commands came past.acted)) = sym
-    (counted_append came (commands came past.finished) (queue past)) ∙ ap (counted came) lawful.queued in
-    let d : counted came (others came past.finished) ≡ counted came (others came past.acted) = ap (counted came) lawful.at_once in
-    let e : counted came (taken came) ≡ counted came past.acted + counted came (due past) = ap (counted came) lawful.in_order
-    ∙ counted_append came past.acted (due past) in
-    let none : counted came (due past) ≡ 0 = ap (counted came) idle in
-    let f = counted_append came (left (awaiting past) past.finished) (filter (λ k. is_in k past.removed) past.acted) in
-    let g = done_counted past in
-    let handed = lawful.handed in
-    omega arith
-
 one_out : (k : ℕ) (names : List ℕ) → is_in k names ≡ true → length (left (k ∷ []) names) + 1 ≤ length names
 unfolding left
 one_out k [] e = absurd cc
@@ -98,6 +79,44 @@ few_distinct (k ∷ some) all distinct within =
     apart : (j : ℕ) → is_in j some ≡ true → is_in j (k ∷ []) ≡ false
     apart j h = grind arith
 
+-- those that wait are not over
+done_counted : (past : Past) → IsLawful past
+    → counted past.came (left (awaiting past) past.finished) + counted past.came (filter (waits_in past) (functions past)) ≤ counted past.came past.finished
+unfolding left
+done_counted past lawful =
+    let open_still = filter (waits_in past) (functions past) in
+    let kept = filter (λ k. not (not (waits_in past k))) past.finished in
+    let numbered_too : ℕ → Bool = λ k. is_some (request_at past.came k).number in
+    omega (
+      arith,
+      split (λ k. not (waits_in past k)) past.came past.finished,
+      few_distinct (filter numbered_too open_still) (filter numbered_too kept)
+          (distinct_filter numbered_too open_still (distinct_filter (waits_in past) (functions past) (functions_distinct past)))
+          (λ k h. among k (in_filter k numbered_too open_still h) (passes_in k numbered_too open_still h)),
+    )
+  where
+    among : (k : ℕ) → is_in k (filter (waits_in past) (functions past)) ≡ true → is_some (request_at past.came k).number ≡ true
+        → is_in k (filter (λ j. is_some (request_at past.came j).number) (filter (λ j. not (not (waits_in past j))) past.finished)) ≡ true
+    among k there has = grind (arith, in_filter_back, passes_in, waits_finished)
+
+-- with those that are over, the queue and the functions that wait have all that are taken, where none is due
+taken_counted : (past : Past) → IsLawful past → due past ≡ []
+    → counted past.came (over past) + counted past.came (queue past) + counted past.came (filter (waits_in past) (functions past)) ≤ (numbers past).handed
+taken_counted past lawful idle =
+    let came = past.came in
+    let a = split (λ k. is_command (frame_of came k)) came past.finished in
+    let b = acted_counted past lawful.removed_commands in
+    let c : counted came (commands came past.finished) + counted came (queue past) ≡ counted came (left past.removed (commands came past.acted)) = sym
+    (counted_append came (commands came past.finished) (queue past)) ∙ ap (counted came) lawful.queued in
+    let d : counted came (others came past.finished) ≡ counted came (others came past.acted) = ap (counted came) lawful.at_once in
+    let e : counted came (taken came) ≡ counted came past.acted + counted came (due past) = ap (counted came) lawful.in_order
+    ∙ counted_append came past.acted (due past) in
+    let none : counted came (due past) ≡ 0 = ap (counted came) idle in
+    let f = counted_append came (left (awaiting past) past.finished) (filter (λ k. is_in k past.removed) past.acted) in
+    let g = done_counted past lawful in
+    let handed = lawful.handed in
+    omega arith
+
 queue_came : (past : Past) → IsLawful past → (k : ℕ) → is_in k (queue past) ≡ true → k < length past.came
 queue_came past lawful k e = below_of (length past.came) k past.acted lawful.below (in_queue past lawful k e)
 
@@ -109,16 +128,17 @@ queue_distinct past lawful = grind (arith, distinct_left, distinct_filter, disti
 queue_immediate : (past : Past) (q : ℕ → Bool) → IsLawful past → length (filter q (queue past)) ≤ length (filter q (unfinished past))
 queue_immediate past q lawful = grind (arith, few_distinct, distinct_filter, queue_distinct, in_filter_back, queue_unfinished, in_filter, passes_in)
 
-queue_length : (past : Past) → IsLawful past
-    → length (queue past) ≡ counted past.came (queue past) + length (filter (λ k. is_immediate (frame_of past.came k).header) (queue past))
-queue_length past lawful =
+-- of requests that came, those with a number and those for immediate delivery
+both_kinds : (past : Past) (names : List ℕ) → IsLawful past → Below past names
+    → length names ≡ counted past.came names + length (filter (λ k. is_immediate (frame_of past.came k).header) names)
+both_kinds past names lawful below =
     let p : ℕ → Bool = λ k. is_some (request_at past.came k).number in
     let q : ℕ → Bool = λ k. not (p k) in
-    let both : length (filter p (queue past)) + length (filter q (queue past)) ≡ length (queue past) = length-filter_both p q (λ k. refl) (queue past) in
-    let same : filter q (queue past) ≡ filter (λ k. is_immediate (frame_of past.came k).header) (queue past) =
-    filter_cong q (λ k. is_immediate (frame_of past.came k).header) (queue past)
-    (λ i d lt. flipped (is_some (request_at past.came (get_or (queue past) i d)).number) (is_immediate (frame_of past.came (get_or (queue past) i d)).header)
-    (lawful.delivered (get_or (queue past) i d) no_request (queue_came past lawful (get_or (queue past) i d) (in_at (queue past) i d lt)))) in
+    let both : length (filter p names) + length (filter q names) ≡ length names = length-filter_both p q (λ k. refl) names in
+    let same : filter q names ≡ filter (λ k. is_immediate (frame_of past.came k).header) names =
+    filter_cong q (λ k. is_immediate (frame_of past.came k).header) names
+    (λ i d lt. flipped (is_some (request_at past.came (get_or names i d)).number) (is_immediate (frame_of past.came (get_or names i d)).header)
+    (lawful.delivered (get_or names i d) no_request (below i d lt))) in
     omega (arith, both, ap (λ (l : List ℕ). length l) same)
   where
     flipped : (a b : Bool) → a ≡ not b → not a ≡ b
@@ -132,9 +152,12 @@ rest_few past w idle =
     omega (
       arith,
       held_few past w.lawful,
-      queue_counted past w.lawful idle,
-      queue_length past w.lawful,
+      taken_counted past w.lawful idle,
+      both_kinds past (queue past) w.lawful (λ i d lt. queue_came past w.lawful _ (in_at (queue past) i d lt)),
+      both_kinds past (filter (waits_in past) (functions past)) w.lawful
+          (All-filter (waits_in past) (λ k. k < length past.came) (functions past) (functions_below past)),
       queue_immediate past imm w.lawful,
+      fewer_still (waits_in past) imm (functions past),
       front_within (numbers past) w.lawful.window,
       handed_is past,
       none,
@@ -143,11 +166,14 @@ rest_few past w idle =
 
 -- ---- the state
 
-rest_pending : (past : Past) (state : SessionState) → state ≡ remembered past → pending state.tasks ≡ pending_in past
-rest_pending past state is = ap (λ (s : SessionState). pending s.tasks) is ∙ pending_is past
+rest_pending : (past : Past) (state : SessionState) → Stands past state → open_requests state ≡ pending_in past
+rest_pending past state s = ap open_requests s.remembered ∙ pending_is past s.lawful
 
-pub few_pending : (state : SessionState) → IsAtRest state → pending state.tasks ≤ 40
-few_pending state r = omega (arith, rest_few r.past r.within r.idle, rest_pending r.past state r.remembered)
+stands_at_rest : (state : SessionState) (r : IsAtRest state) → Stands r.past state
+stands_at_rest state r = record { lawful = r.within.lawful; remembered = r.remembered }
+
+pub few_pending : (state : SessionState) → IsAtRest state → open_requests state ≤ 40
+few_pending state r = omega (arith, rest_few r.past r.within r.idle, rest_pending r.past state (stands_at_rest state r))
 
 -- a session at its beginning
 pub begun_rests : (params : Params) → IsAtRest (remembered (begun params))
@@ -180,7 +206,7 @@ pub done_eases : (old new : SessionState) (frame : Frame) (rest : List Frame) (d
     → IsAtRest old → Eases old new before waiting
 done_eases old new frame rest done before waiting is range given answers r =
     let past = r.past in
-    let s : Stands past old = record { lawful = r.within.lawful; remembered = r.remembered } in
+    let s = stands_at_rest old r in
     let found = queue_first past old frame rest s is in
     let k = found.0 in
     let more = command_answers (stamp (finished k past)) past.params.values (frame_of past.came k) done in
@@ -199,8 +225,8 @@ done_eases old new frame rest done before waiting is range given answers r =
         ap (λ (l : List ℕ). length l) all.out,
         length-append before (flat_map spelling more),
         command_long (stamp (finished k past)) past.params.values (frame_of past.came k) done in_range given,
-        rest_pending past old r.remembered,
-        rest_pending (answered_command done k past) new after.remembered,
+        rest_pending past old s,
+        rest_pending (answered_command done k past) new after,
         pending_answering more (finished k past),
         pending_finished past k found.1 r.within.lawful found.2,
       );
@@ -224,7 +250,8 @@ pub removing_eases : (reach : FunctionReach) (old new : SessionState) (waiting :
 removing_eases reach old new waiting stands r =
     let past = r.past in
     let names = reached reach past in
-    let after = stands past (record { lawful = r.within.lawful; remembered = r.remembered }) in
+    let s = stands_at_rest old r in
+    let after = stands past s in
     let few = r.within.few in
     record {
       rests = record {
@@ -239,8 +266,8 @@ removing_eases reach old new waiting stands r =
       };
       lighter = omega (
         arith,
-        rest_pending past old r.remembered,
-        rest_pending (removing names past) new after.remembered,
+        rest_pending past old s,
+        rest_pending (removing names past) new after,
         pending_removing past names,
       );
     }
@@ -258,13 +285,14 @@ run_loads frame failed goes_on old new before waiting units runs whole idle r =
     let leaves = runs.leads 0 fails work (λ step of. refl) starts in
     let few = rest_few past r.within r.idle in
     let after = (served fails 0 frame work).past in
+    let s : Stands after new = record { lawful = leaves.lawful; remembered = leaves.remembered } in
     let adds = served_adds fails 0 frame work whole r.within few in
     let added = adds.added in
     record {
       rests = λ on. record {
         past = after;
         within = adds.within;
-        idle = none_due after new (record { lawful = leaves.lawful; remembered = leaves.remembered }) (idle on);
+        idle = none_due after new s (idle on);
         remembered = leaves.remembered;
       };
       heavier = omega (
@@ -274,8 +302,8 @@ run_loads frame failed goes_on old new before waiting units runs whole idle r =
         spelled_more past.answers leaves.more,
         ap (λ (l : List ℕ). length l) leaves.spelled,
         length-append before.bytes (flat_map spelling leaves.more),
-        rest_pending past old r.remembered,
-        rest_pending after new leaves.remembered,
+        rest_pending past old (stands_at_rest old r),
+        rest_pending after new s,
       );
     }
 
@@ -296,8 +324,8 @@ serve_loads (Err e) frame luns old new before waiting units numbers ok err idle 
 
 -- a session that begins has no requests
 begun_none : (params : Params) → pending_in (begun params) ≡ 0
-unfolding held due queue left taken taken_numbers
+unfolding held due queue functions left taken taken_numbers
 begun_none params = refl
 
-pub begun_pending : (params : Params) → pending (remembered (begun params)).tasks ≡ 0
-begun_pending params = pending_is (begun params) ∙ begun_none params
+pub begun_pending : (params : Params) → open_requests (remembered (begun params)) ≡ 0
+begun_pending params = pending_is (begun params) (begun_lawful params) ∙ begun_none params

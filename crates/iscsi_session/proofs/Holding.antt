@@ -1,14 +1,23 @@
--- How many requests are held, due and in the queue, as requests come and go.
-use Rattle.std.proofs.Common.{◌≡◌, ℕ, zero, suc, ◌+◌, ◌≤◌, List, [], ◌∷◌, ◌++◌, length, set, take, drop, Bool, true, false, Option, Some, None, refl, ap, ◌∙◌, arith, append-nil}
-use Rattle.std.specs.Prelude.{filter, filter_map}
+-- How many requests are held, due and in the queue, and how many functions wait, as requests come and go.
+use Rattle.std.proofs.Common.{◌≡◌, ℕ, zero, suc, ◌+◌, ◌≤◌, List, [], ◌∷◌, ◌++◌, length, map, set, take, drop, get_or, Bool, true, false, ◌||◌, ◌==◌, Option, Some, None, refl, sym, ap, ◌∙◌, arith, append-nil, cond}
+use Rattle.std.specs.Prelude.{All, filter, filter_map}
+use Rattle.std.proofs.lemmas.Bool.{false_from_ne_true}
 use Rattle.std.proofs.lemmas.List.{length-map, length-append}
-use Rattle.std.proofs.lemmas.List.Elements.{filter_map-append, filter-append}
+use Rattle.std.proofs.lemmas.List.Elements.{All-head, All-tail, filter_map-append, filter-append}
 use Rattle.iscsi_pdu.specs.Frames.{Frame}
 use Rattle.iscsi_order.specs.Window.{taken as taken_numbers}
-use Rattle.iscsi_session.specs.Requests.{Past, is_command, left, frame_of, held, due, queue, moved, finished, removing}
-use Rattle.iscsi_session.specs.State.{TaskLists, IsLawful, tasks_of, holding, takes_next, takes, takes_all}
-use Rattle.iscsi_session.specs.Weight.{pending}
-use Rattle.iscsi_session.proofs.Left.{left_append, left_more, left_swap}
+use Rattle.iscsi_session.specs.Requests.{Request, Past, Drain, is_command, is_function, is_in, left, frame_of, held, due, queue, pending as awaiting, functions, moved, finished, removing}
+use Rattle.iscsi_session.specs.Transfers.{drains_of}
+use Rattle.iscsi_session.specs.Functions.{told}
+use Rattle.iscsi_session.specs.State.{TaskLists, AreDistinct, IsLawful, remembered, drained_of, tasks_of, transfers_of, functions_of, holding, takes_next, takes, takes_all}
+use Rattle.iscsi_session.specs.Weight.{pending, waits_for, waiting_functions, open_requests}
+use Rattle.iscsi_session.proofs.Left.{filter_cong, left_append, left_more, left_swap, in_at, in_left}
+use Rattle.iscsi_session.proofs.Kept.{joined}
+use Rattle.iscsi_session.proofs.Pending.{functions_without, functions_joined, functions_distinct, command_not_pending}
+use Rattle.iscsi_session.proofs.Accepted.{finished_below, removed_below}
+use Rattle.iscsi_session.proofs.Moved.{not_pending, is_done}
+use Rattle.iscsi_session.proofs.Removing.{filter_map_names}
+use Rattle.iscsi_session.proofs.Telling.{none_of, once_in, open_tag, pending_came, pending_open, pending_named, drains_pending, functions_told}
 use Rattle.iscsi_session.proofs.Weights.{held_length}
 use Rattle.iscsi_session.proofs.Lawful.{due_in_order, done_in_order}
 
@@ -46,12 +55,12 @@ filter_fewer q (x ∷ l) = grind (arith, filter_fewer q l)
 
 -- ---- what the past has of it
 
-abbrev pub pending_in : Past → ℕ
-pending_in past = length (held past) + length (due past) + length (queue past)
+abbrev pub listed_in : Past → ℕ
+listed_in past = length (held past) + length (due past) + length (queue past)
 
-pub pending_is : (past : Past) → pending (tasks_of past) ≡ pending_in past
+pub listed_is : (past : Past) → pending (tasks_of past) ≡ listed_in past
 unfolding tasks_of
-pending_is past = grind (arith, held_length, length-map)
+listed_is past = grind (arith, held_length, length-map)
 
 -- the same requests came, so the same are held
 held_same : (past : Past) (acted finished removed : List ℕ) → held (record past { acted = acted; finished = finished; removed = removed }) ≡ held past
@@ -71,25 +80,148 @@ queue_other : (past : Past) (k : ℕ) → is_command (frame_of past.came k) ≡ 
 unfolding queue
 queue_other past k e = grind (arith, filter-append, append-nil, left_more, left_swap, left_fewer)
 
--- one that acts is due no longer: a SCSI Command may join the queue
-pub pending_command : (past : Past) (k : ℕ) (rest : List ℕ) → is_command (frame_of past.came k) ≡ true → IsLawful past → due past ≡ k ∷ rest
-    → pending_in (moved k past) ≤ pending_in past
-pending_command past k rest e lawful is = grind (arith, held_same, due_in_order, queue_acted)
-
--- and every other request is finished
-pub pending_other : (past : Past) (k : ℕ) (rest : List ℕ) → is_command (frame_of past.came k) ≡ false → IsLawful past → due past ≡ k ∷ rest
-    → pending_in (moved k past) + 1 ≤ pending_in past
-pending_other past k rest e lawful is = grind (arith, held_same, due_in_order, queue_other)
+pub listed_other : (past : Past) (k : ℕ) (rest : List ℕ) → is_command (frame_of past.came k) ≡ false → IsLawful past → due past ≡ k ∷ rest
+    → listed_in (moved k past) + 1 ≤ listed_in past
+listed_other past k rest e lawful is = grind (arith, held_same, due_in_order, queue_other)
 
 due_same : (past : Past) (k : ℕ) → due (finished k past) ≡ due past
 unfolding due
 due_same past k = refl
 
+pub listed_removing : (past : Past) (names : List ℕ) → listed_in (removing names past) ≤ listed_in past
+unfolding queue due
+listed_removing past names = grind (arith, held_same, left_more, left_fewer)
+
+-- ---- the functions that wait for data
+
+abbrev pub waits_in : Past → ℕ → Bool
+waits_in past k = is_in k (awaiting past)
+
+abbrev pub waiting_of : Past → ℕ
+waiting_of past = length (filter (waits_in past) (functions past))
+
+waits_by : (past : Past) → IsLawful past → (l : List Drain) (k : ℕ) → is_in k (functions past) ≡ true
+    → All (λ d. is_in d.function (awaiting past) ≡ true) l
+    → waits_for (map (drained_of past) l) (frame_of past.came k).header ≡ is_in k (map (λ d. d.function) l)
+waits_by past lawful [] k there all = refl
+waits_by past lawful (d ∷ l) k there all =
+    let open_one = pending_open past lawful d.function (All-head (λ (x : Drain). is_in x.function (awaiting past) ≡ true) d l all) in
+    rw (
+      open_tag past lawful d.function k open_one there,
+      waits_by past lawful l k there (All-tail (λ (x : Drain). is_in x.function (awaiting past) ≡ true) d l all),
+    ) refl
+
+waiting_is : (past : Past) → IsLawful past → waiting_functions (remembered past) ≡ waiting_of past
+unfolding transfers_of functions_of
+waiting_is past lawful =
+    let header : ℕ → List ℕ = λ k. (frame_of past.came k).header in
+    let p : List ℕ → Bool = waits_for (map (drained_of past) (drains_of past)) in
+    ap (λ (l : List (List ℕ)). length l) (filter_map_names p header (functions past)) ∙ length-map (filter (λ k. p (header k)) (functions past)) header
+    ∙ ap (λ (l : List ℕ). length l) (filter_cong (λ k. p (header k)) (waits_in past) (functions past) (λ i d lt.
+    waits_by past lawful (drains_of past) (get_or (functions past) i d) (in_at (functions past) i d lt) (drains_pending past lawful)
+    ∙ ap (is_in (get_or (functions past) i d)) (sym (pending_named past))))
+
+pub filter_implied : (p q : ℕ → Bool) (l : List ℕ) → ((k : ℕ) → p k ≡ true → q k ≡ true) → length (filter p l) ≤ length (filter q l)
+filter_implied p q [] implied = omega arith
+filter_implied p q (k ∷ l) implied = grind (arith, filter_implied p q l implied)
+
+pub fewer_still : (p q : ℕ → Bool) (names : List ℕ) → length (filter q (filter p names)) ≤ length (filter q names)
+fewer_still p q [] = omega arith
+fewer_still p q (k ∷ names) = grind (arith, fewer_still p q names)
+
+pub left_few : (q : ℕ → Bool) (gone names : List ℕ) → length (filter q (left gone names)) ≤ length (filter q names)
+unfolding left
+left_few q gone names = fewer_still _ q names
+
+-- some of the functions are over, and no other one waits
+waiting_less : (past after : Past) (gone : List ℕ) → functions after ≡ left gone (functions past)
+    → ((k : ℕ) → waits_in after k ≡ true → waits_in past k ≡ true) → waiting_of after ≤ waiting_of past
+waiting_less past after gone is fewer = grind (arith, left_few, filter_implied (waits_in after) (waits_in past) (left gone (functions past)) fewer)
+
+-- one more waits
+filter_either : (p q : ℕ → Bool) (l : List ℕ) → length (filter (λ k. p k || q k) l) ≤ length (filter p l) + length (filter q l)
+filter_either p q [] = omega arith
+filter_either p q (k ∷ l) = grind (arith, filter_either p q l)
+
+at_most_one : (k : ℕ) (names : List ℕ) → AreDistinct names → length (filter (λ j. j == k) names) ≤ 1
+at_most_one k names distinct = by_bool (is_in k names) refl
+  where
+    by_bool : (b : Bool) → is_in k names ≡ b → length (filter (λ j. j == k) names) ≤ 1
+    by_bool true e = omega (arith, ap (λ (l : List ℕ). length l) (once_in k names distinct e))
+    by_bool false e = omega (arith, ap (λ (l : List ℕ). length l) (none_of k names e))
+
+pub waiting_more : (past after : Past) (gone : List ℕ) (k : ℕ) → functions after ≡ left gone (functions past)
+    → ((j : ℕ) → waits_in after j ≡ true → (waits_in past j || j == k) ≡ true) → waiting_of after ≤ waiting_of past + 1
+waiting_more past after gone k is more =
+    let q : ℕ → Bool = λ j. waits_in past j || j == k in
+    omega (
+      arith,
+      ap (λ (l : List ℕ). length (filter (waits_in after) l)) is,
+      left_few (waits_in after) gone (functions past),
+      filter_implied (waits_in after) q (functions past) more,
+      filter_either (waits_in past) (λ j. j == k) (functions past),
+      at_most_one k (functions past) (functions_distinct past),
+    )
+
+waiting_acted : (past : Past) (k : ℕ) → waiting_of (record past { acted = past.acted ++ k ∷ [] }) ≡ waiting_of past
+unfolding functions
+waiting_acted past k = refl
+
+waiting_finished : (past : Past) (acted : List ℕ) (k : ℕ) → is_in k (awaiting past) ≡ false
+    → waiting_of (record past { acted = acted; finished = past.finished ++ k ∷ [] }) ≤ waiting_of past
+unfolding functions
+waiting_finished past acted k free = waiting_less past (record past { acted = acted; finished = past.finished ++ k ∷ [] }) (k ∷ []) (functions_without past k free) (λ j h. h)
+
+pub functions_removing : (past : Past) (gone : List ℕ) → functions (removing gone past) ≡ left gone (functions past)
+unfolding functions
+functions_removing past gone = left_more past.removed gone _
+
+waiting_removing : (past : Past) (gone : List ℕ) → waiting_of (removing gone past) ≤ waiting_of past
+waiting_removing past gone = waiting_less past (removing gone past) gone (functions_removing past gone) (λ j h. h)
+
+-- one that has just come does not wait
+pub waiting_joined : (past : Past) → IsLawful past → (x : Request) → waiting_of (joined x past) ≡ waiting_of past
+waiting_joined past lawful x =
+    ap (λ (l : List ℕ). length (filter (waits_in past) l)) (functions_joined _ past x refl (finished_below past lawful) (removed_below past lawful))
+    ∙ ap (λ (l : List ℕ). length l) (filter-append (waits_in past) (functions past) (cond (is_function x.frame) (length past.came ∷ []) [])
+    ∙ ap (λ (l : List ℕ). filter (waits_in past) (functions past) ++ l) (none (is_function x.frame)) ∙ append-nil (filter (waits_in past) (functions past)))
+  where
+    new : is_in (length past.came) (awaiting past) ≡ false
+    new = false_from_ne_true _ (λ h. let lt = pending_came past lawful (length past.came) h in absurd (omega arith))
+
+    none : (f : Bool) → filter (waits_in past) (cond f (length past.came ∷ []) []) ≡ []
+    none true = rw new refl
+    none false = refl
+
+pub waiting_told : (past : Past) (k : ℕ) → IsLawful past → is_in k (awaiting past) ≡ true → waiting_of (told k past) ≤ waiting_of past
+waiting_told past k lawful waits = waiting_less past (told k past) (k ∷ []) (functions_told past lawful k waits) fewer
+  where
+    fewer : (j : ℕ) → waits_in (told k past) j ≡ true → waits_in past j ≡ true
+    fewer j h = in_left j (k ∷ []) (awaiting past) (ap (is_in j) (sym (left_more past.answered (k ∷ []) (map (λ d. d.function) past.drains))) ∙ h)
+
+-- ---- all of them
+
+abbrev pub pending_in : Past → ℕ
+pending_in past = listed_in past + waiting_of past
+
+pub pending_is : (past : Past) → IsLawful past → open_requests (remembered past) ≡ pending_in past
+pending_is past lawful = omega (arith, listed_is past, waiting_is past lawful)
+
+-- one that acts is due no longer: a SCSI Command may join the queue
+pub pending_command : (past : Past) (k : ℕ) (rest : List ℕ) → is_command (frame_of past.came k) ≡ true → IsLawful past → due past ≡ k ∷ rest
+    → pending_in (moved k past) ≤ pending_in past
+pending_command past k rest e lawful is = grind (arith, held_same, due_in_order, queue_acted, waiting_acted)
+
+-- and every other request is finished
+pub pending_other : (past : Past) (k : ℕ) (rest : List ℕ) → is_command (frame_of past.came k) ≡ false → IsLawful past → due past ≡ k ∷ rest
+    → pending_in (moved k past) + 1 ≤ pending_in past
+pending_other past k rest e lawful is = grind (arith, listed_other, waiting_finished, not_pending past lawful k rest is)
+
 -- one of the queue is finished
-pub pending_finished : (past : Past) (k : ℕ) (rest : List ℕ) → IsLawful past → queue past ≡ k ∷ rest → pending_in (finished k past) + 1 ≡ pending_in past
-pending_finished past k rest lawful is = grind (arith, held_same, due_same, done_in_order)
+pub pending_finished : (past : Past) (k : ℕ) (rest : List ℕ) → IsLawful past → queue past ≡ k ∷ rest → pending_in (finished k past) + 1 ≤ pending_in past
+pending_finished past k rest lawful is =
+    grind (arith, held_same, due_same, done_in_order, waiting_finished past past.acted k, command_not_pending, is_done)
 
 -- some are removed
 pub pending_removing : (past : Past) (names : List ℕ) → pending_in (removing names past) ≤ pending_in past
-unfolding queue due
-pending_removing past names = grind (arith, held_same, left_more, left_fewer)
+pending_removing past names = omega (arith, listed_removing past names, waiting_removing past names)

@@ -20,20 +20,12 @@ use Rattle.iscsi_session.proofs.Parts.{fresh_is, accepted_now, accepted_with}
 use Rattle.iscsi_session.proofs.Verdicts.{IsFree}
 use Rattle.iscsi_session.proofs.Feeding.{free_by_past}
 use Rattle.iscsi_session.proofs.Plugging.{new_ahead}
-use Rattle.iscsi_session.proofs.Holding.{pending_in, pending_is, pending_held}
+use Rattle.iscsi_session.proofs.Holding.{left_few, listed_is, waiting_joined, pending_in, pending_held}
 
 -- ---- the requests for immediate delivery that are not finished
 
 abbrev pub immediate_of : Past → ℕ
 immediate_of past = immediate_in past (unfinished past) + immediate_in past (functions past)
-
-fewer_still : (p q : ℕ → Bool) (names : List ℕ) → length (filter q (filter p names)) ≤ length (filter q names)
-fewer_still p q [] = omega arith
-fewer_still p q (k ∷ names) = grind (arith, fewer_still p q names)
-
-pub left_few : (q : ℕ → Bool) (gone names : List ℕ) → length (filter q (left gone names)) ≤ length (filter q names)
-unfolding left
-left_few q gone names = fewer_still _ q names
 
 -- some are over, and the same came
 pub immediate_less : (past after : Past) (gone : List ℕ) → after.came ≡ past.came → unfinished after ≡ left gone (unfinished past)
@@ -80,7 +72,7 @@ came_now past frame h free lawful few =
     let joins = immediate_joined _ _ true past (now frame) lawful refl refl h in
     subst (Comes past) (accepted_now past frame h) (record {
       lawful = lawful_now past lawful frame h tag;
-      pending = omega (arith, more, pending_is past, pending_is (joined (now frame) past));
+      pending = omega (arith, more, listed_is past, listed_is (joined (now frame) past), waiting_joined past lawful (now frame));
       immediate = by_kind (is_command frame) (is_function frame) refl refl joins;
     })
   where
@@ -101,7 +93,14 @@ came_with past frame h free lawful few =
     let tasks = held_now past lawful k (distance (order.exp_cmd_sn (numbers past)) n) n frame at (next_there past n) in
     subst (Comes past) (accepted_with past frame h) (record {
       lawful = lawful_with past lawful k _ frame h at tag;
-      pending = omega (arith, ap pending tasks, pending_held n frame (tasks_of past), pending_is past, pending_is after);
+      pending = omega (
+        arith,
+        ap pending tasks,
+        pending_held n frame (tasks_of past),
+        listed_is past,
+        listed_is after,
+        waiting_joined past lawful (with k frame),
+      );
       immediate = omega (arith, joins, none_more (is_command frame), none_more (is_function frame), few);
     })
 

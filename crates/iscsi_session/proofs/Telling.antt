@@ -32,14 +32,14 @@ in_left_is a gone names = grind (arith, in_left_back, false_from_ne_true, not_go
 in_one : (a k : ℕ) → is_in a (k ∷ []) ≡ (a == k)
 in_one a k = grind arith
 
-none_of : (k : ℕ) (names : List ℕ) → is_in k names ≡ false → filter (λ a. a == k) names ≡ []
+pub none_of : (k : ℕ) (names : List ℕ) → is_in k names ≡ false → filter (λ a. a == k) names ≡ []
 none_of k [] e = refl
 none_of k (a ∷ names) e = elim (cases_eq a k) [
   | inl same ↦ absurd (let h = rw (eq-eqb a k same) at e in cc)
   | inr differs ↦ let rest = rw (ne_eqb a k differs) at e in rw (ne_eqb a k differs) (none_of k names rest)
 ]
 
-once_in : (k : ℕ) (names : List ℕ) → AreDistinct names → is_in k names ≡ true → filter (λ a. a == k) names ≡ k ∷ []
+pub once_in : (k : ℕ) (names : List ℕ) → AreDistinct names → is_in k names ≡ true → filter (λ a. a == k) names ≡ k ∷ []
 once_in k [] distinct e = absurd cc
 once_in k (a ∷ names) distinct e = elim (cases_eq a k) [
   | inl same ↦
@@ -85,20 +85,23 @@ module _ (past : Past) (lawful : IsLawful past) where
   pub drains_pending : All (λ d. is_in d.function (pending past) ≡ true) (drains_of past)
   drains_pending = grind (arith, pending_named, all_named)
 
-  -- their tags tell them apart
-  pub same_tag : (a k : ℕ) → is_in a (pending past) ≡ true → is_in k (pending past) ≡ true → (tag_of past.came a == tag_of past.came k) ≡ (a == k)
-  same_tag a k first second = elim (cases_eq a k) [
+  -- the tags of those that are not finished tell them apart
+  pub open_tag : (a k : ℕ) → is_in a (functions past) ≡ true → is_in k (functions past) ≡ true → (tag_of past.came a == tag_of past.came k) ≡ (a == k)
+  open_tag a k first second = elim (cases_eq a k) [
     | inl same ↦ rw (eq-eqb a k same, eq-eqb (tag_of past.came a) (tag_of past.came k) (ap (tag_of past.came) same)) refl
     | inr differs ↦
         ne_eqb (tag_of past.came a) (tag_of past.came k) (λ e.
-        let f = found_self (tag_of past.came) a (functions past) lawful.function_tags (pending_open a first) in
-        let g = found_self (tag_of past.came) k (functions past) lawful.function_tags (pending_open k second) in
+        let f = found_self (tag_of past.came) a (functions past) lawful.function_tags first in
+        let g = found_self (tag_of past.came) k (functions past) lawful.function_tags second in
         let both : Some a ≡ Some k = sym f ∙ ap (λ (t : ℕ). find (λ j. tag_of past.came j == t) (functions past)) e ∙ g in
         differs (some_same both)) ∙ sym (ne_eqb a k differs)
   ]
     where
       some_same : {a k : ℕ} → Some a ≡ Some k → a ≡ k
       some_same e = cc
+
+  same_tag : (a k : ℕ) → is_in a (pending past) ≡ true → is_in k (pending past) ≡ true → (tag_of past.came a == tag_of past.came k) ≡ (a == k)
+  same_tag a k first second = open_tag a k (pending_open a first) (pending_open k second)
 
   module _ (k : ℕ) (waits : is_in k (pending past) ≡ true) where
     same_pending : (a : ℕ) → is_in a (pending (told k past)) ≡ (is_in a (pending past) && not (a == k))

@@ -75,7 +75,7 @@ module _ (luns : List ℕ) (past : Past) (lawful : IsLawful past) (k : ℕ) (res
   due_less : due less ≡ k ∷ rest
   due_less = due_same (reach_of luns k past) past lawful ∙ is
 
-  ends_are : draining k names (removing gone (record past { acted = past.acted ++ k ∷ []; finished = past.finished ++ k ∷ [] })) ≡ ended luns k past
+  pub ends_are : draining k names (removing gone (record past { acted = past.acted ++ k ∷ []; finished = past.finished ++ k ∷ [] })) ≡ ended luns k past
   ends_are = grind arith
 
   lawful_less : IsLawful (draining k names (removing gone (record past { acted = past.acted ++ k ∷ []; finished = past.finished ++ k ∷ [] })))

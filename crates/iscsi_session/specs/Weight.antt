@@ -1,10 +1,13 @@
 -- What the requests of a session count for, and the pasts that keep it small (own).
-use Rattle.std.specs.Prelude.{◌≡◌, All, ℕ, ◌+◌, ◌*◌, ◌≤◌, List, [], length, filter_map, Bool, true}
-use Rattle.iscsi_pdu.specs.Header.{header_length}
+use Rattle.std.specs.Prelude.{◌≡◌, ◌==◌, All, ℕ, ◌+◌, ◌*◌, ◌≤◌, List, [], length, filter, filter_map, Bool, true}
+use Rattle.std.specs.List.{list_any}
+use Rattle.iscsi_pdu.specs.Header.{header_length, initiator_task_tag}
 use Rattle.iscsi_session.specs.Requests.{Past, due, unfinished, functions}
 use Rattle.iscsi_session.specs.Functions.{immediate_in}
 use Rattle.iscsi_session.specs.Judging.{most_immediate}
+use Rattle.iscsi_session.specs.Drained.{Drained}
 use Rattle.iscsi_session.specs.State.{TaskLists, SessionState, IsLawful, remembered}
+use Rattle.iscsi_session.specs.Draining.{function_tag}
 
 -- so many bytes for each request that is held or unfinished: its frame, and the buffer of its data
 abbrev pub request_weight : ℕ
@@ -14,9 +17,21 @@ request_weight = 1310720
 abbrev pub pending : TaskLists → ℕ
 pending tasks = length (filter_map (λ o. o) tasks.held) + length tasks.due + length tasks.queue
 
+-- the Task Management Function Request with this header waits for data
+abbrev pub waits_for : List Drained → List ℕ → Bool
+waits_for drains header = list_any (λ drained. function_tag drained == initiator_task_tag header) drains
+
+-- those that acted and wait for data, each once, however many commands it drains
+abbrev pub waiting_functions : SessionState → ℕ
+waiting_functions state = length (filter (waits_for state.transfers.drains) state.functions)
+
+-- the requests that are held or unfinished
+abbrev pub open_requests : SessionState → ℕ
+open_requests state = pending state.tasks + waiting_functions state
+
 -- so many bytes that wait to be sent, and the requests
-abbrev pub weight_with : ℕ → TaskLists → ℕ
-weight_with waiting tasks = waiting + pending tasks * request_weight
+abbrev pub weight_with : ℕ → SessionState → ℕ
+weight_with waiting state = waiting + open_requests state * request_weight
 
 -- It can have happened, of frames whose headers are whole, and no more requests for immediate delivery are
 -- unfinished than may be.
@@ -39,9 +54,9 @@ most_added = 2 * request_weight
 -- the session and what waits have become no heavier
 pub record Eases (old new : SessionState) (before waiting : List ℕ) : Type 0 where
   pub rests : IsAtRest new
-  pub lighter : weight_with (length waiting) new.tasks ≤ weight_with (length before) old.tasks
+  pub lighter : weight_with (length waiting) new ≤ weight_with (length before) old
 
 -- so much more at most, and a session that goes on is at rest
 pub record Loads (goes_on : Bool) (old new : SessionState) (before waiting : List ℕ) : Type 0 where
   pub rests : goes_on ≡ true → IsAtRest new
-  pub heavier : weight_with (length waiting) new.tasks ≤ weight_with (length before) old.tasks + most_added
+  pub heavier : weight_with (length waiting) new ≤ weight_with (length before) old + most_added

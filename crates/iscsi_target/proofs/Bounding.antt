@@ -34,7 +34,7 @@ adds_shut n link r = record { fits = omega (arith, waiting_least (length link.wa
 -- ---- a session's call
 
 session_weight : (link : LinkState) (session : SessionState) → link.phase ≡ phases.FullFeature session
-    → weight link ≡ weight_with (length link.waiting) session.tasks
+    → weight link ≡ weight_with (length link.waiting) session
 session_weight link session is = ap (weight_in (length link.waiting)) is
 
 pub session_eases : (old new : LinkState) (given session : SessionState) → old.phase ≡ phases.FullFeature given → new.phase ≡ phases.FullFeature session

@@ -14,7 +14,7 @@ most_weight = 67108864
 
 -- the bytes that wait, and 1,310,720 for each request of the session that is held or unfinished
 abbrev pub weight_in : ℕ → Phase → ℕ
-weight_in waiting (FullFeature session) = weight_with waiting session.tasks
+weight_in waiting (FullFeature session) = weight_with waiting session
 weight_in waiting Free = waiting
 weight_in waiting (Login login) = waiting
 weight_in waiting Closing = waiting
