@@ -1,5 +1,6 @@
 -- One more request is accepted: what the session remembers, and that its past stays lawful.
-use Rattle.std.proofs.Common.{◌≡◌, ◌≢◌, ℕ, zero, suc, ◌+◌, ◌-◌, ◌^◌, ◌%◌, ◌<◌, ◌≤◌, List, [], ◌∷◌, ◌++◌, length, map, get_or, set, Bool, true, false, not, cond, Option, Some, None, refl, sym, ap, subst, ◌∙◌, arith, length-append, append_assoc, add-one}
+use Rattle.std.proofs.Common.{◌≡◌, ◌≢◌, ℕ, zero, suc, ◌+◌, ◌-◌, ◌^◌, ◌%◌, ◌<◌, ◌≤◌, List, [], ◌∷◌, ◌++◌, length, map, get_or, set, true, false, not, cond, Option, Some, None, refl, sym, ap, subst, ◌∙◌, arith, length-append, append_assoc, add-one}
+use mathlib.Core.List.{map-map}
 use Rattle.std.specs.Prelude.{filter_map, is_some, All}
 use Rattle.std.specs.List.{range_with_len, prefix_len}
 use Rattle.std.proofs.lemmas.Bool.{ne_eqb, eq-eqb, false_from_ne_true}
@@ -18,14 +19,11 @@ use Rattle.iscsi_order.proofs.Held.{prefix_range}
 use Rattle.iscsi_order.proofs.Standing.{front_more, front_within, lawful_with as window_with}
 use Rattle.iscsi_session.specs.Requests.{Request, pending, unfinished, is_function, functions, Past, request_at, frame_of, is_in, left, is_command, commands, others, counted, over, numbered, place_of, taken, taken_at, numbers, due, queue, frames_of, begun}
 use Rattle.iscsi_session.specs.State.{TaskLists, functions_of, standing, frame_numbered, tasks_with, tasks_of, AreDistinct, IsDelivered, IsLawful, holding, takes_next, takes, takes_all}
-use Rattle.iscsi_session.proofs.Left.{filter_cong, map_cong, left_append, left_all, in_at, in_front, in_left, in_filter, not_by, below_of, apart_behind, distinct_push}
-use Rattle.iscsi_session.proofs.Kept.{joined, Below, tags_with}
-use Rattle.iscsi_session.proofs.Pending.{functions_below, functions_joined as functions_with, settled_below, drained_joined}
-use Rattle.iscsi_session.proofs.Unfinished.{commands_same, tags_joined}
+use Rattle.iscsi_session.proofs.Left.{filter_cong, map_cong, left_append, left_all, in_at, in_front, in_left, in_filter, not_by, below_of, apart_behind, distinct_push, prefix_marks}
+use Rattle.iscsi_session.proofs.Kept.{joined, Below, tags_with, functions_below, functions_joined as functions_with, settled_below, drained_joined, tags_joined, kind_same}
 use Rattle.iscsi_session.specs.Transfers.{tag_of}
-use Rattle.iscsi_session.proofs.Taken.{request_before, request_new, taken_more, taken_below, distinct_taken}
+use Rattle.iscsi_session.proofs.Taken.{request_before, request_new, taken_more, taken_below, distinct_taken, first_of, taken_now, frame_missing, frame_marked, frame_other, frame_now, counted_places, frames_come}
 use Rattle.iscsi_session.proofs.Standing.{numbered_standing, place_standing, length_standing, standing_joined}
-use Rattle.iscsi_session.proofs.Fronts.{first_of, taken_now, frame_missing, frame_marked, frame_other, frame_now, counted_places, frames_come}
 
 -- ---- the past at its beginning
 
@@ -79,19 +77,10 @@ set_range f h v a zero i k lt at is same = absurd (omega arith)
 set_range f h v a (suc n) zero k lt at is same = grind (arith, same_range)
 set_range f h v a (suc n) (suc i) k lt at is same = grind (arith, set_range f h v (a + 1) n i k (omega arith) (omega arith) is same)
 
-prefix_some : (l : List (Option Frame)) → prefix_len (λ o. is_some o) l ≡ prefix_len (λ b. b) (map is_some l)
-prefix_some [] = refl
-prefix_some (None ∷ l) = refl
-prefix_some (Some frame ∷ l) = rw (prefix_some l) refl
-
-map_map : (f : ℕ → Option Frame) (l : List ℕ) → map is_some (map f l) ≡ map (λ k. is_some (f k)) l
-map_map f [] = refl
-map_map f (k ∷ l) = ap (λ (rest : List Bool). is_some (f k) ∷ rest) (map_map f l)
-
 -- which of them have come
 pub marks_are : (came : List Request) (a n : ℕ) → map is_some (map (frame_numbered came) (range_with_len a n)) ≡ map (order.has_come (numbered came))
     (range_with_len a n)
-marks_are came a n = grind (arith, map_map, map_cong, frame_marked)
+marks_are came a n = grind (arith, map-map, map_cong, frame_marked)
 
 -- ---- numbers are taken
 
@@ -165,7 +154,7 @@ module _ (past : Past) (lawful : IsLawful past) where
 
   pub queue_same : (x : Request) → queue (joined x past) ≡ queue past
   unfolding queue
-  queue_same x = ap (λ (l : List ℕ). left past.removed (left past.finished l)) (commands_same past x past.acted lawful.below)
+  queue_same x = ap (λ (l : List ℕ). left past.removed (left past.finished l)) (kind_same is_command past x past.acted lawful.below)
 
   pub in_queue : (k : ℕ) → is_in k (queue past) ≡ true → is_in k past.acted ≡ true
   in_queue k e = grind (arith, in_left, queue_is, in_filter)
@@ -205,7 +194,7 @@ module _ (past : Past) (lawful : IsLawful past) where
             ∙ ap (λ (l : List ℕ). past.acted ++ l) (sym (due_more x));
         below = λ i d lt. (let le = lawful.below i d lt in omega (arith, length-append past.came (x ∷ [])));
         acted = lawful.acted;
-        queued = rw (commands_same past x past.finished finished_below, queue_same x, commands_same past x past.acted lawful.below) lawful.queued;
+        queued = rw (kind_same is_command past x past.finished finished_below, queue_same x, kind_same is_command past x past.acted lawful.below) lawful.queued;
         at_once = rw (others_same past x past.finished finished_below, others_same past x past.acted lawful.below) lawful.at_once;
         handed = ap (counted came) (taken_more past.came x) ∙ counted_append came (taken past.came) new
             ∙ (let same = counted_same past x (taken past.came) (taken_below past.came)
@@ -251,9 +240,6 @@ module _ (past : Past) (lawful : IsLawful past) where
   taken_just : (frame : Frame) → taken_at (past.came ++ now frame ∷ []) (length past.came) ≡ length past.came ∷ []
   taken_just frame = grind (arith, first_now, first_of, taken_now)
 
-  counted_now : (frame : Frame) → counted (past.came ++ now frame ∷ []) (length past.came ∷ []) ≡ 0
-  counted_now frame = rw (request_new past.came (now frame)) refl
-
   numbers_now : (frame : Frame) → numbers (joined (now frame) past) ≡ numbers past
   unfolding taken_numbers
   numbers_now frame = rw (numbered_now frame, counted_same past (now frame) (over past) over_below) refl
@@ -262,7 +248,8 @@ module _ (past : Past) (lawful : IsLawful past) where
   lawful_now frame h free =
       lawful_joined (now frame) (subst windows.IsLawful (sym (numbers_now frame)) lawful.window)
       (subst AreDistinct (sym (numbered_now frame)) lawful.distinct) (rw h refl) free
-      (let none = ap (counted (past.came ++ now frame ∷ [])) (taken_just frame) ∙ counted_now frame in let e = first_now frame in omega arith)
+      (let none : counted (past.came ++ now frame ∷ []) (taken_at (past.came ++ now frame ∷ []) (length past.came)) ≡ 0 =
+      ap (counted (past.came ++ now frame ∷ [])) (taken_just frame) ∙ rw (request_new past.came (now frame)) refl in let e = first_now frame in omega arith)
 
   pub admitted : (frame : Frame) → record (tasks_of past) { due = (tasks_of past).due ++ frame ∷ [] } ≡ tasks_of (joined (now frame) past)
   unfolding tasks_of
@@ -361,7 +348,7 @@ module _ (past : Past) (lawful : IsLawful past) where
       ∙ ap (λ (t : TaskLists). record t { held = set (map (frame_numbered st) (range_with_len f window)) ahead (Some frame) }) (same_tasks x f line)
       ∙ ap (λ (l : List (Option Frame)). record (tasks_with (joined x past) f line) { held = l }) held_there in
       let count : prefix_len (λ o. is_some o) (map (frame_numbered (standing (joined x past))) (range_with_len f window)) ≡ g - f =
-      prefix_some (map (frame_numbered (standing (joined x past))) (range_with_len f window))
+      prefix_marks (map (frame_numbered (standing (joined x past))) (range_with_len f window))
       ∙ ap (prefix_len (λ b. b)) (marks_are (standing (joined x past)) f window
       ∙ ap (λ (l : List ℕ). map (order.has_come l) (range_with_len f window)) (numbered_standing (joined x past)))
       ∙ prefix_range (order.has_come (numbered came)) f window (g - f) (let short = front_within (numbers (joined x past)) after

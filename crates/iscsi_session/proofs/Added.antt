@@ -1,7 +1,6 @@
 -- What the steps of a session add to what it may hold: a request, and answers that are short.
-use Rattle.std.proofs.Common.{◌≡◌, ℕ, ◌+◌, ◌*◌, ◌<◌, ◌≤◌, List, [], ◌∷◌, ◌++◌, length, Bool, true, false, ◌||◌, ◌==◌, not, map, Option, Some, None, refl, sym, ap, subst, ◌∙◌, arith}
+use Rattle.std.proofs.Common.{◌≡◌, ℕ, ◌+◌, ◌*◌, ◌<◌, ◌≤◌, List, [], ◌∷◌, ◌++◌, length, Bool, true, false, ◌||◌, ◌==◌, map, Option, Some, None, refl, sym, ap, subst, ◌∙◌, arith}
 use Rattle.std.specs.Prelude.{All, flat_map}
-use Rattle.std.proofs.lemmas.Bool.{eq-eqb}
 use Rattle.std.proofs.lemmas.List.{length-append, map-append}
 use Rattle.std.proofs.lemmas.List.Elements.{All-push}
 use Rattle.std.proofs.lemmas.Grind.{flat_map-append}
@@ -15,8 +14,8 @@ use Rattle.iscsi_order.specs.Window.{taken as taken_numbers}
 use Rattle.scsi_unit.specs.Units.{numbers_of}
 use Rattle.iscsi_session.specs.declared.verdict.Verdict.{Verdict}
 use Rattle.iscsi_session.specs.declared.verdict.Verdict.TheVariants.{Ignored, Dropped, Rejected, Violating, Accepted, Feeding}
-use Rattle.iscsi_session.specs.Requests.{Request, Past, Drain, drain_for, frame_of, is_command, is_function, is_in, left, numbers, held, due, queue, unfinished, pending as awaiting, functions, moved, removing, draining, answering, stamp, taken, number_for}
-use Rattle.iscsi_session.specs.Functions.{plug, plugged, reached, plugs, awaited, lacks, drained_functions, told, told_answers, function_result}
+use Rattle.iscsi_session.specs.Requests.{Request, Past, Drain, drain_for, frame_of, is_command, is_function, is_in, left, numbers, held, due, queue, unfinished, pending as awaiting, functions, moved, removing, draining, answering, stamp, number_for, DataOut, SentR2t}
+use Rattle.iscsi_session.specs.Functions.{plug, plugged, reached, plugs, awaited, drained_functions, told, told_answers, function_result}
 use Rattle.iscsi_session.specs.Judging.{verdict, judged, reject}
 use Rattle.iscsi_session.specs.Transfers.{command_with, fed, asking, r2t_of, next_transfer_tag}
 use Rattle.iscsi_session.specs.Texts.{exchange_of}
@@ -24,25 +23,20 @@ use Rattle.iscsi_session.specs.Acts.{reach_of, act_answers, ended, behind, acted
 use Rattle.iscsi_session.specs.State.{IsLawful, tasks_of, holding, takes_all}
 use Rattle.iscsi_session.specs.Steps.{Work, judge, act, ask, tell}
 use Rattle.iscsi_session.specs.Weight.{request_weight, pending, IsWithinLimits}
-use Rattle.iscsi_session.proofs.Left.{left_append, left_more, is_in_append, in_at, in_left, below_of, in_filter}
-use Rattle.iscsi_session.proofs.Taken.{taken_below}
-use Rattle.iscsi_session.proofs.Kept.{command_no_function, function_no_command}
-use Rattle.iscsi_session.proofs.Unfinished.{unfinished_without}
-use Rattle.iscsi_session.proofs.Moved.{not_pending}
-use Rattle.iscsi_session.proofs.Pending.{functions_without}
+use Rattle.iscsi_session.proofs.Left.{left_append, left_more, is_in_append, in_left}
+use Rattle.iscsi_session.proofs.Kept.{command_no_function, function_no_command, unfinished_without, functions_without}
+use Rattle.iscsi_session.proofs.Moved.{not_pending, due_came}
 use Rattle.iscsi_session.proofs.Accepted.{with}
 use Rattle.iscsi_session.proofs.Verdicts.{accepted_free}
 use Rattle.iscsi_session.proofs.Feeding.{lawful_fed}
 use Rattle.iscsi_session.proofs.Runs.{lawful_answering}
-use Rattle.iscsi_session.proofs.Plugging.{plugged_tasks}
-use Rattle.iscsi_session.proofs.Ending.{ended_function, ended_now, plugs_unasked, plugs_new}
+use Rattle.iscsi_session.proofs.Ending.{plugged_tasks, ended_now, plugs_unasked, plugs_new}
 use Rattle.iscsi_session.proofs.Waits.{ends_are, functions_waits, unfinished_waits, came_waits}
 use Rattle.iscsi_session.proofs.Telling.{functions_told}
 use Rattle.iscsi_session.proofs.Answered.{moved_other, acted_same, command_answers_none, function_is, function_waits}
-use Rattle.iscsi_session.proofs.Lawful.{moved_by, ended_lawful, more_over, act_lawful, ask_lawful, tell_lawful}
-use Rattle.iscsi_session.proofs.Holding.{listed_in, listed_is, listed_other, listed_removing, waits_in, waiting_joined, waiting_more, waiting_told, functions_removing, left_few, pending_in, pending_held, pending_command, pending_other, pending_removing}
-use Rattle.iscsi_session.proofs.Limits.{immediate_of, immediate_less, immediate_joined, came_by}
-use Rattle.iscsi_session.proofs.Lengths.{one_spelled, reject_long, most_answered, ask_long}
+use Rattle.iscsi_session.proofs.Lawful.{moved_by, ended_lawful, more_over, act_lawful, ask_lawful, tell_lawful, first_waits}
+use Rattle.iscsi_session.proofs.Holding.{listed_in, listed_is, listed_other, listed_removing, waits_in, waiting_joined, waiting_more, waiting_told, functions_removing, left_few, pending_in, pending_held, pending_command, pending_other, pending_removing, immediate_of, immediate_less, immediate_joined, comes}
+use Rattle.iscsi_session.proofs.Room.{one_spelled, reject_long, most_answered, ask_long}
 
 -- what waits of its answers, and its requests
 abbrev pub heaviness : Past → ℕ
@@ -65,13 +59,16 @@ adds_then n m i j past middle after a b = grind arith
 pub spelled_more : (a b : List Answer) → length (flat_map spelling (a ++ b)) ≡ length (flat_map spelling a) + length (flat_map spelling b)
 spelled_more a b = ap (λ (l : List ℕ). length l) (flat_map-append spelling a b) ∙ length-append (flat_map spelling a) (flat_map spelling b)
 
-pub pending_answering : (more : List Answer) (past : Past) → pending_in (answering more past) ≡ pending_in past
-unfolding held due queue functions taken_numbers
-pending_answering more past = refl
+-- neither data, nor R2Ts, nor answers are counted among the requests
+same_load : (past : Past) (data_outs : List DataOut) (r2ts : List SentR2t) (more : List Answer)
+    → (pending_in (record past { data_outs = data_outs; r2ts = r2ts; answers = more }) ≡ pending_in past)
+    × (immediate_of (record past { data_outs = data_outs; r2ts = r2ts; answers = more }) ≡ immediate_of past)
+unfolding held due queue unfinished functions taken_numbers
+same_load past data_outs r2ts more = (refl, refl)
 
-pub immediate_answering : (more : List Answer) (past : Past) → immediate_of (answering more past) ≡ immediate_of past
-unfolding unfinished functions
-immediate_answering more past = refl
+pub same_answering : (more : List Answer) (past : Past) → (pending_in (answering more past) ≡ pending_in past)
+    × (immediate_of (answering more past) ≡ immediate_of past)
+same_answering more past = same_load past past.data_outs past.r2ts (past.answers ++ more)
 
 -- a past that is answered more
 answered_adds : (n : ℕ) (more : List Answer) (past : Past) → IsWithinLimits past → length (flat_map spelling more) ≤ n → Adds n 0 past (answering more past)
@@ -81,10 +78,10 @@ answered_adds n more past w short =
       within = record {
         lawful = lawful_answering more past w.lawful;
         headers = w.headers;
-        few = omega (arith, few, immediate_answering more past);
+        few = omega (arith, few, (same_answering more past).1);
       };
-      added = omega (arith, spelled_more past.answers more, pending_answering more past, short);
-      more = omega (arith, pending_answering more past);
+      added = omega (arith, spelled_more past.answers more, (same_answering more past).0, short);
+      more = omega (arith, (same_answering more past).0);
     }
 
 -- ---- a frame is judged
@@ -100,15 +97,15 @@ adds_less n m i j past after le few a = grind arith
 judged_adds : (v : Verdict) (past : Past) (frame : Frame) → verdict past frame ≡ v → length frame.header ≡ header_length → IsWithinLimits past
     → Adds (request_weight + 99) 1 past (judged v frame past)
 judged_adds Accepted past frame e whole w =
-    let comes = came_by _ past frame refl (accepted_free past frame e) w.lawful w.few in
-    let more = comes.pending in
+    let come = comes past frame (accepted_free past frame e) w.lawful w.few in
+    let more = come.pending in
     record {
       within = record {
-        lawful = comes.lawful;
+        lawful = come.lawful;
         headers = All-push (λ (request : Request). length request.frame.header ≡ header_length) past.came
             (record { number = number_for past frame; frame = frame })
             w.headers whole;
-        few = comes.immediate;
+        few = come.immediate;
       };
       added = omega (arith, more);
       more = more;
@@ -192,13 +189,7 @@ unfinished_removing : (past : Past) (gone : List ℕ) → unfinished (removing g
 unfolding unfinished
 unfinished_removing past gone = left_more past.removed gone _
 
--- one that waits for data is not finished
-waits_immediate : (luns : List ℕ) (past : Past) (k : ℕ) (rest : List ℕ) (first : ℕ) (others : List ℕ) → is_function (frame_of past.came k) ≡ true
-    → awaited past (reach_of luns k past) ≡ first ∷ others → IsWithinLimits past → due past ≡ k ∷ rest → immediate_of (ended luns k past) ≤ immediate_of past
-waits_immediate luns past k rest first others f e w is =
-    grind (arith, immediate_less, came_waits, unfinished_waits, unfinished_removing, functions_waits, functions_removing)
-
--- and it is one more that waits
+-- one that waits for data is not finished, and is one more that waits
 listed_draining : (past : Past) (k : ℕ) (names : List ℕ) → listed_in (draining k names past) ≡ listed_in past
 unfolding held due queue taken_numbers
 listed_draining past k names = refl
@@ -220,78 +211,82 @@ waits_more past k j names e =
     (sym (is_in_append j (awaiting past) (left past.answered more)) ∙ ap (is_in j) (sym is) ∙ e)
     (λ h. named_again k j names (in_left j past.answered more h))
 
-waits_pending : (luns : List ℕ) (past : Past) (k : ℕ) (rest : List ℕ) (first : ℕ) (others : List ℕ) → is_function (frame_of past.came k) ≡ true
-    → awaited past (reach_of luns k past) ≡ first ∷ others → IsWithinLimits past → due past ≡ k ∷ rest → pending_in (ended luns k past) ≤ pending_in past
-waits_pending luns past k rest first others f e w is =
-    let gone = reached (reach_of luns k past) past in
-    let no_command = function_no_command (frame_of past.came k) f in
-    let done : Past = record past { acted = past.acted ++ k ∷ []; finished = past.finished ++ k ∷ [] } in
-    let names = first ∷ others in
-    let after = draining k names (removing gone done) in
-    let is_after : after ≡ ended luns k past = ends_are luns past w.lawful k rest is f first others e in
-    let functions_are : functions after ≡ left gone (functions past) = ap functions is_after ∙ functions_waits luns past w.lawful k rest is f first others e
-    ∙ functions_removing past gone in
-    omega (
-      arith,
-      ap pending_in is_after,
-      listed_draining (removing gone done) k names,
-      listed_removing done gone,
-      ap listed_in (moved_other k past no_command),
-      listed_other past k rest no_command w.lawful is,
-      waiting_more past after gone k functions_are (λ j h. waits_more (removing gone done) k j names h),
-    )
+module _ (luns : List ℕ) (past : Past) (k : ℕ) (rest : List ℕ) (f : is_function (frame_of past.came k) ≡ true) (w : IsWithinLimits past)
+    (is : due past ≡ k ∷ rest) where
+  waits_pending : (first : ℕ) (others : List ℕ) → awaited past (reach_of luns k past) ≡ first ∷ others → pending_in (ended luns k past) ≤ pending_in past
+  waits_pending first others e =
+      let gone = reached (reach_of luns k past) past in
+      let no_command = function_no_command (frame_of past.came k) f in
+      let done : Past = record past { acted = past.acted ++ k ∷ []; finished = past.finished ++ k ∷ [] } in
+      let names = first ∷ others in
+      let after = draining k names (removing gone done) in
+      let is_after : after ≡ ended luns k past = ends_are luns past w.lawful k rest is f first others e in
+      let functions_are : functions after ≡ left gone (functions past) = ap functions is_after
+      ∙ functions_waits luns past w.lawful k rest is f first others e ∙ functions_removing past gone in
+      omega (
+        arith,
+        ap pending_in is_after,
+        listed_draining (removing gone done) k names,
+        listed_removing done gone,
+        ap listed_in (moved_other k past no_command),
+        listed_other past k rest no_command w.lawful is,
+        waiting_more past after gone k functions_are (λ j h. waits_more (removing gone done) k j names h),
+      )
 
--- one that does not wait is finished
-now_turns : (luns : List ℕ) (past : Past) (k : ℕ) (rest : List ℕ) → is_function (frame_of past.came k) ≡ true → awaited past (reach_of luns k past) ≡ []
-    → IsWithinLimits past → due past ≡ k ∷ rest → Turns 1 past (ended luns k past)
-now_turns luns past k rest f none w is =
-    subst (Turns 1 past) (ended_now luns past k f none)
-    (removing_turns 1 past (moved k past) (reached (reach_of luns k past) past)
-    (other_turns past k rest (function_no_command (frame_of past.came k) f) w is))
+  waits_turns : (first : ℕ) (others : List ℕ) → awaited past (reach_of luns k past) ≡ first ∷ others → Turns 0 past (ended luns k past)
+  waits_turns first others e =
+      let few = waits_pending first others e in
+      record {
+        headers = subst (λ (l : List Request). All (λ (request : Request). length request.frame.header ≡ header_length) l)
+            (sym (came_waits luns past w.lawful k rest is f first others e)) w.headers;
+        pending = omega (arith, few);
+        immediate = grind (arith, immediate_less, came_waits, unfinished_waits, unfinished_removing, functions_waits, functions_removing);
+      }
 
-waits_turns : (luns : List ℕ) (past : Past) (k : ℕ) (rest : List ℕ) (first : ℕ) (others : List ℕ) → is_function (frame_of past.came k) ≡ true
-    → awaited past (reach_of luns k past) ≡ first ∷ others → IsWithinLimits past → due past ≡ k ∷ rest → Turns 0 past (ended luns k past)
-waits_turns luns past k rest first others f e w is =
-    let few = waits_pending luns past k rest first others f e w is in
-    record {
-      headers = subst (λ (l : List Request). All (λ (request : Request). length request.frame.header ≡ header_length) l)
-          (sym (came_waits luns past w.lawful k rest is f first others e)) w.headers;
-      pending = omega (arith, few);
-      immediate = waits_immediate luns past k rest first others f e w is;
-    }
+  -- one that does not wait is finished
+  now_turns : awaited past (reach_of luns k past) ≡ [] → Turns 1 past (ended luns k past)
+  now_turns none =
+      subst (Turns 1 past) (ended_now luns past k f none)
+      (removing_turns 1 past (moved k past) (reached (reach_of luns k past) past)
+      (other_turns past k rest (function_no_command (frame_of past.came k) f) w is))
 
-ended_turns : (luns : List ℕ) (past : Past) (k : ℕ) (rest : List ℕ) → is_function (frame_of past.came k) ≡ true → IsWithinLimits past → due past ≡ k ∷ rest
-    → Turns 0 past (ended luns k past)
-ended_turns luns past k rest f w is = by_case (awaited past (reach_of luns k past)) refl
-  where
-    by_case : (names : List ℕ) → awaited past (reach_of luns k past) ≡ names → Turns 0 past (ended luns k past)
-    by_case [] e =
-        let now = now_turns luns past k rest f e w is in
-        let few = now.pending in
-        record { headers = now.headers; pending = omega (arith, few); immediate = now.immediate }
-    by_case (first ∷ others) e = waits_turns luns past k rest first others f e w is
+  ended_turns : (names : List ℕ) → awaited past (reach_of luns k past) ≡ names → Turns 0 past (ended luns k past)
+  ended_turns [] e =
+      let now = now_turns e in
+      let few = now.pending in
+      record { headers = now.headers; pending = omega (arith, few); immediate = now.immediate }
+  ended_turns (first ∷ others) e = waits_turns first others e
 
-function_turns : (luns : List ℕ) (b : Bool) (past : Past) (k : ℕ) (rest : List ℕ) → plugs past (reach_of luns k past) ≡ b
-    → is_function (frame_of past.came k) ≡ true → IsWithinLimits past → due past ≡ k ∷ rest → Turns 0 past (behind luns k past (ended luns k past))
-function_turns luns false past k rest e f w is =
-    let same : ended luns k past ≡ behind luns k past (ended luns k past) = rw (f, e) refl in
-    subst (Turns 0 past) same (ended_turns luns past k rest f w is)
-function_turns luns true past k rest e f w is =
-    let n = ref_cmd_sn (frame_of past.came k).header in
-    let same : plugged n (ended luns k past) ≡ behind luns k past (ended luns k past) = rw (f, e) refl in
-    let moves = moved_by _ past k rest refl w.lawful is in
-    let unasked = plugs_unasked past (reach_of luns k past) e in
-    let m = more_over luns past k rest f unasked w.lawful is moves in
-    let lawful = ended_lawful luns _ past k rest refl w.lawful is moves in
-    subst (Turns 0 past) same
-    (plug_turns past (ended luns k past) n lawful
-    (plugged_tasks n past (ended luns k past) m.1 m.2 w.lawful lawful m.0 (plugs_new past (reach_of luns k past) e))
-    (now_turns luns past k rest f unasked w is))
+  function_turns : (b : Bool) → plugs past (reach_of luns k past) ≡ b → Turns 0 past (behind luns k past (ended luns k past))
+  function_turns false e =
+      let same : ended luns k past ≡ behind luns k past (ended luns k past) = rw (f, e) refl in
+      subst (Turns 0 past) same (ended_turns _ refl)
+  function_turns true e =
+      let n = ref_cmd_sn (frame_of past.came k).header in
+      let same : plugged n (ended luns k past) ≡ behind luns k past (ended luns k past) = rw (f, e) refl in
+      let moves = moved_by _ past k rest refl w.lawful is in
+      let unasked = plugs_unasked past (reach_of luns k past) e in
+      let m = more_over luns past k rest f unasked w.lawful is moves in
+      let lawful = ended_lawful luns _ past k rest refl w.lawful is moves in
+      subst (Turns 0 past) same
+      (plug_turns past (ended luns k past) n lawful
+      (plugged_tasks n past (ended luns k past) m.1 m.2 w.lawful lawful m.0 (plugs_new past (reach_of luns k past) e)) (now_turns unasked))
 
 acted_adds : (luns : List ℕ) (n : ℕ) (past : Past) (k : ℕ) → IsWithinLimits past → IsLawful (acted luns k past)
     → Turns n past (behind luns k past (ended luns k past)) → length (flat_map spelling (act_answers luns k past)) ≤ n * request_weight + 48
     → Adds 48 0 past (acted luns k past)
-acted_adds luns n past k w lawful t short = grind (arith, acted_same, spelled_more, immediate_answering, pending_answering)
+acted_adds luns n past k w lawful t short =
+    let more = act_answers luns k past in
+    let same = same_answering more (behind luns k past (ended luns k past)) in
+    let few = w.few in
+    let less = t.immediate in
+    let fewer = t.pending in
+    let answers = ap (λ (l : List Answer). length (flat_map spelling l)) (acted_same luns k past).1 in
+    record {
+      within = record { lawful = lawful; headers = t.headers; few = omega (arith, few, less, same.1) };
+      added = omega (arith, answers, spelled_more past.answers more, fewer, same.0, short);
+      more = omega (arith, fewer, same.0);
+    }
 
 header_whole : (past : Past) (k : ℕ) → IsWithinLimits past → k < length past.came → length (frame_of past.came k).header ≡ header_length
 header_whole past k w lt = w.headers k _ lt
@@ -315,7 +310,7 @@ act_adds_by true f luns past k rest e g is lt w lawful =
     acted_adds luns 0 past k w lawful (subst (Turns 0 past) (sym (behind_plain luns past k no)) (command_turns past k rest e w is)) (omega (arith, none))
 act_adds_by false true luns past k rest e g is lt w lawful =
     let one = function_short luns past k g in
-    acted_adds luns 0 past k w lawful (function_turns luns _ past k rest refl g w is) (omega (arith, one))
+    acted_adds luns 0 past k w lawful (function_turns luns past k rest g w is _ refl) (omega (arith, one))
 act_adds_by false false luns past k rest e g is lt w lawful =
     let frame = frame_of past.came k in
     let long = most_answered (opcode_of (opcode_number frame.header)) (awaited past (reach_of luns k past)) (function_result past (reach_of luns k past))
@@ -323,72 +318,38 @@ act_adds_by false false luns past k rest e g is lt w lawful =
     (stamp (ended luns k past)) past.params frame (header_whole past k w lt) in
     acted_adds luns 1 past k w lawful (subst (Turns 1 past) (sym (behind_plain luns past k g)) (other_turns past k rest e w is)) (omega (arith, long))
 
-is_first : (k : ℕ) (rest : List ℕ) → is_in k (k ∷ rest) ≡ true
-is_first k rest = rw (eq-eqb k k refl) refl
-
--- what is due came
-due_came : (past : Past) (k : ℕ) (rest : List ℕ) → due past ≡ k ∷ rest → k < length past.came
-unfolding due
-due_came past k rest is =
-    below_of (length past.came) k (taken past.came) (taken_below past.came)
-    (in_left k past.acted (taken past.came) (subst (λ (l : List ℕ). is_in k l ≡ true) (sym is) (is_first k rest)))
-
 pub act_adds : (work : Work) (k : ℕ) (rest : List ℕ) → due work.past ≡ k ∷ rest → IsWithinLimits work.past → Adds 48 0 work.past (act k work).past
 unfolding act
 act_adds work k rest is w =
-    act_adds_by _ _ (numbers_of work.units.states) work.past k rest refl refl is (due_came work.past k rest is) w (act_lawful work k rest is w.lawful)
+    act_adds_by _ _ (numbers_of work.units.states) work.past k rest refl refl is (due_came work.past w.lawful k rest is) w (act_lawful work k rest is w.lawful)
 
 -- ---- an R2T is sent
-
-asked_pending : (past : Past) (k tag : ℕ) → pending_in (record past { r2ts = past.r2ts ++ record { command = k; tag = tag } ∷ [] }) ≡ pending_in past
-unfolding held due queue functions taken_numbers
-asked_pending past k tag = refl
-
-asked_immediate : (past : Past) (k tag : ℕ) → immediate_of (record past { r2ts = past.r2ts ++ record { command = k; tag = tag } ∷ [] }) ≡ immediate_of past
-unfolding unfinished functions
-asked_immediate past k tag = refl
 
 pub ask_adds : (work : Work) (k : ℕ) (rest : List ℕ) → asking work.past ≡ k ∷ rest → IsWithinLimits work.past → Adds 48 0 work.past (ask k work).past
 unfolding ask
 ask_adds work k rest is w =
     let past = work.past in
-    let tag = next_transfer_tag past in
-    let sent : Past = record past { r2ts = past.r2ts ++ record { command = k; tag = tag } ∷ [] } in
     let few = w.few in
+    let same = same_load past past.data_outs (past.r2ts ++ record { command = k; tag = next_transfer_tag past } ∷ []) (past.answers ++ r2t_of past k) in
     record {
-      within = record {
-        lawful = ask_lawful work k rest is w.lawful;
-        headers = w.headers;
-        few = omega (arith, few, immediate_answering (r2t_of past k) sent, asked_immediate past k tag);
-      };
-      added = omega (arith, spelled_more past.answers (r2t_of past k), ask_long past k, pending_answering (r2t_of past k) sent, asked_pending past k tag);
-      more = omega (arith, pending_answering (r2t_of past k) sent, asked_pending past k tag);
+      within = record { lawful = ask_lawful work k rest is w.lawful; headers = w.headers; few = omega (arith, few, same.1) };
+      added = omega (arith, spelled_more past.answers (r2t_of past k), ask_long past k, same.0);
+      more = omega (arith, same.0);
     }
 
 -- ---- a function is answered whose data has come
 
-told_listed : (past : Past) (k : ℕ) → listed_in (told k past) ≡ listed_in past
-unfolding held due queue taken_numbers
-told_listed past k = refl
-
 told_pending : (past : Past) (k : ℕ) → IsLawful past → is_in k (awaiting past) ≡ true → pending_in (told k past) ≤ pending_in past
-told_pending past k lawful waits = omega (arith, told_listed past k, waiting_told past k lawful waits)
-
-told_unfinished : (past : Past) (k : ℕ) → unfinished (told k past) ≡ unfinished past
-unfolding unfinished
-told_unfinished past k = refl
+unfolding held due queue taken_numbers
+told_pending past k lawful waits = omega (arith, waiting_told past k lawful waits)
 
 told_immediate : (past : Past) (k : ℕ) → IsLawful past → is_in k (awaiting past) ≡ true → immediate_of (told k past) ≤ immediate_of past
-told_immediate past k lawful waits = grind (arith, told_unfinished, functions_told, left_few)
+unfolding unfinished
+told_immediate past k lawful waits = grind (arith, functions_told, left_few)
 
 told_short : (past : Past) (k : ℕ) → length (flat_map spelling (told_answers past k)) ≤ 48
 unfolding told_answers
 told_short past k = omega arith
-
-first_waits : (past : Past) (k : ℕ) (rest : List ℕ) → drained_functions past ≡ k ∷ rest → is_in k (awaiting past) ≡ true
-unfolding drained_functions
-first_waits past k rest is =
-    in_filter k (λ a. not (lacks past a)) (awaiting past) (ap (λ (l : List ℕ). is_in k l) is ∙ in_at (k ∷ rest) 0 0 (omega arith))
 
 pub tell_adds : (work : Work) (k : ℕ) (rest : List ℕ) → drained_functions work.past ≡ k ∷ rest → IsWithinLimits work.past
     → Adds 48 0 work.past (tell k work).past
@@ -403,8 +364,8 @@ tell_adds work k rest is w =
       within = record {
         lawful = tell_lawful work k rest is w.lawful;
         headers = w.headers;
-        few = omega (arith, few, immediate_answering more (told k past), told_immediate past k w.lawful waits);
+        few = omega (arith, few, (same_answering more (told k past)).1, told_immediate past k w.lawful waits);
       };
-      added = omega (arith, spelled_more past.answers more, told_short past k, pending_answering more (told k past), fewer);
-      more = omega (arith, pending_answering more (told k past), fewer);
+      added = omega (arith, spelled_more past.answers more, told_short past k, (same_answering more (told k past)).0, fewer);
+      more = omega (arith, (same_answering more (told k past)).0, fewer);
     }

@@ -32,15 +32,13 @@ use Rattle.iscsi_session.specs.Acts.{acted, reach_of, ended, behind, act_answers
 use Rattle.iscsi_exchange.specs.ExchangeState.{ExchangeState}
 use Rattle.iscsi_exchange.specs.Exchange.{TextPiece, ToldState, hears}
 use Rattle.iscsi_session.specs.Texts.{is_text, exchange_behind, exchange_of, text_answer}
-use Rattle.iscsi_session.proofs.Exchanging.{exchange_acted, exchange_other, exchange_text, exchange_finished, text_kind, not_text}
-use Rattle.iscsi_session.proofs.Parts.{parts, due_is, queue_is, stands_tasks, stands_parts}
-use Rattle.iscsi_session.proofs.Kept.{function_no_command, command_no_function}
+use Rattle.iscsi_session.proofs.Parts.{exchange_acted, exchange_other, exchange_text, text_kind, not_text, exchange_as, parts, due_is, queue_is, stands_tasks, stands_parts}
+use Rattle.iscsi_session.proofs.Kept.{function_no_command, command_no_function, functions_distinct, other_not_pending}
 use Rattle.iscsi_session.proofs.Standing.{standing_kept, stands_as, stands_void}
 use Rattle.iscsi_session.proofs.Over.{removed_command}
 use Rattle.iscsi_session.proofs.Places.{Located, found_self, remove_map}
 use Rattle.iscsi_session.proofs.Feeding.{removed_is, headers_are, function_located}
 use Rattle.iscsi_session.proofs.Moved.{not_pending, due_came, stays_other, lawful_command, tasks_command, tasks_gone, transfers_command, functions_command, lawful_other, tasks_other, transfers_other, functions_acted, functions_kept, functions_left, functions_of_finished, due_function, lawful_finished, tasks_finished}
-use Rattle.iscsi_session.proofs.Pending.{functions_distinct, other_not_pending}
 
 -- what a function sees of itself
 pub seen : {past : Past} {inside now : SessionState} → inside ≡ now → Stands past now → Stands past inside
@@ -103,18 +101,6 @@ goes_on_act k past is none = grind arith
 pub command_answers_none : (luns : List ℕ) (k : ℕ) (past : Past) → is_command (frame_of past.came k) ≡ true → act_answers luns k past ≡ []
 command_answers_none luns k past e = answers_of luns k past (command_kind (frame_of past.came k) e)
 
-pub ping_is : (luns : List ℕ) (k : ℕ) (past : Past) → kind_of (frame_of past.came k) ≡ opcodes.NopOut
-    → act_answers luns k past ≡ ping_answers (stamp (moved k past)) (moved k past).params.values (frame_of past.came k)
-ping_is luns k past is = grind (arith, answers_of luns k past is, moved_same k past)
-
-pub logout_is : (luns : List ℕ) (k : ℕ) (past : Past) → kind_of (frame_of past.came k) ≡ opcodes.Logout
-    → act_answers luns k past ≡ logout_answer (stamp (moved k past)) (moved k past).params (frame_of past.came k) ∷ []
-logout_is luns k past is = grind (arith, answers_of luns k past is, moved_same k past)
-
-pub logout_ends : (params : Params) (frame : Frame) → kind_of frame ≡ opcodes.Logout → ends params frame ≡ closes params frame
-unfolding ends
-logout_ends params frame is = ap (λ (o : Opcode). ends_by o params frame) is
-
 is_no_function : (frame : Frame) → is_function frame ≡ false → kind_of frame ≡ opcodes.TaskManagement → ⊥
 is_no_function frame no_function e = grind arith
 
@@ -165,14 +151,11 @@ pub text_is : (luns : List ℕ) (k : ℕ) (past : Past) → is_text (frame_of pa
 text_is luns k past e =
     grind (arith, answers_of luns k past (text_kind (frame_of past.came k) e), text_kind (frame_of past.came k) e, text_kind (frame_of past.came k) e)
 
-bears_piece : (numbers_now : Stamp) (piece : Option TextPiece) (frame : Frame) → bears_status (text_answer numbers_now piece frame) ≡ true
-bears_piece numbers_now piece frame = grind arith
-
 pub one_bearing : (x : Answer) → bears_status x ≡ true → bearing (x ∷ []) ≡ 1
 one_bearing x e = rw e refl
 
 pub text_bears : (numbers_now : Stamp) (piece : Option TextPiece) (frame : Frame) → bearing (text_answer numbers_now piece frame ∷ []) ≡ 1
-text_bears numbers_now piece frame = one_bearing (text_answer numbers_now piece frame) (bears_piece numbers_now piece frame)
+text_bears numbers_now piece frame = grind arith
 
 pub logout_bears : (numbers_now : Stamp) (params : Params) (frame : Frame) → bearing (logout_answer numbers_now params frame ∷ []) ≡ 1
 logout_bears numbers_now params frame = grind arith
@@ -207,21 +190,6 @@ pub moved_other : (k : ℕ) (past : Past) → is_command (frame_of past.came k) 
     → record past { acted = past.acted ++ k ∷ []; finished = past.finished ++ k ∷ [] } ≡ moved k past
 moved_other k past e = rw e refl
 
--- the first that is due, in the code
-pub first_due : (past : Past) (state : SessionState) (k : ℕ) (rest : List ℕ) → Stands past state → due past ≡ k ∷ rest
-    → state.tasks.due ≡ frame_of (standing past) k ∷ frames_of (standing past) rest
-first_due past state k rest s is = due_is past state s ∙ ap (frames_of (standing past)) is
-
--- a request that is no SCSI Command stands as it came
-pub stands_other_kind : (past : Past) (state : SessionState) (k : ℕ) (rest : List ℕ) → Stands past state → due past ≡ k ∷ rest
-    → is_command (frame_of past.came k) ≡ false → frame_of (standing past) k ≡ frame_of past.came k
-stands_other_kind past state k rest s is e = grind (arith, standing_kept, due_came, stays_other)
-
--- and with it the others, in the code
-pub first_drops : (past : Past) (state : SessionState) (k : ℕ) (rest : List ℕ) → Stands past state → due past ≡ k ∷ rest
-    → is_command (frame_of past.came k) ≡ false → state.tasks.due ≡ frame_of past.came k ∷ drop 1 state.tasks.due
-first_drops past state k rest s is e = grind (arith, first_due past state k rest s is, stands_other_kind past state k rest s is e)
-
 pub function_no_text : (frame : Frame) → is_function frame ≡ true → is_text frame ≡ false
 function_no_text frame e = not_text frame opcodes.TaskManagement (function_kind frame e) (λ x. absurd cc)
 
@@ -234,116 +202,7 @@ text_no_command frame e = false_from_ne_true (is_command frame) (λ h. absurd (l
 pub text_no_function : (frame : Frame) → is_text frame ≡ true → is_function frame ≡ false
 text_no_function frame e = false_from_ne_true (is_function frame) (λ h. absurd (let no = sym (function_no_text frame h) ∙ e in cc))
 
-pub stands_command : (luns : List ℕ) (past : Past) (state : SessionState) (k : ℕ) (rest : List ℕ) → Stands past state → due past ≡ k ∷ rest
-    → is_command (frame_of past.came k) ≡ true → is_in k past.removed ≡ false
-    → Stands (acted luns k past)
-    (record state { tasks = record state.tasks { due = frames_of (standing past) rest; queue = state.tasks.queue ++ frame_of past.came k ∷ [] } })
-stands_command luns past state k rest s is e stays =
-    let after : Past = record past { acted = past.acted ++ k ∷ [] } in
-    let same : after ≡ acted luns k past = moved_command k past e ∙ answering_none (moved k past) (act_answers luns k past) (command_answers_none luns k past e)
-    ∙ sym (acted_plain luns k past (command_no_function (frame_of past.came k) e)) in
-    subst (λ (p : Past). Stands p
-    (record state { tasks = record state.tasks { due = frames_of (standing past) rest; queue = state.tasks.queue ++ frame_of past.came k ∷ [] } })) same
-    (stands_tasks past after state _ s (lawful_command past s.lawful k rest is e) refl refl
-    (ap (λ (t : TaskLists). record t { due = frames_of (standing past) rest; queue = t.queue ++ frame_of past.came k ∷ [] }) (parts past state s).tasks_is
-    ∙ tasks_command past s.lawful k rest is stays e) (transfers_command past s.lawful k rest is) (functions_command past s.lawful k rest is)
-    (exchange_acted past after k refl refl refl
-    ∙ exchange_other past.params (exchange_of past) (frame_of past.came k) (command_no_text (frame_of past.came k) e)))
-
--- one that was removed comes to nothing
-pub stands_gone : (past : Past) (state : SessionState) (k : ℕ) (rest : List ℕ) → Stands past state → due past ≡ k ∷ rest
-    → is_command (frame_of past.came k) ≡ true → is_in k past.removed ≡ true
-    → Stands (moved k past)
-    (record state { tasks = one_fewer (frame_of (standing past) k) (record state.tasks { due = drop 1 state.tasks.due }) })
-stands_gone past state k rest s is e gone =
-    let after : Past = record past { acted = past.acted ++ k ∷ [] } in
-    let dropped : drop 1 state.tasks.due ≡ frames_of (standing past) rest = ap (drop 1) (first_due past state k rest s is) in
-    subst (λ (p : Past). Stands p (record state {
-      tasks = one_fewer (frame_of (standing past) k) (record state.tasks { due = drop 1 state.tasks.due });
-    })) (moved_command k past e)
-    (stands_tasks past after state _ s (lawful_command past s.lawful k rest is e) refl refl
-    (ap (λ (l : List Frame). one_fewer (frame_of (standing past) k) (record state.tasks { due = l })) dropped
-    ∙ ap (λ (t : TaskLists). one_fewer (frame_of (standing past) k) (record t { due = frames_of (standing past) rest })) (parts past state s).tasks_is
-    ∙ tasks_gone past s.lawful k rest is gone e) (transfers_command past s.lawful k rest is) (functions_command past s.lawful k rest is)
-    (exchange_acted past after k refl refl refl
-    ∙ exchange_other past.params (exchange_of past) (frame_of past.came k) (command_no_text (frame_of past.came k) e)))
-
-pub stands_queued : (luns : List ℕ) (past : Past) (state : SessionState) (k : ℕ) (rest : List ℕ) (frame : Frame) (others : List Frame) (tasks : TaskLists)
-    → Stands past state → due past ≡ k ∷ rest → is_command (frame_of past.came k) ≡ true → is_in k past.removed ≡ false
-    → frame ≡ frame_of past.came k → others ≡ frames_of (standing past) rest
-    → tasks ≡ record state.tasks { due = others; queue = state.tasks.queue ++ frame ∷ [] } → Stands (acted luns k past) (record state { tasks = tasks })
-stands_queued luns past state k rest frame others tasks s is e stays here left same =
-    rw (same, here, left) (stands_command luns past state k rest s is e stays)
-
--- the first that is due, by the kind of what stands there: it was removed, or stands as it came
-pub command_there : (past : Past) (state : SessionState) (k : ℕ) (rest : List ℕ) → Stands past state → due past ≡ k ∷ rest
-    → is_command (frame_of (standing past) k) ≡ true → (frame_of (standing past) k ≡ frame_of past.came k) × (is_in k past.removed ≡ false)
-command_there past state k rest s is e = grind (arith, due_came, eqb-true, stands_as, false_from_ne_true, stands_void)
-
-pub kind_there : (past : Past) (state : SessionState) (k : ℕ) (rest : List ℕ) (n : ℕ) → Stands past state → due past ≡ k ∷ rest
-    → opcode_number (frame_of (standing past) k).header ≡ n → (n ≡ 0x3F → ⊥) → frame_of (standing past) k ≡ frame_of past.came k
-kind_there past state k rest n s is e other = stands_as past k (due_came past s.lawful k rest is) (λ h. other (sym e ∙ h))
-
--- of what is no SCSI Command as it stands
-either_way : (past : Past) (state : SessionState) (k : ℕ) (rest : List ℕ) (q : Frame → Bool) → Stands past state → due past ≡ k ∷ rest
-    → ((frame : Frame) → is_command frame ≡ true → q frame ≡ false) → q (frame_of (standing past) k) ≡ false → q (frame_of past.came k) ≡ false
-either_way past state k rest q s is never e = grind (arith, removed_command, standing_kept, due_came)
-
-pub no_text_there : (past : Past) (state : SessionState) (k : ℕ) (rest : List ℕ) → Stands past state → due past ≡ k ∷ rest
-    → is_text (frame_of (standing past) k) ≡ false → is_text (frame_of past.came k) ≡ false
-no_text_there past state k rest s is e = either_way past state k rest is_text s is command_no_text e
-
-pub no_function_there : (past : Past) (state : SessionState) (k : ℕ) (rest : List ℕ) → Stands past state → due past ≡ k ∷ rest
-    → is_function (frame_of (standing past) k) ≡ false → is_function (frame_of past.came k) ≡ false
-no_function_there past state k rest s is e = either_way past state k rest is_function s is command_no_function e
-
-pub text_there : (past : Past) (state : SessionState) (k : ℕ) (rest : List ℕ) → Stands past state → due past ≡ k ∷ rest
-    → is_text (frame_of (standing past) k) ≡ true → is_text (frame_of past.came k) ≡ true
-text_there past state k rest s is e = grind (arith, kind_there, eqb-true)
-
-pub function_there : (past : Past) (state : SessionState) (k : ℕ) (rest : List ℕ) → Stands past state → due past ≡ k ∷ rest
-    → is_function (frame_of (standing past) k) ≡ true → is_function (frame_of past.came k) ≡ true
-function_there past state k rest s is e = grind (arith, kind_there, eqb-true)
-
--- a request of a kind that acts stands as it came
-pub came_as : (past : Past) (state : SessionState) (k : ℕ) (rest : List ℕ) {o : Opcode} → Stands past state → due past ≡ k ∷ rest
-    → kind_of (frame_of (standing past) k) ≡ o → (opcodes.Other 0x3F ≡ o → ⊥) → frame_of (standing past) k ≡ frame_of past.came k
-came_as past state k rest s is e other = stands_as past k (due_came past s.lawful k rest is) (λ h. other (sym (ap opcode_of h) ∙ e))
-
--- and one of another kind is one, or was removed
-pub other_came : (past : Past) (state : SessionState) (k : ℕ) (rest : List ℕ) → Stands past state → due past ≡ k ∷ rest
-    → IsOther (kind_of (frame_of (standing past) k)) → IsOther (kind_of (frame_of past.came k))
-other_came past state k rest s is e = by_case (is_in k past.removed) refl
-  where
-    by_case : (b : Bool) → is_in k past.removed ≡ b → IsOther (kind_of (frame_of past.came k))
-    by_case true gone = inl (command_kind (frame_of past.came k) (removed_command past s.lawful k gone))
-    by_case false stays = subst IsOther (ap kind_of (standing_kept past k (due_came past s.lawful k rest is) stays)) e
-
-pub stands_other : (past : Past) (state : SessionState) (k : ℕ) (rest : List ℕ) (headers : List (List ℕ)) → Stands past state → due past ≡ k ∷ rest
-    → is_command (frame_of past.came k) ≡ false → headers ≡ functions_of (finished k past)
-    → Stands (moved k past) (record state {
-      tasks = one_fewer (frame_of past.came k) (record state.tasks { due = drop 1 state.tasks.due });
-      functions = headers;
-      exchange = exchange_behind past.params (exchange_of past) (frame_of past.came k);
-    })
-stands_other past state k rest headers s is e left_over =
-    let after : Past = record past { acted = past.acted ++ k ∷ []; finished = past.finished ++ k ∷ [] } in
-    let dropped : drop 1 state.tasks.due ≡ frames_of (standing past) rest = ap (drop 1) (first_due past state k rest s is) in
-    subst (λ (p : Past). Stands p (record state {
-      tasks = one_fewer (frame_of past.came k) (record state.tasks { due = drop 1 state.tasks.due });
-      functions = headers;
-      exchange = exchange_behind past.params (exchange_of past) (frame_of past.came k);
-    }))
-    (moved_other k past e)
-    (stands_parts past after state _ state.transfers headers _ s (lawful_other past s.lawful k rest is e) refl refl
-    (ap (λ (l : List Frame). one_fewer (frame_of past.came k) (record state.tasks { due = l })) dropped
-    ∙ ap (λ (t : TaskLists). one_fewer (frame_of past.came k) (record t { due = frames_of (standing past) rest })) (parts past state s).tasks_is
-    ∙ tasks_other past s.lawful k rest is e)
-    ((parts past state s).transfers_is ∙ sym (transfers_other past s.lawful k rest is e))
-    (left_over ∙ functions_acted past s.lawful k rest is)
-    (sym (exchange_acted past after k refl refl refl)))
-
--- of another kind
+-- what is remembered of the functions, where one of another kind is finished
 same_functions : (past : Past) (state : SessionState) (k : ℕ) → Stands past state → is_function (frame_of past.came k) ≡ false
     → state.functions ≡ functions_of (finished k past)
 same_functions past state k s e = grind (arith, parts, functions_kept, other_not_pending)
@@ -353,34 +212,6 @@ same_head a b x y l p q = let both : a ∷ x ≡ b ∷ y = sym p ∙ q in cc
 
 pub same_tail : (a b : Frame) (x y l : List Frame) → l ≡ a ∷ x → l ≡ b ∷ y → x ≡ y
 same_tail a b x y l p q = let both : a ∷ x ≡ b ∷ y = sym p ∙ q in cc
-
--- the first that is due is finished, in the code
-pub finished_here : (past : Past) (state : SessionState) (k : ℕ) (rest : List ℕ) (frame : Frame) (tasks : TaskLists) → Stands past state
-    → due past ≡ k ∷ rest → is_command (frame_of (standing past) k) ≡ false → is_text (frame_of past.came k) ≡ false
-    → is_function (frame_of past.came k) ≡ false
-    → state.tasks.due ≡ frame ∷ drop 1 state.tasks.due → tasks ≡ one_fewer frame (record state.tasks { due = drop 1 state.tasks.due })
-    → (frame ≡ frame_of (standing past) k) × Stands (moved k past) (record state { tasks = tasks })
-finished_here past state k rest frame tasks s is e no_text no_function some same =
-    let here = same_head frame (frame_of (standing past) k) (drop 1 state.tasks.due) (frames_of (standing past) rest) state.tasks.due some
-    (first_due past state k rest s is) in
-    (here, rw (same, here) (by_case (is_in k past.removed) refl))
-  where
-    lt : k < length past.came
-    lt = due_came past s.lawful k rest is
-
-    kept : state.exchange ≡ exchange_behind past.params (exchange_of past) (frame_of past.came k)
-    kept = (parts past state s).exchange_is ∙ sym (exchange_other past.params (exchange_of past) (frame_of past.came k) no_text)
-
-    by_case : (b : Bool) → is_in k past.removed ≡ b
-        → Stands (moved k past) (record state { tasks = one_fewer (frame_of (standing past) k) (record state.tasks { due = drop 1 state.tasks.due }) })
-    by_case true gone = stands_gone past state k rest s is (removed_command past s.lawful k gone) gone
-    by_case false stays =
-        let same_frame = standing_kept past k lt stays in
-        let no_command : is_command (frame_of past.came k) ≡ false = ap is_command (sym same_frame) ∙ e in
-        rw same_frame (subst (λ (x : ExchangeState). Stands (moved k past) (record state {
-          tasks = one_fewer (frame_of past.came k) (record state.tasks { due = drop 1 state.tasks.due });
-          exchange = x;
-        })) (sym kept) (stands_other past state k rest state.functions s is no_command (same_functions past state k s no_function)))
 
 -- where it stands among the functions
 pub function_at : (past : Past) (k : ℕ) (at : Option ℕ) → IsLawful past → is_in k (functions past) ≡ true
@@ -400,61 +231,193 @@ function_gone past state k s there free =
     ap (λ (l : List (List ℕ)). function_removed l (function_place (tag_of past.came k) l)) (headers_are past state s)
     ∙ function_at past k _ s.lawful there (function_located past (tag_of past.came k)) ∙ functions_left past k free
 
--- a Task Management Function Request is finished, in the code
-pub function_here : (past : Past) (state : SessionState) (k : ℕ) (rest : List ℕ) (frame : Frame) (tasks : TaskLists) (tag : ℕ) (headers : List (List ℕ))
-    → Stands past state → due past ≡ k ∷ rest → is_function (frame_of past.came k) ≡ true
-    → state.tasks.due ≡ frame ∷ drop 1 state.tasks.due → tasks ≡ one_fewer frame (record state.tasks { due = drop 1 state.tasks.due })
-    → tag ≡ tag_of past.came k → headers ≡ function_removed state.functions (function_place tag state.functions)
-    → (frame ≡ frame_of past.came k) × Stands (moved k past) (record state { tasks = tasks; functions = headers })
-function_here past state k rest frame tasks tag headers s is e some same tag_is gone =
-    let f = frame_of past.came k in
-    let here = same_head frame (frame_of (standing past) k) (drop 1 state.tasks.due) (frames_of (standing past) rest) state.tasks.due some
-    (first_due past state k rest s is) ∙ stands_other_kind past state k rest s is (function_no_command f e) in
-    let kept : state.exchange ≡ exchange_behind past.params (exchange_of past) f = (parts past state s).exchange_is
-    ∙ sym (exchange_other past.params (exchange_of past) f (function_no_text f e)) in
-    let left_over : headers ≡ functions_of (finished k past) = gone
-    ∙ ap (λ (t : ℕ). function_removed state.functions (function_place t state.functions)) tag_is
-    ∙ function_gone past state k s (due_function past s.lawful k rest is e) (not_pending past s.lawful k rest is) in (
-      here,
-      rw (same, here) (subst (λ (x : ExchangeState). Stands (moved k past) (record state {
-        tasks = one_fewer f (record state.tasks { due = drop 1 state.tasks.due });
-        functions = headers;
-        exchange = x;
-      })) (sym kept) (stands_other past state k rest headers s is (function_no_command f e) left_over)),
-    )
+-- ---- the first that is due
 
--- a Text is finished, and its exchange goes on or is over
-pub text_here : (past : Past) (state : SessionState) (k : ℕ) (rest : List ℕ) (frame : Frame) (tasks : TaskLists) (told : ToldState) → Stands past state
-    → due past ≡ k ∷ rest → is_text (frame_of past.came k) ≡ true
-    → state.tasks.due ≡ frame ∷ drop 1 state.tasks.due → tasks ≡ one_fewer frame (record state.tasks { due = drop 1 state.tasks.due })
-    → told ≡ hears state.exchange (frame_of past.came k) state.params
-    → (frame ≡ frame_of past.came k) × (told ≡ hears (exchange_of past) (frame_of past.came k) past.params)
-    × Stands (moved k past) (record state { tasks = tasks; exchange = told.exchange })
-text_here past state k rest frame tasks told s is e some same hears_so =
-    let p = parts past state s in
-    let f = frame_of past.came k in
-    let no_command : is_command f ≡ false = text_no_command f e in
-    let here = same_head frame (frame_of (standing past) k) (drop 1 state.tasks.due) (frames_of (standing past) rest) state.tasks.due some
-    (first_due past state k rest s is) ∙ stands_other_kind past state k rest s is no_command in
-    let heard : told ≡ hears (exchange_of past) f past.params = hears_so ∙ ap (λ (x : ExchangeState). hears x f state.params) p.exchange_is
-    ∙ ap (hears (exchange_of past) f) p.params_is in
-    let next : told.exchange ≡ exchange_behind past.params (exchange_of past) f = ap (λ (t : ToldState). t.exchange) heard
-    ∙ sym (exchange_text past.params (exchange_of past) f e) in
-    let no_function : is_function f ≡ false = text_no_function f e in
-    (here, heard, rw (same, here, next) (stands_other past state k rest state.functions s is no_command (same_functions past state k s no_function)))
+module _ (past : Past) (state : SessionState) (k : ℕ) (rest : List ℕ) (s : Stands past state) (is : due past ≡ k ∷ rest) where
+  came : k < length past.came
+  came = due_came past s.lawful k rest is
+
+  -- the first that is due, in the code
+  pub first_due : state.tasks.due ≡ frame_of (standing past) k ∷ frames_of (standing past) rest
+  first_due = due_is past state s ∙ ap (frames_of (standing past)) is
+
+  pub some_due : state.tasks.due ≡ [] → ⊥
+  some_due none = let both : frame_of (standing past) k ∷ frames_of (standing past) rest ≡ [] = sym first_due ∙ none in cc
+
+  -- a request that is no SCSI Command stands as it came
+  pub stands_other_kind : is_command (frame_of past.came k) ≡ false → frame_of (standing past) k ≡ frame_of past.came k
+  stands_other_kind e = grind (arith, standing_kept, came, stays_other)
+
+  -- and with it the others, in the code
+  pub first_drops : is_command (frame_of past.came k) ≡ false → state.tasks.due ≡ frame_of past.came k ∷ drop 1 state.tasks.due
+  first_drops e = grind (arith, first_due, stands_other_kind e)
+
+  -- by the kind of what stands there: it was removed, or stands as it came
+  pub command_there : is_command (frame_of (standing past) k) ≡ true → (frame_of (standing past) k ≡ frame_of past.came k) × (is_in k past.removed ≡ false)
+  command_there e = grind (arith, came, eqb-true, stands_as, false_from_ne_true, stands_void)
+
+  kind_there : (n : ℕ) → opcode_number (frame_of (standing past) k).header ≡ n → (n ≡ 0x3F → ⊥) → frame_of (standing past) k ≡ frame_of past.came k
+  kind_there n e other = stands_as past k came (λ h. other (sym e ∙ h))
+
+  -- of what is no SCSI Command as it stands
+  either_way : (q : Frame → Bool) → ((frame : Frame) → is_command frame ≡ true → q frame ≡ false) → q (frame_of (standing past) k) ≡ false
+      → q (frame_of past.came k) ≡ false
+  either_way q never e = grind (arith, removed_command, standing_kept, came)
+
+  pub no_text_there : is_text (frame_of (standing past) k) ≡ false → is_text (frame_of past.came k) ≡ false
+  no_text_there e = either_way is_text command_no_text e
+
+  pub no_function_there : is_function (frame_of (standing past) k) ≡ false → is_function (frame_of past.came k) ≡ false
+  no_function_there e = either_way is_function command_no_function e
+
+  pub text_there : is_text (frame_of (standing past) k) ≡ true → is_text (frame_of past.came k) ≡ true
+  text_there e = grind (arith, kind_there, eqb-true)
+
+  pub function_there : is_function (frame_of (standing past) k) ≡ true → is_function (frame_of past.came k) ≡ true
+  function_there e = grind (arith, kind_there, eqb-true)
+
+  -- a request of a kind that acts stands as it came
+  pub came_as : {o : Opcode} → kind_of (frame_of (standing past) k) ≡ o → (opcodes.Other 0x3F ≡ o → ⊥) → frame_of (standing past) k ≡ frame_of past.came k
+  came_as e other = stands_as past k came (λ h. other (sym (ap opcode_of h) ∙ e))
+
+  -- and one of another kind is one, or was removed
+  pub other_came : IsOther (kind_of (frame_of (standing past) k)) → IsOther (kind_of (frame_of past.came k))
+  other_came e = by_case (is_in k past.removed) refl
+    where
+      by_case : (b : Bool) → is_in k past.removed ≡ b → IsOther (kind_of (frame_of past.came k))
+      by_case true gone = inl (command_kind (frame_of past.came k) (removed_command past s.lawful k gone))
+      by_case false stays = subst IsOther (ap kind_of (standing_kept past k came stays)) e
+
+  -- the first of the line is this one
+  here_is : (frame : Frame) → state.tasks.due ≡ frame ∷ drop 1 state.tasks.due → frame ≡ frame_of (standing past) k
+  here_is frame some = same_head frame (frame_of (standing past) k) (drop 1 state.tasks.due) (frames_of (standing past) rest) state.tasks.due some first_due
+
+  -- ---- a SCSI Command
+
+  exchange_command : is_command (frame_of past.came k) ≡ true → exchange_of (record past { acted = past.acted ++ k ∷ [] }) ≡ exchange_of past
+  exchange_command e =
+      exchange_acted past (record past { acted = past.acted ++ k ∷ [] }) k refl refl refl
+      ∙ exchange_other past.params (exchange_of past) (frame_of past.came k) (command_no_text (frame_of past.came k) e)
+
+  pub stands_queued : (luns : List ℕ) (frame : Frame) (others : List Frame) (tasks : TaskLists) → is_command (frame_of past.came k) ≡ true
+      → is_in k past.removed ≡ false → frame ≡ frame_of past.came k → others ≡ frames_of (standing past) rest
+      → tasks ≡ record state.tasks { due = others; queue = state.tasks.queue ++ frame ∷ [] } → Stands (acted luns k past) (record state { tasks = tasks })
+  stands_queued luns frame others tasks e stays here left same =
+      let after : Past = record past { acted = past.acted ++ k ∷ [] } in
+      let goes : after ≡ acted luns k past = moved_command k past e
+      ∙ answering_none (moved k past) (act_answers luns k past) (command_answers_none luns k past e) ∙ sym (acted_plain luns k past (command_no_function (frame_of past.came k) e)) in
+      rw (same, here, left) (subst (λ (p : Past). Stands p
+      (record state { tasks = record state.tasks { due = frames_of (standing past) rest; queue = state.tasks.queue ++ frame_of past.came k ∷ [] } })) goes
+      (stands_tasks past after state _ s (lawful_command past s.lawful k rest is e) refl refl
+      (ap (λ (t : TaskLists). record t { due = frames_of (standing past) rest; queue = t.queue ++ frame_of past.came k ∷ [] }) (parts past state s).tasks_is
+      ∙ tasks_command past s.lawful k rest is stays e) (transfers_command past s.lawful k rest is) (functions_command past s.lawful k rest is)
+      (exchange_command e)))
+
+  -- one that was removed comes to nothing
+  stands_gone : is_command (frame_of past.came k) ≡ true → is_in k past.removed ≡ true → Stands (moved k past)
+      (record state { tasks = one_fewer (frame_of (standing past) k) (record state.tasks { due = drop 1 state.tasks.due }) })
+  stands_gone e gone =
+      let after : Past = record past { acted = past.acted ++ k ∷ [] } in
+      subst (λ (p : Past). Stands p (record state {
+        tasks = one_fewer (frame_of (standing past) k) (record state.tasks { due = drop 1 state.tasks.due });
+      })) (moved_command k past e)
+      (stands_tasks past after state _ s (lawful_command past s.lawful k rest is e) refl refl
+      (ap (λ (l : List Frame). one_fewer (frame_of (standing past) k) (record state.tasks { due = l })) (ap (drop 1) first_due)
+      ∙ ap (λ (t : TaskLists). one_fewer (frame_of (standing past) k) (record t { due = frames_of (standing past) rest })) (parts past state s).tasks_is
+      ∙ tasks_gone past s.lawful k rest is gone e) (transfers_command past s.lawful k rest is) (functions_command past s.lawful k rest is)
+      (exchange_command e))
+
+  -- ---- every other request is finished, in the code
+
+  stands_other : (headers : List (List ℕ)) (exchange : ExchangeState) → is_command (frame_of past.came k) ≡ false → headers ≡ functions_of (finished k past)
+      → exchange ≡ exchange_behind past.params (exchange_of past) (frame_of past.came k) → Stands (moved k past) (record state {
+        tasks = one_fewer (frame_of past.came k) (record state.tasks { due = drop 1 state.tasks.due });
+        functions = headers;
+        exchange = exchange;
+      })
+  stands_other headers exchange e left_over heard =
+      let after : Past = record past { acted = past.acted ++ k ∷ []; finished = past.finished ++ k ∷ [] } in
+      subst (λ (p : Past). Stands p (record state {
+        tasks = one_fewer (frame_of past.came k) (record state.tasks { due = drop 1 state.tasks.due });
+        functions = headers;
+        exchange = exchange;
+      }))
+      (moved_other k past e)
+      (stands_parts past after state _ state.transfers headers _ s (lawful_other past s.lawful k rest is e) refl refl
+      (ap (λ (l : List Frame). one_fewer (frame_of past.came k) (record state.tasks { due = l })) (ap (drop 1) first_due)
+      ∙ ap (λ (t : TaskLists). one_fewer (frame_of past.came k) (record t { due = frames_of (standing past) rest })) (parts past state s).tasks_is
+      ∙ tasks_other past s.lawful k rest is e)
+      ((parts past state s).transfers_is ∙ sym (transfers_other past s.lawful k rest is e))
+      (left_over ∙ functions_acted past s.lawful k rest is) (heard ∙ sym (exchange_acted past after k refl refl refl)))
+
+  -- no Text
+  exchange_kept : is_text (frame_of past.came k) ≡ false → state.exchange ≡ exchange_behind past.params (exchange_of past) (frame_of past.came k)
+  exchange_kept e = (parts past state s).exchange_is ∙ sym (exchange_other past.params (exchange_of past) (frame_of past.came k) e)
+
+  pub finished_here : (frame : Frame) (tasks : TaskLists) → is_command (frame_of (standing past) k) ≡ false → is_text (frame_of past.came k) ≡ false
+      → is_function (frame_of past.came k) ≡ false
+      → state.tasks.due ≡ frame ∷ drop 1 state.tasks.due → tasks ≡ one_fewer frame (record state.tasks { due = drop 1 state.tasks.due })
+      → (frame ≡ frame_of (standing past) k) × Stands (moved k past) (record state { tasks = tasks })
+  finished_here frame tasks e no_text no_function some same =
+      (here_is frame some, rw (same, here_is frame some) (by_case (is_in k past.removed) refl))
+    where
+      by_case : (b : Bool) → is_in k past.removed ≡ b
+          → Stands (moved k past) (record state { tasks = one_fewer (frame_of (standing past) k) (record state.tasks { due = drop 1 state.tasks.due }) })
+      by_case true gone = stands_gone (removed_command past s.lawful k gone) gone
+      by_case false stays =
+          let same_frame = standing_kept past k came stays in
+          rw same_frame (stands_other state.functions state.exchange (ap is_command (sym same_frame) ∙ e) (same_functions past state k s no_function)
+          (exchange_kept no_text))
+
+  -- a Task Management Function Request
+  pub function_here : (frame : Frame) (tasks : TaskLists) (tag : ℕ) (headers : List (List ℕ)) → is_function (frame_of past.came k) ≡ true
+      → state.tasks.due ≡ frame ∷ drop 1 state.tasks.due → tasks ≡ one_fewer frame (record state.tasks { due = drop 1 state.tasks.due })
+      → tag ≡ tag_of past.came k → headers ≡ function_removed state.functions (function_place tag state.functions)
+      → (frame ≡ frame_of past.came k) × Stands (moved k past) (record state { tasks = tasks; functions = headers })
+  function_here frame tasks tag headers e some same tag_is gone =
+      let f = frame_of past.came k in
+      let no_command = function_no_command f e in
+      let here = here_is frame some ∙ stands_other_kind no_command in
+      let left_over : headers ≡ functions_of (finished k past) = gone
+      ∙ ap (λ (t : ℕ). function_removed state.functions (function_place t state.functions)) tag_is
+      ∙ function_gone past state k s (due_function past s.lawful k rest is e) (not_pending past s.lawful k rest is) in
+      (here, rw (same, here) (stands_other headers state.exchange no_command left_over (exchange_kept (function_no_text f e))))
+
+  -- a Text, and its exchange goes on or is over
+  pub text_here : (frame : Frame) (tasks : TaskLists) (told : ToldState) → is_text (frame_of past.came k) ≡ true
+      → state.tasks.due ≡ frame ∷ drop 1 state.tasks.due → tasks ≡ one_fewer frame (record state.tasks { due = drop 1 state.tasks.due })
+      → told ≡ hears state.exchange (frame_of past.came k) state.params
+      → (frame ≡ frame_of past.came k) × (told ≡ hears (exchange_of past) (frame_of past.came k) past.params)
+      × Stands (moved k past) (record state { tasks = tasks; exchange = told.exchange })
+  text_here frame tasks told e some same hears_so =
+      let p = parts past state s in
+      let f = frame_of past.came k in
+      let no_command = text_no_command f e in
+      let here = here_is frame some ∙ stands_other_kind no_command in
+      let heard : told ≡ hears (exchange_of past) f past.params = hears_so ∙ ap (λ (x : ExchangeState). hears x f state.params) p.exchange_is
+      ∙ ap (hears (exchange_of past) f) p.params_is in
+      let next : told.exchange ≡ exchange_behind past.params (exchange_of past) f = ap (λ (t : ToldState). t.exchange) heard
+      ∙ sym (exchange_text past.params (exchange_of past) f e) in (
+        here,
+        heard,
+        rw (same, here) (stands_other state.functions told.exchange no_command (same_functions past state k s (text_no_function f e)) next),
+      )
+
+-- ---- what it is answered
 
 pub logout_act : (k : ℕ) (past : Past) (frame : Frame) (params : Params) (act : Act) → frame ≡ frame_of past.came k → params ≡ past.params
     → kind_of (frame_of past.came k) ≡ opcodes.Logout
     → act ≡ cond (closes params frame) Ended Taken → act ≡ cond (ends past.params (frame_of past.came k)) Ended Taken
-logout_act k past frame params act same agreed kind is = grind (arith, logout_ends)
+unfolding ends
+logout_act k past frame params act same agreed kind is = grind arith
 
 pub ping_same : (luns : List ℕ) (k : ℕ) (past : Past) (frame : Frame) → frame ≡ frame_of past.came k → kind_of (frame_of past.came k) ≡ opcodes.NopOut
     → ping_answers (stamp (moved k past)) (moved k past).params.values frame ≡ act_answers luns k past
-ping_same luns k past frame same kind = ap (ping_answers (stamp (moved k past)) (moved k past).params.values) same ∙ sym (ping_is luns k past kind)
+ping_same luns k past frame same kind = grind (arith, answers_of luns k past kind, moved_same k past)
 
 pub logout_same : (luns : List ℕ) (k : ℕ) (past : Past) (frame : Frame) → frame ≡ frame_of past.came k → kind_of (frame_of past.came k) ≡ opcodes.Logout
     → logout_answer (stamp (moved k past)) (moved k past).params frame ∷ [] ≡ act_answers luns k past
-logout_same luns k past frame same kind = grind (arith, logout_is)
+logout_same luns k past frame same kind = grind (arith, answers_of luns k past kind, moved_same k past)
 
 pub function_bears : (luns : List ℕ) (k : ℕ) (past : Past) → is_function (frame_of past.came k) ≡ true → awaited past (reach_of luns k past) ≡ []
     → bearing (act_answers luns k past) ≡ 1
@@ -479,10 +442,6 @@ none_spelled old all e = sym (append-nil old) ∙ ap (λ (l : List Answer). old 
 pub stands_silent : (luns : List ℕ) (k : ℕ) (past : Past) (state : SessionState) → is_function (frame_of past.came k) ≡ false → act_answers luns k past ≡ []
     → Stands (moved k past) state → Stands (acted luns k past) state
 stands_silent luns k past state no_function e s = grind (arith, stands_plain, answering_none)
-
-pub some_due : (past : Past) (state : SessionState) (k : ℕ) (rest : List ℕ) → Stands past state → due past ≡ k ∷ rest → state.tasks.due ≡ [] → ⊥
-some_due past state k rest s is none = let both : frame_of (standing past) k ∷ frames_of (standing past) rest ≡ [] = sym (first_due past state k rest s is)
-    ∙ none in cc
 
 -- ---- the next act
 
@@ -547,7 +506,7 @@ done_here past state k rest frame tasks transfers s is some same gone =
           (gone ∙ ap (λ (f : Frame). record state.transfers { list = removed_at state.transfers.list (place_for f state.transfers.list) }) here
           ∙ removed_is past state k rest s is)
           ((parts past state s).functions_is ∙ sym (functions_of_finished past s.lawful k rest is))
-          ((parts past state s).exchange_is ∙ sym (exchange_finished k past)),
+          ((parts past state s).exchange_is ∙ sym (exchange_as past (finished k past) refl refl refl)),
     )
 
 pub logout_refused : (numbers_now : Stamp) (params : Params) (frame : Frame) (given : Answer) → closes params frame ≡ false

@@ -11,16 +11,16 @@ use Rattle.iscsi_transfer.proofs.Standing.{remembered-asked}
 use Rattle.iscsi_session.specs.declared.transfers.Transfer.{Transfer}
 use Rattle.iscsi_session.specs.Requests.{Past, SentR2t, frame_of, is_in, due, queue, unfinished, stamp, statuses, bearing, functions}
 use Rattle.iscsi_session.specs.Transfers.{outs_of, tags_of, last_tag, data_past, task_at, ask_of, asking, next_transfer_tag, drains_of, r2t_answers, r2t_of, asked, asked_by, r2ts_by}
-use Rattle.iscsi_session.specs.State.{SessionState, TransferList, AreDrained, drained_of, IsLawful, Stands, tasks_of, transfers_of, transfer_of, transfer_at, no_transfer, due_of, asking_place, r2t_at, asked_at, sent_to, functions_of, standing}
+use Rattle.iscsi_session.specs.State.{SessionState, TransferList, AreDrained, drained_of, IsLawful, Stands, tasks_of, transfers_of, transfer_of, transfer_at, no_transfer, due_of, asking_place, r2t_at, asked_at, sent_to, functions_of, standing, remembered}
 use Rattle.iscsi_session.specs.Steps.{ready, ready_in}
 use Rattle.iscsi_order.specs.Stat.{stat_sn}
 use Rattle.iscsi_session.proofs.Left.{in_at, in_filter}
 use Rattle.iscsi_session.proofs.Places.{in_get, Located, located, index_map, first_passes, none_passes, one_more}
-use Rattle.iscsi_session.proofs.Unfinished.{unfinished_came}
-use Rattle.iscsi_session.proofs.Exchanging.{exchange_asked}
+use Rattle.iscsi_session.proofs.Kept.{unfinished_came}
 use Rattle.iscsi_session.proofs.Parts.{parts}
 use Rattle.iscsi_session.proofs.Feeding.{list_is, list_changed, drains_kept}
 use Rattle.iscsi_session.proofs.Runs.{lawful_data, statuses_answering}
+use Rattle.iscsi_session.specs.Texts.{exchange_of}
 
 -- ---- its tag is the last one
 
@@ -59,19 +59,13 @@ pub unfinished_asked : (past : Past) (k : ℕ) → unfinished (asked k past) ≡
 unfolding unfinished
 unfinished_asked past k = refl
 
-tasks_asked : (past : Past) (k : ℕ) → tasks_of (asked k past) ≡ tasks_of past
-unfolding tasks_of due queue standing
-tasks_asked past k = refl
-
 -- ---- which command is asked
-
-located_asking : (past : Past) → Located (λ transfer. is_some (due_of transfer)) (transfer_of past) (unfinished past)
-    (asking_place (map (transfer_of past) (unfinished past)))
-located_asking past = located (λ (transfer : Transfer). is_some (due_of transfer)) (transfer_of past) (unfinished past)
 
 asking_in : (past : Past) (state : SessionState) → Stands past state
     → Located (λ transfer. is_some (due_of transfer)) (transfer_of past) (unfinished past) (asking_place state.transfers.list)
-asking_in past state s = grind (arith, list_is past state s, located_asking past)
+asking_in past state s =
+    subst (λ (l : List Transfer). Located (λ transfer. is_some (due_of transfer)) (transfer_of past) (unfinished past) (asking_place l))
+    (sym (list_is past state s)) (located (λ (transfer : Transfer). is_some (due_of transfer)) (transfer_of past) (unfinished past))
 
 pub asking_came : (past : Past) (k : ℕ) (rest : List ℕ) → asking past ≡ k ∷ rest → k < length past.came
 unfolding asking
@@ -118,24 +112,15 @@ lawful_asked past k lt lawful =
     lawful_data past past.data_outs (past.r2ts ++ sent_now past k ∷ []) (past.answers ++ r2t_of past k) lawful lawful.fed
     (All-push (λ (r : SentR2t). r.command < length past.came) past.r2ts (sent_now past k) lawful.asked lt)
 
-functions_asked : (past : Past) (k : ℕ) → functions_of past ≡ functions_of (asked k past)
-unfolding functions_of functions
-functions_asked past k = refl
-
 stands_one : (past : Past) (state : SessionState) (k i : ℕ) (others : List ℕ) → Stands past state → asking past ≡ k ∷ others
     → slice_get (unfinished past) i ≡ Some k → Stands (asked k past) (record state { transfers = asked_at state.transfers (Some i) })
-stands_one past state k i others s is at =
-    let p = parts past state s in
-    let stat_is : state.stat ≡ stat_sn (statuses (asked k past)) = p.stat_is ∙ ap stat_sn (sym (statuses_asked past k)) in
-    let tasks_is = p.tasks_is ∙ sym (tasks_asked past k) in
-    let transfers_is : asked_at state.transfers (Some i) ≡ transfers_of (asked k past) =
-    ap (λ (t : TransferList). asked_at t (Some i)) p.transfers_is ∙ asked_transfers past k i s.lawful.drained at in
-    let exchange_is = p.exchange_is ∙ sym (exchange_asked k past) in
-    let functions_is = p.functions_is ∙ functions_asked past k in
-    record {
-      lawful = lawful_asked past k (asking_came past k others is) s.lawful;
-      remembered = rw (p.params_is, stat_is, tasks_is, transfers_is, functions_is, exchange_is) refl;
-    }
+unfolding tasks_of functions_of exchange_of due queue standing functions
+stands_one past state k i others s is at = record {
+  lawful = lawful_asked past k (asking_came past k others is) s.lawful;
+  remembered = ap (λ (x : SessionState). record x { transfers = asked_at x.transfers (Some i) }) s.remembered
+      ∙ ap (λ (t : TransferList). record (remembered past) { transfers = t }) (asked_transfers past k i s.lawful.drained at)
+      ∙ ap (λ (n : ℕ). record (remembered (asked k past)) { stat = stat_sn n }) (sym (statuses_asked past k));
+}
 
 stands_place : (past : Past) (state : SessionState) (at : Option ℕ) → Stands past state
     → Located (λ transfer. is_some (due_of transfer)) (transfer_of past) (unfinished past) at

@@ -1,13 +1,20 @@
 -- Sessions between two frames: how many requests they hold, and what the calls on them add.
-use Rattle.std.proofs.Common.{◌≡◌, ℕ, zero, suc, ◌+◌, ◌-◌, ◌<◌, ◌≤◌, ◌==◌, List, [], ◌∷◌, length, get_or, Bool, true, false, not, Option, None, Result, Ok, Err, refl, sym, ap, subst, ◌∙◌, arith}
+use Rattle.std.proofs.Common.{◌≡◌, ℕ, zero, suc, ◌+◌, ◌*◌, ◌≤◌, List, [], ◌∷◌, length, Bool, true, false, cond, not, refl, arith, ◌-◌, ◌<◌, ◌==◌, get_or, Option, None, Result, Ok, Err, sym, ap, subst, ◌∙◌}
+use Rattle.iscsi_pdu.specs.Header.{header_length, is_immediate}
+use Rattle.iscsi_pdu.specs.Frames.{Frame}
+use Rattle.iscsi_session.specs.Requests.{Past, due, begun, no_request, frame_of, request_at, is_command, is_in, left, commands, others, numbers, numbered, held, queue, unfinished, pending as awaiting, functions, finished, removing, stamp, counted, over, taken, place_of}
+use Rattle.iscsi_session.specs.Functions.{drained_functions, FunctionReach, reached}
+use Rattle.iscsi_session.specs.Transfers.{asking}
+use Rattle.iscsi_session.specs.Steps.{Step, Judging, Taking, Asking, Answering, Work, reaches, take_step, judge, act, ask, tell, first_steps, one_by_one, waiting_in, act_all, ask_due, tell_due, taken_in, asked_in, served, begun_work, answered_command, is_serving}
+use Rattle.iscsi_session.specs.Weight.{request_weight, IsWithinLimits, open_requests, IsAtRest, Eases, Loads}
+use Rattle.iscsi_session.proofs.Holding.{pending_in, fewer_still, filter_fewer, waits_in, pending_is, pending_finished, pending_removing, immediate_of, immediate_less}
+use Rattle.iscsi_session.proofs.Added.{Adds, adds_none, adds_then, adds_less, judge_adds, act_adds, ask_adds, tell_adds, same_answering, spelled_more, removed_immediate}
 use Rattle.std.specs.Prelude.{filter, flat_map, is_some, IfOk, OnErr}
 use Rattle.std.specs.List.{range_with_len}
 use Rattle.std.proofs.lemmas.Bool.{eq-eqb, ne_eqb, cases_eq, or_right}
 use Rattle.std.proofs.lemmas.List.{length-append, length-map}
 use Rattle.std.proofs.lemmas.List.Elements.{All-filter}
 use Rattle.std.proofs.lemmas.List.Filters.{length-filter_both}
-use Rattle.iscsi_pdu.specs.Header.{header_length, is_immediate}
-use Rattle.iscsi_pdu.specs.Frames.{Frame}
 use Rattle.iscsi_pdu.specs.Answer.{spelling}
 use Rattle.iscsi_pdu.specs.declared.answer.Answer.{Answer}
 use Rattle.iscsi_order.specs.Window as order
@@ -18,31 +25,70 @@ use Rattle.scsi_unit.specs.Units.{numbers_of}
 use Rattle.iscsi_session.specs.Comings.{TargetUnits}
 use Rattle.iscsi_login.specs.Values.{AreInRange}
 use Rattle.iscsi_login.specs.declared.params.Params.{Params}
-use Rattle.iscsi_session.specs.Requests.{Past, begun, no_request, frame_of, request_at, is_command, is_in, left, commands, others, numbers, numbered, held, due, queue, unfinished, pending as awaiting, functions, finished, removing, answering, stamp, counted, over, taken, place_of}
-use Rattle.iscsi_session.specs.Functions.{FunctionReach, reached}
 use Rattle.iscsi_session.specs.Answers.{command_answers}
 use Rattle.iscsi_session.specs.State.{SessionState, AreDistinct, IsLawful, Stands, remembered}
-use Rattle.iscsi_session.specs.Steps.{Step, begun_work, answered_command, is_serving, served}
 use Rattle.iscsi_session.specs.Runs.{Output, Starts, is_failed, Runs, Stops, AnswersAs}
-use Rattle.iscsi_session.specs.Weight.{open_requests, IsWithinLimits, IsAtRest, Eases, Loads}
 use Rattle.iscsi_session.proofs.Answered.{none_due, queue_first}
-use Rattle.iscsi_session.proofs.Left.{filter_cong, in_at, in_left_back, distinct_filter, distinct_left, passes_in, below_of, in_filter, in_filter_back}
-use Rattle.iscsi_session.proofs.Unfinished.{unfinished_without, queue_unfinished}
+use Rattle.iscsi_session.proofs.Left.{filter_cong, in_at, in_left_back, distinct_filter, distinct_left, passes_in, below_of, in_filter, in_filter_back, distinct_front}
+use Rattle.iscsi_session.proofs.Kept.{unfinished_without, queue_unfinished, functions_without, functions_distinct, functions_below, command_not_pending, Below}
 use Rattle.iscsi_session.proofs.Moved.{lawful_finished, is_done}
-use Rattle.iscsi_session.proofs.Pending.{functions_without, functions_distinct, functions_below, command_not_pending}
-use Rattle.iscsi_session.proofs.Kept.{Below}
 use Rattle.iscsi_session.proofs.Telling.{pending_finished as waits_finished}
 use Rattle.iscsi_order.proofs.Standing.{front_within}
 use Rattle.iscsi_session.proofs.Accepted.{begun_lawful, handed_is, counted_append, in_queue}
-use Rattle.iscsi_session.proofs.Over.{split, acted_counted}
+use Rattle.iscsi_session.proofs.Over.{split, acted_counted, due_as}
 use Rattle.iscsi_session.proofs.Runs.{lawful_answering}
 use Rattle.iscsi_session.proofs.Taken.{distinct_taken}
-use Rattle.iscsi_session.proofs.Left.{distinct_front}
-use Rattle.iscsi_session.proofs.Holding.{fewer_still, filter_fewer, waits_in, pending_in, pending_is, pending_finished, pending_removing}
-use Rattle.iscsi_session.proofs.Limits.{immediate_of, immediate_less}
-use Rattle.iscsi_session.proofs.Lengths.{command_long}
-use Rattle.iscsi_session.proofs.Added.{pending_answering, immediate_answering, spelled_more, removed_immediate}
-use Rattle.iscsi_session.proofs.Adding.{served_adds}
+use Rattle.iscsi_session.proofs.Room.{command_long}
+
+-- ---- one after the other
+
+step_by : (on fail : Bool) (n i : ℕ) (step : Step) (does : Work → Work) (work : Work) → IsWithinLimits work.past
+    → Adds n i work.past (does (reaches step work)).past
+    → Adds n i work.past (cond (not on) work (cond fail (record (reaches step work) { goes_on = false }) (does (reaches step work)))).past
+step_by false fail n i step does work w next = adds_none n i work.past w
+step_by true true n i step does work w next = adds_none n i work.past w
+step_by true false n i step does work w next = next
+
+step_adds : (n i : ℕ) (fails : Step → Bool) (step : Step) (does : Work → Work) (work : Work) → IsWithinLimits work.past
+    → Adds n i work.past (does (reaches step work)).past → Adds n i work.past (take_step fails step does work).past
+unfolding take_step
+step_adds n i fails step does work w next = step_by work.goes_on (fails step) n i step does work w next
+
+abbrev AddsLittle : (Past → List ℕ) → (ℕ → Work → Work) → Type 0
+AddsLittle line does = (work : Work) (k : ℕ) (rest : List ℕ) → line work.past ≡ k ∷ rest → IsWithinLimits work.past → Adds 48 0 work.past (does k work).past
+
+first_adds : (fails : Step → Bool) (step : Step) (line : Past → List ℕ) (does : ℕ → Work → Work) (l : List ℕ) (work : Work) → line work.past ≡ l
+    → AddsLittle line does → IsWithinLimits work.past → Adds 48 0 work.past (first_steps fails step does l work).past
+first_adds fails step line does [] work is little w = adds_none 48 0 work.past w
+first_adds fails step line does (k ∷ rest) work is little w = step_adds 48 0 fails step (does k) work w (little (reaches step work) k rest is w)
+
+all_add : (fails : Step → Bool) (step : ℕ → Step) (line : Past → List ℕ) (does : ℕ → Work → Work) (turn most : ℕ) (work : Work) → AddsLittle line does
+    → IsWithinLimits work.past → Adds (most * 48) 0 work.past (one_by_one fails step line does turn most work).past
+all_add fails step line does turn zero work little w = adds_none (0 * 48) 0 work.past w
+all_add fails step line does turn (suc most) work little w =
+    let next = first_steps fails (step turn) does (line work.past) work in
+    let one = first_adds fails (step turn) line does (line work.past) work refl little w in
+    let others = all_add fails step line does (suc turn) most next little one.within in
+    adds_less (48 + most * 48) (suc most * 48) (0 + 0) 0 work.past _ (omega arith) (omega arith)
+    (adds_then 48 (most * 48) 0 0 work.past next.past _ one others)
+
+pub served_adds : (fails : Step → Bool) (place : ℕ) (frame : Frame) (work : Work) → length frame.header ≡ header_length → IsWithinLimits work.past
+    → pending_in work.past ≤ 40 → Adds (2 * request_weight) 1 work.past (served fails place frame work).past
+unfolding served asked_in taken_in act_all ask_due tell_due
+served_adds fails place frame work whole w few =
+    let judging = take_step fails (Judging place) (judge frame) work in
+    let first = step_adds (request_weight + 99) 1 fails (Judging place) (judge frame) work w (judge_adds frame (reaches (Judging place) work) whole w) in
+    let fuel = waiting_in judging.past in
+    let acts = one_by_one fails (Taking place) due act 0 fuel judging in
+    let second = all_add fails (Taking place) due act 0 fuel judging act_adds first.within in
+    let third = first_adds fails (Asking place) asking ask (asking acts.past) acts refl ask_adds second.within in
+    let asks = first_steps fails (Asking place) ask (asking acts.past) acts in
+    let fourth = first_adds fails (Answering place) drained_functions tell (drained_functions asks.past) asks refl tell_adds third.within in
+    let more = first.more in
+    adds_less (request_weight + 99 + fuel * 48 + 48 + 48) (2 * request_weight) (1 + 0 + 0 + 0) 1 work.past _ (omega (arith, more, few)) (omega arith)
+    (adds_then (request_weight + 99 + fuel * 48 + 48) 48 (1 + 0 + 0) 0 work.past asks.past _
+    (adds_then (request_weight + 99 + fuel * 48) 48 (1 + 0) 0 work.past acts.past asks.past
+    (adds_then (request_weight + 99) (fuel * 48) 1 0 work.past judging.past acts.past first second) third) fourth)
 
 -- ---- how many are pending
 
@@ -182,10 +228,6 @@ begun_rests params = grind (arith, begun_lawful params)
 
 -- ---- a command is done
 
-same_due : (past : Past) (k : ℕ) (more : List Answer) → due (answering more (finished k past)) ≡ due past
-unfolding due
-same_due past k more = refl
-
 finished_immediate : (past : Past) (k : ℕ) (others : List ℕ) → queue past ≡ k ∷ others → IsLawful past → immediate_of (finished k past) ≤ immediate_of past
 finished_immediate past k others is lawful = grind (arith, immediate_less, unfinished_without, functions_without, command_not_pending, is_done)
 
@@ -197,7 +239,7 @@ done_within past k others done is w =
     record {
       lawful = lawful_answering more (finished k past) (lawful_finished past w.lawful k others is);
       headers = w.headers;
-      few = omega (arith, few, immediate_answering more (finished k past), finished_immediate past k others is w.lawful);
+      few = omega (arith, few, (same_answering more (finished k past)).1, finished_immediate past k others is w.lawful);
     }
 
 pub done_eases : (old new : SessionState) (frame : Frame) (rest : List Frame) (done : Outcome) (before waiting : List ℕ) → old.tasks.queue ≡ frame ∷ rest
@@ -217,7 +259,7 @@ done_eases old new frame rest done before waiting is range given answers r =
       rests = record {
         past = answered_command done k past;
         within = done_within past k found.1 done found.2 r.within;
-        idle = same_due past k more ∙ r.idle;
+        idle = due_as past (answered_command done k past) refl refl ∙ r.idle;
         remembered = after.remembered;
       };
       lighter = omega (
@@ -227,7 +269,7 @@ done_eases old new frame rest done before waiting is range given answers r =
         command_long (stamp (finished k past)) past.params.values (frame_of past.came k) done in_range given,
         rest_pending past old s,
         rest_pending (answered_command done k past) new after,
-        pending_answering more (finished k past),
+        (same_answering more (finished k past)).0,
         pending_finished past k found.1 r.within.lawful found.2,
       );
     }
@@ -240,10 +282,6 @@ pub eases_then : (old middle new : SessionState) (before waiting items : List �
 eases_then old middle new before waiting items a b = grind arith
 
 -- ---- commands are removed
-
-removed_due : (past : Past) (names : List ℕ) → due (removing names past) ≡ due past
-unfolding due
-removed_due past names = refl
 
 pub removing_eases : (reach : FunctionReach) (old new : SessionState) (waiting : List ℕ)
     → ((past : Past) → Stands past old → Stands (removing (reached reach past) past) new) → IsAtRest old → Eases old new waiting waiting
@@ -261,7 +299,7 @@ removing_eases reach old new waiting stands r =
           headers = r.within.headers;
           few = omega (arith, few, removed_immediate past names);
         };
-        idle = removed_due past names ∙ r.idle;
+        idle = due_as past (removing names past) refl refl ∙ r.idle;
         remembered = after.remembered;
       };
       lighter = omega (
@@ -323,9 +361,6 @@ serve_loads (Ok goes_on) frame luns old new before waiting units numbers ok err 
 serve_loads (Err e) frame luns old new before waiting units numbers ok err idle whole r = grind (arith, run_loads)
 
 -- a session that begins has no requests
-begun_none : (params : Params) → pending_in (begun params) ≡ 0
-unfolding held due queue functions left taken taken_numbers
-begun_none params = refl
-
 pub begun_pending : (params : Params) → open_requests (remembered (begun params)) ≡ 0
-begun_pending params = pending_is (begun params) (begun_lawful params) ∙ begun_none params
+unfolding held due queue functions left taken taken_numbers
+begun_pending params = pending_is (begun params) (begun_lawful params)

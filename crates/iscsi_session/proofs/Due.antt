@@ -28,9 +28,7 @@ use Rattle.iscsi_session.specs.Draining.{is_asked}
 use Rattle.iscsi_session.specs.Steps.{Step, Judging, Taking, Asking, Answering, Doing, Work, reaches, take_step, judge, act, act_all, ask, tell, finish, first_steps, one_by_one, waiting_in, ask_due, tell_due, taken_in, asked_in, served, ready, settled}
 use Rattle.iscsi_session.specs.Laws.{NothingIsDue, NothingStaysDue}
 use Rattle.iscsi_session.proofs.Left.{in_at, in_filter, in_filter_back, in_left, in_left_back, in_back, not_gone, passes_in, is_in_append, left_more}
-use Rattle.iscsi_session.proofs.Kept.{joined, function_no_command}
-use Rattle.iscsi_session.proofs.Unfinished.{unfinished_came, unfinished_joined, unfinished_without, queue_unfinished, transfer_joined}
-use Rattle.iscsi_session.proofs.Pending.{drains_apart, drain_commands_below}
+use Rattle.iscsi_session.proofs.Kept.{joined, function_no_command, unfinished_came, unfinished_joined, unfinished_without, queue_unfinished, transfer_joined, drains_apart, drain_commands_below}
 use Rattle.iscsi_session.proofs.Standing.{standing_kept}
 use Rattle.iscsi_session.proofs.Accepted.{finished_below, removed_below, with}
 use Rattle.iscsi_session.proofs.Moved.{due_came, stays_other}
@@ -38,8 +36,7 @@ use Rattle.iscsi_session.proofs.Weights.{weight_by, weight_some, waiting_held, w
 use Rattle.iscsi_session.proofs.Removing.{tasks_removing}
 use Rattle.iscsi_session.proofs.Feeding.{feeding, unfinished_fed, fed_elsewhere}
 use Rattle.iscsi_session.proofs.Asking.{unfinished_asked, asked_there, asked_elsewhere, ready_queue}
-use Rattle.iscsi_session.proofs.Ending.{ended_function, reached_moved, plugs_unasked, plugs_new}
-use Rattle.iscsi_session.proofs.Plugging.{plugged_tasks}
+use Rattle.iscsi_session.proofs.Ending.{ended_function, reached_moved, plugs_unasked, plugs_new, plugged_tasks}
 use Rattle.iscsi_session.proofs.Runs.{tasks_answering, first_stopped, stopped, idle}
 use Rattle.iscsi_session.proofs.Answered.{ended_plain, command_kind}
 use Rattle.iscsi_session.proofs.Steps.{KeptBy, all_keep, settled_keeps}
@@ -516,16 +513,8 @@ record Rests (command function : Option ℕ) (past : Past) : Type 0 where
   owes : Owes command function past
   acts : due past ≡ []
 
-line_ask : (work : Work) (k : ℕ) → due (ask k work).past ≡ due work.past
-unfolding ask due
-line_ask work k = refl
-
-line_tell : (work : Work) (k : ℕ) → due (tell k work).past ≡ due work.past
-unfolding tell due
-line_tell work k = refl
-
 ask_rests : {c f : Option ℕ} (work : Work) (k : ℕ) (rest : List ℕ) → asking work.past ≡ k ∷ rest → Rests c f work.past → Rests None f (ask k work).past
-unfolding ask
+unfolding ask due
 ask_rests {c} {f} work k rest is r =
     let past = work.past in
     let there : is_in k (asking past) ≡ true = ap (is_in k) is ∙ in_at (k ∷ rest) 0 0 (omega arith) in
@@ -534,11 +523,11 @@ ask_rests {c} {f} work k rest is r =
     let gone : is_in k (asking (asked k past)) ≡ true → ⊥ = λ h.
     (let no = sym (asks_in (asked k past) k h).1 ∙ ask_gone past k (asks_in past k there).1 in cc) in
     let asks = owes_less past (asked k past) asking c k rest is r.owes.asks m.asks gone in
-    record { owes = record { lawful = o.lawful; asks = asks; answers = o.answers; discovery = o.discovery }; acts = line_ask work k ∙ r.acts }
+    record { owes = record { lawful = o.lawful; asks = asks; answers = o.answers; discovery = o.discovery }; acts = r.acts }
 
 tell_rests : {c f : Option ℕ} (work : Work) (k : ℕ) (rest : List ℕ) → drained_functions work.past ≡ k ∷ rest → Rests c f work.past
     → Rests c None (tell k work).past
-unfolding tell
+unfolding tell due
 tell_rests {c} {f} work k rest is r =
     let past = work.past in
     let after = told k past in
@@ -547,7 +536,7 @@ tell_rests {c} {f} work k rest is r =
     let m = then_no_more (none_told k past) a in
     let o = owes_still m (tell_lawful work k rest is r.owes.lawful) r.owes in
     let answers = owes_less past (answering more after) drained_functions f k rest is r.owes.answers m.answers (λ h. told_gone k past (a.answers k h)) in
-    record { owes = record { lawful = o.lawful; asks = o.asks; answers = answers; discovery = o.discovery }; acts = line_tell work k ∙ r.acts }
+    record { owes = record { lawful = o.lawful; asks = o.asks; answers = answers; discovery = o.discovery }; acts = r.acts }
 
 served_due : (fails : Step → Bool) (place : ℕ) (frame : Frame) (work : Work) → IsLawful work.past → NothingIsDue work.past
     → (served fails place frame work).goes_on ≡ true → NothingIsDue (served fails place frame work).past
@@ -586,17 +575,13 @@ queue_finish : (work : Work) (k : ℕ) → queue (finish k work).past ≡ queue 
 unfolding finish queue
 queue_finish work k = refl
 
-line_finish : (work : Work) (k : ℕ) → due (finish k work).past ≡ due work.past
-unfolding finish due
-line_finish work k = refl
-
 finish_fewer : (work : Work) (k : ℕ) (rest : List ℕ) → ready work.past ≡ k ∷ rest → IsLawful work.past
     → length (queue (finish k work).past) < length (queue work.past)
 finish_fewer work k rest is lawful = grind (arith, ready_queue, queue_finish, done_in_order)
 
 finish_rests : {c f : Option ℕ} (work : Work) (k : ℕ) (rest : List ℕ) → ready work.past ≡ k ∷ rest → Rests c f work.past → Rests c f (finish k work).past
-finish_rests work k rest is r =
-    record { owes = owes_still (none_finish work k) (finish_lawful work k rest is r.owes.lawful) r.owes; acts = line_finish work k ∙ r.acts }
+unfolding finish due
+finish_rests work k rest is r = record { owes = owes_still (none_finish work k) (finish_lawful work k rest is r.owes.lawful) r.owes; acts = r.acts }
 
 settled_due : (fails : Step → Bool) (place : ℕ) (work : Work) → IsLawful work.past → NothingIsDue work.past → NothingIsDue (settled fails place work).past
 settled_due fails place work lawful n =
@@ -612,27 +597,21 @@ settled_done fails place work lawful on =
 
 -- ---- commands are removed, and a discovery session
 
-due_removing : (names : List ℕ) (past : Past) → due (removing names past) ≡ due past
-unfolding due
-due_removing names past = refl
-
 removed_due : (names : List ℕ) (past : Past) → NothingIsDue past → NothingIsDue (removing names past)
+unfolding due
 removed_due names past n =
     let m = none_removing names past in
     record {
-      acts = due_removing names past ∙ n.acts;
+      acts = n.acts;
       asks = none_in _ (λ k h. only_none (asking past) n.asks k (m.asks k h));
       answers = none_in _ (λ k h. only_none (drained_functions past) n.answers k (m.answers k h));
       discovery = λ e. none_in _ (λ k h. only_none (unfinished past) (n.discovery e) k (m.commands k h));
     }
 
-none_ready : (past : Past) → queue past ≡ [] → ready past ≡ []
-unfolding ready
-none_ready past e = rw e refl
-
 discovery_done : (past : Past) → IsLawful past → NothingIsDue past → past.params.target ≡ None → ready past ≡ []
+unfolding ready
 discovery_done past lawful n e =
-    none_ready past (none_in (queue past) (λ k h. only_none (unfinished past) (n.discovery e) k (queue_unfinished past k lawful.below h)))
+    rw (none_in (queue past) (λ k h. only_none (unfinished past) (n.discovery e) k (queue_unfinished past k lawful.below h))) refl
 
 begun_due : (params : Params) → NothingIsDue (begun params)
 unfolding due left taken unfinished asking drained_functions

@@ -1,13 +1,13 @@
 -- The data of the commands: where each stands, what a Data-Out and an R2T make of it.
 use Rattle.std.proofs.Common.{◌≡◌, ◌≢◌, ◌==◌, ◌+◌, ◌||◌, ℕ, ◌<◌, List, [], ◌∷◌, ◌++◌, length, map, set, ltb, Bool, ◌&&◌, true, false, not, Option, Some, None, refl, sym, ap, ◌∙◌, arith, append-nil, slice_index_or}
-use Rattle.std.specs.Prelude.{All, filter, find, is_some, slice_get, if◌then◌else◌}
+use Rattle.std.specs.Prelude.{filter, find, is_some, slice_get, if◌then◌else◌}
 use Rattle.std.proofs.lemmas.Bool.{eq-eqb, ne_eqb, false_from_ne_true, or_parts}
-use Rattle.std.proofs.lemmas.List.Elements.{All-push, All-nil, All-cons, All-head, All-tail}
+use Rattle.std.proofs.lemmas.List.Elements.{All-push, All-map}
 use Rattle.iscsi_pdu.specs.Header.{is_immediate, initiator_task_tag}
 use Rattle.iscsi_pdu.specs.Frames.{Frame}
 use Rattle.iscsi_transfer.specs.Task.{TaskState, remembered as task_of, is_whole, with_data, blank}
 use Rattle.iscsi_transfer.proofs.Blank.{fault_blank, with_blank}
-use Rattle.iscsi_session.proofs.Blanked.{asked_blanked}
+use Rattle.iscsi_session.proofs.Places.{asked_blanked, Located, located, in_get, same_all, index_map, set_map, remove_map, missing, found_or_not, found_self, count_map, or_known, one_more, drain_at, LocatedAmong, located_among, same_drains, set_drains}
 use Rattle.iscsi_transfer.proofs.Standing.{remembered-accepted}
 use Rattle.iscsi_session.specs.declared.transfers.Transfer.{Transfer}
 use Rattle.iscsi_session.specs.Drained.{Drained}
@@ -16,16 +16,12 @@ use Rattle.iscsi_session.specs.Requests.{Request, Past, Drain, DataOut, is_comma
 use Rattle.iscsi_session.specs.Judging.{is_live, is_full, data_verdict}
 use Rattle.iscsi_session.specs.Transfers.{tag_of, command_with, command_among, drains_of, drained, is_asked_of, outs_of, tags_of, last_tag, data_past, task_at, payload_of, is_whole_of, fed}
 use Rattle.iscsi_session.specs.Draining.{is_draining, drain_with, drain_for, no_drained, judged_drain, fed_drain, judged_in, fed_in, is_live_in}
-use Rattle.iscsi_session.specs.State.{SessionState, TransferList, AreDrained, drained_of, IsLawful, Stands, tasks_of, transfers_of, transfer_of, no_transfer, bears, place_with, place_for, immediate_transfers, functions_of, function_place, immediate_functions, judged_at, fed_at, whole_at, payload_at, removed_at, standing}
+use Rattle.iscsi_session.specs.State.{SessionState, TransferList, AreDrained, drained_of, IsLawful, Stands, tasks_of, transfers_of, transfer_of, no_transfer, bears, place_with, place_for, immediate_transfers, functions_of, function_place, immediate_functions, judged_at, fed_at, whole_at, payload_at, removed_at, standing, IsLawfulTask}
 use Rattle.iscsi_session.proofs.Left.{in_at, in_filter, below_of}
-use Rattle.iscsi_session.proofs.Places.{Located, located, in_get, same_all, index_map, set_map, remove_map, missing, found_or_not, found_self, count_map, or_known, one_more}
-use Rattle.iscsi_session.proofs.Unfinished.{drained_with, unfinished_came, unfinished_distinct, queue_unfinished}
-use Rattle.iscsi_session.proofs.Pending.{drains_all, drains_once, drains_apart, drain_commands_below}
-use Rattle.iscsi_session.proofs.Drains.{drain_at, LocatedAmong, located_among, index_drains, same_drains, set_drains}
+use Rattle.iscsi_session.proofs.Kept.{drained_with, unfinished_came, unfinished_distinct, queue_unfinished, drains_all, drains_once, drains_apart, drain_commands_below}
 use Rattle.iscsi_session.proofs.Moved.{transfers_finished}
-use Rattle.iscsi_session.proofs.Exchanging.{exchange_fed}
+use Rattle.iscsi_session.proofs.Parts.{exchange_fed, parts, stands_parts}
 use Rattle.iscsi_session.proofs.Accepted.{HasFreeTag, removed_below}
-use Rattle.iscsi_session.proofs.Parts.{parts, stands_parts}
 use Rattle.iscsi_session.proofs.Runs.{lawful_data}
 
 pub list_is : (past : Past) (state : SessionState) → Stands past state → state.transfers.list ≡ map (transfer_of past) (unfinished past)
@@ -107,13 +103,12 @@ pub free_by_past : (past : Past) (frame : Frame) → ((is_command frame || is_fu
 free_by_past past frame free = grind (arith, missing, or_parts, none_by, or_known)
 
 -- nothing bears its tag
-pub free_tag : (past : Past) (state : SessionState) (frame : Frame) → Stands past state → place_for frame state.transfers.list ≡ None
-    → function_place (initiator_task_tag frame.header) state.functions ≡ None → HasFreeTag past frame
-free_tag past state frame s e f =
+pub free_tag : (past : Past) (state : SessionState) (frame : Frame) → Stands past state → IsLawfulTask state frame → HasFreeTag past frame
+free_tag past state frame s task =
     let tag = initiator_task_tag frame.header in
     record {
-      command = λ h. missing (tag_of past.came) tag (unfinished past) (none_by _ (sym (unfinished_live past state tag s) ∙ ap is_some e));
-      function = λ h. missing (tag_of past.came) tag (functions past) (none_by _ (sym (functions_live past state tag s) ∙ ap is_some f));
+      command = λ h. missing (tag_of past.came) tag (unfinished past) (none_by _ (sym (unfinished_live past state tag s) ∙ ap is_some task.tag));
+      function = λ h. missing (tag_of past.came) tag (functions past) (none_by _ (sym (functions_live past state tag s) ∙ ap is_some task.function_tag));
     }
 
 -- ---- a Data-Out is judged
@@ -131,7 +126,7 @@ judged_drained : (past : Past) (frame : Frame) (at : Option ℕ)
     → judged_drain (map (drained_of past) (drains_of past)) frame at ≡ data_verdict past frame (command_among past (tag_in frame) (drained past))
 unfolding drained
 judged_drained past frame None found = ap (data_verdict past frame) (sym found)
-judged_drained past frame (Some i) found = grind (arith, index_drains, fault_blank)
+judged_drained past frame (Some i) found = grind (arith, index_map, fault_blank)
 
 -- by the first of two where there is one, else by the second
 by_either : {Y : Type 0} (f : Option ℕ → Y) (c : Bool) (a b : Option ℕ) (x y : Y) → c ≡ is_some a → x ≡ f a → y ≡ f b
@@ -209,9 +204,6 @@ fed_others : (past : Past) (k : ℕ) (frame : Frame) → is_in k (unfinished pas
     → map (transfer_of past) (unfinished past) ≡ map (transfer_of (feeding k frame past)) (unfinished past)
 fed_others past k frame none = grind (arith, same_all, fed_elsewhere)
 
-drain_elsewhere : (past : Past) (k : ℕ) (frame : Frame) (d : Drain) → d.command ≢ k → drained_of (feeding k frame past) d ≡ drained_of past d
-drain_elsewhere past k frame d differ = ap (drained_with (frame_of past.came d.function).header) (fed_elsewhere past k d.command frame differ)
-
 -- it is of a command that is not finished
 fed_place : (past : Past) (frame : Frame) (at : Option ℕ) → AreDrained past → Located (bears (tag_in frame)) (transfer_of past) (unfinished past) at
     → record (transfers_of past) { list = fed_at (map (transfer_of past) (unfinished past)) frame at }
@@ -244,14 +236,14 @@ fed_drained past frame (Some i) drained found =
     let set_there : fed_drain (map (drained_of past) (drains_of past)) frame (Some i) ≡ map (drained_of (feeding k frame past)) (drains_of past) =
     ap (λ (x : Drained). set (map (drained_of past) (drains_of past)) i
     (record x { transfer = record x.transfer { task = blank (with_data x.transfer.task frame) } }))
-    (index_drains (drained_of past) no_drained (drains_of past) i d found.2)
+    (index_map (drained_of past) no_drained (drains_of past) i d found.2)
     ∙ ap (λ (task : TaskState).
     (let x : Drained = record { function = (frame_of past.came d.function).header; transfer = record (transfer_of past k) { task = task } } in
     set (map (drained_of past) (drains_of past)) i x)) (with_blank (transfer_of past k).task frame)
     ∙ ap (λ (t : Transfer). set (map (drained_of past) (drains_of past)) i (drained_with (frame_of past.came d.function).header t))
     (sym (fed_there past k frame))
     ∙ set_drains (drained_of past) (drained_of (feeding k frame past)) (drains_of past) i d (drains_once past drained) found.2
-    (λ e differ. drain_elsewhere past k frame e differ) in
+    (λ e differ. ap (drained_with (frame_of past.came e.function).header) (fed_elsewhere past k e.command frame differ)) in
     ap (λ (l : List Drained). record (transfers_of past) { drains = l }) set_there
     ∙ ap (λ (l : List Transfer). record (transfers_of (feeding k frame past)) { list = l })
     (fed_others past k frame (drain_there past i d drained found.2) ∙ ap (map (transfer_of (feeding k frame past))) (sym (unfinished_fed past k frame)))
@@ -275,14 +267,9 @@ drained_came : (past : Past) (k : ℕ) → IsLawful past → is_in k (drained pa
 unfolding drained
 drained_came past k lawful e =
     below_of (length past.came) k (map (λ d. d.command) (drains_of past))
-    (map_all (λ d. d.command) (drains_of past) (drains_all (λ d. d.command < length past.came) past
+    (All-map (λ a. a < length past.came) (λ (d : Drain). d.command) (drains_of past) (drains_all (λ d. d.command < length past.came) past
     (drain_commands_below past lawful.drained (removed_below past lawful))))
     (in_filter k (is_asked_of past) (map (λ d. d.command) (drains_of past)) e)
-  where
-    map_all : (f : Drain → ℕ) (l : List Drain) → All (λ d. f d < length past.came) l → All (λ a. a < length past.came) (map f l)
-    map_all f [] all = All-nil (λ a. a < length past.came)
-    map_all f (d ∷ l) all = All-cons (λ a. a < length past.came) (f d) (map f l) (All-head (λ (x : Drain). f x < length past.came) d l all)
-        (map_all f l (All-tail (λ (x : Drain). f x < length past.came) d l all))
 
 found_came : (past : Past) (tag k : ℕ) → IsLawful past → (a b : Option ℕ) → command_among past tag (unfinished past) ≡ a
     → command_among past tag (drained past) ≡ b → command_with past tag ≡ Some k → k < length past.came

@@ -1,53 +1,47 @@
--- How many requests are held, due and in the queue, and how many functions wait, as requests come and go.
-use Rattle.std.proofs.Common.{◌≡◌, ℕ, zero, suc, ◌+◌, ◌≤◌, List, [], ◌∷◌, ◌++◌, length, map, set, take, drop, get_or, Bool, true, false, ◌||◌, ◌==◌, Option, Some, None, refl, sym, ap, ◌∙◌, arith, append-nil, cond}
-use Rattle.std.specs.Prelude.{All, filter, filter_map}
+-- How many requests a session holds, as they come and go: each step keeps its past within limits, and adds little.
+use Rattle.std.proofs.Common.{◌≡◌, ℕ, zero, suc, ◌+◌, ◌≤◌, List, [], ◌∷◌, ◌++◌, length, map, get_or, Bool, true, false, ◌||◌, ◌==◌, refl, sym, ap, ◌∙◌, arith, append-nil, ◌&&◌, cond}
+use Rattle.std.specs.Prelude.{All, filter, is_some}
+use Rattle.std.specs.List.{prefix_len}
 use Rattle.std.proofs.lemmas.Bool.{false_from_ne_true}
 use Rattle.std.proofs.lemmas.List.{length-map, length-append}
-use Rattle.std.proofs.lemmas.List.Elements.{All-head, All-tail, filter_map-append, filter-append}
+use Rattle.std.proofs.lemmas.List.Elements.{All-head, All-tail, filter-append}
 use Rattle.iscsi_pdu.specs.Frames.{Frame}
 use Rattle.iscsi_order.specs.Window.{taken as taken_numbers}
-use Rattle.iscsi_session.specs.Requests.{Request, Past, Drain, is_command, is_function, is_in, left, frame_of, held, due, queue, pending as awaiting, functions, moved, finished, removing}
+use Rattle.iscsi_session.specs.Requests.{Request, Past, Drain, is_command, is_function, is_in, left, frame_of, held, due, queue, pending as awaiting, functions, moved, finished, removing, numbers, unfinished, accepted, number_for}
 use Rattle.iscsi_session.specs.Transfers.{drains_of}
-use Rattle.iscsi_session.specs.Functions.{told}
+use Rattle.iscsi_session.specs.Functions.{told, immediate_in}
 use Rattle.iscsi_session.specs.State.{TaskLists, AreDistinct, IsLawful, remembered, drained_of, tasks_of, transfers_of, functions_of, holding, takes_next, takes, takes_all}
 use Rattle.iscsi_session.specs.Weight.{pending, waits_for, waiting_functions, open_requests}
 use Rattle.iscsi_session.proofs.Left.{filter_cong, left_append, left_more, left_swap, in_at, in_left}
-use Rattle.iscsi_session.proofs.Kept.{joined}
-use Rattle.iscsi_session.proofs.Pending.{functions_without, functions_joined, functions_distinct, command_not_pending}
-use Rattle.iscsi_session.proofs.Accepted.{finished_below, removed_below}
+use Rattle.iscsi_session.proofs.Kept.{joined, Below, of_kind, kept_of, kept_joined, below_kept, kind_same, functions_without, functions_joined, functions_distinct, command_not_pending, settled, settled_below}
+use Rattle.iscsi_session.proofs.Accepted.{finished_below, removed_below, now, with, admitted, held_now}
 use Rattle.iscsi_session.proofs.Moved.{not_pending, is_done}
 use Rattle.iscsi_session.proofs.Removing.{filter_map_names}
 use Rattle.iscsi_session.proofs.Telling.{none_of, once_in, open_tag, pending_came, pending_open, pending_named, drains_pending, functions_told}
-use Rattle.iscsi_session.proofs.Weights.{held_length}
-use Rattle.iscsi_session.proofs.Lawful.{due_in_order, done_in_order}
-
-abbrev there : List (Option Frame) → List Frame
-there l = filter_map (λ o. o) l
+use Rattle.iscsi_session.proofs.Weights.{held_length, held_measure}
+use Rattle.iscsi_session.proofs.Lawful.{due_in_order, done_in_order, accepted_by}
+use Rattle.iscsi_session.proofs.Over.{due_as}
+use Rattle.iscsi_pdu.specs.Header.{is_immediate, cmd_sn}
+use Rattle.iscsi_order.specs.Window as order
+use Rattle.iscsi_order.specs.Serial.{distance}
+use Rattle.iscsi_session.proofs.Taken.{request_new}
+use Rattle.iscsi_session.proofs.Parts.{fresh_is, accepted_now, accepted_with}
+use Rattle.iscsi_session.proofs.Verdicts.{IsFree}
+use Rattle.iscsi_session.proofs.Ending.{new_ahead}
 
 -- ---- what the code does to its lists
 
-there_push : (l : List (Option Frame)) → there (l ++ None ∷ []) ≡ there l
-there_push l = filter_map-append (λ (o : Option Frame). o) l (None ∷ []) ∙ append-nil (there l)
-
-turned_by : (l : List (Option Frame)) (line : List Frame)
-    → length (there (drop 1 l ++ None ∷ [])) + length (line ++ there (take 1 l)) ≡ length (there l) + length line
-turned_by [] line = omega (arith, length-append line [])
-turned_by (None ∷ l) line = omega (arith, length-append line [], ap (λ (x : List Frame). length x) (there_push l))
-turned_by (Some frame ∷ l) line = omega (arith, length-append line (frame ∷ []), ap (λ (x : List Frame). length x) (there_push l))
-
-pending_takes : (n : ℕ) (tasks : TaskLists) → pending (takes n tasks) ≡ pending tasks
-pending_takes zero tasks = refl
-pending_takes (suc n) tasks = omega (arith, pending_takes n (takes_next tasks), turned_by tasks.held tasks.due)
-
-held_more : (l : List (Option Frame)) (i : ℕ) (frame : Frame) → length (there (set l i (Some frame))) ≤ length (there l) + 1
-held_more [] i frame = omega arith
-held_more (None ∷ l) zero frame = omega arith
-held_more (Some other ∷ l) zero frame = omega arith
-held_more (None ∷ l) (suc i) frame = held_more l i frame
-held_more (Some other ∷ l) (suc i) frame = omega (arith, held_more l i frame)
+takes_queue : (n : ℕ) (tasks : TaskLists) → (takes n tasks).queue ≡ tasks.queue
+takes_queue zero tasks = refl
+takes_queue (suc n) tasks = takes_queue n (takes_next tasks)
 
 pub pending_held : (n : ℕ) (frame : Frame) (tasks : TaskLists) → pending (takes_all (holding n frame tasks)) ≤ pending tasks + 1
-pending_held n frame tasks = grind (arith, pending_takes, held_more)
+pending_held n frame tasks =
+    omega (
+      arith,
+      held_measure (λ (l : List Frame). length l) (λ a b. length-append a b) n frame tasks,
+      ap (λ (l : List Frame). length l) (takes_queue (prefix_len (λ o. is_some o) (holding n frame tasks).held) (holding n frame tasks)),
+    )
 
 pub filter_fewer : {A : Type 0} (q : A → Bool) (l : List A) → length (filter q l) ≤ length l
 filter_fewer q [] = omega arith
@@ -83,10 +77,6 @@ queue_other past k e = grind (arith, filter-append, append-nil, left_more, left_
 pub listed_other : (past : Past) (k : ℕ) (rest : List ℕ) → is_command (frame_of past.came k) ≡ false → IsLawful past → due past ≡ k ∷ rest
     → listed_in (moved k past) + 1 ≤ listed_in past
 listed_other past k rest e lawful is = grind (arith, held_same, due_in_order, queue_other)
-
-due_same : (past : Past) (k : ℕ) → due (finished k past) ≡ due past
-unfolding due
-due_same past k = refl
 
 pub listed_removing : (past : Past) (names : List ℕ) → listed_in (removing names past) ≤ listed_in past
 unfolding queue due
@@ -170,14 +160,12 @@ waiting_acted past k = refl
 waiting_finished : (past : Past) (acted : List ℕ) (k : ℕ) → is_in k (awaiting past) ≡ false
     → waiting_of (record past { acted = acted; finished = past.finished ++ k ∷ [] }) ≤ waiting_of past
 unfolding functions
-waiting_finished past acted k free = waiting_less past (record past { acted = acted; finished = past.finished ++ k ∷ [] }) (k ∷ []) (functions_without past k free) (λ j h. h)
+waiting_finished past acted k free =
+    waiting_less past (record past { acted = acted; finished = past.finished ++ k ∷ [] }) (k ∷ []) (functions_without past k free) (λ j h. h)
 
 pub functions_removing : (past : Past) (gone : List ℕ) → functions (removing gone past) ≡ left gone (functions past)
 unfolding functions
 functions_removing past gone = left_more past.removed gone _
-
-waiting_removing : (past : Past) (gone : List ℕ) → waiting_of (removing gone past) ≤ waiting_of past
-waiting_removing past gone = waiting_less past (removing gone past) gone (functions_removing past gone) (λ j h. h)
 
 -- one that has just come does not wait
 pub waiting_joined : (past : Past) → IsLawful past → (x : Request) → waiting_of (joined x past) ≡ waiting_of past
@@ -220,8 +208,85 @@ pending_other past k rest e lawful is = grind (arith, listed_other, waiting_fini
 -- one of the queue is finished
 pub pending_finished : (past : Past) (k : ℕ) (rest : List ℕ) → IsLawful past → queue past ≡ k ∷ rest → pending_in (finished k past) + 1 ≤ pending_in past
 pending_finished past k rest lawful is =
-    grind (arith, held_same, due_same, done_in_order, waiting_finished past past.acted k, command_not_pending, is_done)
+    grind (arith, held_same, due_as past (finished k past) refl refl, done_in_order, waiting_finished past past.acted k, command_not_pending, is_done)
 
 -- some are removed
 pub pending_removing : (past : Past) (names : List ℕ) → pending_in (removing names past) ≤ pending_in past
-pending_removing past names = omega (arith, listed_removing past names, waiting_removing past names)
+pending_removing past names =
+    omega (arith, listed_removing past names, waiting_less past (removing names past) names (functions_removing past names) (λ j h. h))
+
+-- ---- the requests for immediate delivery that are not finished
+
+abbrev pub immediate_of : Past → ℕ
+immediate_of past = immediate_in past (unfinished past) + immediate_in past (functions past)
+
+-- some are over, and the same came
+pub immediate_less : (past after : Past) (gone : List ℕ) → after.came ≡ past.came → unfinished after ≡ left gone (unfinished past)
+    → functions after ≡ left gone (functions past) → immediate_of after ≤ immediate_of past
+immediate_less past after gone came a b = grind (arith, left_few)
+
+-- one more came
+one_more : (c i : Bool) (kind : Frame → Bool) (past : Past) (x : Request) → kind x.frame ≡ c → is_immediate x.frame.header ≡ i
+    → Below past past.finished → Below past past.removed
+    → length (of_kind (λ f. is_immediate f.header) (past.came ++ x ∷ []) (kept_of kind (joined x past)))
+    ≡ length (of_kind (λ f. is_immediate f.header) past.came (kept_of kind past)) + cond (c && i) 1 0
+one_more c i kind past x e h below gone = grind (arith, of_kind, kept_of, joined, kept_joined, filter-append, kind_same, below_kept, length-append, request_new)
+
+pub immediate_joined : (c f i : Bool) (past : Past) (x : Request) → IsLawful past → is_command x.frame ≡ c → is_function x.frame ≡ f
+    → is_immediate x.frame.header ≡ i → immediate_of (joined x past) ≡ immediate_of past + (cond (c && i) 1 0 + cond (f && i) 1 0)
+unfolding unfinished functions
+immediate_joined c f i past x lawful a b h =
+    omega (
+      arith,
+      one_more c i is_command past x a h (finished_below past lawful) (removed_below past lawful),
+      one_more f i is_function (settled past) x b h (settled_below past (finished_below past lawful)) (removed_below past lawful),
+    )
+
+-- ---- a request is accepted
+
+next_there : (past : Past) (n : ℕ) → distance (order.exp_cmd_sn (numbers past)) n ≡ distance (tasks_of past).next n
+unfolding tasks_of taken_numbers
+next_there past n = refl
+
+pub record Comes (past after : Past) : Type 0 where
+  pub lawful : IsLawful after
+  pub pending : pending_in after ≤ pending_in past + 1
+  pub immediate : immediate_of after ≤ 8
+
+-- the lines have one more
+listed_by : (b : Bool) (past : Past) (frame : Frame) → is_immediate frame.header ≡ b → IsFree past frame → IsLawful past
+    → listed_in (accepted frame past) ≤ listed_in past + 1
+listed_by true past frame h free lawful =
+    omega (
+      arith,
+      ap listed_in (accepted_now past frame h),
+      ap pending (admitted past lawful frame),
+      length-append (tasks_of past).due (frame ∷ []),
+      listed_is past,
+      listed_is (joined (now frame) past),
+    )
+listed_by false past frame h free lawful =
+    let n = cmd_sn frame.header in
+    let k = order.index_of (numbers past) n in
+    let at = new_ahead n past past refl refl lawful lawful (omega arith) (sym (fresh_is past frame h) ∙ free.fresh) in
+    omega (
+      arith,
+      ap listed_in (accepted_with past frame h),
+      ap pending (held_now past lawful k (distance (order.exp_cmd_sn (numbers past)) n) n frame at (next_there past n)),
+      pending_held n frame (tasks_of past),
+      listed_is past,
+      listed_is (joined (with k frame) past),
+    )
+
+pub comes : (past : Past) (frame : Frame) → IsFree past frame → IsLawful past → immediate_of past ≤ 8 → Comes past (accepted frame past)
+comes past frame free lawful few =
+    let x : Request = record { number = number_for past frame; frame = frame } in
+    record {
+      lawful = accepted_by _ past frame refl free lawful;
+      pending = omega (arith, listed_by _ past frame refl free lawful, waiting_joined past lawful x);
+      immediate = by_kind _ _ _ refl refl refl (immediate_joined _ _ _ past x lawful refl refl refl);
+    }
+  where
+    by_kind : (c f i : Bool) → is_command frame ≡ c → is_function frame ≡ f → is_immediate frame.header ≡ i
+        → immediate_of (accepted frame past) ≡ immediate_of past + (cond (c && i) 1 0 + cond (f && i) 1 0) → immediate_of (accepted frame past) ≤ 8
+    by_kind c f i a b h is = grind arith

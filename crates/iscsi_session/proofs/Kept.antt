@@ -1,17 +1,22 @@
--- The requests of one kind that are not finished, as requests come and are finished.
-use Rattle.std.proofs.Common.{◌≡◌, ℕ, ◌+◌, ◌<◌, List, [], ◌∷◌, ◌++◌, length, map, Bool, true, false, not, cond, sym, ap, ◌∙◌, arith, append-nil}
+-- The requests that are not finished, as requests come and are finished: of one kind, the functions, and the SCSI Commands with their data.
+use Rattle.std.proofs.Common.{◌≡◌, ℕ, ◌+◌, ◌<◌, List, [], ◌∷◌, ◌++◌, length, map, Bool, true, false, not, cond, sym, ap, ◌∙◌, arith, append-nil, ◌≢◌, inl, inr, refl, subst}
 use Rattle.std.specs.Prelude.{All, filter}
 use Rattle.std.specs.List.{range_with_len}
-use Rattle.std.proofs.lemmas.Bool.{false_from_ne_true}
+use Rattle.std.proofs.lemmas.Bool.{false_from_ne_true, cases_eq, ne_eqb}
 use Rattle.std.proofs.lemmas.List.{length-append, map-append}
-use Rattle.std.proofs.lemmas.List.Elements.{filter-append, All-cons, All-nil}
+use Rattle.std.proofs.lemmas.List.Elements.{filter-append, All-cons, All-nil, All-head, All-tail, All-filter}
 use Rattle.iscsi_pdu.specs.Frames.{Frame}
 use Rattle.iscsi_pdu.specs.Header.{initiator_task_tag}
-use Rattle.iscsi_session.specs.Requests.{Request, Past, is_command, is_function, frame_of, is_in, left, finished}
-use Rattle.iscsi_session.specs.Transfers.{tag_of}
-use Rattle.iscsi_session.specs.State.{AreDistinct}
-use Rattle.iscsi_session.proofs.Left.{filter_cong, map_cong, left_more, left_swap, left_append, left_all, left_one, in_at, in_left, in_left_back, in_filter, in_filter_back, in_range, passes_in, below_of, distinct_left, distinct_filter, distinct_range, range_below, range_more, distinct_push, distinct_map_filter}
+use Rattle.iscsi_session.specs.Requests.{Request, Past, is_command, is_function, frame_of, is_in, left, finished, Drain, pending, functions, unfinished, removing, commands, queue}
+use Rattle.iscsi_session.specs.Transfers.{tag_of, drains_of, outs_of, tags_of, task_at, last_tag}
+use Rattle.iscsi_session.specs.State.{AreDistinct, AreDrained, transfer_of, drained_of, transfers_of, begun_transfer}
+use Rattle.iscsi_session.proofs.Left.{filter_cong, map_cong, left_more, left_swap, left_append, left_all, left_one, in_at, in_left, in_left_back, in_filter, in_filter_back, in_range, passes_in, below_of, distinct_left, distinct_filter, distinct_range, range_below, range_more, distinct_push, distinct_map_filter, in_front, not_gone}
 use Rattle.iscsi_session.proofs.Taken.{request_before, request_new}
+use Rattle.iscsi_transfer.specs.Task.{remembered as task_of}
+use Rattle.iscsi_transfer.specs.Payload.{begun}
+use Rattle.iscsi_session.specs.declared.transfers.Transfer.{Transfer}
+use Rattle.iscsi_session.specs.Drained.{Drained, blanked}
+use Rattle.iscsi_session.proofs.Places.{none_named}
 
 abbrev pub joined : Request → Past → Past
 joined x past = record past { came = past.came ++ x ∷ [] }
@@ -121,3 +126,251 @@ tags_left past k names distinct = distinct_map_filter (tag_of past.came) (λ a. 
 
 pub below_kept : (q : Frame → Bool) (past : Past) → Below past (kept_of q past)
 below_kept q past = λ i d lt. all_came q past _ (kept_in q past _ (in_at (kept_of q past) i d lt))
+
+-- ---- the functions that wait for data, and the data that they wait for
+
+pub left_push : (gone names : List ℕ) (k : ℕ) → is_in k gone ≡ false → left gone (names ++ k ∷ []) ≡ left gone names ++ k ∷ []
+left_push gone names k e =
+    left_append gone names (k ∷ [])
+    ∙ ap (λ (l : List ℕ). left gone names ++ l)
+    (left_all gone (k ∷ []) (All-cons (λ a. is_in a gone ≡ false) k [] e (All-nil (λ a. is_in a gone ≡ false))))
+
+-- what holds of the function of each
+holds_named : (q : ℕ → Bool) (k : ℕ) (drains : List Drain) → All (λ d. q d.function ≡ true) drains → is_in k (map (λ d. d.function) drains) ≡ true → q k ≡ true
+holds_named q k [] every h = absurd cc
+holds_named q k (d ∷ rest) every h = elim (cases_eq d.function k) [
+  | inl same ↦ ap q (sym same) ∙ All-head (λ (x : Drain). q x.function ≡ true) d rest every
+  | inr differs ↦ let there = rw (ne_eqb d.function k differs) at h in holds_named q k rest (All-tail (λ (x : Drain). q x.function ≡ true) d rest every) there
+]
+
+pub pending_holds : (q : ℕ → Bool) (past : Past) (k : ℕ) → All (λ d. q d.function ≡ true) past.drains → is_in k (pending past) ≡ true → q k ≡ true
+pending_holds q past k all e = holds_named q k past.drains all (in_left k past.answered (map (λ d. d.function) past.drains) e)
+
+-- a SCSI Command is none of them
+pub command_not_pending : (past : Past) (k : ℕ) → AreDrained past → is_command (frame_of past.came k) ≡ true → is_in k (pending past) ≡ false
+command_not_pending past k drained c = false_from_ne_true (is_in k (pending past)) (λ h.
+    let yes = pending_holds (λ a. is_function (frame_of past.came a)) past k drained.functions h in
+    let no = command_no_function (frame_of past.came k) c in absurd (let both = sym yes ∙ no in cc))
+
+-- nor is one that is no Task Management Function Request
+pub other_not_pending : (past : Past) (k : ℕ) → AreDrained past → is_function (frame_of past.came k) ≡ false → is_in k (pending past) ≡ false
+other_not_pending past k drained c = false_from_ne_true (is_in k (pending past)) (λ h.
+    let yes = pending_holds (λ a. is_function (frame_of past.came a)) past k drained.functions h in absurd (let both = sym yes ∙ c in cc))
+
+-- nor one that has not acted
+pub open_not_pending : (past : Past) (k : ℕ) → AreDrained past → is_in k past.finished ≡ false → is_in k (pending past) ≡ false
+open_not_pending past k drained none = false_from_ne_true (is_in k (pending past)) (λ h.
+    let yes = pending_holds (λ a. is_in a past.finished) past k drained.acted h in absurd (let both = sym yes ∙ none in cc))
+
+-- ---- the functions that are not finished
+
+-- those that wait are not
+abbrev pub settled : Past → Past
+settled past = record past { finished = left (pending past) past.finished }
+
+pub functions_without : (past : Past) (k : ℕ) → is_in k (pending past) ≡ false → functions (finished k past) ≡ left (k ∷ []) (functions past)
+unfolding functions
+functions_without past k e =
+    ap (λ (l : List ℕ). kept_of is_function (record past { finished = l })) (left_push (pending past) past.finished k e)
+    ∙ kept_without is_function (settled past) k
+
+pub functions_other : (past : Past) (k : ℕ) → is_in k (pending past) ≡ false → is_function (frame_of past.came k) ≡ false
+    → functions (finished k past) ≡ functions past
+unfolding functions
+functions_other past k free e =
+    ap (λ (l : List ℕ). kept_of is_function (record past { finished = l })) (left_push (pending past) past.finished k free)
+    ∙ kept_other is_function (settled past) k e
+
+pub functions_distinct : (past : Past) → AreDistinct (functions past)
+unfolding functions
+functions_distinct past = kept_distinct is_function (settled past)
+
+pub functions_below : (past : Past) → Below past (functions past)
+unfolding functions
+functions_below past = below_kept is_function (settled past)
+
+pub in_functions : (past : Past) (k : ℕ) → k < length past.came → is_function (frame_of past.came k) ≡ true
+    → is_in k (left (pending past) past.finished) ≡ false → is_in k past.removed ≡ false → is_in k (functions past) ≡ true
+unfolding functions
+in_functions past k lt f open_still there_still = in_kept is_function (settled past) k lt f open_still there_still
+
+pub function_in : (past : Past) (k : ℕ) → is_in k (functions past) ≡ true → is_function (frame_of past.came k) ≡ true
+unfolding functions
+function_in past k e = all_of_kind is_function past k (kept_in is_function (settled past) k e)
+
+pub settled_below : (past : Past) → Below past past.finished → Below past (left (pending past) past.finished)
+unfolding left
+settled_below past below = All-filter (λ k. not (is_in k (pending past))) (λ k. k < length past.came) past.finished below
+
+pub functions_joined : (c : Bool) (past : Past) (x : Request) → is_function x.frame ≡ c → Below past past.finished → Below past past.removed
+    → functions (joined x past) ≡ functions past ++ cond c (length past.came ∷ []) []
+unfolding functions
+functions_joined c past x e below gone = kept_joined c is_function (settled past) x e (settled_below past below) gone
+
+-- ---- the data that is drained
+
+-- those that functions still wait for
+pub drains_all : (P : Drain → Type 0) (past : Past) → All P past.drains → All P (drains_of past)
+drains_all P past all = All-filter (λ d. not (is_in d.function past.answered)) P past.drains all
+
+pub drains_once : (past : Past) → AreDrained past → AreDistinct (map (λ d. d.command) (drains_of past))
+drains_once past drained = distinct_map_filter (λ (d : Drain). d.command) (λ d. not (is_in d.function past.answered)) past.drains drained.once
+
+-- it is of none that is not finished
+pub drains_apart : (past : Past) (k : ℕ) → AreDrained past → is_in k (unfinished past) ≡ true → All (λ d. d.command ≢ k) past.drains
+unfolding unfinished
+drains_apart past k drained there = λ i d lt same.
+    let yes = drained.removed i d lt in
+    let no = not_gone k past.removed _ there in
+    absurd (let both = sym yes ∙ ap (λ (n : ℕ). is_in n past.removed) same ∙ no in cc)
+
+pub drain_functions_below : (past : Past) → AreDrained past → Below past past.finished → All (λ d. d.function < length past.came) past.drains
+drain_functions_below past drained below = λ i d lt. below_of (length past.came) _ past.finished below (drained.acted i d lt)
+
+pub drain_commands_below : (past : Past) → AreDrained past → Below past past.removed → All (λ d. d.command < length past.came) past.drains
+drain_commands_below past drained below = λ i d lt. below_of (length past.came) _ past.removed below (drained.removed i d lt)
+
+-- ---- it stays so
+
+-- where a request comes
+pub drained_joined : (past : Past) (x : Request) → AreDrained past → Below past past.finished → AreDrained (joined x past)
+drained_joined past x drained below = record {
+  functions = λ i d lt. ap (λ (r : Request). is_function r.frame) (request_before past.came x _ (drain_functions_below past drained below i d lt))
+      ∙ drained.functions i d lt;
+  acted = drained.acted;
+  answered = drained.answered;
+  removed = drained.removed;
+  once = drained.once;
+}
+
+-- where more is removed, or finished
+pub drained_removing : (past : Past) (gone : List ℕ) → AreDrained past → AreDrained (removing gone past)
+drained_removing past gone drained = record {
+  functions = drained.functions;
+  acted = drained.acted;
+  answered = drained.answered;
+  removed = λ i d lt. in_front _ past.removed gone (drained.removed i d lt);
+  once = drained.once;
+}
+
+pub drained_acted : (past : Past) (acted : List ℕ) → AreDrained past → AreDrained (record past { acted = acted })
+drained_acted past acted drained = grind arith
+
+pub drained_finished : (past : Past) (acted : List ℕ) (k : ℕ) → AreDrained past → AreDrained (finished k (record past { acted = acted }))
+drained_finished past acted k drained = record {
+  functions = drained.functions;
+  acted = λ i d lt. in_front _ past.finished (k ∷ []) (drained.acted i d lt);
+  answered = λ i d lt. in_front _ past.finished (k ∷ []) (drained.answered i d lt);
+  removed = drained.removed;
+  once = drained.once;
+}
+
+-- ---- the SCSI Commands
+
+-- ---- which they are
+
+pub unfinished_came : (past : Past) (k : ℕ) → is_in k (unfinished past) ≡ true → k < length past.came
+unfolding unfinished
+unfinished_came past k e = all_came is_command past k (kept_in is_command past k e)
+
+pub unfinished_distinct : (past : Past) → AreDistinct (unfinished past)
+unfolding unfinished
+unfinished_distinct past = kept_distinct is_command past
+
+pub unfinished_joined : (c : Bool) (past : Past) (x : Request) → is_command x.frame ≡ c → Below past past.finished → Below past past.removed
+    → unfinished (joined x past) ≡ unfinished past ++ cond c (length past.came ∷ []) []
+unfolding unfinished
+unfinished_joined c past x e below gone = kept_joined c is_command past x e below gone
+
+pub unfinished_without : (past : Past) (k : ℕ) → unfinished (finished k past) ≡ left (k ∷ []) (unfinished past)
+unfolding unfinished
+unfinished_without past k = kept_without is_command past k
+
+-- each of them is a SCSI Command
+pub unfinished_command : (past : Past) (k : ℕ) → is_in k (unfinished past) ≡ true → is_command (frame_of past.came k) ≡ true
+unfolding unfinished
+unfinished_command past k e = all_of_kind is_command past k (kept_in is_command past k e)
+
+-- every other request is finished, and they are the same
+pub unfinished_other : (past : Past) (k : ℕ) → is_command (frame_of past.came k) ≡ false → unfinished (finished k past) ≡ unfinished past
+unfolding unfinished
+unfinished_other past k e = kept_other is_command past k e
+
+-- ---- their data, where a request comes
+
+abbrev with_frame : Past → ℕ → Frame → Transfer
+with_frame past k frame = record {
+  header = frame.header;
+  task = task_of (record { values = past.params.values; command = frame; outs = outs_of past k; tag = last_tag (tags_of past k) });
+  sent = length (tags_of past k);
+}
+
+pub transfer_joined : (past : Past) (x : Request) (k : ℕ) → k < length past.came → transfer_of (joined x past) k ≡ transfer_of past k
+unfolding task_at outs_of tags_of
+transfer_joined past x k lt = ap (λ (r : Request). with_frame past k r.frame) (request_before past.came x k lt)
+
+nothing_yet : (past : Past) (frame : Frame) → All (λ d. d.command < length past.came) past.data_outs → All (λ r. r.command < length past.came) past.r2ts
+    → with_frame past (length past.came) frame ≡ begun_transfer frame.header (task_of (begun past.params.values frame))
+unfolding outs_of tags_of
+nothing_yet past frame fed asked = rw (
+  none_named (λ d. d.command) past.data_outs (length past.came) fed,
+  none_named (λ r. r.command) past.r2ts (length past.came) asked,
+) refl
+
+transfer_new : (past : Past) (x : Request) → All (λ d. d.command < length past.came) past.data_outs → All (λ r. r.command < length past.came) past.r2ts
+    → transfer_of (joined x past) (length past.came) ≡ begun_transfer x.frame.header (task_of (begun past.params.values x.frame))
+unfolding task_at outs_of tags_of
+transfer_new past x fed asked = ap (λ (r : Request). with_frame past (length past.came) r.frame) (request_new past.came x) ∙ nothing_yet past x.frame fed asked
+
+transfers_before : (past : Past) (x : Request) → map (transfer_of (joined x past)) (unfinished past) ≡ map (transfer_of past) (unfinished past)
+transfers_before past x = map_cong _ _ (unfinished past) (λ i d lt. transfer_joined past x _ (unfinished_came past _ (in_at (unfinished past) i d lt)))
+
+abbrev pub drained_with : List ℕ → Transfer → Drained
+drained_with header transfer = record { function = header; transfer = blanked transfer }
+
+drained_before : (past : Past) (x : Request) → AreDrained past → Below past past.finished → Below past past.removed
+    → map (drained_of (joined x past)) (drains_of past) ≡ map (drained_of past) (drains_of past)
+drained_before past x drained below gone = map_cong _ _ (drains_of past) (drains_all (λ d. drained_of (joined x past) d ≡ drained_of past d) past
+    (λ i d lt. each _ (drain_functions_below past drained below i d lt) (drain_commands_below past drained gone i d lt)))
+  where
+    each : (d : Drain) → d.function < length past.came → d.command < length past.came → drained_of (joined x past) d ≡ drained_of past d
+    each d f c = grind (arith, joined, request_before, transfer_joined)
+
+list_joined : (c : Bool) (past : Past) (x : Request) → is_command x.frame ≡ c → Below past past.finished → Below past past.removed
+    → All (λ d. d.command < length past.came) past.data_outs → All (λ r. r.command < length past.came) past.r2ts
+    → map (transfer_of (joined x past)) (unfinished (joined x past)) ≡ map (transfer_of past) (unfinished past)
+    ++ cond c (begun_transfer x.frame.header (task_of (begun past.params.values x.frame)) ∷ []) []
+list_joined true past x e below gone fed asked = grind (arith, joined, unfinished_joined, map-append, transfers_before, transfer_new)
+list_joined false past x e below gone fed asked = grind (arith, joined, unfinished_joined, append-nil, transfers_before)
+
+pub transfers_joined : (c : Bool) (past : Past) (x : Request) → is_command x.frame ≡ c → Below past past.finished → Below past past.removed
+    → All (λ d. d.command < length past.came) past.data_outs → All (λ r. r.command < length past.came) past.r2ts → AreDrained past
+    → transfers_of (joined x past) ≡ record (transfers_of past)
+    { list = (transfers_of past).list ++ cond c (begun_transfer x.frame.header (task_of (begun past.params.values x.frame)) ∷ []) [] }
+unfolding transfers_of
+transfers_joined c past x e below gone fed asked drained = grind (arith, list_joined, drained_before)
+
+-- their tags, where a request comes whose tag is not among them
+pub tags_joined : (c : Bool) (past : Past) (x : Request) → is_command x.frame ≡ c → Below past past.finished → Below past past.removed
+    → AreDistinct (map (tag_of past.came) (unfinished past))
+    → (c ≡ true → is_in (initiator_task_tag x.frame.header) (map (tag_of past.came) (unfinished past)) ≡ false)
+    → AreDistinct (map (tag_of (past.came ++ x ∷ [])) (unfinished (joined x past)))
+tags_joined c past x e below gone distinct fresh =
+    subst (λ (l : List ℕ). AreDistinct (map (tag_of (past.came ++ x ∷ [])) l)) (sym (unfinished_joined c past x e below gone))
+    (tags_with c past x (unfinished past) (λ i d lt. unfinished_came past _ (in_at (unfinished past) i d lt)) distinct fresh)
+
+-- ---- the queue
+
+-- what stands in the queue is not finished
+pub queue_unfinished : (past : Past) (k : ℕ) → Below past past.acted → is_in k (queue past) ≡ true → is_in k (unfinished past) ≡ true
+unfolding queue unfinished
+queue_unfinished past k below e =
+    let line = left past.finished (commands past.came past.acted) in
+    let there = in_left k past.removed line e in
+    let in_commands = in_left k past.finished (commands past.came past.acted) there in
+    let is = passes_in k (λ a. is_command (frame_of past.came a)) past.acted in_commands in
+    let lt = below_of (length past.came) k past.acted below (in_filter k (λ a. is_command (frame_of past.came a)) past.acted in_commands) in
+    let all = in_filter_back k (λ a. is_command (frame_of past.came a)) (range_with_len 0 (length past.came)) (in_range k 0 (length past.came) (omega arith)
+    (omega arith)) is in
+    in_left_back k past.removed _
+    (in_left_back k past.finished _ all (not_gone k past.finished (commands past.came past.acted) there)) (not_gone k past.removed line e)

@@ -23,7 +23,7 @@ use Rattle.iscsi_session.specs.Laws.{TakenOnce, FinishedAsTaken, DueInOrder, Don
 use Rattle.iscsi_session.proofs.Steps.{served_keeps, settled_keeps}
 use Rattle.iscsi_session.proofs.Left.{left_append, in_filter, in_at}
 use Rattle.iscsi_session.proofs.Taken.{distinct_taken}
-use Rattle.iscsi_session.proofs.Accepted.{begun_lawful, HasFreeTag, lawful_now, lawful_with}
+use Rattle.iscsi_session.proofs.Accepted.{begun_lawful, lawful_now, lawful_with}
 use Rattle.iscsi_session.proofs.Moved.{due_after, due_other, stays_other, not_pending, lawful_command, lawful_other, lawful_finished, queue_after}
 use Rattle.iscsi_session.proofs.Parts.{fresh_is, accepted_now, accepted_with}
 use Rattle.iscsi_session.proofs.Verdicts.{IsFree, accepted_free}
@@ -32,9 +32,8 @@ use Rattle.iscsi_session.proofs.Runs.{lawful_answering}
 use Rattle.iscsi_session.proofs.Kept.{function_no_command}
 use Rattle.iscsi_session.proofs.Over.{over_other}
 use Rattle.iscsi_session.proofs.Answered.{moved_other}
-use Rattle.iscsi_session.proofs.Removing.{lawful_removing, removing_over}
-use Rattle.iscsi_session.proofs.Plugging.{new_ahead, plugged_lawful}
-use Rattle.iscsi_session.proofs.Ending.{reached_moved, ended_now, plugs_unasked, plugs_new}
+use Rattle.iscsi_session.proofs.Removing.{lawful_removing, over_more as removing_over}
+use Rattle.iscsi_session.proofs.Ending.{new_ahead, plugged_lawful, reached_moved, ended_now, plugs_unasked, plugs_new}
 
 -- ---- the order
 
@@ -73,17 +72,14 @@ pub moved_by : (b : Bool) (past : Past) (k : ℕ) (rest : List ℕ) → is_comma
 moved_by true past k rest e lawful is = rw e (lawful_command past lawful k rest is e)
 moved_by false past k rest e lawful is = rw e (lawful_other past lawful k rest is e)
 
-free_of : (past : Past) (frame : Frame) → IsFree past frame → HasFreeTag past frame
-free_of past frame free = free_by_past past frame free.tag
-
-accepted_by : (b : Bool) (past : Past) (frame : Frame) → is_immediate frame.header ≡ b → IsFree past frame
+pub accepted_by : (b : Bool) (past : Past) (frame : Frame) → is_immediate frame.header ≡ b → IsFree past frame
     → IsLawful past → IsLawful (accepted frame past)
-accepted_by true past frame h free lawful = subst IsLawful (accepted_now past frame h) (lawful_now past lawful frame h (free_of past frame free))
+accepted_by true past frame h free lawful = subst IsLawful (accepted_now past frame h) (lawful_now past lawful frame h (free_by_past past frame free.tag))
 accepted_by false past frame h free lawful =
     subst IsLawful (accepted_with past frame h)
     (lawful_with past lawful _ _ frame h
     (new_ahead (cmd_sn frame.header) past past refl refl lawful lawful (omega arith) (sym (fresh_is past frame h) ∙ free.fresh))
-    (free_of past frame free))
+    (free_by_past past frame free.tag))
 
 judged_by : (v : Verdict) (past : Past) (frame : Frame) → verdict past frame ≡ v → IsLawful past → IsLawful (judged v frame past)
 judged_by Accepted past frame e lawful = accepted_by _ past frame refl (accepted_free past frame e) lawful
@@ -158,12 +154,15 @@ pub ask_lawful : (work : Work) (k : ℕ) (rest : List ℕ) → asking work.past 
 unfolding ask
 ask_lawful work k rest is lawful = lawful_asked work.past k (asking_came work.past k rest is) lawful
 
+pub first_waits : (past : Past) (k : ℕ) (rest : List ℕ) → drained_functions past ≡ k ∷ rest → is_in k (pending past) ≡ true
+unfolding drained_functions
+first_waits past k rest is =
+    in_filter k (λ a. not (lacks past a)) (pending past) (ap (λ (l : List ℕ). is_in k l) is ∙ in_at (k ∷ rest) 0 0 (omega arith))
+
 pub tell_lawful : (work : Work) (k : ℕ) (rest : List ℕ) → drained_functions work.past ≡ k ∷ rest → IsLawful work.past → IsLawful (tell k work).past
-unfolding tell drained_functions
+unfolding tell
 tell_lawful work k rest is lawful =
-    let there = in_filter k (λ a. not (lacks work.past a)) (pending work.past)
-    (ap (λ (l : List ℕ). is_in k l) is ∙ in_at (k ∷ rest) 0 0 (omega arith)) in
-    lawful_answering (told_answers work.past k) (told k work.past) (lawful_told work.past lawful k there)
+    lawful_answering (told_answers work.past k) (told k work.past) (lawful_told work.past lawful k (first_waits work.past k rest is))
 
 served_lawful : (fails : Step → Bool) (place : ℕ) (frame : Frame) (work : Work) → cmd_sn frame.header < 2 ^ 32 → IsLawful work.past
     → IsLawful (served fails place frame work).past

@@ -1,7 +1,7 @@
 -- What some names that are gone leave of a list of names, and lists in which no name stands twice.
-use Rattle.std.proofs.Common.{◌≡◌, ◌≢◌, ℕ, zero, suc, ◌+◌, ◌<◌, ◌≤◌, List, [], ◌∷◌, ◌++◌, length, map, get_or, Bool, true, false, not, ◌||◌, ◌&&◌, eqb, refl, sym, ap, ◌∙◌, inl, inr, arith, subst}
-use Rattle.std.specs.Prelude.{filter, All}
-use Rattle.std.specs.List.{range_with_len}
+use Rattle.std.proofs.Common.{◌≡◌, ◌≢◌, ℕ, zero, suc, ◌+◌, ◌<◌, ◌≤◌, List, [], ◌∷◌, ◌++◌, length, map, get_or, Bool, true, false, not, ◌||◌, ◌&&◌, eqb, refl, sym, ap, ◌∙◌, inl, inr, arith, subst, Option, Some, None}
+use Rattle.std.specs.Prelude.{filter, All, is_some}
+use Rattle.std.specs.List.{range_with_len, prefix_len}
 use Rattle.std.proofs.lemmas.Bool.{cases_eq, eq-eqb, ne_eqb, not-true, or_parts, or_right, false_from_ne_true}
 use Rattle.std.proofs.lemmas.List.FromFn.{get_or-range_with_len, length-range_with_len}
 use Rattle.std.proofs.lemmas.List.Elements.{filter-append, All-tail, All-head, filter_passes}
@@ -31,9 +31,6 @@ left_more gone more names = grind (arith, filter_filter, filter_cong, list_any-a
 
 pub both_true : (a b : Bool) → (a && not b) ≡ true → (a ≡ true) × (b ≡ false)
 both_true a b e = grind arith
-
-pub and_swap : (a b : Bool) → (a && b) ≡ (b && a)
-and_swap a b = grind arith
 
 pub left_swap : (a b names : List ℕ) → left a (left b names) ≡ left b (left a names)
 unfolding left
@@ -177,23 +174,13 @@ filter_every q a (suc n) all = grind (arith, filter_every q (a + 1) n (λ k le l
 
 -- ---- distinct values of names
 
-in_map_filter_with : (b : Bool) {A : Type 0} (f : A → ℕ) (q : A → Bool) (n : ℕ) (a : A) (names : List A) → q a ≡ b → eqb (f a) n ≡ false
-    → is_in n (map f (filter q names)) ≡ false → is_in n (map f (filter q (a ∷ names))) ≡ false
-in_map_filter_with b f q n a names e here rest = grind arith
-
 in_map_filter : {A : Type 0} (f : A → ℕ) (q : A → Bool) (n : ℕ) (names : List A) → is_in n (map f names) ≡ false → is_in n (map f (filter q names)) ≡ false
 in_map_filter f q n [] none = refl
-in_map_filter f q n (a ∷ names) none =
-    let parts = or_parts _ _ none in in_map_filter_with (q a) f q n a names refl parts.0 (in_map_filter f q n names parts.1)
-
-distinct_map_filter_with : (b : Bool) {A : Type 0} (f : A → ℕ) (q : A → Bool) (a : A) (names : List A) → q a ≡ b → is_in (f a) (map f (filter q names)) ≡ false
-    → AreDistinct (map f (filter q names)) → AreDistinct (map f (filter q (a ∷ names)))
-distinct_map_filter_with true f q a names e here rest = rw e (here, rest)
-distinct_map_filter_with false f q a names e here rest = rw e rest
+in_map_filter f q n (a ∷ names) none = grind (arith, in_map_filter f q n names)
 
 pub distinct_map_filter : {A : Type 0} (f : A → ℕ) (q : A → Bool) (names : List A) → AreDistinct (map f names) → AreDistinct (map f (filter q names))
 distinct_map_filter f q [] distinct = tt
-distinct_map_filter f q (a ∷ names) distinct = grind (arith, distinct_map_filter f q names distinct.1, distinct_map_filter_with, in_map_filter)
+distinct_map_filter f q (a ∷ names) distinct = grind (arith, distinct_map_filter f q names distinct.1, in_map_filter)
 
 -- one more that does not stand there
 pub distinct_push : (names : List ℕ) (n : ℕ) → AreDistinct names → is_in n names ≡ false → AreDistinct (names ++ n ∷ [])
@@ -201,13 +188,9 @@ distinct_push names n distinct missing = grind (arith, distinct_append, in_at, n
 
 -- ---- what stands there still stands there
 
-in_filter_back_with : (b : Bool) (k a : ℕ) (q : ℕ → Bool) (names : List ℕ) → q a ≡ b → q k ≡ true
-    → (is_in k names ≡ true → is_in k (filter q names) ≡ true) → is_in k (a ∷ names) ≡ true → is_in k (filter q (a ∷ names)) ≡ true
-in_filter_back_with b k a q names e pass rest h = grind arith
-
 pub in_filter_back : (k : ℕ) (q : ℕ → Bool) (names : List ℕ) → is_in k names ≡ true → q k ≡ true → is_in k (filter q names) ≡ true
 in_filter_back k q [] e pass = absurd cc
-in_filter_back k q (a ∷ names) e pass = in_filter_back_with (q a) k a q names refl pass (λ there. in_filter_back k q names there pass) e
+in_filter_back k q (a ∷ names) e pass = grind (arith, in_filter_back k q names)
 
 pub in_left_back : (k : ℕ) (gone names : List ℕ) → is_in k names ≡ true → is_in k gone ≡ false → is_in k (left gone names) ≡ true
 unfolding left
@@ -220,9 +203,6 @@ in_range k a (suc n) le lt = elim (cases_eq a k) [
   | inr apart ↦ rw (ne_eqb a k apart) (in_range k (a + 1) n (omega arith) (omega arith))
 ]
 
-not_left_with : (b : Bool) (gone : List ℕ) (k : ℕ) → is_in k gone ≡ b → not b ≡ true → is_in k gone ≡ false
-not_left_with b gone k e h = grind arith
-
 -- what stands there passes
 pub passes_in : (k : ℕ) (q : ℕ → Bool) (names : List ℕ) → is_in k (filter q names) ≡ true → q k ≡ true
 passes_in k q [] e = absurd cc
@@ -230,4 +210,10 @@ passes_in k q (a ∷ names) e = grind (arith, passes_in k q names)
 
 pub not_gone : (k : ℕ) (gone names : List ℕ) → is_in k (left gone names) ≡ true → is_in k gone ≡ false
 unfolding left
-not_gone k gone names e = not_left_with (is_in k gone) gone k refl (passes_in k (λ a. not (is_in a gone)) names e)
+not_gone k gone names e = not-true _ (passes_in k (λ a. not (is_in a gone)) names e)
+
+-- how many of a front are there
+pub prefix_marks : {A : Type 0} (l : List (Option A)) → prefix_len (λ o. is_some o) l ≡ prefix_len (λ b. b) (map is_some l)
+prefix_marks [] = refl
+prefix_marks (None ∷ l) = refl
+prefix_marks (Some a ∷ l) = rw (prefix_marks l) refl

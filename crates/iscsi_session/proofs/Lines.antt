@@ -1,24 +1,25 @@
 -- The requests at the keys of a line, as the slab and the line change.
 use Rattle.std.specs.List.{prefix_len}
-use Rattle.std.specs.Prelude.{is_some}
+use Rattle.std.specs.Prelude.{is_some, if◌then◌else◌}
 use Rattle.std.proofs.Common.{zero, subst, ◌≤◌, ◌-◌, ltb, not, ◌&&◌, map, set, Bool, true, false, ◌≡◌, ◌≢◌, ℕ, suc, ◌+◌, ◌<◌, List, [], ◌∷◌, ◌++◌, length, take, drop, get_or, cond, eqb, Option, Some, None, refl, sym, ap, ◌∙◌, inl, inr, arith, remove}
-use Rattle.std.proofs.lemmas.Bool.{cases_eq}
-use Rattle.std.proofs.lemmas.List.{append-nil}
+use Rattle.std.proofs.lemmas.Bool.{cases_eq, ltb-true}
+use Rattle.std.proofs.lemmas.List.{append-nil, map-set, length-set, map-append}
 use Rattle.std.proofs.lemmas.List.Elements.{filter_map-append}
 use Rattle.std.proofs.lemmas.List.Sums.{sum_by-cons, sum_by-remove}
 use Rattle.slab.specs.Slab.{Slab, get, Updates}
 use Rattle.iscsi_pdu.specs.Frames.{Frame}
-use Rattle.iscsi_order.specs.WindowState.{WindowKeys, turned}
+use Rattle.iscsi_order.specs.WindowState.{WindowKeys, turned, with_key}
 use Rattle.iscsi_order.specs.WindowState as windows
 use Rattle.iscsi_order.specs.Window as order
 use Rattle.iscsi_order.specs.Serial.{distance}
-use Rattle.std.proofs.lemmas.Bool.{ltb-true}
-use Rattle.std.proofs.lemmas.List.Sums.{prefix_len-le-length}
-use Rattle.std.proofs.lemmas.List.{map-set, length-set}
 use Rattle.std.proofs.Math.ListN.{get_or-map}
-use Rattle.iscsi_session.specs.State.{is_vacant, holding, takes_next, takes, takes_all}
-use Rattle.iscsi_session.proofs.Left.{both_true}
+use Rattle.iscsi_session.specs.State.{is_vacant, holding, takes_next, takes, takes_all, TaskLists, one_fewer, window_of}
+use Rattle.iscsi_session.proofs.Left.{both_true, prefix_marks}
 use Rattle.iscsi_session.specs.Tasks.{requests_at, held_at, keys_in, times, holds, AreLines, lists_of, moves, moves_all}
+use Rattle.iscsi_pdu.specs.Header.{is_immediate}
+use Rattle.iscsi_order.specs.Window.{window}
+use Rattle.iscsi_session.specs.Functions.{plug}
+use Rattle.iscsi_session.proofs.Over.{one_fewer_by}
 
 -- ---- how often a key stands in a line
 
@@ -167,10 +168,6 @@ prefix_push (Some k ∷ l) = rw (prefix_push l) refl
 keys_push : (l : List (Option ℕ)) → keys_in (l ++ None ∷ []) ≡ keys_in l
 keys_push l = filter_map-append (λ (k : Option ℕ). k) l (None ∷ []) ∙ append-nil (keys_in l)
 
-map_push : (requests : Slab Frame) (l : List (Option ℕ)) → map (held_at requests) (l ++ None ∷ []) ≡ map (held_at requests) l ++ None ∷ []
-map_push requests [] = refl
-map_push requests (k ∷ l) = ap (λ (rest : List (Option Frame)). held_at requests k ∷ rest) (map_push requests l)
-
 -- the first, where there is one
 pub record Turns (w : WindowKeys) (key : ℕ) : Type 0 where
   pub prefix : prefix_len (λ k. is_some k) w.keys ≡ suc (prefix_len (λ k. is_some k) (turned w).keys)
@@ -196,9 +193,6 @@ moves_end w due e = by_keys w.keys e
     by_keys (None ∷ l) f = refl
     by_keys (Some k ∷ l) f = absurd cc
 
-pub prefix_le : (l : List (Option ℕ)) → prefix_len (λ k. is_some k) l ≤ length l
-prefix_le l = prefix_len-le-length (λ k. is_some k) l
-
 -- ---- what the lists show of it
 
 some_first : (l : List (Option ℕ)) → 0 < prefix_len (λ k. is_some k) l → (key : ℕ) × (get_or l 0 None ≡ Some key)
@@ -211,7 +205,8 @@ show_one : (requests : Slab Frame) (next unfinished key : ℕ) (l : List (Option
     (lists_of requests (record { next = next; unfinished = unfinished; keys = l }) due queue)
 show_one requests next unfinished key [] due queue e = absurd cc
 show_one requests next unfinished key (None ∷ l) due queue e = absurd cc
-show_one requests next unfinished key (Some k ∷ l) due queue e = rw (map_push requests l, filter_map-append (get requests) due (k ∷ [])) refl
+show_one requests next unfinished key (Some k ∷ l) due queue e =
+    rw (map-append (held_at requests) l (None ∷ []), filter_map-append (get requests) due (k ∷ [])) refl
 
 pub show_moves : (requests : Slab Frame) (n : ℕ) (w : WindowKeys) (due queue : List ℕ) → n ≤ prefix_len (λ k. is_some k) w.keys
     → lists_of requests (moves n (w, due)).0 (moves n (w, due)).1 queue ≡ takes n (lists_of requests w due queue)
@@ -234,11 +229,6 @@ once_moves j (suc n) w due le =
     let left : times j (keys_in w.keys) ≡ cond (eqb first.0 j) 1 0 + times j (keys_in (turned w).keys) = ap (times j) t.keys
     ∙ times-cons j first.0 (keys_in (turned w).keys) in
     omega (arith, rest, moved, left)
-
-prefix_marks : {A : Type 0} (l : List (Option A)) → prefix_len (λ o. is_some o) l ≡ prefix_len (λ b. b) (map is_some l)
-prefix_marks [] = refl
-prefix_marks (None ∷ l) = refl
-prefix_marks (Some a ∷ l) = rw (prefix_marks l) refl
 
 pub prefix_same : (requests : Slab Frame) (keys : List (Option ℕ)) → map is_some (map (held_at requests) keys) ≡ map is_some keys
     → prefix_len (λ o. is_some o) (map (held_at requests) keys) ≡ prefix_len (λ k. is_some k) keys
@@ -301,10 +291,20 @@ holds_key old new key n frame w due queue updates vacant lines free long =
           ∙ ap (λ (m : ℕ). takes m (lists_of new after due queue)) (sym prefix) ∙ ap takes_all shown;
     })
 
--- ---- the first of a line is finished
+-- a number that is vacant of what the lists show
+pub holds_vacant : (old new : Slab Frame) (key n : ℕ) (frame : Frame) (w : WindowKeys) (due queue : List ℕ) (tasks : TaskLists)
+    → lists_of old w due queue ≡ tasks → is_vacant tasks n ≡ true → Updates old new key (Some frame) → get old key ≡ None
+    → AreLines old (keys_in w.keys) due queue → length w.keys ≡ 32 → Held old new n frame w (windows.with_key n key w) due queue
+holds_vacant old new key n frame w due queue tasks shown free updates vacant lines long =
+    holds_key old new key n frame w due queue updates vacant lines
+    (sym (vacant_same old w due queue n lines.once) ∙ ap (λ (t : TaskLists). is_vacant t n) shown ∙ free) long
 
-first_left : (l : List Frame) (frame : Frame) (others : List Frame) → l ≡ frame ∷ others → l ≡ frame ∷ drop 1 l
-first_left l frame others e = rw e refl
+-- a line that shows some has some
+pub some_keys : (requests : Slab Frame) (keys : List ℕ) → 0 < length (requests_at requests keys) → 0 < length keys
+some_keys requests [] some = absurd (omega arith)
+some_keys requests (k ∷ keys) some = omega arith
+
+-- ---- the first of a line is finished
 
 pub record FirstOut (old new : Slab Frame) (held : List (Option ℕ)) (line others : List ℕ) (frame : Frame) : Type 0 where
   pub first : requests_at old line ≡ frame ∷ drop 1 (requests_at old line)
@@ -320,8 +320,76 @@ first_out old new key frame held line others within is found updates once =
     let same = SameLines-other old new key None held (remove line 0) others updates (omega arith) in
     let first = requests_at-remove_first old line key frame within (ap (get old) (sym is) ∙ found) in
     record {
-      first = first_left (requests_at old line) frame (requests_at old (remove line 0)) first;
+      first = first ∙ ap (λ (l : List Frame). frame ∷ drop 1 l) (sym first);
       left = same.same_due ∙ sym (ap (drop 1) first);
       same_held = same.same_held;
       same_others = same.same_queue;
     }
+
+-- ---- the first that is due is taken out of the slab, and a plug stands at its key for a number of the window
+
+-- the window, with one fewer unfinished
+abbrev pub counted_out : Frame → WindowKeys → WindowKeys
+counted_out frame w = if is_immediate frame.header then w else record w { unfinished = w.unfinished - 1 }
+
+counted_by : (b : Bool) (frame : Frame) (w : WindowKeys) → is_immediate frame.header ≡ b
+    → counted_out frame w ≡ record w { unfinished = cond b w.unfinished (w.unfinished - 1) }
+counted_by b frame w e = grind arith
+
+vacant_after : (frame : Frame) (w : WindowKeys) (n : ℕ) → windows.is_vacant w n ≡ true → windows.is_vacant (counted_out frame w) n ≡ true
+vacant_after frame w n e = grind arith
+
+pub record Replaced (old mid new : Slab Frame) (n key : ℕ) (frame : Frame) (w : WindowKeys) (due queue : List ℕ) : Type 0 where
+  pub first : requests_at old due ≡ frame ∷ drop 1 (requests_at old due)
+  pub middle : lists_of mid (counted_out frame w) (remove due 0) queue
+      ≡ one_fewer frame (record (lists_of old w due queue) { due = drop 1 (requests_at old due) })
+  pub once : (k : ℕ) → times k (keys_in w.keys) + times k (remove due 0) + times k queue ≡ holds mid k
+  pub count : length (with_key n key (counted_out frame w)).keys ≡ length w.keys
+  pub lines : AreLines new (keys_in (moves_all (with_key n key (counted_out frame w), remove due 0)).0.keys)
+      (moves_all (with_key n key (counted_out frame w), remove due 0)).1 queue
+  pub lists : lists_of new (moves_all (with_key n key (counted_out frame w), remove due 0)).0
+      (moves_all (with_key n key (counted_out frame w), remove due 0)).1 queue
+      ≡ takes_all (holding n plug (lists_of mid (counted_out frame w) (remove due 0) queue))
+
+pub replaced : (old mid new : Slab Frame) (n gone key : ℕ) (frame plugged : Frame) (w : WindowKeys) (due items queue : List ℕ) (tasks : TaskLists)
+    → lists_of old w due queue ≡ tasks → is_vacant tasks n ≡ true → 0 < length tasks.due → items ≡ due → gone ≡ get_or items 0 gone
+    → get old gone ≡ Some frame → Updates old mid gone None → AreLines old (keys_in w.keys) due queue → get mid key ≡ None → plugged ≡ plug
+    → Updates mid new key (Some plugged) → length w.keys ≡ 32 → Replaced old mid new n key frame w due queue
+replaced old mid new n gone key frame plugged w due items queue tasks shown free some_due same first found takes lines vacant is_plug gives_it long =
+    let some : 0 < length due = some_keys old due (subst (λ (t : TaskLists). 0 < length t.due) (sym shown) some_due) in
+    let at : gone ≡ get_or due 0 gone = first ∙ ap (λ (l : List ℕ). get_or l 0 gone) same in
+    let gives = subst (λ (f : Frame). Updates mid new key (Some f)) is_plug gives_it in
+    let free_there : windows.is_vacant w n ≡ true = sym (vacant_same old w due queue n lines.once) ∙ ap (λ (t : TaskLists). is_vacant t n) shown ∙ free in
+    let after = counted_out frame w in
+    let out = first_out old mid gone frame w.keys due queue some at found takes (lines.once gone) in
+    let shape : after ≡ record w { unfinished = cond (is_immediate frame.header) w.unfinished (w.unfinished - 1) } = counted_by _ frame w refl in
+    let keys_same : after.keys ≡ w.keys = ap (λ (x : WindowKeys). x.keys) shape in
+    let once : (k : ℕ) → times k (keys_in w.keys) + times k (remove due 0) + times k queue ≡ holds mid k = λ k.
+    (let o = lines.once k in
+    let r = once-remove old mid frame due 0 gone k (times k (keys_in w.keys) + times k queue) takes some at found (omega arith) in
+    omega arith) in
+    let mid_lines : AreLines mid (keys_in after.keys) (remove due 0) queue =
+    subst (λ (l : List (Option ℕ)). AreLines mid (keys_in l) (remove due 0) queue) (sym keys_same) (record { once = once }) in
+    let held = holds_key mid new key n plug after (remove due 0) queue gives vacant mid_lines (vacant_after frame w n free_there)
+    (ap (λ (l : List (Option ℕ)). length l) keys_same ∙ long) in
+    record {
+      first = out.first;
+      middle = ap (λ (x : WindowKeys). lists_of mid x (remove due 0) queue) shape
+          ∙ rw (out.left, out.same_held, out.same_others)
+          (sym (one_fewer_by _ frame (record (lists_of old w due queue) { due = drop 1 (requests_at old due) }) refl));
+      once = once;
+      count = held.count ∙ ap (λ (l : List (Option ℕ)). length l) keys_same;
+      lines = held.lines;
+      lists = held.lists;
+    }
+
+-- which numbers it holds, as its lists show it
+pub marked_known : {past : order.Past} (frame : Frame) (mid : Slab Frame) (w : WindowKeys) (due queue : List ℕ)
+    → ((k : ℕ) → times k (keys_in w.keys) + times k due + times k queue ≡ holds mid k)
+    → windows.Stands past (window_of (lists_of mid (counted_out frame w) due queue)) → windows.Stands past (windows.marked (counted_out frame w))
+marked_known {past} frame mid w due queue once s =
+    let after = counted_out frame w in
+    let keys_same : after.keys ≡ w.keys = ap (λ (x : WindowKeys). x.keys) (counted_by _ frame w refl) in
+    subst (λ (l : List Bool). windows.Stands past (record { next = after.next; unfinished = after.unfinished; held = l }))
+    (marks_same mid after.keys due queue (subst (λ (l : List (Option ℕ)). (k : ℕ) → times k (keys_in l) + times k due + times k queue ≡ holds mid k)
+    (sym keys_same) once)) s

@@ -9,9 +9,7 @@ use Rattle.iscsi_session.specs.Transfers.{tag_of, task_at, outs_of, tags_of}
 use Rattle.iscsi_session.specs.State.{standing, tasks_of, transfer_of, transfers_of, functions_of, AreDistinct, IsLawful, one_fewer}
 use Rattle.iscsi_session.proofs.Left.{left_append, left_all, left_more, left_swap, left_first, left_one, left_passes, in_at, in_front, in_back, in_left, passes_in, not_gone, not_by, not_in, below_of, distinct_left, distinct_filter, distinct_front}
 use Rattle.iscsi_session.proofs.Taken.{taken_below, distinct_taken}
-use Rattle.iscsi_session.proofs.Kept.{tags_left, command_no_function, function_no_command}
-use Rattle.iscsi_session.proofs.Pending.{functions_without, functions_other, in_functions, open_not_pending, command_not_pending, drained_finished}
-use Rattle.iscsi_session.proofs.Unfinished.{unfinished_without, unfinished_other}
+use Rattle.iscsi_session.proofs.Kept.{tags_left, command_no_function, function_no_command, functions_without, functions_other, in_functions, open_not_pending, command_not_pending, drained_finished, drained_acted, unfinished_without, unfinished_other}
 use Rattle.iscsi_session.proofs.Standing.{standing_immediate}
 use Rattle.iscsi_session.proofs.Accepted.{counted_append, due_is, queue_is, in_queue}
 use Rattle.iscsi_session.proofs.Over.{not_removed, lawful_step, one_fewer_by, unfinished_less, over_same, over_gone, over_other, over_finished, over_more}
@@ -39,11 +37,9 @@ module _ (past : Past) (lawful : IsLawful past) where
     in_due : is_in k (due past) ≡ true
     in_due = ap (λ (l : List ℕ). is_in k l) is ∙ in_at (k ∷ rest) 0 0 (omega arith)
 
-    pub in_taken : is_in k (taken past.came) ≡ true
-    in_taken = in_left k past.acted (taken past.came) (ap (λ (l : List ℕ). is_in k l) (sym (due_is past lawful)) ∙ in_due)
-
     pub due_came : k < length past.came
-    due_came = below_of (length past.came) k (taken past.came) (taken_below past.came) in_taken
+    due_came = below_of (length past.came) k (taken past.came) (taken_below past.came)
+        (in_left k past.acted (taken past.came) (ap (λ (l : List ℕ). is_in k l) (sym (due_is past lawful)) ∙ in_due))
 
     not_acted : is_in k past.acted ≡ false
     not_acted =
@@ -95,19 +91,12 @@ module _ (past : Past) (lawful : IsLawful past) where
     unfolding transfers_of unfinished task_at outs_of tags_of
     transfers_command = refl
 
-    unfinished_with_command : unfinished with_command ≡ unfinished past
-    unfolding unfinished
-    unfinished_with_command = refl
-
-    functions_with_command : functions with_command ≡ functions past
-    unfolding functions
-    functions_with_command = refl
-
     pub functions_command : functions_of with_command ≡ functions_of past
     unfolding functions_of functions
     functions_command = refl
 
     pub lawful_command : is_command (frame_of past.came k) ≡ true → IsLawful with_command
+    unfolding unfinished functions
     lawful_command e =
         let in_order = in_order_after ∙ ap (λ (l : List ℕ). (past.acted ++ k ∷ []) ++ l) (sym due_after) in
         let queued : commands past.came past.finished ++ queue with_command ≡ left past.removed (commands past.came (past.acted ++ k ∷ [])) =
@@ -122,18 +111,12 @@ module _ (past : Past) (lawful : IsLawful past) where
           acted = acted_after;
           queued = queued;
           at_once = at_once;
-          tags = subst (λ (l : List ℕ). AreDistinct (map (tag_of past.came) l)) (sym unfinished_with_command) lawful.tags;
-          function_tags = subst (λ (l : List ℕ). AreDistinct (map (tag_of past.came) l)) (sym functions_with_command) lawful.function_tags;
+          tags = lawful.tags;
+          function_tags = lawful.function_tags;
           removed_below = lawful.removed_below;
           removed_commands = lawful.removed_commands;
           apart = lawful.apart;
-          drained = record {
-            functions = lawful.drained.functions;
-            acted = lawful.drained.acted;
-            answered = lawful.drained.answered;
-            removed = lawful.drained.removed;
-            once = lawful.drained.once;
-          };
+          drained = drained_acted past (past.acted ++ k ∷ []) lawful.drained;
         })
 
     -- one that is not removed
@@ -188,19 +171,9 @@ module _ (past : Past) (lawful : IsLawful past) where
     pub not_pending : is_in k (pending past) ≡ false
     not_pending = open_not_pending past k lawful.drained not_finished
 
-    acted_too : unfinished with_other ≡ unfinished (finished k past)
-    unfolding unfinished
-    acted_too = refl
-
     unfinished_with_other : is_command (frame_of past.came k) ≡ false → unfinished with_other ≡ unfinished past
-    unfinished_with_other e = acted_too ∙ unfinished_other past k e
-
-    functions_too : functions with_other ≡ functions (finished k past)
-    unfolding functions
-    functions_too = refl
-
-    pub functions_with_other : functions with_other ≡ left (k ∷ []) (functions past)
-    functions_with_other = functions_too ∙ functions_without past k not_pending
+    unfolding unfinished
+    unfinished_with_other e = unfinished_other past k e
 
     pub functions_acted : functions_of (finished k past) ≡ functions_of with_other
     unfolding functions_of functions
@@ -218,6 +191,7 @@ module _ (past : Past) (lawful : IsLawful past) where
     stays_other e = not_removed past k lawful.removed_commands e
 
     pub lawful_other : is_command (frame_of past.came k) ≡ false → IsLawful with_other
+    unfolding functions
     lawful_other e =
         let in_order : taken past.came ≡ (past.acted ++ k ∷ []) ++ due with_other = in_order_after
         ∙ ap (λ (l : List ℕ). (past.acted ++ k ∷ []) ++ l) (sym due_other) in
@@ -234,7 +208,7 @@ module _ (past : Past) (lawful : IsLawful past) where
           queued = queued;
           at_once = at_once;
           tags = subst (λ (l : List ℕ). AreDistinct (map (tag_of past.came) l)) (sym (unfinished_with_other e)) lawful.tags;
-          function_tags = subst (λ (l : List ℕ). AreDistinct (map (tag_of past.came) l)) (sym functions_with_other)
+          function_tags = subst (λ (l : List ℕ). AreDistinct (map (tag_of past.came) l)) (sym (functions_without past k not_pending))
               (tags_left past k (functions past) lawful.function_tags);
           removed_below = lawful.removed_below;
           removed_commands = lawful.removed_commands;
@@ -289,8 +263,8 @@ module _ (past : Past) (lawful : IsLawful past) where
     functions_of_finished = ap (map (λ a. (frame_of past.came a).header)) functions_finished
 
     pub lawful_finished : IsLawful (finished k past)
+    unfolding due
     lawful_finished =
-        let in_order : taken past.came ≡ past.acted ++ due (finished k past) = lawful.in_order ∙ ap (λ (l : List ℕ). past.acted ++ l) (sym due_finished) in
         let one : commands past.came (past.finished ++ k ∷ []) ≡ commands past.came past.finished ++ k ∷ [] = filter-append
         (λ a. is_command (frame_of past.came a)) past.finished (k ∷ []) ∙ rw is_done refl in
         let none : others past.came (past.finished ++ k ∷ []) ≡ others past.came past.finished = filter-append
@@ -301,7 +275,7 @@ module _ (past : Past) (lawful : IsLawful past) where
         let at_once : others past.came (past.finished ++ k ∷ []) ≡ others past.came past.acted = none ∙ lawful.at_once in
         lawful_step past past.acted (past.finished ++ k ∷ []) past.removed past.drains past.answered lawful (record {
           over = omega (arith, over_finished past k is_not_pending);
-          in_order = in_order;
+          in_order = lawful.in_order;
           below = lawful.below;
           acted = All-push (λ a. is_in a past.acted ≡ true) past.finished k lawful.acted has_acted;
           queued = queued;

@@ -10,7 +10,7 @@ use Rattle.iscsi_order.specs.Window.{taken as taken_numbers}
 use Rattle.iscsi_session.specs.Requests.{Request, Past, frame_of, is_in, left, is_command, commands, others, counted, over, pending, taken, numbers, due, queue, Drain, functions, unfinished}
 use Rattle.iscsi_session.specs.State.{TaskLists, IsLawful, one_fewer, AreDistinct, AreDrained}
 use Rattle.iscsi_session.proofs.Left.{filter_filter, filter_cong, left_all, all_in}
-use Rattle.iscsi_session.proofs.Pending.{left_push}
+use Rattle.iscsi_session.proofs.Kept.{left_push}
 use Rattle.iscsi_session.specs.Transfers.{tag_of}
 use Rattle.iscsi_session.proofs.Accepted.{counted_append, handed_le}
 
@@ -106,6 +106,10 @@ pub over_finished : (past : Past) (k : ℕ) → is_in k (pending past) ≡ false
 over_finished past k free = grind (arith, left_push, counted_append)
 
 -- ---- a step in which no request comes
+
+pub due_as : (past after : Past) → after.came ≡ past.came → after.acted ≡ past.acted → due after ≡ due past
+unfolding due
+due_as past after came acted = rw (came, acted) refl
 
 -- what is to be shown of it
 pub record IsLawfulStep (past after : Past) : Type 0 where

@@ -1,37 +1,78 @@
 -- What a session remembers of its past, part by part.
-use Rattle.std.proofs.Common.{◌≡◌, ℕ, suc, ◌+◌, ◌-◌, ◌^◌, ◌<◌, List, [], ◌∷◌, ◌++◌, map, get_or, ltb, Bool, true, false, None, refl, sym, ap, ◌∙◌, subst, arith, append-nil}
+use Rattle.std.proofs.Common.{◌≡◌, ◌≢◌, ℕ, List, [], ◌∷◌, ◌++◌, true, false, Option, refl, sym, ap, ◌∙◌, arith, suc, ◌+◌, ◌-◌, ◌^◌, ◌<◌, map, get_or, ltb, Bool, None, subst, append-nil}
+use Rattle.std.specs.List.{fold, range_with_len}
+use Rattle.std.proofs.lemmas.Bool.{eqb-true, false_from_ne_true, ltb-true}
+use Rattle.std.proofs.lemmas.List.{map-append}
+use Rattle.std.proofs.lemmas.List.Sums.{fold-append}
+use Rattle.iscsi_pdu.specs.Header.{opcode_of, opcode_number, is_immediate, cmd_sn}
+use Rattle.iscsi_pdu.specs.Frames.{Frame}
+use Rattle.iscsi_pdu.specs.declared.header.Opcode.{Opcode}
+use Rattle.iscsi_pdu.specs.declared.header.Opcode.TheVariants as opcodes
+use Rattle.iscsi_login.specs.declared.params.Params.{Params}
+use Rattle.iscsi_exchange.specs.ExchangeState.{ExchangeState, no_exchange}
+use Rattle.iscsi_exchange.specs.Exchange.{hears}
+use Rattle.iscsi_session.specs.Requests.{Request, Past, frame_of, is_command, is_function, functions, left, numbered, numbers, due, queue, frames_of, unfinished, statuses, bearing, answering, accepted, begun, taken}
+use Rattle.iscsi_session.specs.Transfers.{fed, task_at, outs_of, tags_of}
+use Rattle.iscsi_session.specs.Texts.{is_text, exchange_behind, exchange_of}
+use Rattle.iscsi_session.proofs.Kept.{joined, Below, command_no_function, function_no_command, transfers_joined}
+use Rattle.iscsi_session.proofs.Accepted.{frames_same, HasFreeTag, marks_are, finished_below, removed_below, functions_of_joined, now, with, IsAhead, lawful_now, admitted, lawful_with, held_now}
 use Rattle.std.specs.Prelude.{is_some, Result, Ok, Err, OnOk, OnErr}
 use Rattle.std.specs.Result.{is_err}
-use Rattle.std.specs.List.{range_with_len}
-use Rattle.std.proofs.lemmas.Bool.{ltb-true}
 use Rattle.std.proofs.lemmas.List.FromFn.{get_or-map-range_with_len}
-use Rattle.iscsi_pdu.specs.Header.{is_immediate, cmd_sn}
-use Rattle.iscsi_pdu.specs.Frames.{Frame}
 use Rattle.iscsi_pdu.specs.declared.answer.Answer.{Answer}
-use Rattle.iscsi_login.specs.declared.params.Params.{Params}
 use Rattle.iscsi_order.specs.Window as order
 use Rattle.iscsi_order.specs.Window.{taken as taken_numbers, window}
 use Rattle.iscsi_order.specs.WindowState as windows
 use Rattle.iscsi_order.specs.WindowState.{remembered as remembered_window}
 use Rattle.iscsi_order.specs.Serial.{distance}
 use Rattle.iscsi_order.specs.Stat.{stat_sn}
-use Rattle.iscsi_session.specs.Requests.{Past, is_command, is_function, functions, left, numbered, numbers, due, queue, frames_of, unfinished, statuses, bearing, answering, accepted, begun, taken}
 use Rattle.iscsi_session.specs.Judging.{is_fresh}
 use Rattle.iscsi_session.specs.declared.transfers.Transfer.{Transfer}
 use Rattle.iscsi_transfer.specs.Task.{TaskState, remembered as task_of}
 use Rattle.iscsi_transfer.specs.Payload.{begun as begun_data}
-use Rattle.iscsi_session.specs.State.{SessionState, TaskLists, TransferList, no_tasks, no_transfers, transfers_of, functions_of, begun_transfer, kept, frame_numbered, standing, tasks_of, window_of, IsLawful, Stands, is_vacant, is_vacant_for, holding, takes_all}
-use Rattle.iscsi_exchange.specs.ExchangeState.{ExchangeState, no_exchange}
-use Rattle.iscsi_session.specs.Texts.{exchange_of}
-use Rattle.iscsi_session.proofs.Exchanging.{exchange_joined, exchange_answering}
-use Rattle.iscsi_session.proofs.Kept.{command_no_function, function_no_command}
+use Rattle.iscsi_session.specs.State.{SessionState, TaskLists, TransferList, no_tasks, transfers_of, functions_of, begun_transfer, kept, frame_numbered, standing, tasks_of, window_of, IsLawful, Stands, is_vacant, is_vacant_for, holding, takes_all, remembered}
 use Rattle.iscsi_session.proofs.Standing.{numbered_standing}
-use Rattle.iscsi_session.proofs.Fronts.{frame_marked}
-use Rattle.iscsi_session.proofs.Kept.{joined}
-use Rattle.iscsi_session.proofs.Unfinished.{transfers_joined}
-use Rattle.iscsi_session.proofs.Accepted.{HasFreeTag, marks_are, finished_below, removed_below, functions_of_joined, now, with, IsAhead, lawful_now, admitted, lawful_with, held_now}
+use Rattle.iscsi_session.proofs.Taken.{frame_marked}
 use Rattle.iscsi_session.proofs.Left.{both_true}
-use Rattle.iscsi_session.proofs.Runs.{lawful_answering, statuses_answering, tasks_answering, transfers_answering, functions_answering}
+use Rattle.iscsi_session.proofs.Runs.{lawful_answering, statuses_answering}
+
+-- ---- what leaves it as it is
+
+pub exchange_joined : (past : Past) (x : Request) → Below past past.acted → exchange_of (joined x past) ≡ exchange_of past
+unfolding exchange_of
+exchange_joined past x below = ap (fold (exchange_behind past.params) no_exchange) (frames_same past.came x past.acted below)
+
+-- where the same requests acted
+pub exchange_as : (past after : Past) → after.params ≡ past.params → after.came ≡ past.came → after.acted ≡ past.acted
+    → exchange_of after ≡ exchange_of past
+unfolding exchange_of
+exchange_as past after params came acted = rw (params, came, acted) refl
+
+pub exchange_fed : (c : Option ℕ) (frame : Frame) (past : Past) → exchange_of (fed c frame past) ≡ exchange_of past
+unfolding exchange_of
+exchange_fed c frame past = grind arith
+
+-- ---- one more request acted
+
+pub exchange_acted : (past after : Past) (k : ℕ) → after.params ≡ past.params → after.came ≡ past.came → after.acted ≡ past.acted ++ k ∷ []
+    → exchange_of after ≡ exchange_behind past.params (exchange_of past) (frame_of past.came k)
+unfolding exchange_of
+exchange_acted past after k params came acted = grind (arith, map-append, fold-append)
+
+pub exchange_other : (params : Params) (exchange : ExchangeState) (frame : Frame) → is_text frame ≡ false → exchange_behind params exchange frame ≡ exchange
+exchange_other params exchange frame e = rw e refl
+
+pub exchange_text : (params : Params) (exchange : ExchangeState) (frame : Frame) → is_text frame ≡ true
+    → exchange_behind params exchange frame ≡ (hears exchange frame params).exchange
+exchange_text params exchange frame e = rw e refl
+
+-- ---- by the opcode
+
+pub text_kind : (frame : Frame) → is_text frame ≡ true → opcode_of (opcode_number frame.header) ≡ opcodes.Text
+text_kind frame e = ap opcode_of (eqb-true (opcode_number frame.header) 0x04 e)
+
+pub not_text : (frame : Frame) (o : Opcode) → opcode_of (opcode_number frame.header) ≡ o → o ≢ opcodes.Text → is_text frame ≡ false
+not_text frame o is other = false_from_ne_true (is_text frame) (λ e. other (sym is ∙ text_kind frame e))
 
 pub on_err_known : {T E P : Type 0} (r : Result T E) → P → OnErr r P
 on_err_known (Ok x) known = tt
@@ -87,24 +128,13 @@ stands_tasks past after state tasks s lawful params answers is same_data same_he
 
 pub stands_stat : (past : Past) (more : List Answer) (state : SessionState) (stat : ℕ) → Stands past state → bearing more ≡ 1
     → stat ≡ stat_sn (suc (statuses past)) → Stands (answering more past) (record state { stat = stat })
+unfolding tasks_of transfers_of functions_of exchange_of due queue standing unfinished functions task_at outs_of tags_of
 stands_stat past more state stat s one is =
-    let p = parts past state s in
     let count : suc (statuses past) ≡ statuses (answering more past) = omega (arith, statuses_answering more past, one) in
     record {
       lawful = lawful_answering more past s.lawful;
-      remembered = rw (
-        p.params_is,
-        is,
-        count,
-        p.tasks_is,
-        sym (tasks_answering more past),
-        p.transfers_is,
-        sym (transfers_answering more past),
-        p.functions_is,
-        sym (functions_answering more past),
-        p.exchange_is,
-        sym (exchange_answering more past),
-      ) refl;
+      remembered = ap (λ (x : SessionState). record x { stat = stat }) s.remembered
+          ∙ ap (λ (n : ℕ). record (remembered past) { stat = n }) (is ∙ ap stat_sn count);
     }
 
 -- ---- a request is accepted
@@ -211,15 +241,3 @@ stands_begun past state frame task s free e tag is =
 pub begun_tasks : (params : Params) → params.first_cmd_sn < 2 ^ 32 → no_tasks params.first_cmd_sn ≡ tasks_of (begun params)
 unfolding tasks_of due queue left taken taken_numbers standing
 begun_tasks params fits = grind arith
-
-pub begun_transfers : (params : Params) → no_transfers ≡ transfers_of (begun params)
-unfolding transfers_of unfinished left
-begun_transfers params = refl
-
-pub begun_exchange : (params : Params) → no_exchange ≡ exchange_of (begun params)
-unfolding exchange_of
-begun_exchange params = refl
-
-pub begun_functions : (params : Params) → [] ≡ functions_of (begun params)
-unfolding functions_of functions left
-begun_functions params = refl

@@ -1,5 +1,6 @@
 -- SCSI Commands that are not finished are removed: what the session remembers, and that its past stays lawful.
 use Rattle.std.proofs.Common.{◌≡◌, ℕ, ◌+◌, ◌-◌, ◌<◌, ◌≤◌, List, [], ◌∷◌, ◌++◌, length, map, get_or, Bool, true, false, not, ◌&&◌, Some, refl, sym, ap, subst, ◌∙◌, arith}
+use mathlib.Core.List.{map-map}
 use Rattle.std.specs.Prelude.{All, filter, is_some, option_map}
 use Rattle.std.specs.List.{range_with_len}
 use Rattle.std.proofs.lemmas.Bool.{false_from_ne_true}
@@ -12,30 +13,19 @@ use Rattle.iscsi_order.proofs.Front.{front_missing}
 use Rattle.iscsi_session.specs.Requests.{Past, request_at, frame_of, frames_of, is_in, left, is_command, is_function, commands, counted, over, numbered, place_of, taken, numbers, due, queue, unfinished, pending, functions, removing}
 use Rattle.iscsi_session.specs.Transfers.{tag_of, task_at, outs_of, tags_of}
 use Rattle.iscsi_session.specs.Functions.{FunctionReach, reaches, reached}
-use Rattle.iscsi_session.specs.Texts.{exchange_of}
 use Rattle.iscsi_session.specs.State.{SessionState, TransferList, Stands, AreDistinct, IsDelivered, IsLawful, standing, frame_numbered, tasks_of, transfers_of, functions_of, void_if, stays, counts_out, reaches_frame, without, transfers_without}
 use Rattle.iscsi_session.proofs.Left.{filter_cong, filter_filter, map_cong, left_more, left_append, left_all, in_at, in_filter, in_filter_back, in_left, passes_in, not_gone, not_in, is_in_append, below_of, distinct_map_filter}
 use Rattle.iscsi_session.proofs.Places.{count_map}
-use Rattle.iscsi_session.proofs.Kept.{function_no_command, in_kept}
-use Rattle.iscsi_session.proofs.Pending.{function_in, drained_removing}
-use Rattle.iscsi_session.proofs.Unfinished.{unfinished_came, unfinished_command, queue_unfinished}
+use Rattle.iscsi_session.proofs.Kept.{function_no_command, in_kept, function_in, drained_removing, unfinished_came, unfinished_command, queue_unfinished}
 use Rattle.iscsi_session.proofs.Standing.{numbered_standing, place_standing, length_standing, standing_at}
-use Rattle.iscsi_session.proofs.Taken.{beyond_not_taken, taken_below}
-use Rattle.iscsi_session.proofs.Fronts.{first_of, frame_come, frame_missing, place_come, place_missing, moment_above}
-use Rattle.iscsi_session.proofs.Accepted.{handed_is, counted_append, due_is, in_queue}
+use Rattle.iscsi_session.proofs.Taken.{beyond_not_taken, taken_below, first_of, frame_come, frame_missing, place_come, place_missing, moment_above}
+use Rattle.iscsi_session.proofs.Accepted.{handed_is, counted_append, due_is, in_queue, acted_taken}
 use Rattle.iscsi_session.proofs.Over.{split, acted_counted, lawful_step}
-use Rattle.iscsi_session.proofs.Parts.{parts, stands_parts}
+use Rattle.iscsi_session.proofs.Parts.{parts, stands_parts, exchange_as}
 
 pub filter_map_names : {X Y : Type 0} (p : Y → Bool) (f : X → Y) (names : List X) → filter p (map f names) ≡ map f (filter (λ k. p (f k)) names)
 filter_map_names p f [] = refl
 filter_map_names {Y = Y} p f (k ∷ names) = grind (arith, filter_map_names p f names)
-
-pub map_map_names : {Y Z : Type 0} (g : Y → Z) (f : ℕ → Y) (names : List ℕ) → map g (map f names) ≡ map (λ k. g (f k)) names
-map_map_names g f [] = refl
-map_map_names {Z = Z} g f (k ∷ names) = ap (λ (l : List Z). g (f k) ∷ l) (map_map_names g f names)
-
-and_true : (a b : Bool) → a ≡ true → (a && b) ≡ b
-and_true a b e = grind arith
 
 and_false : (a b : Bool) → (a ≡ true → b ≡ false) → (a && b) ≡ false
 and_false a b e = grind arith
@@ -80,19 +70,16 @@ module _ (reach : FunctionReach) (past : Past) (lawful : IsLawful past) where
 
   -- ---- the lines
 
-  left_again : (l : List ℕ) → left (past.removed ++ gone) l ≡ left gone (left past.removed l)
-  left_again l = left_more past.removed gone l
-
   queue_gone : queue after ≡ left gone (queue past)
   unfolding queue
-  queue_gone = left_again (left past.finished (commands past.came past.acted))
+  queue_gone = left_more past.removed gone (left past.finished (commands past.came past.acted))
 
   pub queue_hit : queue after ≡ filter (λ k. not (hit k)) (queue past)
   queue_hit = queue_gone ∙ left_hit (queue past) in_queue_unfinished
 
   unfinished_gone : unfinished after ≡ left gone (unfinished past)
   unfolding unfinished
-  unfinished_gone = left_again (left past.finished (commands past.came (range_with_len 0 (length past.came))))
+  unfinished_gone = left_more past.removed gone (left past.finished (commands past.came (range_with_len 0 (length past.came))))
 
   pub unfinished_hit : unfinished after ≡ filter (λ k. not (hit k)) (unfinished past)
   unfinished_hit = unfinished_gone ∙ left_hit (unfinished past) (λ i d lt. in_at (unfinished past) i d lt)
@@ -103,7 +90,7 @@ module _ (reach : FunctionReach) (past : Past) (lawful : IsLawful past) where
 
   functions_gone : functions after ≡ left gone (functions past)
   unfolding functions
-  functions_gone = grind (arith, left_again)
+  functions_gone = grind (arith, left_more)
 
   pub functions_same : functions after ≡ functions past
   functions_same = functions_gone ∙ left_all gone (functions past) (λ i d lt. no_function _ (function_in past _ (in_at (functions past) i d lt)))
@@ -126,7 +113,7 @@ module _ (reach : FunctionReach) (past : Past) (lawful : IsLawful past) where
       (in_filter _ (λ k. is_command (frame_of past.came k)) past.finished (in_at (commands past.came past.finished) i d lt)))
 
   commands_left : left (past.removed ++ gone) (commands past.came past.acted) ≡ commands past.came past.finished ++ queue after
-  commands_left = grind (arith, left_again, left_append, finished_stay, queue_gone)
+  commands_left = grind (arith, left_more, left_append, finished_stay, queue_gone)
 
   pub handed_same : (numbers after).handed ≡ (numbers past).handed
   unfolding taken_numbers
@@ -192,22 +179,19 @@ module _ (reach : FunctionReach) (past : Past) (lawful : IsLawful past) where
       → frame_of (standing after) k ≡ void_if reach (frame_of (standing past) k)
   voids_here k lt un = stands_at _ _ _ k lt un refl refl refl
 
-  not_finished : (k : ℕ) → is_in k past.acted ≡ false → is_in k past.finished ≡ false
-  not_finished k none = not_in k past.finished past.acted lawful.acted none
-
   -- those that are due
   due_open : (k : ℕ) → is_in k (due past) ≡ true → (k < length past.came) × (is_in k past.finished ≡ false)
   due_open k e =
       let there : is_in k (left past.acted (taken past.came)) ≡ true = ap (λ (l : List ℕ). is_in k l) (sym (due_is past lawful)) ∙ e in (
         below_of (length past.came) k (taken past.came) (taken_below past.came) (in_left k past.acted (taken past.came) there),
-        not_finished k (not_gone k past.acted (taken past.came) there),
+        not_in k past.finished past.acted lawful.acted (not_gone k past.acted (taken past.came) there),
       )
 
   due_voids : frames_of (standing after) (due after) ≡ map (void_if reach) (frames_of (standing past) (due past))
   due_voids =
       ap (frames_of (standing after)) due_same
       ∙ map_cong _ _ (due past) (λ i d lt. let o = due_open _ (in_at (due past) i d lt) in voids_here _ o.0 o.1)
-      ∙ sym (map_map_names (void_if reach) (frame_of (standing past)) (due past))
+      ∙ sym (map-map (void_if reach) (frame_of (standing past)) (due past))
 
   -- those that are held
   held_open : (n : ℕ) → (numbers past).handed ≤ n → place_of past.came n < length past.came → is_in (place_of past.came n) past.finished ≡ false
@@ -217,10 +201,8 @@ module _ (reach : FunctionReach) (past : Past) (lawful : IsLawful past) where
       let above = moment_above past.came (first_of past.came) n (omega arith) in
       let p = place_of past.came n in
       let none : is_in p (taken past.came) ≡ false = beyond_not_taken past.came n lt (omega arith) in
-      not_finished p (false_from_ne_true (is_in p past.acted) (λ h. let no = sym (acted_taken p h) ∙ none in absurd cc))
-    where
-      acted_taken : (k : ℕ) → is_in k past.acted ≡ true → is_in k (taken past.came) ≡ true
-      acted_taken k h = ap (λ (l : List ℕ). is_in k l) lawful.in_order ∙ is_in_append k past.acted (due past) ∙ rw h refl
+      not_in p past.finished past.acted lawful.acted
+      (false_from_ne_true (is_in p past.acted) (λ h. let no = sym (acted_taken past lawful p h) ∙ none in absurd cc))
 
   held_by : (b : Bool) (n : ℕ) → order.has_come (numbered past.came) n ≡ b → (numbers past).handed ≤ n
       → frame_numbered (standing after) n ≡ option_map (void_if reach) (frame_numbered (standing past) n)
@@ -244,14 +226,14 @@ module _ (reach : FunctionReach) (past : Past) (lawful : IsLawful past) where
       map_cong _ _ (range_with_len a n) (λ i d lt.
       let at = get_or-range_with_len a n i d (omega (arith, length-range_with_len a n)) in
       held_by _ (get_or (range_with_len a n) i d) refl (omega arith))
-      ∙ sym (map_map_names (option_map (void_if reach)) (frame_numbered (standing past)) (range_with_len a n))
+      ∙ sym (map-map (option_map (void_if reach)) (frame_numbered (standing past)) (range_with_len a n))
 
   -- those in the queue
   queue_command : (k : ℕ) → is_in k (queue past) ≡ true → is_command (frame_of past.came k) ≡ true
   queue_command k e = unfinished_command past k (queue_unfinished past k lawful.below e)
 
   reached_in_queue : (k : ℕ) → is_in k (queue past) ≡ true → reaches_frame reach (frame_of past.came k) ≡ hit k
-  reached_in_queue k e = and_true (is_command (frame_of past.came k)) (hit k) (queue_command k e)
+  reached_in_queue k e = rw (queue_command k e) refl
 
   queue_stays : filter (stays reach) (frames_of past.came (queue past)) ≡ frames_of past.came (queue after)
   queue_stays = grind (arith, filter_map_names, filter_cong, reached_in_queue, in_at, queue_hit)
@@ -291,14 +273,6 @@ module _ (reach : FunctionReach) (past : Past) (lawful : IsLawful past) where
   unfolding functions_of
   functions_removing = ap (map (λ k. (frame_of past.came k).header)) (sym functions_same)
 
-  pub exchange_removing : exchange_of past ≡ exchange_of after
-  unfolding exchange_of
-  exchange_removing = refl
-
-pub removing_over : (reach : FunctionReach) (past : Past) → IsLawful past
-    → (numbers past).finished ≤ (numbers (removing (reached reach past) past)).finished
-removing_over reach past lawful = omega (arith, over_more reach past lawful)
-
 -- a session whose commands were removed
 pub stands_removing : (reach : FunctionReach) (past : Past) (state : SessionState) → Stands past state
     → Stands (removing (reached reach past) past) (record state {
@@ -311,4 +285,4 @@ stands_removing reach past state s =
     (lawful_removing reach past s.lawful) refl refl
     (ap (without reach) p.tasks_is ∙ tasks_removing reach past s.lawful)
     (ap (λ (t : TransferList). record t { list = transfers_without reach t.list }) p.transfers_is ∙ transfers_removing reach past s.lawful)
-    (p.functions_is ∙ functions_removing reach past s.lawful) (p.exchange_is ∙ exchange_removing reach past s.lawful)
+    (p.functions_is ∙ functions_removing reach past s.lawful) (p.exchange_is ∙ sym (exchange_as past (removing (reached reach past) past) refl refl refl))

@@ -1,16 +1,17 @@
--- The answers of a command fit into the room that is made for them.
-use Rattle.std.proofs.Common.{◌≡◌, ℕ, ◌+◌, ◌*◌, ◌<◌, ◌≤◌, List, [], ◌∷◌, ◌++◌, length, map, take, get_or, Some, refl, ap, subst, ◌∙◌, arith}
+-- How many bytes the answers of a session take at most, that those of a command fit into the room that is made for them, and how they are
+-- written around the data where it lies.
+use Rattle.std.proofs.Common.{◌≡◌, ℕ, ◌+◌, ◌*◌, ◌<◌, ◌≤◌, List, [], ◌∷◌, ◌++◌, length, map, take, get_or, Some, refl, ap, subst, ◌∙◌, arith, zero, suc, ◌/◌, ◌%◌, ◌==◌, min, Bool, true, false, Option, None, append-nil, ◌-◌, drop, replicate, sym, length-drop}
 use Rattle.std.specs.Prelude.{flat_map}
 use Rattle.std.specs.List.{enumerate_from, slice_get}
 use Rattle.std.proofs.lemmas.Option.{slice_get-get_or, slice_get_within}
-use Rattle.std.proofs.lemmas.List.{length-append, length-map, length-take, length-replicate, get_or-map, take_more, append_assoc, append-nil}
+use Rattle.std.proofs.lemmas.List.{length-append, length-map, length-take, length-replicate, get_or-map, take_more, append_assoc, take_all, drop_all, drop-take, take-replicate}
 use Rattle.std.proofs.lemmas.List.Folds.{length-flat_map-take}
 use Rattle.std.proofs.lemmas.List.FromFn.{length-enumerate_from, get_or-enumerate_from}
-use Rattle.std.proofs.lemmas.Grind.{flat_map-append}
+use Rattle.std.proofs.lemmas.Grind.{flat_map-append, div_ceil_times}
 use Rattle.iscsi_pdu.specs.Answer.{spelling}
 use Rattle.iscsi_pdu.specs.DataIn.{DataInFields, data_in_header, data_in_bytes}
-use Rattle.iscsi_pdu.specs.Segment.{segment}
-use Rattle.iscsi_pdu.specs.Header.{initiator_task_tag}
+use Rattle.iscsi_pdu.specs.Segment.{segment, most_data, padded}
+use Rattle.iscsi_pdu.specs.Header.{initiator_task_tag, header_length}
 use Rattle.iscsi_pdu.specs.Frames.{Frame}
 use Rattle.iscsi_pdu.specs.declared.answer.Answer.{Answer}
 use Rattle.iscsi_pdu.specs.declared.stamp.Stamp.{Stamp}
@@ -24,19 +25,37 @@ use Rattle.scsi_sense.specs.Done.{Outcome}
 use Rattle.scsi_unit.specs.DiskCommands.{most_given}
 use Rattle.iscsi_login.specs.Values.{AreInRange}
 use Rattle.iscsi_login.specs.declared.values.Values.{Values}
-use Rattle.iscsi_session.specs.Answers.{data_sent, sent_pieces, data_in, data_answers}
+use Rattle.iscsi_session.specs.Answers.{data_sent, sent_pieces, data_in, data_answers, scsi_answer, command_answers}
 use Rattle.iscsi_session.specs.Room.{most_sent, most_pieces, room_for}
+use Rattle.std.specs.Int.{div_ceil}
+use Rattle.std.proofs.lemmas.Nat.{div-add-mod'}
+use Rattle.std.proofs.Math.Nat.{suc-mul, mul-le-mul_left}
+use Rattle.iscsi_pdu.specs.declared.answer.Answer.TheVariants as answers
+use Rattle.iscsi_pdu.specs.declared.header.Opcode.{Opcode}
+use Rattle.iscsi_pdu.specs.declared.header.Opcode.TheVariants as opcodes
+use Rattle.iscsi_pdu.specs.declared.reject.RejectReason.{RejectReason}
+use Rattle.iscsi_pdu.specs.declared.reject.RejectReason.TheVariants as reasons
+use Rattle.iscsi_pdu.specs.declared.task_management_response.TaskResult.{TaskResult}
+use Rattle.iscsi_login.specs.declared.params.Params.{Params}
+use Rattle.iscsi_exchange.specs.ExchangeState.{ExchangeState}
+use Rattle.iscsi_exchange.specs.Exchange.{TextPiece, IsShort}
+use Rattle.iscsi_exchange.proofs.Short.{hears_short}
+use Rattle.iscsi_session.specs.Judging.{reserved_tag, reject}
+use Rattle.iscsi_session.specs.Texts.{text_answer}
+use Rattle.iscsi_session.specs.Acts.{ping_answers, logout_answer, act_answers_by}
+use Rattle.iscsi_session.specs.Requests.{Past}
+use Rattle.iscsi_session.specs.Transfers.{r2t_of}
+use Rattle.iscsi_session.specs.Weight.{request_weight}
 
 -- ---- the length of the Data-Ins
-
-header_long : (fields : DataInFields) → length (data_in_header fields) ≡ 48
-header_long fields = refl
 
 pub segment_long : (bytes : List ℕ) → length (segment bytes) ≤ length bytes + 3
 segment_long bytes = grind (arith, length-replicate, length-append)
 
 piece_long : (fields : DataInFields) → length (data_in_bytes fields) ≤ 51 + length fields.body
-piece_long fields = omega (arith, length-append (data_in_header fields) (segment fields.body), header_long fields, segment_long fields.body)
+piece_long fields =
+    let header : length (data_in_header fields) ≡ 48 = refl in
+    omega (arith, length-append (data_in_header fields) (segment fields.body), header, segment_long fields.body)
 
 all_long : (numbers : Stamp) (frame : Frame) (sent : List ℕ) (k : ℕ) (pieces : List Piece)
     → length (flat_map spelling (map (data_in numbers frame sent) (enumerate_from k pieces))) ≤ length pieces * 51 + length (flat_map (part_of sent) pieces)
@@ -163,3 +182,164 @@ next_fits all k items before spare room answer lt is h le =
 pub pieces_few : (values : Values) (frame : Frame) (done : Outcome) → AreInRange values → length done.given ≤ most_given
     → length (sent_pieces values (data_sent frame done)) ≤ most_given
 pieces_few values frame done range le = grind (arith, count_fits, pieces_counted, length-take)
+
+-- ---- each answer
+
+pub one_spelled : (a : Answer) → length (flat_map spelling (a ∷ [])) ≡ length (spelling a)
+one_spelled a = ap (λ (l : List ℕ). length l) (append-nil (spelling a))
+
+pub reject_long : (reason : RejectReason) (numbers : Stamp) (frame : Frame) → length frame.header ≡ header_length
+    → length (spelling (reject reason numbers frame)) ≤ 99
+reject_long reason numbers frame whole = omega (arith, whole, segment_long frame.header)
+
+text_long : (numbers : Stamp) (piece : Option TextPiece) (frame : Frame) → length frame.header ≡ header_length → IsShort piece
+    → length (spelling (text_answer numbers piece frame)) ≤ 262240
+text_long numbers None frame whole short = omega (arith, reject_long reasons.InvalidField numbers frame whole)
+text_long numbers (Some piece) frame whole short = omega (arith, short, segment_long piece.text)
+
+logout_long : (numbers : Stamp) (params : Params) (frame : Frame) → length frame.header ≡ header_length
+    → length (spelling (logout_answer numbers params frame)) ≤ 99
+logout_long numbers params frame whole = grind (arith, reject_long reasons.InvalidField numbers frame whole)
+
+ping_long : (numbers : Stamp) (values : Values) (frame : Frame) → length (flat_map spelling (ping_answers numbers values frame)) ≤ 262240
+ping_long numbers values frame = by_tag (initiator_task_tag frame.header == reserved_tag) refl
+  where
+    by_tag : (b : Bool) → (initiator_task_tag frame.header == reserved_tag) ≡ b → length (flat_map spelling (ping_answers numbers values frame)) ≤ 262240
+    by_tag true e = rw e (omega arith)
+    by_tag false e =
+        let limit = min values.max_recv_data_segment_length most_data in
+        let answer : Answer = answers.NopIn (record { initiator_task_tag = initiator_task_tag frame.header; stamp = numbers; body = take limit frame.body }) in
+        let long : length (spelling answer) ≤ 262240 = omega (arith, segment_long (take limit frame.body), length-take limit frame.body) in
+        rw e (omega (arith, one_spelled answer, long))
+
+-- a request that is no SCSI Command is answered no more than this
+pub most_answered : (o : Opcode) (waited : List ℕ) (result : TaskResult) (exchange : ExchangeState) (numbers : Stamp) (params : Params) (frame : Frame)
+    → length frame.header ≡ header_length → length (flat_map spelling (act_answers_by o waited result exchange numbers params frame)) ≤ 262240
+most_answered opcodes.ScsiCommand waited result exchange numbers params frame whole = omega arith
+most_answered opcodes.NopOut waited result exchange numbers params frame whole = ping_long numbers params.values frame
+most_answered opcodes.Logout waited result exchange numbers params frame whole = grind (arith, one_spelled, logout_long)
+most_answered opcodes.TaskManagement [] result exchange numbers params frame whole = omega arith
+most_answered opcodes.TaskManagement (k ∷ others) result exchange numbers params frame whole = omega arith
+most_answered opcodes.Login waited result exchange numbers params frame whole = omega arith
+most_answered opcodes.Text waited result exchange numbers params frame whole = grind (arith, one_spelled, text_long, hears_short)
+most_answered opcodes.DataOut waited result exchange numbers params frame whole = omega arith
+most_answered opcodes.Snack waited result exchange numbers params frame whole = omega arith
+most_answered (opcodes.Other n) waited result exchange numbers params frame whole = omega arith
+
+-- ---- a SCSI Command
+
+response_long : (numbers : Stamp) (frame : Frame) (done : Outcome) (data_ins : ℕ) → length (spelling (scsi_answer numbers frame done data_ins)) ≤ 68
+unfolding scsi_answer
+response_long numbers frame done data_ins = grind arith
+
+-- a burst is cut into pieces of which only the last is short
+pieces_of_burst : (burst segment : ℕ) → 512 ≤ burst → 512 ≤ segment → 512 * div_ceil burst segment ≤ 2 * burst
+pieces_of_burst burst segment long some = grind (arith, div_ceil_times, suc-mul, mul-le-mul_left)
+
+few_pieces : (n burst segment : ℕ) → 512 ≤ burst → 512 ≤ segment → 512 * piece_count n burst segment ≤ 2 * n + 1024
+few_pieces n burst segment long some =
+    let q = n / burst in
+    let r = n % burst in
+    let d = div_ceil burst segment in
+    let parts : q * burst + r ≡ n = div-add-mod' n burst in
+    let each : d * 512 ≤ 2 * burst = omega (arith, pieces_of_burst burst segment long some) in
+    let whole : q * (d * 512) ≤ q * (2 * burst) = mul-le-mul_left q each in
+    let first : q * (d * 512) ≡ 512 * (q * d) = grind arith in
+    let second : q * (2 * burst) ≡ 2 * (q * burst) = grind arith in
+    let above : div_ceil r segment * segment < r + segment = (div_ceil_times r segment (omega arith)).1 in
+    let below : r < burst = omega arith in
+    let left : 512 * div_ceil r segment ≤ r + 1024 = last_part (div_ceil r segment) refl in
+    omega (arith, parts, whole, first, second, left)
+  where
+    last_part : (d : ℕ) → div_ceil (n % burst) segment ≡ d → 512 * div_ceil (n % burst) segment ≤ n % burst + 1024
+    last_part zero e = omega (arith, e)
+    last_part (suc d) e =
+        let r = n % burst in
+        let above : div_ceil r segment * segment < r + segment = (div_ceil_times r segment (omega arith)).1 in
+        let is : div_ceil r segment * segment ≡ suc d * segment = ap (λ (m : ℕ). m * segment) e in
+        let next : suc d * segment ≡ d * segment + segment = suc-mul d segment in
+        let wide : d * 512 ≤ d * segment = mul-le-mul_left d some in
+        omega (arith, above, is, next, wide, e)
+
+most_sent_fits : (frame : Frame) → most_sent frame ≤ most_given
+most_sent_fits frame = grind arith
+
+-- all that a command is answered is less than it counts for
+pub command_long : (numbers : Stamp) (values : Values) (frame : Frame) (done : Outcome) → AreInRange values → length done.given ≤ most_given
+    → length (flat_map spelling (command_answers numbers values frame done)) ≤ request_weight
+command_long numbers values frame done range given =
+    grind (arith, flat_map-append, few_pieces, length-append, one_spelled, response_long, data_fits, most_sent_fits)
+
+-- ---- an R2T
+
+pub ask_long : (past : Past) (k : ℕ) → length (flat_map spelling (r2t_of past k)) ≤ 48
+unfolding r2t_of
+ask_long past k = grind arith
+
+-- ---- a header that is written into the room in front of data, and the answers that come of it
+
+-- the room in front is written, and what lies behind it stays
+pub written_over : (header items post : List ℕ) → length header ≡ 48 → 48 ≤ length items → post ≡ drop 48 items
+    → take (length items) ((header ++ post) ++ drop (length (header ++ post)) items) ≡ header ++ drop 48 items
+written_over header items post long above is =
+    let rest : length post ≡ length items - 48 = ap (λ (xs : List ℕ). length xs) is ∙ length-drop 48 items in
+    let whole : length (header ++ post) ≡ length items = omega (arith, length-append header post, rest) in
+    ap (λ (xs : List ℕ). take (length items) ((header ++ post) ++ xs)) (drop_all (length (header ++ post)) items (omega (arith, whole)))
+    ∙ ap (take (length items)) (append-nil (header ++ post))
+    ∙ take_all (length items) (header ++ post) (omega (arith, whole))
+    ∙ ap (λ (xs : List ℕ). header ++ xs) is
+
+-- the padding of so many bytes, in numbers that cannot overflow
+padding_is : (n : ℕ) → (4 - n % 4) % 4 ≡ padded n - n
+padding_is n = omega arith
+
+-- the padding behind the data
+pub padded_behind : (header items : List ℕ) (n : ℕ) → n ≡ length (drop 48 items)
+    → (header ++ drop 48 items) ++ take ((4 - n % 4) % 4) (0 ∷ 0 ∷ 0 ∷ []) ≡ header ++ segment (drop 48 items)
+padded_behind header items n is =
+    let least : (4 - n % 4) % 4 ≤ 3 = omega arith in
+    let zeros : take ((4 - n % 4) % 4) (0 ∷ 0 ∷ 0 ∷ []) ≡ replicate (padded (length (drop 48 items)) - length (drop 48 items)) 0 =
+    take-replicate ((4 - n % 4) % 4) 3 0 least ∙ ap (λ (k : ℕ). replicate k 0) (padding_is n ∙ ap (λ (k : ℕ). padded k - k) is) in
+    append_assoc header (drop 48 items) (take ((4 - n % 4) % 4) (0 ∷ 0 ∷ 0 ∷ [])) ∙ ap (λ (xs : List ℕ). header ++ (drop 48 items ++ xs)) zeros
+
+-- ---- one Data-In
+
+only_one : (xs : List Piece) (piece : Piece) → slice_get xs 0 ≡ Some piece → length xs ≡ 1 → xs ≡ piece ∷ []
+only_one [] piece is one = absurd cc
+only_one (x ∷ []) piece is one = let same : x ≡ piece = cc in ap (λ (p : Piece). p ∷ []) same
+only_one (x ∷ y ∷ xs) piece is one = absurd (omega arith)
+
+body_of : (fields : DataInFields) (numbers : Stamp) (frame : Frame) (sent : List ℕ) (piece : Piece)
+    → answers.DataIn fields ≡ data_in numbers frame sent (0, piece) → fields.body ≡ part_of sent piece
+body_of fields numbers frame sent piece made = cc
+
+-- it carries the whole data
+pub one_answer : (numbers : Stamp) (values : Values) (frame : Frame) (sent : List ℕ) (piece : Piece) (fields : DataInFields) (items : List ℕ)
+    → AreInRange values → slice_get (sent_pieces values sent) 0 ≡ Some piece → length (sent_pieces values sent) ≡ 1
+    → answers.DataIn fields ≡ data_in numbers frame sent (0, piece)
+    → items ≡ data_in_header fields ++ segment sent → items ≡ flat_map spelling (data_answers numbers values frame sent)
+unfolding data_answers
+one_answer numbers values frame sent piece fields items range is one made written =
+    let pieces : sent_pieces values sent ≡ piece ∷ [] = only_one (sent_pieces values sent) piece is one in
+    let joined = pieces_are_joined sent values.max_burst_length values.max_recv_data_segment_length (let some = range.burst
+    in omega arith) (let some = range.segment in omega arith) in
+    let whole : part_of sent piece ≡ sent = sym (append-nil (part_of sent piece)) ∙ sym (ap (flat_map (part_of sent)) pieces) ∙ joined in
+    let body : fields.body ≡ part_of sent piece = body_of fields numbers frame sent piece made in
+    written
+    ∙ ap (λ (bytes : List ℕ). data_in_header fields ++ segment bytes) (sym (body ∙ whole))
+    ∙ sym (append-nil (data_in_bytes fields))
+    ∙ ap (λ (answer : Answer). flat_map spelling (answer ∷ [])) made
+    ∙ ap (λ (ps : List Piece). flat_map spelling (map (data_in numbers frame sent) (enumerate_from 0 ps))) (sym pieces)
+
+-- ---- all that a command is answered
+
+-- its data in pieces, and how it ended behind them
+pub all_spelled : (numbers : Stamp) (values : Values) (frame : Frame) (done : Outcome) (count : ℕ) (response : Answer) (before now written : List ℕ)
+    → now ≡ before ++ flat_map spelling (data_answers numbers values frame (data_sent frame done)) → written ≡ now ++ spelling response
+    → response ≡ scsi_answer numbers frame done count → count ≡ length (sent_pieces values (data_sent frame done))
+    → written ≡ before ++ flat_map spelling (command_answers numbers values frame done)
+all_spelled numbers values frame done count response before now written is put told counted = grind (arith, append_assoc, append-nil, flat_map-append)
+
+-- behind the room stands what is sent
+pub sent_behind : (items given : List ℕ) (sent : ℕ) → drop 48 items ≡ given → drop 48 (take (48 + sent) items) ≡ take sent given
+sent_behind items given sent is = drop-take 48 sent items ∙ ap (take sent) is

@@ -1,29 +1,155 @@
--- A command that is done, and a request that acts, as steps of a session's work.
-use Rattle.std.proofs.Common.{◌≡◌, ◌≤◌, ℕ, suc, ◌<◌, List, [], ◌∷◌, length, map, Bool, true, false, not, Some, None, refl, sym, ap, ◌∙◌, subst, arith, append-nil, Option}
+-- A request acts, and a command is done, as steps of a session's work.
+use Rattle.std.proofs.Common.{◌≡◌, ◌≤◌, map, ℕ, suc, ◌<◌, List, [], ◌∷◌, length, Bool, true, false, not, cond, Some, None, refl, sym, ap, ◌∙◌, arith, append-nil, subst, Option}
+use Rattle.scsi_unit.specs.Units.{numbers_of, UnitStates}
+use Rattle.iscsi_session.specs.Comings.{TargetUnits, Coming, CameAs, lend, next_coming}
+use Rattle.iscsi_pdu.specs.Frames.{Frame}
+use Rattle.iscsi_session.specs.Requests.{Past, frame_of, due, frames_of, queue, bears_status, bearing}
+use Rattle.iscsi_session.specs.State.{SessionState, IsLawful, Stands, remembered, standing, tasks_of, place_for, whole_at, payload_at, is_waiting, is_waiting_by, waiting}
+use Rattle.iscsi_session.specs.declared.act.Act.{Act}
+use Rattle.iscsi_session.specs.declared.act.Act.TheVariants.{Idle, Taken, Ended}
+use Rattle.iscsi_session.specs.Acts.{ends}
+use Rattle.iscsi_session.specs.Steps.{Step, Taking, Work, act, act_all, waiting_in, is_doing, Doing, finish, ready, ready_in, settled}
+use Rattle.iscsi_session.specs.Runs.{Output, Starts, Leaves, Runs, ActsAs, ActsFirst, output, StepsFirst, Stops, IsSettled, AnswersAs}
+use Rattle.iscsi_session.proofs.Feeding.{whole_is, payload_is, first_unfinished}
+use Rattle.iscsi_session.proofs.Parts.{due_is, parts, queue_is}
+use Rattle.iscsi_session.proofs.Weights.{waiting_fits, waiting_some}
+use Rattle.iscsi_session.proofs.Answered.{acted_same}
+use Rattle.iscsi_session.proofs.Runs.{runs_as, taking_kind, doing_kind, stands_of, leaves_nothing, leaves_answering}
+use Rattle.iscsi_session.proofs.Stages.{LeavesFirst, first_runs, first_stops, Ran, none_ran, turn_of, all_of, ran_more, ran_idle, ran_stopped}
 use Rattle.std.specs.Prelude.{filter, drop}
 use Rattle.std.proofs.lemmas.List.{length-map}
 use Rattle.std.proofs.lemmas.List.Elements.{filter-append}
 use Rattle.scsi_sense.specs.Done.{Outcome}
 use Rattle.scsi_sense.specs.Nexus.{NexusName}
 use Rattle.scsi_unit.specs.CameOut.{CameOut}
-use Rattle.scsi_unit.specs.Units.{UnitStates}
-use Rattle.iscsi_session.specs.Comings.{Coming, TargetUnits, CameAs, lend, next_coming}
-use Rattle.iscsi_pdu.specs.Frames.{Frame}
 use Rattle.iscsi_pdu.specs.declared.stamp.Stamp.{Stamp}
 use Rattle.iscsi_login.specs.declared.params.Params.{Params}
 use Rattle.iscsi_login.specs.declared.values.Values.{Values}
 use Rattle.iscsi_transfer.specs.declared.data_in.Piece.{Piece}
-use Rattle.iscsi_session.specs.Requests.{Past, frame_of, frames_of, queue, bears_status, bearing}
-use Rattle.iscsi_session.specs.State.{SessionState, IsLawful, Stands, remembered, tasks_of, place_for, whole_at, payload_at, is_waiting, is_waiting_by}
 use Rattle.iscsi_session.specs.Answers.{data_in, data_answers, scsi_answer, command_answers}
 use Rattle.iscsi_session.specs.Commands.{carried_out}
 use Rattle.iscsi_session.specs.Transfers.{payload_of, is_whole_of}
-use Rattle.iscsi_session.specs.Steps.{is_doing, Step, Doing, Work, finish, ready, ready_in, settled}
-use Rattle.iscsi_session.specs.Runs.{Output, output, Starts, Leaves, StepsFirst, Runs, Stops, IsSettled, AnswersAs}
 use Rattle.iscsi_session.proofs.Came.{came_none}
-use Rattle.iscsi_session.proofs.Feeding.{whole_is, payload_is, first_unfinished}
-use Rattle.iscsi_session.proofs.Parts.{parts, queue_is}
-use Rattle.iscsi_session.proofs.Runs.{stands_of, leaves_answering, Ran, none_ran, queue_count, ran_more, ran_idle, ran_failed, all_of, runs_as, doing_kind}
+
+-- ---- what an act leaves
+
+act_leaves : (work : Work) (k : ℕ) (a : Act) (new : SessionState) (before waiting : Output) (units : TargetUnits) → work.units ≡ units
+    → ActsAs (numbers_of work.units.states) k work.past a new before waiting → Leaves work (act k work) new before waiting units
+unfolding act
+act_leaves work k a new before waiting units same acts = grind (arith, acted_same, acts)
+
+act_goes_on : (work : Work) (k : ℕ) → (act k work).goes_on ≡ not (ends work.past.params (frame_of work.past.came k))
+unfolding act
+act_goes_on work k = refl
+
+-- what a call leaves in which the first that is due acts
+pub record Acts (luns : List ℕ) (a : Act) (old new : SessionState) (before waiting : Output) : Type 0 where
+  pub first : (past : Past) → Stands past old → ActsFirst luns (due past) past a old new before waiting
+
+pub acts : {luns : List ℕ} {a : Act} {old new : SessionState} {before waiting : Output}
+    → ((past : Past) → Stands past old → ActsFirst luns (due past) past a old new before waiting) → Acts luns a old new before waiting
+acts first = record { first = first }
+
+-- where these are the numbers of the units that it works on
+acts_here : (luns : List ℕ) (a : Act) (work : Work) (old new : SessionState) (before waiting : Output) (units : TargetUnits) → luns ≡ numbers_of units.states
+    → Acts luns a old new before waiting → Starts work old units
+    → ActsFirst (numbers_of work.units.states) (due work.past) work.past a old new before waiting
+acts_here luns a work old new before waiting units numbers acts s = grind (arith, acts, stands_of)
+
+-- ---- all that is due
+
+abbrev pub act_of : Bool → Act
+act_of goes_on = cond goes_on Taken Ended
+
+ended_by : (ended goes_on : Bool) → act_of goes_on ≡ cond ended Ended Taken → not ended ≡ goes_on
+ended_by ended goes_on e = grind arith
+
+no_idle : (goes_on : Bool) → act_of goes_on ≡ Idle → ⊥
+no_idle goes_on e = grind arith
+
+acted_first : (n : ℕ) (l : List ℕ) (goes_on : Bool) (work : Work) (old new : SessionState) (before waiting : Output) (units : TargetUnits)
+    → work.units ≡ units → ActsFirst (numbers_of work.units.states) l work.past (act_of goes_on) old new before waiting
+    → LeavesFirst (λ place. Taking place n) (λ place. taking_kind.of place n) due act goes_on l work new before waiting units
+acted_first n [] goes_on work old new before waiting units same acts = absurd (no_idle goes_on acts.0)
+acted_first n (k ∷ others) goes_on work old new before waiting units same acts =
+    grind (arith, act_goes_on work k, act_leaves work k (act_of goes_on) new before waiting units same acts)
+
+some_ended : (l luns : List ℕ) (work : Work) (old new : SessionState) (before waiting : Output) → ActsFirst luns l work.past Ended old new before waiting
+    → 0 < length l
+some_ended [] luns work old new before waiting acts = absurd (no_idle false acts.0)
+some_ended (k ∷ others) luns work old new before waiting acts = omega arith
+
+found_idle : (l luns : List ℕ) (work : Work) (old new : SessionState) (before waiting : Output) → ActsFirst luns l work.past Idle old new before waiting
+    → (l ≡ []) × (new ≡ old) × (waiting ≡ before)
+found_idle [] luns work old new before waiting acts = (refl, acts.1, acts.2)
+found_idle (k ∷ others) luns work old new before waiting acts = grind arith
+
+-- how many acts can follow at most
+abbrev pub tasks_count : SessionState → ℕ
+tasks_count state = waiting state.tasks
+
+pub due_fits : (past : Past) → IsLawful past → tasks_count (remembered past) ≤ waiting_in past
+due_fits past lawful = waiting_fits past
+
+acts_all : (fails : Step → Bool) (place : ℕ) (work : Work)
+    → all_of Taking taking_kind due act tasks_count waiting_in due_fits fails place work ≡ act_all fails place work
+unfolding all_of act_all
+acts_all fails place work = refl
+
+abbrev pub RanActs : ℕ → SessionState → SessionState → Output → Output → TargetUnits → Type 0
+RanActs turns old now before waiting units = Ran Taking taking_kind due act tasks_count waiting_in due_fits turns old now before waiting units units
+
+pub none_acted : (old : SessionState) (before : Output) (units : TargetUnits) → RanActs 0 old old before before units
+none_acted old before units = none_ran Taking taking_kind due act tasks_count waiting_in due_fits old before units
+
+module _ (luns : List ℕ) (turns : ℕ) (old now next : SessionState) (before waiting items : Output) (units : TargetUnits)
+    (numbers : luns ≡ numbers_of units.states)
+    (ran : RanActs turns old now before waiting units) where
+  acts_turn : {goes_on : Bool} → Acts luns (act_of goes_on) now next waiting items
+      → Runs (turn_of Taking taking_kind due act tasks_count waiting_in due_fits turns) None goes_on now next waiting items units units
+  acts_turn {goes_on} acts = first_runs (λ place. Taking place turns) (λ place. taking_kind.of place turns) due act (λ work s.
+      acted_first turns (due work.past) goes_on work now next waiting items units s.units
+      (acts_here luns (act_of goes_on) work now next waiting items units numbers acts s))
+
+  pub acted_more : Acts luns Taken now next waiting items → tasks_count next < tasks_count now → RanActs (suc turns) old next before items units
+  acted_more acts fewer = ran_more Taking taking_kind due act tasks_count waiting_in due_fits ran (acts_turn {goes_on = true} acts) fewer
+
+  pub all_acted : Acts luns Idle now next waiting items → Runs act_all None true old next before items units units
+  all_acted acts =
+      runs_as acts_all (ran_idle Taking taking_kind due act tasks_count waiting_in due_fits ran (λ work s.
+      (let f = found_idle (due work.past) _ work now next waiting items (acts_here luns Idle work now next waiting items units numbers acts s) in
+      (f.0, rw (f.1, f.2) (leaves_nothing work now waiting units s)))))
+
+  pub acting_ends : Acts luns Ended now next waiting items → Runs act_all None false old next before items units units
+  acting_ends acts =
+      runs_as acts_all
+      (ran_stopped Taking taking_kind due act tasks_count waiting_in due_fits ran (acts_turn {goes_on = false} acts) (λ place k lt. refl) (λ work s.
+      waiting_some now.tasks (omega (
+        arith,
+        ap (λ (l : List Frame). length l) (due_is work.past now (stands_of work now units s)),
+        length-map (due work.past) (frame_of (standing work.past)),
+        some_ended (due work.past) _ work now next waiting items (acts_here luns Ended work now next waiting items units numbers acts s),
+      ))))
+
+due_there : (past : Past) (l : List ℕ) → 0 < length (map (frame_of (standing past)) l) → (k : ℕ) × (others : List ℕ) × (l ≡ k ∷ others)
+due_there past [] some = absurd (omega arith)
+due_there past (k ∷ others) some = (k, others, refl)
+
+pub acting_stops : (turns : ℕ) (old now : SessionState) (before : Output) (bytes : List ℕ) (orders : List (List ℕ)) (units : TargetUnits)
+    → RanActs turns old now before (output bytes orders) units → 0 < length now.tasks.due
+    → Runs act_all (Some (λ place. Taking place turns)) false old now before (output bytes orders) units units
+acting_stops turns old now before bytes orders units ran some =
+    runs_as acts_all
+    (ran_stopped Taking taking_kind due act tasks_count waiting_in due_fits ran
+    (first_stops (λ place. Taking place turns) (λ place. taking_kind.of place turns) due act refl (λ place. taking_kind.same place turns) (λ past s.
+    due_there past (due past) (omega (arith, ap (λ (l : List Frame). length l) (due_is past now s), some))) orders units)
+    (λ place k lt. taking_kind.apart place turns k (λ e. absurd (omega arith))) (λ work s. waiting_some now.tasks some))
+
+pub act_stops : (luns : List ℕ) (turn : ℕ) (old now next : SessionState) (before waiting items : Output) → next ≡ now → items ≡ waiting
+    → ((units : TargetUnits) → luns ≡ numbers_of units.states → Runs act_all (Some (λ place. Taking place turn)) false old now before waiting units units)
+    → (turn : ℕ) × ((units : TargetUnits) → luns ≡ numbers_of units.states
+    → Runs act_all (Some (λ place. Taking place turn)) false old next before items units units)
+act_stops luns turn old now next before waiting items same is runs = (turn, λ units numbers. rw (same, is) (runs units numbers))
 
 -- ---- one answer of a command bears status
 
@@ -68,13 +194,15 @@ all_ready_in : (past : Past) (state : SessionState) (l : List ℕ) → Stands pa
 all_ready_in past state [] s is e = absurd cc
 all_ready_in past state (k ∷ l) s is e = grind (arith, goes_by, whole_is, first_unfinished)
 
-all_ready : (work : Work) (state : SessionState) (units : TargetUnits) → Starts work state units → is_waiting state ≡ false
-    → (k : ℕ) × (others : List ℕ) × (queue work.past ≡ k ∷ others) × (ready work.past ≡ queue work.past)
+all_ready : (past : Past) (state : SessionState) → Stands past state → is_waiting state ≡ false
+    → (k : ℕ) × (others : List ℕ) × (queue past ≡ k ∷ others) × (ready past ≡ queue past)
 unfolding ready
-all_ready work state units s e =
-    let st = stands_of work state units s in
-    all_ready_in work.past state (queue work.past) st refl
-    (ap (λ (l : List Frame). is_waiting_by l state.transfers.list) (sym (queue_is work.past state st)) ∙ e)
+all_ready past state s e =
+    all_ready_in past state (queue past) s refl (ap (λ (l : List Frame). is_waiting_by l state.transfers.list) (sym (queue_is past state s)) ∙ e)
+
+-- how many commands are to be done
+abbrev pub queue_count : SessionState → ℕ
+queue_count state = length state.tasks.queue
 
 some_by : (l : List Frame) (state : SessionState) → is_waiting_by l state.transfers.list ≡ false → 0 < length l
 some_by [] state e = absurd cc
@@ -106,43 +234,38 @@ finish_leaves work k others old new before waiting units after comings came done
 abbrev payload_in : SessionState → Frame → List ℕ
 payload_in state frame = payload_at state.transfers.list (place_for frame state.transfers.list)
 
-finish_first : (l : List ℕ) (work : Work) (old new : SessionState) (before waiting : List ℕ) (units after : UnitStates)
-    (comings : List Coming) (came : CameOut) (frame : Frame) (rest : List Frame)
-    (nexus : NexusName) (done : Outcome) → queue work.past ≡ l → Starts work old (lend units comings)
-    → old.tasks.queue ≡ frame ∷ rest → nexus ≡ old.params.nexus → next_coming old.params.target comings ≡ came
-    → (after, done) ≡ carried_out came units nexus frame (payload_in old frame)
-    → Answers old new before waiting done
-    → StepsFirst finish l work true old new (output before []) (output waiting []) (lend after (drop 1 comings))
-finish_first [] work old new before waiting units after comings came frame rest nexus done is s first named next carried answers =
-    absurd (let none = sym first ∙ queue_is work.past old (stands_of work old (lend units comings) s) ∙ ap (frames_of work.past.came) is in cc)
-finish_first (k ∷ others) work old new before waiting units after comings came frame rest nexus done is s first named next carried answers =
-    let st = stands_of work old (lend units comings) s in
-    let heads : frame ∷ rest ≡ frame_of work.past.came k ∷ frames_of work.past.came others = sym first ∙ queue_is work.past old st
-    ∙ ap (frames_of work.past.came) is in
-    let same : frame ≡ frame_of work.past.came k = cc in
-    let params = (parts work.past old st).params_is in
-    let agreed : nexus ≡ work.past.params.nexus = named ∙ ap (λ (x : Params). x.nexus) params in
-    let payload : payload_in old (frame_of work.past.came k) ≡ payload_of work.past k = payload_is work.past old k st
-    (first_unfinished work.past k others st.lawful is) in (
-      refl,
-      finish_leaves work k others old new before waiting units after comings came done s is
-          (ap (λ (x : Params). next_coming x.target comings) (sym params) ∙ next)
-          (carried ∙ ap (λ (n : NexusName). carried_out came units n frame (payload_in old frame)) agreed
-          ∙ ap (λ (f : Frame). carried_out came units work.past.params.nexus f (payload_in old f)) same
-          ∙ ap (carried_out came units work.past.params.nexus (frame_of work.past.came k)) payload) answers,
-    )
+-- what it was carried out on, and how it came out
+module _ (old new : SessionState) (before waiting : List ℕ) (units after : UnitStates) (comings : List Coming) (came : CameOut) (frame : Frame)
+    (rest : List Frame) (nexus : NexusName) (done : Outcome) (first : old.tasks.queue ≡ frame ∷ rest) (named : nexus ≡ old.params.nexus)
+    (next : next_coming old.params.target comings ≡ came) (carried : (after, done) ≡ carried_out came units nexus frame (payload_in old frame))
+    (answers : Answers old new before waiting done) where
+  finish_first : (l : List ℕ) (work : Work) → queue work.past ≡ l → Starts work old (lend units comings)
+      → StepsFirst finish l work true old new (output before []) (output waiting []) (lend after (drop 1 comings))
+  finish_first [] work is s =
+      absurd (let none = sym first ∙ queue_is work.past old (stands_of work old (lend units comings) s) ∙ ap (frames_of work.past.came) is in cc)
+  finish_first (k ∷ others) work is s =
+      let st = stands_of work old (lend units comings) s in
+      let heads : frame ∷ rest ≡ frame_of work.past.came k ∷ frames_of work.past.came others = sym first ∙ queue_is work.past old st
+      ∙ ap (frames_of work.past.came) is in
+      let same : frame ≡ frame_of work.past.came k = cc in
+      let params = (parts work.past old st).params_is in
+      let agreed : nexus ≡ work.past.params.nexus = named ∙ ap (λ (x : Params). x.nexus) params in
+      let payload : payload_in old (frame_of work.past.came k) ≡ payload_of work.past k = payload_is work.past old k st
+      (first_unfinished work.past k others st.lawful is) in (
+        refl,
+        finish_leaves work k others old new before waiting units after comings came done s is
+            (ap (λ (x : Params). next_coming x.target comings) (sym params) ∙ next)
+            (carried ∙ ap (λ (n : NexusName). carried_out came units n frame (payload_in old frame)) agreed
+            ∙ ap (λ (f : Frame). carried_out came units work.past.params.nexus f (payload_in old f)) same
+            ∙ ap (carried_out came units work.past.params.nexus (frame_of work.past.came k)) payload) answers,
+      )
 
-pub finish_steps : (work : Work) (old new : SessionState) (before waiting : List ℕ) (units after : UnitStates)
-    (comings : List Coming) (came : CameOut) (frame : Frame) (rest : List Frame)
-    (nexus : NexusName) (done : Outcome) → Starts work old (lend units comings)
-    → old.tasks.queue ≡ frame ∷ rest → whole_at old.transfers.list (place_for frame old.transfers.list) ≡ true
-    → nexus ≡ old.params.nexus → next_coming old.params.target comings ≡ came
-    → (after, done) ≡ carried_out came units nexus frame (payload_in old frame) → Answers old new before waiting done
-    → StepsFirst finish (ready work.past) work true old new (output before []) (output waiting []) (lend after (drop 1 comings))
-finish_steps work old new before waiting units after comings came frame rest nexus done s first whole named next carried answers =
-    let r = all_ready work old (lend units comings) s (not_waiting old frame rest first whole) in
-    subst (λ (l : List ℕ). StepsFirst finish l work true old new (output before []) (output waiting []) (lend after (drop 1 comings))) (sym r.3)
-    (finish_first (queue work.past) work old new before waiting units after comings came frame rest nexus done refl s first named next carried answers)
+  pub finish_steps : (work : Work) → Starts work old (lend units comings) → whole_at old.transfers.list (place_for frame old.transfers.list) ≡ true
+      → StepsFirst finish (ready work.past) work true old new (output before []) (output waiting []) (lend after (drop 1 comings))
+  finish_steps work s whole =
+      let r = all_ready work.past old (stands_of work old (lend units comings) s) (not_waiting old frame rest first whole) in
+      subst (λ (l : List ℕ). StepsFirst finish l work true old new (output before []) (output waiting []) (lend after (drop 1 comings))) (sym r.3)
+      (finish_first (queue work.past) work refl s)
 
 -- ---- settling
 
@@ -153,11 +276,12 @@ pub queue_fits : (past : Past) → IsLawful past → queue_count (remembered pas
 unfolding tasks_of
 queue_fits past lawful = omega (arith, length-map (queue past) (frame_of past.came))
 
-found_finished : (l : List ℕ) (work : Work) (old new : SessionState) (before waiting : Output) (after : TargetUnits)
+finished_first : (n : ℕ) (l : List ℕ) (work : Work) (old new : SessionState) (before waiting : Output) (after : TargetUnits) → work.goes_on ≡ true
     → StepsFirst finish l work true old new before waiting after
-    → (request : ℕ) × (others : List ℕ) × (l ≡ request ∷ others) × Leaves work (finish request work) new before waiting after
-found_finished [] work old new before waiting after s = absurd (let no = s.0 in cc)
-found_finished (request ∷ others) work old new before waiting after s = (request, others, refl, s.1)
+    → LeavesFirst (λ place. Doing place n) (λ place. doing_kind.of place n) ready finish true l work new before waiting after
+unfolding finish
+finished_first n [] work old new before waiting after on s = absurd (let no = s.0 in cc)
+finished_first n (request ∷ others) work old new before waiting after on s = (on, s.1)
 
 found_none : (l : List ℕ) (work : Work) (old new : SessionState) (before waiting : Output) (units after : TargetUnits) → Starts work old units
     → StepsFirst finish l work false old new before waiting after → (l ≡ []) × Leaves work work new before waiting after
@@ -165,47 +289,49 @@ found_none [] work old new before waiting units after s is =
     grind (arith, append-nil work.past.answers, append-nil before.bytes, append-nil work.orders, append-nil before.orders)
 found_none (request ∷ others) work old new before waiting units after s is = absurd (let no = is.0 in cc)
 
-finish_goes_on : (request : ℕ) (work : Work) → work.goes_on ≡ true → (finish request work).goes_on ≡ true
-unfolding finish
-finish_goes_on request work on = on
-
 abbrev pub FinishesOne : Bool → SessionState → SessionState → Output → Output → TargetUnits → TargetUnits → Type 0
 FinishesOne more old new before waiting units after = (work : Work) → Starts work old units
     → StepsFirst finish (ready work.past) work more old new before waiting after
 
+abbrev pub RanDone : ℕ → SessionState → SessionState → Output → Output → TargetUnits → TargetUnits → Type 0
+RanDone turns old now before waiting units after = Ran Doing doing_kind ready finish queue_count queued_in queue_fits turns old now before waiting units after
+
+pub none_done : (old : SessionState) (before : Output) (units : TargetUnits) → RanDone 0 old old before before units units
+none_done old before units = none_ran Doing doing_kind ready finish queue_count queued_in queue_fits old before units
+
 pub settled_more : (turns : ℕ) (more : Bool) (old now next : SessionState) (before waiting items : Output) (units middle after : TargetUnits)
-    → Ran Doing ready finish queue_count queued_in queue_fits turns old now before waiting units middle
-    → FinishesOne more now next waiting items middle after → more ≡ true → queue_count next < queue_count now
-    → Ran Doing ready finish queue_count queued_in queue_fits (suc turns) old next before items units after
+    → RanDone turns old now before waiting units middle → FinishesOne more now next waiting items middle after → more ≡ true
+    → queue_count next < queue_count now → RanDone (suc turns) old next before items units after
 settled_more turns more old now next before waiting items units middle after ran steps is fewer =
-    grind (arith, ran_more, queue_count, queue_fits, found_finished, finish_goes_on)
+    let F : Bool → Type 0 = λ b. FinishesOne b now next waiting items middle after in
+    let one = subst F is steps in
+    ran_more Doing doing_kind ready finish queue_count queued_in queue_fits ran
+    (first_runs (λ place. Doing place turns) (λ place. doing_kind.of place turns) ready finish (λ work s.
+    finished_first turns (ready work.past) work now next waiting items after s.goes_on (one work s))) fewer
 
 settles_all : (fails : Step → Bool) (place : ℕ) (work : Work)
-    → all_of Doing ready finish queue_count queued_in queue_fits fails place work ≡ settled fails place work
+    → all_of Doing doing_kind ready finish queue_count queued_in queue_fits fails place work ≡ settled fails place work
 unfolding all_of settled
 settles_all fails place work = refl
 
 pub all_settled : (turns : ℕ) (more : Bool) (old now next : SessionState) (before waiting items : Output) (units middle after : TargetUnits)
-    → Ran Doing ready finish queue_count queued_in queue_fits turns old now before waiting units middle
-    → FinishesOne more now next waiting items middle after → more ≡ false → Runs settled None true old next before items units after
+    → RanDone turns old now before waiting units middle → FinishesOne more now next waiting items middle after → more ≡ false
+    → Runs settled None true old next before items units after
 all_settled turns more old now next before waiting items units middle after ran steps is =
     let F : Bool → Type 0 = λ b. FinishesOne b now next waiting items middle after in
     let one = subst F is steps in
-    runs_as settles_all
-    (ran_idle Doing ready finish queue_count queued_in queue_fits doing_kind ran (record {
-      none = λ work s. (found_none (ready work.past) work now next waiting items middle after s (one work s)).0;
-      leaves = λ work s. (found_none (ready work.past) work now next waiting items middle after s (one work s)).1;
-    }))
+    runs_as settles_all (ran_idle Doing doing_kind ready finish queue_count queued_in queue_fits ran (λ work s.
+    found_none (ready work.past) work now next waiting items middle after s (one work s)))
 
-pub settling_stops : (turns : ℕ) (old now : SessionState) (before waiting : Output) (units after : TargetUnits)
-    → Ran Doing ready finish queue_count queued_in queue_fits turns old now before waiting units after → is_waiting now ≡ false
-    → Runs settled (Some (λ place. Doing place turns)) false old now before waiting units after
-settling_stops turns old now before waiting units after ran more =
+pub settling_stops : (turns : ℕ) (old now : SessionState) (before : Output) (bytes : List ℕ) (units after : TargetUnits)
+    → RanDone turns old now before (output bytes []) units after → is_waiting now ≡ false
+    → Runs settled (Some (λ place. Doing place turns)) false old now before (output bytes []) units after
+settling_stops turns old now before bytes units after ran more =
     runs_as settles_all
-    (ran_failed Doing ready finish queue_count queued_in queue_fits doing_kind ran (record {
-      more = λ work s. (let r = all_ready work now after s more in (r.0, r.1, r.3 ∙ r.2));
-      some = λ work s. some_queued now more;
-    }))
+    (ran_stopped Doing doing_kind ready finish queue_count queued_in queue_fits ran
+    (first_stops (λ place. Doing place turns) (λ place. doing_kind.of place turns) ready finish refl (λ place. doing_kind.same place turns) (λ past s.
+    (let r = all_ready past now s more in (r.0, r.1, r.3 ∙ r.2))) [] after)
+    (λ place k lt. doing_kind.apart place turns k (λ e. absurd (omega arith))) (λ work s. some_queued now more))
 
 pub settle_stops : (turns : ℕ) (old now next : SessionState) (before waiting items : Output) (target : Option ℕ) (units middle after : UnitStates)
     → next ≡ now → items ≡ waiting → after ≡ middle
@@ -223,6 +349,6 @@ settle_stops turns old now next before waiting items target units middle after s
 pub settled_is : (state : SessionState) → is_waiting state ≡ true → IsSettled state
 settled_is state waits units bytes = came_none state.params.target _ units units (λ comings.
     all_settled 0 false state state state (output bytes []) (output bytes []) (output bytes []) (lend units comings) (lend units comings) (lend units comings)
-    (none_ran Doing ready finish queue_count queued_in queue_fits state (output bytes []) (lend units comings))
+    (none_done state (output bytes []) (lend units comings))
     (λ work s. none_steps finish (ready work.past) work state (output bytes []) (lend units comings)
     (none_ready work state (lend units comings) s waits) s.units) refl)

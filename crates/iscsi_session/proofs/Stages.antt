@@ -1,5 +1,5 @@
 -- The stages of a frame: each is a run, and so are they one after the other.
-use Rattle.std.proofs.Common.{◌≡◌, ◌≢◌, ℕ, List, [], ◌∷◌, ◌++◌, Bool, true, false, not, Option, Some, None, refl, sym, ap, ◌∙◌, subst, append-nil}
+use Rattle.std.proofs.Common.{◌≡◌, ◌≢◌, ℕ, List, [], ◌∷◌, ◌++◌, Bool, true, false, not, Option, Some, None, refl, sym, ap, ◌∙◌, subst, append-nil, zero, suc, ◌+◌, ◌-◌, ◌<◌, ◌≤◌, arith}
 use Rattle.std.specs.Prelude.{flat_map}
 use Rattle.std.proofs.lemmas.Bool.{eq-eqb}
 use Rattle.scsi_unit.specs.Units.{numbers_of}
@@ -13,12 +13,11 @@ use Rattle.iscsi_session.specs.declared.verdict.Verdict.TheVariants.{Ignored, Dr
 use Rattle.iscsi_session.specs.Judging.{verdict, judged, judged_answers, violates}
 use Rattle.iscsi_session.specs.Transfers.{asking, asked_by, r2ts_by}
 use Rattle.iscsi_session.specs.Functions.{drained_functions, answered_by, told_by}
-use Rattle.iscsi_session.specs.State.{SessionState, Stands}
-use Rattle.iscsi_session.specs.Steps.{Step, Judging, Taking, Asking, Answering, is_of, is_step, is_serving, Work, reaches, take_step, judge, act, act_all, waiting_in, ask, tell, first_steps, ask_due, tell_due, taken_in, asked_in, served}
-use Rattle.iscsi_session.specs.Runs.{Output, output, Starts, Leaves, FailsAs, Runs, is_failed, Stops}
-use Rattle.iscsi_session.proofs.Steps.{judged_agrees, taken_agrees, asked_agrees}
-use Rattle.iscsi_session.proofs.Served.{judged_same}
-use Rattle.iscsi_session.proofs.Runs.{Run, LeadsTo, runs_by, stands_of, starts_again, starts_reaching, leaves_nothing, leaves_then, leaves_answering, leaves_as, leaves_reaching, leaves_stopped, step_done, step_fails, first_stopped, stopped, taking_kind}
+use Rattle.iscsi_session.specs.State.{SessionState, Stands, IsLawful, remembered}
+use Rattle.iscsi_session.specs.Steps.{Step, Judging, Taking, Asking, Answering, is_of, is_step, is_serving, Work, reaches, take_step, judge, act, act_all, waiting_in, ask, tell, first_steps, ask_due, tell_due, taken_in, asked_in, served, one_by_one}
+use Rattle.iscsi_session.specs.Runs.{Output, output, Starts, Leaves, Runs, is_failed, Stops}
+use Rattle.iscsi_session.proofs.Steps.{judged_agrees, judged_same, turns_agree, taken_alike, asked_alike}
+use Rattle.iscsi_session.proofs.Runs.{Run, LeadsTo, runs_by, stands_of, starts_again, starts_reaching, leaves_nothing, leaves_then, leaves_answering, leaves_as, leaves_reaching, leaves_stopped, step_done, step_fails, first_stopped, stopped, taking_kind, IsKind, idle, runs_as, no_failure, runs_then, runs_ended}
 
 -- ---- the first of a line takes a step, where there is one
 
@@ -127,40 +126,112 @@ tells = record { none = λ past. refl; does_so = λ k others work. refl; kept = 
     kept [] past = (refl, sym (append-nil past.answers))
     kept (k ∷ others) past = (refl, refl)
 
--- ---- one run behind another
+-- ---- the steps of a line, one after the other
 
-abbrev no_failure : Step → Bool
-no_failure step = false
+module _ (kind : ℕ → ℕ → Step) (facts : IsKind kind) (line : Past → List ℕ) (does : ℕ → Work → Work) (count : SessionState → ℕ) (size : Past → ℕ)
+    (fits : (past : Past) → IsLawful past → count (remembered past) ≤ size past) where
+  -- the step of this turn, and all before it
+  abbrev pub turn_of : ℕ → Run
+  turn_of n = first_of (λ place. kind place n) (λ place. facts.of place n) line does
 
-pub runs_then : {first second : Run} {failed : Option (ℕ → Step)} {goes_on : Bool} {old middle new : SessionState} {before waiting items : Output}
-    {units : TargetUnits}
-    → ((place : ℕ) (fails : Step → Bool) (work : Work) → FailsAs failed place fails → first fails place work ≡ first no_failure place work)
-    → Runs first None true old middle before waiting units units → Runs second failed goes_on middle new waiting items units units
-    → Runs (λ fails place work. second fails place (first fails place work)) failed goes_on old new before items units units
-runs_then {first} {second} {failed} {goes_on} {old} {middle} {new} {before} {waiting} {items} {units} same a b = runs_by (λ place fails work told s.
-    (let none : FailsAs None place no_failure = λ step of. refl in
-    let next = first no_failure place work in
-    let l = a.leads place no_failure work none s in
-    let starts = starts_again work next middle before waiting units l (a.ends place no_failure work none s) in record {
-      to = second fails place next;
-      is = ap (second fails place) (same place fails work told);
-      on = b.ends place fails next told starts;
-      leaves = leaves_then work next (second fails place next) middle new before waiting items units units l (b.leads place fails next told starts);
-      reached = b.reached place fails next told starts;
-    }))
+  abbrev pub turns_of : ℕ → Run
+  turns_of n fails place work = one_by_one fails (kind place) line does 0 n work
 
--- the session has ended before it
-pub runs_ended : {first second : Run} {failed : Option (ℕ → Step)} {old new : SessionState} {before waiting : Output} {units : TargetUnits}
-    → ((fails : Step → Bool) (place : ℕ) (work : Work) → work.goes_on ≡ false → second fails place work ≡ work)
-    → Runs first failed false old new before waiting units units
-    → Runs (λ fails place work. second fails place (first fails place work)) failed false old new before waiting units units
-runs_ended {first} stops a = runs_by (λ place fails work told s. record {
-  to = first fails place work;
-  is = stops fails place (first fails place work) (a.ends place fails work told s);
-  on = a.ends place fails work told s;
-  leaves = a.leads place fails work told s;
-  reached = a.reached place fails work told s;
-})
+  unfoldable pub all_of : Run
+  all_of fails place work = one_by_one fails (kind place) line does 0 (size work.past) work
+
+  split : (fails : Step → Bool) (place turn n m j k : ℕ) (work : Work) → turn + n ≡ j → n + m ≡ k
+      → one_by_one fails (kind place) line does turn k work
+      ≡ one_by_one fails (kind place) line does j m (one_by_one fails (kind place) line does turn n work)
+  split fails place turn zero m j k work at all = let here : turn ≡ j = omega arith in let rest : k ≡ m = omega arith in rw (here, rest) refl
+  split fails place turn (suc n) m j zero work at all = absurd (omega arith)
+  split fails place turn (suc n) m j (suc k) work at all =
+      split fails place (suc turn) n m j k (first_steps fails (kind place turn) does (line work.past) work) (omega arith) (omega arith)
+
+  -- so many steps were done
+  pub record Ran (turns : ℕ) (old now : SessionState) (before waiting : Output) (units after : TargetUnits) : Type 0 where
+    pub runs : Runs (turns_of turns) None true old now before waiting units after
+    pub fewer : turns + count now ≤ count old
+
+  pub none_ran : (old : SessionState) (before : Output) (units : TargetUnits) → Ran 0 old old before before units units
+  none_ran old before units = record {
+    runs = runs_by (λ place fails work told s. record {
+      to = work;
+      is = refl;
+      on = s.goes_on;
+      leaves = leaves_nothing work old before units s;
+      reached = tt;
+    });
+    fewer = omega arith;
+  }
+
+  turn_behind : (n : ℕ) {failed : Option (ℕ → Step)} {goes_on : Bool} {old now next : SessionState} {before waiting items : Output}
+      {units middle after : TargetUnits} → ((place k : ℕ) → k < n → is_failed failed place (kind place k) ≡ false)
+      → Runs (turns_of n) None true old now before waiting units middle → Runs (turn_of n) failed goes_on now next waiting items middle after
+      → Runs (turns_of (suc n)) failed goes_on old next before items units after
+  turn_behind n none so_far turn =
+      runs_as (λ fails place work. sym (split fails place 0 n 1 n (suc n) work (omega arith) (omega arith)))
+      (runs_then (λ place fails work told. turns_agree fails no_failure (kind place) line does 0 n work
+      (λ k le lt. told (kind place k) (facts.of place k) ∙ none place k (omega arith))) so_far turn)
+
+  pub ran_more : {turns : ℕ} {old now next : SessionState} {before waiting items : Output} {units middle after : TargetUnits}
+      → Ran turns old now before waiting units middle → Runs (turn_of turns) None true now next waiting items middle after → count next < count now
+      → Ran (suc turns) old next before items units after
+  ran_more {turns} ran turn less = record {
+    runs = turn_behind turns (λ place k lt. refl) ran.runs turn;
+    fewer = (let few = ran.fewer in omega arith);
+  }
+
+  -- no more than there are turns
+  begins : (work : Work) (old : SessionState) (units : TargetUnits) → Starts work old units → count old ≤ size work.past
+  begins work old units s = omega (arith, ap count s.remembered, fits work.past s.lawful)
+
+  -- the line is empty, and nothing changes
+  pub ran_idle : {turns : ℕ} {old now next : SessionState} {before waiting items : Output} {units middle after : TargetUnits}
+      → Ran turns old now before waiting units middle
+      → ((work : Work) → Starts work now middle → (line work.past ≡ []) × Leaves work work next waiting items after)
+      → Runs all_of None true old next before items units after
+  unfolding all_of
+  ran_idle {turns} {old} {now} {next} {before} {waiting} {items} {units} {middle} {after} ran none = runs_by (λ place fails work told s.
+      (let to = turns_of turns fails place work in
+      let l = ran.runs.leads place fails work told s in
+      let on = ran.runs.ends place fails work told s in
+      let found = none to (starts_again work to now before waiting middle l on) in
+      let few = ran.fewer in
+      let most = begins work old units s in
+      let left = size work.past - turns in record {
+        to = to;
+        is = split fails place 0 turns left turns (size work.past) work (omega arith) (omega arith)
+            ∙ idle fails (kind place) line does turns left to found.0;
+        on = on;
+        leaves = leaves_then work to to now next before waiting items middle after l found.1;
+        reached = tt;
+      }))
+
+  -- the session ended with the next step, or an allocation failed before it
+  pub ran_stopped : {turns : ℕ} {failed : Option (ℕ → Step)} {old now next : SessionState} {before waiting items : Output}
+      {units middle after : TargetUnits} → Ran turns old now before waiting units middle → Runs (turn_of turns) failed false now next waiting items middle after
+      → ((place k : ℕ) → k < turns → is_failed failed place (kind place k) ≡ false) → ((work : Work) → Starts work now middle → 0 < count now)
+      → Runs all_of failed false old next before items units after
+  unfolding all_of
+  ran_stopped {turns} {failed} {old} {now} {next} {before} {waiting} {items} {units} {middle} {after} ran turn none some =
+      let r = turn_behind turns none ran.runs turn in
+      runs_by (λ place fails work told s.
+      (let to = turns_of (suc turns) fails place work in
+      let so_far = turns_of turns no_failure place work in
+      let l = ran.runs.leads place no_failure work (λ step of. refl) s in
+      let more = some so_far (starts_again work so_far now before waiting middle l (ran.runs.ends place no_failure work (λ step of. refl) s)) in
+      let few = ran.fewer in
+      let most = begins work old units s in
+      let left = size work.past - suc turns in
+      let off = r.ends place fails work told s in record {
+        to = to;
+        is = split fails place 0 (suc turns) left (suc turns) (size work.past) work (omega arith) (omega arith)
+            ∙ stopped fails (kind place) line does (suc turns) left to off;
+        on = off;
+        leaves = r.leads place fails work told s;
+        reached = r.reached place fails work told s;
+      }))
 
 pub same_place : (place : ℕ) → is_of place (Judging place) ≡ true
 same_place place = eq-eqb place place refl
@@ -269,7 +340,7 @@ module _ (frame : Frame) {failed : Option (ℕ → Step)} {old new : SessionStat
       → Runs ask_due failed goes_on middle new waiting items units units
       → Runs (λ fails place. asked_in fails place frame) failed goes_on old new before items units units
   unfolding asked_in
-  asked_then judged acted = runs_then (λ place fails work told. taken_agrees fails no_failure place frame work
+  asked_then judged acted = runs_then (λ place fails work told. taken_alike (λ units. units) (λ units. refl) fails no_failure place frame work
       (told (Judging place) (same_place place) ∙ judged place) (λ k. told (Taking place k) (taking_kind.of place k) ∙ acted place k))
 
   pub asked_ended : Runs (λ fails place. asked_in fails place frame) failed false old new before items units units
@@ -283,7 +354,7 @@ module _ (frame : Frame) {failed : Option (ℕ → Step)} {old new : SessionStat
       → Runs tell_due failed goes_on middle new waiting items units units
       → Runs (λ fails place. served fails place frame) failed goes_on old new before items units units
   unfolding served
-  told_then judged acted asked = runs_then (λ place fails work told. asked_agrees fails no_failure place frame work
+  told_then judged acted asked = runs_then (λ place fails work told. asked_alike (λ units. units) (λ units. refl) fails no_failure place frame work
       (told (Judging place) (same_place place) ∙ judged place) (λ k. told (Taking place k) (taking_kind.of place k) ∙ acted place k)
       (told (Asking place) (eq-eqb place place refl) ∙ asked place))
 

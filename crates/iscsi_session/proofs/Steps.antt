@@ -1,18 +1,31 @@
 -- What every run of steps keeps, and where two runs are alike.
-use Rattle.std.proofs.Common.{◌≡◌, ℕ, zero, suc, length, List, [], ◌∷◌, ◌++◌, Bool, refl, sym, ap, ◌∙◌, append_assoc, append-nil, arith}
+use Rattle.std.proofs.Common.{◌≡◌, ℕ, zero, suc, length, List, [], ◌∷◌, ◌++◌, Bool, refl, sym, ap, ◌∙◌, append_assoc, append-nil, arith, ◌+◌, ◌<◌, ◌≤◌}
 use Rattle.std.specs.Prelude.{⊤}
 use Rattle.scsi_unit.specs.Units.{numbers_of}
 use Rattle.iscsi_session.specs.Comings.{TargetUnits}
 use Rattle.iscsi_pdu.specs.Frames.{Frame}
 use Rattle.iscsi_pdu.specs.declared.answer.Answer.{Answer}
 use Rattle.iscsi_session.specs.Requests.{Past, queue, due}
-use Rattle.iscsi_session.specs.Judging.{verdict, judged_answers}
+use Rattle.iscsi_session.specs.Judging.{verdict, judged_answers, judged}
 use Rattle.iscsi_session.specs.Acts.{acted, act_answers}
 use Rattle.iscsi_session.specs.Functions.{drained_functions, told_answers}
 use Rattle.iscsi_session.specs.Steps.{Step, Judging, Taking, Asking, Answering, Doing, Work, reaches, take_step, judge, act, ask, finish, first_steps, one_by_one, waiting_in, act_all, ask_due, tell, tell_due, taken_in, asked_in, served, ready, settled}
 use Rattle.iscsi_session.specs.Transfers.{asking, r2t_of}
-use Rattle.iscsi_session.proofs.Served.{judged_same}
 use Rattle.iscsi_session.proofs.Answered.{acted_same}
+use Rattle.iscsi_session.specs.declared.verdict.Verdict.{Verdict}
+use Rattle.iscsi_session.specs.declared.verdict.Verdict.TheVariants.{Ignored, Dropped, Rejected, Violating, Accepted, Feeding}
+use Rattle.iscsi_session.proofs.Feeding.{fed_same}
+
+-- ---- what the judging of a frame leaves of the parameters and the answers
+
+pub judged_same : (v : Verdict) (frame : Frame) (past : Past)
+    → ((judged v frame past).params ≡ past.params) × ((judged v frame past).answers ≡ past.answers ++ judged_answers v past frame)
+judged_same Accepted frame past = (refl, sym (append-nil past.answers))
+judged_same Feeding frame past = grind (arith, fed_same, append-nil)
+judged_same (Rejected reason) frame past = (refl, refl)
+judged_same Ignored frame past = (refl, sym (append-nil past.answers))
+judged_same Dropped frame past = (refl, sym (append-nil past.answers))
+judged_same Violating frame past = (refl, sym (append-nil past.answers))
 
 -- ---- what each step keeps, a run keeps
 
@@ -73,36 +86,39 @@ module _ (u : TargetUnits → TargetUnits) (f g : Step → Bool) (P : Work → T
   first_alike step does [] work same alike ok = refl
   first_alike step does (k ∷ rest) work same alike ok = step_alike step (does k) work same (alike k) ok
 
-  all_alike : (step : ℕ → Step) (line : Past → List ℕ) (does : ℕ → Work → Work) (turn most : ℕ) (work : Work) → ((k : ℕ) → f (step k) ≡ g (step k))
+  all_alike : (step : ℕ → Step) (line : Past → List ℕ) (does : ℕ → Work → Work) (turn most : ℕ) (work : Work)
+      → ((k : ℕ) → turn ≤ k → k < turn + most → f (step k) ≡ g (step k))
       → ((k : ℕ) (w : Work) → P w → P (does k w)) → ((k : ℕ) → Alike (does k)) → P work
       → one_by_one f step line does turn most (on_units u work) ≡ on_units u (one_by_one g step line does turn most work)
   all_alike step line does turn zero work same keeps alike ok = refl
   all_alike step line does turn (suc most) work same keeps alike ok =
-      ap (one_by_one f step line does (suc turn) most) (first_alike (step turn) does (line work.past) work (same turn) alike ok)
-      ∙ all_alike step line does (suc turn) most (first_steps g (step turn) does (line work.past) work) same keeps alike
+      ap (one_by_one f step line does (suc turn) most) (first_alike (step turn) does (line work.past) work (same turn (omega arith) (omega arith)) alike ok)
+      ∙ all_alike step line does (suc turn) most (first_steps g (step turn) does (line work.past) work)
+      (λ k le lt. same k (omega arith) (omega arith)) keeps alike
       (first_keeps P passes g (step turn) line does (line work.past) work refl (λ w k rest is. keeps k w) ok)
 
   pub settled_alike : (place : ℕ) (work : Work) → ((k : ℕ) → f (Doing place k) ≡ g (Doing place k)) → ((k : ℕ) (w : Work) → P w → P (finish k w))
       → ((k : ℕ) → Alike (finish k)) → P work → settled f place (on_units u work) ≡ on_units u (settled g place work)
   unfolding settled
-  settled_alike place work same keeps alike ok = all_alike (Doing place) ready finish 0 (length (queue work.past)) work same keeps alike ok
+  settled_alike place work same keeps alike ok =
+      all_alike (Doing place) ready finish 0 (length (queue work.past)) work (λ k le lt. same k) keeps alike ok
 
 -- of the units a frame asks for their numbers alone
 module _ (u : TargetUnits → TargetUnits) (numbers : (units : TargetUnits) → numbers_of (u units).states ≡ numbers_of units.states) (f g : Step → Bool) where
   abbrev Any : Work → Type 0
   Any work = ⊤
 
-  taken_alike : (place : ℕ) (frame : Frame) (work : Work) → f (Judging place) ≡ g (Judging place) → ((k : ℕ) → f (Taking place k) ≡ g (Taking place k))
+  pub taken_alike : (place : ℕ) (frame : Frame) (work : Work) → f (Judging place) ≡ g (Judging place) → ((k : ℕ) → f (Taking place k) ≡ g (Taking place k))
       → taken_in f place frame (on_units u work) ≡ on_units u (taken_in g place frame work)
   unfolding taken_in act_all judge act
   taken_alike place frame work judges acts =
       let first = take_step g (Judging place) (judge frame) work in
       ap (λ (w : Work). one_by_one f (Taking place) due act 0 (waiting_in w.past) w)
       (step_alike u f g Any (λ step on w ok. tt) (Judging place) (judge frame) work judges (λ w ok. refl) tt)
-      ∙ all_alike u f g Any (λ step on w ok. tt) (Taking place) due act 0 (waiting_in first.past) first acts (λ k w ok. tt)
+      ∙ all_alike u f g Any (λ step on w ok. tt) (Taking place) due act 0 (waiting_in first.past) first (λ k le lt. acts k) (λ k w ok. tt)
       (λ k w ok. ap (λ (luns : List ℕ). record (on_units u (act k w)) { past = acted luns k w.past }) (numbers w.units)) tt
 
-  asked_alike : (place : ℕ) (frame : Frame) (work : Work) → f (Judging place) ≡ g (Judging place) → ((k : ℕ) → f (Taking place k) ≡ g (Taking place k))
+  pub asked_alike : (place : ℕ) (frame : Frame) (work : Work) → f (Judging place) ≡ g (Judging place) → ((k : ℕ) → f (Taking place k) ≡ g (Taking place k))
       → f (Asking place) ≡ g (Asking place) → asked_in f place frame (on_units u work) ≡ on_units u (asked_in g place frame work)
   unfolding asked_in ask_due ask
   asked_alike place frame work judges acts asks =
@@ -126,15 +142,11 @@ pub judged_agrees : (f g : Step → Bool) (place : ℕ) (frame : Frame) (work : 
 judged_agrees f g place frame work same =
     step_alike (λ units. units) f g (λ w. ⊤) (λ step on w ok. tt) (Judging place) (judge frame) work same (λ w ok. refl) tt
 
-pub taken_agrees : (f g : Step → Bool) (place : ℕ) (frame : Frame) (work : Work) → f (Judging place) ≡ g (Judging place)
-    → ((k : ℕ) → f (Taking place k) ≡ g (Taking place k))
-    → taken_in f place frame work ≡ taken_in g place frame work
-taken_agrees f g = taken_alike (λ units. units) (λ units. refl) f g
-
-pub asked_agrees : (f g : Step → Bool) (place : ℕ) (frame : Frame) (work : Work) → f (Judging place) ≡ g (Judging place)
-    → ((k : ℕ) → f (Taking place k) ≡ g (Taking place k)) → f (Asking place) ≡ g (Asking place)
-    → asked_in f place frame work ≡ asked_in g place frame work
-asked_agrees f g = asked_alike (λ units. units) (λ units. refl) f g
+pub turns_agree : (f g : Step → Bool) (step : ℕ → Step) (line : Past → List ℕ) (does : ℕ → Work → Work) (turn most : ℕ) (work : Work)
+    → ((k : ℕ) → turn ≤ k → k < turn + most → f (step k) ≡ g (step k))
+    → one_by_one f step line does turn most work ≡ one_by_one g step line does turn most work
+turns_agree f g step line does turn most work same =
+    all_alike (λ units. units) f g (λ w. ⊤) (λ step on w ok. tt) step line does turn most work same (λ k w ok. tt) (λ k w ok. refl) tt
 
 pub served_agrees : (f g : Step → Bool) (place : ℕ) (frame : Frame) (work : Work) → f (Judging place) ≡ g (Judging place)
     → ((k : ℕ) → f (Taking place k) ≡ g (Taking place k)) → f (Asking place) ≡ g (Asking place) → f (Answering place) ≡ g (Answering place)

@@ -1,15 +1,17 @@
 -- What one more request takes, and that each is taken once.
-use Rattle.std.proofs.Common.{◌≡◌, ◌≢◌, ℕ, zero, suc, ◌+◌, ◌<◌, ◌≤◌, List, [], ◌∷◌, ◌++◌, length, map, get_or, Bool, true, false, cond, eqb, Option, Some, None, refl, sym, ap, ◌∙◌, arith, inl, inr, length-append}
-use Rattle.std.specs.Prelude.{filter, flat_map, is_some, min, All}
+use Rattle.std.proofs.Common.{◌≡◌, ◌≢◌, ℕ, zero, suc, ◌+◌, ◌<◌, ◌≤◌, List, [], ◌∷◌, ◌++◌, length, map, get_or, Bool, true, false, cond, eqb, Option, Some, None, refl, sym, ap, ◌∙◌, arith, inl, inr, length-append, ◌-◌, subst}
+use Rattle.std.specs.Prelude.{filter, flat_map, is_some, min, All, filter_map}
 use Rattle.std.specs.List.{range_with_len}
 use Rattle.std.proofs.lemmas.Bool.{ne_eqb, eq-eqb, cases_eq, eqb-true, false_from_ne_true}
 use Rattle.std.proofs.lemmas.List.{append-nil}
 use Rattle.std.proofs.lemmas.List.Concat.{flat_map-append}
-use Rattle.std.proofs.lemmas.List.Elements.{All-head, All-tail, All-nil, All-cons, All-append, filter_passes}
+use Rattle.std.proofs.lemmas.List.Elements.{All-head, All-tail, All-nil, All-cons, All-append, filter_passes, All-map, filter-append}
 use Rattle.std.proofs.lemmas.List.Folds.{position_or_len_push}
-use Rattle.iscsi_session.specs.Requests.{Request, request_at, is_in, has_number, place_of, moment, taken_at, taken}
-use Rattle.iscsi_session.specs.State.{AreDistinct}
-use Rattle.iscsi_session.proofs.Left.{filter_cong, map_cong, range_more, range_below, distinct_filter, distinct_range, distinct_append, is_in_append, below_of}
+use Rattle.iscsi_session.specs.Requests.{Request, request_at, is_in, has_number, place_of, moment, taken_at, taken, frame_of, numbered, counted}
+use Rattle.iscsi_session.specs.State.{AreDistinct, frame_numbered}
+use Rattle.iscsi_session.proofs.Left.{filter_cong, map_cong, range_more, range_below, distinct_filter, distinct_range, distinct_append, is_in_append, below_of, range_split, filter_none, filter_every}
+use Rattle.iscsi_order.specs.Window as order
+use Rattle.iscsi_order.proofs.Front.{front, front_le, front_come, front_missing}
 
 -- ---- the requests that came before are as they were
 
@@ -121,17 +123,12 @@ unfolding key_by
 key_of_number None came k name e = absurd cc
 key_of_number (Some n) came k name e = ap (moment came) (eqb-true n k e)
 
-All-map_places : (P : ℕ → Type 0) (came : List Request) (ks : List ℕ) → All (λ k. P (place_of came k)) ks → All P (map (place_of came) ks)
-All-map_places P came [] all = All-nil P
-All-map_places P came (k ∷ ks) all = All-cons P _ _ (All-head (λ k. P (place_of came k)) k ks all)
-    (All-map_places P came ks (All-tail (λ k. P (place_of came k)) k ks all))
-
 places_within : (came : List Request) (p : ℕ) → p < length came → All (λ k. place_of came k < length came) (numbers_at came p)
 places_within came p lt = grind (arith, at_moment, place_le_moment)
 
 keys_of_numbers : (came : List Request) (p : ℕ) → p < length came → All (λ a. key came a ≡ p) (map (place_of came) (numbers_at came p))
 unfolding key
-keys_of_numbers came p lt = All-map_places (λ a. key came a ≡ p) came (numbers_at came p) (λ i d below.
+keys_of_numbers came p lt = All-map (λ a. key came a ≡ p) (place_of came) (numbers_at came p) (λ i d below.
     let k = get_or (numbers_at came p) i d in
     key_of_number (request_at came (place_of came k)).number came k (place_of came k) (place_has came k (places_within came p lt i d below))
     ∙ at_moment came p i d below)
@@ -220,7 +217,7 @@ below_at : (came : List Request) (p : ℕ) → p < length came → All (λ a. a 
 unfolding taken_at numbers_at
 below_at came p lt = All-append (λ a. a < length came) (cond (is_some (request_at came p).number) [] (p ∷ [])) (map (place_of came) (numbers_at came p))
     (below_with (is_some (request_at came p).number) (length came) p lt)
-    (All-map_places (λ a. a < length came) came (numbers_at came p) (places_within came p lt))
+    (All-map (λ a. a < length came) (place_of came) (numbers_at came p) (places_within came p lt))
 
 below_over : (came : List Request) (ps : List ℕ) → All (λ p. p < length came) ps → All (λ a. a < length came) (flat_map (taken_at came) ps)
 below_over came [] within = All-nil (λ a. a < length came)
@@ -230,3 +227,135 @@ below_over came (p ∷ ps) within = All-append (λ a. a < length came) (taken_at
 pub taken_below : (came : List Request) → All (λ a. a < length came) (taken came)
 unfolding taken
 taken_below came = below_over came (range_with_len 0 (length came)) (range_below (length came))
+
+-- ---- which it takes: itself, where it is for immediate delivery, and else those with the numbers that it closes the gap before
+
+-- ---- a number has come where its place is among those that came
+
+come_place : (came : List Request)
+    (k : ℕ) → (order.has_come (numbered came) k ≡ true → place_of came k < length came) × (order.has_come (numbered came) k ≡ false
+    → place_of came k ≡ length came)
+come_place [] k = (λ h. absurd cc, λ h. refl)
+come_place (r ∷ came) k = grind (arith, come_place came k)
+
+pub place_come : (came : List Request) (k : ℕ) → order.has_come (numbered came) k ≡ true → place_of came k < length came
+place_come came k h = (come_place came k).0 h
+
+pub place_missing : (came : List Request) (k : ℕ) → order.has_come (numbered came) k ≡ false → place_of came k ≡ length came
+place_missing came k h = (come_place came k).1 h
+
+-- ---- the moment of a number
+
+moment_come : (came : List Request) (k n : ℕ) → ((j : ℕ) → j ≤ k → order.has_come (numbered came) j ≡ true) → length came ≤ n → moment came k < n
+moment_come came zero n come le = let lt = place_come came zero (come zero (omega arith)) in omega arith
+moment_come came (suc k) n come le = grind (arith, moment_come came k n (λ j below. come j (omega arith)) le, place_come)
+
+-- it is the greatest of all places up to it
+pub moment_above : (came : List Request) (j k : ℕ) → j ≤ k → place_of came j ≤ moment came k
+moment_above came j zero le = grind arith
+moment_above came j (suc k) le = elim (cases_eq j (suc k)) [
+  | inl same ↦ subst (λ (n : ℕ). place_of came n ≤ moment came (suc k)) (sym same) (place_le_moment came (suc k))
+  | inr differs ↦ let before = moment_above came j k (omega arith) in omega arith
+]
+
+-- ---- what one more request takes
+
+pub numbered_length : (came : List Request) → length (numbered came) ≤ length came
+numbered_length [] = omega arith
+numbered_length (r ∷ came) = grind (arith, numbered_length came)
+
+-- the numbers that are taken before it, and with it
+abbrev pub first_of : List Request → ℕ
+first_of came = front (numbered came)
+
+module _ (came : List Request) (x : Request) (grows : first_of came ≤ first_of (came ++ x ∷ [])) where
+  before_it : (k : ℕ) → k < first_of came → moment (came ++ x ∷ []) k < length came
+  before_it k lt =
+      let all = moment_come came k (length came) (λ j le. front_come (numbered came) j (omega arith)) (omega arith) in
+      let kept = moment_kept came x k in
+      omega arith
+
+  with_it : (k : ℕ) → first_of came ≤ k → k < first_of (came ++ x ∷ []) → moment (came ++ x ∷ []) k ≡ length came
+  with_it k le lt =
+      let long : length (came ++ x ∷ []) ≡ length came + 1 = length-append came (x ∷ []) in
+      let few = moment_come (came ++ x ∷ []) k (length came + 1) (λ j at. front_come (numbered (came ++ x ∷ [])) j (omega arith)) (omega arith) in
+      let missing = place_missing came (first_of came) (front_missing (numbered came)) in
+      let kept = place_kept came x (first_of came) in
+      let above = moment_above (came ++ x ∷ []) (first_of came) k le in
+      omega arith
+
+  behind_it : (k : ℕ) → first_of (came ++ x ∷ []) ≤ k → moment (came ++ x ∷ []) k ≢ length came
+  behind_it k le = λ e.
+      let long : length (came ++ x ∷ []) ≡ length came + 1 = length-append came (x ∷ []) in
+      let missing = place_missing (came ++ x ∷ []) (first_of (came ++ x ∷ [])) (front_missing (numbered (came ++ x ∷ []))) in
+      let above = moment_above (came ++ x ∷ []) (first_of (came ++ x ∷ [])) k le in
+      omega arith
+
+  pub numbers_now : filter (λ k. eqb (moment (came ++ x ∷ []) k) (length came)) (range_with_len 0 (length came + 1)) ≡ range_with_len (first_of came)
+      (first_of (came ++ x ∷ []) - first_of came)
+  numbers_now =
+      let p = length came in
+      let f = first_of came in
+      let g = first_of (came ++ x ∷ []) in
+      let q : ℕ → Bool = λ k. eqb (moment (came ++ x ∷ []) k) p in
+      let few : g ≤ p + 1 = omega (arith, front_le (numbered (came ++ x ∷ [])), numbered_length (came ++ x ∷ []), length-append came (x ∷ [])) in
+      let split : range_with_len 0 (p + 1) ≡ range_with_len 0 f ++ range_with_len (0 + f) (p + 1 - f) = range_split 0 f (p + 1 - f) (p + 1) (omega arith) in
+      let split_again : range_with_len (0 + f) (p + 1 - f) ≡ range_with_len (0 + f) (g - f) ++ range_with_len (0 + f + (g - f)) (p + 1 - g) = range_split
+      (0 + f) (g - f) (p + 1 - g) (p + 1 - f) (omega arith) in
+      let first : filter q (range_with_len 0 f) ≡ [] = filter_none q 0 f (λ k le lt. ne_eqb _ _ (λ e. let h = before_it k (omega arith)
+      in absurd (omega arith))) in
+      let middle : filter q (range_with_len (0 + f) (g - f)) ≡ range_with_len (0 + f) (g - f) = filter_every q (0 + f) (g - f)
+      (λ k le lt. eq-eqb _ _ (with_it k (omega arith) (omega arith))) in
+      let last : filter q (range_with_len (0 + f + (g - f)) (p + 1 - g)) ≡ [] = filter_none q (0 + f + (g - f)) (p + 1 - g)
+      (λ k le lt. ne_eqb _ _ (behind_it k (omega arith))) in
+      ap (filter q) (split ∙ ap (λ (l : List ℕ). range_with_len 0 f ++ l) split_again)
+      ∙ filter-append q (range_with_len 0 f) (range_with_len (0 + f) (g - f) ++ range_with_len (0 + f + (g - f)) (p + 1 - g))
+      ∙ rw (first, filter-append q (range_with_len (0 + f) (g - f)) (range_with_len (0 + f + (g - f)) (p + 1 - g)), middle, last, append-nil)
+      (ap (λ (n : ℕ). range_with_len n (g - f)) (let e : 0 + f ≡ f = omega arith in e))
+
+  pub taken_now : taken_at (came ++ x ∷ []) (length came) ≡ cond (is_some x.number) [] (length came ∷ []) ++ map (place_of (came ++ x ∷ []))
+      (range_with_len (first_of came) (first_of (came ++ x ∷ []) - first_of came))
+  unfolding taken_at
+  taken_now = rw (request_new came x, numbers_now) refl
+
+-- ---- the requests with numbers
+
+-- the request with a number that has come stands at its place
+pub frame_come : (came : List Request) (k : ℕ) → place_of came k < length came → frame_numbered came k ≡ Some (frame_of came (place_of came k))
+frame_come [] k lt = absurd (omega arith)
+frame_come (r ∷ came) k lt = grind (arith, frame_come came k)
+
+pub frame_missing : (came : List Request) (k : ℕ) → order.has_come (numbered came) k ≡ false → frame_numbered came k ≡ None
+frame_missing [] k h = refl
+frame_missing (r ∷ came) k h = grind (arith, frame_missing came k)
+
+pub frame_marked : (came : List Request) (k : ℕ) → is_some (frame_numbered came k) ≡ order.has_come (numbered came) k
+frame_marked [] k = refl
+frame_marked (r ∷ came) k = grind (arith, frame_marked came k)
+
+numbered_at : (came : List Request) (k : ℕ) → place_of came k < length came → is_some (request_at came (place_of came k)).number ≡ true
+numbered_at came k lt = has_some (request_at came (place_of came k)).number k (place_has came k lt)
+
+-- each of these has a number
+pub counted_places : (came : List Request) (a n : ℕ) → ((k : ℕ) → a ≤ k → k < a + n → order.has_come (numbered came) k ≡ true)
+    → counted came (map (place_of came) (range_with_len a n)) ≡ n
+counted_places came a zero come = refl
+counted_places came a (suc n) come = grind (arith, counted_places came (a + 1) n (λ k le lt. come k (omega arith) (omega arith)), numbered_at, place_come)
+
+-- their frames, in order
+pub frames_come : (came : List Request) (a n : ℕ) → ((k : ℕ) → a ≤ k → k < a + n → order.has_come (numbered came) k ≡ true)
+    → filter_map (λ o. o) (map (frame_numbered came) (range_with_len a n)) ≡ map (frame_of came) (map (place_of came) (range_with_len a n))
+frames_come came a zero come = refl
+frames_come came a (suc n) come = grind (arith, frames_come came (a + 1) n (λ k le lt. come k (omega arith) (omega arith)), frame_come, place_come)
+
+-- ---- one more request with a number
+
+-- the others are as they were
+pub frame_other : (came : List Request) (x : Request) (k : ℕ) → has_number k x.number ≡ false → frame_numbered (came ++ x ∷ []) k ≡ frame_numbered came k
+frame_other [] x k e = rw e refl
+frame_other (r ∷ came) x k e = grind (arith, frame_other came x k e)
+
+pub frame_now : (came : List Request) (x : Request) (k : ℕ) → has_number k x.number ≡ true → frame_numbered came k ≡ None
+    → frame_numbered (came ++ x ∷ []) k ≡ Some x.frame
+frame_now [] x k e none = rw e refl
+frame_now (r ∷ came) x k e none = grind (arith, frame_now came x k e)

@@ -1,28 +1,28 @@
--- A function whose data has come is finished: what the session remembers, and that its past stays lawful.
-use Rattle.std.proofs.Common.{◌≡◌, ℕ, ◌+◌, ◌-◌, ◌<◌, List, [], ◌∷◌, ◌++◌, length, map, get_or, Bool, true, false, not, cond, ◌&&◌, ◌||◌, ◌==◌, refl, sym, ap, subst, ◌∙◌, arith, inl, inr}
-use Rattle.std.specs.Prelude.{All, filter, find, Some}
+-- A function whose data has come: which it is, what the session remembers behind its answer, and that its past stays lawful.
+use Rattle.std.proofs.Common.{◌≡◌, ℕ, ◌+◌, ◌-◌, ◌<◌, List, [], ◌∷◌, ◌++◌, length, map, get_or, Bool, true, false, not, cond, ◌&&◌, ◌||◌, ◌==◌, refl, sym, ap, subst, ◌∙◌, arith, inl, inr, Option, Some, None}
+use Rattle.std.specs.Prelude.{All, filter, find, is_some}
 use Rattle.std.specs.List.{list_any}
 use Rattle.std.proofs.lemmas.Bool.{cases_eq, eq-eqb, ne_eqb, eqb-true, false_from_ne_true}
 use Rattle.std.proofs.lemmas.List.Elements.{All-head, All-tail, All-nil, All-push}
-use Rattle.iscsi_pdu.specs.Header.{is_immediate}
+use Rattle.iscsi_pdu.specs.Header.{is_immediate, initiator_task_tag}
 use Rattle.iscsi_order.specs.Window.{taken as taken_numbers}
 use Rattle.iscsi_session.specs.Drained.{Drained}
-use Rattle.iscsi_session.proofs.Blanked.{asked_blanked}
-use Rattle.iscsi_session.specs.Requests.{Past, Drain, frame_of, is_in, left, is_command, is_function, others, counted, over, pending, taken, commands, due, queue, unfinished, functions}
+use Rattle.iscsi_session.proofs.Places.{asked_blanked, found_self, first_passes, none_passes, LocatedFunction, located_function, index_map, drain_at}
+use Rattle.iscsi_session.specs.Requests.{Past, Drain, frame_of, is_in, left, is_command, is_function, others, counted, over, pending, due, queue, unfinished, functions, stamp}
 use Rattle.iscsi_session.specs.Transfers.{tag_of, task_at, outs_of, tags_of, is_asked_of, drains_of}
-use Rattle.iscsi_session.specs.Texts.{exchange_of}
-use Rattle.iscsi_session.specs.Functions.{lacks, told}
-use Rattle.iscsi_session.specs.State.{AreDistinct, IsLawful, standing, tasks_of, drained_of, transfer_of, transfers_of, functions_of}
-use Rattle.iscsi_session.specs.Draining.{function_tag, lacks_for, drains_without}
+use Rattle.iscsi_session.specs.Functions.{lacks, told, drained_functions, function_answer, told_answers, told_by}
+use Rattle.iscsi_session.specs.State.{AreDistinct, IsLawful, standing, tasks_of, drained_of, transfer_of, transfers_of, functions_of, SessionState, TaskLists, TransferList, Stands, function_removed, function_place}
+use Rattle.iscsi_session.specs.Draining.{function_tag, lacks_for, drains_without, no_drained, telling_place, function_at}
 use Rattle.iscsi_session.proofs.Left.{filter_cong, filter_filter, left_more, left_swap, in_left, in_left_back, not_gone, below_of, is_in_append, all_in}
-use Rattle.iscsi_session.proofs.Places.{found_self}
-use Rattle.iscsi_session.proofs.Kept.{function_no_command}
+use Rattle.iscsi_session.proofs.Kept.{function_no_command, tags_left, pending_holds, in_functions}
 use Rattle.iscsi_session.proofs.Accepted.{counted_append, finished_below}
 use Rattle.iscsi_session.proofs.Over.{split, lawful_step, not_removed, unfinished_less}
-use Rattle.iscsi_session.proofs.Pending.{pending_holds, in_functions}
 use Rattle.iscsi_session.proofs.Moved.{distinct_acted}
 use Rattle.iscsi_session.proofs.Removing.{filter_map_names}
-use Rattle.iscsi_session.proofs.Kept.{tags_left}
+use Rattle.iscsi_pdu.specs.declared.task_management_response.TaskResult.TheVariants as results
+use Rattle.iscsi_session.proofs.Parts.{parts, stands_parts, exchange_as}
+use Rattle.iscsi_session.proofs.Feeding.{drains_are, headers_are, function_located}
+use Rattle.iscsi_session.proofs.Answered.{function_at as removed_at_place}
 
 -- ---- names
 
@@ -166,30 +166,17 @@ module _ (past : Past) (lawful : IsLawful past) where
 
     -- ---- it stays lawful
 
-    due_told : due (told k past) ≡ due past
-    unfolding due
-    due_told = refl
-
-    queue_told : queue (told k past) ≡ queue past
-    unfolding queue
-    queue_told = refl
-
-    unfinished_told : unfinished (told k past) ≡ unfinished past
-    unfolding unfinished
-    unfinished_told = refl
-
     pub lawful_told : IsLawful (told k past)
+    unfolding due queue unfinished
     lawful_told =
-        let in_order : taken past.came ≡ past.acted ++ due (told k past) = lawful.in_order ∙ ap (λ (l : List ℕ). past.acted ++ l) (sym due_told) in
-        let queued = ap (λ (l : List ℕ). commands past.came past.finished ++ l) queue_told ∙ lawful.queued in
         lawful_step past past.acted past.finished past.removed past.drains (past.answered ++ k ∷ []) lawful (record {
           over = omega (arith, over_told);
-          in_order = in_order;
+          in_order = lawful.in_order;
           below = lawful.below;
           acted = lawful.acted;
-          queued = queued;
+          queued = lawful.queued;
           at_once = lawful.at_once;
-          tags = subst (λ (l : List ℕ). AreDistinct (map (tag_of past.came) l)) (sym unfinished_told) lawful.tags;
+          tags = lawful.tags;
           function_tags = subst (λ (l : List ℕ). AreDistinct (map (tag_of past.came) l)) (sym functions_told)
               (tags_left past k (functions past) lawful.function_tags);
           removed_below = lawful.removed_below;
@@ -234,10 +221,6 @@ module _ (past : Past) (lawful : IsLawful past) where
     unfolding functions_of
     headers_told = ap (map (λ a. (frame_of past.came a).header)) (sym functions_told)
 
-    pub exchange_told : exchange_of (told k past) ≡ exchange_of past
-    unfolding exchange_of
-    exchange_told = refl
-
   -- ---- which of them need wait no more
 
   lacks_by : (l : List Drain) (k : ℕ) → is_in k (pending past) ≡ true → All (λ d. is_in d.function (pending past) ≡ true) l
@@ -251,5 +234,91 @@ module _ (past : Past) (lawful : IsLawful past) where
         lacks_by l k waits (All-tail (λ (x : Drain). is_in x.function (pending past) ≡ true) d l all),
       ) refl
 
-  pub lacks_is : (k : ℕ) → is_in k (pending past) ≡ true → lacks_for (map (drained_of past) (drains_of past)) (tag_of past.came k) ≡ lacks past k
-  lacks_is k waits = lacks_by (drains_of past) k waits drains_pending
+-- ---- which it is
+
+telling_located : (past : Past) → IsLawful past
+    → LocatedFunction (λ k. not (lacks past k)) (drains_of past) (telling_place (map (drained_of past) (drains_of past)))
+telling_located past lawful =
+    located_function (λ (x : Drained). not (lacks_for (map (drained_of past) (drains_of past)) (function_tag x))) (drained_of past) (λ k. not (lacks past k))
+    (drains_of past) (λ i none lt. ap not (lacks_by past lawful (drains_of past) _ (drains_pending past lawful i none lt) (drains_pending past lawful)))
+
+none_drained : (past : Past) → find (λ k. not (lacks past k)) (map (λ d. d.function) (drains_of past)) ≡ None → drained_functions past ≡ []
+unfolding drained_functions
+none_drained past e = grind (arith, pending_named, none_passes)
+
+one_drained : (past : Past) (k : ℕ) → find (λ k. not (lacks past k)) (map (λ d. d.function) (drains_of past)) ≡ Some k
+    → (others : List ℕ) × (drained_functions past ≡ k ∷ others)
+unfolding drained_functions
+one_drained past k e = grind (arith, first_passes, pending_named)
+
+-- whether there is one
+there_by : (past : Past) (at : Option ℕ) → LocatedFunction (λ k. not (lacks past k)) (drains_of past) at
+    → (is_some at ≡ true → (k : ℕ) × (others : List ℕ) × (drained_functions past ≡ k ∷ others)) × (is_some at ≡ false → drained_functions past ≡ [])
+there_by past None found = (λ e. absurd cc, λ e. none_drained past found)
+there_by past (Some i) found = (λ e. (let one = one_drained past found.0.function found.1 in (found.0.function, one.0, one.1)), λ e. absurd cc)
+
+located_in : (past : Past) (state : SessionState) → Stands past state
+    → LocatedFunction (λ k. not (lacks past k)) (drains_of past) (telling_place state.transfers.drains)
+located_in past state s = grind (arith, drains_are past state s, telling_located past s.lawful)
+
+-- ---- it is finished
+
+abbrev pub without_function : List ℕ → SessionState → SessionState
+without_function header state = record state {
+  tasks = cond (is_immediate header) state.tasks (record state.tasks { unfinished = state.tasks.unfinished - 1 });
+  transfers = record state.transfers { drains = drains_without (initiator_task_tag header) state.transfers.drains };
+  functions = function_removed state.functions (function_place (initiator_task_tag header) state.functions);
+}
+
+pub stands_told : (past : Past) (state : SessionState) (k : ℕ) → Stands past state → is_in k (pending past) ≡ true
+    → Stands (told k past) (without_function (frame_of past.came k).header state)
+stands_told past state k s waits =
+    let p = parts past state s in
+    let header = (frame_of past.came k).header in
+    stands_parts past (told k past) state _ _ _ state.exchange s (lawful_told past s.lawful k waits) refl refl
+    (ap (λ (t : TaskLists). cond (is_immediate header) t (record t { unfinished = t.unfinished - 1 })) p.tasks_is ∙ tasks_told past s.lawful k waits)
+    (ap (λ (t : TransferList). record t { drains = drains_without (tag_of past.came k) t.drains }) p.transfers_is ∙ transfers_told past s.lawful k waits)
+    (ap (λ (l : List (List ℕ)). function_removed l (function_place (tag_of past.came k) l)) (headers_are past state s)
+    ∙ removed_at_place past k _ s.lawful (pending_open past s.lawful k waits) (function_located past (tag_of past.came k)) ∙ headers_told past s.lawful k waits)
+    (p.exchange_is ∙ sym (exchange_as past (told k past) refl refl refl))
+
+pub record Telling (past : Past) (state : SessionState) (header : List ℕ) : Type 0 where
+  pub function : ℕ
+  pub rest : List ℕ
+  pub first : drained_functions past ≡ function ∷ rest
+  pub header_is : header ≡ (frame_of past.came function).header
+  pub stands : Stands (told function past) (without_function header state)
+
+telling_by : (past : Past) (state : SessionState) (header : List ℕ) (at : Option ℕ) → Stands past state
+    → Some header ≡ function_at state.transfers.drains at → LocatedFunction (λ k. not (lacks past k)) (drains_of past) at → Telling past state header
+telling_by past state header None s is found = absurd cc
+telling_by past state header (Some i) s is found =
+    let d = found.0 in
+    let one = one_drained past d.function found.1 in
+    let there : Some header ≡ Some (frame_of past.came d.function).header = is
+    ∙ ap (λ (l : List Drained). function_at l (Some i)) (drains_are past state s)
+    ∙ ap (λ (x : Drained). Some x.function) (index_map (drained_of past) no_drained (drains_of past) i d found.2) in
+    let same : header ≡ (frame_of past.came d.function).header = cc in
+    let waits = drain_at (λ e. is_in e.function (pending past) ≡ true) (drains_of past) i d (drains_pending past s.lawful) found.2 in
+    record {
+      function = d.function;
+      rest = one.0;
+      first = one.1;
+      header_is = same;
+      stands = subst (λ (h : List ℕ). Stands (told d.function past) (without_function h state)) (sym same) (stands_told past state d.function s waits);
+    }
+
+pub telling_here : (past : Past) (state : SessionState) (header : List ℕ) → Stands past state
+    → Some header ≡ function_at state.transfers.drains (telling_place state.transfers.drains) → Telling past state header
+telling_here past state header s is = telling_by past state header (telling_place state.transfers.drains) s is (located_in past state s)
+
+pub telling_none : (past : Past) (state : SessionState) → Stands past state
+    → None ≡ function_at state.transfers.drains (telling_place state.transfers.drains) → drained_functions past ≡ []
+telling_none past state s is = grind (arith, there_by past (telling_place state.transfers.drains) (located_in past state s))
+
+-- ---- what it is answered
+
+pub told_same : (past : Past) (state : SessionState) (header : List ℕ) (t : Telling past state header)
+    → function_answer (stamp (told t.function past)) results.Complete header ∷ [] ≡ told_by (drained_functions past) past
+unfolding told_answers
+told_same past state header t = grind arith

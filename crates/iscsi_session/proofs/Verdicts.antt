@@ -38,11 +38,6 @@ pub verdict_at : (past : Past) (frame : Frame) (opcode : Opcode) → opcode_of (
     → request_verdict past frame ≡ verdict_by opcode past frame
 verdict_at past frame opcode e = ap (λ (o : Opcode). verdict_by o past frame) e
 
-pub fed_verdict : (past : Past) (frame : Frame) → opcode_of (opcode_number frame.header) ≡ opcodes.DataOut
-    → request_verdict past frame ≡ data_verdict past frame (command_with past (initiator_task_tag frame.header))
-unfolding verdict_by
-fed_verdict past frame is = verdict_at past frame opcodes.DataOut is
-
 -- in a discovery session most are refused
 pub verdict_refused : (past : Past) (frame : Frame) → is_refused past.params frame ≡ true → verdict past frame ≡ Rejected reasons.CommandNotSupported
 verdict_refused past frame e = rw e refl

@@ -12,7 +12,7 @@ use Rattle.iscsi_session.specs.Functions.{FunctionReach}
 use Rattle.iscsi_session.specs.State.{TaskLists, standing, frame_numbered, tasks_of, one_fewer, holding, takes_next, takes, takes_all, void_if, plugged_behind, without, weight, weigh, waiting}
 use Rattle.iscsi_session.specs.Steps.{waiting_in}
 use Rattle.iscsi_session.proofs.Standing.{numbered_standing}
-use Rattle.iscsi_session.proofs.Fronts.{frame_marked}
+use Rattle.iscsi_session.proofs.Taken.{frame_marked}
 
 pub weight_by : (b : Bool) (frame : Frame) → is_function frame ≡ b → weight frame ≡ cond b 2 1
 weight_by b frame e = grind arith
@@ -20,44 +20,46 @@ weight_by b frame e = grind arith
 pub weight_some : (frame : Frame) → 1 ≤ weight frame
 weight_some frame = grind arith
 
-weight_few : (frame : Frame) → weight frame ≤ 2
-weight_few frame = grind arith
-
 weigh_append : (a b : List Frame) → weigh (a ++ b) ≡ weigh a + weigh b
 weigh_append [] b = omega arith
 weigh_append (frame ∷ a) b = omega (arith, weigh_append a b)
 
 weigh_few : (l : List Frame) → weigh l ≤ length l * 2
 weigh_few [] = omega arith
-weigh_few (frame ∷ l) = omega (arith, weight_few frame, weigh_few l)
+weigh_few (frame ∷ l) = grind (arith, weigh_few l)
 
-abbrev there : List (Option Frame) → List Frame
+abbrev pub there : List (Option Frame) → List Frame
 there l = filter_map (λ o. o) l
 
--- ---- numbers are taken
+-- ---- requests are taken, or held: by what each list of them measures, where lists one behind the other add up
 
 there_push : (l : List (Option Frame)) → there (l ++ None ∷ []) ≡ there l
 there_push l = filter_map-append (λ (o : Option Frame). o) l (None ∷ []) ∙ append-nil (there l)
 
-turned_by : (l : List (Option Frame)) (line : List Frame)
-    → weigh (there (drop 1 l ++ None ∷ [])) + weigh (line ++ there (take 1 l)) ≡ weigh (there l) + weigh line
-turned_by [] line = omega (arith, weigh_append line [])
-turned_by (None ∷ l) line = omega (arith, weigh_append line [], ap weigh (there_push l))
-turned_by (Some frame ∷ l) line = omega (arith, weigh_append line (frame ∷ []), ap weigh (there_push l))
+module _ (m : List Frame → ℕ) (append : (a b : List Frame) → m (a ++ b) ≡ m a + m b) where
+  turned_by : (l : List (Option Frame)) (line : List Frame) → m (there (drop 1 l ++ None ∷ [])) + m (line ++ there (take 1 l)) ≡ m (there l) + m line
+  turned_by [] line = omega (arith, append line [], append [] [])
+  turned_by (None ∷ l) line = omega (arith, append line [], append [] [], ap m (there_push l))
+  turned_by (Some frame ∷ l) line = omega (arith, append line (frame ∷ []), append (frame ∷ []) (there l), ap m (there_push l))
 
-pub waiting_takes : (n : ℕ) (tasks : TaskLists) → waiting (takes n tasks) ≡ waiting tasks
-waiting_takes zero tasks = refl
-waiting_takes (suc n) tasks = waiting_takes n (takes_next tasks) ∙ turned_by tasks.held tasks.due
+  taken_measure : (n : ℕ) (tasks : TaskLists) → m (there (takes n tasks).held) + m (takes n tasks).due ≡ m (there tasks.held) + m tasks.due
+  taken_measure zero tasks = refl
+  taken_measure (suc n) tasks = taken_measure n (takes_next tasks) ∙ turned_by tasks.held tasks.due
 
-held_more : (l : List (Option Frame)) (i : ℕ) (frame : Frame) → weigh (there (set l i (Some frame))) ≤ weigh (there l) + weight frame
-held_more [] i frame = omega arith
-held_more (None ∷ l) zero frame = omega arith
-held_more (Some other ∷ l) zero frame = omega arith
-held_more (None ∷ l) (suc i) frame = held_more l i frame
-held_more (Some other ∷ l) (suc i) frame = omega (arith, held_more l i frame)
+  held_more : (l : List (Option Frame)) (i : ℕ) (frame : Frame) → m (there (set l i (Some frame))) ≤ m (there l) + m (frame ∷ [])
+  held_more [] i frame = omega arith
+  held_more (None ∷ l) zero frame = omega (arith, append (frame ∷ []) (there l))
+  held_more (Some other ∷ l) zero frame = omega (arith, append (frame ∷ []) (there l), append (other ∷ []) (there l))
+  held_more (None ∷ l) (suc i) frame = held_more l i frame
+  held_more (Some other ∷ l) (suc i) frame =
+      omega (arith, held_more l i frame, append (other ∷ []) (there l), append (other ∷ []) (there (set l i (Some frame))))
+
+  pub held_measure : (n : ℕ) (frame : Frame) (tasks : TaskLists)
+      → m (there (takes_all (holding n frame tasks)).held) + m (takes_all (holding n frame tasks)).due ≤ m (there tasks.held) + m tasks.due + m (frame ∷ [])
+  held_measure n frame tasks = grind (arith, taken_measure, held_more)
 
 pub waiting_held : (n : ℕ) (frame : Frame) (tasks : TaskLists) → waiting (takes_all (holding n frame tasks)) ≤ waiting tasks + weight frame
-waiting_held n frame tasks = grind (arith, waiting_takes, held_more)
+waiting_held n frame tasks = omega (arith, held_measure weigh weigh_append n frame tasks)
 
 -- ---- one that is due is finished
 

@@ -212,11 +212,7 @@ impl Tasks {
         ensures none { IfNone result (self.old.due ≡ []) }
         ensures none_same { IfNone result (self.new ≡ self.old) }
     {
-        if self.due.is_empty() {
-            return None;
-        }
-        let key = self.due.remove(0);
-        let frame = self.requests.remove(key);
+        let frame = self.drop_due()?;
         self.finish_number(&frame);
         Some(frame)
     }

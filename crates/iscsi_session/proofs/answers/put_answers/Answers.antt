@@ -1,14 +1,14 @@
 use Rattle.std.proofs.Common.{◌≡◌, ◌+◌, ◌++◌, ℕ, List, length, take, drop, sym, ap, ◌∙◌, arith, length-drop}
 use Rattle.std.specs.Prelude.{flat_map}
-use Rattle.std.proofs.lemmas.List.{length-take}
+use Rattle.std.proofs.lemmas.Bool.{eqb-true}
+use Rattle.std.proofs.lemmas.List.{length-take, nil_from_length}
 use Rattle.bytes.specs.Filled.{Filled}
 use Rattle.iscsi_pdu.specs.Answer.{spelling}
 use Rattle.scsi_sense.specs.Done.{Outcome}
 use Rattle.iscsi_transfer.specs.DataIn.{piece_count}
 use Rattle.iscsi_transfer.proofs.Counts.{count_fits}
 use Rattle.iscsi_session.specs.Answers.{expected_length, sent_pieces, data_sent, data_answers}
-use Rattle.iscsi_session.proofs.Room.{pieces_counted, pieces_few, data_fits}
-use Rattle.iscsi_session.proofs.InPlace.{sent_behind, all_spelled, none_waits}
+use Rattle.iscsi_session.proofs.Room.{pieces_counted, pieces_few, data_fits, sent_behind, all_spelled}
 use Rattle.iscsi_session.proofs.answers.put_answers.Goals as goal
 
 pub overflow_cast-count : goal.overflow_cast-count
@@ -73,7 +73,7 @@ returns-then-capacity-sent c =
     let count : c.count_of-count.result ≡ length (sent_pieces values (data_sent c.args.frame.now c.args.done)) = c.count_of-count.ensures
     ∙ ap (λ (n : ℕ). piece_count n values.max_burst_length values.max_recv_data_segment_length) c.sent_length-sent.ensures.value
     ∙ sym (pieces_counted values (data_sent c.args.frame.now c.args.done) c.requires.values) in
-    let waits = none_waits c.args.out.now.items (sym c.is_empty.ensures ∙ c.if-is_empty.true) in
+    let waits = nil_from_length c.args.out.now.items (eqb-true _ 0 (sym c.is_empty.ensures ∙ c.if-is_empty.true)) in
     let answers : c.put_around.new.buffer.items
     ≡ c.args.out.now.items ++ flat_map spelling (data_answers c.args.numbers values c.args.frame.now (data_sent c.args.frame.now c.args.done)) =
     c.put_around.ensures.written

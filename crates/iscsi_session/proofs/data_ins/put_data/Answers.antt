@@ -9,19 +9,11 @@ use Rattle.iscsi_session.specs.Answers.{sent_pieces, data_answers}
 use Rattle.iscsi_session.proofs.Room.{piece_there, pieces_counted, data_answer_at, data_answers_count, written_more, next_fits}
 use Rattle.iscsi_session.proofs.data_ins.put_data.Goals as goal
 
-pub data_in-requires-clause-within : goal.data_in-requires-clause-within
-data_in-requires-clause-within c =
-    (piece_there c.args.values.now c.args.sent.now c.loop-data_sn.data_sn c.piece_of-piece.result c.requires.values c.piece_of-piece.ensures).within
-
-pub data_in-requires-clause-short : goal.data_in-requires-clause-short
-data_in-requires-clause-short c =
-    (piece_there c.args.values.now c.args.sent.now c.loop-data_sn.data_sn c.piece_of-piece.result c.requires.values c.piece_of-piece.ensures).short
-
-pub data_in-requires-clause-data_sn : goal.data_in-requires-clause-data_sn
-data_in-requires-clause-data_sn c =
-    let early = (piece_there c.args.values.now c.args.sent.now c.loop-data_sn.data_sn c.piece_of-piece.result
-    c.requires.values c.piece_of-piece.ensures).early in
-    omega (arith, early, c.requires.short)
+pub data_in-requires : goal.data_in-requires
+data_in-requires c =
+    let there = piece_there c.args.values.now c.args.sent.now c.loop-data_sn.data_sn c.piece_of-piece.result c.requires.values c.piece_of-piece.ensures in
+    let early = there.early in
+    record { within = there.within; short = there.short; sent = c.requires.short; data_sn = omega (arith, early, c.requires.short) }
 
 pub put-requires : goal.put-requires
 put-requires c =

@@ -1,5 +1,5 @@
 use Rattle.std.proofs.Common.{◌++◌, ◌%◌, ◌-◌, ◌∷◌, [], take, ℕ, List, ap, arith, ◌∙◌, length-drop}
-use Rattle.iscsi_session.proofs.InPlace.{padded_behind}
+use Rattle.iscsi_session.proofs.Room.{padded_behind}
 use Rattle.iscsi_session.proofs.data_ins.put_header.Goals as goal
 
 pub returns-clause-items : goal.returns-clause-items

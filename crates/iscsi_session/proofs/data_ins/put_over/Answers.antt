@@ -1,6 +1,6 @@
 use Rattle.std.proofs.Common.{drop, length, ap, arith}
 use Rattle.std.proofs.lemmas.List.{length-take}
-use Rattle.iscsi_session.proofs.InPlace.{written_over}
+use Rattle.iscsi_session.proofs.Room.{written_over}
 use Rattle.iscsi_session.proofs.data_ins.put_over.Goals as goal
 
 pub slice_bounds-room-end : goal.slice_bounds-room-end

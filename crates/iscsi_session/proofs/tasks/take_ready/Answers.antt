@@ -1,12 +1,13 @@
-use Rattle.std.proofs.Common.{◌≡◌, ◌<◌, get_or, Some, None, refl, sym, ap, ◌∙◌, arith}
+use Rattle.std.proofs.Common.{◌≡◌, ◌<◌, get_or, Some, None, refl, sym, ap, ◌∙◌, arith, Option, ℕ}
 use Rattle.std.specs.Prelude.{is_some}
 use Rattle.std.specs.List.{prefix_len}
 use Rattle.iscsi_order.specs.WindowState.{WindowKeys}
-use Rattle.iscsi_session.proofs.Lines.{turns, moves_on, moves_end, prefix_le}
+use Rattle.iscsi_session.proofs.Lines.{turns, moves_on, moves_end}
+use Rattle.std.proofs.lemmas.List.Sums.{prefix_len-le-length}
 use Rattle.iscsi_session.proofs.tasks.take_ready.Goals as goal
 
 pub loop-key-init : goal.loop-key-init
-loop-key-init c = record { same = refl; room = omega (arith, prefix_le c.args.window.now.keys) }
+loop-key-init c = record { same = refl; room = omega (arith, prefix_len-le-length (λ (k : Option ℕ). is_some k) c.args.window.now.keys) }
 
 pub loop-key-smaller : goal.loop-key-smaller
 loop-key-smaller c =

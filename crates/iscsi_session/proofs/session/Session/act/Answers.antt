@@ -25,7 +25,7 @@ returns-in_ok-queue_due-in-Some-clause-acts c past s =
     let kind : is_command (frame_of past.came d.0) ≡ true = ap is_command (sym there.0) ∙ stands in
     first_acts luns past d.0 d.1 _ _ _ _ _ d.2 (record {
       act = goes_on_act d.0 past (command_kind (frame_of past.came d.0) kind) refl;
-      stands = stands_queued luns past _ d.0 d.1 c.in-Some.frame.now _ c.queue_due.new.self known d.2 kind there.1 (d.3 ∙ there.0) d.4
+      stands = stands_queued past _ d.0 d.1 known d.2 luns c.in-Some.frame.now _ c.queue_due.new.self kind there.1 (d.3 ∙ there.0) d.4
           (c.in_ok-queue_due-in-Some.ensures.ok c.in-Some.frame.now _ c.in-Some.ensures.some);
       out = none_spelled _ (act_answers luns d.0 past) (command_answers_none luns d.0 past kind);
       orders = none_ordered past d.0 _ (command_no_function (frame_of past.came d.0) kind);

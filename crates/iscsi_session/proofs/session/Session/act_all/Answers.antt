@@ -1,17 +1,13 @@
 use Rattle.std.proofs.Common.{suc, refl, ◌∙◌}
-use Rattle.iscsi_session.specs.Requests.{due}
-use Rattle.iscsi_session.specs.Steps.{Taking, act}
 use Rattle.iscsi_session.proofs.Parts.{on_err_known}
-use Rattle.iscsi_session.proofs.Runs.{same_output, none_ran, grows_none, grows_then, tasks_count}
-use Rattle.iscsi_session.proofs.Served.{acted_more, all_acted, acting_ends, acting_stops, act_stops, acts}
-use Rattle.iscsi_session.specs.Steps.{waiting_in}
-use Rattle.iscsi_session.proofs.Served.{due_fits}
+use Rattle.iscsi_session.proofs.Runs.{same_output, grows_none, grows_then}
+use Rattle.iscsi_session.proofs.Settled.{none_acted, acted_more, all_acted, acting_ends, acting_stops, act_stops, acts}
 use Rattle.iscsi_session.proofs.session.Session.act_all.Goals as goal
 
 pub loop-init : goal.loop-init
 loop-init c = record {
   turns = 0;
-  ran = λ units numbers. none_ran Taking due act tasks_count waiting_in due_fits _ _ units;
+  ran = λ units numbers. none_acted _ _ units;
   grows = grows_none _;
   params = refl;
 }
@@ -20,7 +16,7 @@ pub returns-in_err-act-clause-err : goal.returns-in_err-act-clause-err
 returns-in_err-act-clause-err c = on_err_known _
     (act_stops c.args.luns.now c.loop.invariant.turns _ _ _ _ _ _ c.in_err-act.ensures.err
     (same_output _ _ _ _ c.in_err-act.ensures.out_err c.in_err-act.ensures.orders_err)
-    (λ units numbers. acting_stops _ _ _ _ _ units (c.loop.invariant.ran units numbers) c.in_err-act.ensures.due))
+    (λ units numbers. acting_stops _ _ _ _ _ _ units (c.loop.invariant.ran units numbers) c.in_err-act.ensures.due))
 
 pub returns-in-Idle-clause-ok : goal.returns-in-Idle-clause-ok
 returns-in-Idle-clause-ok c units numbers =

@@ -15,7 +15,7 @@ returns-in_default-clause-acts c luns past k rest s is e no_text no_function ord
 pub returns-in-NopOut-clause-acts : goal.returns-in-NopOut-clause-acts
 returns-in-NopOut-clause-acts c luns past k rest s is e no_text no_function orders =
     let known = seen c.self.view_is s in
-    let f = finished_here past _ k rest c.in-Some.frame _ known is e no_text no_function c.in-Some.ensures.some c.in-Some.ensures.same in
+    let f = finished_here past _ k rest known is c.in-Some.frame _ e no_text no_function c.in-Some.ensures.some c.in-Some.ensures.same in
     let there = sym (ap kind_of (c.frame.view_is ∙ f.0)) ∙ sym c.opcode.ensures ∙ c.in-NopOut.is in
     let as_came = came_as past _ k rest known is there (λ x. absurd cc) in
     let kind = sym (ap kind_of as_came) ∙ there in
@@ -31,7 +31,7 @@ returns-in-NopOut-clause-acts c luns past k rest s is e no_text no_function orde
 pub returns-in-Logout-clause-acts : goal.returns-in-Logout-clause-acts
 returns-in-Logout-clause-acts c luns past k rest s is e no_text no_function orders =
     let known = seen c.self.view_is s in
-    let f = finished_here past _ k rest c.in-Some.frame _ known is e no_text no_function c.in-Some.ensures.some c.in-Some.ensures.same in
+    let f = finished_here past _ k rest known is c.in-Some.frame _ e no_text no_function c.in-Some.ensures.some c.in-Some.ensures.same in
     let there = sym (ap kind_of (c.frame.view_is ∙ f.0)) ∙ sym c.opcode.ensures ∙ c.in-Logout.is in
     let as_came = came_as past _ k rest known is there (λ x. absurd cc) in
     let kind = sym (ap kind_of as_came) ∙ there in
@@ -48,7 +48,7 @@ returns-in-Logout-clause-acts c luns past k rest s is e no_text no_function orde
 pub returns-clause-acts : goal.returns-clause-acts
 returns-clause-acts c luns past k rest s is e no_text no_function orders =
     let known = seen c.self.view_is s in
-    let f = finished_here past _ k rest c.in-Some.frame _ known is e no_text no_function c.in-Some.ensures.some c.in-Some.ensures.same in
+    let f = finished_here past _ k rest known is c.in-Some.frame _ e no_text no_function c.in-Some.ensures.some c.in-Some.ensures.same in
     let kind = other_came past _ k rest known is (subst IsOther (c.opcode.ensures ∙ ap kind_of (c.frame.view_is ∙ f.0)) c.in-ScsiCommand.is) in
     let none = other_is luns k past kind no_text no_function in
     record {

@@ -11,7 +11,7 @@ use Rattle.iscsi_session.specs.Draining.{drains_without}
 use Rattle.iscsi_session.specs.State.{SessionState, Stands, function_removed, function_place}
 use Rattle.iscsi_session.proofs.Parts.{on_err_known}
 use Rattle.iscsi_session.proofs.Answered.{one_spelled}
-use Rattle.iscsi_session.proofs.Drained.{telling_none, telling_here, told_bears, told_same}
+use Rattle.iscsi_session.proofs.Telling.{telling_none, telling_here, told_same}
 use Rattle.iscsi_session.specs.Steps.{Answering, tell, tell_due}
 use Rattle.iscsi_session.proofs.Stages.{none_runs, first_stops, sent_runs, tells}
 use Rattle.iscsi_session.proofs.session.Session.answer_drained.Goals as goal
@@ -28,10 +28,10 @@ returns-in_err-reserve-clause-stops c = on_err_known _
     (first_stops Answering (λ place. eq-eqb place place refl) drained_functions tell c.in_err-reserve.ensures.items
     (λ place. eq-eqb place place refl) (λ past s.
     (let t = telling_here past _ c.in-Some.function (subst (λ (x : SessionState). Stands past x) (sym c.self.view_is) s) c.in-Some.ensures in
-    (t.function, t.others, t.first))))
+    (t.function, t.rest, t.first))))
 
 pub returns-clause-ok : goal.returns-clause-ok
-unfolding tell_due
+unfolding tell_due told_answers
 returns-clause-ok c orders units =
     sent_runs Answering (λ place. eq-eqb place place refl) drained_functions tell answered_by told_by tells _ _ _ _ orders units
     (λ past s.
@@ -53,7 +53,7 @@ returns-clause-ok c orders units =
     c.answer_to.ensures.value
     ∙ ap (λ (n : Stamp). function_answer n Complete c.in-Some.function) (c.next_stamp-stamp.ensures.stamp (told t.function past) there) in (
       subst (λ (l : List ℕ). Stands (answered_by l past) c.next_stamp-stamp.new.self) (sym t.first)
-          (c.next_stamp-stamp.ensures.stands (told t.function past) (told_answers past t.function) there (told_bears past t.function)),
+          (c.next_stamp-stamp.ensures.stands (told t.function past) (told_answers past t.function) there refl),
       c.put.ensures.written ∙ ap (λ (bytes : List ℕ). bytes ++ spelling c.answer_to.result) c.in_ok-reserve.ensures.items
           ∙ ap (λ (a : Answer). c.args.out.now.items ++ spelling a) answer
           ∙ one_spelled c.args.out.now.items _ _ (told_same past _ c.in-Some.function t),

@@ -6,7 +6,7 @@ use Rattle.iscsi_exchange.specs.Exchange.{ToldState, hears}
 use Rattle.iscsi_session.specs.Requests.{frame_of, moved, answering, stamp}
 use Rattle.iscsi_session.specs.Texts.{text_answer}
 use Rattle.iscsi_session.specs.State.{SessionState, Stands}
-use Rattle.iscsi_session.proofs.Exchanging.{text_kind}
+use Rattle.iscsi_session.proofs.Parts.{text_kind}
 use Rattle.iscsi_session.proofs.Answered.{seen, text_here, text_same, text_bears, goes_on_act, some_due, one_spelled, none_ordered, stands_plain, text_no_function}
 use Rattle.iscsi_session.proofs.session.Session.answer_told.Goals as goal
 
@@ -19,7 +19,7 @@ returns-clause-acts c luns past k rest s is e heard orders =
     let known = seen c.self.view_is s in
     let given : ToldState = record { exchange = c.told.inside.exchange; piece = c.told.inside.piece } in
     let told = c.told.view_is ∙ heard ∙ ap (λ (x : SessionState). hears x.exchange (frame_of past.came k) x.params) (sym c.self.view_is) in
-    let t = text_here past _ k rest c.in-Some.frame _ given known is e c.in-Some.ensures.some c.in-Some.ensures.same told in
+    let t = text_here past _ k rest known is c.in-Some.frame _ given e c.in-Some.ensures.some c.in-Some.ensures.same told in
     let same = text_same luns k past c.in-Some.frame given t.0 t.1 e in
     record {
       act = goes_on_act k past (text_kind (frame_of past.came k) e) refl;

@@ -1,10 +1,9 @@
 use Rattle.std.proofs.Common.{◌++◌, ℕ, List, refl, sym, ap, ◌∙◌, subst}
-use Rattle.std.specs.Prelude.{flat_map}
+use Rattle.std.specs.Prelude.{flat_map, Option}
 use Rattle.std.proofs.lemmas.Bool.{eq-eqb}
 use Rattle.iscsi_pdu.specs.Answer.{spelling}
 use Rattle.iscsi_pdu.specs.declared.answer.Answer.{Answer}
 use Rattle.iscsi_pdu.specs.declared.r2t.R2t.{R2t}
-use Rattle.std.specs.Prelude.{Option}
 use Rattle.iscsi_session.specs.Transfers.{asking, asked_by, r2t_answers, r2ts_by}
 use Rattle.iscsi_session.specs.State.{SessionState, Stands}
 use Rattle.iscsi_session.specs.Steps.{Asking, ask, ask_due}

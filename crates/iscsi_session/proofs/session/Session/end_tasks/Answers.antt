@@ -26,7 +26,7 @@ returns-then-plugs-clause-stands c luns past k rest s is e same unasked =
     let reach = reach_of luns k past in
     let header : c.reach.inside.function ≡ frame.header = ap (λ (r : FunctionReach). r.function) (c.reach.view_is ∙ same) in
     let tag = c.initiator_task_tag-tag.ensures ∙ ap initiator_task_tag header in
-    let middle = (function_here past _ k rest frame left c.initiator_task_tag-tag.result c.finish.new.self known is e some refl tag c.finish.ensures).1 in
+    let middle = (function_here past _ k rest known is frame left c.initiator_task_tag-tag.result c.finish.new.self e some refl tag c.finish.ensures).1 in
     let none : awaited past reach ≡ [] = ap (awaited past) (sym same) ∙ unasked in
     let does : plugs past reach ≡ true = ap (plugs past) (sym same) ∙ sym (c.plugs.ensures.past past s) ∙ c.if-plugs.true in
     let ends = stands_unreached luns past _ k e none does middle in
@@ -57,7 +57,7 @@ returns-clause-stands c luns past k rest s is e same unasked =
     let some : 0 < length c.self.inside.tasks.due = omega (arith, c.requires, ap (λ (x : SessionState). length x.tasks.due) c.self.view_is) in
     let g = given_frame c.finish_due.result c.self.inside.tasks.due c.finish_due.ensures.some c.finish_due.ensures.same c.finish_due.ensures.none some in
     let tag = c.initiator_task_tag-tag.ensures ∙ ap initiator_task_tag header in
-    let middle = (function_here past _ k rest g.0 c.finish_due.new.self c.initiator_task_tag-tag.result c.finish-2.new.self known is e g.1 g.2 tag
+    let middle = (function_here past _ k rest known is g.0 c.finish_due.new.self c.initiator_task_tag-tag.result c.finish-2.new.self e g.1 g.2 tag
     c.finish-2.ensures).1 in
     let unwaited : awaited past reach ≡ [] = ap (awaited past) (sym same) ∙ unasked in
     let ends = stands_ended luns past _ k e unwaited middle in

@@ -23,11 +23,9 @@ returns-clause-steps g c =
     c.payload-payload.ensures
     ∙ ap (λ (t : ℕ). payload_at list (place_with t list)) (c.initiator_task_tag.ensures ∙ ap (λ (f : Frame). initiator_task_tag f.header) c.frame.view_is)
     ∙ ap (λ (x : SessionState). payload_at x.transfers.list (place_for c.in-Some.frame.now x.transfers.list)) c.self.view_is in
-    finish_steps work _ _ _ _ _ _ comings came.0 _ _ _ _ s c.in-Some.ensures.some c.in-Some.ensures.whole
-    (ap (λ (x : SessionState). x.params.nexus) c.self.view_is)
-    next
+    finish_steps _ _ _ _ _ _ comings came.0 _ _ _ _ c.in-Some.ensures.some (ap (λ (x : SessionState). x.params.nexus) c.self.view_is) next
     (came.1 ∙ ap (carried_out came.0 c.args.units.now c.self.inside.params.nexus c.in-Some.frame.now) payload)
-    (rw c.make_room.ensures.same at c.answer_command-buffer.ensures.answers)) came.2)
+    (rw c.make_room.ensures.same at c.answer_command-buffer.ensures.answers) work s c.in-Some.ensures.whole) came.2)
 
 pub returns-clause-back : goal.returns-clause-back
 returns-clause-back g c = rw c.give_back.ensures c.carry_out.ensures.back

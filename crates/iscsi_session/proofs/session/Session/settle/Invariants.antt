@@ -3,16 +3,14 @@ use Rattle.scsi_unit.specs.Units.{AreSound, AreSure}
 use Rattle.iscsi_session.specs.Comings.{CameAs}
 use Rattle.iscsi_session.specs.Runs.{output}
 use Rattle.iscsi_session.specs.Weight.{IsAtRest, Eases}
-use Rattle.iscsi_session.specs.Steps.{Doing, ready, finish}
-use Rattle.iscsi_session.proofs.Runs.{Ran, queue_count}
-use Rattle.iscsi_session.proofs.Settled.{queued_in, queue_fits}
+use Rattle.iscsi_session.proofs.Settled.{RanDone}
 use Rattle.iscsi_session.proofs.session.Session.settle.Given as goal
 
 -- so many commands were done
 abbrev pub invariant-loop : goal.invariant-loop
 invariant-loop g l = record {
   turns : ℕ;
-  ran : CameAs l.initial.self.params.target (λ given after. Ran Doing ready finish queue_count queued_in queue_fits turns l.initial.self l.self
+  ran : CameAs l.initial.self.params.target (λ given after. RanDone turns l.initial.self l.self
       (output l.initial.out.items []) (output l.out.items []) given after) l.initial.units l.units;
   back : AreSound l.units → AreSound l.initial.units;
   sure : AreSure l.initial.units → AreSure l.units;

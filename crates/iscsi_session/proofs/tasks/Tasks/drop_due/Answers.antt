@@ -3,18 +3,15 @@ use Rattle.iscsi_session.specs.State.{TaskLists}
 use Rattle.iscsi_session.proofs.Lines.{first_out}
 use Rattle.iscsi_session.proofs.tasks.Tasks.drop_due.Goals as goal
 
-pub returns-clause-some : goal.returns-clause-some
-returns-clause-some c =
+pub returns : goal.returns
+returns c =
     let within : 0 < length c.self.inside.due.items = grind (arith, c.if-is_empty.false, c.is_empty.ensures, c.self.inside.due.ok.0) in
     let out = first_out c.self.inside.requests c.remove-frame.new.self c.remove-key.result c.remove-frame.result c.self.inside.window.keys
     c.self.inside.due.items c.self.inside.queue.items within c.remove-key.ensures.value
     c.remove-frame.ensures.value c.remove-frame.ensures.updates (c.self.invariant.once c.remove-key.result) in
-    subst (λ (t : TaskLists). t.due ≡ c.remove-frame.result ∷ drop 1 t.due) c.self.view_is out.first
-
-pub returns-clause-same : goal.returns-clause-same
-returns-clause-same c =
-    let within : 0 < length c.self.inside.due.items = grind (arith, c.if-is_empty.false, c.is_empty.ensures, c.self.inside.due.ok.0) in
-    let out = first_out c.self.inside.requests c.remove-frame.new.self c.remove-key.result c.remove-frame.result c.self.inside.window.keys
-    c.self.inside.due.items c.self.inside.queue.items within c.remove-key.ensures.value
-    c.remove-frame.ensures.value c.remove-frame.ensures.updates (c.self.invariant.once c.remove-key.result) in
-    rw (c.remove-key.ensures.items, out.left, out.same_held, out.same_others, ← c.self.view_is) refl
+    record {
+      some = subst (λ (t : TaskLists). t.due ≡ c.remove-frame.result ∷ drop 1 t.due) c.self.view_is out.first;
+      same = rw (c.remove-key.ensures.items, out.left, out.same_held, out.same_others, ← c.self.view_is) refl;
+      none = tt;
+      none_same = tt;
+    }

@@ -1,19 +1,14 @@
-use Rattle.std.proofs.Common.{◌≡◌, Option, ℕ, List, length, true, refl, sym, ap, subst, ◌∙◌, arith}
+use Rattle.std.proofs.Common.{◌≡◌, Option, ℕ, List, length, refl, sym, ap, subst, ◌∙◌, arith}
 use Rattle.iscsi_order.specs.WindowState.{WindowKeys, with_key}
-use Rattle.iscsi_order.specs.WindowState as windows
-use Rattle.iscsi_session.specs.State.{TaskLists, is_vacant, holding, takes_all}
+use Rattle.iscsi_session.specs.State.{TaskLists, holding, takes_all}
 use Rattle.iscsi_session.specs.Tasks.{lists_of, keys_in, AreLines, moves_all}
-use Rattle.iscsi_session.proofs.Lines.{holds_key, vacant_same}
+use Rattle.iscsi_session.proofs.Lines.{holds_vacant}
 use Rattle.iscsi_session.proofs.tasks.Tasks.hold.Goals as goal
 
 pub take_ready-requires : goal.take_ready-requires
 take_ready-requires c =
-    let free : windows.is_vacant c.self.inside.window c.args.number ≡ true =
-    sym (vacant_same c.self.inside.requests c.self.inside.window c.self.inside.due.items c.self.inside.queue.items c.args.number c.self.invariant.once)
-    ∙ ap (λ (t : TaskLists). is_vacant t c.args.number) c.self.view_is ∙ c.requires in
-    let held = holds_key c.self.inside.requests c.insert.new.self c.in_ok-key.key c.args.number c.args.frame c.self.inside.window c.self.inside.due.items
-    c.self.inside.queue.items
-    c.in_ok-key.ensures.updates c.in_ok-key.ensures.was_vacant c.self.invariant free c.held.ensures.len in
+    let held = holds_vacant c.self.inside.requests c.insert.new.self c.in_ok-key.key c.args.number c.args.frame c.self.inside.window c.self.inside.due.items
+    c.self.inside.queue.items _ c.self.view_is c.requires c.in_ok-key.ensures.updates c.in_ok-key.ensures.was_vacant c.self.invariant c.held.ensures.len in
     omega (
       arith,
       held.count,
@@ -27,12 +22,8 @@ take_ready-requires c =
 
 pub returns-clause-ok : goal.returns-clause-ok
 returns-clause-ok c =
-    let free : windows.is_vacant c.self.inside.window c.args.number ≡ true =
-    sym (vacant_same c.self.inside.requests c.self.inside.window c.self.inside.due.items c.self.inside.queue.items c.args.number c.self.invariant.once)
-    ∙ ap (λ (t : TaskLists). is_vacant t c.args.number) c.self.view_is ∙ c.requires in
-    let held = holds_key c.self.inside.requests c.insert.new.self c.in_ok-key.key c.args.number c.args.frame c.self.inside.window c.self.inside.due.items
-    c.self.inside.queue.items
-    c.in_ok-key.ensures.updates c.in_ok-key.ensures.was_vacant c.self.invariant free c.held.ensures.len in
+    let held = holds_vacant c.self.inside.requests c.insert.new.self c.in_ok-key.key c.args.number c.args.frame c.self.inside.window c.self.inside.due.items
+    c.self.inside.queue.items _ c.self.view_is c.requires c.in_ok-key.ensures.updates c.in_ok-key.ensures.was_vacant c.self.invariant c.held.ensures.len in
     let moved : (c.take_ready.new.window, c.take_ready.new.due.items) ≡ moves_all
     (with_key c.args.number c.in_ok-key.key c.self.inside.window, c.self.inside.due.items) =
     c.take_ready.ensures ∙ rw (c.arrive.ensures.key, c.reserve.ensures.items) refl in
@@ -41,12 +32,8 @@ returns-clause-ok c =
 
 pub invariant_of-self-2 : goal.invariant_of-self-2
 invariant_of-self-2 c =
-    let free : windows.is_vacant c.self.inside.window c.args.number ≡ true =
-    sym (vacant_same c.self.inside.requests c.self.inside.window c.self.inside.due.items c.self.inside.queue.items c.args.number c.self.invariant.once)
-    ∙ ap (λ (t : TaskLists). is_vacant t c.args.number) c.self.view_is ∙ c.requires in
-    let held = holds_key c.self.inside.requests c.insert.new.self c.in_ok-key.key c.args.number c.args.frame c.self.inside.window c.self.inside.due.items
-    c.self.inside.queue.items
-    c.in_ok-key.ensures.updates c.in_ok-key.ensures.was_vacant c.self.invariant free c.held.ensures.len in
+    let held = holds_vacant c.self.inside.requests c.insert.new.self c.in_ok-key.key c.args.number c.args.frame c.self.inside.window c.self.inside.due.items
+    c.self.inside.queue.items _ c.self.view_is c.requires c.in_ok-key.ensures.updates c.in_ok-key.ensures.was_vacant c.self.invariant c.held.ensures.len in
     let moved : (c.take_ready.new.window, c.take_ready.new.due.items) ≡ moves_all
     (with_key c.args.number c.in_ok-key.key c.self.inside.window, c.self.inside.due.items) =
     c.take_ready.ensures ∙ rw (c.arrive.ensures.key, c.reserve.ensures.items) refl in

@@ -1,35 +1,19 @@
-use Rattle.std.proofs.Common.{◌≡◌, ℕ, ◌<◌, List, length, drop, get_or, remove, Option, Some, true, refl, sym, ap, subst, ◌∙◌, arith}
-use Rattle.slab.specs.Slab.{Updates}
-use Rattle.iscsi_pdu.specs.Frames.{Frame}
+use Rattle.std.proofs.Common.{◌≡◌, ℕ, List, length, drop, remove, Option, refl, sym, ap, subst, ◌∙◌, arith}
 use Rattle.iscsi_order.specs.WindowState.{WindowKeys, with_key}
 use Rattle.iscsi_order.specs.WindowState as windows
 use Rattle.iscsi_session.specs.Functions.{plug}
-use Rattle.iscsi_session.specs.State.{TaskLists, is_vacant, holding, takes_all, one_fewer, plugged_behind, window_of}
+use Rattle.iscsi_session.specs.State.{TaskLists, holding, takes_all, one_fewer, plugged_behind, window_of}
 use Rattle.iscsi_session.specs.Tasks.{lists_of, keys_in, AreLines, moves_all, requests_at}
 use Rattle.iscsi_session.proofs.Answered.{same_head, same_tail}
-use Rattle.iscsi_session.proofs.Lines.{vacant_same}
-use Rattle.iscsi_session.proofs.Replacing.{counted_out, replaced, marked_known}
+use Rattle.iscsi_session.proofs.Lines.{counted_out, replaced, marked_known}
 use Rattle.iscsi_session.proofs.tasks.Tasks.plug_behind_first.Goals as goal
 
 pub invariant_of-self-2 : goal.invariant_of-self-2
 invariant_of-self-2 c =
-    let free : windows.is_vacant c.self.inside.window c.args.number ≡ true =
-    sym (vacant_same c.self.inside.requests c.self.inside.window c.self.inside.due.items c.self.inside.queue.items c.args.number c.self.invariant.once)
-    ∙ ap (λ (t : TaskLists). is_vacant t c.args.number) c.self.view_is ∙ c.requires.vacant in
-    let some : 0 < length c.self.inside.due.items = omega (
-      arith,
-      c.remove-key.ensures.len,
-      c.reserve.ensures.len,
-      c.self.inside.due.ok.0,
-      ap (λ (l : List ℕ). length l) c.reserve.ensures.items,
-    ) in
-    let at : c.remove-key.result ≡ get_or c.self.inside.due.items 0 c.remove-key.result =
-    c.remove-key.ensures.value ∙ ap (λ (l : List ℕ). get_or l 0 c.remove-key.result) c.reserve.ensures.items in
     let r = replaced c.self.inside.requests c.remove-frame.new.self c.insert_reserved-key.new.self c.args.number c.remove-key.result
-    c.insert_reserved-key.result c.remove-frame.result c.self.inside.window c.self.inside.due.items c.self.inside.queue.items some at
-    c.remove-frame.ensures.value c.remove-frame.ensures.updates c.self.invariant c.insert_reserved-key.ensures.was_vacant
-    (subst (λ (f : Frame). Updates c.remove-frame.new.self c.insert_reserved-key.new.self c.insert_reserved-key.result (Some f)) c.plug.ensures
-    c.insert_reserved-key.ensures.updates) free c.held.ensures.len in
+    c.insert_reserved-key.result c.remove-frame.result _ c.self.inside.window c.self.inside.due.items _ c.self.inside.queue.items _ c.self.view_is
+    c.requires.vacant c.requires.some c.reserve.ensures.items c.remove-key.ensures.value c.remove-frame.ensures.value c.remove-frame.ensures.updates
+    c.self.invariant c.insert_reserved-key.ensures.was_vacant c.plug.ensures c.insert_reserved-key.ensures.updates c.held.ensures.len in
     let counted : c.count_out.new.window ≡ counted_out c.remove-frame.result c.self.inside.window = c.count_out.ensures in
     let moved : (c.take_ready.new.window, c.take_ready.new.due.items) ≡ moves_all
     (with_key c.args.number c.insert_reserved-key.result (counted_out c.remove-frame.result c.self.inside.window), remove c.self.inside.due.items 0) =
@@ -38,23 +22,10 @@ invariant_of-self-2 c =
 
 pub returns-clause-ok : goal.returns-clause-ok
 returns-clause-ok c =
-    let free : windows.is_vacant c.self.inside.window c.args.number ≡ true =
-    sym (vacant_same c.self.inside.requests c.self.inside.window c.self.inside.due.items c.self.inside.queue.items c.args.number c.self.invariant.once)
-    ∙ ap (λ (t : TaskLists). is_vacant t c.args.number) c.self.view_is ∙ c.requires.vacant in
-    let some : 0 < length c.self.inside.due.items = omega (
-      arith,
-      c.remove-key.ensures.len,
-      c.reserve.ensures.len,
-      c.self.inside.due.ok.0,
-      ap (λ (l : List ℕ). length l) c.reserve.ensures.items,
-    ) in
-    let at : c.remove-key.result ≡ get_or c.self.inside.due.items 0 c.remove-key.result =
-    c.remove-key.ensures.value ∙ ap (λ (l : List ℕ). get_or l 0 c.remove-key.result) c.reserve.ensures.items in
     let r = replaced c.self.inside.requests c.remove-frame.new.self c.insert_reserved-key.new.self c.args.number c.remove-key.result
-    c.insert_reserved-key.result c.remove-frame.result c.self.inside.window c.self.inside.due.items c.self.inside.queue.items some at
-    c.remove-frame.ensures.value c.remove-frame.ensures.updates c.self.invariant c.insert_reserved-key.ensures.was_vacant
-    (subst (λ (f : Frame). Updates c.remove-frame.new.self c.insert_reserved-key.new.self c.insert_reserved-key.result (Some f)) c.plug.ensures
-    c.insert_reserved-key.ensures.updates) free c.held.ensures.len in
+    c.insert_reserved-key.result c.remove-frame.result _ c.self.inside.window c.self.inside.due.items _ c.self.inside.queue.items _ c.self.view_is
+    c.requires.vacant c.requires.some c.reserve.ensures.items c.remove-key.ensures.value c.remove-frame.ensures.value c.remove-frame.ensures.updates
+    c.self.invariant c.insert_reserved-key.ensures.was_vacant c.plug.ensures c.insert_reserved-key.ensures.updates c.held.ensures.len in
     let counted : c.count_out.new.window ≡ counted_out c.remove-frame.result c.self.inside.window = c.count_out.ensures in
     let moved : (c.take_ready.new.window, c.take_ready.new.due.items) ≡ moves_all
     (with_key c.args.number c.insert_reserved-key.result (counted_out c.remove-frame.result c.self.inside.window), remove c.self.inside.due.items 0) =
@@ -67,23 +38,10 @@ returns-clause-ok c =
 
 pub returns-clause-numbers : goal.returns-clause-numbers
 returns-clause-numbers c past frame others is s =
-    let free : windows.is_vacant c.self.inside.window c.args.number ≡ true =
-    sym (vacant_same c.self.inside.requests c.self.inside.window c.self.inside.due.items c.self.inside.queue.items c.args.number c.self.invariant.once)
-    ∙ ap (λ (t : TaskLists). is_vacant t c.args.number) c.self.view_is ∙ c.requires.vacant in
-    let some : 0 < length c.self.inside.due.items = omega (
-      arith,
-      c.remove-key.ensures.len,
-      c.reserve.ensures.len,
-      c.self.inside.due.ok.0,
-      ap (λ (l : List ℕ). length l) c.reserve.ensures.items,
-    ) in
-    let at : c.remove-key.result ≡ get_or c.self.inside.due.items 0 c.remove-key.result =
-    c.remove-key.ensures.value ∙ ap (λ (l : List ℕ). get_or l 0 c.remove-key.result) c.reserve.ensures.items in
     let r = replaced c.self.inside.requests c.remove-frame.new.self c.insert_reserved-key.new.self c.args.number c.remove-key.result
-    c.insert_reserved-key.result c.remove-frame.result c.self.inside.window c.self.inside.due.items c.self.inside.queue.items some at
-    c.remove-frame.ensures.value c.remove-frame.ensures.updates c.self.invariant c.insert_reserved-key.ensures.was_vacant
-    (subst (λ (f : Frame). Updates c.remove-frame.new.self c.insert_reserved-key.new.self c.insert_reserved-key.result (Some f)) c.plug.ensures
-    c.insert_reserved-key.ensures.updates) free c.held.ensures.len in
+    c.insert_reserved-key.result c.remove-frame.result _ c.self.inside.window c.self.inside.due.items _ c.self.inside.queue.items _ c.self.view_is
+    c.requires.vacant c.requires.some c.reserve.ensures.items c.remove-key.ensures.value c.remove-frame.ensures.value c.remove-frame.ensures.updates
+    c.self.invariant c.insert_reserved-key.ensures.was_vacant c.plug.ensures c.insert_reserved-key.ensures.updates c.held.ensures.len in
     let counted : c.count_out.new.window ≡ counted_out c.remove-frame.result c.self.inside.window = c.count_out.ensures in
     let first = ap (λ (t : TaskLists). t.due) (sym c.self.view_is) ∙ r.first in
     let head : c.remove-frame.result ≡ frame = same_head _ frame _ others c.args.self.now.due first is in
@@ -100,23 +58,10 @@ returns-clause-numbers c past frame others is s =
 
 pub take_ready-requires : goal.take_ready-requires
 take_ready-requires c =
-    let free : windows.is_vacant c.self.inside.window c.args.number ≡ true =
-    sym (vacant_same c.self.inside.requests c.self.inside.window c.self.inside.due.items c.self.inside.queue.items c.args.number c.self.invariant.once)
-    ∙ ap (λ (t : TaskLists). is_vacant t c.args.number) c.self.view_is ∙ c.requires.vacant in
-    let some : 0 < length c.self.inside.due.items = omega (
-      arith,
-      c.remove-key.ensures.len,
-      c.reserve.ensures.len,
-      c.self.inside.due.ok.0,
-      ap (λ (l : List ℕ). length l) c.reserve.ensures.items,
-    ) in
-    let at : c.remove-key.result ≡ get_or c.self.inside.due.items 0 c.remove-key.result =
-    c.remove-key.ensures.value ∙ ap (λ (l : List ℕ). get_or l 0 c.remove-key.result) c.reserve.ensures.items in
     let r = replaced c.self.inside.requests c.remove-frame.new.self c.insert_reserved-key.new.self c.args.number c.remove-key.result
-    c.insert_reserved-key.result c.remove-frame.result c.self.inside.window c.self.inside.due.items c.self.inside.queue.items some at
-    c.remove-frame.ensures.value c.remove-frame.ensures.updates c.self.invariant c.insert_reserved-key.ensures.was_vacant
-    (subst (λ (f : Frame). Updates c.remove-frame.new.self c.insert_reserved-key.new.self c.insert_reserved-key.result (Some f)) c.plug.ensures
-    c.insert_reserved-key.ensures.updates) free c.held.ensures.len in
+    c.insert_reserved-key.result c.remove-frame.result _ c.self.inside.window c.self.inside.due.items _ c.self.inside.queue.items _ c.self.view_is
+    c.requires.vacant c.requires.some c.reserve.ensures.items c.remove-key.ensures.value c.remove-frame.ensures.value c.remove-frame.ensures.updates
+    c.self.invariant c.insert_reserved-key.ensures.was_vacant c.plug.ensures c.insert_reserved-key.ensures.updates c.held.ensures.len in
     let counted : c.count_out.new.window ≡ counted_out c.remove-frame.result c.self.inside.window = c.count_out.ensures in
     omega (
       arith,

@@ -1,7 +1,7 @@
 use Rattle.std.proofs.Common.{length, ap, arith}
 use Rattle.iscsi_session.specs.State.{TaskLists}
 use Rattle.iscsi_session.specs.Tasks.{keys_in}
-use Rattle.iscsi_session.proofs.Sweeping.{line_length}
+use Rattle.iscsi_session.proofs.Voiding.{line_length}
 use Rattle.iscsi_session.proofs.tasks.Tasks.queued.Goals as goal
 
 pub returns : goal.returns

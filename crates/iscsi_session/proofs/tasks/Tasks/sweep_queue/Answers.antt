@@ -1,5 +1,5 @@
 use Rattle.std.proofs.Common.{◌≡◌, ℕ, suc, ◌+◌, ◌-◌, subst, arith}
-use Rattle.iscsi_session.proofs.Sweeping.{Swept, sweep_goes_on}
+use Rattle.iscsi_session.proofs.Voiding.{Swept, sweep_goes_on}
 use Rattle.iscsi_session.proofs.tasks.Tasks.sweep_queue.Goals as goal
 
 pub loop-preserved : goal.loop-preserved

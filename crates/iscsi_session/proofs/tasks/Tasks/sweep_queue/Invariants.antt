@@ -1,5 +1,5 @@
 use Rattle.std.proofs.Common.{◌-◌}
-use Rattle.iscsi_session.proofs.Sweeping.{Swept}
+use Rattle.iscsi_session.proofs.Voiding.{Swept}
 use Rattle.iscsi_session.proofs.tasks.Tasks.sweep_queue.Given as goal
 
 -- what is left goes through

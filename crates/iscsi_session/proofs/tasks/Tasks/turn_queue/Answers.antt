@@ -3,7 +3,7 @@ use Rattle.slab.specs.Slab.{get}
 use Rattle.iscsi_session.specs.State.{TaskLists, reaches_frame}
 use Rattle.iscsi_session.specs.Tasks.{times, keys_in, requests_at, lists_of}
 use Rattle.iscsi_session.proofs.Answered.{same_head}
-use Rattle.iscsi_session.proofs.Sweeping.{turned}
+use Rattle.iscsi_session.proofs.Voiding.{turned}
 use Rattle.iscsi_session.proofs.Lines.{found_at, requests_at-remove_first, requests_at-push}
 use Rattle.iscsi_session.proofs.tasks.Tasks.turn_queue.Goals as goal
 
