@@ -18,6 +18,11 @@ data_of-add blocks first k m =
     rw (whole, front, behind, take-add k m (drop first blocks), drop-drop k first blocks)
     (concat-append (take k (drop first blocks)) (take m (drop (first + k) blocks)))
 
+-- bytes do not differ from themselves
+pub first_difference-same : (bytes : List ℕ) → first_difference bytes bytes ≡ None
+first_difference-same [] = refl
+first_difference-same (byte ∷ bytes) = let later = first_difference-same bytes in grind (arith, later)
+
 -- where the fronts are the same
 pub first_difference-behind : (xs ys us vs : List ℕ) → length xs ≡ length ys → first_difference xs ys ≡ None
     → first_difference (xs ++ us) (ys ++ vs) ≡ option_map (λ at. at + length xs) (first_difference us vs)

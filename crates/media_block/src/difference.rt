@@ -9,6 +9,10 @@ pub(crate) fn difference(held: &[u8], bytes: &[u8]) -> Option<usize>
     ensures least { result ≡ first_difference held.now bytes.now }
     ensures within { IfSome result (λ at. at < length held.now) }
 {
+    // Most bytes are the same, and the library compares many of them at a time.
+    if held == bytes {
+        return None;
+    }
     for at in 0..held.len() {
         if held[at] != bytes[at] {
             return Some(at);

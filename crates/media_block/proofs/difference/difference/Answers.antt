@@ -1,0 +1,9 @@
+use Rattle.std.proofs.Common.{sym, ◌∙◌}
+use Rattle.std.proofs.lemmas.Slice.Eq.{bytes_eq-Decides}
+use Rattle.media_block.proofs.Differences.{first_difference-same}
+use Rattle.media_block.proofs.difference.difference.Goals as goal
+
+pub returns-then-eq-clause-least : goal.returns-then-eq-clause-least
+returns-then-eq-clause-least c =
+    let same = (bytes_eq-Decides c.args.held.now c.args.bytes.now).0 (sym c.eq.ensures ∙ c.if-eq.true) in
+    rw same (sym (first_difference-same c.args.bytes.now))
