@@ -6,7 +6,7 @@
 #include <string.h>
 
 enum { HEADER = 48, BLOCK = 512, MOST = 262144 /* bytes of data that a PDU has at most */ };
-enum { CONNECTIONS = 64, OPCODE = 0x3f, FINAL = 0x80, LOGGED_IN = 0x87 };
+enum { CONNECTIONS = 64, OPCODE = 0x3f, FINAL = 0x80, LOGGED_IN = 0x87, CDB = 32 /* its place in a header */ };
 enum { COMMAND = 0x01, LOGIN = 0x03, DATA_OUT = 0x05 };
 enum { NOP_IN = 0x20, RESPONSE = 0x21, ACCEPTED = 0x23, DATA_IN = 0x25, R2T = 0x31 };
 

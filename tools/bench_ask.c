@@ -18,7 +18,7 @@
    stalled=1  it does not read the answers, but sends as many commands as there may be in flight
    apart=1    a session sends nothing before all commands of the one before it are answered */
 
-#include "bench.h"
+#include "bench_load.h"
 #include <netinet/tcp.h>
 #include <pthread.h>
 #include <stdint.h>
@@ -27,37 +27,8 @@
 #include <time.h>
 #include <unistd.h>
 
-enum { ROOM = 1 << 20, FIRST_BURST = 65536, SEGMENT = 8192, WINDOW = 64, TAGS = 1024, ATTENTIONS = 8 };
+enum { FIRST_BURST = 65536, SEGMENT = 8192, TAGS = 1024, ATTENTIONS = 8 };
 enum { THREADS = 2, SAMPLES = 1 << 20, RESIDUAL = 0x06, HAS_STATUS = 0x01, IMMEDIATE = 0x40 };
-
-static const struct kind {
-    const char *name;
-    int writes, goes_on, is_tape, is_short;
-} kinds[] = {{"read", 0, 0, 0, 0},
-             {"write", 1, 0, 0, 0},
-             {"read-on", 0, 1, 0, 0},
-             {"write-on", 1, 1, 0, 0},
-             {"read-tape", 0, 0, 1, 0},
-             {"write-tape", 1, 0, 1, 0},
-             {"read-short", 0, 0, 1, 1}};
-
-static const struct kind *kind = kinds;
-static const char *target = "t1";
-static long port, lun, connections = 1, window = 1, count = 1L << 40, milliseconds = 3600000, length;
-static long held, stalled, apart;
-static const struct {
-    const char *name;
-    long *value, most;
-} options[] = {{"port", &port, 65535},
-               {"lun", &lun, 255},
-               {"connections", &connections, CONNECTIONS},
-               {"window", &window, WINDOW},
-               {"count", &count, 1L << 40},
-               {"milliseconds", &milliseconds, 3600000},
-               {"length", &length, ROOM},
-               {"held", &held, 1},
-               {"stalled", &stalled, 1},
-               {"apart", &apart, 1}};
 
 struct session {
     int fd;
@@ -152,7 +123,7 @@ static void login(struct session *session, int port_number)
 /* Sends a command without data. Whether it is GOOD. */
 static int is_good(struct session *session, unsigned char operation)
 {
-    unsigned char command[HEADER] = {COMMAND, 0x81, [9] = (unsigned char)lun, [32] = operation};
+    unsigned char command[HEADER] = {COMMAND, 0x81, [9] = (unsigned char)lun, [CDB] = operation};
     exchange(session, command, HEADER);
     session->next++;
     return session->header[0] == RESPONSE && session->header[2] == 0 && session->header[3] == 0;
@@ -169,17 +140,17 @@ static void begin(struct session *session, int port_number)
         fail("connect");
     setsockopt(session->fd, IPPROTO_TCP, TCP_NODELAY, &on, sizeof on);
     login(session, port_number);
-    while (!is_good(session, 0x00)) /* until its unit attentions are told */
+    while (!is_good(session, TEST_UNIT_READY)) /* until its unit attentions are told */
         if (++told > ATTENTIONS)
             refused("the unit is not ready", session->header);
-    if (kind->is_tape && !is_good(session, 0x01))
+    if (kind->is_tape && !is_good(session, REWIND))
         refused("the tape is not rewound", session->header);
 }
 
 /* The bytes of a WRITE that come with its command. */
 static size_t immediate(const struct session *session)
 {
-    return kind->writes ? smaller((size_t)length, smaller(FIRST_BURST, session->segment)) : 0;
+    return has_data_out() ? smaller((size_t)length, smaller(FIRST_BURST, session->segment)) : 0;
 }
 
 /* The header of the next command. */
@@ -187,22 +158,13 @@ static void command_of(const struct session *session, unsigned char *command)
 {
     memset(command, 0, HEADER);
     command[0] = COMMAND;
-    command[1] = length == 0 ? 0x81 : kind->writes ? 0xa1 : 0xc1;
+    command[1] = has_data_out() ? 0xa1 : has_data_in() ? 0xc1 : 0x81;
     command[9] = (unsigned char)lun;
     put_number(command, 4, immediate(session));
     put_number(command, 16, session->next);
     put_number(command, 20, (size_t)length);
     put_number(command, 24, session->next);
-    if (length > 0 && kind->is_tape) {
-        put_number(command, 33, (size_t)length); /* of it the last three bytes, behind byte 1 of the CDB */
-        command[32] = kind->writes ? 0x0a : 0x08;
-        command[33] = kind->is_short ? 0x02 : 0;
-    } else if (length > 0) {
-        command[32] = kind->writes ? 0x2a : 0x28;
-        put_number(command, 34, kind->goes_on ? (size_t)(session->sent * length / BLOCK) : 0);
-        command[39] = (unsigned char)(length / BLOCK >> 8);
-        command[40] = (unsigned char)(length / BLOCK);
-    }
+    put_cdb(command + CDB, session->sent);
 }
 
 /* Sends commands until there are as many in flight as there may be. */
@@ -362,28 +324,6 @@ static const char *told(const struct worker *workers, double seconds)
     snprintf(line, sizeof line, "%ld %.6f %.2f %.2f", answered, seconds, samples[sampled / 2] / 1e3,
              samples[sampled * 99 / 100] / 1e3);
     return line;
-}
-
-/* Notes what a word says. Whether it says anything. */
-static int is_taken(const char *word)
-{
-    const char *value = strchr(word, '=');
-    size_t name = value != NULL ? (size_t)(value++ - word) : 0;
-    if (name == 6 && strncmp(word, "target", name) == 0) {
-        target = value;
-        return 1;
-    }
-    for (size_t k = 0; k < sizeof kinds / sizeof *kinds && name == 4 && strncmp(word, "kind", name) == 0; k++)
-        if (strcmp(value, kinds[k].name) == 0) {
-            kind = kinds + k;
-            return 1;
-        }
-    for (size_t k = 0; k < sizeof options / sizeof *options; k++)
-        if (name == strlen(options[k].name) && strncmp(word, options[k].name, name) == 0) {
-            *options[k].value = atol(value);
-            return *options[k].value >= 0 && *options[k].value <= options[k].most;
-        }
-    return 0;
 }
 
 int main(int words, char **word)
