@@ -10,12 +10,10 @@
    without data, and an R2T asks for all that does not come with a WRITE. */
 
 #include "bench.h"
-#include <netinet/tcp.h>
 #include <sys/epoll.h>
-#include <sys/socket.h>
 #include <unistd.h>
 
-enum { READS = 0x40, WRITES = 0x20, TAGS = 64, BACKLOG = 64 };
+enum { READS = 0x40, WRITES = 0x20, TAGS = 64 };
 
 struct client {
     int fd;
@@ -204,20 +202,6 @@ static void serve_many(int listener)
             epoll_ctl(poll, EPOLL_CTL_ADD, client->fd, &one);
         }
     }
-}
-
-/* A socket that listens, whose port is printed. */
-static int listening(void)
-{
-    struct sockaddr_in address = {.sin_family = AF_INET, .sin_addr.s_addr = htonl(INADDR_LOOPBACK)};
-    socklen_t size = sizeof address;
-    int listener = socket(AF_INET, SOCK_STREAM, 0);
-    if (bind(listener, (struct sockaddr *)&address, sizeof address) != 0 || listen(listener, BACKLOG) != 0)
-        fail("listen");
-    getsockname(listener, (struct sockaddr *)&address, &size);
-    printf("listening on 127.0.0.1:%d\n", ntohs(address.sin_port));
-    fflush(stdout);
-    return listener;
 }
 
 int main(int count, char **words)

@@ -7,24 +7,11 @@
    are over. Then it prints how many commands were answered, the seconds that these took, and the median and the 99th
    percentile of the microseconds from the sending of a command to its answer.
 
-   kind=read, kind=write              READs or WRITEs of `length` (0) bytes at the front of a disk; TEST UNIT READYs
-                                      where they are 0
-   kind=read-on, kind=write-on        one behind the other, from the front of a disk on
-   kind=read-tape, kind=write-tape    records of so many bytes, from the front of a tape on
-   kind=read-short                    records of a tape, each of which may be shorter than what is asked for (SILI)
-
-   held=1     once it is logged in it prints "logged in" and waits for a line of its input, and once it has printed
-              what was answered it waits for the next, so that its sessions stay
-   stalled=1  it does not read the answers, but sends as many commands as there may be in flight
-   apart=1    a session sends nothing before all commands of the one before it are answered */
+   What else the words may be stands in tools/bench_load.h. */
 
 #include "bench_load.h"
-#include <netinet/tcp.h>
 #include <pthread.h>
-#include <stdint.h>
 #include <sys/epoll.h>
-#include <sys/socket.h>
-#include <time.h>
 #include <unistd.h>
 
 enum { FIRST_BURST = 65536, SEGMENT = 8192, TAGS = 1024, ATTENTIONS = 8 };
@@ -35,6 +22,7 @@ struct session {
     unsigned next; /* the number and the tag of the next command */
     long sent, answered;
     size_t segment;    /* how much data a PDU to the target may have */
+    long asks;         /* MaxOutstandingR2T */
     size_t held, rest; /* how much of a header was read, and how much of its data is still to come */
     unsigned char header[HEADER];
     uint64_t began[TAGS]; /* when a command was sent, by its tag */
@@ -59,7 +47,7 @@ static void refused(const char *what, const unsigned char *header)
 static void put(int fd, const unsigned char *bytes, size_t size)
 {
     while (size > 0) {
-        ssize_t n = send(fd, bytes, size, MSG_NOSIGNAL);
+        ssize_t n = send(fd, bytes, bytewise ? 1 : size, MSG_NOSIGNAL);
         if (n <= 0)
             fail("send");
         bytes += n;
@@ -78,13 +66,6 @@ static void get(int fd, unsigned char *bytes, size_t size)
     }
 }
 
-static uint64_t nanoseconds(void)
-{
-    struct timespec now;
-    clock_gettime(CLOCK_MONOTONIC, &now);
-    return (uint64_t)now.tv_sec * 1000000000 + (uint64_t)now.tv_nsec;
-}
-
 /* Sends a PDU that has the next number, and reads the one that answers it: its header, and its data as a text. */
 static const char *exchange(struct session *session, unsigned char *pdu, size_t size)
 {
@@ -100,13 +81,25 @@ static const char *exchange(struct session *session, unsigned char *pdu, size_t 
     return (const char *)text;
 }
 
-/* Logs in, by the initiator port of this number, and notes how much data the target takes in a PDU. */
+/* The number that a text has for a key, or another where it has none. */
+static long value_of(const char *text, size_t size, const char *name, long other)
+{
+    for (const char *key = text; key < text + size; key += strlen(key) + 1)
+        if (strncmp(key, name, strlen(name)) == 0)
+            return atol(key + strlen(name));
+    return other;
+}
+
+/* Logs in, by the initiator port of this number, and notes what is in force. */
 static void login(struct session *session, int port_number)
 {
-    static const char limit[] = "MaxRecvDataSegmentLength=";
+    static const char limit[] = "MaxRecvDataSegmentLength=", most_asks[] = "MaxOutstandingR2T=";
     unsigned char pdu[HEADER + 512] = {IMMEDIATE | LOGIN, LOGGED_IN, [8] = 0x80, [21] = 1};
-    int size = 1 + snprintf((char *)pdu + HEADER, 512, "InitiatorName=a%cTargetName=%s%cSessionType=Normal%c%s%d",
-                            0, target, 0, 0, limit, MOST);
+    char *data = (char *)pdu + HEADER;
+    int size = 1 + snprintf(data, 512, "InitiatorName=a%cTargetName=%s%cSessionType=Normal%c%s%d", 0, target, 0, 0,
+                            limit, MOST);
+    if (asks > 0 && size < 512)
+        size += 1 + snprintf(data + size, 512 - (size_t)size, "%s%ld", most_asks, asks);
     if (size > 512)
         fail("the name of the target is too long");
     put_number(pdu, 4, (size_t)size);
@@ -114,10 +107,8 @@ static void login(struct session *session, int port_number)
     const char *text = exchange(session, pdu, HEADER + behind(pdu));
     if (opcode(session->header) != ACCEPTED || session->header[1] != LOGGED_IN || session->header[36] != 0)
         refused("a login is refused", session->header);
-    session->segment = SEGMENT;
-    for (const char *key = text; key < text + behind(session->header); key += strlen(key) + 1)
-        if (strncmp(key, limit, strlen(limit)) == 0)
-            session->segment = smaller((size_t)atol(key + strlen(limit)), MOST);
+    session->segment = smaller((size_t)value_of(text, behind(session->header), limit, SEGMENT), MOST);
+    session->asks = value_of(text, behind(session->header), most_asks, 1);
 }
 
 /* Sends a command without data. Whether it is GOOD. */
@@ -132,13 +123,8 @@ static int is_good(struct session *session, unsigned char operation)
 /* Begins a session whose unit is ready. A tape is rewound. */
 static void begin(struct session *session, int port_number)
 {
-    struct sockaddr_in address = {.sin_family = AF_INET, .sin_addr.s_addr = htonl(INADDR_LOOPBACK),
-                                  .sin_port = htons((unsigned short)port)};
-    int on = 1, told = 0;
-    session->fd = socket(AF_INET, SOCK_STREAM, 0);
-    if (connect(session->fd, (struct sockaddr *)&address, sizeof address) != 0)
-        fail("connect");
-    setsockopt(session->fd, IPPROTO_TCP, TCP_NODELAY, &on, sizeof on);
+    int told = 0;
+    session->fd = connected((unsigned short)port);
     login(session, port_number);
     while (!is_good(session, TEST_UNIT_READY)) /* until its unit attentions are told */
         if (++told > ATTENTIONS)
@@ -203,6 +189,14 @@ static void send_data(struct worker *worker, struct session *session)
     }
 }
 
+/* Notes that a command was answered which was sent at this time. */
+static void note(struct worker *worker, uint64_t began, uint64_t now)
+{
+    worker->answered++;
+    if (worker->sampled < SAMPLES)
+        worker->samples[worker->sampled++] = (uint32_t)(now - began);
+}
+
 /* Takes an answer that is there as a whole. */
 static void answer(struct worker *worker, struct session *session, uint64_t now)
 {
@@ -217,10 +211,8 @@ static void answer(struct worker *worker, struct session *session, uint64_t now)
     if (header[1] & RESIDUAL && !kind->is_short)
         refused("a command has a residual", header);
     session->answered++;
-    worker->answered++;
     worker->in_flight--;
-    if (worker->sampled < SAMPLES)
-        worker->samples[worker->sampled++] = (uint32_t)(now - session->began[number(header, 16) % TAGS]);
+    note(worker, session->began[number(header, 16) % TAGS], now);
 }
 
 /* Takes what was read, and sends as many commands as were answered. */
@@ -247,10 +239,26 @@ static void take(struct worker *worker, struct session *session, size_t size)
     send_commands(worker, session);
 }
 
+/* Connects and resets, over and over. */
+static void pour(struct worker *worker)
+{
+    struct linger none = {.l_onoff = 1};
+    for (uint64_t began; (began = nanoseconds()) < worker->until;) {
+        int fd = connected((unsigned short)port);
+        setsockopt(fd, SOL_SOCKET, SO_LINGER, &none, sizeof none);
+        close(fd);
+        note(worker, began, nanoseconds());
+    }
+}
+
 /* Keeps commands in flight on these sessions. Where there is one, it waits for its bytes and nothing else. */
 static void *work(void *given)
 {
     struct worker *worker = given;
+    if (flood) {
+        pour(worker);
+        return NULL;
+    }
     struct epoll_event events[CONNECTIONS];
     int poll = epoll_create1(0), ready = 1;
     events[0].data.ptr = worker->sessions;
@@ -326,30 +334,44 @@ static const char *told(const struct worker *workers, double seconds)
     return line;
 }
 
-int main(int words, char **word)
+/* What the workers read into and send from. */
+static void furnish(struct worker *workers)
 {
-    int is_clear = words > 1;
-    for (int k = 1; k < words; k++)
-        is_clear &= is_taken(word[k]);
-    if (!is_clear || port == 0 || connections == 0 || length % BLOCK != 0 || (kind->writes && length > MOST)) {
-        fprintf(stderr, "bench_ask port=N [NAME=VALUE ..], by tools/bench_ask.c\n");
-        return 2;
-    }
-    struct session *sessions = room((size_t)connections * sizeof *sessions);
-    struct worker workers[THREADS] = {0};
     for (int k = 0; k < THREADS; k++) {
         workers[k].in = room(ROOM);
         workers[k].out = room(WINDOW * (HEADER + FIRST_BURST) + MOST);
         workers[k].samples = room(SAMPLES * sizeof *workers[k].samples);
     }
-    for (int k = 0; k < connections; k++)
-        begin(sessions + k, k);
-    if (held)
-        wait_behind("logged in");
+}
+
+/* Lets the sessions work, all at once or one after the other. What is told of it. */
+static const char *measured(struct worker *workers, struct session *sessions)
+{
     uint64_t began = nanoseconds();
     for (long k = 0; k < (apart ? connections : 1); k++)
         run(workers, sessions + k, apart ? 1 : connections);
-    const char *line = told(workers, (double)(nanoseconds() - began) / 1e9);
+    return told(workers, (double)(nanoseconds() - began) / 1e9);
+}
+
+int main(int words, char **word)
+{
+    int is_clear = words > 1;
+    for (int k = 1; k < words; k++)
+        is_clear &= is_taken(word[k]);
+    if (!is_clear || port == 0 || connections == 0 || length % BLOCK != 0) {
+        fprintf(stderr, "bench_ask port=N [NAME=VALUE ..], by tools/bench_ask.c\n");
+        return 2;
+    }
+    struct session *sessions = room((size_t)connections * sizeof *sessions);
+    struct worker workers[THREADS] = {0};
+    char in_force[64];
+    furnish(workers);
+    for (int k = 0; k < connections && !flood; k++)
+        begin(sessions + k, k);
+    snprintf(in_force, sizeof in_force, "logged in %ld", sessions->asks);
+    if (held)
+        wait_behind(in_force);
+    const char *line = measured(workers, sessions);
     if (held)
         wait_behind(line);
     else
