@@ -70,37 +70,40 @@ def settle(pid):
             return
 
 
-def disk(keeping):
-    """The units of a configuration with a disk that is kept so."""
-    return f'[[target]]\nname = "t1"\nunit = [{{ lun = 0, kind = "disk", serial = "D0", {keeping} }}]\n'
+def units(*tables):
+    """The units of a configuration, each a kind and how it is kept, with LUNs from 0 on."""
+    listed = ", ".join(f'{{ lun = {lun}, serial = "S{lun}", kind = "{kind}", {keeping} }}'
+                       for lun, (kind, keeping) in enumerate(tables))
+    return f'[[target]]\nname = "t1"\nunit = [{listed}]\n'
 
 
-def filled(folder, name):
+def filled(folder, name, size=SIZE):
     """A disk's file, which has all its blocks."""
     path = Path(folder) / name
-    path.write_bytes(bytes(SIZE))
+    path.write_bytes(bytes(size))
     return path
 
 
 @contextmanager
-def of_targetd(program, units):
+def of_targetd(program, those, **settings):
     """targetd with these units."""
-    with targetd(program, units) as server:
+    with targetd(program, those, **settings) as server:
         yield Served(server.process.pid, server.port)
 
 
 @contextmanager
-def of_tgt(file):
-    """tgt with a disk in this file."""
-    with tgt.tgt(file) as (process, url):
+def of_tgt(serving):
+    """tgt with a unit that is served so."""
+    with serving as (process, url):
         yield Served(process.pid, urlsplit(url).port, tgt.NAME, 1)
 
 
 class Held:
-    """Sessions that are logged in and wait."""
+    """Sessions that are logged in and wait. `asks`: how many R2Ts each may have outstanding for a command."""
 
     def __init__(self, process):
         self.process = process
+        self.asks = int(self.line().split()[-1])
 
     def line(self):
         """What they say next."""
@@ -109,10 +112,14 @@ class Held:
             raise OSError("sessions that are held are not served")
         return line
 
-    def go(self):
-        """Lets them work, and gives how many of their commands were answered, in how many seconds, and how fast."""
+    def begin(self):
+        """Lets them work."""
         self.process.stdin.write("go\n")
         self.process.stdin.flush()
+
+    def go(self):
+        """Lets them work, and gives how many of their commands were answered, in how many seconds, and how fast."""
+        self.begin()
         return [float(word) for word in self.line().split()]
 
 
@@ -120,16 +127,24 @@ class Ends:
     """The programs of both ends, built in a folder."""
 
     def __init__(self, folder):
-        self.answering, self.asking = Path(folder) / "bench", Path(folder) / "bench_ask"
-        for program in (self.answering, self.asking):
-            source = TOP / f"tools/{program.name}.c"
-            subprocess.run(["gcc", "-O2", "-pthread", "-o", program, source], check=True)
+        self.answering, self.asking, self.relaying = (Path(folder) / name for name in ("bench", "bench_ask", "bench_relay"))
+        self.counting = Path(folder) / "bench_memory.so"
+        for program in (self.answering, self.asking, self.relaying, self.counting):
+            source = TOP / f"tools/{program.stem}.c"
+            shared = ["-shared", "-fPIC"] if program == self.counting else []
+            subprocess.run(["gcc", "-O2", "-pthread", *shared, "-o", program, source], check=True)
 
     @contextmanager
     def plain(self, *words):
         """The plain C program with these words."""
         with listening(self.answering, *words) as server:
             yield Served(server.process.pid, server.port)
+
+    @contextmanager
+    def far(self, served, microseconds):
+        """A server behind a way on which each direction takes so long."""
+        with listening(self.relaying, str(served.port), str(microseconds)) as relay:
+            yield served._replace(port=relay.port)
 
     def words(self, served, load):
         """The words by which the initiator asks a server so."""
@@ -146,9 +161,7 @@ class Ends:
         words = self.words(served, {"held": 1, **load})
         with subprocess.Popen(words, stdin=subprocess.PIPE, stdout=subprocess.PIPE, text=True) as process:
             try:
-                held = Held(process)
-                held.line()
-                yield held
+                yield Held(process)
             finally:
                 process.kill()
 
@@ -228,7 +241,7 @@ class Bench(NamedTuple):
                 if with_files:
                     kept[f"{name}, file"] = f'file = "{filled(folder, name)}"'
                 for which, keeping in kept.items():
-                    found[which] = stack.enter_context(of_targetd(program, disk(keeping)))
+                    found[which] = stack.enter_context(of_targetd(program, units(("disk", keeping))))
             if self.has_tgt:
-                found["tgt"] = stack.enter_context(of_tgt(filled(folder, "tgt")))
+                found["tgt"] = stack.enter_context(of_tgt(tgt.tgt(filled(folder, "tgt"))))
             yield found

@@ -4,10 +4,10 @@ import re
 from functools import partial
 
 import logins
-from bench_ends import BLOCK, SIZE, disk, of_targetd, processor_seconds, ran, resident, settle
-from bench_rows import FIGURES, figures, head, ratios, row, spread
+from bench_ends import BLOCK, SIZE, processor_seconds, ran, resident, settle
+from bench_rows import FIGURES, OURS, figures, head, ratios, row, spread
+from bench_tapes import opening, reading, spacing, tape
 
-OURS = "targetd"  # the server for which there are aims
 # What a load is called, its kind, its data in bytes, and how many are in flight.
 LOADS = [("TEST UNIT READY", "read", 0, (1, 32)),
          ("READ of 4 KiB", "read", 4096, (1, 32)),
@@ -27,19 +27,6 @@ NEIGHBOURS = {ALONE: (None, None),
 # How many sessions are idle, how often another one is answered before memory is looked at, and the aim in KiB.
 IDLE, BUSY, IDLE_AIM = 63, 200, 12
 ORDERS = {"one after the other": 1, "all at the same time": 0}
-RECORD, RECORDS = 65536, 1000
-UNITS = """
-[[target]]
-name = "t1"
-unit = [{{ lun = 0, kind = "disk", serial = "D0", blocks = {blocks} }},
-        {{ lun = 1, kind = "tape", serial = "T1", capacity = {capacity}, early = {capacity} }}]
-"""
-# What a pass is called, its kind, its unit, how much each command asks for, beside what it stands, and the aim.
-PASSES = [("WRITE of blocks", "write-on", 0, RECORD, None, None),
-          ("WRITE of records", "write-tape", 1, RECORD, "WRITE of blocks", 1.2),
-          ("READ of blocks", "read-on", 0, RECORD, None, None),
-          ("READ of records", "read-tape", 1, RECORD, "READ of blocks", 1.2),
-          ("READ of records, 1 MiB asked for", "read-short", 1, 1 << 20, "READ of records", None)]
 # How many texts a login has, how many such logins there are in a round, and the aim: times the cost of one text.
 LOGINS = {1: (40, None), 8: (5, 10)}
 SESSIONS = 64
@@ -147,31 +134,6 @@ def memory(bench):
                 bench.aims.judged(f"An idle session, {what}", more, IDLE_AIM, "KiB") if name == OURS else "")
 
 
-def passes_of(bench, name, program):
-    """Prints what was seen of a disk and of a tape."""
-    count = bench.pace.of(RECORDS)
-    units = UNITS.format(blocks=count * RECORD // BLOCK, capacity=(RECORD + 8) * count)
-    with of_targetd(program, units) as served:
-        loads = {what: (served._replace(lun=lun), {"kind": kind, "length": length, "count": count})
-                 for what, kind, lun, length, _, _ in PASSES}
-        looks = {what: partial(bench.ends.seen, unit, **load) for what, (unit, load) in loads.items()}
-        bench.in_turns(looks, 1)  # so that all its memory was used before
-        found = bench.seen_in_turns(looks)
-        for what, _, _, _, other, most in PASSES:
-            unit, load = loads[what]
-            times = ratios(found[what].cost, found[other].cost) if other else []
-            row(what, name, *figures(found[what], bench.ends.calls(unit, **load)),
-                f"{spread(times)} times {other}" if other else "",
-                bench.aims.judged(f"{what}, {RECORD >> 10} KiB", times, most, f"times {other}") if name == OURS else "")
-
-
-def tape(bench):
-    """Blocks of a disk and records of a tape."""
-    head(f"{bench.pace.of(RECORDS)} of {RECORD >> 10} KiB, one in flight", "Server", *FIGURES, "Cost", "Aim")
-    for name, program in bench.programs.items():
-        passes_of(bench, name, program)
-
-
 def login_cost(served, texts, count):
     """The processor milliseconds of each of so many logins of so many texts."""
     before = processor_seconds(served.pid)
@@ -242,4 +204,4 @@ def initiators(bench):
 
 
 PARTS = {"requests": requests, "connections": connections, "neighbours": neighbours, "memory": memory, "tape": tape,
-         "logins": logging_in, "tgt": initiators}
+         "spacing": spacing, "opening": opening, "reading": reading, "logins": logging_in, "tgt": initiators}

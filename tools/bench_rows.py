@@ -5,6 +5,7 @@ import time
 from pathlib import Path
 from statistics import median, quantiles
 
+OURS = "targetd"  # the server for which there are aims
 # The columns of what is seen of a server (Seen of bench_ends), and of its calls of the system.
 FIGURES = ("Each second", "Cost, us", "Calls", "Median latency, us", "99 % latency, us")
 

@@ -42,11 +42,11 @@ def free_port():
 
 
 @contextmanager
-def targetd(program, units):
+def targetd(program, units, **settings):
     """targetd with the targets of a configuration. It listens on the address that it tells in a discovery session,
     so the port is chosen before it starts."""
     with tempfile.TemporaryDirectory(prefix="targetd-") as folder:
         config = Path(folder) / "config.toml"
         config.write_text(f'listen = "127.0.0.1:{free_port()}"\n{units}', encoding="ascii")
-        with listening(program, "serve", "--config", config) as server:
+        with listening(program, "serve", "--config", config, **settings) as server:
             yield server
