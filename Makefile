@@ -48,10 +48,13 @@ linux:
 	@./tools/linux
 
 # What commands cost and how fast they are answered, beside tgt and plain C programs, and what of that is aimed at.
-# Installs the Debian packages libiscsi-bin, qemu-utils, qemu-block-extra and tgt where missing. Takes about five minutes.
+# Installs the Debian packages libiscsi-bin, qemu-utils, qemu-block-extra and tgt where missing. Takes about ten minutes.
+# PARTS names those parts that are to be measured alone, as in PARTS=fairness (tools/bench says which there are).
+PARTS =
+
 bench:
 	@test -x crates/targetd/out/targetd || ./tools/build
-	@./tools/bench
+	@./tools/bench $(PARTS)
 
 clean:
 	@echo "== removing what was built"

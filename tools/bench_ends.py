@@ -127,8 +127,8 @@ class Ends:
     """The programs of both ends, built in a folder."""
 
     def __init__(self, folder):
-        self.answering, self.asking, self.relaying = (Path(folder) / name for name in ("bench", "bench_ask", "bench_relay"))
-        self.counting = Path(folder) / "bench_memory.so"
+        names = ("bench", "bench_ask", "bench_relay", "bench_memory.so")
+        self.answering, self.asking, self.relaying, self.counting = (Path(folder) / name for name in names)
         for program in (self.answering, self.asking, self.relaying, self.counting):
             source = TOP / f"tools/{program.stem}.c"
             shared = ["-shared", "-fPIC"] if program == self.counting else []

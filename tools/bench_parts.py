@@ -4,6 +4,7 @@ import re
 from functools import partial
 
 import logins
+from bench_busy import fairness
 from bench_ends import BLOCK, SIZE, processor_seconds, ran, resident, settle
 from bench_rows import FIGURES, OURS, figures, head, ratios, row, spread
 from bench_tapes import opening, reading, spacing, tape
@@ -203,5 +204,6 @@ def initiators(bench):
                         spread(ratios(rates[name], rates["tgt"])) if name != "tgt" and "tgt" in rates else "")
 
 
-PARTS = {"requests": requests, "connections": connections, "neighbours": neighbours, "memory": memory, "tape": tape,
-         "spacing": spacing, "opening": opening, "reading": reading, "logins": logging_in, "tgt": initiators}
+PARTS = {"requests": requests, "connections": connections, "neighbours": neighbours, "fairness": fairness,
+         "memory": memory, "tape": tape, "spacing": spacing, "opening": opening, "reading": reading,
+         "logins": logging_in, "tgt": initiators}

@@ -1,5 +1,5 @@
-"""The parts of tools/bench that measure tapes: records beside blocks, moves over many records, the opening of a file, and
-the memory that a READ takes."""
+"""The parts of tools/bench that measure tapes: records beside blocks, moves over many records, the opening of a file,
+and the memory that a READ takes."""
 
 import os
 import struct
@@ -121,8 +121,9 @@ def tell_moves(bench, name, found, ours):
         beside = f"LOCATE over {FEW}" if name != "tgt" else OURS
         other = found["LOCATE", FEW] if name != "tgt" else ours[what, over]
         title, times = f"{what} over {over:,}", ratios(seen.cost, other[0].cost)
+        most = MOVE_AIM if name == OURS and over != FEW else None
         row(title, name, *figures(seen, calls), f"{spread(times)} times {beside}",
-            bench.aims.judged(title, times, None if over == FEW else MOVE_AIM, f"times {beside}") if name == OURS else "")
+            bench.aims.judged(title, times, most, f"times {beside}"))
 
 
 def spacing(bench):
