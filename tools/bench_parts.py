@@ -6,6 +6,7 @@ from functools import partial
 import logins
 from bench_busy import fairness
 from bench_ends import BLOCK, SIZE, processor_seconds, ran, resident, settle
+from bench_far import far
 from bench_rows import FIGURES, OURS, figures, head, ratios, row, spread
 from bench_tapes import opening, reading, spacing, tape
 
@@ -205,5 +206,5 @@ def initiators(bench):
 
 
 PARTS = {"requests": requests, "connections": connections, "neighbours": neighbours, "fairness": fairness,
-         "memory": memory, "tape": tape, "spacing": spacing, "opening": opening, "reading": reading,
+         "memory": memory, "tape": tape, "spacing": spacing, "opening": opening, "reading": reading, "far": far,
          "logins": logging_in, "tgt": initiators}
