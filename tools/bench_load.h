@@ -2,6 +2,7 @@
 
    kind=read, kind=write              READs or WRITEs of `length` (0) bytes at the front of a disk; TEST UNIT READYs
                                       where they are 0
+   kind=verify                        VERIFYs of so many bytes that are zeros, which the disk holds there too
    kind=read-on, kind=write-on        one behind the other, from the front of a disk on
    kind=read-tape, kind=write-tape    records of so many bytes, from the front of a tape on
    kind=read-short                    records of a tape, each of which may be shorter than what is asked for (SILI)
@@ -20,8 +21,8 @@
 
 enum { ROOM = 1 << 20, WINDOW = 64 };
 enum { TEST_UNIT_READY = 0x00, REWIND = 0x01, READ_6 = 0x08, WRITE_6 = 0x0a, SPACE = 0x11, READ_10 = 0x28 };
-enum { WRITE_10 = 0x2a, LOCATE = 0x2b, WRITE_SAME = 0x41 };
-enum { SILI = 0x02, SAME = 32768 /* blocks of a WRITE SAME: 16 MiB */ };
+enum { WRITE_10 = 0x2a, LOCATE = 0x2b, VERIFY_10 = 0x2f, WRITE_SAME = 0x41 };
+enum { SILI = 0x02, BYTCHK = 0x02 /* with the data that comes */, SAME = 32768 /* blocks of a WRITE SAME: 16 MiB */ };
 
 static const struct kind {
     const char *name;
@@ -29,6 +30,7 @@ static const struct kind {
     int writes, goes_on, is_tape, is_short;
 } kinds[] = {{"read", READ_10, 0, 0, 0, 0, 0},
              {"write", WRITE_10, 0, 1, 0, 0, 0},
+             {"verify", VERIFY_10, BYTCHK, 1, 0, 0, 0},
              {"read-on", READ_10, 0, 0, 1, 0, 0},
              {"write-on", WRITE_10, 0, 1, 1, 0, 0},
              {"read-tape", READ_6, 0, 0, 0, 1, 0},
@@ -118,6 +120,7 @@ static void put_cdb(unsigned char *cdb, long sent)
         cdb[1] = kind->flags;
         return;
     }
+    cdb[1] = kind->flags;
     put_number(cdb, 2, kind->goes_on ? (size_t)(sent * blocks) : 0);
     cdb[7] = (unsigned char)(blocks >> 8);
     cdb[8] = (unsigned char)blocks;

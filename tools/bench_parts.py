@@ -14,12 +14,15 @@ from bench_tapes import opening, reading, spacing, tape
 LOADS = [("TEST UNIT READY", "read", 0, (1, 32)),
          ("READ of 4 KiB", "read", 4096, (1, 32)),
          ("READ of 256 KiB", "read", 262144, (1, 8, 32)),
+         ("VERIFY of 256 KiB", "verify", 262144, (1,)),  # before any WRITE, since it compares with zeros
          ("WRITE of 4 KiB", "write", 4096, (1, 32)),
          ("WRITE of 256 KiB", "write", 262144, (1, 8, 32))]
 # Aims by the load and how many are in flight: microseconds and calls for each, and times the limit.
 AIMS = {("READ of 4 KiB", 1): (None, 3, None),
         ("READ of 4 KiB", 32): (1.5, 0.3, None),
         ("READ of 256 KiB", 8): (None, None, 1.3)}
+# Beside what a load stands, with one in flight, and the aim: times its cost.
+BESIDE = {"VERIFY of 256 KiB": ("READ of 256 KiB", 1.5)}
 CONNECTIONS = (1, 4, 16, 64)
 ALONE = "alone"
 # What neighbours there are, and the aim: times the cost alone. Those who are stalled ask for more than a system takes.
@@ -38,7 +41,7 @@ PERF_SECONDS, TURNS = 1, 3
 
 
 def requests_of(bench, what, window, servers, **load):
-    """Prints what was seen of each server under a load."""
+    """Prints what was seen of each server under a load, and gives what each command cost it."""
     found = bench.seen(servers, window=window, **load)
     for name, seen in found.items():
         calls = bench.calls(servers[name], window=window, **load)
@@ -48,6 +51,17 @@ def requests_of(bench, what, window, servers, **load):
                   for values, most, unit in aims if name == OURS]
         row(what, str(window), name, *figures(seen, calls), "" if name == "limit" else spread(times),
             "; ".join(filter(None, judged)))
+    return {name: seen.cost for name, seen in found.items()}
+
+
+def beside_others(bench, costs):
+    """Prints what loads cost beside others, by what the commands of each cost each server with one in flight."""
+    head("One in flight", "Server", "Cost", "Aim")
+    for what, (other, most) in BESIDE.items():
+        for name, cost in costs[what, 1].items():
+            times = ratios(cost, costs[other, 1][name])
+            row(what, name, f"{spread(times)} times {other}",
+                bench.aims.judged(f"{what}, 1 in flight", times, most, f"times {other}") if name == OURS else "")
 
 
 def requests(bench):
@@ -55,10 +69,12 @@ def requests(bench):
     with bench.targets(with_files=True) as targets, bench.ends.plain("limit", "1", str(SIZE)) as limit, \
             bench.ends.plain("answer", "1") as plain:
         head("One connection", "In flight", "Server", *FIGURES, "Times the limit", "Aim")
+        costs = {}
         for what, kind, length, windows in LOADS:
             for window in windows:
                 servers = {**targets, "limit": limit, "plain C": plain}
-                requests_of(bench, what, window, servers, kind=kind, length=length)
+                costs[what, window] = requests_of(bench, what, window, servers, kind=kind, length=length)
+        beside_others(bench, costs)
 
 
 def connections(bench):
