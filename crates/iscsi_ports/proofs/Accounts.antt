@@ -59,6 +59,26 @@ accounted_reading calls places place c room n bytes was lt none count rest = λ 
       | inr other ↦ read_elsewhere calls places place c d room bytes (was d in_range) other
     ]
 
+closed_here : (calls : List Call) (places : List (Option (List ℕ))) (c : ℕ) (dropped : List ℕ) → c < length places
+    → given c (Closing c dropped ∷ calls) ≡ handed c (Closing c dropped ∷ calls) ++ ahead_on c (set places c None)
+closed_here calls places c dropped lt = rw (eq-eqb c c refl, get_or-set_same places c None None lt) refl
+
+closed_elsewhere : (calls : List Call) (places : List (Option (List ℕ))) (c d : ℕ) (dropped : List ℕ)
+    → given d calls ≡ handed d calls ++ ahead_on d places → (c ≡ d → ⊥)
+    → given d (Closing c dropped ∷ calls) ≡ handed d (Closing c dropped ∷ calls) ++ ahead_on d (set places c None)
+closed_elsewhere calls places c d dropped was other =
+    rw (ne_eqb c d other, get_or-set_other places c d None None (λ same. other (sym same))) was
+
+pub accounted_closing : (calls : List Call) (places : List (Option (List ℕ))) (c : ℕ) (dropped : List ℕ) → IsAccounted calls places
+    → c < length places → IsAccounted (Closing c dropped ∷ calls) (set places c None)
+accounted_closing calls places c dropped was lt = λ d in_range.
+    elim (cases_eq c d) [
+      | inl same ↦
+          let P : ℕ → Type 0 = λ e. given e (Closing c dropped ∷ calls) ≡ handed e (Closing c dropped ∷ calls) ++ ahead_on e (set places c None) in
+          subst P same (closed_here calls places c dropped lt)
+      | inr other ↦ closed_elsewhere calls places c d dropped (was d in_range) other
+    ]
+
 -- what is ahead at a close is dropped
 pub dropped_closing : (calls : List Call) (places : List (Option (List ℕ))) (c : ℕ) (dropped : List ℕ) → IsAccounted calls places → AreDropped calls
     → c ≤ connection_limit → dropped ≡ ahead_on c places → AreDropped (Closing c dropped ∷ calls)

@@ -9,7 +9,8 @@ use Rattle.std.specs.Net.Addr.{ipv4_octets, ipv6_octets}
 use Rattle.call_record.specs.Noted.{Noted}
 use Rattle.iscsi_ports.specs.Log as log
 use Rattle.iscsi_ports.specs.Log.{Entry, Carried, Bytes, End, Fault, Polled, Open, NobodyCame, AcceptFailed, Read, Wrote, Close}
-use Rattle.iscsi_ports.specs.declared.mio_sockets.TheConstants.{LISTENING, POLLING, NAMING, ACCEPTING, READING, HANDING, WRITING, PUTTING_OFF, CLOSING}
+use Rattle.iscsi_ports.specs.declared.call_notes.CallKind.{CallKind}
+use Rattle.iscsi_ports.specs.declared.call_notes.CallKind.TheVariants as kind
 use Rattle.iscsi_ports.specs.declared.results.Named.{Named}
 use Rattle.iscsi_ports.specs.declared.socket_failure.SocketFailure.{SocketFailure}
 use Rattle.iscsi_ports.specs.declared.socket_failure.SocketFailure.TheVariants.{WouldWait, Interrupted, Passing, Refused, Broken}
@@ -147,20 +148,33 @@ time_of is_limited seconds nanoseconds = if is_limited == 1 then Some (seconds *
 abbrev pub wait_in : List ℕ → Option ℕ
 wait_in numbers = time_of (slice_index numbers 3) (slice_index numbers 4) (slice_index numbers 5)
 
+-- of each kind
+abbrev pub kind_number : CallKind → ℕ
+kind_number kind.Listening = 0
+kind_number kind.Polling = 1
+kind_number kind.Naming = 2
+kind_number kind.Accepting = 3
+kind_number kind.Reading = 4
+kind_number kind.Handing = 5
+kind_number kind.Writing = 6
+kind_number kind.PuttingOff = 7
+kind_number kind.Closing = 8
+kind_number kind.Located = 9
+
 -- by its kind, and the number of a connection where it is of one
 abbrev pub call_by : ℕ → ℕ → List ℕ → List ℕ → List Bool → Call
-call_by kind c numbers bytes flags =
+call_by number c numbers bytes flags =
     let failure = slice_index numbers 1 in
     let count = slice_index numbers 3 in
-    if kind == LISTENING then Listening bytes
-    else if kind == POLLING then Polling (wait_in numbers) (answered failure (named_in numbers flags))
-    else if kind == NAMING then Naming (named_in numbers flags)
-    else if kind == ACCEPTING then Accepting c (answered failure (slice_index_or flags 0 false))
-    else if kind == READING then Reading c count (answered failure bytes)
-    else if kind == HANDING then Handing c count bytes
-    else if kind == WRITING then Writing c count (answered failure bytes)
-    else if kind == PUTTING_OFF then PuttingOff c count
-    else if kind == CLOSING then Closing c bytes
+    if number == kind_number kind.Listening then Listening bytes
+    else if number == kind_number kind.Polling then Polling (wait_in numbers) (answered failure (named_in numbers flags))
+    else if number == kind_number kind.Naming then Naming (named_in numbers flags)
+    else if number == kind_number kind.Accepting then Accepting c (answered failure (slice_index_or flags 0 false))
+    else if number == kind_number kind.Reading then Reading c count (answered failure bytes)
+    else if number == kind_number kind.Handing then Handing c count bytes
+    else if number == kind_number kind.Writing then Writing c count (answered failure bytes)
+    else if number == kind_number kind.PuttingOff then PuttingOff c count
+    else if number == kind_number kind.Closing then Closing c bytes
     else Located bytes c
 
 abbrev pub calls_of : List Noted → List Call

@@ -6,6 +6,7 @@
 #![tactic(auto)]
 
 mod bind_fault;
+mod call_notes;
 mod entry;
 mod events;
 mod lingering;
@@ -21,6 +22,7 @@ mod script;
 mod socket_calls;
 mod socket_failure;
 mod socket_ports;
+mod stream_calls;
 mod watching;
 
 pub use bind_fault::BindFault;

@@ -1,71 +1,44 @@
 //! The system's sockets: each method makes its call of `mio`, and notes what was answered.
 //!
-//! No contract says what a socket gives and takes, so whether each note is true is seen here by eye. A
-//! read fills a whole buffer where it can; what the reader has no room for is handed on at the next reads,
-//! which are noted without a call.
+//! No contract says what a socket gives and takes, so whether each note is true is seen here by eye.
 
-ghost use Rattle.std.specs.Prelude.{◌≡◌, ◌≢◌, ◌<◌, ◌≤◌, ◌-◌, ◌++◌, ◌∷◌, [], ◌==◌, ℕ, true, false, fold, length, slice_index_or, Option, None, is_none, option_map, Ok, IsSome, IfOk, OnOk, OnErr};
-ghost use Rattle.std.specs.Io.{WritesAtMost};
+ghost use Rattle.std.specs.Prelude.{◌≡◌, ◌≢◌, ◌≤◌, ◌-◌, ◌∷◌, [], ℕ, true, false, fold, length, slice_index_or, Option, None, is_none, option_map, Ok, IsSome, IfOk, OnOk, OnErr};
 ghost use Rattle.std.specs.Net.Socket.{socket_ip, socket_port};
 ghost use Rattle.std.specs.Result.{IsErrOf};
 ghost use Rattle.std.specs.Net.Grammar.{IsSocketText};
 ghost use Rattle.std.specs.declared.net.socket_addr.SocketAddr.{SocketAddr};
-ghost use Rattle.iscsi_ports.specs.Log.{Read};
-ghost use Rattle.iscsi_ports.specs.Calls.{Accepting, Closing, Listening, Located, Polling, ip_octets, calls_of, log_by, moved, named_by, read_carried, time_of};
+ghost use Rattle.iscsi_ports.specs.Calls.{Accepting, Closing, Listening, Located, Polling, ip_octets, named_by};
 ghost use Rattle.iscsi_ports.specs.Lingering.{place_of, place_to_take, turns_left};
-ghost use Rattle.iscsi_ports.specs.Readiness.{after_event, after_taking, given_in_all, read_by, took_all as all_taken};
+ghost use Rattle.iscsi_ports.specs.Readiness.{after_event};
 ghost use Rattle.mio.specs.Events.{items};
 ghost use Rattle.iscsi_ports.specs.ReadBuffer.{IsAccounted, AreDropped, ahead_on};
-ghost use Rattle.iscsi_ports.specs.Polls.{IsNoLonger, unasked_in};
+ghost use Rattle.iscsi_ports.specs.Polls.{IsNoLonger};
 ghost use Rattle.std.specs.Duration.{as_nanos};
 ghost use Rattle.std.specs.List.{list_all};
 
+mod reads;
+
 use crate::bind_fault::{BindFault, bind_fault};
+use crate::call_notes::CallNotes;
 use crate::events::see_all;
 use crate::lingering::{LingeringSockets, turns_of};
 use crate::places::free_places;
-use crate::read_buffer::{
-    MOST_AHEAD, ReadBuffer, count_ahead, give_back, hand_from, slice_ahead, take_spare,
-};
+use crate::read_buffer::{ReadBuffer, count_ahead, slice_ahead};
 use crate::readiness::Readiness;
 use crate::results::Named;
 use crate::socket_calls::SocketCalls;
 use crate::socket_failure::{SocketFailure, socket_failure};
+use crate::stream_calls::write_to;
 use crate::watching::{keep, watched};
-use call_record::Record;
 use mio::net::{TcpListener, TcpStream};
 use mio::{Events, Poll};
 use std::alloc::Global;
 use std::io;
-use std::io::{Read, Write};
-use std::net::{IpAddr, Net, SocketAddr};
+use std::net::{Net, SocketAddr};
 use std::time::Duration;
 
 /// How many events one poll takes from the system.
 const EVENTS: usize = 128;
-
-// The calls by the first number of their notes. The second is 0, or the number of the failure.
-const LISTENING: u64 = 0;
-
-const POLLING: u64 = 1;
-
-const NAMING: u64 = 2;
-
-const ACCEPTING: u64 = 3;
-
-const READING: u64 = 4;
-
-const HANDING: u64 = 5;
-
-const WRITING: u64 = 6;
-
-const PUTTING_OFF: u64 = 7;
-
-const CLOSING: u64 = 8;
-
-const LOCATED: u64 = 9;
-
-const DONE: u64 = 0;
 
 /// A listening socket and the connections that it accepted.
 #[derive(Drop)]
@@ -82,11 +55,11 @@ pub struct MioSockets {
     alloc: Global,
     /// Those that were closed, and whose peers may still send.
     lingering: LingeringSockets,
-    noted: Record,
+    notes: CallNotes,
     ghost places: { length streams.items ≡ 65 },
     ghost ahead_places: { length ahead.items ≡ 65 },
-    ghost accounted: { IsAccounted (calls_of noted.calls) ahead.items },
-    ghost dropped: { AreDropped (calls_of noted.calls) },
+    ghost accounted: { IsAccounted notes ahead.items },
+    ghost dropped: { AreDropped notes },
 }
 
 impl MioSockets {
@@ -101,8 +74,8 @@ impl MioSockets {
         };
         let poll = Poll::new(net).map_err(|error| bind_fault(&error))?;
         let listener = watched(net, &poll, address).map_err(|error| bind_fault(&error))?;
-        let mut record = Record::new();
-        record.note(&[LISTENING], text.as_bytes(), &[]);
+        let mut notes = CallNotes::new();
+        notes.listening(text);
         Ok(MioSockets {
             poll,
             events: Events::with_capacity(alloc, EVENTS)?,
@@ -112,7 +85,7 @@ impl MioSockets {
             spare: None,
             alloc,
             lingering: LingeringSockets::new(alloc)?,
-            noted: record,
+            notes,
         })
     }
 
@@ -123,112 +96,8 @@ impl MioSockets {
         ensures same { OnErr result (⟦<MioSockets as SocketCalls>⟧.calls self.new ≡ ⟦<MioSockets as SocketCalls>⟧.calls self.old) }
     {
         let address = self.listener.local_addr()?;
-        let numbers = [LOCATED, DONE, u64::from(address.port())];
-        match address.ip() {
-            IpAddr::V4(ip) => self.noted.note(&numbers, &ip.octets(), &[]),
-            IpAddr::V6(ip) => self.noted.note(&numbers, &ip.octets(), &[]),
-        }
+        self.notes.located(address);
         Ok(address)
-    }
-}
-
-/// Reads of a connection into a buffer of the ports, if it is there.
-fn fill_from(
-    streams: &mut [Option<TcpStream>],
-    c: usize,
-    ahead: &mut ReadBuffer,
-) -> Result<usize, SocketFailure>
-    ensures { IfOk result (λ count. count ≡ length ahead.new) }
-{
-    match streams.get_mut(c) {
-        Some(Some(stream)) => match ahead.fill(stream) {
-            Ok(count) => Ok(count),
-            Err(error) => Err(socket_failure(&error)),
-        },
-        _ => Err(SocketFailure::Broken),
-    }
-}
-
-/// Reads of a connection, if it is there.
-fn read_from(
-    streams: &mut [Option<TcpStream>],
-    c: usize,
-    buffer: &mut [u8],
-) -> Result<usize, SocketFailure>
-    ensures { WritesAtMost result buffer.new }
-{
-    match streams.get_mut(c) {
-        Some(Some(stream)) => match stream.read(buffer) {
-            Ok(count) => Ok(count),
-            Err(error) => Err(socket_failure(&error)),
-        },
-        _ => Err(SocketFailure::Broken),
-    }
-}
-
-/// Writes to a connection, if it is there.
-fn write_to(
-    streams: &mut [Option<TcpStream>],
-    c: usize,
-    bytes: &[u8],
-) -> Result<usize, SocketFailure>
-    ensures { WritesAtMost result bytes.now }
-{
-    match streams.get_mut(c) {
-        Some(Some(stream)) => match stream.write(bytes) {
-            Ok(count) => Ok(count),
-            Err(error) => Err(socket_failure(&error)),
-        },
-        _ => Err(SocketFailure::Broken),
-    }
-}
-
-/// A flag as a number of a note.
-fn bit(flag: bool) -> u64
-    ensures { (result == 1) ≡ flag }
-{
-    if flag { 1 } else { 0 }
-}
-
-/// A time as numbers of a note: whether there is one, its seconds, and the nanoseconds that are more.
-fn wait_numbers(wait: Option<Duration>) -> (u64, u64, u64)
-    ensures { time_of result.0 result.1 result.2 ≡ option_map as_nanos wait }
-{
-    match wait {
-        Some(time) => (1, time.as_secs(), u64::from(time.subsec_nanos())),
-        None => (0, 0, 0),
-    }
-}
-
-/// What the answer to a read says of what the system still has: it gave all, or perhaps not.
-fn took_all(answer: Result<usize, SocketFailure>, room: usize) -> bool
-    ensures { result ≡ all_taken answer room }
-{
-    match answer {
-        Ok(count) => count < room,
-        Err(failure) => failure == SocketFailure::WouldWait,
-    }
-}
-
-impl MioSockets {
-    /// Hands on what is ahead, with no call. Where nothing is, or there is no room for it, the read would wait.
-    fn hand_on(&mut self, c: usize, buffer: &mut [u8]) -> Result<usize, SocketFailure>
-        requires { c < 64 }
-        ensures count { WritesAtMost result buffer.new }
-        ensures told { log_by (⟦<MioSockets as SocketCalls>⟧.calls self.new) ≡ log_by (⟦<MioSockets as SocketCalls>⟧.calls self.old)
-            ++ Read c (length buffer.new) (read_carried (moved result buffer.new)) ∷ [] }
-        ensures unasked { unasked_in (⟦<MioSockets as SocketCalls>⟧.calls self.new) ≡ unasked_in (⟦<MioSockets as SocketCalls>⟧.calls self.old) }
-    {
-        let room = buffer.len() as u64;
-        let place = &mut self.ahead[c];
-        let count = hand_from(place, buffer);
-        give_back(place, &mut self.spare);
-        self.noted
-            .note(&[HANDING, DONE, c as u64, room], &buffer[..count], &[]);
-        if count == 0 {
-            return Err(SocketFailure::WouldWait);
-        }
-        Ok(count)
     }
 
     /// What is ahead of a connection is dropped, and noted with its close.
@@ -240,103 +109,13 @@ impl MioSockets {
         ensures streams { self.new.streams ≡ self.old.streams }
     {
         let dropped = slice_ahead(&self.ahead[c]);
-        self.noted.note(&[CLOSING, DONE, c as u64], dropped, &[]);
+        self.notes.closed(c, dropped);
         self.ahead[c] = None;
-    }
-
-    /// Reads into the reader's buffer.
-    fn read_at_once(
-        &mut self,
-        readiness: &mut Readiness,
-        c: usize,
-        buffer: &mut [u8],
-    ) -> Result<usize, SocketFailure>
-        requires in_range { c < 64 }
-        requires nothing_ahead { ahead_on c self.old.ahead.items ≡ [] }
-        ensures count { WritesAtMost result buffer.new }
-        ensures told { log_by (⟦<MioSockets as SocketCalls>⟧.calls self.new) ≡ log_by (⟦<MioSockets as SocketCalls>⟧.calls self.old)
-            ++ Read c (length buffer.new) (read_carried (moved result buffer.new)) ∷ [] }
-        ensures unasked { unasked_in (⟦<MioSockets as SocketCalls>⟧.calls self.new) ≡ unasked_in (⟦<MioSockets as SocketCalls>⟧.calls self.old) }
-        ensures readiness { readiness.new ≡ after_taking c (all_taken result (length buffer.new)) readiness.old }
-        ensures ahead { self.new.ahead ≡ self.old.ahead }
-    {
-        let record = &mut self.noted;
-        let room = buffer.len() as u64;
-        let answer = read_from(self.streams.as_mut_slice(), c, buffer);
-        readiness.took(c, took_all(answer, buffer.len()));
-        match answer {
-            Ok(count) => record.note(&[READING, DONE, c as u64, room], &buffer[..count], &[]),
-            Err(failure) => record.note(&[READING, failure.number(), c as u64, room], &[], &[]),
-        }
-        answer
-    }
-
-    /// Reads into a buffer of the ports, and hands on as much as there is room for.
-    fn read_ahead(
-        &mut self,
-        readiness: &mut Readiness,
-        mut ahead: ReadBuffer,
-        c: usize,
-        buffer: &mut [u8],
-    ) -> Result<usize, SocketFailure>
-        requires in_range { c < 64 }
-        requires nothing_ahead { ahead_on c self.old.ahead.items ≡ [] }
-        requires room { 0 < length buffer.old }
-        ensures count { WritesAtMost result buffer.new }
-        ensures told { log_by (⟦<MioSockets as SocketCalls>⟧.calls self.new) ≡ log_by (⟦<MioSockets as SocketCalls>⟧.calls self.old)
-            ++ Read c (length buffer.new) (read_carried (moved result buffer.new)) ∷ [] }
-        ensures unasked { unasked_in (⟦<MioSockets as SocketCalls>⟧.calls self.new) ≡ unasked_in (⟦<MioSockets as SocketCalls>⟧.calls self.old) }
-        ensures readiness { readiness.new ≡ after_taking c
-            (all_taken (given_in_all result (length (ahead_on c self.new.ahead.items))) 65536) readiness.old }
-    {
-        let room = buffer.len() as u64;
-        let answer = fill_from(self.streams.as_mut_slice(), c, &mut ahead);
-        readiness.took(c, took_all(answer, MOST_AHEAD));
-        if let Err(failure) = answer {
-            self.noted
-                .note(&[READING, failure.number(), c as u64, room], &[], &[]);
-            self.spare = Some(ahead);
-            return Err(failure);
-        }
-        self.noted
-            .note(&[READING, DONE, c as u64, room], ahead.as_slice(), &[]);
-        let count = ahead.hand(buffer);
-        let place = &mut self.ahead[c];
-        *place = Some(ahead);
-        give_back(place, &mut self.spare);
-        Ok(count)
-    }
-
-    /// Hands on what is ahead, or reads of the system, where there is room.
-    fn read_some(
-        &mut self,
-        readiness: &mut Readiness,
-        c: usize,
-        buffer: &mut [u8],
-    ) -> Result<usize, SocketFailure>
-        requires { c < 64 }
-        ensures count { WritesAtMost result buffer.new }
-        ensures told { log_by (⟦<MioSockets as SocketCalls>⟧.calls self.new) ≡ log_by (⟦<MioSockets as SocketCalls>⟧.calls self.old)
-            ++ Read c (length buffer.new) (read_carried (moved result buffer.new)) ∷ [] }
-        ensures unasked { unasked_in (⟦<MioSockets as SocketCalls>⟧.calls self.new) ≡ unasked_in (⟦<MioSockets as SocketCalls>⟧.calls self.old) }
-        ensures readiness { (capacity : ℕ) × (length buffer.new ≤ capacity) × (readiness.new ≡ read_by capacity c (length buffer.new)
-            (length (ahead_on c self.old.ahead.items)) (length (ahead_on c self.new.ahead.items)) result readiness.old) }
-    {
-        if buffer.is_empty() || self.count_ahead(c) > 0 {
-            return self.hand_on(c, buffer);
-        }
-        if buffer.len() >= MOST_AHEAD {
-            return self.read_at_once(readiness, c, buffer);
-        }
-        match take_spare(self.alloc, &mut self.spare) {
-            Some(ahead) => self.read_ahead(readiness, ahead, c, buffer),
-            None => self.read_at_once(readiness, c, buffer),
-        }
     }
 }
 
 impl SocketCalls for MioSockets {
-    ghost calls = { λ sockets. calls_of sockets.noted.calls };
+    ghost calls = { λ sockets. sockets.notes };
 
     ghost ahead = { λ sockets c. ahead_on c sockets.ahead.items };
 
@@ -355,35 +134,20 @@ impl SocketCalls for MioSockets {
             ≤ turns_left (place_of d self.old.lingering.places.items) - 1) }
     {
         let wait = self.lingering.drain(wait);
-        let (is_limited, seconds, nanoseconds) = wait_numbers(wait);
-        let record = &mut self.noted;
         if let Err(error) = self.poll.poll(&mut self.events, wait) {
             let failure = socket_failure(&error);
-            let numbers = [
-                POLLING,
-                failure.number(),
-                0,
-                is_limited,
-                seconds,
-                nanoseconds,
-            ];
-            record.note(&numbers, &[], &[]);
+            self.notes.poll_failed(wait, failure);
             return Err(failure);
         }
         see_all(readiness, &self.events);
         let turns = turns_of(wait, !self.events.is_empty());
         self.lingering.count_turns(turns);
-        let named = &readiness.named;
-        let listener = bit(named.listener);
-        let numbers = [POLLING, DONE, listener, is_limited, seconds, nanoseconds];
-        record.note(&numbers, &[], &named.connections);
+        self.notes.polled(wait, &readiness.named);
         Ok(())
     }
 
     fn note_named(&mut self, named: &Named) {
-        let listener = bit(named.listener);
-        self.noted
-            .note(&[NAMING, DONE, listener], &[], &named.connections);
+        self.notes.named(named);
     }
 
     fn accept(&mut self, c: usize) -> Result<bool, SocketFailure>
@@ -392,19 +156,18 @@ impl SocketCalls for MioSockets {
         ensures kept { result ≡ Ok true → IsSome (slice_index_or self.new.streams.items c None) }
         ensures dropped { result ≡ Ok false → self.new.streams.items ≡ self.old.streams.items }
     {
-        let record = &mut self.noted;
         match self.listener.accept() {
             Ok((stream, _)) => {
                 let streams = self.streams.as_mut_slice();
                 let is_watched = keep(self.poll.registry(), streams, c, stream);
-                record.note(&[ACCEPTING, DONE, c as u64], &[], &[is_watched]);
+                self.notes.accepted(c, is_watched);
                 let place = &mut self.ahead[c];
                 *place = None;
                 Ok(is_watched)
             }
             Err(error) => {
                 let failure = socket_failure(&error);
-                record.note(&[ACCEPTING, failure.number(), c as u64], &[], &[]);
+                self.notes.accept_failed(c, failure);
                 Err(failure)
             }
         }
@@ -431,15 +194,13 @@ impl SocketCalls for MioSockets {
         c: usize,
         bytes: &[u8],
     ) -> Result<usize, SocketFailure> {
-        let record = &mut self.noted;
-        let offered = bytes.len() as u64;
         match write_to(self.streams.as_mut_slice(), c, bytes) {
             Ok(count) => {
-                record.note(&[WRITING, DONE, c as u64, offered], &bytes[..count], &[]);
+                self.notes.wrote(c, bytes.len(), &bytes[..count]);
                 Ok(count)
             }
             Err(failure) => {
-                record.note(&[WRITING, failure.number(), c as u64, offered], &[], &[]);
+                self.notes.write_failed(c, bytes.len(), failure);
                 if failure == SocketFailure::WouldWait {
                     readiness.fill(c);
                 }
@@ -449,8 +210,7 @@ impl SocketCalls for MioSockets {
     }
 
     fn note_put_off(&mut self, c: usize, offered: usize) {
-        self.noted
-            .note(&[PUTTING_OFF, DONE, c as u64, offered as u64], &[], &[]);
+        self.notes.put_off(c, offered);
     }
 
     fn close(&mut self, c: usize)

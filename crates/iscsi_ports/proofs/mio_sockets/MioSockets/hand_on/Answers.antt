@@ -1,6 +1,5 @@
 use Rattle.std.proofs.Common.{◌≡◌, ◌<◌, ◌∙◌, ap, length, get_or, take, drop, None, arith}
 use Rattle.std.proofs.lemmas.List.{get_or_read, length-set}
-use Rattle.iscsi_ports.specs.Calls.{calls_of}
 use Rattle.iscsi_ports.specs.ReadBuffer.{bytes_in, ahead_on}
 use Rattle.iscsi_ports.proofs.Accounts.{accounted_handing}
 use Rattle.iscsi_ports.proofs.mio_sockets.MioSockets.hand_on.Goals as goal
@@ -16,8 +15,8 @@ invariant_of-self-clause-accounted c =
     c.hand_from-count.ensures.piece ∙ ap (λ place. take count (bytes_in place)) place_is in
     let rest : bytes_in c.give_back.new.place ≡ drop count (ahead_on c.args.c sockets.ahead.items) =
     c.give_back.ensures ∙ c.hand_from-count.ensures.rest ∙ ap (λ place. drop count (bytes_in place)) place_is in
-    rw c.note.ensures
-    (accounted_handing (calls_of sockets.noted.calls) sockets.ahead.items c.give_back.new.place c.args.c (length c.args.buffer.now) count _
+    rw c.handed.ensures
+    (accounted_handing sockets.notes sockets.ahead.items c.give_back.new.place c.args.c (length c.args.buffer.now) count _
     sockets.accounted lt piece rest)
 
 pub invariant_of-self-clause-ahead_places : goal.invariant_of-self-clause-ahead_places

@@ -5,4 +5,4 @@ use Rattle.iscsi_ports.proofs.mio_sockets.MioSockets.listen.Goals as goal
 
 pub invariant_of-result-clause-accounted : goal.invariant_of-result-clause-accounted
 invariant_of-result-clause-accounted g c =
-    rw (c.note.ensures, c.new-record.ensures, c.in_ok-free_places-2.ensures.free) (λ d lt. ap bytes_in (sym (get_or-replicate 65 d None None (omega arith))))
+    rw (c.listening.ensures, c.new-notes.ensures, c.in_ok-free_places-2.ensures.free) (λ d lt. ap bytes_in (sym (get_or-replicate 65 d None None (omega arith))))

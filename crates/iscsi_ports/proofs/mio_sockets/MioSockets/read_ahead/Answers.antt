@@ -1,6 +1,5 @@
 use Rattle.std.proofs.Common.{◌≡◌, ◌<◌, ◌∙◌, ap, sym, length, drop, min, arith}
 use Rattle.std.proofs.lemmas.List.{length-set}
-use Rattle.iscsi_ports.specs.Calls.{calls_of}
 use Rattle.iscsi_ports.specs.ReadBuffer.{bytes_in}
 use Rattle.iscsi_ports.proofs.Accounts.{accounted_reading}
 use Rattle.iscsi_ports.proofs.mio_sockets.MioSockets.read_ahead.Goals as goal
@@ -13,8 +12,8 @@ invariant_of-self-2-clause-accounted c =
     let count : c.hand-count.result ≡ min (length c.args.buffer.now) (length bytes) = omega (arith, ap length c.as_slice.ensures) in
     let rest : bytes_in c.give_back.new.place ≡ drop c.hand-count.result bytes =
     c.give_back.ensures ∙ c.hand-count.ensures.rest ∙ ap (drop c.hand-count.result) (sym c.as_slice.ensures) in
-    rw c.note-2.ensures
-    (accounted_reading (calls_of sockets.noted.calls) sockets.ahead.items c.give_back.new.place c.args.c _ c.hand-count.result bytes sockets.accounted
+    rw c.read.ensures
+    (accounted_reading sockets.notes sockets.ahead.items c.give_back.new.place c.args.c _ c.hand-count.result bytes sockets.accounted
     lt c.requires.nothing_ahead count rest)
 
 pub invariant_of-self-2-clause-ahead_places : goal.invariant_of-self-2-clause-ahead_places

@@ -1,0 +1,135 @@
+//! Reads of a connection: what is ahead is handed on first, and then the system is asked.
+//!
+//! A read fills a whole buffer where it can. What the reader has no room for is handed on at the next reads,
+//! which are noted without a call.
+
+ghost use Rattle.std.specs.Prelude.{◌≡◌, ◌<◌, ◌≤◌, ◌++◌, ◌∷◌, [], ℕ, length};
+ghost use Rattle.std.specs.Io.{WritesAtMost};
+ghost use Rattle.iscsi_ports.specs.Log.{Read};
+ghost use Rattle.iscsi_ports.specs.Calls.{log_by, moved, read_carried};
+ghost use Rattle.iscsi_ports.specs.Polls.{unasked_in};
+ghost use Rattle.iscsi_ports.specs.ReadBuffer.{ahead_on};
+ghost use Rattle.iscsi_ports.specs.Readiness.{after_taking, given_in_all, read_by, took_all as all_taken};
+
+use super::MioSockets;
+use crate::read_buffer::{MOST_AHEAD, ReadBuffer, give_back, hand_from, take_spare};
+use crate::readiness::Readiness;
+use crate::socket_calls::SocketCalls;
+use crate::socket_failure::SocketFailure;
+use crate::stream_calls::{fill_from, read_from};
+
+/// What the answer to a read says of what the system still has: it gave all, or perhaps not.
+fn took_all(answer: Result<usize, SocketFailure>, room: usize) -> bool
+    ensures { result ≡ all_taken answer room }
+{
+    match answer {
+        Ok(count) => count < room,
+        Err(failure) => failure == SocketFailure::WouldWait,
+    }
+}
+
+impl MioSockets {
+    /// Hands on what is ahead, with no call. Where nothing is, or there is no room for it, the read would wait.
+    fn hand_on(&mut self, c: usize, buffer: &mut [u8]) -> Result<usize, SocketFailure>
+        requires { c < 64 }
+        ensures count { WritesAtMost result buffer.new }
+        ensures told { log_by (⟦<MioSockets as SocketCalls>⟧.calls self.new) ≡ log_by (⟦<MioSockets as SocketCalls>⟧.calls self.old)
+            ++ Read c (length buffer.new) (read_carried (moved result buffer.new)) ∷ [] }
+        ensures unasked { unasked_in (⟦<MioSockets as SocketCalls>⟧.calls self.new) ≡ unasked_in (⟦<MioSockets as SocketCalls>⟧.calls self.old) }
+    {
+        let place = &mut self.ahead[c];
+        let count = hand_from(place, buffer);
+        give_back(place, &mut self.spare);
+        self.notes.handed(c, buffer.len(), &buffer[..count]);
+        if count == 0 {
+            return Err(SocketFailure::WouldWait);
+        }
+        Ok(count)
+    }
+
+    /// Reads into the reader's buffer.
+    fn read_at_once(
+        &mut self,
+        readiness: &mut Readiness,
+        c: usize,
+        buffer: &mut [u8],
+    ) -> Result<usize, SocketFailure>
+        requires in_range { c < 64 }
+        requires nothing_ahead { ahead_on c self.old.ahead.items ≡ [] }
+        ensures count { WritesAtMost result buffer.new }
+        ensures told { log_by (⟦<MioSockets as SocketCalls>⟧.calls self.new) ≡ log_by (⟦<MioSockets as SocketCalls>⟧.calls self.old)
+            ++ Read c (length buffer.new) (read_carried (moved result buffer.new)) ∷ [] }
+        ensures unasked { unasked_in (⟦<MioSockets as SocketCalls>⟧.calls self.new) ≡ unasked_in (⟦<MioSockets as SocketCalls>⟧.calls self.old) }
+        ensures readiness { readiness.new ≡ after_taking c (all_taken result (length buffer.new)) readiness.old }
+        ensures ahead { self.new.ahead ≡ self.old.ahead }
+    {
+        let room = buffer.len();
+        let answer = read_from(self.streams.as_mut_slice(), c, buffer);
+        readiness.took(c, took_all(answer, room));
+        match answer {
+            Ok(count) => self.notes.read(c, room, &buffer[..count]),
+            Err(failure) => self.notes.read_failed(c, room, failure),
+        }
+        answer
+    }
+
+    /// Reads into a buffer of the ports, and hands on as much as there is room for.
+    fn read_ahead(
+        &mut self,
+        readiness: &mut Readiness,
+        mut ahead: ReadBuffer,
+        c: usize,
+        buffer: &mut [u8],
+    ) -> Result<usize, SocketFailure>
+        requires in_range { c < 64 }
+        requires nothing_ahead { ahead_on c self.old.ahead.items ≡ [] }
+        requires room { 0 < length buffer.old }
+        ensures count { WritesAtMost result buffer.new }
+        ensures told { log_by (⟦<MioSockets as SocketCalls>⟧.calls self.new) ≡ log_by (⟦<MioSockets as SocketCalls>⟧.calls self.old)
+            ++ Read c (length buffer.new) (read_carried (moved result buffer.new)) ∷ [] }
+        ensures unasked { unasked_in (⟦<MioSockets as SocketCalls>⟧.calls self.new) ≡ unasked_in (⟦<MioSockets as SocketCalls>⟧.calls self.old) }
+        ensures readiness { readiness.new ≡ after_taking c
+            (all_taken (given_in_all result (length (ahead_on c self.new.ahead.items))) 65536) readiness.old }
+    {
+        let answer = fill_from(self.streams.as_mut_slice(), c, &mut ahead);
+        readiness.took(c, took_all(answer, MOST_AHEAD));
+        if let Err(failure) = answer {
+            self.notes.read_failed(c, buffer.len(), failure);
+            self.spare = Some(ahead);
+            return Err(failure);
+        }
+        self.notes.read(c, buffer.len(), ahead.as_slice());
+        let count = ahead.hand(buffer);
+        let place = &mut self.ahead[c];
+        *place = Some(ahead);
+        give_back(place, &mut self.spare);
+        Ok(count)
+    }
+
+    /// Hands on what is ahead, or reads of the system, where there is room.
+    pub(super) fn read_some(
+        &mut self,
+        readiness: &mut Readiness,
+        c: usize,
+        buffer: &mut [u8],
+    ) -> Result<usize, SocketFailure>
+        requires { c < 64 }
+        ensures count { WritesAtMost result buffer.new }
+        ensures told { log_by (⟦<MioSockets as SocketCalls>⟧.calls self.new) ≡ log_by (⟦<MioSockets as SocketCalls>⟧.calls self.old)
+            ++ Read c (length buffer.new) (read_carried (moved result buffer.new)) ∷ [] }
+        ensures unasked { unasked_in (⟦<MioSockets as SocketCalls>⟧.calls self.new) ≡ unasked_in (⟦<MioSockets as SocketCalls>⟧.calls self.old) }
+        ensures readiness { (capacity : ℕ) × (length buffer.new ≤ capacity) × (readiness.new ≡ read_by capacity c (length buffer.new)
+            (length (ahead_on c self.old.ahead.items)) (length (ahead_on c self.new.ahead.items)) result readiness.old) }
+    {
+        if buffer.is_empty() || self.count_ahead(c) > 0 {
+            return self.hand_on(c, buffer);
+        }
+        if buffer.len() >= MOST_AHEAD {
+            return self.read_at_once(readiness, c, buffer);
+        }
+        match take_spare(self.alloc, &mut self.spare) {
+            Some(ahead) => self.read_ahead(readiness, ahead, c, buffer),
+            None => self.read_at_once(readiness, c, buffer),
+        }
+    }
+}

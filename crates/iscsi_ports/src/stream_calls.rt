@@ -1,0 +1,60 @@
+//! The reads and writes of a connection, if it is there.
+
+ghost use Rattle.std.specs.Prelude.{◌≡◌, length, IfOk};
+ghost use Rattle.std.specs.Io.{WritesAtMost};
+
+use crate::read_buffer::ReadBuffer;
+use crate::socket_failure::{SocketFailure, socket_failure};
+use mio::net::TcpStream;
+use std::io::{Read, Write};
+
+/// Reads into a buffer of the ports.
+pub(crate) fn fill_from(
+    streams: &mut [Option<TcpStream>],
+    c: usize,
+    ahead: &mut ReadBuffer,
+) -> Result<usize, SocketFailure>
+    ensures { IfOk result (λ count. count ≡ length ahead.new) }
+{
+    match streams.get_mut(c) {
+        Some(Some(stream)) => match ahead.fill(stream) {
+            Ok(count) => Ok(count),
+            Err(error) => Err(socket_failure(&error)),
+        },
+        _ => Err(SocketFailure::Broken),
+    }
+}
+
+/// Reads into the reader's buffer.
+pub(crate) fn read_from(
+    streams: &mut [Option<TcpStream>],
+    c: usize,
+    buffer: &mut [u8],
+) -> Result<usize, SocketFailure>
+    ensures { WritesAtMost result buffer.new }
+{
+    match streams.get_mut(c) {
+        Some(Some(stream)) => match stream.read(buffer) {
+            Ok(count) => Ok(count),
+            Err(error) => Err(socket_failure(&error)),
+        },
+        _ => Err(SocketFailure::Broken),
+    }
+}
+
+/// Writes a front of these bytes.
+pub(crate) fn write_to(
+    streams: &mut [Option<TcpStream>],
+    c: usize,
+    bytes: &[u8],
+) -> Result<usize, SocketFailure>
+    ensures { WritesAtMost result bytes.now }
+{
+    match streams.get_mut(c) {
+        Some(Some(stream)) => match stream.write(bytes) {
+            Ok(count) => Ok(count),
+            Err(error) => Err(socket_failure(&error)),
+        },
+        _ => Err(SocketFailure::Broken),
+    }
+}
