@@ -1,5 +1,5 @@
 -- The calls of the system on sockets, how they are noted, and what they tell.
-use Rattle.std.specs.Prelude.{ℕ, ◌+◌, ◌*◌, ℤ, zero, suc, pos, List, [], ◌∷◌, ◌++◌, map, take, Bool, true, false, ◌==◌, ◌||◌, Option, Some, None, Result, Ok, Err, slice_index, slice_index_or, if◌then◌else◌}
+use Rattle.std.specs.Prelude.{ℕ, ◌+◌, ◌*◌, ℤ, zero, suc, pos, List, [], ◌∷◌, ◌++◌, map, take, Bool, true, false, ◌==◌, nat_lt, ◌||◌, Option, Some, None, Result, Ok, Err, slice_index, slice_index_or, if◌then◌else◌}
 use Rattle.std.specs.Ordering.{int_eq}
 use Rattle.std.specs.declared.io.ErrorKind.{ErrorKind}
 use Rattle.std.specs.declared.io.ErrorKind.TheVariants as kinds
@@ -7,6 +7,7 @@ use Rattle.std.specs.declared.net.ip_addr.IpAddr.{IpAddr}
 use Rattle.std.specs.declared.net.ip_addr.IpAddr.TheVariants as ip
 use Rattle.std.specs.Net.Addr.{ipv4_octets, ipv6_octets}
 use Rattle.call_record.specs.Noted.{Noted}
+use Rattle.connection_numbers.specs.Numbers.{connection_limit}
 use Rattle.iscsi_ports.specs.Log as log
 use Rattle.iscsi_ports.specs.Log.{Entry, Carried, Bytes, End, Fault, Polled, Open, NobodyCame, AcceptFailed, Read, Wrote, Close}
 use Rattle.iscsi_ports.specs.declared.call_notes.CallKind.{CallKind}
@@ -41,8 +42,8 @@ pub data Call : Type 0 where
   Polling : (wait : Option ℕ) (answer : Result Named SocketFailure) → Call
   -- none was made of the system: this is who is known to be ready
   Naming : (named : Named) → Call
-  -- an accept under this number, and whether the system watches the connection
-  Accepting : (c : ℕ) (answer : Result Bool SocketFailure) → Call
+  -- an accept under this number, the token by which the system watches the connection, if it does, and whether it is kept
+  Accepting : (c : ℕ) (token : Option ℕ) (answer : Result Bool SocketFailure) → Call
   -- a read, for one who has so much room, and the bytes that came: those that have no room are ahead
   Reading : (c room : ℕ) (answer : Result (List ℕ) SocketFailure) → Call
   -- none was made: these bytes were ahead, and are handed on to one who has so much room
@@ -60,6 +61,11 @@ pub data Call : Type 0 where
 abbrev pub named_by : Result (Unit {0}) SocketFailure → Named → Result Named SocketFailure
 named_by (Ok end) named = Ok named
 named_by (Err failure) named = Err failure
+
+-- own: what is kept is watched by its number, but for one that has none and is closed at once
+abbrev pub token_after : ℕ → Result Bool SocketFailure → Option ℕ
+token_after c (Ok true) = if nat_lt c connection_limit then Some c else None
+token_after c answer = None
 
 -- the bytes that a count counts
 abbrev pub moved : Result ℕ SocketFailure → List ℕ → Result (List ℕ) SocketFailure
@@ -106,7 +112,7 @@ abbrev pub told_by : Call → List Entry
 told_by (Listening text) = log.Listened text ∷ []
 told_by (Polling wait answer) = Polled (polled answer) ∷ []
 told_by (Naming named) = Polled (Some named) ∷ []
-told_by (Accepting c answer) = accepted c answer ∷ []
+told_by (Accepting c token answer) = accepted c answer ∷ []
 told_by (Reading c room answer) = Read c room (read_carried (in_room room answer)) ∷ []
 told_by (Handing c room piece) = Read c room (Bytes piece) ∷ []
 told_by (Writing c offered answer) = Wrote c offered (write_carried answer) ∷ []
@@ -148,6 +154,13 @@ time_of is_limited seconds nanoseconds = if is_limited == 1 then Some (seconds *
 abbrev pub wait_in : List ℕ → Option ℕ
 wait_in numbers = time_of (slice_index numbers 3) (slice_index numbers 4) (slice_index numbers 5)
 
+-- a token, by whether there is one
+abbrev pub token_of : Bool → ℕ → Option ℕ
+token_of is_watched token = if is_watched then Some token else None
+
+abbrev pub token_in : List ℕ → List Bool → Option ℕ
+token_in numbers flags = token_of (slice_index_or flags 1 false) (slice_index numbers 3)
+
 -- of each kind
 abbrev pub kind_number : CallKind → ℕ
 kind_number kind.Listening = 0
@@ -169,7 +182,7 @@ call_by number c numbers bytes flags =
     if number == kind_number kind.Listening then Listening bytes
     else if number == kind_number kind.Polling then Polling (wait_in numbers) (answered failure (named_in numbers flags))
     else if number == kind_number kind.Naming then Naming (named_in numbers flags)
-    else if number == kind_number kind.Accepting then Accepting c (answered failure (slice_index_or flags 0 false))
+    else if number == kind_number kind.Accepting then Accepting c (token_in numbers flags) (answered failure (slice_index_or flags 0 false))
     else if number == kind_number kind.Reading then Reading c count (answered failure bytes)
     else if number == kind_number kind.Handing then Handing c count bytes
     else if number == kind_number kind.Writing then Writing c count (answered failure bytes)

@@ -10,7 +10,7 @@ use Rattle.iscsi_ports.specs.declared.socket_failure.SocketFailure.TheVariants.{
 calls : List Call
 calls =
     PuttingOff 0 48 ∷ Handing 0 2 (3 ∷ 4 ∷ []) ∷ Reading 1 4 (Err WouldWait) ∷ Reading 0 2 (Ok (1 ∷ 2 ∷ 3 ∷ 4 ∷ 5 ∷ []))
-    ∷ Accepting 0 (Ok true) ∷ []
+    ∷ Accepting 0 (Some 0) (Ok true) ∷ []
 
 given_by_them : given 0 calls ≡ 1 ∷ 2 ∷ 3 ∷ 4 ∷ 5 ∷ []
 unfolding calls
@@ -29,7 +29,7 @@ unfolding calls
 log_of_them = refl
 
 -- what is ahead of a connection that is closed is dropped, and the next one under its number begins with nothing
-after_the_close : given 0 (Accepting 0 (Ok true) ∷ Closing 0 (5 ∷ []) ∷ calls) ≡ []
+after_the_close : given 0 (Accepting 0 (Some 0) (Ok true) ∷ Closing 0 (5 ∷ []) ∷ calls) ≡ []
 unfolding calls
 after_the_close = refl
 

@@ -7,7 +7,7 @@ use Rattle.iscsi_ports.specs.Calls.{Call, Accepting, Reading, Handing, Closing}
 abbrev pub given : ℕ → List Call → List ℕ
 given c [] = []
 given c (Reading d room (Ok piece) ∷ earlier) = if d == c then given c earlier ++ piece else given c earlier
-given c (Accepting d (Ok is_watched) ∷ earlier) = if d == c then [] else given c earlier
+given c (Accepting d token (Ok is_kept) ∷ earlier) = if d == c then [] else given c earlier
 given c (Closing d dropped ∷ earlier) = if d == c then [] else given c earlier
 given c (call ∷ earlier) = given c earlier
 
@@ -16,7 +16,7 @@ abbrev pub handed : ℕ → List Call → List ℕ
 handed c [] = []
 handed c (Reading d room (Ok piece) ∷ earlier) = if d == c then handed c earlier ++ take room piece else handed c earlier
 handed c (Handing d room piece ∷ earlier) = if d == c then handed c earlier ++ piece else handed c earlier
-handed c (Accepting d (Ok is_watched) ∷ earlier) = if d == c then [] else handed c earlier
+handed c (Accepting d token (Ok is_kept) ∷ earlier) = if d == c then [] else handed c earlier
 handed c (Closing d dropped ∷ earlier) = if d == c then [] else handed c earlier
 handed c (call ∷ earlier) = handed c earlier
 

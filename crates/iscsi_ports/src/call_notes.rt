@@ -3,10 +3,10 @@
 //! The first number of a note says which call it is of, and the second is 0 or the number of the failure
 //! (`call_by`).
 
-ghost use Rattle.std.specs.Prelude.{◌≡◌, ◌==◌, ◌∷◌, [], Ok, Err, option_map};
+ghost use Rattle.std.specs.Prelude.{◌≡◌, ◌==◌, ◌∷◌, [], None, Ok, Err, option_map};
 ghost use Rattle.std.specs.Duration.{as_nanos};
 ghost use Rattle.std.specs.Net.Socket.{socket_ip, socket_port};
-ghost use Rattle.iscsi_ports.specs.Calls.{Listening, Located, Polling, Naming, Accepting, Reading, Handing, Writing, PuttingOff, Closing, ip_octets, time_of};
+ghost use Rattle.iscsi_ports.specs.Calls.{Listening, Located, Polling, Naming, Accepting, Reading, Handing, Writing, PuttingOff, Closing, ip_octets, time_of, token_of};
 
 use crate::results::Named;
 use crate::socket_failure::SocketFailure;
@@ -62,6 +62,16 @@ fn wait_numbers(wait: Option<Duration>) -> (u64, u64, u64)
     match wait {
         Some(time) => (1, time.as_secs(), u64::from(time.subsec_nanos())),
         None => (0, 0, 0),
+    }
+}
+
+/// A token as a flag and a number of a note: whether there is one, and which.
+fn token_numbers(token: Option<usize>) -> (bool, u64)
+    ensures { token_of result.0 result.1 ≡ token }
+{
+    match token {
+        Some(token) => (true, token as u64),
+        None => (false, 0),
     }
 }
 
@@ -135,17 +145,19 @@ impl CallNotes {
         self.record.note(&numbers, &[], &named.connections);
     }
 
-    /// A connection was accepted under a number, and the system watches it, or not.
-    pub(crate) fn accepted(&mut self, c: usize, is_watched: bool)
-        ensures { self.new ≡ Accepting c (Ok is_watched) ∷ self.old }
+    /// A connection was accepted under a number: the token by which the system watches it, if it does, and
+    /// whether it is kept.
+    pub(crate) fn accepted(&mut self, c: usize, token: Option<usize>, is_kept: bool)
+        ensures { self.new ≡ Accepting c token (Ok is_kept) ∷ self.old }
     {
-        let numbers = [CallKind::Accepting as u64, DONE, c as u64];
-        self.record.note(&numbers, &[], &[is_watched]);
+        let (is_watched, token) = token_numbers(token);
+        let numbers = [CallKind::Accepting as u64, DONE, c as u64, token];
+        self.record.note(&numbers, &[], &[is_kept, is_watched]);
     }
 
     /// An accept failed.
     pub(crate) fn accept_failed(&mut self, c: usize, failure: SocketFailure)
-        ensures { self.new ≡ Accepting c (Err failure) ∷ self.old }
+        ensures { self.new ≡ Accepting c None (Err failure) ∷ self.old }
     {
         let numbers = [CallKind::Accepting as u64, failure.number(), c as u64];
         self.record.note(&numbers, &[], &[]);

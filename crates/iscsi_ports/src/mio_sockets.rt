@@ -7,7 +7,7 @@ ghost use Rattle.std.specs.Net.Socket.{socket_ip, socket_port};
 ghost use Rattle.std.specs.Result.{IsErrOf};
 ghost use Rattle.std.specs.Net.Grammar.{IsSocketText};
 ghost use Rattle.std.specs.declared.net.socket_addr.SocketAddr.{SocketAddr};
-ghost use Rattle.iscsi_ports.specs.Calls.{Accepting, Closing, Listening, Located, Polling, ip_octets, named_by};
+ghost use Rattle.iscsi_ports.specs.Calls.{Accepting, Closing, Listening, Located, Polling, ip_octets, named_by, token_after};
 ghost use Rattle.iscsi_ports.specs.Lingering.{place_of, place_to_take, turns_left};
 ghost use Rattle.iscsi_ports.specs.Readiness.{after_event};
 ghost use Rattle.mio.specs.Events.{items};
@@ -29,7 +29,8 @@ use crate::results::Named;
 use crate::socket_calls::SocketCalls;
 use crate::socket_failure::{SocketFailure, socket_failure};
 use crate::stream_calls::write_to;
-use crate::watching::{keep, watched};
+use crate::watching::{set_options, watch, watched};
+use connection_numbers::CONNECTIONS;
 use mio::net::{TcpListener, TcpStream};
 use mio::{Events, Poll};
 use std::alloc::Global;
@@ -152,18 +153,22 @@ impl SocketCalls for MioSockets {
 
     fn accept(&mut self, c: usize) -> Result<bool, SocketFailure>
         requires { c ≤ 64 }
-        ensures noted { ⟦<MioSockets as SocketCalls>⟧.calls self.new ≡ Accepting c result ∷ ⟦<MioSockets as SocketCalls>⟧.calls self.old }
+        ensures noted { ⟦<MioSockets as SocketCalls>⟧.calls self.new
+            ≡ Accepting c (token_after c result) result ∷ ⟦<MioSockets as SocketCalls>⟧.calls self.old }
         ensures kept { result ≡ Ok true → IsSome (slice_index_or self.new.streams.items c None) }
         ensures dropped { result ≡ Ok false → self.new.streams.items ≡ self.old.streams.items }
     {
         match self.listener.accept() {
-            Ok((stream, _)) => {
-                let streams = self.streams.as_mut_slice();
-                let is_watched = keep(self.poll.registry(), streams, c, stream);
-                self.notes.accepted(c, is_watched);
-                let place = &mut self.ahead[c];
-                *place = None;
-                Ok(is_watched)
+            Ok((mut stream, _)) => {
+                set_options(&stream);
+                let token = watch(self.poll.registry(), &mut stream, c);
+                let is_kept = token.is_some() || c == CONNECTIONS;
+                self.notes.accepted(c, token, is_kept);
+                self.ahead[c] = None;
+                if is_kept {
+                    self.streams[c] = Some(stream);
+                }
+                Ok(is_kept)
             }
             Err(error) => {
                 let failure = socket_failure(&error);

@@ -4,7 +4,7 @@ ghost use Rattle.std.specs.Prelude.{◌≡◌, ◌<◌, ◌≤◌, ◌++◌, ◌
 ghost use Rattle.std.specs.Duration.{as_nanos};
 ghost use Rattle.std.specs.Io.{WritesAtMost};
 ghost use Rattle.iscsi_ports.specs.Log.{Read};
-ghost use Rattle.iscsi_ports.specs.Calls.{Call, Polling, Naming, Accepting, Writing, PuttingOff, Closing, named_by, moved, read_carried, log_by};
+ghost use Rattle.iscsi_ports.specs.Calls.{Call, Polling, Naming, Accepting, Writing, PuttingOff, Closing, named_by, moved, read_carried, log_by, token_after};
 ghost use Rattle.iscsi_ports.specs.ReadBuffer.{given, handed, AreDropped};
 ghost use Rattle.iscsi_ports.specs.Polls.{IsNoLonger, unasked_in};
 ghost use Rattle.iscsi_ports.specs.Readiness.{after_write, IsReadBy};
@@ -38,11 +38,11 @@ pub trait SocketCalls {
     fn note_named(&mut self, named: &Named)
         ensures { calls self.new ≡ Naming named.now ∷ calls self.old };
 
-    /// Accepts a connection under this number. Whether the system watches it: one that it does not
-    /// watch is dropped at once.
+    /// Accepts a connection under this number, by which the system watches it. Whether it is kept: one that
+    /// the system does not watch is dropped at once.
     fn accept(&mut self, c: usize) -> Result<bool, SocketFailure>
         requires { c ≤ 64 }
-        ensures { calls self.new ≡ Accepting c result ∷ calls self.old };
+        ensures { calls self.new ≡ Accepting c (token_after c result) result ∷ calls self.old };
 
     /// How many bytes are ahead of a connection.
     fn count_ahead(&self, c: usize) -> usize

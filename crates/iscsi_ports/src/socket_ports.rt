@@ -9,7 +9,7 @@ ghost use Rattle.std.specs.Net.Grammar.{IsSocketText};
 ghost use Rattle.std.specs.declared.net.socket_addr.SocketAddr.{SocketAddr};
 ghost use Rattle.iscsi_ports.specs.Results.{carried_by, count_of, poll_entry, accept_entry};
 ghost use Rattle.iscsi_ports.specs.Log.{Listened, Located, Read, Wrote, Close};
-ghost use Rattle.iscsi_ports.specs.Calls.{Polling, Naming, Accepting, Writing, PuttingOff, Closing, ip_octets, moved, accepted, read_carried, write_carried, log_by};
+ghost use Rattle.iscsi_ports.specs.Calls.{Polling, Naming, Accepting, Writing, PuttingOff, Closing, ip_octets, moved, accepted, read_carried, write_carried, log_by, token_after};
 ghost use Rattle.iscsi_ports.specs.Readiness as ready;
 ghost use Rattle.iscsi_ports.specs.Readiness.{forgotten, IsReadBy};
 ghost use Rattle.iscsi_ports.specs.Polls.{wait_for, IsNoLonger};
@@ -322,7 +322,7 @@ impl<K: SocketCalls + Drop> Ports for SocketPorts<K> {
     fn accept(&mut self, c: usize) -> Result<Accepted, PortFault>
         requires { c ≤ 64 }
         ensures log { log_by (K.calls self.new.sockets) ≡ log_by (K.calls self.old.sockets) ++ accept_entry c result ∷ [] }
-        ensures asked { (answer : Result Bool SocketFailure) × (K.calls self.new.sockets ≡ Accepting c answer ∷ K.calls self.old.sockets)
+        ensures asked { (answer : Result Bool SocketFailure) × (K.calls self.new.sockets ≡ Accepting c (token_after c answer) answer ∷ K.calls self.old.sockets)
             × (self.new ≡ after_accepting c answer self.new.sockets self.old) }
         ensures in_time { AsksInTime (K.calls self.old.sockets) self.old → AsksInTime (K.calls self.new.sockets) self.new }
     {

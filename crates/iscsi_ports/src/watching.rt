@@ -1,7 +1,6 @@
 //! Sockets that the system watches, so that a poll names them.
 
-ghost use Rattle.std.specs.Prelude.{◌≡◌, ◌<◌, length, true, false, slice_set, Some};
-ghost use Rattle.mio.specs.declared.net.stream.TcpStream.{TcpStream};
+ghost use Rattle.std.specs.Prelude.{◌≡◌, ◌≤◌, None, IfSome};
 
 use crate::peer_watch::watch_peer;
 use connection_numbers::CONNECTIONS;
@@ -21,27 +20,25 @@ pub(crate) fn watched(net: &impl Net, poll: &Poll, address: SocketAddr) -> io::R
     Ok(listener)
 }
 
-/// Keeps a connection under its number, and says whether the system watches it: one that it does not
-/// watch is dropped, since no poll would ever name it.
-pub(crate) fn keep(
-    registry: &Registry,
-    streams: &mut [Option<TcpStream>],
-    c: usize,
-    mut stream: TcpStream,
-) -> bool
-    requires { c < length streams.old }
-    ensures kept { result ≡ true → (place : TcpStream) × (streams.new ≡ slice_set streams.old c (Some place)) }
-    ensures dropped { result ≡ false → streams.new ≡ streams.old }
-{
-    // A connection that its peer has reset cannot be set; its next read tells so.
+/// Sets the options of a connection. One that its peer has reset cannot be set; its next read tells so.
+pub(crate) fn set_options(stream: &TcpStream) {
     let _ = stream.set_nodelay(true);
-    watch_peer(&stream);
-    if c < CONNECTIONS {
-        let both = Interest::READABLE | Interest::WRITABLE;
-        if registry.register(&mut stream, Token(c), both).is_err() {
-            return false;
-        }
+    watch_peer(stream);
+}
+
+/// Has the system watch a connection by its number, so that a poll names it. One without a number is closed at
+/// once, and not watched.
+pub(crate) fn watch(registry: &Registry, stream: &mut TcpStream, c: usize) -> Option<usize>
+    ensures by_its_number { IfSome result (λ token. token ≡ c) }
+    ensures without { 64 ≤ c → result ≡ None }
+{
+    if c >= CONNECTIONS {
+        return None;
     }
-    streams[c] = Some(stream);
-    true
+    let both = Interest::READABLE | Interest::WRITABLE;
+    let token = Token(c);
+    match registry.register(stream, token, both) {
+        Ok(()) => Some(token.0),
+        Err(_) => None,
+    }
 }
