@@ -6,13 +6,22 @@ use Rattle.iscsi_ports.specs.Polls.{wait_for, unasked_in}
 use Rattle.iscsi_ports.specs.Readiness.{flag_of, flags_with, none_of, goes_on, accept_goes_on, after_accept, after_write}
 use Rattle.iscsi_ports.specs.declared.readiness.Readiness.{Readiness}
 use Rattle.iscsi_ports.specs.declared.socket_ports.SocketPorts.{SocketPorts}
+use Rattle.iscsi_ports.specs.declared.stopwatch.Stopwatch.{Stopwatch}
 use Rattle.iscsi_ports.specs.declared.socket_failure.SocketFailure.{SocketFailure}
 use Rattle.iscsi_ports.specs.declared.socket_failure.SocketFailure.TheVariants.{WouldWait, Refused}
 
--- own: a poll asks the system, but not where bytes that are ahead were just read, nor at once behind something that was
--- done; where so many polls were answered without asking it asks whatever happened
-abbrev pub asks : Bool → Bool → ℕ → ℕ → Bool
-asks holding busy unasked most_unasked = not (nat_lt unasked most_unasked && (holding || (busy && nat_lt unasked 1)))
+-- own: a poll is due to ask the system where so many were answered, or so many bytes carried, without asking it
+abbrev pub is_due : ℕ → ℕ → ℕ → Bool
+is_due unasked most_unasked carried = nat_le most_unasked unasked || nat_le 262144 carried
+
+-- own: bytes that are ahead were just read, or something was done just behind a poll that asked
+abbrev pub is_to_go_on : Bool → Bool → ℕ → Bool
+is_to_go_on holding busy unasked = holding || (busy && nat_lt unasked 1)
+
+-- own: behind a read or a write of so many bytes; no more than 262144 are counted
+abbrev pub carried_after : Result ℕ SocketFailure → ℕ → ℕ
+carried_after (Ok count) carried = min (carried + count) 262144
+carried_after (Err failure) carried = carried
 
 -- own: once the system was asked, twice as many polls and one may be answered without asking it, up to 63
 abbrev pub longer : ℕ → ℕ
@@ -41,8 +50,10 @@ is_refused answer = false
 -- ---- the ports behind a call, but for the sockets: how it changes these, and what they answer, the clauses say
 
 module _ {K : Type 0} where
-  abbrev pub asks_now : SocketPorts K → Bool
-  asks_now ports = asks ports.holding ports.busy ports.unasked ports.most_unasked
+  -- own: a poll asks the system where it is due, where it cannot go on, or where a millisecond has passed since it was asked
+  abbrev pub asks_now : Bool → SocketPorts K → Bool
+  asks_now has_passed ports =
+      is_due ports.unasked ports.most_unasked ports.carried || not (is_to_go_on ports.holding ports.busy ports.unasked) || has_passed
 
   abbrev pub wait_now : SocketPorts K → Option ℕ
   wait_now ports = wait_for ports.busy ports.refused (option_map as_nanos ports.wait)
@@ -57,8 +68,8 @@ module _ {K : Type 0} where
   abbrev pub has_to_wait : ℕ → ℕ → ℕ → SocketPorts K → Bool
   has_to_wait c ahead offered ports = flag_of c ports.readiness.full || is_put_off (flag_of c ports.has_read) ahead offered
 
-  abbrev pub after_asking : K → Readiness → SocketPorts K → SocketPorts K
-  after_asking sockets readiness ports = record ports {
+  abbrev pub after_asking : K → Readiness → Stopwatch → SocketPorts K → SocketPorts K
+  after_asking sockets readiness stopwatch ports = record ports {
     sockets = sockets;
     readiness = readiness;
     busy = false;
@@ -66,16 +77,19 @@ module _ {K : Type 0} where
     has_read = none_of;
     unasked = 0;
     most_unasked = longer ports.most_unasked;
+    carried = 0;
+    stopwatch = stopwatch;
     refused = false;
   }
 
-  abbrev pub after_naming : K → SocketPorts K → SocketPorts K
-  after_naming sockets ports = record ports {
+  abbrev pub after_naming : K → Stopwatch → SocketPorts K → SocketPorts K
+  after_naming sockets stopwatch ports = record ports {
     sockets = sockets;
     busy = false;
     holding = false;
     has_read = none_of;
     unasked = ports.unasked + 1;
+    stopwatch = stopwatch;
   }
 
   abbrev pub after_accepting : ℕ → Result Bool SocketFailure → K → SocketPorts K → SocketPorts K
@@ -91,6 +105,7 @@ module _ {K : Type 0} where
     sockets = sockets;
     readiness = readiness;
     busy = ports.busy || goes_on answer;
+    carried = carried_after answer ports.carried;
     holding = ports.holding || (gave answer && nat_lt 0 ahead);
     has_read = flags_with (gave answer) c true ports.has_read;
   }
@@ -100,5 +115,6 @@ module _ {K : Type 0} where
     sockets = sockets;
     readiness = after_write c answer ports.readiness;
     busy = ports.busy || goes_on answer;
+    carried = carried_after answer ports.carried;
     most_unasked = most_after answer ports.most_unasked;
   }

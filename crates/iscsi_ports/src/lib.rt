@@ -5,6 +5,7 @@
 //! clauses read; [`MemPorts`] follow a script and keep their log, for tests.
 #![tactic(auto)]
 
+mod asking;
 mod bind_fault;
 mod call_notes;
 mod entry;
@@ -22,6 +23,7 @@ mod script;
 mod socket_calls;
 mod socket_failure;
 mod socket_ports;
+mod stopwatch;
 mod stream_calls;
 mod watching;
 

@@ -12,10 +12,14 @@ ghost use Rattle.iscsi_ports.specs.Log.{Listened, Located, Read, Wrote, Close};
 ghost use Rattle.iscsi_ports.specs.Calls.{Polling, Naming, Accepting, Writing, PuttingOff, Closing, ip_octets, moved, accepted, read_carried, write_carried, log_by, token_after};
 ghost use Rattle.iscsi_ports.specs.Readiness as ready;
 ghost use Rattle.iscsi_ports.specs.Readiness.{forgotten, IsReadBy};
-ghost use Rattle.iscsi_ports.specs.Polls.{wait_for, IsNoLonger};
+ghost use Rattle.iscsi_ports.specs.Polls.{IsNoLonger};
 ghost use Rattle.iscsi_ports.specs.Asking as asking;
-ghost use Rattle.iscsi_ports.specs.Asking.{asks, asks_now, wait_now, AsksInTime, after_asking, after_naming, after_accepting, after_reading, after_writing};
+ghost use Rattle.iscsi_ports.specs.Asking.{asks_now, wait_now, AsksInTime, after_asking, after_naming, after_accepting, after_reading, after_writing};
 
+use crate::asking::{
+    MOST_UNASKED, carried_after, gave, goes_on, is_due, is_put_off, is_refused, is_to_go_on,
+    longer, most_after, to_wait,
+};
 use crate::bind_fault::BindFault;
 use crate::mio_sockets::MioSockets;
 use crate::ports::Ports;
@@ -23,31 +27,20 @@ use crate::readiness::{Readiness, set_where};
 use crate::results::{Accepted, IoResult, Named, PortFault};
 use crate::socket_calls::SocketCalls;
 use crate::socket_failure::SocketFailure;
+use crate::stopwatch::Stopwatch;
 use connection_numbers::CONNECTIONS;
 use std::alloc::Global;
 use std::io;
 use std::net::{Net, SocketAddr};
 use std::time::Duration;
 
-/// For how many seconds a poll waits at most where an accept is to be tried again.
-const SHORTLY: u64 = 1;
-
-/// So many polls in a row at most are answered without asking the system.
-const MOST_UNASKED: u32 = 63;
-
-/// The bytes of a header (RFC 7143 §11.2.1).
-const HEADER: usize = 48;
-
-/// A write of fewer bytes may be put off.
-const MOST_PUT_OFF: usize = 262_144;
-
 /// Ports over the calls of the system, whose record they tell.
 ///
 /// A read takes as many bytes from the system as it gives, and those that the reader has no room for are
-/// told by the next reads. While such bytes are ahead the system is asked for events at each 64th poll
-/// alone, and what is to be written waits for the answers to the commands that are ahead. Behind a write that
-/// would have waited the next poll asks, then every other one, every fourth and so on, so that the connection is
-/// offered the rest soon.
+/// told by the next reads. While such bytes are ahead the system is asked for events at each 64th poll, as soon
+/// as 256 KiB were read and written, and after a millisecond, and what is to be written waits for the answers to
+/// the commands that are ahead. Behind a write that would have waited the next poll asks, then every other one,
+/// every fourth and so on, so that the connection is offered the rest soon.
 ///
 /// A port is named from an event of the system on until a read or an accept of it would wait, and as long as
 /// bytes of it are ahead.
@@ -66,6 +59,10 @@ pub struct SocketPorts<K: SocketCalls + Drop> {
     unasked: u32,
     /// So many in a row may be.
     most_unasked: u32,
+    /// So many bytes were read and written meanwhile, as far as they count.
+    carried: usize,
+    /// It was started when the system was asked.
+    stopwatch: Stopwatch,
     /// The last accept was refused: those who wait are still there, and no event will tell of them.
     refused: bool,
     /// For how long a poll waits. `None`: until there is an event.
@@ -101,6 +98,8 @@ impl SocketPorts<MioSockets> {
             has_read: [false; CONNECTIONS],
             unasked: 0,
             most_unasked: MOST_UNASKED,
+            carried: 0,
+            stopwatch: Stopwatch::start(),
             refused: false,
             wait: wait.map(Duration::from_millis),
         })
@@ -116,48 +115,6 @@ impl SocketPorts<MioSockets> {
     {
         self.sockets.address()
     }
-}
-
-/// Whether a poll asks the system: not where bytes that are ahead were just read, nor at once after
-/// something was done, but whatever happens where so many polls were answered without asking.
-fn is_to_ask(holding: bool, busy: bool, unasked: u32, most_unasked: u32) -> bool
-    ensures { result ≡ asks holding busy unasked most_unasked }
-{
-    unasked >= most_unasked || !holding && !(busy && unasked == 0)
-}
-
-/// How many polls in a row may be answered without asking, once the system was asked: twice as many and one,
-/// up to 63.
-fn longer(most_unasked: u32) -> u32
-    ensures { result ≡ asking.longer most_unasked }
-{
-    if most_unasked >= MOST_UNASKED / 2 {
-        return MOST_UNASKED;
-    }
-    2 * most_unasked + 1
-}
-
-/// Whether a write of so many bytes is put off, on a connection of which bytes were just read and so many are
-/// ahead: as long as these may hold a whole header, whose answer can go with it.
-fn is_put_off(has_read: bool, ahead: usize, offered: usize) -> bool
-    ensures { result ≡ asking.is_put_off has_read ahead offered }
-{
-    has_read && ahead >= HEADER && offered < MOST_PUT_OFF
-}
-
-/// For how long the next poll waits: not at all where there may be more, and no longer than
-/// [`SHORTLY`] where an accept is to be tried again.
-fn to_wait(busy: bool, refused: bool, wait: Option<Duration>) -> Option<Duration>
-    ensures { option_map as_nanos result ≡ wait_for busy refused (option_map as_nanos wait) }
-{
-    if busy {
-        return Some(Duration::ZERO);
-    }
-    if !refused {
-        return wait;
-    }
-    let shortly = Duration::from_secs(SHORTLY);
-    Some(wait.map_or(shortly, |limit| limit.min(shortly)))
 }
 
 /// What an accept came to.
@@ -228,40 +185,6 @@ fn accept_goes_on(answer: Result<bool, SocketFailure>) -> bool
     )
 }
 
-/// Those who wait are still there, and no event will tell of them.
-fn is_refused(answer: Result<bool, SocketFailure>) -> bool
-    ensures { result ≡ asking.is_refused answer }
-{
-    matches!(answer, Err(SocketFailure::Refused))
-}
-
-/// Something was done, or is to be tried again at once.
-fn goes_on(answer: Result<usize, SocketFailure>) -> bool
-    ensures { result ≡ ready.goes_on answer }
-{
-    matches!(answer, Ok(_) | Err(SocketFailure::Interrupted))
-}
-
-/// A read gave bytes.
-fn gave(answer: Result<usize, SocketFailure>) -> bool
-    ensures { result ≡ asking.gave answer }
-{
-    match answer {
-        Ok(count) => count > 0,
-        Err(_) => false,
-    }
-}
-
-/// How many polls in a row may be answered without asking, behind a write.
-fn most_after(answer: Result<usize, SocketFailure>, most_unasked: u32) -> u32
-    ensures { result ≡ asking.most_after answer most_unasked }
-{
-    match answer {
-        Err(SocketFailure::WouldWait) => 0,
-        _ => most_unasked,
-    }
-}
-
 impl<K: SocketCalls + Drop> SocketPorts<K> {
     /// After a read.
     fn after_read(&mut self, c: usize, answer: Result<usize, SocketFailure>)
@@ -270,8 +193,19 @@ impl<K: SocketCalls + Drop> SocketPorts<K> {
     {
         let gave = gave(answer);
         self.busy |= goes_on(answer);
+        self.carried = carried_after(answer, self.carried);
         self.holding |= gave & (self.sockets.count_ahead(c) > 0);
         set_where(gave, &mut self.has_read, c, true);
+    }
+
+    /// Whether a poll asks the system. The clock is looked at where nothing else has it ask.
+    fn is_to_ask(&mut self) -> bool
+        ensures asks { result ≡ asks_now self.new.stopwatch.has_passed self.old }
+        ensures same { self.new ≡ record self.old { stopwatch = self.new.stopwatch } }
+    {
+        is_due(self.unasked, self.most_unasked, self.carried)
+            || !is_to_go_on(self.holding, self.busy, self.unasked)
+            || self.stopwatch.look()
     }
 
     /// Whether a write of so many bytes has to wait: the connection takes none now, or its answers are put off.
@@ -291,16 +225,18 @@ impl<K: SocketCalls + Drop> Ports for SocketPorts<K> {
 
     fn poll(&mut self) -> Result<Named, PortFault>
         ensures log { log_by (K.calls self.new.sockets) ≡ log_by (K.calls self.old.sockets) ++ poll_entry result ∷ [] }
-        ensures asked { asks_now self.old ≡ true
+        ensures asked { asks_now self.new.stopwatch.has_passed self.old ≡ true
             → (handed : Option ℕ) × IsNoLonger handed (wait_now self.old)
             × ((named : Result Named SocketFailure) × (K.calls self.new.sockets ≡ Polling handed named ∷ K.calls self.old.sockets)) }
-        ensures after_asking { asks_now self.old ≡ true → self.new ≡ after_asking self.new.sockets self.new.readiness self.old }
-        ensures unasked { asks_now self.old ≡ false
+        ensures after_asking { asks_now self.new.stopwatch.has_passed self.old ≡ true
+            → self.new ≡ after_asking self.new.sockets self.new.readiness self.new.stopwatch self.old }
+        ensures unasked { asks_now self.new.stopwatch.has_passed self.old ≡ false
             → K.calls self.new.sockets ≡ Naming self.old.readiness.named ∷ K.calls self.old.sockets }
-        ensures after_naming { asks_now self.old ≡ false → self.new ≡ after_naming self.new.sockets self.old }
+        ensures after_naming { asks_now self.new.stopwatch.has_passed self.old ≡ false
+            → self.new ≡ after_naming self.new.sockets self.new.stopwatch self.old }
         ensures in_time { AsksInTime (K.calls self.old.sockets) self.old → AsksInTime (K.calls self.new.sockets) self.new }
     {
-        let asks = is_to_ask(self.holding, self.busy, self.unasked, self.most_unasked);
+        let asks = self.is_to_ask();
         let wait = to_wait(self.busy, self.refused, self.wait);
         self.busy = false;
         self.holding = false;
@@ -312,8 +248,11 @@ impl<K: SocketCalls + Drop> Ports for SocketPorts<K> {
         }
         self.unasked = 0;
         self.most_unasked = longer(self.most_unasked);
+        self.carried = 0;
         self.refused = false;
-        match self.sockets.poll(&mut self.readiness, wait) {
+        let answer = self.sockets.poll(&mut self.readiness, wait);
+        self.stopwatch.restart();
+        match answer {
             Ok(()) => Ok(self.readiness.named),
             Err(_) => Err(PortFault),
         }
@@ -369,6 +308,7 @@ impl<K: SocketCalls + Drop> Ports for SocketPorts<K> {
         }
         let answer = self.sockets.write(&mut self.readiness, c, bytes);
         self.busy |= goes_on(answer);
+        self.carried = carried_after(answer, self.carried);
         self.most_unasked = most_after(answer, self.most_unasked);
         write_told(answer)
     }
