@@ -11,7 +11,7 @@ import time
 
 import notation
 import pdu
-from sockets import (CONNECTIONS, LOGIN, READY_AGAIN, UNITS, answer_of, answers, connect, disk_file, held_clients,
+from sockets import (CONNECTIONS, LOGIN, READY, READY_AGAIN, UNITS, answer_of, answers, connect, disk_file, held_clients,
                      is_answered, is_closed, read, read_10, requests, reset, serving)
 
 AHEAD = 65536  # bytes that are read ahead of a connection at most
@@ -130,6 +130,22 @@ def begins_with_nothing_ahead_under_a_number_that_was_used():
                 assert read(second, len(answers(0)))[16:] == answers(0)[16:]
 
 
+def answers_what_came_behind_urgent_data():
+    # A read ends at the mark of the urgent byte, which is no part of the stream. Nothing more comes behind it.
+    with serving() as (process, address), connect(address) as client:
+        process.send_signal(signal.SIGSTOP)
+        client.sendall(LOGIN + READY)
+        client.send(b"!", socket.MSG_OOB)
+        client.sendall(READY_AGAIN)
+        time.sleep(0.1)
+        process.send_signal(signal.SIGCONT)
+        data = read(client, len(answers(0)))
+        assert data == answers(0), data.hex()
+        client.send(b"!", socket.MSG_OOB)
+        client.sendall(commands(1))
+        assert are_good(read(client, pdu.HEADER)) == 1
+
+
 def serves_a_slow_client_beside_63_floods():
     with serving(units=BIG_UNITS) as (_, address):
         clients = held_clients(address, CONNECTIONS)
@@ -216,6 +232,7 @@ CHECKS = [
     ends_only_the_connection_that_is_reset_with_commands_ahead,
     carries_out_nothing_behind_a_violation,
     begins_with_nothing_ahead_under_a_number_that_was_used,
+    answers_what_came_behind_urgent_data,
     serves_a_slow_client_beside_63_floods,
     goes_on_for_the_others_while_one_does_not_read,
     answers_commands_in_pieces_of_any_length,

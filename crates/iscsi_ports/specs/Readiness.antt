@@ -1,7 +1,7 @@
 -- Which ports may be ready, as far as it is known: after an event of the system, and after each call.
 use Rattle.std.specs.Prelude.{◌≡◌, ◌≤◌, ◌+◌, ℕ, ◌==◌, nat_lt, Bool, true, false, ◌&&◌, ◌||◌, not, List, replicate, slice_index_or, slice_set, Result, Ok, Err, if◌then◌else◌}
 use Rattle.mio.specs.declared.event.event.Event.{Event}
-use Rattle.mio.specs.Event.{event_token, is_readable, is_writable, is_error, is_read_closed}
+use Rattle.mio.specs.Event.{event_token, is_readable, is_writable, is_error, is_read_closed, is_priority}
 use Rattle.connection_numbers.specs.Numbers.{connection_limit}
 use Rattle.iscsi_ports.specs.declared.readiness.Readiness.{Readiness}
 use Rattle.iscsi_ports.specs.declared.readiness.ReadyEvent.{ReadyEvent}
@@ -23,6 +23,7 @@ nothing_ready = record {
   named = record { listener = false; connections = none_of };
   readable = none_of;
   ended = none_of;
+  urgent = none_of;
   full = none_of;
 }
 
@@ -35,12 +36,13 @@ may_give event = event.is_readable || event.has_ended
 abbrev pub may_take : ReadyEvent → Bool
 may_take event = event.is_writable || event.has_ended
 
--- epoll(7): EPOLLRDHUP and EPOLLERR tell of a peer that has ended, and of a failure
+-- epoll(7): EPOLLRDHUP and EPOLLERR tell of a peer that has ended, and of a failure, and EPOLLPRI of urgent data
 abbrev pub ready_event : Event → ReadyEvent
 ready_event event = record {
   is_readable = is_readable event;
   is_writable = is_writable event;
   has_ended = is_read_closed event || is_error event;
+  is_urgent = is_priority event;
 }
 
 abbrev pub with_event : ℕ → ReadyEvent → Readiness → Readiness
@@ -48,6 +50,7 @@ with_event c event readiness = record readiness {
   named = record readiness.named { connections = flags_with (may_give event) c true readiness.named.connections };
   readable = flags_with (may_give event) c true readiness.readable;
   ended = flags_with event.has_ended c true readiness.ended;
+  urgent = flags_with event.is_urgent c true readiness.urgent;
   full = flags_with (may_take event) c false readiness.full;
 }
 
@@ -68,10 +71,24 @@ after_event readiness event =
 abbrev pub still_readable : Bool → Bool → Bool → Bool
 still_readable is_readable took_all has_ended = is_readable && (not took_all || has_ended)
 
-abbrev pub after_taking : ℕ → Bool → Readiness → Readiness
-after_taking c took_all readiness = record readiness {
+-- own: a read or a write would have waited
+abbrev pub would_wait : {T : Type 0} → Result T SocketFailure → Bool
+would_wait (Err WouldWait) = true
+would_wait answer = false
+
+-- own: a read into so much room took all that the system had. It ends at the mark of urgent data, which may have more
+-- behind it (tcp(7)).
+abbrev pub took_all : Result ℕ SocketFailure → ℕ → Bool → Bool
+took_all (Ok count) room is_urgent = nat_lt count room && not is_urgent
+took_all (Err WouldWait) room is_urgent = true
+took_all (Err failure) room is_urgent = false
+
+-- own: one that would wait is behind all urgent data
+abbrev pub after_taking : ℕ → Result ℕ SocketFailure → ℕ → Readiness → Readiness
+after_taking c answer room readiness = record readiness {
   readable = slice_set readiness.readable c
-      (still_readable (flag_of c readiness.readable) took_all (flag_of c readiness.ended));
+      (still_readable (flag_of c readiness.readable) (took_all answer room (flag_of c readiness.urgent)) (flag_of c readiness.ended));
+  urgent = flags_with (would_wait answer) c false readiness.urgent;
 }
 
 -- own: named as long as the system or what is ahead may give bytes
@@ -93,6 +110,7 @@ forgotten c readiness =
       named = record readiness.named { connections = slice_set readiness.named.connections c false };
       readable = slice_set readiness.readable c false;
       ended = slice_set readiness.ended c false;
+      urgent = slice_set readiness.urgent c false;
       full = slice_set readiness.full c false;
     } else readiness
 
@@ -120,12 +138,6 @@ goes_on (Ok count) = true
 goes_on (Err Interrupted) = true
 goes_on (Err failure) = false
 
--- own: a read into so much room took all that the system had
-abbrev pub took_all : Result ℕ SocketFailure → ℕ → Bool
-took_all (Ok count) room = nat_lt count room
-took_all (Err WouldWait) room = true
-took_all (Err failure) room = false
-
 -- own: what a read of the system gave: what was handed on of it, and what is ahead of the connection then
 abbrev pub given_in_all : Result ℕ SocketFailure → ℕ → Result ℕ SocketFailure
 given_in_all (Ok count) ahead = Ok (count + ahead)
@@ -139,7 +151,7 @@ asks_for room ahead = nat_lt 0 room && not (nat_lt 0 ahead)
 -- capacity
 abbrev pub read_by : ℕ → ℕ → ℕ → ℕ → ℕ → Result ℕ SocketFailure → Readiness → Readiness
 read_by capacity c room was_ahead ahead answer readiness =
-    if asks_for room was_ahead then after_taking c (took_all (given_in_all answer ahead) capacity) readiness else readiness
+    if asks_for room was_ahead then after_taking c (given_in_all answer ahead) capacity readiness else readiness
 
 -- own: by a buffer that is no smaller than the room
 abbrev pub IsReadBy : ℕ → ℕ → ℕ → ℕ → Result ℕ SocketFailure → Readiness → Readiness → Type 0

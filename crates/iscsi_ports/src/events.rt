@@ -22,6 +22,7 @@ fn see(readiness: &mut Readiness, event: &Event)
             is_readable: event.is_readable(),
             is_writable: event.is_writable(),
             has_ended: event.is_read_closed() || event.is_error(),
+            is_urgent: event.is_priority(),
         };
         readiness.see(token, event);
     }

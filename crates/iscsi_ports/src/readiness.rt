@@ -1,14 +1,17 @@
 //! Which ports may be ready, as far as it is known.
 //!
 //! The system tells a change once (EPOLLET of epoll(7)). So a connection stays readable until a read of
-//! it would wait or gave less than it had room for. Where its peer has ended, or it failed, no further
-//! event tells of it, and it stays readable until a read says so. One whose write would have waited takes
-//! nothing until an event says that it can.
+//! it would wait or gave less than it had room for. A read ends at the mark of urgent data, whatever is behind
+//! it (tcp(7)), so one to which such data came stays readable until a read would wait. Where its peer has ended,
+//! or it failed, no further event tells of it, and it stays readable until a read says so. One whose write would
+//! have waited takes nothing until an event says that it can.
 
 ghost use Rattle.std.specs.Prelude.{◌≡◌, ◌<◌};
 ghost use Rattle.iscsi_ports.specs.Readiness.{nothing_ready, may_give, may_take, still_readable, flags_with, flag_of, with_event, after_taking, named_again, filled, forgotten};
+ghost use Rattle.iscsi_ports.specs.Readiness as ready;
 
 use crate::results::Named;
+use crate::socket_failure::SocketFailure;
 use connection_numbers::CONNECTIONS;
 
 /// What the system told in an event of a connection.
@@ -18,6 +21,8 @@ pub(crate) struct ReadyEvent {
     pub(crate) is_writable: bool,
     /// Its peer has ended, or it failed.
     pub(crate) has_ended: bool,
+    /// Urgent data has come.
+    pub(crate) is_urgent: bool,
 }
 
 /// The ports that may be ready.
@@ -30,6 +35,8 @@ pub struct Readiness {
     readable: [bool; CONNECTIONS],
     /// Those whose peers have ended, and those that failed.
     ended: [bool; CONNECTIONS],
+    /// Those to which urgent data came, and of which no read would have waited since.
+    urgent: [bool; CONNECTIONS],
     /// Those whose last write would have waited.
     full: [bool; CONNECTIONS],
 }
@@ -47,6 +54,23 @@ impl ReadyEvent {
         ensures { result ≡ may_take self }
     {
         self.is_writable || self.has_ended
+    }
+}
+
+/// A read or a write would have waited.
+fn would_wait(answer: Result<usize, SocketFailure>) -> bool
+    ensures { result ≡ ready.would_wait answer }
+{
+    answer == Err(SocketFailure::WouldWait)
+}
+
+/// Whether a read into so much room took all that the system had.
+fn took_all(answer: Result<usize, SocketFailure>, room: usize, is_urgent: bool) -> bool
+    ensures { result ≡ ready.took_all answer room is_urgent }
+{
+    match answer {
+        Ok(count) => count < room && !is_urgent,
+        Err(failure) => failure == SocketFailure::WouldWait,
     }
 }
 
@@ -79,6 +103,7 @@ impl Readiness {
             },
             readable: [false; CONNECTIONS],
             ended: [false; CONNECTIONS],
+            urgent: [false; CONNECTIONS],
             full: [false; CONNECTIONS],
         }
     }
@@ -91,15 +116,18 @@ impl Readiness {
         set_where(event.may_give(), &mut self.readable, c, true);
         set_where(event.may_give(), &mut self.named.connections, c, true);
         set_where(event.has_ended, &mut self.ended, c, true);
+        set_where(event.is_urgent, &mut self.urgent, c, true);
         set_where(event.may_take(), &mut self.full, c, false);
     }
 
-    /// A read of the system took all that there was, or perhaps not.
-    pub(crate) fn took(&mut self, c: usize, took_all: bool)
+    /// After a read of the system into so much room.
+    pub(crate) fn took(&mut self, c: usize, answer: Result<usize, SocketFailure>, room: usize)
         requires { c < 64 }
-        ensures { self.new ≡ after_taking c took_all self.old }
+        ensures { self.new ≡ after_taking c answer room self.old }
     {
+        let took_all = took_all(answer, room, self.urgent[c]);
         self.readable[c] = stays_readable(self.readable[c], took_all, self.ended[c]);
+        set_where(would_wait(answer), &mut self.urgent, c, false);
     }
 
     /// After a read: the connection is named as long as the system or what is ahead may give bytes of it.
@@ -134,6 +162,7 @@ impl Readiness {
             self.named.connections[c] = false;
             self.readable[c] = false;
             self.ended[c] = false;
+            self.urgent[c] = false;
             self.full[c] = false;
         }
     }

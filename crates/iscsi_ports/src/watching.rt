@@ -35,9 +35,9 @@ pub(crate) fn watch(registry: &Registry, stream: &mut TcpStream, c: usize) -> Op
     if c >= CONNECTIONS {
         return None;
     }
-    let both = Interest::READABLE | Interest::WRITABLE;
+    let all = Interest::READABLE | Interest::WRITABLE | Interest::PRIORITY;
     let token = Token(c);
-    match registry.register(stream, token, both) {
+    match registry.register(stream, token, all) {
         Ok(()) => Some(token.0),
         Err(_) => None,
     }

@@ -9,7 +9,7 @@ ghost use Rattle.iscsi_ports.specs.Log.{Read};
 ghost use Rattle.iscsi_ports.specs.Calls.{log_by, moved, read_carried};
 ghost use Rattle.iscsi_ports.specs.Polls.{unasked_in};
 ghost use Rattle.iscsi_ports.specs.ReadBuffer.{ahead_on};
-ghost use Rattle.iscsi_ports.specs.Readiness.{after_taking, given_in_all, read_by, took_all as all_taken};
+ghost use Rattle.iscsi_ports.specs.Readiness.{after_taking, given_in_all, read_by};
 
 use super::MioSockets;
 use crate::read_buffer::{MOST_AHEAD, ReadBuffer, give_back, hand_from, take_spare};
@@ -17,16 +17,6 @@ use crate::readiness::Readiness;
 use crate::socket_calls::SocketCalls;
 use crate::socket_failure::SocketFailure;
 use crate::stream_calls::{fill_from, read_from};
-
-/// What the answer to a read says of what the system still has: it gave all, or perhaps not.
-fn took_all(answer: Result<usize, SocketFailure>, room: usize) -> bool
-    ensures { result ≡ all_taken answer room }
-{
-    match answer {
-        Ok(count) => count < room,
-        Err(failure) => failure == SocketFailure::WouldWait,
-    }
-}
 
 impl MioSockets {
     /// Hands on what is ahead, with no call. Where nothing is, or there is no room for it, the read would wait.
@@ -60,12 +50,12 @@ impl MioSockets {
         ensures told { log_by (⟦<MioSockets as SocketCalls>⟧.calls self.new) ≡ log_by (⟦<MioSockets as SocketCalls>⟧.calls self.old)
             ++ Read c (length buffer.new) (read_carried (moved result buffer.new)) ∷ [] }
         ensures unasked { unasked_in (⟦<MioSockets as SocketCalls>⟧.calls self.new) ≡ unasked_in (⟦<MioSockets as SocketCalls>⟧.calls self.old) }
-        ensures readiness { readiness.new ≡ after_taking c (all_taken result (length buffer.new)) readiness.old }
+        ensures readiness { readiness.new ≡ after_taking c result (length buffer.new) readiness.old }
         ensures ahead { self.new.ahead ≡ self.old.ahead }
     {
         let room = buffer.len();
         let answer = read_from(self.streams.as_mut_slice(), c, buffer);
-        readiness.took(c, took_all(answer, room));
+        readiness.took(c, answer, room);
         match answer {
             Ok(count) => self.notes.read(c, room, &buffer[..count]),
             Err(failure) => self.notes.read_failed(c, room, failure),
@@ -88,11 +78,11 @@ impl MioSockets {
         ensures told { log_by (⟦<MioSockets as SocketCalls>⟧.calls self.new) ≡ log_by (⟦<MioSockets as SocketCalls>⟧.calls self.old)
             ++ Read c (length buffer.new) (read_carried (moved result buffer.new)) ∷ [] }
         ensures unasked { unasked_in (⟦<MioSockets as SocketCalls>⟧.calls self.new) ≡ unasked_in (⟦<MioSockets as SocketCalls>⟧.calls self.old) }
-        ensures readiness { readiness.new ≡ after_taking c
-            (all_taken (given_in_all result (length (ahead_on c self.new.ahead.items))) 65536) readiness.old }
+        ensures readiness { readiness.new
+            ≡ after_taking c (given_in_all result (length (ahead_on c self.new.ahead.items))) 65536 readiness.old }
     {
         let answer = fill_from(self.streams.as_mut_slice(), c, &mut ahead);
-        readiness.took(c, took_all(answer, MOST_AHEAD));
+        readiness.took(c, answer, MOST_AHEAD);
         if let Err(failure) = answer {
             self.notes.read_failed(c, buffer.len(), failure);
             self.spare = Some(ahead);
