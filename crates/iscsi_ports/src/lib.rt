@@ -13,7 +13,7 @@ mod events;
 mod lingering;
 mod mem_ports;
 mod mio_sockets;
-mod peer_watch;
+mod options;
 mod places;
 mod ports;
 mod read_buffer;

@@ -29,7 +29,7 @@ use crate::results::Named;
 use crate::socket_calls::SocketCalls;
 use crate::socket_failure::{SocketFailure, socket_failure};
 use crate::stream_calls::write_to;
-use crate::watching::{set_options, watch, watched};
+use crate::watching::{watch, watched};
 use connection_numbers::CONNECTIONS;
 use mio::net::{TcpListener, TcpStream};
 use mio::{Events, Poll};
@@ -160,7 +160,6 @@ impl SocketCalls for MioSockets {
     {
         match self.listener.accept() {
             Ok((mut stream, _)) => {
-                set_options(&stream);
                 let token = watch(self.poll.registry(), &mut stream, c);
                 let is_kept = token.is_some() || c == CONNECTIONS;
                 self.notes.accepted(c, token, is_kept);

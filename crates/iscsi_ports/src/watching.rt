@@ -2,7 +2,7 @@
 
 ghost use Rattle.std.specs.Prelude.{◌≡◌, ◌≤◌, None, IfSome};
 
-use crate::peer_watch::watch_peer;
+use crate::options::set_options;
 use connection_numbers::CONNECTIONS;
 use mio::net::{TcpListener, TcpStream};
 use mio::{Interest, Poll, Registry, Token};
@@ -15,15 +15,10 @@ pub(crate) const LISTENER: usize = CONNECTIONS;
 /// A listening socket whose connections a poll names.
 pub(crate) fn watched(net: &impl Net, poll: &Poll, address: SocketAddr) -> io::Result<TcpListener> {
     let mut listener = TcpListener::bind(net, address)?;
+    set_options(&listener);
     poll.registry()
         .register(&mut listener, Token(LISTENER), Interest::READABLE)?;
     Ok(listener)
-}
-
-/// Sets the options of a connection. One that its peer has reset cannot be set; its next read tells so.
-pub(crate) fn set_options(stream: &TcpStream) {
-    let _ = stream.set_nodelay(true);
-    watch_peer(stream);
 }
 
 /// Has the system watch a connection by its number, so that a poll names it. One without a number is closed at
