@@ -23,6 +23,7 @@ mod script;
 mod socket_calls;
 mod socket_failure;
 mod socket_ports;
+mod spares;
 mod stopwatch;
 mod stream_calls;
 mod watching;

@@ -28,6 +28,7 @@ use crate::readiness::Readiness;
 use crate::results::Named;
 use crate::socket_calls::SocketCalls;
 use crate::socket_failure::{SocketFailure, socket_failure};
+use crate::spares::Spares;
 use crate::stream_calls::write_to;
 use crate::watching::{watch, watched};
 use connection_numbers::CONNECTIONS;
@@ -51,9 +52,8 @@ pub struct MioSockets {
     streams: Vec<Option<TcpStream>>,
     /// What is ahead of each.
     ahead: Vec<Option<ReadBuffer>>,
-    /// A buffer for the next read.
-    spare: Option<ReadBuffer>,
-    alloc: Global,
+    /// Buffers for the next reads.
+    spares: Spares,
     /// Those that were closed, and whose peers may still send.
     lingering: LingeringSockets,
     notes: CallNotes,
@@ -83,8 +83,7 @@ impl MioSockets {
             listener,
             streams: free_places(alloc)?,
             ahead: free_places(alloc)?,
-            spare: None,
-            alloc,
+            spares: Spares::new(alloc)?,
             lingering: LingeringSockets::new(alloc)?,
             notes,
         })

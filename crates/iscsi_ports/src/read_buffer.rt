@@ -1,6 +1,6 @@
 //! Bytes of a connection that the system gave and that were not handed on yet.
 
-ghost use Rattle.std.specs.Prelude.{◌≡◌, [], min, length, take, drop, None, IsSome, IfOk};
+ghost use Rattle.std.specs.Prelude.{◌≡◌, [], min, length, take, drop, IfOk};
 ghost use Rattle.iscsi_ports.specs.ReadBuffer.{bytes_in};
 
 use std::alloc::{AllocError, Global};
@@ -108,27 +108,5 @@ pub(crate) fn count_ahead(place: &Option<ReadBuffer>) -> usize
     match place {
         Some(ahead) => ahead.len(),
         None => 0,
-    }
-}
-
-/// Where nothing is ahead any more, the buffer is kept for the next read.
-pub(crate) fn give_back(place: &mut Option<ReadBuffer>, spare: &mut Option<ReadBuffer>)
-    ensures { bytes_in place.new ≡ bytes_in place.old }
-{
-    if count_ahead(place) == 0 {
-        if let Some(empty) = place.take() {
-            *spare = Some(empty);
-        }
-    }
-}
-
-/// A buffer to read into: the one that is kept, or a new one. None where an allocation fails.
-pub(crate) fn take_spare(alloc: Global, spare: &mut Option<ReadBuffer>) -> Option<ReadBuffer>
-    ensures kept { IsSome spare.old → result ≡ spare.old }
-    ensures taken { spare.new ≡ None }
-{
-    match spare.take() {
-        Some(ahead) => Some(ahead),
-        None => ReadBuffer::new(alloc).ok(),
     }
 }

@@ -12,10 +12,11 @@ ghost use Rattle.iscsi_ports.specs.ReadBuffer.{ahead_on};
 ghost use Rattle.iscsi_ports.specs.Readiness.{after_taking, given_in_all, read_by};
 
 use super::MioSockets;
-use crate::read_buffer::{MOST_AHEAD, ReadBuffer, give_back, hand_from, take_spare};
+use crate::read_buffer::{MOST_AHEAD, ReadBuffer, hand_from};
 use crate::readiness::Readiness;
 use crate::socket_calls::SocketCalls;
 use crate::socket_failure::SocketFailure;
+use crate::spares::give_back;
 use crate::stream_calls::{fill_from, read_from};
 
 impl MioSockets {
@@ -29,7 +30,7 @@ impl MioSockets {
     {
         let place = &mut self.ahead[c];
         let count = hand_from(place, buffer);
-        give_back(place, &mut self.spare);
+        give_back(place, &mut self.spares);
         self.notes.handed(c, buffer.len(), &buffer[..count]);
         if count == 0 {
             return Err(SocketFailure::WouldWait);
@@ -85,14 +86,14 @@ impl MioSockets {
         readiness.took(c, answer, MOST_AHEAD);
         if let Err(failure) = answer {
             self.notes.read_failed(c, buffer.len(), failure);
-            self.spare = Some(ahead);
+            self.spares.keep(ahead);
             return Err(failure);
         }
         self.notes.read(c, buffer.len(), ahead.as_slice());
         let count = ahead.hand(buffer);
         let place = &mut self.ahead[c];
         *place = Some(ahead);
-        give_back(place, &mut self.spare);
+        give_back(place, &mut self.spares);
         Ok(count)
     }
 
@@ -117,7 +118,7 @@ impl MioSockets {
         if buffer.len() >= MOST_AHEAD {
             return self.read_at_once(readiness, c, buffer);
         }
-        match take_spare(self.alloc, &mut self.spare) {
+        match self.spares.take() {
             Some(ahead) => self.read_ahead(readiness, ahead, c, buffer),
             None => self.read_at_once(readiness, c, buffer),
         }
