@@ -124,12 +124,13 @@ impl<S: Store> Disk<S> {
         self.store.write_at(BLOCK_LENGTH as u64 * first, bytes)
     }
 
-    /// The least index at which bytes differ from those of a few blocks.
+    /// The least index at which bytes differ from those of a few blocks, which are read into a buffer.
     fn compare_part(
         &mut self,
         first: u64,
         count: u64,
         bytes: &[u8],
+        held: &mut [u8; PART_LENGTH],
     ) -> Result<Option<usize>, StoreFault>
         requires few { count ≤ PART }
         requires range { first + count ≤ length self.old.blocks }
@@ -142,7 +143,6 @@ impl<S: Store> Disk<S> {
         ensures disk { self.new ≡ record self.old { failures = counted result self.old.failures; honest = self.new.honest } }
         ensures succeeds { IsTrue self.old.steady → IsTrue self.old.honest → IsOk result × (self.new ≡ self.old) }
     {
-        let mut held = [0; PART_LENGTH];
         let held = &mut held[..bytes.len()];
         self.read(first, count, held)?;
         Ok(difference(held, bytes))
@@ -167,12 +167,14 @@ impl<S: Store> Disk<S> {
     {
         // So the place of each block fits a u64.
         let _ = &self.block_count;
+        let mut held = [0; PART_LENGTH];
         let mut number = 0;
         while number < count {
             let part = (count - number).min(PART);
             let start = BLOCK_LENGTH * number as usize;
             let end = start + BLOCK_LENGTH * part as usize;
-            if let Some(at) = self.compare_part(first + number, part, &bytes[start..end])? {
+            let found = self.compare_part(first + number, part, &bytes[start..end], &mut held)?;
+            if let Some(at) = found {
                 return Ok(Some(start + at));
             }
             number += part;
