@@ -1,91 +1,145 @@
--- What a tape knows by the sizes of its items: where a write or a cut failed, where items were written, and of the next item.
-use Rattle.std.proofs.Common.{◌≡◌, ℕ, suc, ◌+◌, ◌-◌, ◌*◌, ◌≤◌, ◌<◌, List, [], ◌++◌, length}
-use Rattle.std.proofs.Common.{take, drop, slice_range, map, sum, get_or, drop-cons, Bool, false, ◌||◌, nat_lt, IsTrue}
-use Rattle.std.proofs.Common.{inl, inr, refl, ap, sym, ◌∙◌, arith}
-use Rattle.std.specs.Prelude.{replicate}
+-- What a tape knows by the sizes of its items: where others were written, where a write or a cut failed, and of the next item.
+use Rattle.std.proofs.Common.{◌≡◌, ℕ, suc, ◌+◌, ◌-◌, ◌≤◌, ◌<◌, List, [], ◌∷◌, ◌++◌, length, take, drop, slice_range, map, sum, get_or, drop-cons}
+use Rattle.std.proofs.Common.{Bool, false, ◌||◌, nat_lt, IsTrue, inl, inr, refl, ap, sym, ◌∙◌, arith}
+use Rattle.std.proofs.Math.Seq.{take-add}
 use Rattle.std.proofs.lemmas.Bool.{ltb-false}
-use Rattle.std.proofs.lemmas.List.{take-map, drop-map, length-map, map-append, take_all}
-use Rattle.std.proofs.lemmas.List.{length-replicate, length-drop, length-take-le, length-append, take-append-drop}
+use Rattle.std.proofs.lemmas.List.{take-map, drop-map, length-map, map-append, take_all, drop_all, drop_at, take-take, drop-take, drop-drop}
+use Rattle.std.proofs.lemmas.List.{length-drop, length-take-le, length-append, take-append-drop, append-nil}
 use Rattle.std.proofs.lemmas.List.Sums.{sum_by-take-le, sum_by-cons}
-use Rattle.media_tape.specs.Items.{Item, size, size_of, items_of}
+use Rattle.media_tape.specs.Items.{Item, item_of, size, size_of, items_in, items_of}
 use Rattle.media_tape.specs.Tape.{AreIn, IsIndexed, length_told, first_told, first_data}
 use Rattle.media_tape.specs.Writing.{KeepsBefore}
-use Rattle.media_tape.proofs.Items.{front-cases, front-is, length-front}
-use Rattle.media_tape.proofs.Positions.{lies, kept, appended, Stands-in}
-use Rattle.media_tape.proofs.Positions.{Stands-before, Stands-after, some-behind, last-position, told-behind, data-behind}
-use Rattle.media_tape.proofs.Runs.{sum-append, sum-replicate}
+use Rattle.media_tape.proofs.Items.{front-cases, front-is, length-front, items_of-next, items_of-none, drop-items_of, items_of-replaced}
+use Rattle.media_tape.proofs.Commands.{first_told-item, first_data-item}
+use Rattle.media_tape.proofs.Sizes.{sum-sizes}
+use Rattle.media_tape.proofs.Runs.{sum-append}
+
+-- the items that a content shows by their sizes
+abbrev pub shown : List ℕ → List ℕ → List Item
+shown content sizes = items_of (take (sum sizes) content)
+
+pub many_shown : (content sizes : List ℕ) (is_torn : Bool) → AreIn content sizes is_torn → length (shown content sizes) ≡ length sizes
+many_shown content sizes is_torn are = sym (length-map (shown content sizes) size) ∙ ap length are.sized
+
+before_sized : (content sizes : List ℕ) (is_torn : Bool) (position : ℕ) → AreIn content sizes is_torn
+    → map size (take position (shown content sizes)) ≡ take position sizes
+before_sized content sizes is_torn position are = sym (take-map size position (shown content sizes)) ∙ ap (take position) are.sized
+
+-- the place of a position
+pub placed : (content sizes : List ℕ) (is_torn : Bool) (position : ℕ) → AreIn content sizes is_torn
+    → size_of (take position (shown content sizes)) ≡ sum (take position sizes)
+placed content sizes is_torn position are =
+    sym (sum-sizes (take position (shown content sizes))) ∙ ap sum (before_sized content sizes is_torn position are)
+
+-- ---- others behind a position
+
+-- a content goes on with these items from a place on, and where it is not torn it ends with them
+pub record HasEnd (place : ℕ) (new : List ℕ) (more : List Item) (is_torn : Bool) : Type 0 where
+  pub long : place + size_of more ≤ length new
+  pub is : items_of (take (size_of more) (drop place new)) ≡ more
+  pub whole : is_torn ≡ false → length new ≡ place + size_of more
+
+pub nothing_behind : (place : ℕ) (new : List ℕ) (is_torn : Bool) → place ≤ length new → (is_torn ≡ false → length new ≡ place)
+    → HasEnd place new [] is_torn
+unfolding items_in
+nothing_behind place new is_torn within whole = record { long = omega arith; is = refl; whole = λ none. whole none ∙ omega arith }
 
 or_false : (a b : Bool) → a || b ≡ false → (a ≡ false) × (b ≡ false)
 or_false a b none = grind arith
 
--- what is left behind a position where a write or a cut failed, and where a cut did not
-pub record IsLeft (content sizes new : List ℕ) (position : ℕ) (is_torn : Bool) : Type 0 where
-  pub are : AreIn new (take position sizes) is_torn
-  pub before : take position (items_of (take (sum (take position sizes)) new)) ≡ take position (items_of (take (sum sizes) content))
-  pub after : drop position (items_of (take (sum (take position sizes)) new)) ≡ []
-
-pub left : (content sizes new : List ℕ) (was_torn is_torn : Bool) (position : ℕ) → AreIn content sizes was_torn → position ≤ length sizes
-    → KeepsBefore (sum (take position sizes)) content new → (is_torn ≡ false → length new ≡ sum (take position sizes))
-    → IsLeft content sizes new position is_torn
-left content sizes new was_torn is_torn position are few keeps whole =
-    let place = sum (take position sizes) in
-    let before = take position (items_of (take (sum sizes) content)) in
-    let stands = kept content new position place (length sizes) (sum sizes) (lies content sizes was_torn position are) few (sum_by-take-le
-    (λ n. n) sizes position) keeps in
-    record {
-      are = (Stands-in new (take position sizes) before position place is_torn stands
-          (sym (take-map size position (items_of (take (sum sizes) content))) ∙ ap (take position) are.sized) whole).1;
-      before = Stands-before new before position place stands;
-      after = Stands-after new before position place stands;
-    }
-
--- what stands there where items of one size were written
-pub record ArePut (content sizes new : List ℕ) (position : ℕ) (more : List Item) (n many : ℕ) : Type 0 where
-  pub end : sum (take position sizes ++ replicate many n) ≡ sum (take position sizes) + size_of more
-  pub are : AreIn new (take position sizes ++ replicate many n) false
-  pub before : take (position + many) (items_of (take (sum (take position sizes ++ replicate many n)) new))
-      ≡ take position (items_of (take (sum sizes) content)) ++ more
-  pub after : drop (position + many) (items_of (take (sum (take position sizes ++ replicate many n)) new)) ≡ []
-  pub tail : drop (sum (take position sizes ++ replicate many n)) new ≡ []
-
-pub put : (content sizes new others : List ℕ) (is_torn : Bool) (position : ℕ) (more : List Item) (n many : ℕ) → AreIn content sizes is_torn
-    → position ≤ length sizes → items_of others ≡ more → length others ≡ size_of more → map size more ≡ replicate many n
-    → (sum (take position sizes) ≤ length content → (is_torn || nat_lt position (length sizes) ≡ false → length content ≡ sum (take position sizes))
+pub written_there : (content sizes new others : List ℕ) (was_torn : Bool) (position : ℕ) (more : List Item) → AreIn content sizes was_torn
+    → items_of others ≡ more → length others ≡ size_of more
+    → (sum (take position sizes) ≤ length content → (was_torn || nat_lt position (length sizes) ≡ false → length content ≡ sum (take position sizes))
     → new ≡ take (sum (take position sizes)) content ++ others)
-    → ArePut content sizes new position more n many
-put content sizes new others is_torn position more n many are few items long sized is =
+    → HasEnd (sum (take position sizes)) new more false
+written_there content sizes new others was_torn position more are items long is =
     let place = sum (take position sizes) in
-    let before = take position (items_of (take (sum sizes) content)) in
-    let lie = lies content sizes is_torn position are in
-    let below = sum_by-take-le (λ m. m) sizes position in
-    let ends : is_torn || nat_lt position (length sizes) ≡ false → length content ≡ place = λ none.
-    let parts = or_false is_torn (nat_lt position (length sizes)) none in
-    let last = ltb-false position (length sizes) parts.1 in
-    are.whole parts.0 ∙ ap sum (sym (take_all position sizes last)) in
-    let as_many : length more ≡ many = sym (length-map more size) ∙ ap length sized ∙ length-replicate many n in
-    let all = before ++ more in
-    let stands = appended content new others more position place (length sizes) (sum sizes) many (size_of more) lie few below
-    (is (omega (arith, below, are.long)) ends) items as_many refl long in
-    let written : map size all ≡ take position sizes ++ replicate many n =
-    map-append size before more
-    ∙ ap (λ (xs : List ℕ). xs ++ map size more) (sym (take-map size position (items_of (take (sum sizes) content))) ∙ ap (take position) are.sized)
-    ∙ ap (λ (xs : List ℕ). take position sizes ++ xs) sized in
-    let short = ap length stands.1 ∙ refl in
-    let stood = Stands-in new (take position sizes ++ replicate many n) all (position + many) (place + size_of more) false stands.0 written
-    (λ none. omega (arith, stands.0.long, short, length-drop (place + size_of more) new)) in
+    let below : place ≤ length content = omega (arith, sum_by-take-le (λ n. n) sizes position, are.long) in
+    let ends : was_torn || nat_lt position (length sizes) ≡ false → length content ≡ place = λ none.
+    let parts = or_false was_torn (nat_lt position (length sizes)) none in
+    are.whole parts.0 ∙ ap sum (sym (take_all position sizes (ltb-false position (length sizes) parts.1))) in
+    let new_is = is below ends in
+    let front = length-take-le place content below in
+    let behind : drop place new ≡ others = ap (drop place) new_is ∙ drop_at (take place content) others place front in
+    let all : length new ≡ place + size_of more = ap length new_is ∙ length-append (take place content) others ∙ omega (arith, front, long) in
     record {
-      end = stood.0;
-      are = stood.1;
-      before = ap (λ (e : ℕ). take (position + many) (items_of (take e new))) stood.0 ∙ Stands-before new all (position + many) (place + size_of more) stands.0;
-      after = ap (λ (e : ℕ). drop (position + many) (items_of (take e new))) stood.0 ∙ Stands-after new all (position + many) (place + size_of more) stands.0;
-      tail = ap (λ (e : ℕ). drop e new) stood.0 ∙ stands.1;
+      long = omega (arith, all);
+      is = ap (λ (xs : List ℕ). items_of (take (size_of more) xs)) behind ∙ ap items_of (take_all (size_of more) others (omega (arith, long))) ∙ items;
+      whole = λ none. all;
     }
 
--- the item behind a position, of this length
+-- the items before a position are left, and these stand behind them
+pub record IsLeft (content sizes new now : List ℕ) (position at : ℕ) (more : List Item) (is_torn : Bool) : Type 0 where
+  pub are : AreIn new now is_torn
+  pub before : take at (shown new now) ≡ take position (shown content sizes) ++ more
+  pub after : drop at (shown new now) ≡ []
+  pub tail : is_torn ≡ false → drop (sum now) new ≡ []
+
+pub left : (content sizes new now : List ℕ) (was_torn is_torn : Bool) (position at : ℕ) (more : List Item) → AreIn content sizes was_torn
+    → position ≤ length sizes → KeepsBefore (sum (take position sizes)) content new → HasEnd (sum (take position sizes)) new more is_torn
+    → now ≡ take position sizes ++ map size more → at ≡ position + length more → IsLeft content sizes new now position at more is_torn
+left content sizes new now was_torn is_torn position at more are few keeps ends now_is at_is =
+    let place = sum (take position sizes) in
+    let items = shown content sizes in
+    let all = take position items ++ more in
+    let others = take (size_of more) (drop place new) in
+    let below = sum_by-take-le (λ n. n) sizes position in
+    let kept = keeps (omega (arith, below, are.long)) in
+    let end : sum now ≡ place + size_of more =
+    ap sum now_is ∙ sum-append (take position sizes) (map size more) ∙ ap (λ n. place + n) (sum-sizes more) in
+    let is : shown new now ≡ all =
+    ap (λ (n : ℕ). items_of (take n new)) end ∙ ap items_of (take-add place (size_of more) new)
+    ∙ ap (λ (xs : List ℕ). items_of (xs ++ others)) (kept.1 ∙ sym (take-take place (sum sizes) content below))
+    ∙ rw (placed content sizes was_torn position are) at (items_of-replaced position (take (sum sizes) content) others)
+    ∙ ap (λ (xs : List Item). take position items ++ xs) ends.is in
+    let front : length (take position items) ≡ position = length-take-le position items (omega (arith, many_shown content sizes was_torn are)) in
+    let long : length all ≡ at = length-append (take position items) more ∙ omega (arith, front, at_is) in
+    record {
+      are = record {
+        long = omega (arith, end, ends.long);
+        sized = ap (map size) is ∙ map-append size (take position items) more
+            ∙ ap (λ (xs : List ℕ). xs ++ map size more) (before_sized content sizes was_torn position are) ∙ sym now_is;
+        whole = λ none. ends.whole none ∙ sym end;
+      };
+      before = ap (take at) is ∙ take_all at all (omega (arith, long));
+      after = ap (drop at) is ∙ drop_all at all (omega (arith, long));
+      tail = λ none. drop_all (sum now) new (omega (arith, end, ends.whole none));
+    }
+
+pub cut_left : (content sizes new : List ℕ) (was_torn is_torn : Bool) (position : ℕ) → AreIn content sizes was_torn → position ≤ length sizes
+    → KeepsBefore (sum (take position sizes)) content new → (is_torn ≡ false → length new ≡ sum (take position sizes))
+    → IsLeft content sizes new (take position sizes) position position [] is_torn
+cut_left content sizes new was_torn is_torn position are few keeps whole =
+    let within = (keeps (omega (arith, sum_by-take-le (λ n. n) sizes position, are.long))).0 in
+    left content sizes new (take position sizes) was_torn is_torn position position [] are few keeps
+    (nothing_behind (sum (take position sizes)) new is_torn within whole) (sym (append-nil (take position sizes))) (omega arith)
+
+-- and the tape knows them
+pub left_indexed : (honest was_torn is_torn : Bool) (content sizes new now : List ℕ) (position at capacity : ℕ) (more : List Item)
+    → IsIndexed honest content sizes was_torn position capacity → KeepsBefore (sum (take position sizes)) content new
+    → (IsTrue honest → HasEnd (sum (take position sizes)) new more is_torn) → now ≡ take position sizes ++ map size more → at ≡ position + length more
+    → sum (take position sizes) + size_of more ≤ capacity → IsIndexed honest new now is_torn at capacity
+left_indexed honest was_torn is_torn content sizes new now position at capacity more was keeps ends now_is at_is room = record {
+  within = omega (arith, ap length now_is, length-append (take position sizes) (map size more), length-take-le position sizes was.within, length-map more size, at_is);
+  fits = omega (arith, ap sum now_is, sum-append (take position sizes) (map size more), sum-sizes more, room);
+  are_in = λ is. (left content sizes new now was_torn is_torn position at more (was.are_in is) was.within keeps (ends is) now_is at_is).are;
+}
+
+pub cut_indexed : (honest was_torn is_torn : Bool) (content sizes new : List ℕ) (position capacity : ℕ)
+    → IsIndexed honest content sizes was_torn position capacity → KeepsBefore (sum (take position sizes)) content new
+    → (is_torn ≡ false → IsTrue honest → length new ≡ sum (take position sizes)) → IsIndexed honest new (take position sizes) is_torn position capacity
+cut_indexed honest was_torn is_torn content sizes new position capacity was keeps whole = record {
+  within = omega (arith, length-take-le position sizes was.within);
+  fits = omega (arith, sum_by-take-le (λ n. n) sizes position, was.fits);
+  are_in = λ is. (cut_left content sizes new was_torn is_torn position (was.are_in is) was.within keeps (λ none. whole none is)).are;
+}
+
+-- ---- the item behind a position
+
+-- of this length
 pub record IsNext (content sizes : List ℕ) (position n : ℕ) : Type 0 where
-  pub told : length_told n ≡ first_told (drop position (items_of (take (sum sizes) content)))
-  pub given : slice_range content (sum (take position sizes) + 4) (sum (take position sizes) + 4 + n)
-      ≡ first_data (drop position (items_of (take (sum sizes) content)))
+  pub told : length_told n ≡ first_told (drop position (shown content sizes))
+  pub given : slice_range content (sum (take position sizes) + 4) (sum (take position sizes) + 4 + n) ≡ first_data (drop position (shown content sizes))
   pub within : sum (take position sizes) + n + 8 ≤ length content
 
 pub is_next : (content sizes : List ℕ) (is_torn : Bool) (position size_at : ℕ) → AreIn content sizes is_torn → position < length sizes
@@ -93,25 +147,35 @@ pub is_next : (content sizes : List ℕ) (is_torn : Bool) (position size_at : �
 is_next content sizes is_torn position size_at are less is =
     let place = sum (take position sizes) in
     let end = sum sizes in
-    let count = length sizes in
+    let items = shown content sizes in
     let bytes = drop place (take end content) in
-    let items = items_of (take end content) in
-    let lie = lies content sizes is_torn position are in
-    let few : position ≤ count = omega arith in
+    let many = many_shown content sizes is_torn are in
+    let here : drop position items ≡ items_of bytes =
+    rw (placed content sizes is_torn position are) at (drop-items_of position (take end content) (omega (arith, many))) in
     elim (front-cases bytes) [
-      | inl none ↦ absurd (omega (arith, last-position content position place count end lie few (sym none)))
+      | inl none ↦ absurd (omega (arith, ap length (here ∙ items_of-none bytes none), length-drop position items, many))
       | inr found ↦
           let n = found.0 in
-          let some = sym found.1 in
-          let here = some-behind content position place count end n lie few some in
+          let own = take n (drop 4 bytes) in
+          let others = items_of (drop (n + 8) bytes) in
+          let behind : drop position items ≡ item_of own ∷ others = here ∙ items_of-next bytes n found.1 in
           let sized = ap (λ (xs : List ℕ). get_or xs 0 0)
-          (sym (drop-cons sizes position 0 less) ∙ ap (drop position) (sym are.sized) ∙ drop-map size position items ∙ ap (map size) here) in
+          (sym (drop-cons sizes position 0 less) ∙ ap (drop position) (sym are.sized) ∙ drop-map size position items ∙ ap (map size) behind) in
           let length_is : size_at - 8 ≡ n = omega (arith, is, sized, length-front bytes n found.1) in
-          let long = (front-is bytes n found.1).within in
-          let below : place + n + 8 ≤ end = omega (arith, long, length-drop place (take end content), length-take-le end content are.long) in
+          let within = (front-is bytes n found.1).within in
+          let as_long : length own ≡ n = length-take-le n (drop 4 bytes) (omega (arith, within, length-drop 4 bytes)) in
+          let below : place + n + 8 ≤ end = omega (arith, within, length-drop place (take end content), length-take-le end content are.long) in
+          let rest = drop (place + 4) content in
+          let all : place + 4 + (end - (place + 4)) ≡ end = omega arith in
+          let many_bytes : place + 4 + n - (place + 4) ≡ n = omega arith in
+          let behind_four : drop 4 bytes ≡ take (end - (place + 4)) rest =
+          drop-drop 4 place (take end content) ∙ ap (λ (m : ℕ). drop (place + 4) (take m content)) (sym all)
+          ∙ drop-take (place + 4) (end - (place + 4)) content in
+          let data_is : slice_range content (place + 4) (place + 4 + n) ≡ own =
+          ap (λ (m : ℕ). take m rest) many_bytes ∙ sym (ap (take n) behind_four ∙ take-take n (end - (place + 4)) rest (omega arith)) in
           rw length_is (record {
-            told = told-behind content position place count end n lie few some;
-            given = data-behind content position place count end n lie few some below;
+            told = ap length_told (sym as_long) ∙ first_told-item own others ∙ sym (ap first_told behind);
+            given = data_is ∙ sym (ap first_data behind ∙ first_data-item own others);
             within = omega (arith, below, are.long);
           })
     ]
@@ -122,26 +186,3 @@ next-within sizes k less =
     let behind = ap sum (drop-cons sizes k 0 less) ∙ sum_by-cons (λ n. n) (get_or sizes k 0) (drop (suc k) sizes) in
     let all = ap sum (take-append-drop k sizes) in
     omega (arith, behind, all, sum-append (take k sizes) (drop k sizes))
-
--- ---- the invariant
-
-module _ (honest was_torn : Bool) (content sizes : List ℕ) (position capacity : ℕ) (was : IsIndexed honest content sizes was_torn position capacity) where
-  pub left_indexed : (new : List ℕ) (is_torn : Bool) → KeepsBefore (sum (take position sizes)) content new
-      → (is_torn ≡ false → IsTrue honest → length new ≡ sum (take position sizes)) → IsIndexed honest new (take position sizes) is_torn position capacity
-  left_indexed new is_torn keeps whole = record {
-    within = omega (arith, length-take-le position sizes was.within);
-    fits = omega (arith, sum_by-take-le (λ n. n) sizes position, was.fits);
-    are_in = λ is. (left content sizes new was_torn is_torn position (was.are_in is) was.within keeps (λ none. whole none is)).are;
-  }
-
-  pub put_indexed : (new others : List ℕ) (more : List Item) (n many : ℕ)
-      → sum (take position sizes) + many * n ≤ capacity
-      → items_of others ≡ more → length others ≡ size_of more → map size more ≡ replicate many n
-      → (sum (take position sizes) ≤ length content → (was_torn || nat_lt position (length sizes) ≡ false → length content ≡ sum (take position sizes))
-      → new ≡ take (sum (take position sizes)) content ++ others)
-      → IsIndexed honest new (take position sizes ++ replicate many n) false (position + many) capacity
-  put_indexed new others more n many fits items long sized is = record {
-    within = omega (arith, length-append (take position sizes) (replicate many n), length-take-le position sizes was.within, length-replicate many n);
-    fits = omega (arith, sum-append (take position sizes) (replicate many n), sum-replicate many n, fits);
-    are_in = λ honest. (put content sizes new others was_torn position more n many (was.are_in honest) was.within items long sized is).are;
-  }

@@ -1,11 +1,11 @@
 -- What an index knows of its items.
-use Rattle.std.proofs.Common.{◌≡◌, ℕ, ◌+◌, ◌-◌, ◌*◌, ◌^◌, ◌≤◌, ◌<◌, List, [], ◌∷◌, ◌++◌}
+use Rattle.std.proofs.Common.{◌≡◌, ℕ, ◌+◌, ◌-◌, ◌*◌, ◌≤◌, ◌<◌, List, [], ◌∷◌, ◌++◌}
 use Rattle.std.proofs.Common.{length, take, get_or, sum, refl, ap, sym, ◌∙◌, arith, subst, append_assoc, mul-le-mul_left}
 use Rattle.std.specs.Prelude.{replicate}
 use Rattle.std.proofs.lemmas.List.{take_all, get_or_default, append-nil, replicate-append-replicate}
 use Rattle.std.proofs.lemmas.List.Sums.{sum_by-take-le}
 use Rattle.media_tape.specs.Index.{mark_size, most_size, Joins}
-use Rattle.media_tape.specs.Runs.{first_at, sizes_of, AreRuns, AreAllRuns, IsIndex}
+use Rattle.media_tape.specs.Runs.{first_at, sizes_of, AreRuns, AreAllRuns, IsIndex, IsHere}
 use Rattle.media_tape.specs.declared.run.Run.{Run}
 use Rattle.media_tape.specs.declared.index.Index.TheInside.{Inside}
 use Rattle.media_tape.proofs.Runs.{length-sizes_of, sum-sizes_of, few-runs, run_has, is_at, size-at, first_at-past, no_run}
@@ -19,15 +19,6 @@ count_is index is = omega (arith, length-sizes_of index.count index.end 0 0 inde
 
 pub end_is : (index : Inside) → IsIndex index → sum (sizes_of index.count index.runs.items) ≡ index.end
 end_is index is = omega (arith, sum-sizes_of index.count index.end 0 0 index.runs.items is.runs)
-
--- a run has the item of this number
-pub record IsHere (sizes : List ℕ) (run : Run) (number : ℕ) : Type 0 where
-  pub first : run.first ≤ number
-  pub place : run.offset + (number - run.first) * run.size ≡ sum (take number sizes)
-  pub below : sum (take number sizes) < 2 ^ 64
-  pub size : get_or sizes number 0 ≡ run.size
-  pub least : mark_size ≤ run.size
-  pub most : run.size ≤ most_size
 
 pub is_here : (index : Inside) (i number : ℕ) (run : Run) → IsIndex index → i < length index.runs.items → run ≡ get_or index.runs.items i run
     → run.first ≤ number → number < first_at index.count index.runs.items (i + 1)

@@ -139,20 +139,6 @@ drop-items_of (suc k) bytes within =
           rw (is, length-front bytes n found.1, ← drop-drop (size_of (take k (items_of rest))) (n + 8) bytes) (drop-items_of k rest below)
     ]
 
--- a place is within the bytes
-pub size_of-within : (k : ℕ) (bytes : List ℕ) → size_of (take k (items_of bytes)) ≤ length bytes
-size_of-within zero bytes = omega arith
-size_of-within (suc k) bytes =
-    elim (front-cases bytes) [
-      | inl none ↦ rw (items_of-none bytes none) (omega arith)
-      | inr found ↦
-          let n = found.0 in
-          let rest = drop (n + 8) bytes in
-          let within = (front-is bytes n found.1).within in
-          let shorter : length rest + (n + 8) ≡ length bytes = omega (arith, length-drop (n + 8) bytes) in
-          rw (items_of-next bytes n found.1, length-front bytes n found.1) (omega (arith, size_of-within k rest))
-    ]
-
 -- bytes behind an item change nothing
 pub front-append : (n : ℕ) (bytes others : List ℕ) → front bytes ≡ Some n → front (bytes ++ others) ≡ Some n
 front-append n bytes others found =

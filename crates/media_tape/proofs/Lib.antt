@@ -1,7 +1,7 @@
 pub mod Items
 pub mod Found
 pub mod Writes
-pub mod Positions
+pub mod Spelled
 pub mod Commands
 pub mod Results
 pub mod Runs

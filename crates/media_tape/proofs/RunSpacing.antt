@@ -15,7 +15,6 @@ use Rattle.media_tape.proofs.SizeWays.{further-further}
 pub record AtRun (all : ℕ) (runs : List Run) (i at : ℕ) : Type 0 where
   pub is : IsAt (sizes_of all runs) (take i runs) (get_or runs i no_run) (first_at all runs (i + 1)) at
   pub first : (get_or runs i no_run).first ≡ first_at all runs i
-  pub rising : first_at all runs i < first_at all runs (i + 1)
   pub within : first_at all runs (i + 1) ≤ all
 
 pub at_run : (all : ℕ) (runs : List Run) (i at : ℕ) → AreAllRuns all runs → i < length runs → first_at all runs i ≤ at → at ≤ first_at all runs (i + 1)
@@ -28,7 +27,6 @@ at_run all runs i at are lt low high =
     record {
       is = is;
       first = sym first;
-      rising = omega (arith, has.next_is, has.some);
       within = omega (arith, is.within, length-all all runs are);
     }
 

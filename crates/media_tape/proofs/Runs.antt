@@ -49,10 +49,6 @@ few-runs count end number place (run ∷ runs) are le =
     let own : (next - number) * 8 ≤ (next - number) * run.size = mul-le-mul_left (next - number) are.0.least in
     few-runs count end next (place + (next - number) * run.size) runs are.1 (omega (arith, are.0.some, own))
 
--- no run begins behind the count
-pub first-le : (count end number place : ℕ) (runs : List Run) → AreRuns count end number place runs → number ≤ count
-first-le count end number place runs are = omega (arith, length-sizes_of count end number place runs are)
-
 -- ---- of one run
 
 -- a run stands behind these runs, up to the next, with these sizes behind it

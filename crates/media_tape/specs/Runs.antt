@@ -1,6 +1,6 @@
 -- Runs: each says the number and the offset of its first item, and the size of all its items. How many they are is said
 -- by the next run, or by the count of all items.
-use Rattle.std.specs.Prelude.{◌≡◌, ℕ, zero, suc, ◌+◌, ◌-◌, ◌*◌, ◌^◌, ◌≤◌, ◌<◌, List, [], ◌∷◌, ◌++◌, replicate, vec_len, vec_capacity}
+use Rattle.std.specs.Prelude.{◌≡◌, ℕ, zero, suc, ◌+◌, ◌-◌, ◌*◌, ◌^◌, ◌≤◌, ◌<◌, List, [], ◌∷◌, ◌++◌, replicate, sum, take, slice_index, vec_len, vec_capacity}
 use Rattle.media_tape.specs.Index.{Items, mark_size, most_size}
 use Rattle.media_tape.specs.declared.run.Run.{Run}
 use Rattle.media_tape.specs.declared.index.Index.TheInside.{Inside}
@@ -43,3 +43,12 @@ pub record IsIndex (index : Inside) : Type 0 where
   pub runs : AreRuns index.count index.end 0 0 index.runs.items
   -- so no number and no offset of an item overflows
   pub fits : index.end < 2 ^ 64
+
+-- a run has the item of this number, of these sizes
+pub record IsHere (sizes : List ℕ) (run : Run) (number : ℕ) : Type 0 where
+  pub first : run.first ≤ number
+  pub place : run.offset + (number - run.first) * run.size ≡ sum (take number sizes)
+  pub below : sum (take number sizes) < 2 ^ 64
+  pub size : slice_index sizes number ≡ run.size
+  pub least : mark_size ≤ run.size
+  pub most : run.size ≤ most_size

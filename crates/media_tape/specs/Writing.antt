@@ -1,6 +1,49 @@
--- What is left of a store where a write to its end failed.
-use Rattle.std.specs.Prelude.{◌≡◌, ℕ, ◌≤◌, List, length, take}
+-- What is written to a store, and what is left of it where a write to its end failed.
+use Rattle.std.specs.Prelude.{◌≡◌, ℕ, ◌*◌, ◌≤◌, ◌<◌, Bool, true, false, List, length, take, map, replicate}
+use Rattle.media_tape.specs.Index.{mark_size, most_size}
+use Rattle.media_tape.specs.Items.{size, items_of}
+use Rattle.media_tape.specs.Tape.{TapeState, wrote_if_told, synced_if_told, written_synced, marked_synced}
+use Rattle.media_tape.specs.declared.outcome.Written.{Written}
+use Rattle.media_tape.specs.declared.write.Objects.{Objects}
+use Rattle.media_tape.specs.declared.write.Objects.TheVariants as object
 
 -- own: the bytes before a place are as before, where it lies within them
 abbrev pub KeepsBefore : ℕ → List ℕ → List ℕ → Type 0
 KeepsBefore place old new = place ≤ length old → (place ≤ length new) × (take place new ≡ take place old)
+
+-- ---- own: objects that are written at once
+
+-- their bytes
+abbrev pub bytes_of : Objects → List ℕ
+bytes_of (object.Record spelled) = spelled.items
+bytes_of (object.Filemarks count) = replicate (8 * count) 0
+
+abbrev pub count_of : Objects → ℕ
+count_of (object.Record spelled) = 1
+count_of (object.Filemarks count) = count
+
+abbrev pub each_size : Objects → ℕ
+each_size (object.Record spelled) = length spelled.items
+each_size (object.Filemarks count) = mark_size
+
+-- their bytes are so many items of this size
+pub record AreWhole (objects : Objects) : Type 0 where
+  pub sized : map size (items_of (bytes_of objects)) ≡ replicate (count_of objects) (each_size objects)
+  pub total : length (bytes_of objects) ≡ count_of objects * each_size objects
+  pub some : 0 < count_of objects
+  pub least : mark_size ≤ each_size objects
+  pub most : each_size objects ≤ most_size
+
+-- filemarks are synced
+abbrev pub is_synced : Objects → Bool
+is_synced (object.Record spelled) = false
+is_synced (object.Filemarks count) = true
+
+abbrev pub put_synced : Objects → Written → Bool → Bool
+put_synced (object.Record spelled) told before = written_synced told before
+put_synced (object.Filemarks count) told before = marked_synced told before
+
+-- the tape behind them, unless they are refused
+abbrev pub put_if_told : Objects → Written → TapeState → TapeState
+put_if_told (object.Record spelled) told tape = wrote_if_told told (items_of spelled.items) tape
+put_if_told (object.Filemarks count) told tape = synced_if_told told (wrote_if_told told (items_of (replicate (8 * count) 0)) tape)

@@ -2,8 +2,10 @@
 
 ghost use Rattle.std.specs.Prelude.{◌≡◌};
 ghost use Rattle.media_tape.specs.Fault.{fault_number};
+ghost use Rattle.media_tape.specs.declared.fault.TapeOpenFault.TheVariants.{OutOfMemory, Device};
 
-use media_store::Store;
+use media_store::{Store, StoreFault};
+use std::alloc::AllocError;
 use thiserror::Error;
 
 /// Why a store is not opened as a tape.
@@ -34,6 +36,22 @@ impl TapeOpenFault {
             TapeOpenFault::TooLong => 3,
             TapeOpenFault::OutOfMemory => 4,
         }
+    }
+}
+
+impl From<StoreFault> for TapeOpenFault {
+    ghost from_gives = { λ _ fault. fault ≡ Device };
+
+    fn from(_fault: StoreFault) -> TapeOpenFault {
+        TapeOpenFault::Device
+    }
+}
+
+impl From<AllocError> for TapeOpenFault {
+    ghost from_gives = { λ _ fault. fault ≡ OutOfMemory };
+
+    fn from(_error: AllocError) -> TapeOpenFault {
+        TapeOpenFault::OutOfMemory
     }
 }
 

@@ -2,6 +2,7 @@
 
 ghost use Rattle.std.specs.Prelude.{◌≡◌, ◌+◌, ◌-◌, ◌*◌, ◌^◌, ◌≤◌, ◌<◌, ◌++◌, ◌↔◌, [], length, sum, take, replicate, slice_index, IsTrue, IsOk, OnOk, OnErr};
 ghost use Rattle.media_tape.specs.Index.{mark_size, most_size, Joins, HasRoom};
+ghost use Rattle.media_tape.specs.Runs.{IsHere};
 ghost use Rattle.media_tape.specs.SizeSpace.{size_way_from};
 ghost use Rattle.media_tape.specs.Space.{spaced_to};
 
@@ -61,12 +62,7 @@ impl Index {
     /// The run with the item of this number.
     fn run_at(&self, number: u64) -> Run
         requires { number < length self.now.sizes }
-        ensures first { result.first ≤ number }
-        ensures place { result.offset + (number - result.first) * result.size ≡ sum (take number self.now.sizes) }
-        ensures below { sum (take number self.now.sizes) < 2 ^ 64 }
-        ensures size { slice_index self.now.sizes number ≡ result.size }
-        ensures least { mark_size ≤ result.size }
-        ensures most { result.size ≤ most_size }
+        ensures { IsHere self.now.sizes result number }
     {
         self.runs[run_of(&self.runs, self.count, number)]
     }

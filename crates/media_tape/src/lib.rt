@@ -9,6 +9,8 @@
 //! The store holds item after item: its length in four bytes, its data, and its length again. A filemark
 //! has no data, and a length above [`MOST_BYTES`] begins no item. [`Tape::open`] goes over the store once by
 //! these lengths, and keeps the sizes of the items as runs of one size, in which all other calls find places.
+//! A run takes 24 bytes, however many items it has: so the runs take at most 24 bytes for each item, where no
+//! two neighbours have one size, and up to twice that while their list grows.
 //!
 //! Promised of a tape whose store is honest after a call and did not fail in it: a read passes the item
 //! behind the position, a record that is written stands in the place of all that was behind it and in the

@@ -3,30 +3,14 @@
 ghost use Rattle.std.specs.Prelude.{◌≡◌, ℕ, ◌≤◌, length, take, map, sum, IsTrue, IfOk, IfErr, OnOk};
 ghost use Rattle.media_tape.specs.Fault.{failures_after, Explains};
 ghost use Rattle.media_tape.specs.Items.{items_of, size, size_of};
-ghost use Rattle.media_tape.specs.declared.fault.TapeOpenFault.TheVariants.{OutOfMemory, Device};
+ghost use Rattle.media_tape.specs.declared.fault.TapeOpenFault.TheVariants.{OutOfMemory};
 
 use crate::fault::TapeOpenFault;
 use crate::index::Index;
 use crate::item::item_at;
 use crate::run::MARK_SIZE;
-use media_store::{Store, StoreFault};
-use std::alloc::{AllocError, Global};
-
-impl From<StoreFault> for TapeOpenFault {
-    ghost from_gives = { λ _ fault. fault ≡ Device };
-
-    fn from(_fault: StoreFault) -> TapeOpenFault {
-        TapeOpenFault::Device
-    }
-}
-
-impl From<AllocError> for TapeOpenFault {
-    ghost from_gives = { λ _ fault. fault ≡ OutOfMemory };
-
-    fn from(_error: AllocError) -> TapeOpenFault {
-        TapeOpenFault::OutOfMemory
-    }
-}
+use media_store::Store;
+use std::alloc::Global;
 
 /// Goes over the items below an end, as far as whole ones stand there.
 pub(crate) fn walk<S: Store>(alloc: Global, store: &mut S, end: u64) -> Result<Index, TapeOpenFault>

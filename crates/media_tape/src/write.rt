@@ -1,13 +1,58 @@
 //! Items written to a store from a place on, and nothing behind them.
 
-ghost use Rattle.std.specs.Prelude.{◌≡◌, ◌+◌, ◌≤◌, ◌<◌, ◌^◌, ◌++◌, false, length, take, IsTrue, IsOk, IfOk, OnOk, OnErr};
+ghost use Rattle.std.specs.Prelude.{◌≡◌, ◌+◌, ◌≤◌, ◌<◌, ◌^◌, ◌++◌, true, false, length, take, IsTrue, IsOk, IfOk, OnOk, OnErr};
 ghost use Rattle.byteorder.specs.Endian.{big_bytes};
 ghost use Rattle.media_store.specs.Failures.{counted};
-ghost use Rattle.media_tape.specs.Writing.{KeepsBefore};
+ghost use Rattle.media_tape.specs.Writing.{KeepsBefore, bytes_of, count_of, each_size, is_synced};
 
+use crate::item::LENGTHS;
+use crate::run::MARK_SIZE;
+use crate::zeros::write_zeros;
 use byteorder::{BigEndian, ByteOrder};
 use media_store::{Store, StoreFault};
 use std::alloc::{AllocError, Global};
+
+/// Logical objects (SSC-4) of one size that are written at once.
+#[derive(Drop)]
+pub(crate) enum Objects {
+    /// A record as it stands in a store.
+    Record(Vec<u8>),
+    /// So many filemarks.
+    Filemarks(u32),
+}
+
+impl Objects {
+    /// How many bytes they take.
+    pub fn size(&self) -> u64
+        ensures { result ≡ length (bytes_of self.now) }
+    {
+        match self {
+            Objects::Record(spelled) => spelled.len() as u64,
+            Objects::Filemarks(count) => LENGTHS * u64::from(*count),
+        }
+    }
+
+    /// How many bytes each of them takes.
+    pub fn each_size(&self) -> u32
+        requires { each_size self.now < 2 ^ 32 }
+        ensures { result ≡ each_size self.now }
+    {
+        match self {
+            Objects::Record(spelled) => spelled.len() as u32,
+            Objects::Filemarks(_) => MARK_SIZE,
+        }
+    }
+
+    /// How many they are.
+    pub fn many(&self) -> u64
+        ensures { result ≡ count_of self.now }
+    {
+        match self {
+            Objects::Record(_) => 1,
+            Objects::Filemarks(count) => u64::from(*count),
+        }
+    }
+}
 
 /// A record as it stands in a store: its length, its bytes, and its length again.
 pub(crate) fn spelled(alloc: Global, bytes: &[u8]) -> Result<Vec<u8>, AllocError>
@@ -31,10 +76,12 @@ pub(crate) fn cut_at<S: Store>(store: &mut S, place: u64, is_longer: bool) -> Re
         → S.Store.content store.new ≡ take place (S.Store.content store.old)) }
     ensures keeps { KeepsBefore place (S.Store.content store.old) (S.Store.content store.new) }
     ensures honest { S.Store.honest store.new ≡ S.Store.honest store.old }
+    ensures synced { is_longer ≡ true → S.Store.synced store.new ≡ false }
     ensures unsynced { OnErr result (S.Store.synced store.new ≡ false) }
     ensures failures { S.Store.failures store.new ≡ counted result (S.Store.failures store.old) }
     ensures steady { S.Store.steady store.new ≡ S.Store.steady store.old }
     ensures reach { S.Store.reach store.new ≡ S.Store.reach store.old }
+    ensures within { IsTrue (S.Store.steady store.old) → place ≤ length (S.Store.content store.old) → IsOk result }
     ensures succeeds { IsTrue (S.Store.steady store.old) → place ≤ S.Store.reach store.old → IsOk result }
 {
     if is_longer {
@@ -43,26 +90,33 @@ pub(crate) fn cut_at<S: Store>(store: &mut S, place: u64, is_longer: bool) -> Re
     Ok(())
 }
 
-/// Writes an item from a place on, in one call. Where something stands there it is cut off before, so that
-/// whenever the program ends the store has whole items.
-pub(crate) fn write_item<S: Store>(
+/// Writes objects from a place on: a record in one call, and behind filemarks it waits until all is on the
+/// medium. Where something stands there it is cut off before, so that whenever the program ends the store
+/// has whole items.
+pub(crate) fn write_objects<S: Store>(
     store: &mut S,
     place: u64,
     is_longer: bool,
-    item: Vec<u8>,
+    objects: &Objects,
 ) -> Result<(), StoreFault>
-    requires { place + length item.items < 2 ^ 64 }
+    requires within { place + length (bytes_of objects.now) < 2 ^ 64 }
+    requires some { 0 < count_of objects.now }
     ensures written { OnOk result (place ≤ length (S.Store.content store.old)
         → (is_longer ≡ false → length (S.Store.content store.old) ≡ place)
-        → S.Store.content store.new ≡ take place (S.Store.content store.old) ++ item.items) }
+        → S.Store.content store.new ≡ take place (S.Store.content store.old) ++ bytes_of objects.now) }
     ensures keeps { KeepsBefore place (S.Store.content store.old) (S.Store.content store.new) }
     ensures honest { S.Store.honest store.new ≡ S.Store.honest store.old }
-    ensures synced { S.Store.synced store.new ≡ false }
+    ensures synced { OnOk result (S.Store.synced store.new ≡ is_synced objects.now) }
+    ensures unsynced { OnErr result (S.Store.synced store.new ≡ false) }
     ensures failures { S.Store.failures store.new ≡ counted result (S.Store.failures store.old) }
     ensures steady { S.Store.steady store.new ≡ S.Store.steady store.old }
     ensures reach { S.Store.reach store.new ≡ S.Store.reach store.old }
-    ensures succeeds { IsTrue (S.Store.steady store.old) → place + length item.items ≤ S.Store.reach store.old → IsOk result }
+    ensures succeeds { IsTrue (S.Store.steady store.old) → place + length (bytes_of objects.now) ≤ S.Store.reach store.old
+        → IsOk result }
 {
     cut_at(store, place, is_longer)?;
-    store.write_at(place, &item)
+    match objects {
+        Objects::Record(spelled) => store.write_at(place, spelled),
+        Objects::Filemarks(count) => write_zeros(store, place, LENGTHS * u64::from(*count)),
+    }
 }

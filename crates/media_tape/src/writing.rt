@@ -3,17 +3,16 @@
 ghost use Rattle.std.specs.Prelude.{◌≡◌, ◌≢◌, ◌+◌, ◌*◌, ◌≤◌, [], length, nat_lt, true, false, if◌then◌else◌, ◌||◌, IsTrue, IsOk, IfOk, OnOk, OnErr};
 ghost use Rattle.media_store.specs.Failures.{counted, risen};
 ghost use Rattle.media_tape.specs.Items.{most_bytes, size_of};
-ghost use Rattle.media_tape.specs.Tape.{write_told, tape_written, written_synced, marks_told, marked_synced, tape_marked, lost, erased};
+ghost use Rattle.media_tape.specs.Tape.{size_told, write_told, tape_written, written_synced, marks_told, marked_synced, tape_marked, lost, erased};
+ghost use Rattle.media_tape.specs.Writing.{AreWhole, bytes_of, put_if_told, put_synced};
 ghost use Rattle.media_tape.specs.declared.outcome.Written.TheVariants as written;
 
-use crate::item::LENGTHS;
 use crate::outcome::Written;
-use crate::run::MARK_SIZE;
 use crate::tape::Tape;
-use crate::write::{spelled, write_item};
-use crate::zeros::write_filemarks;
+use crate::write::{Objects, cut_at, spelled, write_objects};
 use media_store::{Store, StoreFault};
 use out_of_memory::Memory;
+use std::alloc::AllocError;
 
 /// What is told of items that were written up to this place.
 fn told(early_mark: u64, end: u64) -> Written
@@ -61,28 +60,9 @@ impl<S: Store> Tape<S> {
         if bytes.is_empty() {
             return Ok(Ok(Written::Whole));
         }
-        let size = bytes.len() as u32 + MARK_SIZE;
-        let place = self.index.place_of(self.position);
-        if self.capacity - place < u64::from(size) {
-            return Ok(Ok(Written::Refused));
-        }
         let item = spelled(self.alloc, bytes)?;
-        self.index.reserve_one()?;
-        let is_longer = is_longer(self.is_torn, self.position, self.index.count());
-        // What stands behind the position is lost, also where a call fails.
-        self.index.truncate(self.position);
-        match write_item(&mut self.store, place, is_longer, item) {
-            Ok(()) => {
-                self.is_torn = false;
-                self.index.push_reserved(size, 1);
-                self.position = self.index.count();
-                Ok(Ok(told(self.early_mark, place + u64::from(size))))
-            }
-            Err(fault) => {
-                self.is_torn = true;
-                Ok(Err(fault))
-            }
-        }
+        let done = self.put(&Objects::Record(item))?;
+        Ok(done)
     }
 
     /// Writes filemarks in the place of all that stands behind the position, and waits until all is on the
@@ -114,8 +94,37 @@ impl<S: Store> Tape<S> {
         if count == 0 {
             return Ok(self.sync());
         }
-        let many = u64::from(count);
-        let size = LENGTHS * many;
+        let done = self.put(&Objects::Filemarks(count))?;
+        Ok(done)
+    }
+
+    /// Puts objects in the place of all that stands behind the position, unless they would exceed the capacity.
+    /// Where an allocation fails nothing changes; where the store fails the items before the position are
+    /// left.
+    fn put(&mut self, objects: &Objects) -> Result<Result<Written, StoreFault>, AllocError>
+        requires { AreWhole objects.now }
+        ensures told { IfOk result (λ done. IfOk done (λ told. IsTrue self.old.honest
+            → told ≡ size_told (length (bytes_of objects.now)) self.old)) }
+        ensures tape { IfOk result (λ done. OnOk done (IsTrue self.old.honest
+            → self.new ≡ put_if_told objects.now (size_told (length (bytes_of objects.now)) self.old) self.old)) }
+        ensures failed { IfOk result (λ done. OnErr done (IsTrue self.old.honest → self.new ≡ lost self.new.tail false self.old)) }
+        ensures refused { IfOk result (λ done. IfOk done (λ told. told ≡ written.Refused → self.new ≡ self.old)) }
+        ensures synced { IfOk result (λ done. IfOk done (λ told. self.new.synced ≡ put_synced objects.now told self.old.synced)) }
+        ensures unsynced { IfOk result (λ done. OnErr done (self.new.synced ≡ false)) }
+        ensures fits { IfOk result (λ done. OnErr done (IsTrue self.old.honest
+            → size_of self.old.before + length (bytes_of objects.now) ≤ self.old.capacity)) }
+        ensures honest { self.new.honest ≡ self.old.honest }
+        ensures rest { IfOk result (λ done. self.new ≡ record self.old {
+          before = self.new.before;
+          after = self.new.after;
+          tail = self.new.tail;
+          synced = self.new.synced;
+          failures = counted done self.old.failures;
+        }) }
+        ensures succeeds { IfOk result (λ done. IsTrue self.old.steady → self.old.capacity ≤ self.old.reach → IsOk done) }
+        ensures err { OnErr result (self.new ≡ self.old) }
+    {
+        let size = objects.size();
         let place = self.index.place_of(self.position);
         if self.capacity - place < size {
             return Ok(Ok(Written::Refused));
@@ -124,10 +133,11 @@ impl<S: Store> Tape<S> {
         let is_longer = is_longer(self.is_torn, self.position, self.index.count());
         // What stands behind the position is lost, also where a call fails.
         self.index.truncate(self.position);
-        match write_filemarks(&mut self.store, place, is_longer, size) {
+        match write_objects(&mut self.store, place, is_longer, objects) {
             Ok(()) => {
                 self.is_torn = false;
-                self.index.push_reserved(MARK_SIZE, many);
+                self.index
+                    .push_reserved(objects.each_size(), objects.many());
                 self.position = self.index.count();
                 Ok(Ok(told(self.early_mark, place + size)))
             }
@@ -166,7 +176,7 @@ impl<S: Store> Tape<S> {
         let place = self.index.place_of(self.position);
         self.index.truncate(self.position);
         self.is_torn = true;
-        self.store.set_len(place)?;
+        cut_at(&mut self.store, place, true)?;
         self.is_torn = false;
         Ok(())
     }

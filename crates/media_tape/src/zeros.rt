@@ -1,58 +1,20 @@
 //! Filemarks written to a store from a place on: two lengths of zero each.
 
-ghost use Rattle.std.specs.Prelude.{◌≡◌, ◌+◌, ◌≤◌, ◌<◌, ◌^◌, ◌++◌, true, false, length, take, replicate, IsTrue, IsOk, OnOk, OnErr};
+ghost use Rattle.std.specs.Prelude.{◌≡◌, ◌+◌, ◌≤◌, ◌<◌, ◌^◌, ◌++◌, true, false, length, replicate, IsTrue, IsOk, OnOk, OnErr};
 ghost use Rattle.media_store.specs.Failures.{counted};
 ghost use Rattle.media_tape.specs.Writing.{KeepsBefore};
 
-use crate::write::cut_at;
 use media_store::{Store, StoreFault};
 
 /// The most bytes that one call of the store writes: whole filemarks.
 const PART: u64 = 4096;
 
-/// Writes so many zero bytes from a place on. Where something stands there it is cut off before.
-fn write_zeros<S: Store>(
-    store: &mut S,
-    place: u64,
-    is_longer: bool,
-    size: u64,
-) -> Result<(), StoreFault>
+/// Writes so many zero bytes from a place on, and waits until all is on the medium.
+pub(crate) fn write_zeros<S: Store>(store: &mut S, place: u64, size: u64) -> Result<(), StoreFault>
     requires within { place + size < 2 ^ 64 }
     requires some { 0 < size }
-    ensures written { OnOk result (place ≤ length (S.Store.content store.old)
-        → (is_longer ≡ false → length (S.Store.content store.old) ≡ place)
-        → S.Store.content store.new ≡ take place (S.Store.content store.old) ++ replicate size 0) }
-    ensures keeps { KeepsBefore place (S.Store.content store.old) (S.Store.content store.new) }
-    ensures honest { S.Store.honest store.new ≡ S.Store.honest store.old }
-    ensures synced { S.Store.synced store.new ≡ false }
-    ensures failures { S.Store.failures store.new ≡ counted result (S.Store.failures store.old) }
-    ensures steady { S.Store.steady store.new ≡ S.Store.steady store.old }
-    ensures reach { S.Store.reach store.new ≡ S.Store.reach store.old }
-    ensures succeeds { IsTrue (S.Store.steady store.old) → place + size ≤ S.Store.reach store.old → IsOk result }
-{
-    let zeros = [0; PART as usize];
-    cut_at(store, place, is_longer)?;
-    let mut done = 0;
-    while done < size {
-        let part = (size - done).min(PART);
-        store.write_at(place + done, &zeros[..part as usize])?;
-        done += part;
-    }
-    Ok(())
-}
-
-/// Writes filemarks of so many bytes from a place on, and waits until all is on the medium.
-pub(crate) fn write_filemarks<S: Store>(
-    store: &mut S,
-    place: u64,
-    is_longer: bool,
-    size: u64,
-) -> Result<(), StoreFault>
-    requires within { place + size < 2 ^ 64 }
-    requires some { 0 < size }
-    ensures written { OnOk result (place ≤ length (S.Store.content store.old)
-        → (is_longer ≡ false → length (S.Store.content store.old) ≡ place)
-        → S.Store.content store.new ≡ take place (S.Store.content store.old) ++ replicate size 0) }
+    ensures written { OnOk result (length (S.Store.content store.old) ≡ place
+        → S.Store.content store.new ≡ S.Store.content store.old ++ replicate size 0) }
     ensures keeps { KeepsBefore place (S.Store.content store.old) (S.Store.content store.new) }
     ensures honest { S.Store.honest store.new ≡ S.Store.honest store.old }
     ensures synced { OnOk result (S.Store.synced store.new ≡ true) }
@@ -62,6 +24,12 @@ pub(crate) fn write_filemarks<S: Store>(
     ensures reach { S.Store.reach store.new ≡ S.Store.reach store.old }
     ensures succeeds { IsTrue (S.Store.steady store.old) → place + size ≤ S.Store.reach store.old → IsOk result }
 {
-    write_zeros(store, place, is_longer, size)?;
+    let zeros = [0; PART as usize];
+    let mut done = 0;
+    while done < size {
+        let part = (size - done).min(PART);
+        store.write_at(place + done, &zeros[..part as usize])?;
+        done += part;
+    }
     store.sync()
 }

@@ -1,8 +1,6 @@
-use Rattle.std.proofs.Common.{◌≡◌, ◌∙◌, ◌+◌, ◌-◌, take, reverse, get_or, ap, arith}
+use Rattle.std.proofs.Common.{◌≡◌, ◌∙◌, ◌-◌, take, reverse, get_or, ap, arith}
 use Rattle.media_tape.specs.Runs.{first_at, sizes_of}
-use Rattle.media_tape.specs.SizeSpace.{size_way}
 use Rattle.media_tape.specs.declared.outcome.Direction.TheVariants.{Backward}
-use Rattle.media_tape.specs.declared.outcome.Spaced.TheVariants as spaced
 use Rattle.media_tape.proofs.Runs.{first_at-zero, no_run}
 use Rattle.media_tape.proofs.RunSpacing.{AtRun, at_before, before, on-run, on-next, on-edge}
 use Rattle.media_tape.proofs.space.space_back.Goals as goal
@@ -43,37 +41,26 @@ loop-behind-preserved c =
           (c.in-All.ensures.way Backward (reverse (take run.first sizes))) (omega (arith, that.first, low, kept.from));
     }
 
-part_is : (c : goal.In-Part) → size_way Backward c.args.over c.args.count (reverse (take c.args.from (sizes_of c.args.all c.args.runs.now)))
-    ≡ record { passed = (c.args.from - c.loop-behind.at) + c.in-Part.passed; told = c.in-Part.told }
-part_is c =
+pub returns-in-Part-clause-way : goal.returns-in-Part-clause-way
+returns-in-Part-clause-way c =
     let runs = c.args.runs.now in
-    let all = c.args.all in
     let l = c.loop-behind in
     let kept = l.invariant in
-    let that = at_before all runs l.behind l.at c.requires.runs c.loop-behind-test.true kept.within (kept.low c.loop-behind-test.true) kept.high in
+    let that = at_before c.args.all runs l.behind l.at c.requires.runs c.loop-behind-test.true kept.within (kept.low c.loop-behind-test.true) kept.high in
     let run = get_or runs (l.behind - 1) no_run in
-    let sizes = sizes_of all runs in
+    let sizes = sizes_of c.args.all runs in
     on-run Backward c.args.over c.args.count (reverse (take c.args.from sizes)) (c.args.from - l.at) l.left run.size (l.at - run.first)
     (reverse (take l.at sizes)) (reverse (take run.first sizes)) (record { passed = c.in-Part.passed; told = c.in-Part.told }) kept.on that.is.back
     (c.in-Part.ensures.way Backward (reverse (take run.first sizes)))
-
-ended : (c : goal.After-loop-behind) → size_way Backward c.args.over c.args.count (reverse (take c.args.from (sizes_of c.args.all c.args.runs.now)))
-    ≡ record { passed = c.args.from - c.loop-behind.at; told = spaced.Beginning c.loop-behind.left }
-ended c =
-    let runs = c.args.runs.now in
-    let all = c.args.all in
-    let l = c.loop-behind in
-    let kept = l.invariant in
-    let sizes = sizes_of all runs in
-    let start : l.behind ≡ 0 = omega (arith, c.loop-behind-test.false) in
-    let none : l.at ≡ 0 = omega (arith, kept.high, ap (first_at all runs) start, first_at-zero all runs c.requires.runs) in
-    on-edge Backward c.args.over c.args.count (reverse (take c.args.from sizes)) (c.args.from - l.at) l.left (reverse (take l.at sizes)) kept.on
-    (ap (λ n. reverse (take n sizes)) none) kept.some
-
-pub returns-in-Part-clause-way : goal.returns-in-Part-clause-way
-returns-in-Part-clause-way c =
-    let kept = c.loop-behind.invariant in
-    part_is c ∙ ap (λ n. record { passed = n; told = c.in-Part.told }) (omega (arith, kept.from, c.in-Part.ensures.within))
+    ∙ ap (λ n. record { passed = n; told = c.in-Part.told }) (omega (arith, kept.from, c.in-Part.ensures.within))
 
 pub returns-clause-way : goal.returns-clause-way
-returns-clause-way c = ended c
+returns-clause-way c =
+    let runs = c.args.runs.now in
+    let l = c.loop-behind in
+    let kept = l.invariant in
+    let sizes = sizes_of c.args.all runs in
+    let start : l.behind ≡ 0 = omega (arith, c.loop-behind-test.false) in
+    let none : l.at ≡ 0 = omega (arith, kept.high, ap (first_at c.args.all runs) start, first_at-zero c.args.all runs c.requires.runs) in
+    on-edge Backward c.args.over c.args.count (reverse (take c.args.from sizes)) (c.args.from - l.at) l.left (reverse (take l.at sizes)) kept.on
+    (ap (λ n. reverse (take n sizes)) none) kept.some

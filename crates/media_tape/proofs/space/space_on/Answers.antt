@@ -34,9 +34,8 @@ loop-i-preserved c =
           (c.in-All.ensures.way Forward (drop next sizes)) (omega (arith, kept.from, high, is_next));
     }
 
-part_is : (c : goal.In-Part) → size_way Forward c.args.over c.args.count (drop c.args.from (sizes_of c.args.all c.args.runs.now))
-    ≡ record { passed = (c.loop-i.at - c.args.from) + c.in-Part.passed; told = c.in-Part.told }
-part_is c =
+pub returns-in-Part-clause-way : goal.returns-in-Part-clause-way
+returns-in-Part-clause-way c =
     let runs = c.args.runs.now in
     let all = c.args.all in
     let l = c.loop-i in
@@ -49,23 +48,7 @@ part_is c =
     on-run Forward c.args.over c.args.count (drop c.args.from sizes) (l.at - c.args.from) l.left (get_or runs l.i no_run).size (next - l.at)
     (drop l.at sizes) (drop next sizes) (record { passed = c.in-Part.passed; told = c.in-Part.told }) kept.on (rw is_next here.is.behind)
     (c.in-Part.ensures.way Forward (drop next sizes))
-
-ended : (c : goal.After-loop-i) → size_way Forward c.args.over c.args.count (drop c.args.from (sizes_of c.args.all c.args.runs.now))
-    ≡ record { passed = c.loop-i.at - c.args.from; told = spaced.EndOfData c.loop-i.left }
-ended c =
-    let runs = c.args.runs.now in
-    let all = c.args.all in
-    let l = c.loop-i in
-    let kept = l.invariant in
-    let sizes = sizes_of all runs in
-    let last = first_at-past all runs l.i (omega (arith, c.loop-i-test.false)) in
-    let none = drop_all l.at sizes (omega (arith, last, kept.low, length-all all runs c.requires.runs)) in
-    on-edge Forward c.args.over c.args.count (drop c.args.from sizes) (l.at - c.args.from) l.left (drop l.at sizes) kept.on none kept.some
-
-pub returns-in-Part-clause-way : goal.returns-in-Part-clause-way
-returns-in-Part-clause-way c =
-    let kept = c.loop-i.invariant in
-    part_is c ∙ ap (λ n. record { passed = n; told = c.in-Part.told }) (omega (arith, kept.from))
+    ∙ ap (λ n. record { passed = n; told = c.in-Part.told }) (omega (arith, kept.from))
 
 pub returns-in-Part-clause-within : goal.returns-in-Part-clause-within
 returns-in-Part-clause-within c =
@@ -83,4 +66,11 @@ returns-then-from-all-clause-way c =
     ∙ ap (λ n. record { passed = n; told = spaced.EndOfData c.args.count }) (omega arith)
 
 pub returns-clause-way : goal.returns-clause-way
-returns-clause-way c = ended c
+returns-clause-way c =
+    let runs = c.args.runs.now in
+    let l = c.loop-i in
+    let kept = l.invariant in
+    let sizes = sizes_of c.args.all runs in
+    let last = first_at-past c.args.all runs l.i (omega (arith, c.loop-i-test.false)) in
+    let none = drop_all l.at sizes (omega (arith, last, kept.low, length-all c.args.all runs c.requires.runs)) in
+    on-edge Forward c.args.over c.args.count (drop c.args.from sizes) (l.at - c.args.from) l.left (drop l.at sizes) kept.on none kept.some

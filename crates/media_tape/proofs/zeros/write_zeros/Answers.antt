@@ -5,7 +5,7 @@ use Rattle.media_tape.proofs.zeros.write_zeros.Goals as goal
 
 pub loop-done-preserved : goal.loop-done-preserved
 loop-done-preserved g c =
-    let c0 = g.S.Store.content c.cut_at.new.store in
+    let c0 = g.S.Store.content c.args.store.now in
     let c1 = g.S.Store.content c.loop-done.store in
     let c2 = g.S.Store.content c.write_at.new.self in
     let kept = c.loop-done.invariant in

@@ -1,9 +1,10 @@
 use Rattle.std.proofs.Common.{◌≡◌, ◌+◌, ◌-◌, ◌<◌, ◌≤◌, ◌==◌, ◌++◌, false, min, length, take}
-use Rattle.std.proofs.Common.{drop, sum, slice_range, List, ℕ, refl, sym, ap, ◌∙◌, arith, rules}
+use Rattle.std.proofs.Common.{drop, sum, slice_range, IsTrue, List, ℕ, refl, sym, ap, ◌∙◌, arith, rules}
 use Rattle.std.proofs.Math.Seq.{take-add}
 use Rattle.std.proofs.lemmas.List.{drop-drop, take-take, take_min, length-take}
 use Rattle.media_tape.specs.Items.{items_of}
-use Rattle.media_tape.proofs.Indexed.{is_next, next-within}
+use Rattle.media_tape.proofs.Indexed.{IsNext, is_next, next-within}
+use Rattle.media_tape.proofs.tape.Tape.read.Given as given
 use Rattle.media_tape.proofs.tape.Tape.read.Goals as goal
 
 shorter : (content : List ℕ) (from asked n given : ℕ) → given ≡ min asked n
@@ -27,30 +28,30 @@ overflow_add-place g c =
     let next = next-within old.index.sizes old.position less in
     omega (arith, next, c.size_at-length.ensures.size, c.size_at-length.ensures.least, c.place_of-place.ensures, c.self.invariant.fits, c.self.ranges)
 
+next : (g : given.Over) (c : goal.After-passed_item g) → IsTrue (g.S.Store.honest c.self.inside.store)
+    → IsNext (g.S.Store.content c.self.inside.store) c.self.inside.index.sizes c.self.inside.position (c.size_at-length.result - 8)
+next g c honest =
+    let old = c.self.inside in
+    is_next (g.S.Store.content old.store) old.index.sizes old.is_torn old.position c.size_at-length.result (c.self.invariant.are_in honest)
+    (omega (arith, c.self.invariant.within, c.count.ensures, c.if-self-count.false)) (sym c.size_at-length.ensures.size)
+
 pub returns-in-Ok-clause-passed : goal.returns-in-Ok-clause-passed
 returns-in-Ok-clause-passed g c honest =
-    let old = c.self.inside in
-    let content = g.S.Store.content old.store in
-    let less : old.position < length old.index.sizes = omega (arith, c.self.invariant.within, c.count.ensures, c.if-self-count.false) in
-    let next = is_next content old.index.sizes old.is_torn old.position c.size_at-length.result
-    (c.self.invariant.are_in (c.in-Ok.ensures.back honest)) less (sym c.size_at-length.ensures.size) in
     let some : (c.args.asked == 0) ≡ false = search rules in
-    rw (← c.self.view_is, some) (c.passed_item.ensures ∙ next.told)
+    rw (← c.self.view_is, some) (c.passed_item.ensures ∙ (next g c (c.in-Ok.ensures.back honest)).told)
 
 pub returns-in-Ok-clause-given : goal.returns-in-Ok-clause-given
 returns-in-Ok-clause-given g c honest =
     let old = c.self.inside in
     let content = g.S.Store.content old.store in
-    let less : old.position < length old.index.sizes = omega (arith, c.self.invariant.within, c.count.ensures, c.if-self-count.false) in
     let n : ℕ = c.size_at-length.result - 8 in
-    let next = is_next content old.index.sizes old.is_torn old.position c.size_at-length.result
-    (c.self.invariant.are_in (c.in-Ok.ensures.back honest)) less (sym c.size_at-length.ensures.size) in
+    let that = next g c (c.in-Ok.ensures.back honest) in
     let place = sum (take old.position old.index.sizes) in
     let least : c.min-given.result ≡ min c.args.asked n = c.min-given.ensures in
-    let within : place + 4 + c.min-given.result ≤ length content = omega (arith, next.within, least) in
+    let within : place + 4 + c.min-given.result ≤ length content = omega (arith, that.within, least) in
     let read = rw (c.place_of-place.ensures, c.in_ok-reserve.ensures.items) at (c.in-Ok.ensures.read honest (rw c.place_of-place.ensures within)) in
     rw (← c.self.view_is) (read ∙ ap (λ (xs : List ℕ). c.args.buffer.now.items ++ xs)
-    (shorter content (place + 4) c.args.asked n c.min-given.result least ∙ ap (take c.args.asked) next.given))
+    (shorter content (place + 4) c.args.asked n c.min-given.result least ∙ ap (take c.args.asked) that.given))
 
 pub returns-in-Ok-clause-tape : goal.returns-in-Ok-clause-tape
 returns-in-Ok-clause-tape g c honest =
@@ -74,10 +75,8 @@ returns-in-Ok-clause-tape g c honest =
 pub returns-in-Ok-clause-succeeds : goal.returns-in-Ok-clause-succeeds
 returns-in-Ok-clause-succeeds g c steady honest =
     let old = c.self.inside in
-    let content = g.S.Store.content old.store in
-    let less : old.position < length old.index.sizes = omega (arith, c.self.invariant.within, c.count.ensures, c.if-self-count.false) in
-    let next = is_next content old.index.sizes old.is_torn old.position c.size_at-length.result
-    (c.self.invariant.are_in (rw (← c.self.view_is) at honest)) less (sym c.size_at-length.ensures.size) in
+    let that = next g c (rw (← c.self.view_is) at honest) in
     let least : c.min-given.result ≡ min c.args.asked (c.size_at-length.result - 8) = c.min-given.ensures in
-    let within : sum (take old.position old.index.sizes) + 4 + c.min-given.result ≤ length content = omega (arith, next.within, least) in
+    let within : sum (take old.position old.index.sizes) + 4 + c.min-given.result ≤ length (g.S.Store.content old.store) =
+    omega (arith, that.within, least) in
     rw (← c.self.view_is) (refl, (c.in-Ok.ensures.succeeds (rw (← c.self.view_is) at steady) (rw c.place_of-place.ensures within)).1)

@@ -4,7 +4,7 @@ use Rattle.media_tape.specs.Tape.{TapeState}
 use Rattle.media_tape.specs.Space.{Way}
 use Rattle.media_tape.specs.SizeSpace.{sizes_ahead}
 use Rattle.media_tape.proofs.Items.{items_of-have}
-use Rattle.media_tape.proofs.Positions.{lies}
+use Rattle.media_tape.proofs.Indexed.{many_shown}
 use Rattle.media_tape.proofs.Sizes.{ways_ahead, spaced_is, ways_sized, item_sized}
 use Rattle.media_tape.proofs.tape.Tape.space.Goals as goal
 
@@ -34,5 +34,5 @@ returns-clause-tape g c honest =
     ∙ spaced_is c.args.toward c.args.over c.args.count old.position number old.index.sizes tape items
     (ap (λ (t : TapeState). t.before) (sym c.self.view_is)) (ap (λ (t : TapeState). t.after) (sym c.self.view_is)) are.sized
     (items_of-have (take (sum old.index.sizes) content))
-    (omega (arith, c.self.invariant.within, (lies content old.index.sizes old.is_torn old.position are).as_many))
+    (omega (arith, c.self.invariant.within, many_shown content old.index.sizes old.is_torn are))
     c.space-ended.ensures.number
