@@ -6,6 +6,7 @@ pub mod Index
 pub mod Runs
 pub mod SizeSpace
 pub mod Writing
+pub mod Window
 pub mod Fault
 pub mod Examples
 pub mod ExamplesSpace

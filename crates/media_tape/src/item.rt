@@ -1,11 +1,11 @@
 //! The item at a place of a store.
 
-ghost use Rattle.std.specs.Prelude.{◌≡◌, ◌+◌, ◌≤◌, length, take, drop, slice_range, IsTrue, IsOk, IfOk, IfSome};
-ghost use Rattle.byteorder.specs.Endian.{big_number};
+ghost use Rattle.std.specs.Prelude.{◌≡◌, ◌+◌, ◌≤◌, length, take, drop, IsTrue, IsOk, IfOk, IfSome, OnOk};
 ghost use Rattle.media_store.specs.Failures.{counted};
 ghost use Rattle.media_tape.specs.Items.{front, most_bytes};
+ghost use Rattle.media_tape.specs.Window.{IsWindow, Shows};
 
-use byteorder::{BigEndian, ByteOrder};
+use crate::window::Window;
 use media_store::{Store, StoreFault};
 
 /// The greatest length of a record in bytes.
@@ -14,22 +14,19 @@ pub const MOST_BYTES: u32 = 1_048_576;
 /// An item takes so many bytes more than it has: its length before them, and again behind them.
 pub(crate) const LENGTHS: u64 = 8;
 
-/// The number in four bytes of a store, the highest first.
-fn number_at<S: Store>(store: &mut S, at: u64) -> Result<u32, StoreFault>
-    ensures number { IfOk result (λ n. IsTrue (S.Store.honest store.new)
-        → n ≡ big_number 4 (slice_range (S.Store.content store.old) at (at + 4))) }
-    ensures back { IsTrue (S.Store.honest store.new) → IsTrue (S.Store.honest store.old) }
-    ensures content { S.Store.content store.new ≡ S.Store.content store.old }
-    ensures synced { S.Store.synced store.new ≡ S.Store.synced store.old }
-    ensures failures { S.Store.failures store.new ≡ counted result (S.Store.failures store.old) }
-    ensures steady { S.Store.steady store.new ≡ S.Store.steady store.old }
-    ensures reach { S.Store.reach store.new ≡ S.Store.reach store.old }
-    ensures succeeds { IsTrue (S.Store.steady store.old) → at + 4 ≤ length (S.Store.content store.old)
-        → IsOk result × (S.Store.honest store.new ≡ S.Store.honest store.old) }
+/// A page of the system, which it reads whole. Where items are no longer, what stands behind one is read with it.
+const PAGE: u32 = 4096;
+
+/// How many bytes are read with the length behind an item.
+fn ahead(length: u32) -> u64
+    ensures { 4 ≤ result }
 {
-    let mut bytes = [0; 4];
-    store.read_at(at, &mut bytes)?;
-    Ok(BigEndian::read_u32(&bytes))
+    if length <= PAGE {
+        u64::MAX
+    } else {
+        // The length, and the one before the next item.
+        LENGTHS
+    }
 }
 
 /// The length of the item that is whole at a place, below an end.
@@ -37,11 +34,16 @@ pub(crate) fn item_at<S: Store>(
     store: &mut S,
     place: u64,
     end: u64,
+    window: &mut Window,
 ) -> Result<Option<u32>, StoreFault>
-    requires { place ≤ end }
-    ensures found { IfOk result (λ found. IsTrue (S.Store.honest store.new) → end ≤ length (S.Store.content store.old)
-        → found ≡ front (drop place (take end (S.Store.content store.old)))) }
+    requires window { IsWindow window.old }
+    requires within { place ≤ end }
+    ensures found { IfOk result (λ found. IsTrue (S.Store.honest store.new) → Shows (S.Store.content store.old) window.old
+        → end ≤ length (S.Store.content store.old) → found ≡ front (drop place (take end (S.Store.content store.old)))) }
     ensures within { IfOk result (λ found. IfSome found (λ n. (place + n + 8 ≤ end) × (n ≤ most_bytes))) }
+    ensures window { IsWindow window.new }
+    ensures shows { OnOk result (IsTrue (S.Store.honest store.new) → Shows (S.Store.content store.old) window.old
+        → end ≤ length (S.Store.content store.old) → Shows (S.Store.content store.old) window.new) }
     ensures back { IsTrue (S.Store.honest store.new) → IsTrue (S.Store.honest store.old) }
     ensures content { S.Store.content store.new ≡ S.Store.content store.old }
     ensures synced { S.Store.synced store.new ≡ S.Store.synced store.old }
@@ -54,10 +56,13 @@ pub(crate) fn item_at<S: Store>(
     if end - place < LENGTHS {
         return Ok(None);
     }
-    let length = number_at(store, place)?;
+    window.hold(store, place, end, u64::MAX)?;
+    let length = window.number(place);
     if length > MOST_BYTES || end - place - LENGTHS < u64::from(length) {
         return Ok(None);
     }
-    let again = number_at(store, place + 4 + u64::from(length))?;
+    let behind = place + 4 + u64::from(length);
+    window.hold(store, behind, end, ahead(length))?;
+    let again = window.number(behind);
     Ok(if again == length { Some(length) } else { None })
 }

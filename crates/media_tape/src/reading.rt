@@ -1,12 +1,13 @@
 //! READ of a tape.
 
-ghost use Rattle.std.specs.Prelude.{◌≡◌, ◌+◌, ◌≤◌, ◌++◌, length, take, slice_range, min, IsTrue, IsOk, IfOk, OnOk, OnErr};
+ghost use Rattle.std.specs.Prelude.{◌≡◌, ◌+◌, ◌≤◌, ◌++◌, length, take, min, IsTrue, IsOk, IfOk, OnOk, OnErr};
 ghost use Rattle.media_store.specs.Failures.{counted, risen};
 ghost use Rattle.media_tape.specs.Items.{most_bytes};
 ghost use Rattle.media_tape.specs.Tape.{read_told, passed_length, first_data, tape_read};
 ghost use Rattle.media_tape.specs.declared.outcome.Passed.TheVariants as passed;
 
 use crate::outcome::{Passed, passed_item};
+use crate::read::read_behind;
 use crate::run::MARK_SIZE;
 use crate::tape::Tape;
 use bytes::BytesMut;
@@ -15,34 +16,6 @@ use out_of_memory::Memory;
 
 /// The bytes of a record stand behind its length.
 const LENGTH: u64 = 4;
-
-/// Reads so many bytes from an offset on, behind those of a buffer that has room for them.
-fn read_behind<S: Store>(
-    store: &mut S,
-    at: u64,
-    count: usize,
-    buffer: &mut BytesMut,
-) -> Result<(), StoreFault>
-    requires { count ≤ buffer.old.spare }
-    ensures read { OnOk result (IsTrue (S.Store.honest store.new) → at + count ≤ length (S.Store.content store.old)
-        → buffer.new.items ≡ buffer.old.items ++ slice_range (S.Store.content store.old) at (at + count)) }
-    ensures length { length buffer.new.items ≡ length buffer.old.items + count }
-    ensures back { IsTrue (S.Store.honest store.new) → IsTrue (S.Store.honest store.old) }
-    ensures content { S.Store.content store.new ≡ S.Store.content store.old }
-    ensures synced { S.Store.synced store.new ≡ S.Store.synced store.old }
-    ensures failures { S.Store.failures store.new ≡ counted result (S.Store.failures store.old) }
-    ensures steady { S.Store.steady store.new ≡ S.Store.steady store.old }
-    ensures reach { S.Store.reach store.new ≡ S.Store.reach store.old }
-    ensures succeeds { IsTrue (S.Store.steady store.old) → at + count ≤ length (S.Store.content store.old)
-        → IsOk result × (S.Store.honest store.new ≡ S.Store.honest store.old) }
-{
-    if count == 0 {
-        return Ok(());
-    }
-    let front = buffer.len();
-    buffer.advance_mut(count);
-    store.read_at(at, &mut buffer.as_mut_slice()[front..])
-}
 
 impl<S: Store> Tape<S> {
     /// Passes the item behind the position, and puts as many bytes of a record as are asked for behind those

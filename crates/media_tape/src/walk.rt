@@ -9,6 +9,7 @@ use crate::fault::TapeOpenFault;
 use crate::index::Index;
 use crate::item::item_at;
 use crate::run::MARK_SIZE;
+use crate::window::Window;
 use media_store::Store;
 use std::alloc::Global;
 
@@ -33,7 +34,8 @@ pub(crate) fn walk<S: Store>(alloc: Global, store: &mut S, end: u64) -> Result<I
         → fault ≡ OutOfMemory) }
 {
     let mut index = Index::new(alloc);
-    while let Some(length) = item_at(store, index.end(), end)? {
+    let mut window = Window::new(alloc)?;
+    while let Some(length) = item_at(store, index.end(), end, &mut window)? {
         index.push(length + MARK_SIZE, 1)?;
     }
     Ok(index)

@@ -16,7 +16,7 @@ use hex::FromHexError;
 use iscsi_target::{Config, Memory, Serial, Starved, Target, Unit, Units};
 use media_block::{BLOCK_LENGTH, Disk};
 use media_store::MemStore;
-use media_tape::Tape;
+use media_tape::{Tape, TapeOpenFault};
 use std::alloc::{AllocError, AllocFailed, Global};
 use std::io::{self, ErrorKind, Input};
 use std::process::ExitCode;
@@ -42,8 +42,11 @@ impl From<media_block::NotOpened<MemStore>> for Fault {
 }
 
 impl From<media_tape::NotOpened<MemStore>> for Fault {
-    fn from(_e: media_tape::NotOpened<MemStore>) -> Fault {
-        Fault::Unopened
+    fn from(e: media_tape::NotOpened<MemStore>) -> Fault {
+        match e.fault {
+            TapeOpenFault::OutOfMemory => Fault::OutOfMemory,
+            _ => Fault::Unopened,
+        }
     }
 }
 

@@ -6,15 +6,16 @@ use Rattle.media_tape.proofs.Sizes.{sum-sizes}
 use Rattle.media_tape.proofs.Walks.{walked-next, walked-last}
 use Rattle.media_tape.proofs.walk.walk.Goals as goal
 
-pub loop-index-preserved : goal.loop-index-preserved
-loop-index-preserved g c =
+pub loop-window-preserved : goal.loop-window-preserved
+loop-window-preserved g c =
     let n = c.in-Some.length in
     let content = g.S.Store.content c.args.store.now in
-    let sizes = c.loop-index.index.sizes in
-    let kept = c.loop-index.invariant in
+    let sizes = c.loop-window.index.sizes in
+    let kept = c.loop-window.invariant in
     let told = c.in_ok-length.ensures in
     let within = rw c.in-Some.is at told.within in
     let grown = c.in_ok-push.ensures.ok in
+    let shown = rw kept.content at told.shows in
     record {
       within = rw grown (omega (arith, sum-append sizes (replicate 1 (n + 8)), sum-replicate 1 (n + 8), within.0, c.end.ensures.end));
       content = told.content ∙ kept.content;
@@ -24,24 +25,27 @@ loop-index-preserved g c =
       reach = told.reach ∙ kept.reach;
       back = λ honest. kept.back (told.back honest);
       stays = λ steady long. (told.succeeds (kept.steady ∙ steady) (rw kept.content long)).1 ∙ kept.stays steady long;
+      window = told.window;
+      shows = λ honest long. shown honest (kept.shows (told.back honest) long) long;
       is = λ honest long.
-          let some = rw (c.in-Some.is, kept.content, c.end.ensures.end) at (told.found honest (rw kept.content long)) in
+          let found = rw (c.in-Some.is, kept.content, c.end.ensures.end) at told.found in
+          let some = found honest (kept.shows (told.back honest) long) long in
           rw grown (walked-next (take c.args.end content) sizes n (kept.is (told.back honest) long) some);
     }
 
 pub returns-clause-sizes : goal.returns-clause-sizes
 returns-clause-sizes g c honest long =
-    let content = g.S.Store.content c.args.store.now in
-    let kept = c.loop-index.invariant in
+    let kept = c.loop-window.invariant in
     let told = c.in_ok-length.ensures in
-    let none = rw (c.in_default.is, kept.content, c.end.ensures.end) at (told.found honest (rw kept.content long)) in
-    walked-last (take c.args.end content) c.loop-index.index.sizes (kept.is (told.back honest) long) none
+    let none = rw (c.in_default.is, kept.content, c.end.ensures.end) at told.found in
+    walked-last (take c.args.end (g.S.Store.content c.args.store.now)) c.loop-window.index.sizes (kept.is (told.back honest) long)
+    (none honest (kept.shows (told.back honest) long) long)
 
 pub returns-clause-place : goal.returns-clause-place
 returns-clause-place g c honest long =
-    let items = items_of (take c.args.end (g.S.Store.content c.args.store.now)) in
-    let kept = c.loop-index.invariant in
+    let kept = c.loop-window.invariant in
     let told = c.in_ok-length.ensures in
-    let none = rw (c.in_default.is, kept.content, c.end.ensures.end) at (told.found honest (rw kept.content long)) in
-    ap sum (walked-last (take c.args.end (g.S.Store.content c.args.store.now)) c.loop-index.index.sizes (kept.is (told.back honest) long) none)
-    ∙ sum-sizes items
+    let none = rw (c.in_default.is, kept.content, c.end.ensures.end) at told.found in
+    ap sum (walked-last (take c.args.end (g.S.Store.content c.args.store.now)) c.loop-window.index.sizes (kept.is (told.back honest) long)
+    (none honest (kept.shows (told.back honest) long) long))
+    ∙ sum-sizes (items_of (take c.args.end (g.S.Store.content c.args.store.now)))

@@ -1,9 +1,10 @@
 use Rattle.std.proofs.Common.{◌≡◌, ◌-◌, ◌≤◌, length, take, sum, IsTrue}
+use Rattle.media_tape.specs.Window.{IsWindow, Shows}
 use Rattle.media_tape.proofs.Walks.{IsWalked}
 use Rattle.media_tape.proofs.walk.walk.Given as goal
 
-abbrev pub invariant-loop-index : goal.invariant-loop-index
-invariant-loop-index g l = record {
+abbrev pub invariant-loop-window : goal.invariant-loop-window
+invariant-loop-window g l = record {
   within : sum l.index.sizes ≤ l.end;
   content : g.S.Store.content l.store ≡ g.S.Store.content l.initial.store;
   synced : g.S.Store.synced l.store ≡ g.S.Store.synced l.initial.store;
@@ -13,9 +14,11 @@ invariant-loop-index g l = record {
   back : IsTrue (g.S.Store.honest l.store) → IsTrue (g.S.Store.honest l.initial.store);
   stays : IsTrue (g.S.Store.steady l.initial.store) → l.end ≤ length (g.S.Store.content l.initial.store)
       → g.S.Store.honest l.store ≡ g.S.Store.honest l.initial.store;
+  window : IsWindow l.window;
+  shows : IsTrue (g.S.Store.honest l.store) → l.end ≤ length (g.S.Store.content l.initial.store) → Shows (g.S.Store.content l.initial.store) l.window;
   is : IsTrue (g.S.Store.honest l.store) → l.end ≤ length (g.S.Store.content l.initial.store)
       → IsWalked (take l.end (g.S.Store.content l.initial.store)) l.index.sizes;
 }
 
-abbrev pub decreases-loop-index : goal.decreases-loop-index
-decreases-loop-index g l = l.end - sum l.index.sizes
+abbrev pub decreases-loop-window : goal.decreases-loop-window
+decreases-loop-window g l = l.end - sum l.index.sizes
