@@ -1,7 +1,9 @@
 pub mod Texts
 pub mod Joint
 pub mod Connections
-pub mod Replies
 pub mod LineLemmas
+pub mod Comings
+pub mod Replies
+pub mod Pieces
 pub mod Taking
 pub mod Ending

@@ -1,4 +1,5 @@
 pub mod Line
+pub mod Comings
 pub mod Printed
 pub mod Printing
 pub mod Lines

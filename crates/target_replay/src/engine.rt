@@ -46,7 +46,8 @@ impl<S: Store> Engine<S> {
     ghost use Rattle.std.specs.Io.KnownBytes.{Appends};
     ghost use Rattle.iscsi_target.specs.History.{History};
     ghost use Rattle.iscsi_target.specs.World.{Setting};
-    ghost use Rattle.iscsi_target.specs.Machine.{IsSound, IsSure};
+    ghost use Rattle.iscsi_target.specs.Machine.{IsSound, ReflectsSoundness, IsSure};
+    ghost use Rattle.target_replay.specs.Comings.{Kind, IsOf};
     ghost use Rattle.target_replay.specs.Printed.{HasSentAll};
     ghost use Rattle.target_replay.specs.Engine.{Takes, Stops, Finishes, StopsLast, LineEnds, LineFails};
 
@@ -74,13 +75,14 @@ impl<S: Store> Engine<S> {
     /// The pending line has ended.
     fn end_line<W: Write>(&mut self, writer: &mut W) -> Result<(), ReplayFault>
         requires counts { self.old.number + 1 < 2 ^ 64 }
-        ensures reply { OnOk result (IsSound self.new.target → (s : Setting) (h : History) → HasSentAll s h self.old.target
-            → LineEnds s h self.old.pending self.new.target (W.contents writer.old) (W.contents writer.new)) }
+        ensures reply { OnOk result ((kind : Kind) → IsOf kind self.new.target → (s : Setting) (h : History) → HasSentAll s h self.old.target
+            → LineEnds kind s h self.old.pending self.new.target (W.contents writer.old) (W.contents writer.new)) }
         ensures pending { OnOk result (self.new.pending ≡ []) }
         ensures number { OnOk result (self.new.number ≡ self.old.number + 1) }
-        ensures fails { IfErr result (λ fault. IsSound self.new.target → (s : Setting) (h : History) → HasSentAll s h self.old.target
-            → LineFails s h self.old (W.contents writer.old) (W.contents writer.new) fault) }
+        ensures fails { IfErr result (λ fault. (kind : Kind) → IsOf kind self.new.target → (s : Setting) (h : History)
+            → HasSentAll s h self.old.target → LineFails kind s h self.old self.new.target (W.contents writer.old) (W.contents writer.new) fault) }
         ensures sound { IsSound self.new.target → IsSound self.old.target }
+        ensures each { ReflectsSoundness self.old.target self.new.target }
         ensures sure { IsSure self.old.target → IsSure self.new.target }
     {
         self.number += 1;
@@ -107,11 +109,13 @@ impl<S: Store> Engine<S> {
     fn take_line<W: Write>(&mut self, rest: &[u8], writer: &mut W) -> Result<(), ReplayFault>
         requires counts { self.old.number + 1 < 2 ^ 64 }
         requires one_line { All (λ byte. (byte == 10) ≡ false) rest.now }
-        ensures takes { OnOk result (IsSound self.new.target → Takes self.old (rest.now ++ 10 ∷ []) self.new (W.contents writer.old) (W.contents writer.new)) }
+        ensures takes { OnOk result ((kind : Kind) → IsOf kind self.new.target
+            → Takes kind self.old (rest.now ++ 10 ∷ []) self.new (W.contents writer.old) (W.contents writer.new)) }
         ensures number { OnOk result (self.new.number ≡ self.old.number + 1) }
-        ensures stops { IfErr result (λ fault. IsSound self.new.target
-            → Stops self.old (rest.now ++ 10 ∷ []) (W.contents writer.old) (W.contents writer.new) fault) }
+        ensures stops { IfErr result (λ fault. (kind : Kind) → IsOf kind self.new.target
+            → Stops kind self.old (rest.now ++ 10 ∷ []) self.new.target (W.contents writer.old) (W.contents writer.new) fault) }
         ensures sound { IsSound self.new.target → IsSound self.old.target }
+        ensures each { ReflectsSoundness self.old.target self.new.target }
         ensures sure { IsSure self.old.target → IsSure self.new.target }
     {
         self.push(rest)?;
@@ -121,10 +125,13 @@ impl<S: Store> Engine<S> {
     /// The next bytes of the input.
     pub fn take<W: Write>(&mut self, piece: &[u8], writer: &mut W) -> Result<(), ReplayFault>
         requires counts { self.old.number + length piece.now < 2 ^ 64 }
-        ensures takes { OnOk result (IsSound self.new.target → Takes self.old piece.now self.new (W.contents writer.old) (W.contents writer.new)) }
+        ensures takes { OnOk result ((kind : Kind) → IsOf kind self.new.target
+            → Takes kind self.old piece.now self.new (W.contents writer.old) (W.contents writer.new)) }
         ensures number { OnOk result (self.new.number ≤ self.old.number + length piece.now) }
-        ensures stops { IfErr result (λ fault. IsSound self.new.target → Stops self.old piece.now (W.contents writer.old) (W.contents writer.new) fault) }
+        ensures stops { IfErr result (λ fault. (kind : Kind) → IsOf kind self.new.target
+            → Stops kind self.old piece.now self.new.target (W.contents writer.old) (W.contents writer.new) fault) }
         ensures sound { IsSound self.new.target → IsSound self.old.target }
+        ensures each { ReflectsSoundness self.old.target self.new.target }
         ensures sure { IsSure self.old.target → IsSure self.new.target }
     {
         let mut rest = piece;
@@ -138,9 +145,12 @@ impl<S: Store> Engine<S> {
     /// The input has ended. Its last line may lack its newline.
     pub fn end<W: Write>(&mut self, writer: &mut W) -> Result<(), ReplayFault>
         requires counts { self.old.number + 1 < 2 ^ 64 }
-        ensures finishes { OnOk result (IsSound self.new.target → Finishes self.old (W.contents writer.old) (W.contents writer.new)) }
-        ensures stops { IfErr result (λ fault. IsSound self.new.target → StopsLast self.old (W.contents writer.old) (W.contents writer.new) fault) }
+        ensures finishes { OnOk result ((kind : Kind) → IsOf kind self.new.target
+            → Finishes kind self.old self.new.target (W.contents writer.old) (W.contents writer.new)) }
+        ensures stops { IfErr result (λ fault. (kind : Kind) → IsOf kind self.new.target
+            → StopsLast kind self.old self.new.target (W.contents writer.old) (W.contents writer.new) fault) }
         ensures sound { IsSound self.new.target → IsSound self.old.target }
+        ensures each { ReflectsSoundness self.old.target self.new.target }
         ensures sure { IsSure self.old.target → IsSure self.new.target }
     {
         if self.pending.is_empty() {

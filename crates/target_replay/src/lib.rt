@@ -14,7 +14,9 @@
 //!
 //! [`replay`] carries out the lines of a reader, with an [`Engine`] that holds the target. What it
 //! prints is a function of what the target was made with and of the lines (the clauses `done` and
-//! `fails`), as long as the target is sound.
+//! `fails`), as long as the target is sound. Of every target it is one of these and of how commands
+//! came out, line by line: those of each target that is sound came out as defined (`came` and
+//! `stops`).
 #![tactic(auto)]
 
 mod engine;

@@ -2,9 +2,9 @@
 
 ghost use Rattle.std.specs.Prelude.{◌≡◌, [], OnOk, IfErr};
 ghost use Rattle.iscsi_target.specs.World.{Setting};
-ghost use Rattle.iscsi_target.specs.Machine.{IsSound, IsSure};
+ghost use Rattle.iscsi_target.specs.Machine.{IsSound, ReflectsSoundness, IsSure};
 ghost use Rattle.target_replay.specs.Printed.{HasSentAll};
-ghost use Rattle.target_replay.specs.Replay.{Ends, EndsBy};
+ghost use Rattle.target_replay.specs.Replay.{Ends, EndsBy, EndsAsCame, EndsAsCameBy};
 
 use crate::engine::Engine;
 use crate::fault::ReplayFault;
@@ -28,6 +28,13 @@ pub fn replay<S: Store, R: Read, W: Write>(
         → Ends (R.remaining reader.old) (R.remaining reader.new) (W.contents writer.old) (W.contents writer.new) s) }
     ensures fails { IfErr result (λ fault. IsSound engine.new.target → (s : Setting) → HasSentAll s [] engine.old.target
         → EndsBy (R.remaining reader.old) (R.remaining reader.new) (W.contents writer.old) (W.contents writer.new) s fault) }
+
+    // Of every target, whatever its stores do: of the same lines, by how their commands came out.
+    ensures came { OnOk result ((s : Setting) → HasSentAll s [] engine.old.target
+        → EndsAsCame (R.remaining reader.old) (R.remaining reader.new) (W.contents writer.old) (W.contents writer.new) s engine.new.target) }
+    ensures stops { IfErr result (λ fault. (s : Setting) → HasSentAll s [] engine.old.target
+        → EndsAsCameBy (R.remaining reader.old) (R.remaining reader.new) (W.contents writer.old) (W.contents writer.new) s engine.new.target fault) }
+    ensures each { ReflectsSoundness engine.old.target engine.new.target }
     ensures sure { IsSure engine.old.target → IsSure engine.new.target }
 {
     let mut chunk = [0u8; 4096];

@@ -1,13 +1,15 @@
 //! What a line of the input does to the target, and what is printed after it.
 
-ghost use Rattle.std.specs.Prelude.{◌≡◌, ◌<◌, true, None, IfOk, IfSome, MatchOption, option_map, string_bytes};
+ghost use Rattle.std.specs.Prelude.{◌≡◌, ◌<◌, List, true, None, IfOk, IfSome, MatchOption, option_map, string_bytes};
+ghost use Rattle.iscsi_session.specs.Comings.{Coming};
 ghost use Rattle.iscsi_target.specs.History.{History};
 ghost use Rattle.iscsi_target.specs.World.{Setting, world};
-ghost use Rattle.iscsi_target.specs.Machine.{IsSound, IsSure};
+ghost use Rattle.iscsi_target.specs.Machine.{IsSound, ReflectsSoundness, IsSure};
 ghost use Rattle.iscsi_target.specs.Events.{event_view};
 ghost use Rattle.target_replay.specs.Line.{connection_in};
+ghost use Rattle.target_replay.specs.Comings.{Kind, IsOf};
 ghost use Rattle.target_replay.specs.Printed.{HasSentAll};
-ghost use Rattle.target_replay.specs.Reply.{is_allowed, event_in, HasActed, HasReplied, reply as reply_of};
+ghost use Rattle.target_replay.specs.Reply.{is_allowed, event_in, HasActed, HasReplied, reply_by};
 
 use crate::line::line;
 use crate::printing::print;
@@ -21,9 +23,10 @@ fn act<S: Store>(target: &mut Target<S>, event: &Event) -> Result<bool, Starved>
     requires { connection_in event.now < 64 }
     ensures allowed { IfOk result (λ allowed. (s : Setting) (h : History) → HasSentAll s h target.old
         → allowed ≡ is_allowed (world s h) (event_view event.now)) }
-    ensures acted { IfOk result (λ allowed. allowed ≡ true → IsSound target.new → (s : Setting) (h : History) → HasSentAll s h target.old
-        → HasActed s h (event_view event.now) target.new) }
+    ensures acted { IfOk result (λ allowed. allowed ≡ true → (kind : Kind) → IsOf kind target.new → (s : Setting) (h : History)
+        → HasSentAll s h target.old → HasActed kind s h (event_view event.now) target.new) }
     ensures sound { IsSound target.new → IsSound target.old }
+    ensures each { ReflectsSoundness target.old target.new }
     ensures sure { IsSure target.old → IsSure target.new }
 {
     match event {
@@ -67,9 +70,11 @@ pub fn reply<S: Store>(
     target: &mut Target<S>,
     bytes: &[u8],
 ) -> Result<Option<String>, Memory>
-    ensures reply { IfOk result (λ text. IsSound target.new → (s : Setting) (h : History) → HasSentAll s h target.old
-        → MatchOption text (reply_of s h bytes.now ≡ None) (λ text. HasReplied s h bytes.now (string_bytes text) target.new)) }
+    ensures reply { IfOk result (λ text. (kind : Kind) → IsOf kind target.new → (s : Setting) (h : History) → HasSentAll s h target.old
+        → MatchOption text ((comings : List Coming) → reply_by s comings h bytes.now ≡ None)
+        (λ text. HasReplied kind s h bytes.now (string_bytes text) target.new)) }
     ensures sound { IsSound target.new → IsSound target.old }
+    ensures each { ReflectsSoundness target.old target.new }
     ensures sure { IsSure target.old → IsSure target.new }
 {
     let Some(event) = event(alloc, bytes)? else {

@@ -5,8 +5,9 @@ use Rattle.target_replay.proofs.printing.print.Goals.{then-is_open+in_ok-print_c
 
 pub loop-c-init : goal.loop-c-init
 loop-c-init g c = record {
-  printed = rw c.new-text.ensures.bytes (λ sound s sent h stands. print_none s sent h c.args.target.now stands);
+  printed = rw c.new-text.ensures.bytes (λ s sent h stands. print_none s sent h c.args.target.now stands);
   sound = λ sound. sound;
+  each = λ target sound. sound;
   sure = λ sure. sure;
 }
 
@@ -16,31 +17,36 @@ loop-c-preserved g c =
     elim c.if-is_open.branch [
       | then-is_open+in_ok-print_connection w ↦
           rw (w.target-is, w.text-is) record {
-            printed = λ sound s sent h stands.
-                (let so_far = c.loop-c.invariant.printed (w.print_connection.ensures.sound sound) s sent h stands in
+            printed = λ s sent h stands.
+                (let so_far = c.loop-c.invariant.printed s sent h stands in
                 print_next s sent h at (string_bytes c.loop-c.text) (string_bytes w.print_connection.new.text) c.loop-c.target
                 w.print_connection.new.target so_far
-                (w.in_ok-print_connection.ensures.prints sound s so_far.sent (gone_below s h at) so_far.stands));
+                (w.in_ok-print_connection.ensures.prints s so_far.sent (gone_below s h at) so_far.stands));
             sound = λ sound. c.loop-c.invariant.sound (w.print_connection.ensures.sound sound);
+            each = λ target sound. c.loop-c.invariant.each target (w.print_connection.ensures.each target sound);
             sure = λ sure. w.print_connection.ensures.sure (c.loop-c.invariant.sure sure);
           }
       | else-is_open w ↦
           rw (w.target-is, w.text-is) record {
-            printed = λ sound s sent h stands.
-                (let so_far = c.loop-c.invariant.printed sound s sent h stands in
+            printed = λ s sent h stands.
+                (let so_far = c.loop-c.invariant.printed s sent h stands in
                 print_next s sent h at (string_bytes c.loop-c.text) (string_bytes c.loop-c.text) c.loop-c.target c.loop-c.target so_far
                 (pass_one s so_far.sent (gone_below s h at) at (string_bytes c.loop-c.text) c.loop-c.target c.loop-c-test.true so_far.stands
                 (sym w.if-is_open.ensures)));
             sound = c.loop-c.invariant.sound;
+            each = c.loop-c.invariant.each;
             sure = c.loop-c.invariant.sure;
           }
     ]
 
 pub returns-clause-prints : goal.returns-clause-prints
-returns-clause-prints g c = λ sound s sent h stands.
+returns-clause-prints g c = λ s sent h stands.
     (let all : c.loop-c.c ≡ 64 = omega (arith, c.loop-c-test.false) in
-    let so_far = c.loop-c.invariant.printed sound s sent h stands in
+    let so_far = c.loop-c.invariant.printed s sent h stands in
     print_all s sent h (string_bytes c.loop-c.text) c.loop-c.target (rw all at so_far))
 
 pub returns-in_err-print_connection-clause-sure : goal.returns-in_err-print_connection-clause-sure
 returns-in_err-print_connection-clause-sure g c = λ sure. c.print_connection.ensures.sure (c.loop-c.invariant.sure sure)
+
+pub returns-in_err-print_connection-clause-each : goal.returns-in_err-print_connection-clause-each
+returns-in_err-print_connection-clause-each g c = λ target sound. c.loop-c.invariant.each target (c.print_connection.ensures.each target sound)

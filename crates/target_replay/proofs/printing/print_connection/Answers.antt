@@ -5,7 +5,7 @@ use Rattle.target_replay.proofs.printing.print_connection.Goals as goal
 use Rattle.target_replay.proofs.printing.print_connection.Goals.{then-closing+in_ok-print_closed, else-closing}
 
 pub returns-clause-prints : goal.returns-clause-prints
-returns-clause-prints g c = λ sound s sent h stands.
+returns-clause-prints g c = λ s sent h stands.
     (let printed : string_bytes c.print_bytes.new.text ≡ string_bytes c.args.text.now
     ++ bytes_line c.args.c c.in_ok-bytes.bytes.items = rw c.as_slice.ensures.value at c.in_ok-print_bytes.ensures in
     elim c.if-closing.branch [
@@ -13,14 +13,13 @@ returns-clause-prints g c = λ sound s sent h stands.
           rw (w.target-is, w.text-is)
           (closed_one s sent h c.args.c (string_bytes c.args.text.now) c.in_ok-bytes.bytes.items (string_bytes w.print_closed.new.text)
           c.args.target.now c.drain.new.target w.gone.new.self c.requires.in_range stands
-          c.in_ok-bytes.ensures.bytes (c.in_ok-bytes.ensures.stands (w.gone.ensures.sound (rw w.target-is at sound)) s sent h stands)
-          w.if-closing.ensures (rw printed at w.in_ok-print_closed.ensures)
-          (λ s sent h stands. w.gone.ensures.stands s sent h (λ _. stands) (rw w.target-is at sound)))
+          c.in_ok-bytes.ensures.bytes (c.in_ok-bytes.ensures.stands s sent h stands)
+          w.if-closing.ensures (rw printed at w.in_ok-print_closed.ensures) w.gone.ensures.always)
       | else-closing w ↦
           rw (w.target-is, w.text-is)
           (open_one s sent h c.args.c (string_bytes c.args.text.now) c.in_ok-bytes.bytes.items (string_bytes c.print_bytes.new.text)
           c.args.target.now c.drain.new.target c.requires.in_range stands
-          c.in_ok-bytes.ensures.bytes (c.in_ok-bytes.ensures.stands (rw w.target-is at sound) s sent h stands) w.if-closing.ensures printed)
+          c.in_ok-bytes.ensures.bytes (c.in_ok-bytes.ensures.stands s sent h stands) w.if-closing.ensures printed)
     ])
 
 pub returns-clause-sound : goal.returns-clause-sound
@@ -28,4 +27,11 @@ returns-clause-sound g c =
     elim c.if-closing.branch [
       | then-closing+in_ok-print_closed w ↦ rw w.target-is (λ sound. c.drain.ensures.sound (w.gone.ensures.sound sound))
       | else-closing w ↦ rw w.target-is c.drain.ensures.sound
+    ]
+
+pub returns-clause-each : goal.returns-clause-each
+returns-clause-each g c =
+    elim c.if-closing.branch [
+      | then-closing+in_ok-print_closed w ↦ rw w.target-is (λ target sound. c.drain.ensures.each target (w.gone.ensures.each target sound))
+      | else-closing w ↦ rw w.target-is c.drain.ensures.each
     ]

@@ -1,4 +1,5 @@
 use Rattle.std.proofs.Common.{◌∙◌, not, sym, ap}
+use Rattle.target_replay.proofs.Comings.{fed}
 use Rattle.target_replay.proofs.Joint.{open_same}
 use Rattle.target_replay.proofs.Replies.{open_acts, bytes_act, gone_acts}
 use Rattle.target_replay.proofs.reply.act.Goals as goal
@@ -36,15 +37,15 @@ returns-else-not-is_open-2-clause-allowed g c =
 pub returns-in_ok-open-in-Open-clause-acted : goal.returns-in_ok-open-in-Open-clause-acted
 returns-in_ok-open-in-Open-clause-acted g c =
     let lt = rw c.in-Open.is at c.requires in
-    rw c.in-Open.is (λ _ sound s h stands. open_acts s h c.in-Open.c c.args.target.now c.open.new.self lt (sym c.if-is_open.ensures)
-    (λ s sent h stands. c.open.ensures.stands s sent h (λ _. stands) sound) stands)
+    rw c.in-Open.is (λ _ kind is s h stands. open_acts kind s h c.in-Open.c c.args.target.now c.open.new.self lt (sym c.if-is_open.ensures)
+    c.open.ensures.always stands)
 
 pub returns-in_ok-feed-in-Bytes-clause-acted : goal.returns-in_ok-feed-in-Bytes-clause-acted
 returns-in_ok-feed-in-Bytes-clause-acted g c =
-    rw c.in-Bytes.is (λ _ sound s h stands. bytes_act s h c.in-Bytes.c c.in-Bytes.piece.items c.feed.new.self
-    (rw c.as_slice.ensures.value at (c.in_ok-feed-in-Bytes.ensures.stands s _ h (λ _. stands) sound)))
+    rw c.in-Bytes.is (λ _ kind is s h stands. bytes_act kind s h c.in-Bytes.c c.in-Bytes.piece.items c.feed.new.self
+    (rw c.as_slice.ensures.value at (fed kind s _ h c.in-Bytes.c c.as_slice.result.now c.feed.new.self is (c.in_ok-feed-in-Bytes.ensures.came s _ h stands)
+    (λ sound. c.in_ok-feed-in-Bytes.ensures.stands s _ h (λ _. stands) sound))))
 
 pub returns-else-not-is_open-2-clause-acted : goal.returns-else-not-is_open-2-clause-acted
 returns-else-not-is_open-2-clause-acted g c =
-    rw c.in-Gone.is (λ _ sound s h stands. gone_acts s h c.in-Gone.c c.args.target.now c.gone.new.self
-    (λ s sent h stands. c.gone.ensures.stands s sent h (λ _. stands) sound) stands)
+    rw c.in-Gone.is (λ _ kind is s h stands. gone_acts kind s h c.in-Gone.c c.args.target.now c.gone.new.self c.gone.ensures.always stands)
