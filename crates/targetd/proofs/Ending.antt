@@ -27,7 +27,7 @@ use Rattle.target_config.specs.Configuration.{Document, MediumEntry, MemoryDisk,
 use Rattle.target_config.specs.declared.fault.ConfigFault.{ConfigFault}
 use Rattle.target_config.specs.declared.fault.ConfigFault.TheVariants as why
 use Rattle.target_replay.specs.Printed.{all_sent, HasSentAll}
-use Rattle.target_replay.specs.Replay.{Ends, EndsBy}
+use Rattle.target_replay.specs.Replay.{Ends, EndsBy, EndsAsCame, EndsAsCameBy}
 use Rattle.target_replay.specs.declared.fault.ReplayFault.{ReplayFault}
 use Rattle.target_replay.specs.declared.fault.ReplayFault.TheVariants as replays
 use Rattle.targetd.specs.declared.fault.Fault.{Fault}
@@ -108,8 +108,9 @@ pub replay_ends : (held : Held) (left : LeftState) (r0 r1 w0 w1 : Option (List �
     → AreUnitsOf held document.targets units → left.replayed ≡ Some target → target ≡ last → HasSentAll (setting_of document units) [] first
     → first.units ≡ units
     → (IsSure first → IsSure last) → (IsSound last → (s : Setting) → HasSentAll s [] first → Ends r0 r1 w0 w1 s)
+    → ((s : Setting) → HasSentAll s [] first → EndsAsCame r0 r1 w0 w1 s last)
     → IsReplay held left r0 r1 w0 w1 document (Ok tt)
-replay_ends held left r0 r1 w0 w1 document units first last target opened is same stands made sure done =
+replay_ends held left r0 r1 w0 w1 document units first last target opened is same stands made sure done came =
     record {
       units = units;
       opened = opened;
@@ -118,6 +119,7 @@ replay_ends held left r0 r1 w0 w1 document units first last target opened is sam
       sure = λ in_memory. subst IsSound (sym same) (sound_if_sure last
           (sure (subst (λ (us : List UnitStates). All AreSure us) (sym made) (targets_sure held document.targets units opened in_memory))));
       carried = λ sound. done (subst IsSound same sound) (setting_of document units) stands;
+      came = subst (EndsAsCame r0 r1 w0 w1 (setting_of document units)) (sym same) (came (setting_of document units) stands);
     }
 
 pub replay_fails : (held : Held) (left : LeftState) (r0 r1 w0 w1 : Option (List ℕ)) (document : Document) (units : List UnitStates)
@@ -126,9 +128,10 @@ pub replay_fails : (held : Held) (left : LeftState) (r0 r1 w0 w1 : Option (List 
     → AreUnitsOf held document.targets units → left.replayed ≡ Some target → target ≡ last → HasSentAll (setting_of document units) [] first
     → first.units ≡ units
     → (IsSure first → IsSure last) → (IsSound last → (s : Setting) → HasSentAll s [] first → EndsBy r0 r1 w0 w1 s fault)
+    → ((s : Setting) → HasSentAll s [] first → EndsAsCameBy r0 r1 w0 w1 s last fault)
     → IsReplay held left r0 r1 w0 w1 document result
-replay_fails held left r0 r1 w0 w1 document units first last target (Ok end) fault told opened is same stands made sure fails = absurd told
-replay_fails held left r0 r1 w0 w1 document units first last target (Err seen) fault told opened is same stands made sure fails =
+replay_fails held left r0 r1 w0 w1 document units first last target (Ok end) fault told opened is same stands made sure fails stops = absurd told
+replay_fails held left r0 r1 w0 w1 document units first last target (Err seen) fault told opened is same stands made sure fails stops =
     record {
       units = units;
       opened = opened;
@@ -137,6 +140,11 @@ replay_fails held left r0 r1 w0 w1 document units first last target (Err seen) f
       sure = λ in_memory. subst IsSound (sym same) (sound_if_sure last
           (sure (subst (λ (us : List UnitStates). All AreSure us) (sym made) (targets_sure held document.targets units opened in_memory))));
       carried = λ sound. (fault, told, fails (subst IsSound same sound) (setting_of document units) stands);
+      came = (
+        fault,
+        told,
+        subst (λ (target : Machine). EndsAsCameBy r0 r1 w0 w1 (setting_of document units) target fault) (sym same) (stops (setting_of document units) stands),
+      );
     }
 
 -- ---- serving

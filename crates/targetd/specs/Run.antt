@@ -17,7 +17,7 @@ use Rattle.target_config.specs.Configuration.{Document, names_of, keeps_in_memor
 use Rattle.target_config.specs.Config.{file_config_of}
 use Rattle.target_config.specs.declared.fault.ConfigFault.{ConfigFault}
 use Rattle.target_config.specs.declared.fault.ConfigFault.TheVariants.{Unreadable}
-use Rattle.target_replay.specs.Replay.{Ends, EndsBy}
+use Rattle.target_replay.specs.Replay.{Ends, EndsBy, EndsAsCame, EndsAsCameBy}
 use Rattle.target_replay.specs.declared.fault.ReplayFault.{ReplayFault}
 use Rattle.targetd.specs.declared.fault.Fault.{Fault}
 use Rattle.targetd.specs.declared.fault.Fault.TheVariants.{Socket, OutOfMemory}
@@ -96,13 +96,19 @@ module _ (held : Held) (left : LeftState) (unread unread_then printed printed_th
   abbrev pub IsUntouched : Type 0
   IsUntouched = Keeps unread unread_then × Keeps printed printed_then
 
-  -- how the lines of a replay end
+  -- how the lines of a replay end, of a target that is sound
   abbrev pub CarriesOut : Setting → Result (Unit {0}) Fault → Type 0
   CarriesOut s (Ok end) = Ends unread unread_then printed printed_then s
   CarriesOut s (Err fault) = (why : ReplayFault) × (fault ≡ replay_fault why) × EndsBy unread unread_then printed printed_then s why
 
-  -- a replay at these units, which leaves a target: where that is sound, as it is if no unit is in a file, the lines
-  -- were carried out
+  -- of every target, as it is left, by how the commands of the lines came out
+  abbrev pub CarriesOutAsCame : Setting → Machine → Result (Unit {0}) Fault → Type 0
+  CarriesOutAsCame s target (Ok end) = EndsAsCame unread unread_then printed printed_then s target
+  CarriesOutAsCame s target (Err fault) =
+      (why : ReplayFault) × (fault ≡ replay_fault why) × EndsAsCameBy unread unread_then printed printed_then s target why
+
+  -- a replay at these units, which leaves a target: the lines were carried out, whatever its stores did; where it is sound, as
+  -- it is if no unit is in a file, as definitions say
   pub record IsReplay (document : Document) (result : Result (Unit {0}) Fault) : Type 0 where
     pub units : List UnitStates
     pub opened : AreUnitsOf held document.targets units
@@ -110,6 +116,7 @@ module _ (held : Held) (left : LeftState) (unread unread_then printed printed_th
     pub is_left : left.replayed ≡ Some target
     pub sure : keeps_in_memory document ≡ true → IsSound target
     pub carried : WhereSound target (CarriesOut (setting_of document units) result)
+    pub came : CarriesOutAsCame (setting_of document units) target result
 
   abbrev pub IsReplayAt : Result Document ConfigFault → Result (Unit {0}) Fault → Type 0
   IsReplayAt (Ok document) result = IsReplay document result

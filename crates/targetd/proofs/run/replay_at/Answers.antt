@@ -18,7 +18,8 @@ returns-in_err-ended-clause-ends g c =
     c.replay-ended.new.engine.target c.into_target.result c.from_residual-in_err-ended.result c.in_err-ended.field-0.0 c.from_residual-in_err-ended.ensures.1
     c.in_ok-config.ensures.units refl c.into_target.ensures
     (rw c.new-engine.ensures.target (made_stands _ c.in_ok-target.target (rw (c.in_ok-config.ensures.names, c.in_ok-config.ensures.listen) at c.in_ok-target.ensures.stands)))
-    (rw c.new-engine.ensures.target (ap (λ (m : Machine). m.units) c.in_ok-target.ensures.made)) c.replay-ended.ensures.sure c.in_err-ended.ensures.fails))
+    (rw c.new-engine.ensures.target (ap (λ (m : Machine). m.units) c.in_ok-target.ensures.made)) c.replay-ended.ensures.sure c.in_err-ended.ensures.fails
+    c.in_err-ended.ensures.stops))
 
 pub returns-clause-ends : goal.returns-clause-ends
 returns-clause-ends g c =
@@ -27,4 +28,5 @@ returns-clause-ends g c =
     c.new-engine.result.target
     c.replay-ended.new.engine.target c.into_target.result c.in_ok-config.ensures.units refl c.into_target.ensures
     (rw c.new-engine.ensures.target (made_stands _ c.in_ok-target.target (rw (c.in_ok-config.ensures.names, c.in_ok-config.ensures.listen) at c.in_ok-target.ensures.stands)))
-    (rw c.new-engine.ensures.target (ap (λ (m : Machine). m.units) c.in_ok-target.ensures.made)) c.replay-ended.ensures.sure c.in_ok-ended.ensures.done))
+    (rw c.new-engine.ensures.target (ap (λ (m : Machine). m.units) c.in_ok-target.ensures.made)) c.replay-ended.ensures.sure c.in_ok-ended.ensures.done
+    c.in_ok-ended.ensures.came))
