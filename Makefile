@@ -16,7 +16,7 @@ demo-proved: build
 
 # Proves every crate, builds targetd and leaves it at crates/targetd/out/targetd.
 build:
-	@echo "== proving every crate and building targetd. It took 39 minutes on four processors of 2.5 GHz"
+	@echo "== proving every crate and building targetd. It took 28 minutes on four processors of 2.5 GHz"
 	@./tools/build
 
 # Puts the program, its pages, an example and systemd units below DESTDIR and PREFIX. Nothing outside them is touched.
