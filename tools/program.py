@@ -78,8 +78,10 @@ def line_by_line(program, run):
 
 def said(process, step):
     """Sends one line, and gives as many bytes as must be printed after it."""
+    unsent = memoryview(step.sent)
     try:
-        process.stdin.write(step.sent)
+        while unsent:
+            unsent = unsent[process.stdin.write(unsent):]  # one write may take less than it is given
     except BrokenPipeError:
         return b""
     if not step.sent.endswith(b"\n"):
