@@ -58,4 +58,4 @@ bench:
 
 clean:
 	@echo "== removing what was built"
-	rm -rf crates/*/out tools/out tools/__pycache__
+	rm -rf crates/*/out tools/out tools/__pycache__ tools/*/__pycache__
