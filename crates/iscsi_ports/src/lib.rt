@@ -1,8 +1,23 @@
 //! Whom a loop serves: a listener and the connections that came to it, under their numbers.
 //!
-//! [`Ports`] are polled, accept, read, write and close, and tell in a log what they gave and took, as long as they can
-//! (`Ports::tells`). [`MioPorts`] are the system's sockets, whose calls and their answers are noted in a record that only
-//! clauses read; [`MemPorts`] follow a script and keep their log, for tests.
+//! ```text
+//!   the loop                        ports                           the system, or a script
+//!   poll    ──────────────────────> who may be ready                epoll, on some turns
+//!   accept, read, write, close ───> what they gave and took ──────> sockets
+//!                                         │
+//!                                         └──> log: Poll, Accept, Read, Wrote, Close, with bytes
+//! ```
+//!
+//! [`Ports`] tell in a log what they gave and took, as long as they can (`Ports::tells`). [`MioPorts`] are the system's
+//! sockets, whose calls and their answers are noted in a record that only clauses read; [`MemPorts`] follow a script, for
+//! tests.
+//!
+//! Promised, and proved:
+//!
+//! - The log of [`MioPorts`] is what was handed on and what was taken, as the noted calls have it. Each byte that the system
+//!   gave is handed on once, in order, or is still ahead, or was dropped as its connection closed.
+//! - When the system is asked and a write is put off is exact, and at most 63 polls in a row ask nothing.
+//! - [`MemPorts`] keep their log, and each read and write tells what the script says.
 #![tactic(auto)]
 
 mod asking;

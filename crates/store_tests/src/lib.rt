@@ -1,6 +1,12 @@
 //! What no contract says of stores, shown by tests: that a file gives back what was written, which calls the stores for
-//! tests refuse, and which calls a tape makes. They stand apart from `media_store` and `media_tape`, since a crate with
-//! test functions is proved twice.
+//! tests refuse, and which calls a tape makes.
+//!
+//! ```text
+//!   FileStore::write(0, ab) ──> a file of the system ──> FileStore::read(0, 2) = ab
+//! ```
+//!
+//! Promised: nothing but that the tests are safe and total. They stand apart from `media_store` and `media_tape`, since a
+//! crate with test functions is proved twice.
 #![tactic(auto)]
 
 #[cfg(test)]

@@ -1,7 +1,15 @@
 //! The units that a configuration names, opened: disks and tapes in memory, or in files of the system.
 //!
-//! [`open`] takes a configuration and gives its targets with their units, each free of initiators, or tells the first unit whose
-//! file cannot be opened. What each file holds as it is opened is a parameter of the contracts (`Start`).
+//! ```text
+//!   lun = 0  kind = "disk"  blocks = 8          a disk of eight blocks of zeros, in memory
+//!   lun = 1  kind = "disk"  file = "d"          the disk that the file holds
+//!   lun = 2  kind = "tape"  capacity, early     an empty tape, in memory
+//!   lun = 3  kind = "tape"  .., file = "t"      the records and filemarks that the file holds
+//! ```
+//!
+//! Promised, and proved: [`open`] gives the targets of a configuration with these units, each free of initiators, or tells
+//! the first unit whose file cannot be opened or does not hold such a medium. What each file holds as it is opened is a
+//! parameter of the contracts (`Start`).
 #![tactic(auto)]
 
 mod fault;
