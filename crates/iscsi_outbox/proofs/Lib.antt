@@ -1,0 +1,4 @@
+pub mod Cuts
+pub mod Moves
+pub mod Starts
+pub mod Runs

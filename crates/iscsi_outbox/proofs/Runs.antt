@@ -1,0 +1,35 @@
+-- One run more.
+use Rattle.std.proofs.Common.{◌≡◌, ◌<◌, ℕ, List, [], ◌∷◌, ◌++◌, ◌+◌, length, drop, slice_get, Some, ap, ◌∙◌, arith}
+use Rattle.std.specs.List.{flat_map}
+use Rattle.std.proofs.lemmas.List.{append-nil, length-append}
+use Rattle.std.proofs.lemmas.List.Concat.{flat_map-append}
+use Rattle.iscsi_login.proofs.Lists.{drop_at}
+use Rattle.iscsi_outbox.specs.declared.run.Run.{Run}
+use Rattle.iscsi_outbox.specs.Outbox.{run_bytes, AreRunning}
+
+pub running_more : (runs : List Run) (run : Run) → AreRunning runs → 0 < length run.data_ins → AreRunning (runs ++ run ∷ [])
+running_more [] run running some = (some, tt)
+running_more (r ∷ runs) run running some = (running.0, running_more runs run running.1 some)
+
+pub bytes_more : (runs : List Run) (run : Run) → flat_map run_bytes (runs ++ run ∷ []) ≡ flat_map run_bytes runs ++ (run.before.items ++ run.data_ins)
+bytes_more runs run = flat_map-append run_bytes runs (run ∷ []) ∙ ap (λ (xs : List ℕ). flat_map run_bytes runs ++ xs) (append-nil (run_bytes run))
+
+-- a run has a byte
+pub some_bytes : (runs : List Run) (tail : List ℕ) → AreRunning runs → 0 < length runs → 0 < length (flat_map run_bytes runs ++ tail)
+some_bytes [] tail running some = absurd (omega arith)
+some_bytes (r ∷ runs) tail running some =
+    let bytes = running.0 in
+    omega (
+      arith,
+      length-append (flat_map run_bytes (r ∷ runs)) tail,
+      length-append (run_bytes r) (flat_map run_bytes runs),
+      length-append r.before.items r.data_ins,
+    )
+
+-- the bytes of a run and of those behind it
+pub run_at : (runs : List Run) (place : ℕ) (run : Run) → slice_get runs place ≡ Some run
+    → length (flat_map run_bytes (drop place runs)) ≡ length run.before.items + length run.data_ins + length (flat_map run_bytes (drop (place + 1) runs))
+run_at runs place run found =
+    ap (λ (rest : List Run). length (flat_map run_bytes rest)) (drop_at runs place run found)
+    ∙ length-append (run_bytes run) (flat_map run_bytes (drop (place + 1) runs))
+    ∙ ap (λ (n : ℕ). n + length (flat_map run_bytes (drop (place + 1) runs))) (length-append run.before.items run.data_ins)

@@ -1,0 +1,26 @@
+use Rattle.std.proofs.Common.{◌-◌, ◌∙◌, ◌++◌, ℕ, List, [], ◌∷◌, length, take, ap, arith, length-drop}
+use Rattle.std.proofs.lemmas.List.{length-append}
+use Rattle.iscsi_pdu.specs.Answer.{spelling}
+use Rattle.iscsi_outbox.proofs.Starts.{start_placed, start_answered, padding_is}
+use Rattle.iscsi_outbox.proofs.cursor.Cursor.new.Goals as goal
+
+pub settle-requires : goal.settle-requires
+settle-requires c =
+    let size = c.len-length.result - 48 in
+    let short = c.requires.short in
+    let longer = ap (λ (xs : List ℕ). length xs) c.extend_reserved.ensures.items in
+    let longest = ap (λ (xs : List ℕ). length xs) c.put.ensures.written in
+    start_placed c.put.new.buffer c.args.shared c.args.limits size c.requires.limits
+    (omega (arith, length-drop 48 c.args.buffer.items))
+    (omega (arith, simp length-append at longer, simp length-append at longest))
+
+pub returns-clause-value : goal.returns-clause-value
+returns-clause-value c =
+    let size = c.len-length.result - 48 in
+    c.settle.ensures.same
+    ∙ start_answered c.put.new.buffer c.args.shared c.args.limits c.args.buffer.items (spelling c.args.last.now) size c.requires.limits (omega arith)
+    (c.put.ensures.written
+    ∙ ap (λ (xs : List ℕ). xs ++ spelling c.args.last.now)
+    (c.extend_reserved.ensures.items
+    ∙ ap (λ (n : ℕ). c.args.buffer.items ++ take n (0 ∷ 0 ∷ 0 ∷ [])) c.padding.ensures.value
+    ∙ ap (λ (xs : List ℕ). c.args.buffer.items ++ xs) (padding_is size)))

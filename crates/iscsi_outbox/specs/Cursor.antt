@@ -1,0 +1,37 @@
+-- What is left of an answer, as its cursor keeps it: behind the room for a header lies the data, and behind that what
+-- ends the answer. Up to the place where the piece ends that is being sent, headers may lie over data.
+use Rattle.std.specs.Prelude.{◌<◌, ◌≤◌, ℕ, ◌+◌, ◌^◌, max, List, ◌++◌, length, drop}
+use Rattle.std.specs.List.{flat_map, enumerate_from, slice_range}
+use Rattle.scsi_sense.specs.Given.{headroom}
+use Rattle.iscsi_transfer.specs.DataIn.{pieces_of}
+use Rattle.iscsi_transfer.specs.declared.data_in.Piece.{Piece}
+use Rattle.iscsi_outbox.specs.declared.cursor.Cursor.{Cursor}
+use Rattle.iscsi_outbox.specs.Answer.{AreAligned, unpadded}
+use Rattle.iscsi_outbox.specs.Cut.{AreCut}
+
+-- the pieces from this number on
+unfoldable pub pieces_left : Cursor → List Piece
+pieces_left c = drop c.number (pieces_of c.length c.limits.burst c.limits.segment)
+
+-- what is left: of the piece that is being sent, of the pieces behind it, and of what ends the answer
+unfoldable pub left : Cursor → List ℕ
+left c =
+    slice_range c.buffer.items c.at (headroom + c.offset)
+    ++ (flat_map (unpadded c.shared (drop headroom c.buffer.items)) (enumerate_from c.number (pieces_left c))
+    ++ drop (max c.at (headroom + c.length)) c.buffer.items)
+
+-- offset is where the piece ends that is being sent, the one before number, and no byte behind it was sent
+pub record IsPlaced (c : Cursor) : Type 0 where
+  pub limits : AreAligned c.limits
+  pub short : c.length < 2 ^ 32
+  pub within : headroom + c.length ≤ length c.buffer.items
+  pub at : c.at ≤ length c.buffer.items
+  pub near : c.offset < c.length → c.at ≤ headroom + c.offset
+  pub below : c.offset ≤ c.length
+  pub early : c.number ≤ c.offset
+  pub cut : AreCut c.length c.limits.burst c.offset c.length (pieces_left c)
+
+-- a byte of the piece that is being sent is left, or there are no more pieces
+pub record IsReady (c : Cursor) : Type 0 where
+  pub placed : IsPlaced c
+  pub some : c.offset < c.length → c.at < headroom + c.offset

@@ -1,0 +1,5 @@
+pub mod Answer
+pub mod Cut
+pub mod Cursor
+pub mod Outbox
+pub mod Examples

@@ -1,0 +1,162 @@
+//! Where the sending of a command's data stands.
+
+ghost use Rattle.std.specs.Prelude.{◌≡◌, ◌<◌, ◌≤◌, ◌+◌, ◌-◌, ◌^◌, ◌++◌, Some, length, take, drop, slice_get};
+ghost use Rattle.scsi_sense.specs.Given.{headroom};
+ghost use Rattle.iscsi_pdu.specs.Answer.{spelling};
+ghost use Rattle.iscsi_pdu.specs.DataIn.{data_in_header};
+ghost use Rattle.iscsi_pdu.specs.Segment.{most_data};
+ghost use Rattle.iscsi_transfer.specs.DataIn.{pieces_of};
+ghost use Rattle.iscsi_outbox.specs.Answer.{AreAligned, answered, fields_of};
+ghost use Rattle.iscsi_outbox.specs.Cut.{IsCut};
+ghost use Rattle.iscsi_outbox.specs.Cursor.{left, IsPlaced, IsReady};
+
+use crate::limits::Limits;
+use crate::put::{padding, put};
+use crate::shared::SharedFields;
+use bytes::BytesMut;
+use iscsi_pdu::{Answer, DataIn};
+use iscsi_transfer::{Piece, piece_at};
+use scsi_sense::HEADROOM;
+
+/// The data of a command lies behind room for a header, and behind it what ends the answer. No byte of it is moved:
+/// the header of the next piece is written over bytes that were sent.
+#[derive(Drop)]
+pub(crate) struct Cursor {
+    pub buffer: BytesMut,
+    pub shared: SharedFields,
+    pub limits: Limits,
+    /// Of the data, in bytes.
+    pub length: usize,
+    /// Of the next piece.
+    pub number: usize,
+    /// Where the next piece begins in the data, and the one ends that is being sent.
+    pub offset: usize,
+    /// The next byte to be sent.
+    pub at: usize,
+}
+
+/// Writes a header over bytes that were sent.
+fn put_over(buffer: &mut BytesMut, at: usize, header: &[u8; HEADROOM])
+    requires { at + headroom ≤ length buffer.old.items }
+    ensures items { buffer.new.items ≡ take at buffer.old.items ++ (header.now ++ drop (at + headroom) buffer.old.items) }
+    ensures spare { buffer.new.spare ≡ buffer.old.spare }
+{
+    buffer.as_mut_slice()[at..at + HEADROOM].copy_from_slice(header);
+}
+
+impl Cursor {
+    /// The answer of the data that lies in a buffer behind room for a header, and is followed by the PDU that ends
+    /// the command. It takes no memory.
+    pub fn new(mut buffer: BytesMut, shared: SharedFields, limits: Limits, last: &Answer) -> Cursor
+        requires room { headroom ≤ length buffer.items }
+        requires short { length (drop headroom buffer.items) < 2 ^ 32 }
+        requires spare { length (spelling last.now) + 3 ≤ buffer.spare }
+        requires limits { AreAligned limits }
+        ensures value { left result ≡ answered shared limits (drop headroom buffer.items) (spelling last.now) }
+        ensures ready { IsReady result }
+    {
+        let length = buffer.len() - HEADROOM;
+        buffer.extend_reserved(&[0; 3][..padding(length)]);
+        put(&mut buffer, last);
+        let mut cursor = Cursor {
+            buffer,
+            shared,
+            limits,
+            length,
+            number: 0,
+            offset: 0,
+            at: HEADROOM,
+        };
+        cursor.settle();
+        cursor
+    }
+
+    /// The piece with this number.
+    fn piece(&self) -> Piece
+        requires placed { IsPlaced self.now }
+        requires more { self.now.offset < self.now.length }
+        ensures value { slice_get (pieces_of self.now.length self.now.limits.burst self.now.limits.segment) self.now.number ≡ Some result }
+        ensures lies { IsCut self.now.length self.now.limits.burst self.now.offset result }
+    {
+        piece_at(
+            self.length,
+            self.limits.burst,
+            self.limits.segment,
+            self.number,
+        )
+    }
+
+    /// The header of the next piece.
+    fn header(&self, piece: Piece) -> [u8; HEADROOM]
+        requires number { self.now.number < 2 ^ 32 }
+        requires offset { piece.offset < 2 ^ 32 }
+        requires short { piece.length ≤ most_data }
+        requires within { headroom + (piece.offset + piece.length) ≤ length self.now.buffer.items }
+        ensures { result ≡ data_in_header (fields_of self.now.shared (drop headroom self.now.buffer.items) (self.now.number, piece)) }
+    {
+        let data = &self.buffer.as_slice()[HEADROOM..];
+        DataIn {
+            is_final: piece.is_final,
+            initiator_task_tag: self.shared.initiator_task_tag,
+            exp_cmd_sn: self.shared.exp_cmd_sn,
+            max_cmd_sn: self.shared.max_cmd_sn,
+            data_sn: self.number as u32,
+            buffer_offset: piece.offset as u32,
+            body: &data[piece.offset..piece.offset + piece.length],
+        }
+        .header()
+    }
+
+    /// Where a piece was sent, the header of the next one is written in front of its data.
+    pub fn settle(&mut self)
+        requires { IsPlaced self.old }
+        ensures same { left self.new ≡ left self.old }
+        ensures ready { IsReady self.new }
+    {
+        if self.offset < self.length && self.at == HEADROOM + self.offset {
+            let piece = self.piece();
+            let header = self.header(piece);
+            put_over(&mut self.buffer, self.offset, &header);
+            self.at = self.offset;
+            self.number += 1;
+            self.offset += piece.length;
+        }
+    }
+
+    /// Where in the buffer the bytes end that stand together.
+    fn end(&self) -> usize
+        requires { IsReady self.now }
+        ensures more { self.now.offset < self.now.length → result ≡ headroom + self.now.offset }
+        ensures last { self.now.length ≤ self.now.offset → result ≡ length self.now.buffer.items }
+        ensures ahead { self.now.at ≤ result }
+    {
+        if self.offset < self.length {
+            return HEADROOM + self.offset;
+        }
+        self.buffer.len()
+    }
+
+    /// The bytes that stand together, the next to be sent.
+    pub fn front(&self) -> &[u8]
+        requires { IsReady self.now }
+        ensures prefix { result.now ≡ take (length result.now) (left self.now) }
+        ensures some { 0 < length (left self.now) → 0 < length result.now }
+    {
+        &self.buffer.as_slice()[self.at..self.end()]
+    }
+
+    /// Of so many bytes that were sent, those that stood together are skipped. Says how many these are.
+    pub fn skip_some(&mut self, n: usize) -> usize
+        requires { IsReady self.old }
+        ensures within { result ≤ n }
+        ensures there { result ≤ length (left self.old) }
+        ensures some { 0 < n → 0 < length (left self.old) → 0 < result }
+        ensures rest { left self.new ≡ drop result (left self.old) }
+        ensures ready { IsReady self.new }
+    {
+        let step = n.min(self.end() - self.at);
+        self.at += step;
+        self.settle();
+        step
+    }
+}

@@ -1,0 +1,34 @@
+//! At which multiples a command's data is cut.
+
+ghost use Rattle.std.specs.Prelude.{◌≡◌, Some, None, IfSome, if◌then◌else◌};
+ghost use Rattle.iscsi_login.specs.Values.{AreInRange};
+ghost use Rattle.iscsi_outbox.specs.Answer.{AreAligned, is_aligned, limits_of};
+
+use iscsi_login::Values;
+
+/// At which multiples a command's data is cut (RFC 7143 §13.12, §13.13), both of them multiples of 4, so that no
+/// piece but the last has padding.
+#[derive(Clone, Copy, Debug, PartialEq, Eq)]
+pub struct Limits {
+    /// MaxBurstLength.
+    pub burst: usize,
+    /// MaxRecvDataSegmentLength of the initiator.
+    pub segment: usize,
+}
+
+impl Limits {
+    /// Those of a session, where both are multiples of 4.
+    pub fn of(values: &Values) -> Option<Limits>
+        requires { AreInRange values.now }
+        ensures value { result ≡ (if is_aligned (limits_of values.now) then Some (limits_of values.now) else None) }
+        ensures aligned { IfSome result (λ limits. AreAligned limits) }
+    {
+        let burst = values.max_burst_length as usize;
+        let segment = values.max_recv_data_segment_length as usize;
+        if burst % 4 == 0 && segment % 4 == 0 {
+            Some(Limits { burst, segment })
+        } else {
+            None
+        }
+    }
+}

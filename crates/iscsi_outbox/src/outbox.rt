@@ -1,0 +1,134 @@
+//! What waits to be sent on a connection.
+
+ghost use Rattle.std.specs.Prelude.{◌≡◌, ◌<◌, ◌≤◌, ◌+◌, ◌++◌, ◌==◌, [], length, take, drop, nat_lt, OnOk};
+ghost use Rattle.iscsi_pdu.specs.Answer.{spelling};
+
+use crate::data_ins::DataIns;
+use crate::put::put;
+use crate::run::{Run, front_of, left_behind, push_run, skip_in};
+use bytes::BytesMut;
+use iscsi_pdu::Answer;
+use std::alloc::{AllocError, Global};
+use std::collections::VecDeque;
+use std::marker::Model;
+
+/// What waits to be sent: runs of data, each with the small answers in front of it, and the small answers behind
+/// them. Clauses see the bytes, joined, and the room that was reserved.
+#[derive(Drop)]
+pub struct Outbox {
+    runs: VecDeque<Run>,
+    tail: BytesMut,
+}
+
+impl Model for Outbox {
+    ghost use Rattle.std.specs.Prelude.{◌-◌, ◌++◌, flat_map};
+    ghost use Rattle.std.specs.VecDeque.{deque_len, deque_capacity};
+    ghost use Rattle.iscsi_outbox.specs.Outbox.{Waits, run_bytes, AreRunning};
+
+    ghost Value = { Waits };
+
+    ghost view = { λ o. record {
+      items = flat_map run_bytes o.runs.items ++ o.tail.items;
+      runs = deque_len o.runs;
+      spare = o.tail.spare;
+      slots = deque_capacity o.runs - deque_len o.runs;
+    } };
+
+    ghost invariant = { λ o. AreRunning o.runs.items };
+}
+
+impl Outbox {
+    /// Nothing waits. It takes no memory.
+    pub fn new(alloc: Global) -> Outbox
+        ensures items { result.items ≡ [] }
+        ensures runs { result.runs ≡ 0 }
+    {
+        Outbox {
+            runs: VecDeque::new(alloc),
+            tail: BytesMut::new(alloc),
+        }
+    }
+
+    /// Room for small answers of so many bytes, and for one run. Where an allocation fails what waits stays the same.
+    pub fn reserve(&mut self, room: usize) -> Result<(), AllocError>
+        ensures spare { OnOk result (room ≤ self.new.spare) }
+        ensures slot { OnOk result (1 ≤ self.new.slots) }
+        ensures items { self.new.items ≡ self.old.items }
+        ensures runs { self.new.runs ≡ self.old.runs }
+    {
+        self.tail.reserve(room)?;
+        self.runs.reserve(1)?;
+        Ok(())
+    }
+
+    /// A small answer waits behind all others, joined to those in front of it. It takes no memory.
+    pub fn put(&mut self, answer: &Answer)
+        requires room { length (spelling answer.now) ≤ self.old.spare }
+        ensures items { self.new.items ≡ self.old.items ++ spelling answer.now }
+        ensures spare { self.new.spare + length (spelling answer.now) ≡ self.old.spare }
+        ensures runs { self.new.runs ≡ self.old.runs }
+        ensures slots { self.new.slots ≡ self.old.slots }
+    {
+        put(&mut self.tail, answer);
+    }
+
+    /// The data of a command, which is cut as it is sent, waits behind all others. It takes no memory.
+    pub fn put_data(&mut self, alloc: Global, data_ins: DataIns)
+        requires slot { 1 ≤ self.old.slots }
+        requires some { 0 < length data_ins }
+        ensures items { self.new.items ≡ self.old.items ++ data_ins }
+        ensures runs { self.new.runs ≡ self.old.runs + 1 }
+    {
+        push_run(&mut self.runs, &mut self.tail, alloc, data_ins);
+    }
+
+    /// Nothing waits.
+    #[tactic(auto, using(crate::proofs::Runs::some_bytes))]
+    pub fn is_empty(&self) -> bool
+        ensures { result ≡ (length self.now.items == 0) }
+    {
+        self.runs.is_empty() && self.tail.is_empty()
+    }
+
+    /// More than so many bytes wait.
+    pub fn is_longer_than(&self, n: usize) -> bool
+        ensures { result ≡ nat_lt n (length self.now.items) }
+    {
+        let Some(left) = left_behind(&self.runs, n) else {
+            return true;
+        };
+        left < self.tail.len()
+    }
+
+    /// The next bytes to be sent, as many as stand together: all of them, where no run waits.
+    pub fn front(&self) -> &[u8]
+        ensures prefix { result.now ≡ take (length result.now) self.now.items }
+        ensures some { 0 < length self.now.items → 0 < length result.now }
+        ensures whole { self.now.runs ≡ 0 → result.now ≡ self.now.items }
+    {
+        front_of(&self.runs, &self.tail)
+    }
+
+    /// Of so many bytes that were sent, those of the front are skipped. Says how many these are, and gives the buffer
+    /// of a command's data that was sent to its end, to be used again. It takes no memory.
+    pub fn skip_front(&mut self, n: usize) -> (usize, Option<BytesMut>)
+        ensures within { result.0 ≤ n }
+        ensures there { result.0 ≤ length self.old.items }
+        ensures some { 0 < n → 0 < length self.old.items → 0 < result.0 }
+        ensures items { self.new.items ≡ drop result.0 self.old.items }
+        ensures spare { self.old.spare ≤ self.new.spare }
+        ensures slots { self.old.slots ≤ self.new.slots }
+        ensures runs { self.new.runs ≤ self.old.runs }
+    {
+        if !self.runs.is_empty() {
+            return skip_in(&mut self.runs, n);
+        }
+        let step = n.min(self.tail.len());
+        self.tail.advance(step);
+        if self.tail.is_empty() {
+            // What was sent counts as room from here on.
+            self.tail.clear();
+        }
+        (step, None)
+    }
+}

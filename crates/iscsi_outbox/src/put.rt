@@ -1,0 +1,26 @@
+//! Answers are written where there is room for them.
+
+ghost use Rattle.std.specs.Prelude.{◌≡◌, ◌≤◌, ◌<◌, ◌+◌, ◌-◌, ◌^◌, ◌++◌, length};
+ghost use Rattle.iscsi_pdu.specs.Answer.{spelling};
+ghost use Rattle.iscsi_pdu.specs.Segment.{padded};
+
+use bytes::BytesMut;
+use iscsi_pdu::Answer;
+
+/// Writes an answer where there is room for it.
+pub(crate) fn put(buffer: &mut BytesMut, answer: &Answer)
+    requires { length (spelling answer.now) ≤ buffer.old.spare }
+    ensures written { buffer.new.items ≡ buffer.old.items ++ spelling answer.now }
+    ensures spare { buffer.new.spare + length (spelling answer.now) ≡ buffer.old.spare }
+{
+    // There is room for it, so this does not fail.
+    let _ = answer.write(buffer);
+}
+
+/// How many bytes pad a data segment of this length to a multiple of 4 (RFC 7143 §11.1).
+pub(crate) fn padding(length: usize) -> usize
+    ensures value { result ≡ padded length - length }
+    ensures bound { result ≤ 3 }
+{
+    (4 - length % 4) % 4
+}

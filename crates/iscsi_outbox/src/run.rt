@@ -1,0 +1,119 @@
+//! The data of a command among small answers.
+
+ghost use Rattle.std.specs.Prelude.{◌≡◌, ◌<◌, ◌≤◌, ◌+◌, ◌++◌, [], length, take, drop, flat_map, IfSome, IfNone};
+ghost use Rattle.std.specs.VecDeque.{deque_len, deque_capacity};
+ghost use Rattle.iscsi_outbox.specs.Outbox.{run_bytes, AreRunning};
+
+use crate::data_ins::DataIns;
+use bytes::BytesMut;
+use std::alloc::Global;
+use std::collections::VecDeque;
+use std::mem;
+
+/// The data of a command that is cut as it is sent, and the small answers in front of it.
+#[derive(Drop)]
+pub(crate) struct Run {
+    pub before: BytesMut,
+    pub data_ins: DataIns,
+}
+
+impl Run {
+    /// The next bytes to be sent.
+    fn front(&self) -> &[u8]
+        ensures prefix { result.now ≡ take (length result.now) (run_bytes self.now) }
+        ensures some { 0 < length self.now.data_ins → 0 < length result.now }
+    {
+        if self.before.is_empty() {
+            return self.data_ins.front();
+        }
+        self.before.as_slice()
+    }
+
+    /// Of so many bytes that were sent, those that stood together are skipped. Says how many these are.
+    fn skip_some(&mut self, n: usize) -> usize
+        ensures within { result ≤ n }
+        ensures some { 0 < n → 0 < length self.old.data_ins → 0 < result }
+        ensures rest { run_bytes self.new ≡ drop result (run_bytes self.old) }
+        ensures there { result ≤ length (run_bytes self.old) }
+        ensures spent { 0 < length self.old.data_ins → length self.new.data_ins ≡ 0 → run_bytes self.new ≡ [] }
+    {
+        if self.before.is_empty() {
+            return self.data_ins.skip_some(n);
+        }
+        let step = n.min(self.before.len());
+        self.before.advance(step);
+        step
+    }
+}
+
+/// The next bytes to be sent: of the first run, or all that stands behind the runs where there is none.
+pub(crate) fn front_of<'a>(runs: &'a VecDeque<Run>, tail: &'a BytesMut) -> &'a [u8]
+    requires { AreRunning runs.now.items }
+    ensures prefix { result.now ≡ take (length result.now) (flat_map run_bytes runs.now.items ++ tail.now.items) }
+    ensures some { 0 < length (flat_map run_bytes runs.now.items ++ tail.now.items) → 0 < length result.now }
+    ensures whole { deque_len runs.now ≡ 0 → result.now ≡ tail.now.items }
+{
+    match runs.front() {
+        None => tail.as_slice(),
+        Some(run) => run.front(),
+    }
+}
+
+/// A run waits behind all others, with the small answers in front of it. It takes no memory.
+#[tactic(auto, using(crate::proofs::Runs::running_more, crate::proofs::Runs::bytes_more))]
+pub(crate) fn push_run(
+    runs: &mut VecDeque<Run>,
+    tail: &mut BytesMut,
+    alloc: Global,
+    data_ins: DataIns,
+)
+    requires slot { deque_len runs.old < deque_capacity runs.old }
+    requires running { AreRunning runs.old.items }
+    requires some { 0 < length data_ins }
+    ensures bytes { flat_map run_bytes runs.new.items ++ tail.new.items ≡ flat_map run_bytes runs.old.items ++ tail.old.items ++ data_ins }
+    ensures running { AreRunning runs.new.items }
+    ensures len { deque_len runs.new ≡ deque_len runs.old + 1 }
+    ensures capacity { deque_capacity runs.new ≡ deque_capacity runs.old }
+{
+    let mut before = BytesMut::new(alloc);
+    if !tail.is_empty() {
+        before = mem::replace(tail, before);
+    }
+    runs.push_back_reserved(Run { before, data_ins });
+}
+
+/// Of so many bytes that were sent, those that stood together in the first run are skipped. Says how many these are,
+/// and gives the buffer of the run's data where the run is spent.
+pub(crate) fn skip_in(runs: &mut VecDeque<Run>, n: usize) -> (usize, Option<BytesMut>)
+    requires runs { 0 < deque_len runs.old }
+    requires running { AreRunning runs.old.items }
+    ensures within { result.0 ≤ n }
+    ensures there { result.0 ≤ length (flat_map run_bytes runs.old.items) }
+    ensures some { 0 < n → 0 < result.0 }
+    ensures rest { flat_map run_bytes runs.new.items ≡ drop result.0 (flat_map run_bytes runs.old.items) }
+    ensures running { AreRunning runs.new.items }
+    ensures capacity { deque_capacity runs.new ≡ deque_capacity runs.old }
+    ensures len { deque_len runs.new ≤ deque_len runs.old }
+{
+    let run = &mut runs[0];
+    let step = run.skip_some(n);
+    if run.data_ins.rest() > 0 {
+        return (step, None);
+    }
+    let spent = runs.pop_front().map(|run| run.data_ins.into_buffer());
+    (step, spent)
+}
+
+/// How many of so many bytes are left behind all runs, or none where the runs have more.
+#[tactic(auto, using(crate::proofs::Runs::run_at))]
+pub(crate) fn left_behind(runs: &VecDeque<Run>, n: usize) -> Option<usize>
+    ensures some { IfSome result (λ left. left + length (flat_map run_bytes runs.now.items) ≡ n) }
+    ensures none { IfNone result (n < length (flat_map run_bytes runs.now.items)) }
+{
+    let mut left = n;
+    for place in 0..runs.len() {
+        let run = &runs[place];
+        left = left.checked_sub(run.before.len())?.checked_sub(run.data_ins.rest())?;
+    }
+    Some(left)
+}
