@@ -1,3 +1,4 @@
+mod Split
 pub mod Frames
 pub mod LoginHeader
 pub mod R2tHeader

@@ -8,6 +8,7 @@ pub mod TaskManagement
 pub mod LogoutRequest
 pub mod Segment
 pub mod Frames
+pub mod Framer
 pub mod Laws
 pub mod Stamp
 pub mod NopIn

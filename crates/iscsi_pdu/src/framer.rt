@@ -1,32 +1,52 @@
 //! The bytes of a connection, cut into frames.
 
-ghost use Rattle.std.specs.Prelude.{◌≡◌, ◌<◌, ◌≤◌, ◌↔◌, ℕ, List, [], ◌∷◌, ◌++◌, length, take, drop, true, false, IsOk, IfOk, IfErr, IfSome, IfNone, OnOk, OnErr};
+ghost use Rattle.std.specs.Prelude.{◌≡◌, ◌+◌, ◌<◌, ◌≤◌, ◌↔◌, ℕ, List, [], ◌∷◌, ◌++◌, length, take, drop, true, false, IsOk, IfOk, IfErr, IfSome, IfNone, OnOk, OnErr};
 ghost use Rattle.std.specs.Result.{IsErrOf};
 
+use crate::byte_queue::ByteQueue;
 use crate::fault::PduFault;
 use crate::frame::Frame;
 use crate::header::{HEADER_LENGTH, Header};
 use crate::segment::{MOST_DATA, padded};
-use bytes::BytesMut;
+use arrayvec::ArrayVec;
 use std::alloc::Global;
 use std::marker::Model;
 
 /// Cuts the bytes of one connection into frames, whatever the pieces in which they come. Clauses
 /// see it as the bytes that were fed and not yet given out.
+///
+/// Where no byte has come behind a frame its data segment is given out in the buffer in which it came.
 #[derive(Drop)]
 pub struct Framer {
-    bytes: BytesMut,
-    alloc: Global,
+    /// What has come of the header in front.
+    header: ArrayVec<u8, HEADER_LENGTH>,
+    /// What has come behind that header.
+    behind: ByteQueue,
 }
 
 impl Model for Framer {
+    ghost use Rattle.std.specs.Prelude.{◌++◌, ℕ, List};
+    ghost use Rattle.iscsi_pdu.specs.Header.{header_length};
+    ghost use Rattle.iscsi_pdu.specs.Framer.{IsSplit};
+
     ghost Value = { List ℕ };
 
-    ghost view = { λ f. f.bytes.items };
+    ghost view = { λ f. f.header.items ++ f.behind };
+
+    ghost invariant = { λ f. IsSplit header_length f.header.items f.behind };
+}
+
+/// Appends bytes of a header, for which there is room.
+fn put(header: &mut ArrayVec<u8, HEADER_LENGTH>, bytes: &[u8])
+    requires { length header.old.items + length bytes.now ≤ 48 }
+    ensures { header.new.items ≡ header.old.items ++ bytes.now }
+{
+    let _ = header.try_extend_from_slice(bytes);
 }
 
 impl Framer {
     ghost use Rattle.iscsi_pdu.specs.Header.{header_length};
+    ghost use Rattle.iscsi_pdu.specs.Segment.{most_data, padded as padded_to};
     ghost use Rattle.iscsi_pdu.specs.Frames.{frames, rest, has_frame, is_long, first_frame, frame_length, missing, wanted};
 
     /// A framer with no bytes. It takes no memory.
@@ -34,8 +54,8 @@ impl Framer {
         ensures { result ≡ [] }
     {
         Framer {
-            bytes: BytesMut::new(alloc),
-            alloc,
+            header: ArrayVec::new(),
+            behind: ByteQueue::new(alloc),
         }
     }
 
@@ -46,10 +66,17 @@ impl Framer {
         ensures memory { IfErr result (λ fault. fault ≡ PduFault.Memory) }
         ensures err { OnErr result (self.new ≡ self.old) }
     {
-        if piece.is_empty() {
+        let had = self.header.len();
+        let (front, more) = piece.split_at(piece.len().min(HEADER_LENGTH - had));
+        put(&mut self.header, front);
+        if more.is_empty() {
             return Ok(());
         }
-        self.bytes.extend_from_slice(piece)?;
+        let room = self.want().min(MOST_DATA);
+        if let Err(fault) = self.behind.append(more, room) {
+            self.header.truncate(had);
+            return Err(fault);
+        }
         Ok(())
     }
 
@@ -82,14 +109,47 @@ impl Framer {
         if data > MOST_DATA {
             return Err(PduFault::TooLong);
         }
-        let start = HEADER_LENGTH + header.additional_length();
-        let end = start + padded(data);
-        if self.bytes.len() < end {
+        let additional = header.additional_length();
+        let end = HEADER_LENGTH + additional + padded(data);
+        if self.len() < end {
             return Ok(None);
         }
-        let body = Vec::from_slice(self.alloc, &self.bytes.as_slice()[start..start + data])?;
-        self.bytes.advance(end);
+        let body = self.take_body(additional, data)?;
         Ok(Some(Frame { header, body }))
+    }
+
+    /// The data segment behind the header and so many additional bytes. Its frame leaves the bytes.
+    fn take_body(&mut self, additional: usize, count: usize) -> Result<Vec<u8>, PduFault>
+        requires short { count ≤ most_data }
+        requires whole { header_length + additional + padded_to count ≤ length self.old }
+        ensures body { IfOk result (λ body. body.items ≡ take count (drop (header_length + additional) self.old)) }
+        ensures rest { OnOk result (self.new ≡ drop (header_length + additional + padded_to count) self.old) }
+        ensures memory { IfErr result (λ fault. fault ≡ PduFault.Memory) }
+        ensures err { OnErr result (self.new ≡ self.old) }
+    {
+        let behind = self.behind.len();
+        let end = additional + padded(count);
+        if additional == 0 && behind == end {
+            let mut body = self.behind.take_all();
+            body.truncate(count);
+            self.header.clear();
+            return Ok(body);
+        }
+        let body = self.behind.copied(additional, count)?;
+        self.pass(end);
+        Ok(body)
+    }
+
+    /// The header and so many bytes behind it leave the bytes.
+    fn pass(&mut self, n: usize)
+        requires { header_length + n ≤ length self.old }
+        ensures { self.new ≡ drop (header_length + n) self.old }
+    {
+        self.behind.skip(n);
+        self.header.clear();
+        let front = self.behind.len().min(HEADER_LENGTH);
+        put(&mut self.header, &self.behind.as_slice()[..front]);
+        self.behind.skip(front);
     }
 
     /// How many bytes are missing: of the header, and once that is there of its frame. Where none
@@ -101,7 +161,7 @@ impl Framer {
         ensures exact { has_frame self.now ≡ false → is_long self.now ≡ false
             → result ≡ missing self.now }
     {
-        let had = self.bytes.len();
+        let had = self.len();
         let whole = match self.header() {
             None => HEADER_LENGTH,
             Some(header) => {
@@ -111,17 +171,23 @@ impl Framer {
         whole.saturating_sub(had).max(1)
     }
 
+    /// How many bytes there are.
+    fn len(&self) -> usize
+        ensures { result ≡ length self.now }
+    {
+        self.header.len() + self.behind.len()
+    }
+
     /// The header in front, once it is whole.
     fn header(&self) -> Option<Header>
         ensures some { IfSome result (λ h. (h ≡ take header_length self.now) × (header_length ≤ length self.now)) }
         ensures none { IfNone result (length self.now < header_length) }
     {
-        let bytes = self.bytes.as_slice();
-        if bytes.len() < HEADER_LENGTH {
+        if !self.header.is_full() {
             return None;
         }
         let mut header = [0; HEADER_LENGTH];
-        header.copy_from_slice(&bytes[..HEADER_LENGTH]);
+        header.copy_from_slice(self.header.as_slice());
         Some(Header::new(header))
     }
 }

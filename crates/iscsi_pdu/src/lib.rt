@@ -19,6 +19,7 @@
 #![tactic(auto)]
 
 mod answer;
+mod byte_queue;
 mod data_in;
 mod data_out;
 mod fault;

@@ -1,0 +1,113 @@
+//! Bytes that are appended at the end and taken from the front.
+
+ghost use Rattle.std.specs.Prelude.{◌≡◌, ◌+◌, ◌^◌, ◌<◌, ◌≤◌, [], ◌++◌, length, take, drop, IfOk, IfErr, OnOk, OnErr};
+
+use crate::fault::PduFault;
+use std::alloc::Global;
+use std::marker::Model;
+use std::mem;
+
+/// A queue of bytes. Where all are taken at once their buffer is moved, and none is copied.
+#[derive(Drop)]
+pub(crate) struct ByteQueue {
+    bytes: Vec<u8>,
+    /// So many bytes at the front were taken.
+    taken: usize,
+    alloc: Global,
+}
+
+impl Model for ByteQueue {
+    ghost use Rattle.std.specs.Prelude.{◌≤◌, ℕ, List, length, drop};
+
+    ghost Value = { List ℕ };
+
+    ghost view = { λ q. drop q.taken q.bytes.items };
+
+    ghost invariant = { λ q. q.taken ≤ length q.bytes.items };
+}
+
+/// The bytes behind so many in front are moved to the front.
+fn cut_front(bytes: &mut Vec<u8>, count: usize)
+    requires { count ≤ length bytes.old.items }
+    ensures { bytes.new.items ≡ drop count bytes.old.items }
+{
+    if count == 0 {
+        return;
+    }
+    let end = bytes.len();
+    bytes.as_mut_slice().copy_within(count..end, 0);
+    bytes.truncate(end - count);
+}
+
+impl ByteQueue {
+    /// A queue with no bytes. It takes no memory.
+    pub(crate) fn new(alloc: Global) -> ByteQueue
+        ensures { result ≡ [] }
+    {
+        ByteQueue {
+            bytes: Vec::new(alloc),
+            taken: 0,
+            alloc,
+        }
+    }
+
+    /// How many bytes there are.
+    pub(crate) fn len(&self) -> usize
+        ensures value { result ≡ length self.now }
+        ensures bound { result < 2 ^ 63 }
+    {
+        self.bytes.len() - self.taken
+    }
+
+    /// The bytes.
+    pub(crate) fn as_slice(&self) -> &[u8]
+        ensures { result.now ≡ self.now }
+    {
+        &self.bytes.as_slice()[self.taken..]
+    }
+
+    /// Appends a piece. So much room is made where that is more.
+    pub(crate) fn append(&mut self, piece: &[u8], room: usize) -> Result<(), PduFault>
+        ensures ok { OnOk result (self.new ≡ self.old ++ piece.now) }
+        ensures memory { IfErr result (λ fault. fault ≡ PduFault.Memory) }
+        ensures err { OnErr result (self.new ≡ self.old) }
+    {
+        cut_front(&mut self.bytes, self.taken);
+        self.taken = 0;
+        self.bytes.reserve(room.max(piece.len()))?;
+        self.bytes.extend_from_slice(piece)?;
+        Ok(())
+    }
+
+    /// A copy of so many bytes from a place on.
+    pub(crate) fn copied(&self, from: usize, count: usize) -> Result<Vec<u8>, PduFault>
+        requires { from + count ≤ length self.now }
+        ensures value { IfOk result (λ bytes. bytes.items ≡ take count (drop from self.now)) }
+        ensures memory { IfErr result (λ fault. fault ≡ PduFault.Memory) }
+    {
+        let bytes = Vec::from_slice(self.alloc, &self.as_slice()[from..][..count])?;
+        Ok(bytes)
+    }
+
+    /// So many bytes are taken from the front.
+    pub(crate) fn skip(&mut self, n: usize)
+        requires { n ≤ length self.old }
+        ensures { self.new ≡ drop n self.old }
+    {
+        self.taken += n;
+        if self.taken == self.bytes.len() {
+            self.bytes = Vec::new(self.alloc);
+            self.taken = 0;
+        }
+    }
+
+    /// All bytes, in their buffer.
+    pub(crate) fn take_all(&mut self) -> Vec<u8>
+        ensures bytes { result.items ≡ self.old }
+        ensures none { self.new ≡ [] }
+    {
+        cut_front(&mut self.bytes, self.taken);
+        self.taken = 0;
+        mem::replace(&mut self.bytes, Vec::new(self.alloc))
+    }
+}
