@@ -1,10 +1,10 @@
 -- What a tape knows by the sizes of its items: where others were written, where a write or a cut failed, and of the next item.
 use Rattle.std.proofs.Common.{◌≡◌, ℕ, suc, ◌+◌, ◌-◌, ◌≤◌, ◌<◌, List, [], ◌∷◌, ◌++◌, length, take, drop, slice_range, map, sum, get_or, drop-cons}
-use Rattle.std.proofs.Common.{Bool, false, ◌||◌, nat_lt, IsTrue, inl, inr, refl, ap, sym, ◌∙◌, arith}
+use Rattle.std.proofs.Common.{Bool, false, ◌||◌, nat_lt, IsTrue, inl, inr, refl, ap, sym, ◌∙◌, arith, add-one}
 use Rattle.std.proofs.Math.Seq.{take-add}
 use Rattle.std.proofs.lemmas.Bool.{ltb-false}
 use Rattle.std.proofs.lemmas.List.{take-map, drop-map, length-map, map-append, take_all, drop_all, drop_at, take-take, drop-take, drop-drop}
-use Rattle.std.proofs.lemmas.List.{length-drop, length-take-le, length-append, take-append-drop, append-nil}
+use Rattle.std.proofs.lemmas.List.{length-drop, length-take-le, length-append, take-append-drop, append-nil, take_more}
 use Rattle.std.proofs.lemmas.List.Sums.{sum_by-take-le, sum_by-cons}
 use Rattle.media_tape.specs.Items.{Item, item_of, size, size_of, items_in, items_of}
 use Rattle.media_tape.specs.Tape.{AreIn, IsIndexed, length_told, first_told, first_data}
@@ -138,6 +138,10 @@ cut_indexed honest was_torn is_torn content sizes new position capacity was keep
 
 -- of this length
 pub record IsNext (content sizes : List ℕ) (position n : ℕ) : Type 0 where
+  pub size : get_or sizes position 0 ≡ n + 8
+  pub is : drop position (shown content sizes)
+      ≡ item_of (slice_range content (sum (take position sizes) + 4) (sum (take position sizes) + 4 + n)) ∷ drop (suc position) (shown content sizes)
+  pub long : length (slice_range content (sum (take position sizes) + 4) (sum (take position sizes) + 4 + n)) ≡ n
   pub told : length_told n ≡ first_told (drop position (shown content sizes))
   pub given : slice_range content (sum (take position sizes) + 4) (sum (take position sizes) + 4 + n) ≡ first_data (drop position (shown content sizes))
   pub within : sum (take position sizes) + n + 8 ≤ length content
@@ -173,7 +177,13 @@ is_next content sizes is_torn position size_at are less is =
           ∙ drop-take (place + 4) (end - (place + 4)) content in
           let data_is : slice_range content (place + 4) (place + 4 + n) ≡ own =
           ap (λ (m : ℕ). take m rest) many_bytes ∙ sym (ap (take n) behind_four ∙ take-take n (end - (place + 4)) rest (omega arith)) in
+          let next : suc position ≡ position + 1 = omega arith in
+          let behind_it : drop (suc position) items ≡ others =
+          ap (λ (m : ℕ). drop m items) next ∙ sym (drop-drop 1 position items) ∙ ap (drop 1) behind in
           rw length_is (record {
+            size = sized ∙ length-front bytes n found.1;
+            is = rw (data_is, behind_it) behind;
+            long = ap length data_is ∙ as_long;
             told = ap length_told (sym as_long) ∙ first_told-item own others ∙ sym (ap first_told behind);
             given = data_is ∙ sym (ap first_data behind ∙ first_data-item own others);
             within = omega (arith, below, are.long);
@@ -186,3 +196,8 @@ next-within sizes k less =
     let behind = ap sum (drop-cons sizes k 0 less) ∙ sum_by-cons (λ n. n) (get_or sizes k 0) (drop (suc k) sizes) in
     let all = ap sum (take-append-drop k sizes) in
     omega (arith, behind, all, sum-append (take k sizes) (drop k sizes))
+
+pub sum-next : (sizes : List ℕ) (k : ℕ) → k < length sizes → sum (take (suc k) sizes) ≡ sum (take k sizes) + get_or sizes k 0
+sum-next sizes k less =
+    ap (λ (n : ℕ). sum (take n sizes)) (sym (add-one k)) ∙ ap sum (take_more sizes k 0 less) ∙ sum-append (take k sizes) (get_or sizes k 0 ∷ [])
+    ∙ ap (λ n. sum (take k sizes) + n) (sum_by-cons (λ n. n) (get_or sizes k 0) [] ∙ omega arith)

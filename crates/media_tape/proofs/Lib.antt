@@ -9,7 +9,9 @@ pub mod RunEnds
 pub mod Indexes
 pub mod SizeWays
 pub mod RunSpacing
+pub mod SizeFixed
 pub mod Sizes
 pub mod Walks
 pub mod Indexed
+pub mod Fixed
 pub mod There

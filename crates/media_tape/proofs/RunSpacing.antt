@@ -1,5 +1,5 @@
 -- From run to run.
-use Rattle.std.proofs.Common.{◌≡◌, ℕ, zero, suc, ◌+◌, ◌-◌, ◌≤◌, ◌<◌, List, [], ◌++◌, length, take, get_or, refl, ap, sym, ◌∙◌, arith}
+use Rattle.std.proofs.Common.{◌≡◌, ℕ, zero, suc, ◌+◌, ◌-◌, ◌≤◌, ◌<◌, List, [], ◌++◌, length, take, drop, get_or, refl, ap, sym, ◌∙◌, arith}
 use Rattle.std.specs.Prelude.{replicate}
 use Rattle.std.proofs.lemmas.List.{get_or_default}
 use Rattle.media_tape.specs.Runs.{first_at, sizes_of, AreAllRuns}
@@ -8,7 +8,7 @@ use Rattle.media_tape.specs.Space.{Way, edge}
 use Rattle.media_tape.specs.declared.run.Run.{Run}
 use Rattle.media_tape.specs.declared.outcome.Over.{Over}
 use Rattle.media_tape.specs.declared.outcome.Direction.{Direction}
-use Rattle.media_tape.proofs.Runs.{run_has, IsAt, is_at, length-all, first_at-run, no_run}
+use Rattle.media_tape.proofs.Runs.{run_has, IsAt, is_at, size-at, length-all, first_at-run, no_run}
 use Rattle.media_tape.proofs.SizeWays.{further-further}
 
 -- a run by its index, and a number within it
@@ -35,6 +35,26 @@ rising all runs i are lt =
     let run = get_or runs i no_run in
     let has = run_has all runs i run are lt (get_or_default runs i no_run run lt) in
     omega (arith, has.next_is, has.some, first_at-run all runs i no_run lt)
+
+-- the items from a number on up to the end of its run
+pub record IsRunEnd (sizes : List ℕ) (number end : ℕ) : Type 0 where
+  pub past : number < end
+  pub within : end ≤ length sizes
+  pub alike : drop number sizes ≡ replicate (end - number) (get_or sizes number 0) ++ drop end sizes
+
+pub run_end : (all : ℕ) (runs : List Run) (i number : ℕ) → AreAllRuns all runs → i < length runs → first_at all runs i ≤ number
+    → number < first_at all runs (i + 1) → IsRunEnd (sizes_of all runs) number (first_at all runs (i + 1))
+run_end all runs i number are lt low high =
+    let run = get_or runs i no_run in
+    let end = first_at all runs (i + 1) in
+    let here = at_run all runs i number are lt low (omega arith) in
+    let has = run_has all runs i run are lt (get_or_default runs i no_run run lt) in
+    let size = size-at (sizes_of all runs) (take i runs) run end number has (omega (arith, here.first)) high in
+    record {
+      past = high;
+      within = here.is.within;
+      alike = here.is.behind ∙ ap (λ n. replicate (end - number) n ++ drop end (sizes_of all runs)) (sym size);
+    }
 
 -- spacing over so many of these items goes on with what is left
 abbrev pub IsOn : Direction → Over → ℕ → List ℕ → ℕ → ℕ → List ℕ → Type 0

@@ -1,23 +1,30 @@
--- The items of what is written: a record, and filemarks.
-use Rattle.std.proofs.Common.{◌≡◌, ℕ, ◌+◌, ◌*◌, zero, suc, ◌^◌, ◌≤◌, ◌<◌, List, [], ◌∷◌, ◌++◌, length, drop, map, replicate}
+-- The items of what is written: records of one length, and filemarks.
+use Rattle.std.proofs.Common.{◌≡◌, ℕ, ◌+◌, ◌-◌, ◌*◌, zero, suc, ◌^◌, ◌≤◌, ◌<◌, List, [], ◌∷◌, ◌++◌, length, take, drop, map, replicate, slice_range, append_assoc}
 use Rattle.std.proofs.Common.{Some, refl, ap, sym, ◌∙◌, arith}
-use Rattle.std.proofs.lemmas.List.{append-nil, drop_all, drop-drop, take_at, drop_at, length-append}
+use Rattle.std.proofs.lemmas.List.{append-nil, take_all, drop-drop, take_at, drop_at, length-append, length-drop, length-take-le}
+use Rattle.std.proofs.lemmas.List.Concat.{flat_map-cons}
 use Rattle.byteorder.specs.Endian.{big_bytes, big_number}
 use Rattle.byteorder.specs.Numbers.{big_number-reads_back, length-bytes_high_first}
-use Rattle.media_tape.specs.Items.{most_bytes, Item, Record, Filemark, size, front, items_in, items_of}
-use Rattle.media_tape.proofs.Items.{is-front, items_of-next, item_of-data_of}
+use Rattle.media_tape.specs.Items.{most_bytes, Item, Record, Filemark, size, spelled, spelling, front, items_in, items_of}
+use Rattle.media_tape.specs.Fixed.{blocks_of}
+use Rattle.media_tape.proofs.Items.{is-front, items_of-next, items_of-front, item_of-data_of}
 
-pub items_of-record : (bytes : List ℕ) → 0 < length bytes → length bytes ≤ most_bytes
-    → items_of (big_bytes 4 (length bytes) ++ (bytes ++ big_bytes 4 (length bytes))) ≡ Record bytes ∷ []
-unfolding items_in
-items_of-record bytes some most =
+length-spelled : (bytes : List ℕ) → length (spelled (Record bytes)) ≡ length bytes + 8
+length-spelled bytes =
+    let head = big_bytes 4 (length bytes) in
+    length-append head (bytes ++ head) ∙ omega (arith, length-append bytes head, length-bytes_high_first 4 (length bytes))
+
+-- a record as it is spelled, in front of other bytes
+items_of-spelled : (bytes others : List ℕ) → 0 < length bytes → length bytes ≤ most_bytes
+    → items_of (spelled (Record bytes) ++ others) ≡ Record bytes ∷ items_of others
+items_of-spelled bytes others some most =
     let n = length bytes in
     let head = big_bytes 4 n in
     let all = head ++ (bytes ++ head) in
     let four : length head ≡ 4 = length-bytes_high_first 4 n in
     let less : n < 256 ^ 4 = omega arith in
     let behind = drop_at head (bytes ++ head) 4 four in
-    let long : length all ≡ n + 8 = length-append head (bytes ++ head) ∙ omega (arith, four, length-append bytes head) in
+    let long = length-spelled bytes in
     let at : n + 4 ≡ 4 + n = omega arith in
     let last : drop (n + 4) all ≡ head = sym (drop-drop n 4 all ∙ ap (λ (m : ℕ). drop m all) (sym at))
     ∙ ap (drop n) behind ∙ drop_at bytes head n refl in
@@ -27,13 +34,68 @@ items_of-record bytes some most =
       within = omega (arith, long);
       again = ap (big_number 4) (last ∙ sym (append-nil head)) ∙ big_number-reads_back 4 n [] less;
     }) in
-    items_of-next all n found
-    ∙ rw (behind, take_at bytes head n refl, drop_all (n + 8) all (omega (arith, long)), item_of-data_of (Record bytes) (some, most)) refl
+    let whole = take_all (n + 8) all (omega (arith, long)) in
+    rw (whole, behind, take_at bytes head n refl, item_of-data_of (Record bytes) (some, most)) at (items_of-front n all others found)
 
-pub length-record : (bytes : List ℕ) → length (big_bytes 4 (length bytes) ++ (bytes ++ big_bytes 4 (length bytes))) ≡ length bytes + 8
-length-record bytes =
-    let head = big_bytes 4 (length bytes) in
-    length-append head (bytes ++ head) ∙ omega (arith, length-append bytes head, length-bytes_high_first 4 (length bytes))
+-- ---- blocks
+
+-- as they are spelled, these are the items, of one size
+pub record AreBlocks (count block_length : ℕ) (bytes : List ℕ) : Type 0 where
+  pub items : items_of (spelling (blocks_of count block_length bytes)) ≡ blocks_of count block_length bytes
+  pub sizes : map size (blocks_of count block_length bytes) ≡ replicate count (block_length + 8)
+  pub long : length (spelling (blocks_of count block_length bytes)) ≡ count * (block_length + 8)
+
+pub are_blocks : (count block_length : ℕ) (bytes : List ℕ) → 0 < block_length → block_length ≤ most_bytes → count * block_length ≤ length bytes
+    → AreBlocks count block_length bytes
+unfolding items_in
+are_blocks zero block_length bytes some most enough = record { items = refl; sizes = refl; long = omega arith }
+are_blocks (suc count) block_length bytes some most enough =
+    let more : suc count * block_length ≡ block_length + count * block_length = grind arith in
+    let whole : suc count * (block_length + 8) ≡ (block_length + 8) + count * (block_length + 8) = grind arith in
+    let behind = drop block_length bytes in
+    let block = take block_length bytes in
+    let rest = are_blocks count block_length behind some most (omega (arith, more, length-drop block_length bytes)) in
+    let long : length block ≡ block_length = length-take-le block_length bytes (omega (arith, more)) in
+    let all = flat_map-cons spelled (Record block) (blocks_of count block_length behind) in
+    record {
+      items = ap items_of all ∙ items_of-spelled block (spelling (blocks_of count block_length behind)) (omega (arith, long)) (omega (arith, long))
+          ∙ ap (λ (xs : List Item). Record block ∷ xs) rest.items;
+      sizes = ap (λ (n : ℕ). (n + 8) ∷ map size (blocks_of count block_length behind)) long
+          ∙ ap (λ (xs : List ℕ). (block_length + 8) ∷ xs) rest.sizes;
+      long = ap length all ∙ length-append (spelled (Record block)) (spelling (blocks_of count block_length behind))
+          ∙ omega (arith, length-spelled block, long, rest.long, whole);
+    }
+
+-- one block more
+pub spelling-more : (count block_length from : ℕ) (bytes : List ℕ) → from ≡ count * block_length
+    → spelling (blocks_of count block_length bytes) ++ spelled (Record (slice_range bytes from (from + block_length)))
+    ≡ spelling (blocks_of (count + 1) block_length bytes)
+spelling-more zero block_length from bytes is =
+    let none : from ≡ 0 = omega arith in
+    let long : from + block_length - from ≡ block_length = omega arith in
+    ap (λ n. spelled (Record (take n (drop from bytes)))) long ∙ ap (λ n. spelled (Record (take block_length (drop n bytes)))) none
+    ∙ sym (flat_map-cons spelled (Record (take block_length bytes)) [] ∙ append-nil (spelled (Record (take block_length bytes))))
+spelling-more (suc count) block_length from bytes is =
+    let rest = drop block_length bytes in
+    let block = Record (take block_length bytes) in
+    let inner : ℕ = count * block_length in
+    let more : suc count * block_length ≡ block_length + count * block_length = grind arith in
+    let at : block_length + inner ≡ from = omega (arith, more, is) in
+    let long : from + block_length - from ≡ block_length = omega arith in
+    let long_in : inner + block_length - inner ≡ block_length = omega arith in
+    let here : slice_range bytes from (from + block_length) ≡ slice_range rest inner (inner + block_length) =
+    ap (λ n. take n (drop from bytes)) long ∙ ap (λ n. take block_length (drop n bytes)) (sym at)
+    ∙ sym (ap (take block_length) (drop-drop inner block_length bytes)) ∙ ap (λ n. take n (drop inner rest)) (sym long_in) in
+    let last = spelled (Record (slice_range bytes from (from + block_length))) in
+    let e : suc count + 1 ≡ suc (count + 1) = omega arith in
+    ap (λ (xs : List ℕ). xs ++ last) (flat_map-cons spelled block (blocks_of count block_length rest))
+    ∙ append_assoc (spelled block) (spelling (blocks_of count block_length rest)) last
+    ∙ ap (λ (xs : List ℕ). spelled block ++ (spelling (blocks_of count block_length rest) ++ spelled (Record xs))) here
+    ∙ ap (λ (xs : List ℕ). spelled block ++ xs) (spelling-more count block_length inner rest refl)
+    ∙ sym (flat_map-cons spelled block (blocks_of (count + 1) block_length rest))
+    ∙ ap (λ n. spelling (blocks_of n block_length bytes)) (sym e)
+
+-- ---- filemarks
 
 zeros-front : (rest : List ℕ) → front (0 ∷ 0 ∷ 0 ∷ 0 ∷ 0 ∷ 0 ∷ 0 ∷ 0 ∷ rest) ≡ Some 0
 zeros-front rest = is-front (0 ∷ 0 ∷ 0 ∷ 0 ∷ 0 ∷ 0 ∷ 0 ∷ 0 ∷ rest) 0 (record {

@@ -2,12 +2,15 @@ pub use Rattle.media_store.specs.Failures
 pub mod Items
 pub mod Tape
 pub mod Space
+pub mod Fixed
 pub mod Index
 pub mod Runs
 pub mod SizeSpace
+pub mod SizeFixed
 pub mod Writing
 pub mod Window
 pub mod Fault
 pub mod Examples
 pub mod ExamplesSpace
+pub mod ExamplesFixed
 pub mod Laws

@@ -1,9 +1,12 @@
 -- What is written to a store, and what is left of it where a write to its end failed.
-use Rattle.std.specs.Prelude.{◌≡◌, ℕ, ◌*◌, ◌≤◌, ◌<◌, Bool, true, false, List, length, take, map, replicate}
+use Rattle.std.specs.Prelude.{◌≡◌, ℕ, ◌*◌, ◌≤◌, ◌<◌, nat_lt, Bool, true, false, List, length, take, map, replicate, if◌then◌else◌}
 use Rattle.media_tape.specs.Index.{mark_size, most_size}
 use Rattle.media_tape.specs.Items.{size, items_of}
 use Rattle.media_tape.specs.Tape.{TapeState, wrote_if_told, synced_if_told, written_synced, marked_synced}
+use Rattle.media_tape.specs.declared.outcome.FixedWritten.{FixedWritten}
+use Rattle.media_tape.specs.declared.outcome.FixedWritten.TheVariants as fixed_written
 use Rattle.media_tape.specs.declared.outcome.Written.{Written}
+use Rattle.media_tape.specs.declared.outcome.Written.TheVariants as written
 use Rattle.media_tape.specs.declared.write.Objects.{Objects}
 use Rattle.media_tape.specs.declared.write.Objects.TheVariants as object
 
@@ -15,15 +18,15 @@ KeepsBefore place old new = place ≤ length old → (place ≤ length new) × (
 
 -- their bytes
 abbrev pub bytes_of : Objects → List ℕ
-bytes_of (object.Record spelled) = spelled.items
+bytes_of (object.Records spelled count size) = spelled.items
 bytes_of (object.Filemarks count) = replicate (8 * count) 0
 
 abbrev pub count_of : Objects → ℕ
-count_of (object.Record spelled) = 1
+count_of (object.Records spelled count size) = count
 count_of (object.Filemarks count) = count
 
 abbrev pub each_size : Objects → ℕ
-each_size (object.Record spelled) = length spelled.items
+each_size (object.Records spelled count size) = size
 each_size (object.Filemarks count) = mark_size
 
 -- their bytes are so many items of this size
@@ -36,14 +39,20 @@ pub record AreWhole (objects : Objects) : Type 0 where
 
 -- filemarks are synced
 abbrev pub is_synced : Objects → Bool
-is_synced (object.Record spelled) = false
+is_synced (object.Records spelled count size) = false
 is_synced (object.Filemarks count) = true
 
 abbrev pub put_synced : Objects → Written → Bool → Bool
-put_synced (object.Record spelled) told before = written_synced told before
+put_synced (object.Records spelled count size) told before = written_synced told before
 put_synced (object.Filemarks count) told before = marked_synced told before
 
 -- the tape behind them, unless they are refused
 abbrev pub put_if_told : Objects → Written → TapeState → TapeState
-put_if_told (object.Record spelled) told tape = wrote_if_told told (items_of spelled.items) tape
+put_if_told (object.Records spelled count size) told tape = wrote_if_told told (items_of spelled.items) tape
 put_if_told (object.Filemarks count) told tape = synced_if_told told (wrote_if_told told (items_of (replicate (8 * count) 0)) tape)
+
+-- own: what is told of so many blocks of all, where this is told of them: they fit
+abbrev pub part_told : Written → ℕ → ℕ → FixedWritten
+part_told written.Refused fitting count = fixed_written.Part 0
+part_told written.Early fitting count = if nat_lt fitting count then fixed_written.Part fitting else fixed_written.Early
+part_told written.Whole fitting count = if nat_lt fitting count then fixed_written.Part fitting else fixed_written.Whole

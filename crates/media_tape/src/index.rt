@@ -1,13 +1,15 @@
 //! The index.
 
-ghost use Rattle.std.specs.Prelude.{◌≡◌, ◌+◌, ◌-◌, ◌*◌, ◌^◌, ◌≤◌, ◌<◌, ◌++◌, ◌↔◌, [], length, sum, take, replicate, slice_index, IsTrue, IsOk, OnOk, OnErr};
+ghost use Rattle.std.specs.Prelude.{◌≡◌, ◌+◌, ◌-◌, ◌*◌, ◌^◌, ◌≤◌, ◌<◌, ◌++◌, ◌↔◌, [], length, sum, take, drop, replicate, slice_index, IsTrue, IsOk, OnOk, OnErr};
 ghost use Rattle.media_tape.specs.Index.{mark_size, most_size, Joins, HasRoom};
 ghost use Rattle.media_tape.specs.Runs.{IsHere};
+ghost use Rattle.media_tape.specs.Fixed.{fixed_passed};
+ghost use Rattle.media_tape.specs.SizeFixed.{size_fixed};
 ghost use Rattle.media_tape.specs.SizeSpace.{size_way_from};
 ghost use Rattle.media_tape.specs.Space.{spaced_to};
 
-use crate::outcome::{Direction, Over};
-use crate::run::{Run, run_of};
+use crate::outcome::{Direction, FixedEnd, FixedRead, Over};
+use crate::run::{MARK_SIZE, Run, first_of, run_of};
 use crate::space::{Ended, space_back, space_on};
 use std::alloc::{AllocError, Global};
 use std::marker::Model;
@@ -181,5 +183,47 @@ impl Index {
             Direction::Forward => space_on(&self.runs, self.count, over, from, count),
             Direction::Backward => space_back(&self.runs, self.count, over, from, count),
         }
+    }
+
+    /// The number behind the run of this item: all items up to there have its size.
+    fn run_end(&self, number: u64) -> u64
+        requires { number < length self.now.sizes }
+        ensures past { number < result }
+        ensures within { result ≤ length self.now.sizes }
+        ensures alike { drop number self.now.sizes
+            ≡ replicate (result - number) (slice_index self.now.sizes number) ++ drop result self.now.sizes }
+    {
+        let run = run_of(&self.runs, self.count, number);
+        first_of(&self.runs, self.count, run + 1)
+    }
+
+    /// What a read of so many blocks of a length from this number on gives, run by run, and what ends it
+    /// (SSC-4 "READ (6)").
+    pub fn blocks(&self, from: u64, count: u32, block_length: u32) -> FixedRead
+        requires { from ≤ length self.now.sizes }
+        ensures read { result ≡ size_fixed count block_length (drop from self.now.sizes) }
+        ensures passed { from + fixed_passed result < 2 ^ 64 }
+    {
+        let mut given = 0;
+        while given < count {
+            let number = from + u64::from(given);
+            if number == self.count() {
+                let ended = FixedEnd::EndOfData;
+                return FixedRead { given, ended };
+            }
+            let length = self.size_at(number) - MARK_SIZE;
+            if length == 0 {
+                let ended = FixedEnd::Filemark;
+                return FixedRead { given, ended };
+            }
+            if length != block_length {
+                let ended = FixedEnd::Length(length);
+                return FixedRead { given, ended };
+            }
+            let alike = self.run_end(number) - number;
+            given += alike.min(u64::from(count - given)) as u32;
+        }
+        let ended = FixedEnd::Whole;
+        FixedRead { given, ended }
     }
 }

@@ -39,5 +39,7 @@ mod zeros;
 
 pub use fault::{NotOpened, TapeOpenFault};
 pub use item::MOST_BYTES;
-pub use outcome::{Direction, Located, Over, Passed, Spaced, Written};
+pub use outcome::{
+    Direction, FixedEnd, FixedRead, FixedWritten, Located, Over, Passed, Spaced, Written,
+};
 pub use tape::Tape;

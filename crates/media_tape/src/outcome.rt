@@ -2,6 +2,7 @@
 
 ghost use Rattle.std.specs.Prelude.{◌≡◌};
 ghost use Rattle.media_tape.specs.Tape.{length_told};
+ghost use Rattle.media_tape.specs.Fixed.{fixed_passed};
 
 /// What a read passed.
 #[derive(Clone, Copy, Debug, PartialEq, Eq)]
@@ -24,6 +25,38 @@ pub enum Written {
     Early,
     /// They are not, since the items would exceed the capacity.
     Refused,
+}
+
+/// What ended a read of blocks.
+#[derive(Clone, Copy, Debug, PartialEq, Eq)]
+pub enum FixedEnd {
+    /// As many were given as were asked for.
+    Whole,
+    /// A filemark, which was passed.
+    Filemark,
+    /// No item stands behind the position.
+    EndOfData,
+    /// A record of another length, in bytes, which was passed.
+    Length(u32),
+}
+
+/// How a read of blocks came out.
+#[derive(Clone, Copy, Debug, PartialEq, Eq)]
+pub struct FixedRead {
+    /// How many were given.
+    pub given: u32,
+    pub ended: FixedEnd,
+}
+
+/// Whether blocks were written.
+#[derive(Clone, Copy, Debug, PartialEq, Eq)]
+pub enum FixedWritten {
+    /// They are, or there were none.
+    Whole,
+    /// They are, and the items before the position now exceed the early mark.
+    Early,
+    /// So many are, since all would exceed the capacity.
+    Part(u32),
 }
 
 /// Where a position was set.
@@ -71,4 +104,15 @@ pub(crate) fn passed_item(length: u32) -> Passed
     } else {
         Passed::Record(length)
     }
+}
+
+/// How many items a read of blocks passes.
+pub(crate) fn passed_blocks(read: FixedRead) -> u64
+    ensures { result ≡ fixed_passed read }
+{
+    let last = match read.ended {
+        FixedEnd::Whole | FixedEnd::EndOfData => 0,
+        FixedEnd::Filemark | FixedEnd::Length(_) => 1,
+    };
+    u64::from(read.given) + last
 }

@@ -1,10 +1,17 @@
 //! Bytes read from a store.
 
-ghost use Rattle.std.specs.Prelude.{◌≡◌, ◌+◌, ◌≤◌, ◌++◌, length, slice_range, IsTrue, IsOk, OnOk};
+ghost use Rattle.std.specs.Prelude.{◌≡◌, ◌+◌, ◌*◌, ◌≤◌, ◌<◌, ◌^◌, ◌++◌, length, drop, slice_range, IsTrue, IsOk, IfOk, OnOk, OnErr};
 ghost use Rattle.media_store.specs.Failures.{counted};
+ghost use Rattle.media_tape.specs.Items.{most_bytes};
+ghost use Rattle.media_tape.specs.SizeFixed.{data_in};
 
+use crate::item::LENGTHS;
 use bytes::BytesMut;
 use media_store::{Store, StoreFault};
+use std::alloc::{AllocError, Global};
+
+/// The bytes of a record stand behind its length.
+pub(crate) const LENGTH: u64 = 4;
 
 /// Reads so many bytes from an offset on, behind those of a buffer that has room for them.
 pub(crate) fn read_behind<S: Store>(
@@ -32,4 +39,61 @@ pub(crate) fn read_behind<S: Store>(
     let front = buffer.len();
     buffer.advance_mut(count);
     store.read_at(at, &mut buffer.as_mut_slice()[front..])
+}
+
+/// Puts the bytes of so many records of one length, as they stand in a store, behind those of a buffer that
+/// has room for them.
+fn put_data(items: &[u8], count: usize, block_length: usize, buffer: &mut BytesMut)
+    requires long { count * (block_length + 8) ≤ length items.now }
+    requires room { count * block_length ≤ buffer.old.spare }
+    ensures { buffer.new.items ≡ buffer.old.items ++ data_in count block_length items.now }
+{
+    for i in 0..count {
+        let from = i * (block_length + LENGTHS as usize) + LENGTH as usize;
+        buffer.extend_reserved(&items[from..from + block_length]);
+    }
+}
+
+/// Reads so many records of one length from a place on, in one call, and puts their bytes behind those of a
+/// buffer, where room is made first for them and for some more behind them.
+pub(crate) fn read_blocks<S: Store>(
+    alloc: Global,
+    store: &mut S,
+    place: u64,
+    count: u32,
+    block_length: u32,
+    buffer: &mut BytesMut,
+    behind: u32,
+) -> Result<Result<(), StoreFault>, AllocError>
+    requires few { count * block_length ≤ most_bytes }
+    requires within { place + count * (block_length + 8) < 2 ^ 64 }
+    ensures read { IfOk result (λ done. OnOk done (IsTrue (S.Store.honest store.new)
+        → place + count * (block_length + 8) ≤ length (S.Store.content store.old)
+        → buffer.new.items ≡ buffer.old.items ++ data_in count block_length (drop place (S.Store.content store.old)))) }
+    ensures length { IfOk result (λ done. OnOk done (length buffer.new.items ≡ length buffer.old.items + count * block_length)) }
+    ensures back { IsTrue (S.Store.honest store.new) → IsTrue (S.Store.honest store.old) }
+    ensures content { S.Store.content store.new ≡ S.Store.content store.old }
+    ensures synced { S.Store.synced store.new ≡ S.Store.synced store.old }
+    ensures failures { IfOk result (λ done. S.Store.failures store.new ≡ counted done (S.Store.failures store.old)) }
+    ensures steady { S.Store.steady store.new ≡ S.Store.steady store.old }
+    ensures reach { S.Store.reach store.new ≡ S.Store.reach store.old }
+    ensures succeeds { IfOk result (λ done. IsTrue (S.Store.steady store.old)
+        → place + count * (block_length + 8) ≤ length (S.Store.content store.old)
+        → IsOk done × (S.Store.honest store.new ≡ S.Store.honest store.old)) }
+    ensures err { OnErr result (store.new ≡ store.old) }
+{
+    let (many, long) = (count as usize, block_length as usize);
+    buffer.reserve(many * long + behind as usize)?;
+    if count == 1 {
+        return Ok(read_behind(store, place + LENGTH, long, buffer));
+    }
+    let size = many * (long + LENGTHS as usize);
+    let mut items = BytesMut::with_capacity(alloc, size)?;
+    match read_behind(store, place, size, &mut items) {
+        Ok(()) => {
+            put_data(items.as_slice(), many, long, buffer);
+            Ok(Ok(()))
+        }
+        Err(fault) => Ok(Err(fault)),
+    }
 }

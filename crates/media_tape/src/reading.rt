@@ -1,21 +1,19 @@
 //! READ of a tape.
 
-ghost use Rattle.std.specs.Prelude.{◌≡◌, ◌+◌, ◌≤◌, ◌++◌, length, take, min, IsTrue, IsOk, IfOk, OnOk, OnErr};
+ghost use Rattle.std.specs.Prelude.{◌≡◌, ◌+◌, ◌*◌, ◌≤◌, ◌<◌, ◌++◌, length, take, drop, min, IsTrue, IsOk, IfOk, OnOk, OnErr};
 ghost use Rattle.media_store.specs.Failures.{counted, risen};
 ghost use Rattle.media_tape.specs.Items.{most_bytes};
 ghost use Rattle.media_tape.specs.Tape.{read_told, passed_length, first_data, tape_read};
+ghost use Rattle.media_tape.specs.Fixed.{fixed_told, fixed_data, tape_read_fixed, Gives};
 ghost use Rattle.media_tape.specs.declared.outcome.Passed.TheVariants as passed;
 
-use crate::outcome::{Passed, passed_item};
-use crate::read::read_behind;
+use crate::outcome::{FixedRead, Passed, passed_blocks, passed_item};
+use crate::read::{LENGTH, read_behind, read_blocks};
 use crate::run::MARK_SIZE;
 use crate::tape::Tape;
 use bytes::BytesMut;
 use media_store::{Store, StoreFault};
 use out_of_memory::Memory;
-
-/// The bytes of a record stand behind its length.
-const LENGTH: u64 = 4;
 
 impl<S: Store> Tape<S> {
     /// Passes the item behind the position, and puts as many bytes of a record as are asked for behind those
@@ -62,6 +60,60 @@ impl<S: Store> Tape<S> {
             Ok(()) => {
                 self.position += 1;
                 Ok(Ok(passed_item(length)))
+            }
+            Err(fault) => Ok(Err(fault)),
+        }
+    }
+
+    /// Passes so many records of a length behind the position, here called blocks, and puts their bytes behind
+    /// those of a buffer, where room is made first for them and for some more behind them. A filemark or a
+    /// record of another length ends them, and is passed (SSC-4 "READ (6)", FIXED). Where an allocation fails
+    /// nothing changes; where the store fails the tape is as before, and no block is given.
+    pub fn read_fixed(
+        &mut self,
+        count: u32,
+        block_length: u32,
+        buffer: &mut BytesMut,
+        behind: u32,
+    ) -> Result<Result<FixedRead, StoreFault>, Memory>
+        requires { count * block_length ≤ most_bytes }
+        ensures read { IfOk result (λ done. IfOk done (λ read. IsTrue self.new.honest → read ≡ fixed_told count block_length self.old)) }
+        ensures few { IfOk result (λ done. IfOk done (λ read. read.given ≤ count)) }
+        ensures given { IfOk result (λ done. OnOk done (IsTrue self.new.honest
+            → buffer.new.items ≡ buffer.old.items ++ fixed_data count block_length self.old)) }
+        ensures length { IfOk result (λ done. IfOk done (λ read. length buffer.new.items
+            ≡ length buffer.old.items + read.given * block_length)) }
+        ensures shown { IfOk result (λ done. IfOk done (λ read. 0 < block_length
+            → Gives count block_length read (drop (length buffer.old.items) buffer.new.items))) }
+        ensures tape { IfOk result (λ done. OnOk done (IsTrue self.new.honest → self.new ≡ tape_read_fixed count block_length self.old)) }
+        ensures failed { IfOk result (λ done. OnErr done (self.new
+            ≡ record self.old { failures = risen self.old.failures; honest = self.new.honest })) }
+        ensures rest { IfOk result (λ done. self.new ≡ record self.old {
+          before = self.new.before;
+          after = self.new.after;
+          honest = self.new.honest;
+          failures = counted done self.old.failures;
+        }) }
+        ensures back { IsTrue self.new.honest → IsTrue self.old.honest }
+        ensures succeeds { IfOk result (λ done. IsTrue self.old.steady → IsTrue self.old.honest
+            → IsOk done × (self.new.honest ≡ self.old.honest)) }
+        ensures err { OnErr result (self.new ≡ self.old) }
+    {
+        let read = self.index.blocks(self.position, count, block_length);
+        let place = self.index.place_of(self.position);
+        let done = read_blocks(
+            self.alloc,
+            &mut self.store,
+            place,
+            read.given,
+            block_length,
+            buffer,
+            behind,
+        )?;
+        match done {
+            Ok(()) => {
+                self.position += passed_blocks(read);
+                Ok(Ok(read))
             }
             Err(fault) => Ok(Err(fault)),
         }

@@ -1,8 +1,9 @@
 //! Items written to a store from a place on, and nothing behind them.
 
-ghost use Rattle.std.specs.Prelude.{◌≡◌, ◌+◌, ◌≤◌, ◌<◌, ◌^◌, ◌++◌, true, false, length, take, IsTrue, IsOk, IfOk, OnOk, OnErr};
-ghost use Rattle.byteorder.specs.Endian.{big_bytes};
+ghost use Rattle.std.specs.Prelude.{◌≡◌, ◌+◌, ◌*◌, ◌≤◌, ◌<◌, ◌^◌, ◌++◌, true, false, length, take, IsTrue, IsOk, IfOk, OnOk, OnErr};
 ghost use Rattle.media_store.specs.Failures.{counted};
+ghost use Rattle.media_tape.specs.Items.{most_bytes, spelling};
+ghost use Rattle.media_tape.specs.Fixed.{blocks_of};
 ghost use Rattle.media_tape.specs.Writing.{KeepsBefore, bytes_of, count_of, each_size, is_synced};
 
 use crate::item::LENGTHS;
@@ -15,8 +16,12 @@ use std::alloc::{AllocError, Global};
 /// Logical objects (SSC-4) of one size that are written at once.
 #[derive(Drop)]
 pub(crate) enum Objects {
-    /// A record as it stands in a store.
-    Record(Vec<u8>),
+    /// So many records as they stand in a store, each of this size.
+    Records {
+        spelled: Vec<u8>,
+        count: u32,
+        size: u32,
+    },
     /// So many filemarks.
     Filemarks(u32),
 }
@@ -27,18 +32,17 @@ impl Objects {
         ensures { result ≡ length (bytes_of self.now) }
     {
         match self {
-            Objects::Record(spelled) => spelled.len() as u64,
+            Objects::Records { spelled, .. } => spelled.len() as u64,
             Objects::Filemarks(count) => LENGTHS * u64::from(*count),
         }
     }
 
     /// How many bytes each of them takes.
     pub fn each_size(&self) -> u32
-        requires { each_size self.now < 2 ^ 32 }
         ensures { result ≡ each_size self.now }
     {
         match self {
-            Objects::Record(spelled) => spelled.len() as u32,
+            Objects::Records { size, .. } => *size,
             Objects::Filemarks(_) => MARK_SIZE,
         }
     }
@@ -48,25 +52,33 @@ impl Objects {
         ensures { result ≡ count_of self.now }
     {
         match self {
-            Objects::Record(_) => 1,
-            Objects::Filemarks(count) => u64::from(*count),
+            Objects::Records { count, .. } | Objects::Filemarks(count) => u64::from(*count),
         }
     }
 }
 
-/// A record as it stands in a store: its length, its bytes, and its length again.
-pub(crate) fn spelled(alloc: Global, bytes: &[u8]) -> Result<Vec<u8>, AllocError>
-    requires { length bytes.now < 2 ^ 32 }
-    ensures { IfOk result (λ item. item.items
-        ≡ big_bytes 4 (length bytes.now) ++ (bytes.now ++ big_bytes 4 (length bytes.now))) }
+/// So many records of one length as they stand in a store: each with its length before it, and again behind it.
+pub(crate) fn spelled(
+    alloc: Global,
+    bytes: &[u8],
+    count: u32,
+    block_length: u32,
+) -> Result<Vec<u8>, AllocError>
+    requires few { count ≤ most_bytes }
+    requires short { block_length ≤ most_bytes }
+    requires enough { count * block_length ≤ length bytes.now }
+    ensures { IfOk result (λ items. items.items ≡ spelling (blocks_of count block_length bytes.now)) }
 {
-    let mut length = [0; 4];
-    BigEndian::write_u32(&mut length, bytes.len() as u32);
-    let mut item = Vec::with_capacity(alloc, bytes.len() + 8)?;
-    item.extend_from_slice(&length)?;
-    item.extend_from_slice(bytes)?;
-    item.extend_from_slice(&length)?;
-    Ok(item)
+    let (many, long) = (count as usize, block_length as usize);
+    let mut around = [0; 4];
+    BigEndian::write_u32(&mut around, block_length);
+    let mut items = Vec::with_capacity(alloc, many * (long + 8))?;
+    for i in 0..many {
+        items.extend_from_slice(&around)?;
+        items.extend_from_slice(&bytes[i * long..i * long + long])?;
+        items.extend_from_slice(&around)?;
+    }
+    Ok(items)
 }
 
 /// Cuts a store at a place, unless it ends there.
@@ -90,7 +102,7 @@ pub(crate) fn cut_at<S: Store>(store: &mut S, place: u64, is_longer: bool) -> Re
     Ok(())
 }
 
-/// Writes objects from a place on: a record in one call, and behind filemarks it waits until all is on the
+/// Writes objects from a place on: records in one call, and behind filemarks it waits until all is on the
 /// medium. Where something stands there it is cut off before, so that whenever the program ends the store
 /// has whole items.
 pub(crate) fn write_objects<S: Store>(
@@ -116,7 +128,7 @@ pub(crate) fn write_objects<S: Store>(
 {
     cut_at(store, place, is_longer)?;
     match objects {
-        Objects::Record(spelled) => store.write_at(place, spelled),
+        Objects::Records { spelled, .. } => store.write_at(place, spelled),
         Objects::Filemarks(count) => write_zeros(store, place, LENGTHS * u64::from(*count)),
     }
 }

@@ -1,13 +1,16 @@
 //! WRITE and WRITE FILEMARKS of a tape.
 
-ghost use Rattle.std.specs.Prelude.{◌≡◌, ◌≢◌, ◌+◌, ◌*◌, ◌≤◌, [], length, nat_lt, true, false, if◌then◌else◌, ◌||◌, IsTrue, IsOk, IfOk, OnOk, OnErr};
+ghost use Rattle.std.specs.Prelude.{◌≡◌, ◌≢◌, ◌+◌, ◌*◌, ◌≤◌, ◌<◌, [], length, nat_lt, true, false, if◌then◌else◌, ◌||◌, IsTrue, IsOk, IfOk, OnOk, OnErr};
 ghost use Rattle.media_store.specs.Failures.{counted, risen};
 ghost use Rattle.media_tape.specs.Items.{most_bytes, size_of};
 ghost use Rattle.media_tape.specs.Tape.{size_told, write_told, tape_written, written_synced, marks_told, marked_synced, tape_marked, lost, erased};
-ghost use Rattle.media_tape.specs.Writing.{AreWhole, bytes_of, put_if_told, put_synced};
+ghost use Rattle.media_tape.specs.Fixed.{fixed_written_told, tape_written_fixed, fixed_synced, IsPart};
+ghost use Rattle.media_tape.specs.Writing.{AreWhole, bytes_of, part_told, put_if_told, put_synced};
+ghost use Rattle.media_tape.specs.declared.outcome.FixedWritten.TheVariants as fixed_written;
 ghost use Rattle.media_tape.specs.declared.outcome.Written.TheVariants as written;
 
-use crate::outcome::Written;
+use crate::outcome::{FixedWritten, Written};
+use crate::run::MARK_SIZE;
 use crate::tape::Tape;
 use crate::write::{Objects, cut_at, spelled, write_objects};
 use media_store::{Store, StoreFault};
@@ -22,6 +25,18 @@ fn told(early_mark: u64, end: u64) -> Written
         Written::Early
     } else {
         Written::Whole
+    }
+}
+
+/// What is told of so many blocks of all, where this is told of them.
+fn blocks_written(told: Written, fitting: u32, count: u32) -> FixedWritten
+    ensures { result ≡ part_told told fitting count }
+{
+    match told {
+        Written::Refused => FixedWritten::Part(0),
+        Written::Early | Written::Whole if fitting < count => FixedWritten::Part(fitting),
+        Written::Early => FixedWritten::Early,
+        Written::Whole => FixedWritten::Whole,
     }
 }
 
@@ -60,9 +75,70 @@ impl<S: Store> Tape<S> {
         if bytes.is_empty() {
             return Ok(Ok(Written::Whole));
         }
-        let item = spelled(self.alloc, bytes)?;
-        let done = self.put(&Objects::Record(item))?;
+        let length = bytes.len() as u32;
+        let spelled = spelled(self.alloc, bytes, 1, length)?;
+        let (count, size) = (1, length + MARK_SIZE);
+        let done = self.put(&Objects::Records {
+            spelled,
+            count,
+            size,
+        })?;
         Ok(done)
+    }
+
+    /// Writes so many records of a length, here called blocks, in the place of all that stands behind the
+    /// position, as many as fit within the capacity, in one call of the store; where none fits nothing changes,
+    /// and so where there is no byte (SSC-4 "WRITE (6)", FIXED). Where an allocation fails nothing changes; where
+    /// the store fails the items before the position are left.
+    pub fn write_fixed(
+        &mut self,
+        count: u32,
+        block_length: u32,
+        bytes: &[u8],
+    ) -> Result<Result<FixedWritten, StoreFault>, Memory>
+        requires whole { length bytes.now ≡ count * block_length }
+        requires few { count * block_length ≤ most_bytes }
+        ensures told { IfOk result (λ done. IfOk done (λ told. IsTrue self.old.honest → told ≡ fixed_written_told count block_length self.old)) }
+        ensures tape { IfOk result (λ done. OnOk done (IsTrue self.old.honest
+            → self.new ≡ tape_written_fixed count block_length bytes.now self.old)) }
+        ensures failed { IfOk result (λ done. OnErr done (IsTrue self.old.honest → self.new ≡ lost self.new.tail false self.old)) }
+        ensures part { IfOk result (λ done. IfOk done (λ told. IsPart count told)) }
+        ensures refused { IfOk result (λ done. IfOk done (λ told. told ≡ fixed_written.Part 0 → self.new ≡ self.old)) }
+        ensures synced { IfOk result (λ done. IfOk done (λ told. bytes.now ≢ [] → self.new.synced ≡ fixed_synced told self.old.synced)) }
+        ensures unsynced { IfOk result (λ done. OnErr done (self.new.synced ≡ false)) }
+        ensures fits { IfOk result (λ done. OnErr done (IsTrue self.old.honest
+            → size_of self.old.before + (block_length + 8) ≤ self.old.capacity)) }
+        ensures honest { self.new.honest ≡ self.old.honest }
+        ensures rest { IfOk result (λ done. self.new ≡ record self.old {
+          before = self.new.before;
+          after = self.new.after;
+          tail = self.new.tail;
+          synced = self.new.synced;
+          failures = counted done self.old.failures;
+        }) }
+        ensures succeeds { IfOk result (λ done. IsTrue self.old.steady → self.old.capacity ≤ self.old.reach → IsOk done) }
+        ensures err { OnErr result (self.new ≡ self.old) }
+    {
+        if bytes.is_empty() {
+            return Ok(Ok(FixedWritten::Whole));
+        }
+        let size = block_length + MARK_SIZE;
+        let room = self.capacity - self.index.place_of(self.position);
+        let fitting = (room / u64::from(size)).min(u64::from(count)) as u32;
+        if fitting == 0 {
+            return Ok(Ok(FixedWritten::Part(0)));
+        }
+        let spelled = spelled(self.alloc, bytes, fitting, block_length)?;
+        let blocks = Objects::Records {
+            spelled,
+            count: fitting,
+            size,
+        };
+        let done = self.put(&blocks)?;
+        match done {
+            Ok(told) => Ok(Ok(blocks_written(told, fitting, count))),
+            Err(fault) => Ok(Err(fault)),
+        }
     }
 
     /// Writes filemarks in the place of all that stands behind the position, and waits until all is on the
