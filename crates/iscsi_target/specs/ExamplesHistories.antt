@@ -104,7 +104,7 @@ abbrev kept_media : History → List MediumState
 kept_media history = map (λ (kept : KeptState). kept.medium) (media disk_and_tape history 0)
 
 abbrev blank_tape : MediumState
-blank_tape = TapeMedium [] [] true
+blank_tape = TapeMedium [] [] true 0
 
 -- tag 2, CmdSN 123: it is answered the power-on attention
 abbrev first_of_disk : List ℕ
@@ -187,7 +187,7 @@ unfolding data_computed
 the_record_comes_back = refl
 
 both_are_kept : kept_media record_and_filemark
-    ≡ DiskMedium (replicate 4 (block_of 0)) false ∷ TapeMedium (Record (codes "abc") ∷ Filemark ∷ []) [] true ∷ []
+    ≡ DiskMedium (replicate 4 (block_of 0)) false ∷ TapeMedium (Record (codes "abc") ∷ Filemark ∷ []) [] true 0 ∷ []
 unfolding data_computed
 both_are_kept = refl
 

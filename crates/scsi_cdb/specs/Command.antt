@@ -191,21 +191,21 @@ abbrev pub to_tape : Result TapeCommand FieldFault → Result Command FieldFault
 to_tape (Ok command) = Ok (to.Tape command)
 to_tape (Err fault) = Err fault
 
--- the command that the bytes spell for an operation
-abbrev pub fields_of : Operation → List ℕ → Result Command FieldFault
-fields_of (Unit operation) cdb = to_unit (unit_fields operation cdb)
-fields_of (Disk operation) cdb = to_disk (disk_fields operation cdb)
-fields_of (Tape operation) cdb = to_tape (tape_fields operation cdb)
+-- the command that the bytes spell for an operation, and a tape's block length
+abbrev pub fields_of : Operation → List ℕ → ℕ → Result Command FieldFault
+fields_of (Unit operation) cdb block_length = to_unit (unit_fields operation cdb)
+fields_of (Disk operation) cdb block_length = to_disk (disk_fields operation cdb)
+fields_of (Tape operation) cdb block_length = to_tape (tape_fields operation cdb block_length)
 
 abbrev pub with_sense : Result Command FieldFault → Result Command Sense
 with_sense (Ok command) = Ok command
 with_sense (Err fault) = Err (field_sense fault)
 
 -- own: what a command descriptor block is refused with: first where units of this kind do not have its operation
-abbrev pub command_from : Option Row → List ℕ → Result Command Sense
-command_from None cdb = Err invalid_operation_code
-command_from (Some row) cdb = with_sense (fields_of row.operation cdb)
+abbrev pub command_from : Option Row → List ℕ → ℕ → Result Command Sense
+command_from None cdb block_length = Err invalid_operation_code
+command_from (Some row) cdb block_length = with_sense (fields_of row.operation cdb block_length)
 
--- the command that the bytes spell for a unit of this kind
-abbrev pub command_of : List ℕ → Kind → Result Command Sense
-command_of cdb kind = command_from (row_for kind (slice_index cdb 0)) cdb
+-- the command that the bytes spell for a unit of this kind, a tape with this block length
+abbrev pub command_of : List ℕ → Kind → ℕ → Result Command Sense
+command_of cdb kind block_length = command_from (row_for kind (slice_index cdb 0)) cdb block_length

@@ -31,10 +31,10 @@ preempt : (reserve_out_of (0x5f ∷ 0x04 ∷ 0x12 ∷ replicate 5 0 ++ 0x18 ∷ 
 preempt = (refl, refl, refl)
 
 -- of disks and tapes alike: READ KEYS of 8 bytes, CLEAR with a list of 24, and what is refused
-commands : (command_of (0x5e ∷ replicate 7 0 ++ 8 ∷ replicate 7 0) Disk
+commands : (command_of (0x5e ∷ replicate 7 0 ++ 8 ∷ replicate 7 0) Disk 0
     ≡ Ok (to.Unit (ReserveIn (record { action = ReadKeys; allocation_length = 8 }))))
-    × (command_of (0x5f ∷ 0x03 ∷ replicate 6 0 ++ 24 ∷ replicate 7 0) Tape
+    × (command_of (0x5f ∷ 0x03 ∷ replicate 6 0 ++ 24 ∷ replicate 7 0) Tape 0
     ≡ Ok (to.Unit (ReserveOut (record { action = Clear; scope = 0; code = 0; list_length = 24 }))))
-    × (command_of (0x5e ∷ 0x03 ∷ replicate 14 0) Disk ≡ Err invalid_field)
-    × (command_of (0x5f ∷ 0x02 ∷ replicate 14 0) Tape ≡ Err invalid_field)
+    × (command_of (0x5e ∷ 0x03 ∷ replicate 14 0) Disk 0 ≡ Err invalid_field)
+    × (command_of (0x5f ∷ 0x02 ∷ replicate 14 0) Tape 0 ≡ Err invalid_field)
 commands = (refl, refl, refl, refl)

@@ -2,6 +2,7 @@ pub use Rattle.scsi_sense.specs.Codes
 pub use Rattle.scsi_sense.specs.Sense
 pub mod Range
 pub mod Record
+pub mod FixedBlocks
 pub mod Fault
 pub mod Taken
 pub mod Operation

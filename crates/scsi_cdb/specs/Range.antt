@@ -1,5 +1,5 @@
 -- Blocks that a command names.
-use Rattle.std.specs.Prelude.{ℕ, Bool, ◌&&◌, Option, Some, None, nat_le, if◌then◌else◌}
+use Rattle.std.specs.Prelude.{ℕ, ◌&&◌, Option, Some, None, nat_le, if◌then◌else◌}
 
 -- so many from the first one on
 pub record Range : Type 0 where

@@ -13,14 +13,15 @@ pub struct Cdb;
 
 impl Cdb {
     /// The command that the bytes spell for a unit of this kind, or why they are refused: first where
-    /// there is no such operation, then where a field is refused.
-    pub fn read(bytes: [u8; 16], kind: Kind) -> Result<Command, Sense>
-        ensures { result ≡ command_of bytes kind }
+    /// there is no such operation, then where a field is refused. A tape's block length is as in
+    /// [`Operation::command`](crate::Operation::command).
+    pub fn read(bytes: [u8; 16], kind: Kind, block_length: u32) -> Result<Command, Sense>
+        ensures { result ≡ command_of bytes kind block_length }
     {
         let Some(row) = Row::for_kind(bytes[0], kind) else {
             return Err(Cdb::no_operation());
         };
-        match row.operation.command(bytes) {
+        match row.operation.command(bytes, block_length) {
             Ok(command) => Ok(command),
             Err(fault) => Err(fault.sense()),
         }

@@ -49,14 +49,17 @@ const SERVICE_ACTION: u8 = 0x1F;
 const READ_CAPACITY_16: u8 = 0x10;
 
 impl Operation {
-    /// The command that the bytes spell for this operation. The control byte is not looked at.
-    pub fn command(self, bytes: [u8; 16]) -> Result<Command, FieldFault>
-        ensures { result ≡ fields_of self bytes }
+    /// The command that the bytes spell for this operation. A tape's block length says what its fields mean (0: blocks
+    /// have any length); no other unit has one. The control byte is not looked at.
+    pub fn command(self, bytes: [u8; 16], block_length: u32) -> Result<Command, FieldFault>
+        ensures { result ≡ fields_of self bytes block_length }
     {
         match self {
             Operation::Unit(operation) => Ok(Command::Unit(operation.command(&bytes)?)),
             Operation::Disk(operation) => Ok(Command::Disk(operation.command(&bytes)?)),
-            Operation::Tape(operation) => Ok(Command::Tape(operation.command(&bytes)?)),
+            Operation::Tape(operation) => {
+                Ok(Command::Tape(operation.command(&bytes, block_length)?))
+            }
         }
     }
 }

@@ -5,7 +5,8 @@
 //!
 //! - [`Row::for_kind`] gives the row of the table of operations for byte 0, where units of that kind have
 //!   such an operation.
-//! - [`Operation::command`] gives the command with its fields, or why a field is refused.
+//! - [`Operation::command`] gives the command with its fields, or why a field is refused. What those of READ (6) and
+//!   WRITE (6) mean depends on the block length that the tape has then.
 //!
 //! [`Cdb::read`] is both. These are read so far; a row also has a class for reservations ([`class`]):
 //!
@@ -49,7 +50,8 @@
 //! A command carries its limits in its types. Blocks that it names are a [`BlockRange`], of 2048 at most
 //! (READ, WRITE, VERIFY with data), a [`ComparedRange`], of 128 at most (COMPARE AND WRITE), a [`SameRange`],
 //! of 1 to 32768 (WRITE SAME), or an [`AnyRange`] (VERIFY without data, SYNCHRONIZE CACHE). A record
-//! that is written has a [`RecordLength`], of 1048576 bytes at most.
+//! that is written has a [`RecordLength`], of 1048576 bytes at most, and so many of a tape's block length are
+//! [`FixedBlocks`], of as many bytes in all.
 #![tactic(auto)]
 
 mod block_range;
@@ -57,6 +59,7 @@ mod cdb;
 mod command;
 mod fault;
 mod fields;
+mod fixed_blocks;
 mod mode;
 mod operation;
 mod persistent_reserve;
@@ -71,6 +74,7 @@ pub use block_range::{
 pub use cdb::Cdb;
 pub use command::{Command, DiskCommand, UnitCommand};
 pub use fault::FieldFault;
+pub use fixed_blocks::FixedBlocks;
 pub use mode::{ModeSelectFields, ModeSenseFields, PageControl, ParameterHeader};
 pub use operation::{
     DiskOperation, Kind, Need, Operation, ReservationClass, Row, TapeOperation, UnitOperation,
@@ -79,4 +83,4 @@ pub use operation::{
 pub use persistent_reserve::{ReadAction, ReserveInFields, ReserveOutFields, ServiceAction};
 pub use record_length::{MOST_RECORD, RecordLength};
 pub use report_luns::{ReportLunsFields, SelectReport};
-pub use tape::{Distance, SpaceCode, TapeCommand};
+pub use tape::{Distance, IncorrectLength, SpaceCode, TapeCommand};

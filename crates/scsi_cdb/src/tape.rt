@@ -1,16 +1,20 @@
 //! Commands to tapes, with their fields (SSC-4 "Command descriptions").
 
 ghost use Rattle.std.specs.Prelude.{◌≡◌};
-ghost use Rattle.scsi_cdb.specs.Tape.{distance_of, space_of, write_of, tape_fields};
+ghost use Rattle.scsi_cdb.specs.Tape.{incorrect_length_of, read_of, write_of, distance_of, space_of, tape_fields};
 
 use crate::fault::FieldFault;
 use crate::fields::command_where;
+use crate::fixed_blocks::FixedBlocks;
 use crate::operation::TapeOperation;
 use crate::record_length::RecordLength;
 use byteorder::{BigEndian, ByteOrder};
 
-/// MLOI of READ BLOCK LIMITS and FIXED of READ and WRITE, in byte 1.
-const LOWEST_BIT: u8 = 0x01;
+/// MLOI of READ BLOCK LIMITS, in byte 1.
+const MAXIMUM_LOGICAL_OBJECT_IDENTIFIER: u8 = 0x01;
+
+/// FIXED of READ and WRITE, in byte 1.
+const FIXED: u8 = 0x01;
 
 /// SILI of READ, in byte 1.
 const SUPPRESS_INCORRECT_LENGTH: u8 = 0x02;
@@ -55,6 +59,17 @@ pub struct Distance {
     pub count: u32,
 }
 
+/// Whether it is told that a record has another length than was asked for (SSC-4 "READ (6) command", SILI).
+#[derive(Clone, Copy, Debug, PartialEq, Eq)]
+pub enum IncorrectLength {
+    /// SILI is clear.
+    Told,
+    /// SILI is set, and the tape has a block length: that a record is longer is told all the same.
+    ToldIfLonger,
+    /// SILI is set, and blocks have any length.
+    Suppressed,
+}
+
 /// A command to a tape.
 #[derive(Clone, Copy, Debug, PartialEq, Eq)]
 pub enum TapeCommand {
@@ -62,14 +77,18 @@ pub enum TapeCommand {
     Rewind,
     /// Asks for the lengths that a record can have (SSC-4 "READ BLOCK LIMITS command").
     ReadBlockLimits,
-    /// Asks for the record behind the position, with the length that it should have in bytes. SILI: another
-    /// length is not told (SSC-4 "READ (6) command").
+    /// Asks for the record behind the position, with the length that it should have in bytes (SSC-4 "READ (6)
+    /// command").
     Read {
         length: u32,
-        suppress_incorrect_length: bool,
+        incorrect_length: IncorrectLength,
     },
+    /// Asks for so many records of the tape's block length (the same, FIXED).
+    ReadFixed(FixedBlocks),
     /// Writes a record (SSC-4 "WRITE (6) command").
     Write(RecordLength),
+    /// Writes so many records of the tape's block length (the same, FIXED).
+    WriteFixed(FixedBlocks),
     /// Writes so many filemarks, and waits until all is on the medium (SSC-4 "WRITE FILEMARKS (6) command").
     WriteFilemarks(u32),
     /// Moves the position over so many logical blocks or filemarks (SSC-4 "SPACE (6) command").
@@ -92,24 +111,19 @@ pub enum TapeCommand {
 }
 
 impl TapeOperation {
-    /// The command that the bytes spell for this operation.
-    pub fn command(self, bytes: &[u8; 16]) -> Result<TapeCommand, FieldFault>
-        ensures { result ≡ tape_fields self bytes.now }
+    /// The command that the bytes spell for this operation, to a tape with this block length (0: blocks have any length).
+    pub fn command(self, bytes: &[u8; 16], block_length: u32) -> Result<TapeCommand, FieldFault>
+        ensures { result ≡ tape_fields self bytes.now block_length }
     {
         let count = BigEndian::read_u24(&bytes[2..]);
         match self {
             TapeOperation::Rewind => Ok(TapeCommand::Rewind),
-            TapeOperation::ReadBlockLimits => {
-                command_where(bytes[1] & LOWEST_BIT == 0, TapeCommand::ReadBlockLimits)
-            }
-            TapeOperation::Read6 => {
-                let command = TapeCommand::Read {
-                    length: count,
-                    suppress_incorrect_length: bytes[1] & SUPPRESS_INCORRECT_LENGTH != 0,
-                };
-                command_where(bytes[1] & LOWEST_BIT == 0, command)
-            }
-            TapeOperation::Write6 => write(bytes[1], count),
+            TapeOperation::ReadBlockLimits => command_where(
+                bytes[1] & MAXIMUM_LOGICAL_OBJECT_IDENTIFIER == 0,
+                TapeCommand::ReadBlockLimits,
+            ),
+            TapeOperation::Read6 => read(bytes[1], count, block_length),
+            TapeOperation::Write6 => write(bytes[1], count, block_length),
             TapeOperation::WriteFilemarks6 => {
                 let command = TapeCommand::WriteFilemarks(count);
                 command_where(bytes[1] & WRITE_SETMARKS == 0, command)
@@ -148,14 +162,46 @@ fn signed(number: u32) -> Distance
     }
 }
 
-/// WRITE of a record of so many bytes, with this byte 1.
-fn write(byte_1: u8, length: u32) -> Result<TapeCommand, FieldFault>
-    ensures { result ≡ write_of byte_1 length }
+/// READ of a record of so many bytes, or of so many blocks of this length, with this byte 1.
+fn read(byte_1: u8, number: u32, block_length: u32) -> Result<TapeCommand, FieldFault>
+    ensures { result ≡ read_of byte_1 number block_length }
 {
-    match RecordLength::new(length) {
-        Some(length) => command_where(byte_1 & LOWEST_BIT == 0, TapeCommand::Write(length)),
+    let suppresses = byte_1 & SUPPRESS_INCORRECT_LENGTH != 0;
+    if byte_1 & FIXED == 0 {
+        return Ok(TapeCommand::Read {
+            length: number,
+            incorrect_length: incorrect_length(suppresses, block_length),
+        });
+    }
+    match FixedBlocks::new(number, block_length) {
+        Some(blocks) => command_where(!suppresses, TapeCommand::ReadFixed(blocks)),
         None => Err(FieldFault::InvalidField),
     }
+}
+
+/// What SILI asks for of a tape with this block length.
+fn incorrect_length(suppresses: bool, block_length: u32) -> IncorrectLength
+    ensures { result ≡ incorrect_length_of suppresses block_length }
+{
+    if !suppresses {
+        IncorrectLength::Told
+    } else if block_length == 0 {
+        IncorrectLength::Suppressed
+    } else {
+        IncorrectLength::ToldIfLonger
+    }
+}
+
+/// WRITE of a record of so many bytes, or of so many blocks of this length, with this byte 1.
+fn write(byte_1: u8, number: u32, block_length: u32) -> Result<TapeCommand, FieldFault>
+    ensures { result ≡ write_of byte_1 number block_length }
+{
+    let command = if byte_1 & FIXED == 0 {
+        RecordLength::new(number).map(TapeCommand::Write)
+    } else {
+        FixedBlocks::new(number, block_length).map(TapeCommand::WriteFixed)
+    };
+    command.ok_or(FieldFault::InvalidField)
 }
 
 /// SPACE with this code.

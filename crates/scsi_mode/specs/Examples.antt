@@ -6,6 +6,7 @@ use Rattle.scsi_cdb.specs.declared.mode.ParameterHeader.{ParameterHeader}
 use Rattle.scsi_cdb.specs.declared.mode.ParameterHeader.TheVariants.{Six, Ten}
 use Rattle.scsi_cdb.specs.declared.mode.ModeSenseFields.{ModeSenseFields}
 use Rattle.scsi_mode.specs.declared.list_fault.ListFault.TheVariants.{EndsEarly, InvalidField}
+use Rattle.scsi_mode.specs.ModePages.{differ}
 use Rattle.scsi_mode.specs.ModeData.{mode_data}
 use Rattle.scsi_mode.specs.ParameterList.{is_page, after_page, has_page, after_pages, after_descriptor, after_header, selected}
 use Rattle.scsi_mode.specs.declared.parameters.Parameters.{Parameters}
@@ -43,9 +44,17 @@ many_blocks : mode_data (asked Six Current 0x00) (Disk (2 ^ 33) false) ≡ Some
 many_blocks = refl
 
 -- of a tape: 17001008 00000000 00000000, 0a0a and 10 zero bytes
-all_pages_of_a_tape : mode_data (asked Six Current 0x3f) Tape ≡ Some
+all_pages_of_a_tape : mode_data (asked Six Current 0x3f) (Tape 0) ≡ Some
     (0x17 ∷ 0x00 ∷ 0x10 ∷ 0x08 ∷ replicate 8 0 ++ 0x0a ∷ 0x0a ∷ replicate 10 0)
 all_pages_of_a_tape = refl
+
+-- a tape's block length, 20 bytes, 1048576 bytes and by MODE SENSE (10): the same for each page control
+block_length : (mode_data (asked Six Current 0x00) (Tape 20) ≡ Some (0x0b ∷ 0x00 ∷ 0x10 ∷ 0x08 ∷ replicate 7 0 ++ 0x14 ∷ []))
+    × (mode_data (asked Six Changeable 0x00) (Tape 20) ≡ Some (0x0b ∷ 0x00 ∷ 0x10 ∷ 0x08 ∷ replicate 7 0 ++ 0x14 ∷ []))
+    × (mode_data (asked Six Default 0x00) (Tape 20) ≡ Some (0x0b ∷ 0x00 ∷ 0x10 ∷ 0x08 ∷ replicate 7 0 ++ 0x14 ∷ []))
+    × (mode_data (asked Six Current 0x00) (Tape 1048576) ≡ Some (0x0b ∷ 0x00 ∷ 0x10 ∷ 0x08 ∷ replicate 5 0 ++ 0x10 ∷ 0x00 ∷ 0x00 ∷ []))
+    × (mode_data (asked Ten Current 0x00) (Tape 20) ≡ Some (0x00 ∷ 0x0e ∷ 0x00 ∷ 0x10 ∷ 0x00 ∷ 0x00 ∷ 0x00 ∷ 0x08 ∷ replicate 7 0 ++ 0x14 ∷ []))
+block_length = (refl, refl, refl, refl, refl)
 
 -- MODE SENSE (10): 002e1000 00000008, then as above
 longer_header : mode_data (asked Ten Current 0x3f) disk ≡ Some
@@ -54,8 +63,8 @@ longer_header : mode_data (asked Ten Current 0x3f) disk ≡ Some
 longer_header = refl
 
 -- page 00h: header and descriptor alone; with DBD the header alone
-page_00 : (mode_data (asked Six Current 0x00) Tape ≡ Some (0x0b ∷ 0x00 ∷ 0x10 ∷ 0x08 ∷ replicate 8 0))
-    × (mode_data (without_descriptor Current 0x00) Tape ≡ Some (0x03 ∷ 0x00 ∷ 0x10 ∷ 0x00 ∷ []))
+page_00 : (mode_data (asked Six Current 0x00) (Tape 0) ≡ Some (0x0b ∷ 0x00 ∷ 0x10 ∷ 0x08 ∷ replicate 8 0))
+    × (mode_data (without_descriptor Current 0x00) (Tape 0) ≡ Some (0x03 ∷ 0x00 ∷ 0x10 ∷ 0x00 ∷ []))
 page_00 = (refl, refl)
 
 -- with SWP set: WP in the header, and bit 3 of byte 4 of page 0Ah
@@ -65,7 +74,7 @@ protected = refl
 -- what can be changed: a disk's SWP alone; the header shows SWP as it is
 changeable : (mode_data (without_descriptor Changeable 0x3f) (Disk 4096 true) ≡ Some (0x23 ∷ 0x00 ∷ 0x90 ∷ 0x00 ∷ 0x08 ∷ 0x12 ∷ replicate 18 0
     ++ 0x0a ∷ 0x0a ∷ 0x00 ∷ 0x00 ∷ 0x08 ∷ replicate 7 0))
-    × (mode_data (without_descriptor Changeable 0x0a) Tape ≡ Some (0x0f ∷ 0x00 ∷ 0x10 ∷ 0x00 ∷ 0x0a ∷ 0x0a ∷ replicate 10 0))
+    × (mode_data (without_descriptor Changeable 0x0a) (Tape 0) ≡ Some (0x0f ∷ 0x00 ∷ 0x10 ∷ 0x00 ∷ 0x0a ∷ 0x0a ∷ replicate 10 0))
 changeable = (refl, refl)
 
 -- the default of SWP is 0, that of WCE is 1
@@ -74,7 +83,7 @@ defaults : mode_data (without_descriptor Default 0x3f) (Disk 4096 true) ≡ Some
 defaults = refl
 
 -- a tape has no page 08h, and nobody has 1Ch
-no_page : (mode_data (asked Six Current 0x08) Tape ≡ None) × (mode_data (asked Six Current 0x1c) disk ≡ None)
+no_page : (mode_data (asked Six Current 0x08) (Tape 0) ≡ None) × (mode_data (asked Six Current 0x1c) disk ≡ None)
 no_page = (refl, refl)
 
 -- ---- MODE SELECT
@@ -102,6 +111,31 @@ last_counts : (selected disk Six (0 ∷ 0 ∷ 0 ∷ 0 ∷ control 0x08 ++ contro
 unfolding selected after_header after_pages has_page after_page is_page
 last_counts = (refl, refl, refl)
 
+abbrev tape_descriptor : ℕ → ℕ → ℕ → List ℕ
+tape_descriptor b5 b6 b7 = replicate 5 0 ++ b5 ∷ b6 ∷ b7 ∷ []
+
+-- a tape's block length: 20 by both commands, 0, and 1048576 with page 0Ah; a list without a descriptor leaves it
+sets_block_length : (selected (Tape 0) Six (0 ∷ 0 ∷ 0 ∷ 8 ∷ tape_descriptor 0 0 0x14) ≡ Ok (Tape 20))
+    × (selected (Tape 0) Ten (replicate 7 0 ++ 8 ∷ tape_descriptor 0 0 0x14) ≡ Ok (Tape 20))
+    × (selected (Tape 20) Six (0 ∷ 0 ∷ 0 ∷ 8 ∷ tape_descriptor 0 0 0) ≡ Ok (Tape 0))
+    × (selected (Tape 20) Six (0 ∷ 0 ∷ 0 ∷ 8 ∷ tape_descriptor 0x10 0 0 ++ control 0) ≡ Ok (Tape 1048576))
+    × (selected (Tape 20) Six (0 ∷ 0 ∷ 0 ∷ 0 ∷ control 0) ≡ Ok (Tape 20))
+unfolding selected after_header after_descriptor after_pages has_page after_page is_page
+sets_block_length = (refl, refl, refl, refl, refl)
+
+-- one byte more, density code 1, a page behind it that is refused, a descriptor that ends early
+leaves_block_length : (selected (Tape 20) Six (0 ∷ 0 ∷ 0 ∷ 8 ∷ tape_descriptor 0x10 0 1) ≡ Err InvalidField)
+    × (selected (Tape 20) Six (0 ∷ 0 ∷ 0 ∷ 8 ∷ 1 ∷ 0 ∷ 0 ∷ 0 ∷ 0 ∷ 0 ∷ 0 ∷ 0x14 ∷ []) ≡ Err InvalidField)
+    × (selected (Tape 20) Six (0 ∷ 0 ∷ 0 ∷ 8 ∷ tape_descriptor 0 0 0x08 ++ control 0x08) ≡ Err InvalidField)
+    × (selected (Tape 20) Six (0 ∷ 0 ∷ 0 ∷ 8 ∷ replicate 7 0) ≡ Err EndsEarly)
+unfolding selected after_header after_descriptor after_pages has_page after_page is_page
+leaves_block_length = (refl, refl, refl, refl)
+
+-- what differs: SWP, a block length; and what does not
+differences : (differ disk (Disk 4096 true) ≡ true) × (differ (Tape 20) (Tape 0) ≡ true)
+    × (differ disk disk ≡ false) × (differ (Disk 4096 true) (Disk 4096 true) ≡ false) × (differ (Tape 20) (Tape 20) ≡ false)
+differences = (refl, refl, refl, refl, refl)
+
 -- a header, a descriptor, the first two bytes of a page, and a page that end early
 ends_early : (selected disk Six (0 ∷ 0 ∷ 0 ∷ []) ≡ Err EndsEarly) × (selected disk Six (0 ∷ 0 ∷ 0 ∷ 8 ∷ 0 ∷ []) ≡ Err EndsEarly)
     × (selected disk Six (0 ∷ 0 ∷ 0 ∷ 0 ∷ 0x0a ∷ []) ≡ Err EndsEarly) × (selected disk Six
@@ -110,16 +144,15 @@ unfolding selected after_header after_descriptor after_pages has_page after_page
 ends_early = (refl, refl, refl, refl)
 
 -- a descriptor length of 7, also where the list ends; a block length of 1024; another number of blocks; another bit of page 0Ah; a
--- page of another length; a tape's SWP, page 08h and block length
+-- page of another length; a tape's SWP and page 08h
 is_refused : (selected disk Six (0 ∷ 0 ∷ 0 ∷ 7 ∷ []) ≡ Err InvalidField)
     × (selected disk Six (0 ∷ 0 ∷ 0 ∷ 8 ∷ 0 ∷ 0 ∷ 0 ∷ 0 ∷ 0 ∷ 0 ∷ 0x04 ∷ 0 ∷ []) ≡ Err InvalidField)
     × (selected disk Six (0 ∷ 0 ∷ 0 ∷ 8 ∷ 0 ∷ 0 ∷ 0x0f ∷ 0xff ∷ 0 ∷ 0 ∷ 0x02 ∷ 0 ∷ []) ≡ Err InvalidField)
     × (selected disk Six (0 ∷ 0 ∷ 0 ∷ 0 ∷ control 0x0c) ≡ Err InvalidField)
-    × (selected disk Six (0 ∷ 0 ∷ 0 ∷ 0 ∷ 0x0a ∷ 0x02 ∷ 0 ∷ 0 ∷ []) ≡ Err InvalidField) × (selected Tape Six (0 ∷ 0 ∷ 0 ∷ 0 ∷ control 0x08) ≡ Err InvalidField)
-    × (selected Tape Six (0 ∷ 0 ∷ 0 ∷ 0 ∷ 0x08 ∷ 0x12 ∷ 0x04 ∷ replicate 17 0) ≡ Err InvalidField)
-    × (selected Tape Six (0 ∷ 0 ∷ 0 ∷ 8 ∷ 0 ∷ 0 ∷ 0 ∷ 0 ∷ 0 ∷ 0 ∷ 0x02 ∷ 0 ∷ []) ≡ Err InvalidField)
+    × (selected disk Six (0 ∷ 0 ∷ 0 ∷ 0 ∷ 0x0a ∷ 0x02 ∷ 0 ∷ 0 ∷ []) ≡ Err InvalidField) × (selected (Tape 0) Six (0 ∷ 0 ∷ 0 ∷ 0 ∷ control 0x08) ≡ Err InvalidField)
+    × (selected (Tape 0) Six (0 ∷ 0 ∷ 0 ∷ 0 ∷ 0x08 ∷ 0x12 ∷ 0x04 ∷ replicate 17 0) ≡ Err InvalidField)
 unfolding selected after_header after_descriptor after_pages has_page after_page is_page
-is_refused = (refl, refl, refl, refl, refl, refl, refl, refl)
+is_refused = (refl, refl, refl, refl, refl, refl, refl)
 
 -- the first fault counts: a page that is refused, then one that ends early; and the other way round
 first_fault : (selected disk Six (0 ∷ 0 ∷ 0 ∷ 0 ∷ control 0x0c ++ 0x0a ∷ []) ≡ Err InvalidField)
@@ -130,6 +163,6 @@ first_fault = (refl, refl)
 -- descriptors that change nothing: no number of blocks, all blocks, the disk's own; of a tape any bytes 1 to 4
 same_descriptors : (selected disk Six (0 ∷ 0 ∷ 0 ∷ 8 ∷ 0 ∷ 0 ∷ 0 ∷ 0 ∷ 0 ∷ 0 ∷ 0x02 ∷ 0 ∷ []) ≡ Ok (Disk 4096 false))
     × (selected disk Six (0 ∷ 0 ∷ 0 ∷ 8 ∷ 0xff ∷ 0xff ∷ 0xff ∷ 0xff ∷ 0 ∷ 0 ∷ 0x02 ∷ 0 ∷ []) ≡ Ok (Disk 4096 false))
-    × (selected Tape Six (0 ∷ 0 ∷ 0 ∷ 8 ∷ 0 ∷ 1 ∷ 2 ∷ 3 ∷ 4 ∷ 0 ∷ 0 ∷ 0 ∷ []) ≡ Ok Tape)
+    × (selected (Tape 0) Six (0 ∷ 0 ∷ 0 ∷ 8 ∷ 0 ∷ 1 ∷ 2 ∷ 3 ∷ 4 ∷ 0 ∷ 0 ∷ 0 ∷ []) ≡ Ok (Tape 0))
 unfolding selected after_header after_descriptor after_pages
 same_descriptors = (refl, refl, refl)

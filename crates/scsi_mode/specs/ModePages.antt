@@ -1,5 +1,6 @@
 -- Mode pages (SPC-4 "Mode parameters", SBC-3 "Mode parameters for direct access block devices").
-use Rattle.std.specs.Prelude.{ℕ, List, [], ◌∷◌, filter, replicate, Bool, true, false, ◌==◌, Option, Some, None, if◌then◌else◌}
+use Rattle.std.specs.Prelude.{ℕ, List, [], ◌∷◌, filter, replicate, Bool, true, false, not, ◌||◌, ◌==◌, Option, Some, None, if◌then◌else◌}
+use Rattle.media_block.specs.Blocks.{block_length as disk_block_length}
 use Rattle.scsi_cdb.specs.declared.mode.PageControl.{PageControl}
 use Rattle.scsi_cdb.specs.declared.mode.PageControl.TheVariants.{Current, Changeable, Default}
 use Rattle.scsi_mode.specs.declared.page.ModePage.{ModePage}
@@ -10,7 +11,20 @@ use Rattle.scsi_mode.specs.declared.parameters.Parameters.TheVariants.{Disk, Tap
 -- SPC-4 "Control mode page": SWP, which a tape never has set (profile)
 abbrev pub write_protect : Parameters → Bool
 write_protect (Disk block_count is_protected) = is_protected
-write_protect Tape = false
+write_protect (Tape block_length) = false
+
+-- SBC-3 "Short LBA mode parameter block descriptor", SSC-4 "Mode parameter block descriptor": BLOCK LENGTH
+abbrev pub block_length_of : Parameters → ℕ
+block_length_of (Disk block_count is_protected) = disk_block_length
+block_length_of (Tape block_length) = block_length
+
+-- SPC-4 "MODE SELECT (6) command": whether a parameter is another
+abbrev pub differ : Parameters → Parameters → Bool
+differ (Disk block_count is_protected) (Disk other_count is_other_protected) =
+    not (block_count == other_count) || (if is_protected then not is_other_protected else is_other_protected)
+differ (Tape block_length) (Tape other_length) = not (block_length == other_length)
+differ (Disk block_count is_protected) (Tape block_length) = true
+differ (Tape block_length) (Disk block_count is_protected) = true
 
 -- SPC-4 "Mode page and subpage codes", SBC-3 "Mode page codes"
 abbrev pub page_code : ModePage → ℕ
@@ -20,7 +34,7 @@ page_code Control = 0x0a
 -- profile: the pages that a unit has, in rising order of their codes
 abbrev pub all_pages : Parameters → List ModePage
 all_pages (Disk block_count is_protected) = Caching ∷ Control ∷ []
-all_pages Tape = Control ∷ []
+all_pages (Tape block_length) = Control ∷ []
 
 abbrev pub one_page : List ModePage → Option (List ModePage)
 one_page [] = None
@@ -50,7 +64,7 @@ control_page is_protected = 0x0a ∷ 0x0a ∷ 0 ∷ 0 ∷ (if is_protected then 
 abbrev pub shown_swp : PageControl → Parameters → Bool
 shown_swp Current parameters = write_protect parameters
 shown_swp Changeable (Disk block_count is_protected) = true
-shown_swp Changeable Tape = false
+shown_swp Changeable (Tape block_length) = false
 shown_swp Default parameters = false
 
 -- a page with the values that PC asks for

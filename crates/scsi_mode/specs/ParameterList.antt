@@ -8,7 +8,7 @@ use Rattle.scsi_cdb.specs.declared.mode.PageControl.TheVariants.{Current}
 use Rattle.scsi_cdb.specs.declared.mode.ParameterHeader.{ParameterHeader}
 use Rattle.scsi_cdb.specs.declared.mode.ParameterHeader.TheVariants.{Six, Ten}
 use Rattle.scsi_mode.specs.ModePages.{caching_page, control_page}
-use Rattle.scsi_mode.specs.Descriptor.{is_descriptor}
+use Rattle.scsi_mode.specs.Descriptor.{described}
 use Rattle.scsi_mode.specs.declared.list_fault.ListFault.{ListFault}
 use Rattle.scsi_mode.specs.declared.list_fault.ListFault.TheVariants.{EndsEarly, InvalidField}
 use Rattle.scsi_mode.specs.declared.parameters.Parameters.{Parameters}
@@ -29,7 +29,7 @@ after_page (Disk block_count is_protected) page =
     if is_page page (caching_page Current) then Ok (Disk block_count is_protected)
     else if is_page page (control_page false) then Ok (Disk block_count false)
     else if is_page page (control_page true) then Ok (Disk block_count true) else Err InvalidField
-after_page Tape page = if is_page page (control_page false) then Ok Tape else Err InvalidField
+after_page (Tape block_length) page = if is_page page (control_page false) then Ok (Tape block_length) else Err InvalidField
 
 -- SPC-4 "Mode page format": byte 1 is the length of what follows in the page
 abbrev pub page_length : List ℕ → ℕ
@@ -70,11 +70,15 @@ abbrev pub descriptor_length : ParameterHeader → List ℕ → ℕ
 descriptor_length Six header = slice_index header 3
 descriptor_length Ten header = big_from 6 2 header
 
+-- own: pages behind a block descriptor that is taken
+abbrev pub pages_behind : Option Parameters → List ℕ → Result Parameters ListFault
+pages_behind None bytes = Err InvalidField
+pages_behind (Some parameters) bytes = after_pages parameters bytes
+
 -- own: a block descriptor, and then pages
 unfoldable pub after_descriptor : Parameters → List ℕ → Result Parameters ListFault
 after_descriptor parameters bytes =
-    if nat_lt (length bytes) 8 then Err EndsEarly else if is_descriptor parameters bytes
-    then after_pages parameters (drop 8 bytes) else Err InvalidField
+    if nat_lt (length bytes) 8 then Err EndsEarly else pages_behind (described parameters bytes) (drop 8 bytes)
 
 -- own: behind a header whose descriptor length is this
 unfoldable pub after_header : Parameters → ℕ → List ℕ → Result Parameters ListFault

@@ -26,7 +26,7 @@ fn asked_pages(code: u8, parameters: Parameters) -> Option<&'static [ModePage]>
         (0x08, Parameters::Disk { .. }) => Some(&[ModePage::Caching]),
         (0x0a, _) => Some(&[ModePage::Control]),
         (0x3f, Parameters::Disk { .. }) => Some(&[ModePage::Caching, ModePage::Control]),
-        (0x3f, Parameters::Tape) => Some(&[ModePage::Control]),
+        (0x3f, Parameters::Tape { .. }) => Some(&[ModePage::Control]),
         _ => None,
     }
 }

@@ -3,7 +3,7 @@
 ghost use Rattle.std.specs.Prelude.{◌≡◌, ◌<◌, ◌≤◌, length, IfSome};
 ghost use Rattle.scsi_mode.specs.ParameterList.{is_page, after_page, page_if, after_pages, header_length, descriptor_length, after_descriptor, after_header, selected};
 
-use crate::descriptor::is_descriptor;
+use crate::descriptor::described;
 use crate::list_fault::ListFault;
 use crate::page::{caching_page, control_page};
 use crate::parameters::Parameters;
@@ -50,7 +50,7 @@ fn after_page(parameters: Parameters, page: &[u8]) -> Result<Parameters, ListFau
                 write_protect,
             })
         }
-        Parameters::Tape if is_page(page, &control_page(false)) => Ok(parameters),
+        Parameters::Tape { .. } if is_page(page, &control_page(false)) => Ok(parameters),
         _ => Err(ListFault::InvalidField),
     }
 }
@@ -93,11 +93,11 @@ fn after_descriptor(parameters: Parameters, list: &[u8]) -> Result<Parameters, L
     ensures { result ≡ after_descriptor parameters list.now }
 {
     if list.len() < DESCRIPTOR_LENGTH {
-        Err(ListFault::EndsEarly)
-    } else if is_descriptor(parameters, list) {
-        after_pages(parameters, &list[DESCRIPTOR_LENGTH..])
-    } else {
-        Err(ListFault::InvalidField)
+        return Err(ListFault::EndsEarly);
+    }
+    match described(parameters, list) {
+        Some(parameters) => after_pages(parameters, &list[DESCRIPTOR_LENGTH..]),
+        None => Err(ListFault::InvalidField),
     }
 }
 
@@ -119,8 +119,8 @@ fn after_header(
 
 /// The parameters behind a MODE SELECT with this parameter list, or why it is refused and nothing changes
 /// (SPC-4 "MODE SELECT (6) command", "MODE SELECT (10) command"). The parts of the list are judged in turn:
-/// one may end early, and one may change anything but a disk's SWP; the first of these counts. An empty
-/// list changes nothing.
+/// one may end early, and one may change anything but a disk's SWP and a tape's block length; the first of
+/// these counts. An empty list changes nothing.
 #[tactic(auto, unfolding(crate::specs::ParameterList::selected))]
 pub fn select(
     parameters: Parameters,

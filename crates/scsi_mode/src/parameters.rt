@@ -1,8 +1,10 @@
 //! What the mode parameters of a unit tell.
 
 ghost use Rattle.std.specs.Prelude.{◌≡◌};
-ghost use Rattle.scsi_mode.specs.ModePages.{write_protect};
+ghost use Rattle.scsi_mode.specs.ModePages.{write_protect, block_length_of, differ};
 ghost use Rattle.scsi_mode.specs.ModeData.{device_parameter};
+
+use media_block::BLOCK_LENGTH;
 
 /// What the mode parameters of a unit tell.
 #[derive(Clone, Copy, Debug, PartialEq, Eq)]
@@ -12,7 +14,11 @@ pub enum Parameters {
         /// SWP: writes are refused (SPC-4 "Control mode page").
         write_protect: bool,
     },
-    Tape,
+    Tape {
+        /// The bytes of each block of a READ or WRITE with FIXED, 0 where there is none (SSC-4 "Mode parameter
+        /// block descriptor").
+        block_length: u32,
+    },
 }
 
 impl Parameters {
@@ -22,8 +28,25 @@ impl Parameters {
     {
         match self {
             Parameters::Disk { write_protect, .. } => write_protect,
-            Parameters::Tape => false,
+            Parameters::Tape { .. } => false,
         }
+    }
+
+    /// BLOCK LENGTH, in bytes.
+    pub fn block_length(self) -> u32
+        ensures { result ≡ block_length_of self }
+    {
+        match self {
+            Parameters::Disk { .. } => BLOCK_LENGTH as u32,
+            Parameters::Tape { block_length } => block_length,
+        }
+    }
+
+    /// Whether a parameter is another.
+    pub fn differs(self, other: Parameters) -> bool
+        ensures { result ≡ differ self other }
+    {
+        self != other
     }
 
     /// DEVICE-SPECIFIC PARAMETER, in the header: DPOFUA (SBC-3 "Mode parameter header") or buffered mode 1

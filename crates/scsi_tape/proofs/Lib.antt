@@ -4,4 +4,7 @@ pub mod Shown
 pub mod MarksDone
 pub mod WriteDone
 pub mod ReadDone
+pub mod FixedShown
+pub mod FixedReadDone
+pub mod FixedWriteDone
 pub mod Trusted

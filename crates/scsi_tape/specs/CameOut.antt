@@ -6,8 +6,8 @@ use Rattle.media_tape.specs.Tape.{TapeState, items}
 use Rattle.scsi_sense.specs.Done.{Outcome, good, check_condition}
 use Rattle.scsi_cdb.specs.Record.{most_record}
 use Rattle.scsi_cdb.specs.declared.tape.TapeCommand.{TapeCommand}
-use Rattle.scsi_cdb.specs.declared.tape.TapeCommand.TheVariants.{Rewind, ReadBlockLimits, Read, Write, WriteFilemarks, Space, SpaceToEndOfData}
-use Rattle.scsi_cdb.specs.declared.tape.TapeCommand.TheVariants.{Erase, LoadUnload, Locate, ReadPosition}
+use Rattle.scsi_cdb.specs.declared.tape.TapeCommand.TheVariants.{Rewind, ReadBlockLimits, Read, ReadFixed, Write, WriteFixed, WriteFilemarks, Space}
+use Rattle.scsi_cdb.specs.declared.tape.TapeCommand.TheVariants.{SpaceToEndOfData, Erase, LoadUnload, Locate, ReadPosition}
 use Rattle.scsi_tape.specs.TapeSense.{early_warning, unrecovered_read, write_error}
 use Rattle.scsi_tape.specs.State.{TapeUnitState}
 use Rattle.scsi_tape.specs.Commands.{tape_outcome, tape_left}
@@ -62,14 +62,17 @@ reading = record { goes_by = true; reads = true; moves = true; writes = false; s
 abbrev pub can_fit : ℕ → TapeState → Bool
 can_fit more tape = not tape.honest || nat_le (size_of tape.before + more) tape.capacity
 
--- own: a READ and a WRITE of no byte do nothing with it, a LOCATE at the end or past it does not read it, a READ POSITION
+-- own: a READ and a WRITE of nothing do nothing with it, a LOCATE at the end or past it does not read it, a READ POSITION
 -- and a SPACE to the end of data never do, and what is refused (0D/0002) does not write
 abbrev pub tape_touch : TapeCommand → TapeState → TapeTouch
 tape_touch Rewind tape = no_touch
 tape_touch ReadBlockLimits tape = no_touch
-tape_touch (Read asked suppressed) tape = if nat_lt 0 asked then reading else no_touch
+tape_touch (Read asked incorrect) tape = if nat_lt 0 asked then reading else no_touch
+tape_touch (ReadFixed blocks) tape = if nat_lt 0 blocks.count then reading else no_touch
 tape_touch (Write count) tape =
     if nat_lt 0 count then record no_touch { goes_by = true; writes = can_fit (count + 8) tape } else no_touch
+tape_touch (WriteFixed blocks) tape =
+    if nat_lt 0 blocks.count then record no_touch { goes_by = true; writes = can_fit (blocks.block_length + 8) tape } else no_touch
 tape_touch (WriteFilemarks count) tape =
     if count == 0 then record no_touch { syncs = true }
     else record no_touch { goes_by = true; writes = can_fit (8 * count) tape; syncs = can_fit (8 * count) tape }

@@ -1,10 +1,16 @@
 -- What commands do to a tape, and what is told of them (SSC-4 "Command descriptions").
-use Rattle.std.specs.Prelude.{ℕ, ◌+◌, ◌-◌, ◌%◌, ◌^◌, ◌==◌, ◌||◌, min, List, [], ◌∷◌, ◌++◌, length, take, replicate, Bool}
+use Rattle.std.specs.Prelude.{ℕ, ◌+◌, ◌-◌, ◌*◌, ◌%◌, ◌^◌, ◌==◌, nat_lt, not, min, List, [], ◌∷◌, ◌++◌, length, take, replicate, Bool, false}
 use Rattle.std.specs.Prelude.{Some, if◌then◌else◌}
 use Rattle.std.specs.Int.{w32, to_be_bytes}
 use Rattle.media_tape.specs.Tape.{TapeState, located_at, located_told, read_told, first_data, tape_read, write_told, tape_written}
 use Rattle.media_tape.specs.Tape.{marks_told, tape_marked, erased, is_early}
+use Rattle.media_tape.specs.Fixed.{fixed_told, fixed_data, tape_read_fixed, fixed_written_told, tape_written_fixed}
 use Rattle.media_tape.specs.Space.{spaced_told, tape_spaced, tape_ended}
+use Rattle.media_tape.specs.declared.outcome.FixedEnd.{FixedEnd}
+use Rattle.media_tape.specs.declared.outcome.FixedEnd.TheVariants as ended
+use Rattle.media_tape.specs.declared.outcome.FixedRead.{FixedRead}
+use Rattle.media_tape.specs.declared.outcome.FixedWritten.{FixedWritten}
+use Rattle.media_tape.specs.declared.outcome.FixedWritten.TheVariants as fixed
 use Rattle.media_tape.specs.declared.outcome.Located.{Located}
 use Rattle.media_tape.specs.declared.outcome.Located.TheVariants as located
 use Rattle.media_tape.specs.declared.outcome.Passed.{Passed}
@@ -20,12 +26,15 @@ use Rattle.media_tape.specs.declared.outcome.Direction.TheVariants as direction
 use Rattle.scsi_sense.specs.Done.{Outcome, good, good_with, good_taking, check_condition}
 use Rattle.scsi_sense.specs.declared.sense.Sense.{Sense}
 use Rattle.scsi_sense.specs.declared.done.Status.TheVariants.{CheckCondition}
+use Rattle.scsi_cdb.specs.FixedBlocks.{Blocks, bytes_of}
 use Rattle.scsi_cdb.specs.declared.tape.Distance.{Distance}
+use Rattle.scsi_cdb.specs.declared.tape.IncorrectLength.{IncorrectLength}
+use Rattle.scsi_cdb.specs.declared.tape.IncorrectLength.TheVariants.{Told, ToldIfLonger, Suppressed}
 use Rattle.scsi_cdb.specs.declared.tape.SpaceCode.{SpaceCode}
 use Rattle.scsi_cdb.specs.declared.tape.SpaceCode.TheVariants.{LogicalBlocks, Filemarks}
 use Rattle.scsi_cdb.specs.declared.tape.TapeCommand.{TapeCommand}
-use Rattle.scsi_cdb.specs.declared.tape.TapeCommand.TheVariants.{Rewind, ReadBlockLimits, Read, Write, WriteFilemarks, Space, SpaceToEndOfData}
-use Rattle.scsi_cdb.specs.declared.tape.TapeCommand.TheVariants.{Erase, LoadUnload, Locate, ReadPosition}
+use Rattle.scsi_cdb.specs.declared.tape.TapeCommand.TheVariants.{Rewind, ReadBlockLimits, Read, ReadFixed, Write, WriteFixed, WriteFilemarks, Space}
+use Rattle.scsi_cdb.specs.declared.tape.TapeCommand.TheVariants.{SpaceToEndOfData, Erase, LoadUnload, Locate, ReadPosition}
 use Rattle.scsi_tape.specs.TapeSense.{filemark, end_of_data, beginning, early_warning, overflow, incorrect_length, no_such_object}
 
 -- ---- READ (6), READ POSITION, READ BLOCK LIMITS
@@ -38,18 +47,35 @@ length_difference asked actual = (asked + (2 ^ 32 - actual)) % 2 ^ 32
 abbrev pub given_with : Sense → List ℕ → Outcome
 given_with sense bytes = record { status = CheckCondition; sense = Some sense; given = bytes; moved = length bytes }
 
--- a record of this length, of which these bytes are given: another length than was asked for is told, unless SILI is set
-abbrev pub record_outcome : ℕ → Bool → ℕ → List ℕ → Outcome
-record_outcome asked suppressed actual bytes =
-    if suppressed || (actual == asked) then good_with bytes
-    else given_with (incorrect_length (length_difference asked actual)) bytes
+-- SSC-4 "READ (6) command", SILI: whether it is told that a record has another length than was asked for
+abbrev pub is_told : IncorrectLength → ℕ → ℕ → Bool
+is_told Told asked actual = not (actual == asked)
+is_told ToldIfLonger asked actual = nat_lt asked actual
+is_told Suppressed asked actual = false
+
+-- a record of this length, of which these bytes are given
+abbrev pub record_outcome : ℕ → IncorrectLength → ℕ → List ℕ → Outcome
+record_outcome asked incorrect actual bytes =
+    if is_told incorrect asked actual then given_with (incorrect_length (length_difference asked actual)) bytes
+    else good_with bytes
 
 -- SSC-4 "READ (6) command": by what was passed, with its data
-abbrev pub read_outcome : ℕ → Bool → Passed → List ℕ → Outcome
-read_outcome asked suppressed passed.Nothing bytes = good
-read_outcome asked suppressed (passed.Record actual) bytes = record_outcome asked suppressed actual (take asked bytes)
-read_outcome asked suppressed passed.Filemark bytes = check_condition (filemark asked)
-read_outcome asked suppressed passed.EndOfData bytes = check_condition (end_of_data asked)
+abbrev pub read_outcome : ℕ → IncorrectLength → Passed → List ℕ → Outcome
+read_outcome asked incorrect passed.Nothing bytes = good
+read_outcome asked incorrect (passed.Record actual) bytes = record_outcome asked incorrect actual (take asked bytes)
+read_outcome asked incorrect passed.Filemark bytes = check_condition (filemark asked)
+read_outcome asked incorrect passed.EndOfData bytes = check_condition (end_of_data asked)
+
+-- SSC-4 "READ (6) command", FIXED: what ended it before its last block is told with how many blocks were not given
+abbrev pub fixed_ended : ℕ → FixedEnd → List ℕ → Outcome
+fixed_ended left ended.Whole bytes = good_with bytes
+fixed_ended left ended.Filemark bytes = given_with (filemark left) bytes
+fixed_ended left ended.EndOfData bytes = given_with (end_of_data left) bytes
+fixed_ended left (ended.Length actual) bytes = given_with (incorrect_length left) bytes
+
+-- of so many blocks, of which these were given
+abbrev pub fixed_outcome : ℕ → FixedRead → List ℕ → Outcome
+fixed_outcome count read bytes = fixed_ended (count - read.given) read.ended bytes
 
 -- SSC-4 "READ BLOCK LIMITS command": a record has 1 to 1048576 bytes, whatever the granularity
 abbrev pub block_limits : List ℕ
@@ -75,6 +101,13 @@ abbrev pub write_outcome : ℕ → Written → Outcome
 write_outcome count written.Whole = good_taking count
 write_outcome count written.Early = record (check_condition early_warning) { moved = count }
 write_outcome count written.Refused = check_condition (overflow count)
+
+-- SSC-4 "WRITE (6) command", FIXED: where not all fit, with how many were not written
+abbrev pub fixed_write_outcome : Blocks → FixedWritten → Outcome
+fixed_write_outcome blocks fixed.Whole = good_taking (bytes_of blocks)
+fixed_write_outcome blocks fixed.Early = record (check_condition early_warning) { moved = bytes_of blocks }
+fixed_write_outcome blocks (fixed.Part some) =
+    record (check_condition (overflow (blocks.count - some))) { moved = some * blocks.block_length }
 
 -- SSC-4 "WRITE FILEMARKS (6) command"
 abbrev pub marks_outcome : ℕ → Written → Outcome
@@ -109,8 +142,12 @@ locate_outcome located.EndOfData = check_condition no_such_object
 abbrev pub tape_outcome : TapeCommand → List ℕ → TapeState → Outcome
 tape_outcome Rewind bytes tape = good
 tape_outcome ReadBlockLimits bytes tape = good_with block_limits
-tape_outcome (Read asked suppressed) bytes tape = read_outcome asked suppressed (read_told asked tape) (first_data tape.after)
+tape_outcome (Read asked incorrect) bytes tape = read_outcome asked incorrect (read_told asked tape) (first_data tape.after)
+tape_outcome (ReadFixed blocks) bytes tape =
+    fixed_outcome blocks.count (fixed_told blocks.count blocks.block_length tape) (fixed_data blocks.count blocks.block_length tape)
 tape_outcome (Write count) bytes tape = write_outcome count (write_told (take count bytes) tape)
+tape_outcome (WriteFixed blocks) bytes tape =
+    fixed_write_outcome blocks (fixed_written_told blocks.count blocks.block_length tape)
 tape_outcome (WriteFilemarks count) bytes tape = marks_outcome count (marks_told count tape)
 tape_outcome (Space code distance) bytes tape = space_outcome (spaced_told (toward distance) (over_of code) distance.count tape)
 tape_outcome SpaceToEndOfData bytes tape = good
@@ -123,8 +160,11 @@ tape_outcome ReadPosition bytes tape = good_with (position_data (length tape.bef
 abbrev pub tape_left : TapeCommand → List ℕ → TapeState → TapeState
 tape_left Rewind bytes tape = located_at 0 tape
 tape_left ReadBlockLimits bytes tape = tape
-tape_left (Read asked suppressed) bytes tape = tape_read asked tape
+tape_left (Read asked incorrect) bytes tape = tape_read asked tape
+tape_left (ReadFixed blocks) bytes tape = tape_read_fixed blocks.count blocks.block_length tape
 tape_left (Write count) bytes tape = tape_written (take count bytes) tape
+tape_left (WriteFixed blocks) bytes tape =
+    tape_written_fixed blocks.count blocks.block_length (take (bytes_of blocks) bytes) tape
 tape_left (WriteFilemarks count) bytes tape = tape_marked count tape
 tape_left (Space code distance) bytes tape = tape_spaced (toward distance) (over_of code) distance.count tape
 tape_left SpaceToEndOfData bytes tape = tape_ended tape
@@ -139,8 +179,10 @@ tape_left ReadPosition bytes tape = tape
 abbrev pub bytes_needed : TapeCommand → ℕ
 bytes_needed Rewind = 0
 bytes_needed ReadBlockLimits = 0
-bytes_needed (Read asked suppressed) = 0
+bytes_needed (Read asked incorrect) = 0
+bytes_needed (ReadFixed blocks) = 0
 bytes_needed (Write count) = count
+bytes_needed (WriteFixed blocks) = bytes_of blocks
 bytes_needed (WriteFilemarks count) = 0
 bytes_needed (Space code distance) = 0
 bytes_needed SpaceToEndOfData = 0

@@ -3,10 +3,13 @@ use Rattle.std.specs.Prelude.{◌≡◌, ℕ, List, [], ◌∷◌, true, false, 
 use Rattle.media_tape.specs.Items.{Item, Record, Filemark}
 use Rattle.media_tape.specs.Tape.{TapeState}
 use Rattle.scsi_sense.specs.Done.{good, good_with, good_taking, check_condition}
+use Rattle.scsi_cdb.specs.FixedBlocks.{Blocks}
+use Rattle.scsi_cdb.specs.declared.tape.IncorrectLength.TheVariants.{Told, ToldIfLonger, Suppressed}
 use Rattle.scsi_cdb.specs.declared.tape.SpaceCode.TheVariants.{LogicalBlocks}
-use Rattle.scsi_cdb.specs.declared.tape.TapeCommand.TheVariants.{Read, Write, WriteFilemarks, Space, Locate, ReadPosition}
+use Rattle.scsi_cdb.specs.declared.tape.TapeCommand.TheVariants.{Read, ReadFixed, Write, WriteFixed, WriteFilemarks, Space, Locate, ReadPosition}
 use Rattle.scsi_tape.specs.TapeSense.{filemark, end_of_data, beginning, early_warning, overflow, incorrect_length}
-use Rattle.scsi_tape.specs.Commands.{given_with, tape_outcome, position_data}
+use Rattle.scsi_tape.specs.State.{opened_unit}
+use Rattle.scsi_tape.specs.Commands.{given_with, tape_outcome, tape_left, position_data}
 use Rattle.scsi_tape.specs.CameOut.{TapeCame, Dishonest, WriteFailed, tape_touch, is_tape_possible, tape_after, tape_told}
 
 -- a tape of 100 bytes with the early warning mark at 40, and these records and filemarks
@@ -29,16 +32,16 @@ abbrev five : List ℕ
 five = 1 ∷ 2 ∷ 3 ∷ 4 ∷ 5 ∷ []
 
 -- READ of 8 bytes, of 5, of 4, and of 4 with SILI, where a record of 5 is next
-read_record : (tape_outcome (Read 8 false) [] (tape_of [] (Record five ∷ [])) ≡ given_with (incorrect_length 3) five)
-    × (tape_outcome (Read 5 false) [] (tape_of [] (Record five ∷ [])) ≡ good_with five)
-    × (tape_outcome (Read 4 false) [] (tape_of [] (Record five ∷ [])) ≡ given_with (incorrect_length 0xffffffff) (1 ∷ 2 ∷ 3 ∷ 4 ∷ []))
-    × (tape_outcome (Read 4 true) [] (tape_of [] (Record five ∷ [])) ≡ good_with (1 ∷ 2 ∷ 3 ∷ 4 ∷ []))
+read_record : (tape_outcome (Read 8 Told) [] (tape_of [] (Record five ∷ [])) ≡ given_with (incorrect_length 3) five)
+    × (tape_outcome (Read 5 Told) [] (tape_of [] (Record five ∷ [])) ≡ good_with five)
+    × (tape_outcome (Read 4 Told) [] (tape_of [] (Record five ∷ [])) ≡ given_with (incorrect_length 0xffffffff) (1 ∷ 2 ∷ 3 ∷ 4 ∷ []))
+    × (tape_outcome (Read 4 Suppressed) [] (tape_of [] (Record five ∷ [])) ≡ good_with (1 ∷ 2 ∷ 3 ∷ 4 ∷ []))
 read_record = (refl, refl, refl, refl)
 
 -- READ of 8 bytes where a filemark is next, and at the end; of none
-read_other : (tape_outcome (Read 8 false) [] (tape_of [] (Filemark ∷ [])) ≡ check_condition (filemark 8))
-    × (tape_outcome (Read 8 false) [] (tape_of [] []) ≡ check_condition (end_of_data 8))
-    × (tape_outcome (Read 0 false) [] (tape_of [] (Filemark ∷ [])) ≡ good)
+read_other : (tape_outcome (Read 8 Told) [] (tape_of [] (Filemark ∷ [])) ≡ check_condition (filemark 8))
+    × (tape_outcome (Read 8 Told) [] (tape_of [] []) ≡ check_condition (end_of_data 8))
+    × (tape_outcome (Read 0 Told) [] (tape_of [] (Filemark ∷ [])) ≡ good)
 read_other = (refl, refl, refl)
 
 abbrev twenty : List ℕ
@@ -49,6 +52,43 @@ write : (tape_outcome (Write 20) twenty (tape_of [] []) ≡ good_taking 20)
     × (tape_outcome (Write 20) twenty (tape_of (Record twenty ∷ []) []) ≡ record (check_condition early_warning) { moved = 20 })
     × (tape_outcome (Write 20) twenty (tape_of (replicate 3 (Record twenty)) []) ≡ check_condition (overflow 20))
 write = (refl, refl, refl)
+
+-- READ of 8 bytes with SILI, where there are fixed blocks: a record of 20 bytes is told, one of 5 is not
+read_longer : (tape_outcome (Read 8 ToldIfLonger) [] (tape_of [] (Record twenty ∷ []))
+    ≡ given_with (incorrect_length 0xfffffff4) (replicate 8 7))
+    × (tape_outcome (Read 8 ToldIfLonger) [] (tape_of [] (Record five ∷ [])) ≡ good_with five)
+read_longer = (refl, refl)
+
+-- so many blocks of 20 bytes
+abbrev blocks_of_20 : ℕ → Blocks
+blocks_of_20 count = record { count = count; block_length = 20 }
+
+-- READ of two blocks where three are next, where one is, then a filemark or the end, and where a record of 5 bytes is
+read_blocks : (tape_outcome (ReadFixed (blocks_of_20 2)) [] (tape_of [] (replicate 3 (Record twenty))) ≡ good_with (replicate 40 7))
+    × (tape_outcome (ReadFixed (blocks_of_20 2)) [] (tape_of [] (Record twenty ∷ Filemark ∷ [])) ≡ given_with (filemark 1) twenty)
+    × (tape_outcome (ReadFixed (blocks_of_20 2)) [] (tape_of [] (Record twenty ∷ [])) ≡ given_with (end_of_data 1) twenty)
+    × (tape_outcome (ReadFixed (blocks_of_20 2)) [] (tape_of [] (Record five ∷ [])) ≡ check_condition (incorrect_length 2))
+    × (tape_outcome (ReadFixed (blocks_of_20 0)) [] (tape_of [] []) ≡ good)
+read_blocks = (refl, refl, refl, refl, refl)
+
+-- and the record of 5 bytes is passed
+passes_another : tape_left (ReadFixed (blocks_of_20 2)) [] (tape_of [] (Record five ∷ Record twenty ∷ []))
+    ≡ tape_of (Record five ∷ []) (Record twenty ∷ [])
+passes_another = refl
+
+-- WRITE of one block, of two, past the early warning mark, of four, of which three fit, and of one where none fits
+write_blocks : (tape_outcome (WriteFixed (blocks_of_20 1)) twenty (tape_of [] []) ≡ good_taking 20)
+    × (tape_outcome (WriteFixed (blocks_of_20 2)) (replicate 40 7) (tape_of [] []) ≡ record (check_condition early_warning) { moved = 40 })
+    × (tape_outcome (WriteFixed (blocks_of_20 4)) (replicate 80 7) (tape_of [] []) ≡ record (check_condition (overflow 1)) { moved = 60 })
+    × (tape_outcome (WriteFixed (blocks_of_20 1)) twenty (tape_of (replicate 3 (Record twenty)) []) ≡ check_condition (overflow 1))
+write_blocks = (refl, refl, refl, refl)
+
+-- the three that fit are written, and where none fits nothing changes
+writes_those_that_fit : (tape_left (WriteFixed (blocks_of_20 4)) (replicate 80 7) (tape_of [] (Filemark ∷ []))
+    ≡ record (tape_of (replicate 3 (Record twenty)) []) { synced = false })
+    × (tape_left (WriteFixed (blocks_of_20 1)) twenty (tape_of (replicate 3 (Record twenty)) (Filemark ∷ []))
+    ≡ tape_of (replicate 3 (Record twenty)) (Filemark ∷ []))
+writes_those_that_fit = (refl, refl)
 
 -- SPACE over -5 logical blocks behind three
 space_back : tape_outcome (Space LogicalBlocks (record { is_backward = true; count = 5 })) [] (tape_of (replicate 3 (Record twenty)) [])
@@ -67,7 +107,9 @@ touched : ((tape_touch (Locate 0) (tape_of [] (Record five ∷ []))).reads ≡ t
     × ((tape_touch ReadPosition (tape_of [] [])).reads ≡ false)
     × ((tape_touch (Write 20) (tape_of [] [])).writes ≡ true)
     × ((tape_touch (Write 20) (tape_of (replicate 3 (Record twenty)) [])).writes ≡ false)
-touched = (refl, refl, refl, refl, refl)
+    × ((tape_touch (WriteFixed (blocks_of_20 4)) (tape_of [] [])).writes ≡ true)
+    × ((tape_touch (WriteFixed (blocks_of_20 4)) (tape_of (replicate 3 (Record twenty)) [])).writes ≡ false)
+touched = (refl, refl, refl, refl, refl, refl, refl)
 
 -- a store that can lie makes a tape appear with a filemark next, where a record is: a READ tells of the filemark. WRITE
 -- FILEMARKS and READ POSITION are not misled where it was honest before
@@ -79,15 +121,15 @@ mark_shown =
     Dishonest (record { before = []; after = Filemark ∷ []; early_mark = 40; capacity = 100 })
     (record { before = Record five ∷ []; after = []; tail = [] })
 
-is_misled : (is_tape_possible mark_shown (Read 8 false) [] liar ≡ true)
-    × (tape_told mark_shown (Read 8 false) [] liar ≡ check_condition (filemark 8))
+is_misled : (is_tape_possible mark_shown (Read 8 Told) [] liar ≡ true)
+    × (tape_told mark_shown (Read 8 Told) [] liar ≡ check_condition (filemark 8))
     × (is_tape_possible mark_shown (WriteFilemarks 1) [] liar ≡ false)
     × (is_tape_possible mark_shown ReadPosition [] liar ≡ false)
 is_misled = (refl, refl, refl, refl)
 
 -- a sync that failed loses nothing, and a write what stood behind the position
-failed : (tape_after (WriteFailed (record { before = []; after = []; tail = 1 ∷ [] })) (WriteFilemarks 0) [] (record { tape = liar; is_working = true })
-    ≡ record { tape = record liar { failures = 1 }; is_working = false })
-    × (tape_after (WriteFailed (record { before = []; after = []; tail = 1 ∷ [] })) (Write 20) twenty (record { tape = liar; is_working = true })
-    ≡ record { tape = record liar { after = []; tail = 1 ∷ []; synced = false; failures = 1 }; is_working = false })
+failed : (tape_after (WriteFailed (record { before = []; after = []; tail = 1 ∷ [] })) (WriteFilemarks 0) [] (opened_unit liar)
+    ≡ record { tape = record liar { failures = 1 }; is_working = false; block_length = 0 })
+    × (tape_after (WriteFailed (record { before = []; after = []; tail = 1 ∷ [] })) (Write 20) twenty (opened_unit liar)
+    ≡ record { tape = record liar { after = []; tail = 1 ∷ []; synced = false; failures = 1 }; is_working = false; block_length = 0 })
 failed = (refl, refl)

@@ -2,9 +2,11 @@ pub use Rattle.media_store.specs.Failures
 pub use Rattle.media_tape.specs.Items
 pub use Rattle.media_tape.specs.Tape
 pub use Rattle.media_tape.specs.Space
+pub use Rattle.media_tape.specs.Fixed
 pub use Rattle.scsi_sense.specs.Sense
 pub use Rattle.scsi_sense.specs.Done
 pub use Rattle.scsi_cdb.specs.Record
+pub use Rattle.scsi_cdb.specs.FixedBlocks
 pub mod TapeSense
 pub mod State
 pub mod Commands

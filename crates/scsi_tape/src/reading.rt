@@ -4,17 +4,18 @@ ghost use Rattle.std.specs.Prelude.{◌≡◌, ◌≤◌, ℕ, List, [], length,
 ghost use Rattle.scsi_sense.specs.Given.{headroom};
 ghost use Rattle.scsi_sense.specs.Done.{good_with};
 ghost use Rattle.scsi_cdb.specs.Record.{most_record};
-ghost use Rattle.scsi_cdb.specs.declared.tape.TapeCommand.TheVariants.{ReadBlockLimits, Read, ReadPosition};
-ghost use Rattle.scsi_tape.specs.Commands.{position_data, record_outcome, read_outcome};
+ghost use Rattle.scsi_cdb.specs.declared.tape.TapeCommand.TheVariants.{ReadBlockLimits, Read, ReadFixed, ReadPosition};
+ghost use Rattle.scsi_tape.specs.Commands.{position_data, is_told, given_with, record_outcome, read_outcome, fixed_outcome};
 ghost use Rattle.scsi_tape.specs.CameOut.{IsTapeDone};
 
-use crate::sense::{end_of_data, filemark, incorrect_length, read_failed};
+use crate::sense::{self, end_of_data, filemark, read_failed};
 use crate::tape_unit::TapeUnit;
 use bytes::BytesMut;
 use media_store::Store;
-use media_tape::Passed;
+use media_tape::{FixedEnd, FixedRead, Passed};
 use out_of_memory::Memory;
-use scsi_sense::{Done, Given, HEADROOM, Status, TAILROOM};
+use scsi_cdb::{FixedBlocks, IncorrectLength};
+use scsi_sense::{Done, Given, HEADROOM, Sense, Status, TAILROOM};
 use std::alloc::Global;
 use std::mem;
 
@@ -53,43 +54,86 @@ fn good_with_front(alloc: Global, buffer: &mut BytesMut, bytes: &[u8]) -> Result
     Ok(Done::good_with(Given::behind_room(filled)))
 }
 
-/// What is told of a record of this length, of which the buffer has what was asked for behind room for a header.
-fn record_read(
-    alloc: Global,
-    buffer: &mut BytesMut,
-    asked: u32,
-    suppressed: bool,
-    actual: u32,
-) -> Done
-    requires { length (drop headroom buffer.old.items) ≤ most_record }
-    ensures told { result ≡ record_outcome asked suppressed actual (drop headroom buffer.old.items) }
-    ensures given { length result.given ≤ most_record }
+/// Whether it is told that a record has another length than was asked for.
+fn is_told(incorrect_length: IncorrectLength, asked: u32, actual: u32) -> bool
+    ensures { result ≡ is_told incorrect_length asked actual }
 {
-    let given = Given::behind_room(mem::replace(buffer, BytesMut::new(alloc)));
-    if suppressed || actual == asked {
-        return Done::good_with(given);
+    match incorrect_length {
+        IncorrectLength::Told => actual != asked,
+        IncorrectLength::ToldIfLonger => asked < actual,
+        IncorrectLength::Suppressed => false,
     }
+}
+
+/// CHECK CONDITION with data.
+fn given_with(sense: Sense, given: Given) -> Done
+    requires { length given ≤ most_record }
+    ensures { result ≡ given_with sense given }
+{
     let moved = given.len() as u32;
     Done {
         status: Status::CheckCondition,
-        sense: Some(incorrect_length(asked.wrapping_sub(actual))),
+        sense: Some(sense),
         given,
         moved,
     }
 }
 
+/// What is told of a record of this length, of which the buffer has what was asked for behind room for a header.
+fn record_read(
+    alloc: Global,
+    buffer: &mut BytesMut,
+    asked: u32,
+    incorrect_length: IncorrectLength,
+    actual: u32,
+) -> Done
+    requires { length (drop headroom buffer.old.items) ≤ most_record }
+    ensures told { result ≡ record_outcome asked incorrect_length actual (drop headroom buffer.old.items) }
+    ensures given { length result.given ≤ most_record }
+{
+    let given = Given::behind_room(mem::replace(buffer, BytesMut::new(alloc)));
+    if is_told(incorrect_length, asked, actual) {
+        given_with(sense::incorrect_length(asked.wrapping_sub(actual)), given)
+    } else {
+        Done::good_with(given)
+    }
+}
+
 /// What is told of READ that passed this.
-fn told(alloc: Global, buffer: &mut BytesMut, asked: u32, suppressed: bool, passed: Passed) -> Done
+fn told(
+    alloc: Global,
+    buffer: &mut BytesMut,
+    asked: u32,
+    incorrect_length: IncorrectLength,
+    passed: Passed,
+) -> Done
     requires asked { length (drop headroom buffer.old.items) ≤ asked }
     requires few { length (drop headroom buffer.old.items) ≤ most_record }
-    ensures told { result ≡ read_outcome asked suppressed passed (drop headroom buffer.old.items) }
+    ensures told { result ≡ read_outcome asked incorrect_length passed (drop headroom buffer.old.items) }
     ensures given { length result.given ≤ most_record }
 {
     match passed {
         Passed::Nothing => Done::good(alloc),
-        Passed::Record(actual) => record_read(alloc, buffer, asked, suppressed, actual),
+        Passed::Record(actual) => record_read(alloc, buffer, asked, incorrect_length, actual),
         Passed::Filemark => Done::check_condition(alloc, filemark(asked)),
         Passed::EndOfData => Done::check_condition(alloc, end_of_data(asked)),
+    }
+}
+
+/// What is told of READ of so many fixed blocks that gave these, which the buffer has behind room for a header.
+fn told_of_blocks(alloc: Global, buffer: &mut BytesMut, count: u32, read: FixedRead) -> Done
+    requires few { length (drop headroom buffer.old.items) ≤ most_record }
+    requires within { read.given ≤ count }
+    ensures told { result ≡ fixed_outcome count read (drop headroom buffer.old.items) }
+    ensures given { length result.given ≤ most_record }
+{
+    let given = Given::behind_room(mem::replace(buffer, BytesMut::new(alloc)));
+    let left = count - read.given;
+    match read.ended {
+        FixedEnd::Whole => Done::good_with(given),
+        FixedEnd::Filemark => given_with(filemark(left), given),
+        FixedEnd::EndOfData => given_with(end_of_data(left), given),
+        FixedEnd::Length(_) => given_with(sense::incorrect_length(left), given),
     }
 }
 
@@ -100,10 +144,10 @@ impl<S: Store> TapeUnit<S> {
         alloc: Global,
         buffer: &mut BytesMut,
         asked: u32,
-        suppressed: bool,
+        incorrect_length: IncorrectLength,
     ) -> Result<Done, Memory>
         requires { buffer.old.items ≡ [] }
-        ensures done { IfOk result (λ done. (bytes : List ℕ) → IsTapeDone (Read asked suppressed) bytes self.old self.new done) }
+        ensures done { IfOk result (λ done. (bytes : List ℕ) → IsTapeDone (Read asked incorrect_length) bytes self.old self.new done) }
         ensures given { IfOk result (λ done. length done.given ≤ most_record) }
         ensures err { OnErr result (self.new ≡ self.old) }
     {
@@ -112,7 +156,33 @@ impl<S: Store> TapeUnit<S> {
         }
         buffer.extend_from_slice(&[0; HEADROOM])?;
         match self.tape.read(asked, buffer, TAILROOM as u32)? {
-            Ok(passed) => Ok(told(alloc, buffer, asked, suppressed, passed)),
+            Ok(passed) => Ok(told(alloc, buffer, asked, incorrect_length, passed)),
+            Err(_) => Ok(read_failed(alloc)),
+        }
+    }
+
+    /// READ (6) of fixed blocks. Where an allocation fails nothing changes.
+    pub(crate) fn read_fixed(
+        &mut self,
+        alloc: Global,
+        buffer: &mut BytesMut,
+        blocks: FixedBlocks,
+    ) -> Result<Done, Memory>
+        requires { buffer.old.items ≡ [] }
+        ensures done { IfOk result (λ done. (bytes : List ℕ) → IsTapeDone (ReadFixed blocks) bytes self.old self.new done) }
+        ensures given { IfOk result (λ done. length done.given ≤ most_record) }
+        ensures err { OnErr result (self.new ≡ self.old) }
+    {
+        let count = blocks.count();
+        if count == 0 {
+            return Ok(Done::good(alloc));
+        }
+        buffer.extend_from_slice(&[0; HEADROOM])?;
+        let done = self
+            .tape
+            .read_fixed(count, blocks.block_length(), buffer, TAILROOM as u32)?;
+        match done {
+            Ok(read) => Ok(told_of_blocks(alloc, buffer, count, read)),
             Err(_) => Ok(read_failed(alloc)),
         }
     }

@@ -2,7 +2,7 @@
 
 ghost use Rattle.std.specs.Prelude.{◌≡◌, ◌≤◌, [], true, length, IsTrue, IfOk, OnErr};
 ghost use Rattle.scsi_cdb.specs.Record.{most_record};
-ghost use Rattle.scsi_tape.specs.State.{not_ready};
+ghost use Rattle.scsi_tape.specs.State.{not_ready, opened_unit};
 ghost use Rattle.scsi_tape.specs.Commands.{bytes_needed};
 ghost use Rattle.scsi_tape.specs.CameOut.{IsTapeDone, tape_done, is_steady, IsTrustedTape, AreSynced};
 
@@ -21,9 +21,11 @@ pub fn bytes_needed(command: &TapeCommand) -> usize
 {
     match command {
         TapeCommand::Write(record) => record.bytes() as usize,
+        TapeCommand::WriteFixed(blocks) => blocks.bytes() as usize,
         TapeCommand::Rewind
         | TapeCommand::ReadBlockLimits
         | TapeCommand::Read { .. }
+        | TapeCommand::ReadFixed(_)
         | TapeCommand::WriteFilemarks(_)
         | TapeCommand::Space { .. }
         | TapeCommand::SpaceToEndOfData
@@ -34,11 +36,13 @@ pub fn bytes_needed(command: &TapeCommand) -> usize
     }
 }
 
-/// A tape, and whether its writes have succeeded so far.
+/// A tape, whether its writes have succeeded so far, and the length of its fixed blocks.
 #[derive(Drop)]
 pub struct TapeUnit<S: Store> {
     pub(crate) tape: Tape<S>,
     pub(crate) is_working: bool,
+    /// In bytes; 0 where it has none.
+    pub(crate) block_length: u32,
 }
 
 impl<S: Store> Model for TapeUnit<S> {
@@ -46,17 +50,18 @@ impl<S: Store> Model for TapeUnit<S> {
 
     ghost Value = { TapeUnitState };
 
-    ghost view = { λ unit. record { tape = unit.tape; is_working = unit.is_working } };
+    ghost view = { λ unit. record { tape = unit.tape; is_working = unit.is_working; block_length = unit.block_length } };
 }
 
 impl<S: Store> TapeUnit<S> {
-    /// A tape that was just opened.
+    /// A tape that was just opened. It has no fixed block length.
     pub fn new(tape: Tape<S>) -> TapeUnit<S>
-        ensures { result ≡ record { tape = tape; is_working = true } }
+        ensures { result ≡ opened_unit tape }
     {
         TapeUnit {
             tape,
             is_working: true,
+            block_length: 0,
         }
     }
 
@@ -65,6 +70,20 @@ impl<S: Store> TapeUnit<S> {
         ensures { result ≡ self.now.tape.is_loaded }
     {
         self.tape.is_loaded()
+    }
+
+    /// The length of its fixed blocks in bytes, 0 where it has none (SSC-4 "Fixed-block transfers").
+    pub fn block_length(&self) -> u32
+        ensures { result ≡ self.now.block_length }
+    {
+        self.block_length
+    }
+
+    /// Sets the length of its fixed blocks.
+    pub fn set_block_length(&mut self, block_length: u32)
+        ensures { self.new ≡ record self.old { block_length = block_length } }
+    {
+        self.block_length = block_length;
     }
 
     /// Why no operation with this need is done now, where it is so: INTERNAL TARGET FAILURE where a write has failed,
@@ -124,9 +143,11 @@ impl<S: Store> TapeUnit<S> {
             TapeCommand::ReadBlockLimits => self.read_block_limits(alloc, buffer),
             TapeCommand::Read {
                 length: asked,
-                suppress_incorrect_length,
-            } => self.read(alloc, buffer, asked, suppress_incorrect_length),
+                incorrect_length,
+            } => self.read(alloc, buffer, asked, incorrect_length),
+            TapeCommand::ReadFixed(blocks) => self.read_fixed(alloc, buffer, blocks),
             TapeCommand::Write(record) => self.write(alloc, record, data),
+            TapeCommand::WriteFixed(blocks) => self.write_fixed(alloc, blocks, data),
             TapeCommand::WriteFilemarks(count) => self.write_filemarks(alloc, count),
             TapeCommand::Space { code, distance } => Ok(self.space(alloc, code, distance)),
             TapeCommand::SpaceToEndOfData => Ok(self.space_to_end_of_data(alloc)),

@@ -2,17 +2,19 @@
 
 ghost use Rattle.std.specs.Prelude.{◌≡◌, ◌≤◌, ℕ, List, [], false, length, IfOk, OnErr};
 ghost use Rattle.scsi_sense.specs.Done.{check_condition};
-ghost use Rattle.scsi_cdb.specs.declared.tape.TapeCommand.TheVariants.{Write, WriteFilemarks, Erase};
+ghost use Rattle.scsi_cdb.specs.declared.tape.TapeCommand.TheVariants.{Write, WriteFixed, WriteFilemarks, Erase};
+ghost use Rattle.scsi_cdb.specs.FixedBlocks.{bytes_of};
+ghost use Rattle.media_tape.specs.Fixed.{IsPart};
 ghost use Rattle.scsi_tape.specs.TapeSense.{write_error};
-ghost use Rattle.scsi_tape.specs.Commands.{write_outcome, marks_outcome};
+ghost use Rattle.scsi_tape.specs.Commands.{write_outcome, fixed_write_outcome, marks_outcome};
 ghost use Rattle.scsi_tape.specs.CameOut.{IsTapeDone};
 
 use crate::sense::{early_warning, overflow};
 use crate::tape_unit::TapeUnit;
 use media_store::Store;
-use media_tape::Written;
+use media_tape::{FixedWritten, Written};
 use out_of_memory::Memory;
-use scsi_cdb::RecordLength;
+use scsi_cdb::{FixedBlocks, RecordLength};
 use scsi_sense::{Condition, Done, Sense};
 use std::alloc::Global;
 
@@ -29,6 +31,27 @@ fn written(alloc: Global, count: u32, written: Written) -> Done
             done
         }
         Written::Refused => Done::check_condition(alloc, overflow(count)),
+    }
+}
+
+/// What is told of WRITE of these fixed blocks that ended so.
+fn blocks_written(alloc: Global, blocks: FixedBlocks, written: FixedWritten) -> Done
+    requires { IsPart blocks.count written }
+    ensures told { result ≡ fixed_write_outcome blocks written }
+    ensures given { result.given ≡ [] }
+{
+    match written {
+        FixedWritten::Whole => Done::good_taking(alloc, blocks.bytes()),
+        FixedWritten::Early => {
+            let mut done = Done::check_condition(alloc, early_warning());
+            done.moved = blocks.bytes();
+            done
+        }
+        FixedWritten::Part(some) => {
+            let mut done = Done::check_condition(alloc, overflow(blocks.count() - some));
+            done.moved = some * blocks.block_length();
+            done
+        }
     }
 }
 
@@ -72,6 +95,29 @@ impl<S: Store> TapeUnit<S> {
         }
         match self.tape.write(&data[..count as usize])? {
             Ok(ended) => Ok(written(alloc, count, ended)),
+            Err(_) => Ok(self.write_failed(alloc)),
+        }
+    }
+
+    /// WRITE (6) of fixed blocks, with their data in front. Where an allocation fails nothing changes.
+    pub(crate) fn write_fixed(
+        &mut self,
+        alloc: Global,
+        blocks: FixedBlocks,
+        data: &[u8],
+    ) -> Result<Done, Memory>
+        requires { bytes_of blocks ≤ length «data».now }
+        ensures done { IfOk result (IsTapeDone (WriteFixed blocks) «data».now self.old self.new) }
+        ensures given { IfOk result (λ done. done.given ≡ []) }
+        ensures err { OnErr result (self.new ≡ self.old) }
+    {
+        let count = blocks.count();
+        if count == 0 {
+            return Ok(Done::good(alloc));
+        }
+        let front = &data[..blocks.bytes() as usize];
+        match self.tape.write_fixed(count, blocks.block_length(), front)? {
+            Ok(ended) => Ok(blocks_written(alloc, blocks, ended)),
             Err(_) => Ok(self.write_failed(alloc)),
         }
     }

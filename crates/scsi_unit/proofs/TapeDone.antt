@@ -11,8 +11,8 @@ use Rattle.scsi_sense.specs.Nexus.{NexusName}
 use Rattle.scsi_sense.specs.declared.condition.Attention.TheVariants.{NotReadyToReadyChange}
 use Rattle.scsi_cdb.specs.declared.command.Command.TheVariants as to
 use Rattle.scsi_cdb.specs.declared.tape.TapeCommand.{TapeCommand}
-use Rattle.scsi_cdb.specs.declared.tape.TapeCommand.TheVariants.{Rewind, ReadBlockLimits, Read, Write, WriteFilemarks, Space, SpaceToEndOfData}
-use Rattle.scsi_cdb.specs.declared.tape.TapeCommand.TheVariants.{Erase, LoadUnload, Locate, ReadPosition}
+use Rattle.scsi_cdb.specs.declared.tape.TapeCommand.TheVariants.{Rewind, ReadBlockLimits, Read, ReadFixed, Write, WriteFixed, WriteFilemarks, Space}
+use Rattle.scsi_cdb.specs.declared.tape.TapeCommand.TheVariants.{SpaceToEndOfData, Erase, LoadUnload, Locate, ReadPosition}
 use Rattle.scsi_tape.specs.State.{TapeUnitState}
 use Rattle.scsi_tape.specs.Commands.{tape_left}
 use Rattle.scsi_tape.specs.CameOut.{TapeCame, tape_touch, tape_after, IsTapeDone, is_steady}
@@ -53,7 +53,9 @@ write_facts count bytes (byte ∷ rest) tape is = rw is (wrote_facts (write_told
 left_facts : (command : TapeCommand) (bytes : List ℕ) (tape : TapeState) → facts (tape_left command bytes tape) ≡ facts tape
 left_facts Rewind bytes tape = refl
 left_facts ReadBlockLimits bytes tape = refl
-left_facts (Read asked suppressed) bytes tape = facts_by (asked == 0) tape _ (facts tape) refl refl
+left_facts (ReadFixed blocks) bytes tape = refl
+left_facts (WriteFixed blocks) bytes tape = facts_by _ tape _ (facts tape) refl refl
+left_facts (Read asked incorrect) bytes tape = facts_by (asked == 0) tape _ (facts tape) refl refl
 left_facts (Write count) bytes tape = write_facts count bytes (take count bytes) tape refl
 left_facts (WriteFilemarks count) bytes tape =
     facts_by (count == 0) _ _ (facts tape) refl (synced_facts (size_told _ tape) _ ∙ wrote_facts (size_told _ tape) _ tape)
@@ -64,18 +66,18 @@ left_facts (LoadUnload load) bytes tape = refl
 left_facts (Locate number) bytes tape = refl
 left_facts ReadPosition bytes tape = refl
 
-torn_facts : (writes : Bool) (left tape : TapeState) → facts left ≡ facts tape
-    → store_of (Tape (record { tape = record (if writes then left else tape) { failures = risen tape.failures }; is_working = false }))
+torn_facts : (writes : Bool) (left tape : TapeState) (on : TapeUnitState) → facts left ≡ facts tape
+    → store_of (Tape (record on { tape = record (if writes then left else tape) { failures = risen tape.failures }; is_working = false }))
     ≡ record (facts tape) { failures = risen tape.failures }
-torn_facts true left tape same = ap (λ (store : StoreState). record store { failures = risen tape.failures }) same
-torn_facts false left tape same = refl
+torn_facts true left tape on same = ap (λ (store : StoreState). record store { failures = risen tape.failures }) same
+torn_facts false left tape on same = refl
 
 store_same : (came : TapeCame) (command : TapeCommand) (bytes : List ℕ) (on : TapeUnitState)
     → store_of (Tape (tape_after came command bytes on)) ≡ tape_store came (store_of (Tape on))
 store_same tape.AsDefined command bytes on = left_facts command bytes on.tape
 store_same (tape.Dishonest shown left) command bytes on = refl
 store_same (tape.ReadFailed honest) command bytes on = refl
-store_same (tape.WriteFailed left) command bytes on = torn_facts (tape_touch command on.tape).writes _ on.tape refl
+store_same (tape.WriteFailed left) command bytes on = torn_facts (tape_touch command on.tape).writes _ on.tape on refl
 
 -- ---- the unit
 

@@ -24,7 +24,7 @@ use Rattle.scsi_mode.specs.declared.list_fault.ListFault.TheVariants.{EndsEarly}
 use Rattle.scsi_tape.specs.TapeSense.{target_failure}
 use Rattle.scsi_tape.specs.State.{not_ready}
 use Rattle.scsi_tape.specs.Commands.{bytes_needed as tape_needed}
-use Rattle.scsi_unit.specs.Device.{DeviceState, Disk, Tape, kind_of}
+use Rattle.scsi_unit.specs.Device.{DeviceState, Disk, Tape, kind_of, fixed_length}
 use Rattle.scsi_unit.specs.DiskCommands.{range_named, bytes_needed, is_write}
 use Rattle.scsi_unit.specs.Joined.{told}
 use Rattle.scsi_unit.specs.State.{UnitState}
@@ -163,5 +163,5 @@ judged_by None (Err sense) = Err (Refused sense)
 -- the command that the bytes spell for a unit, or the first refusal
 unfoldable pub judged : NexusName → List ℕ → List ℕ → UnitState → Result Command Refusal
 judged nexus cdb bytes unit =
-    let command = command_of cdb (kind_of unit.device) in
+    let command = command_of cdb (kind_of unit.device) (fixed_length unit.device) in
     judged_by (first_refusal (checks (row_for (kind_of unit.device) (slice_index cdb 0)) command nexus bytes unit)) command

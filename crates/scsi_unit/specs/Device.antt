@@ -4,10 +4,10 @@ use Rattle.media_block.specs.Blocks.{DiskState}
 use Rattle.media_tape.specs.Tape.{TapeState}
 use Rattle.scsi_cdb.specs.declared.operation.Kind.{Kind}
 use Rattle.scsi_cdb.specs.declared.operation.Kind.TheVariants as kind
-use Rattle.scsi_mode.specs.ModePages.{write_protect}
+use Rattle.scsi_mode.specs.ModePages.{write_protect, block_length_of}
 use Rattle.scsi_mode.specs.declared.parameters.Parameters.{Parameters}
 use Rattle.scsi_mode.specs.declared.parameters.Parameters.TheVariants as parameters
-use Rattle.scsi_tape.specs.State.{TapeUnitState}
+use Rattle.scsi_tape.specs.State.{TapeUnitState, opened_unit}
 use Rattle.scsi_tape.specs.CameOut.{is_steady}
 use Rattle.scsi_unit.specs.declared.device.Device.{Device}
 use Rattle.scsi_unit.specs.declared.device.Device.TheVariants as device
@@ -37,9 +37,9 @@ device_view (device.Tape tape) = Tape tape
 abbrev pub opened : DiskState → DeviceState
 opened disk = Disk (record { disk = disk; is_ready = true; write_protect = false })
 
--- a tape that was just opened: no write of it has failed
+-- a tape that was just opened
 abbrev pub opened_tape : TapeState → DeviceState
-opened_tape tape = Tape (record { tape = tape; is_working = true })
+opened_tape tape = Tape (opened_unit tape)
 
 -- SPC-4 "Standard INQUIRY data", peripheral device type
 abbrev pub kind_of : DeviceState → Kind
@@ -49,12 +49,17 @@ kind_of (Tape tape) = kind.Tape
 -- what its mode parameters tell
 abbrev pub parameters_of : DeviceState → Parameters
 parameters_of (Disk disk) = parameters.Disk (length disk.disk.blocks) disk.write_protect
-parameters_of (Tape tape) = parameters.Tape
+parameters_of (Tape tape) = parameters.Tape tape.block_length
 
--- with these mode parameters, of which a disk's SWP can change
+-- with these mode parameters, of which a disk's SWP can change, and the block length of a tape
 abbrev pub with_parameters : Parameters → DeviceState → DeviceState
 with_parameters given (Disk disk) = Disk (record disk { write_protect = write_protect given })
-with_parameters given (Tape tape) = Tape tape
+with_parameters given (Tape tape) = Tape (record tape { block_length = block_length_of given })
+
+-- the length of a tape's fixed blocks in bytes; 0 where it has none, and of a disk
+abbrev pub fixed_length : DeviceState → ℕ
+fixed_length (Disk disk) = 0
+fixed_length (Tape tape) = tape.block_length
 
 -- ---- its store
 

@@ -1,5 +1,6 @@
 -- Commands to a disk of 4096 blocks and to a tape, computed.
 use Rattle.std.specs.Prelude.{◌≡◌, ◌^◌, List, ℕ, [], ◌∷◌, ◌++◌, true, false, replicate, refl}
+use Rattle.media_tape.specs.Tape.{TapeState}
 use Rattle.scsi_sense.specs.Sense.{plain_sense, sense_bytes}
 use Rattle.scsi_sense.specs.Done.{good, good_with, good_taking, check_condition}
 use Rattle.scsi_sense.specs.Nexus.{NexusName}
@@ -11,11 +12,12 @@ use Rattle.scsi_reserve.specs.Table.{empty_table}
 use Rattle.scsi_inquiry.specs.Standard.{standard_data}
 use Rattle.scsi_inquiry.specs.Luns.{rising}
 use Rattle.scsi_inquiry.specs.declared.peripheral.Peripheral.TheVariants as peripheral
-use Rattle.scsi_mode.specs.ParameterList.{is_page, after_page, has_page, after_pages, after_header, selected}
-use Rattle.scsi_unit.specs.Device.{DiskUnit, DeviceState, Disk, opened_tape}
+use Rattle.scsi_mode.specs.ParameterList.{is_page, after_page, has_page, after_pages, after_descriptor, after_header, selected}
+use Rattle.scsi_unit.specs.Device.{DiskUnit, DeviceState, Disk, Tape, opened_tape}
 use Rattle.scsi_unit.specs.DiskCame.{ReadFailed}
 use Rattle.scsi_unit.specs.CameOut.{on_disk, touches}
-use Rattle.scsi_tape.specs.TapeSense.{target_failure}
+use Rattle.scsi_tape.specs.TapeSense.{target_failure, end_of_data}
+use Rattle.scsi_tape.specs.State.{opened_unit}
 use Rattle.scsi_unit.specs.Checks.{judged, out_of_range}
 use Rattle.scsi_unit.specs.DiskCommands.{capacity_10, capacity_16, unrecovered_read}
 use Rattle.scsi_unit.specs.Joined.{told, raised_for_others, newly_joined}
@@ -116,8 +118,8 @@ unfolding performed_as judged told unit_done inquiry_outcome
 is_not_ready = (refl, refl, refl, refl, refl)
 
 -- an empty tape of 100000 bytes, loaded, with the early warning mark at 90000
-abbrev pub empty_tape : DeviceState
-empty_tape = opened_tape (record {
+abbrev empty : TapeState
+empty = record {
   before = [];
   after = [];
   tail = [];
@@ -129,7 +131,10 @@ empty_tape = opened_tape (record {
   honest = true;
   steady = true;
   reach = 100000;
-})
+}
+
+abbrev pub empty_tape : DeviceState
+empty_tape = opened_tape empty
 
 -- a tape is ready; it has no READ (10) of disks, which is told before the attention is
 tapes : ((perform_at a test_unit_ready [] (unit_with empty_tape (a_was_told ∷ []))).1 ≡ good)
@@ -240,3 +245,43 @@ mode_senses : ((perform_at a (0x1a ∷ 0x08 ∷ 0x0a ∷ 0 ∷ 5 ∷ replicate 1
     × ((perform_at a (0x1a ∷ 0x08 ∷ 0x08 ∷ 0 ∷ 5 ∷ replicate 11 0) [] (unit_with empty_tape (a_was_told ∷ []))).1 ≡ check_condition invalid_field)
 unfolding performed_as judged told unit_done mode_sense_outcome
 mode_senses = (refl, refl)
+
+-- an empty tape with fixed blocks of this length
+abbrev tape_of_blocks : ℕ → DeviceState
+tape_of_blocks block_length = Tape (record (opened_unit empty) { block_length = block_length })
+
+-- READ (6) with these flags in byte 1, of so many blocks
+abbrev read_6 : ℕ → ℕ → List ℕ
+read_6 flags count = 0x08 ∷ flags ∷ 0 ∷ 0 ∷ count ∷ replicate 11 0
+
+-- a READ with FIXED is refused where the tape has no block length, of no blocks too, and with SILI; else it meets the end of data
+reads_blocks_of_a_tape : ((perform_at a (read_6 1 1) [] (unit_with empty_tape (a_was_told ∷ []))).1 ≡ check_condition invalid_field)
+    × ((perform_at a (read_6 1 0) [] (unit_with empty_tape (a_was_told ∷ []))).1 ≡ check_condition invalid_field)
+    × ((perform_at a (read_6 3 1) [] (unit_with (tape_of_blocks 20) (a_was_told ∷ []))).1 ≡ check_condition invalid_field)
+    × ((perform_at a (read_6 1 2) [] (unit_with (tape_of_blocks 20) (a_was_told ∷ []))).1 ≡ check_condition (end_of_data 2))
+unfolding performed_as judged told
+reads_blocks_of_a_tape = (refl, refl, refl, refl)
+
+-- MODE SELECT (6) of 12 bytes that sets the block length to 20: the other nexus is to be told; the same list again tells nobody
+abbrev sets_block_length : List ℕ
+sets_block_length = 0 ∷ 0 ∷ 0 ∷ 8 ∷ 0 ∷ 0 ∷ 0 ∷ 0 ∷ 0 ∷ 0 ∷ 0 ∷ 20 ∷ []
+
+abbrev b_was_told : List Joined
+b_was_told = a_was_told ∷ record { nexus = b; attentions = [] } ∷ []
+
+abbrev mode_select_of_12 : List ℕ
+mode_select_of_12 = 0x15 ∷ 0x10 ∷ 0 ∷ 0 ∷ 12 ∷ replicate 11 0
+
+selects_a_block_length : (perform_at a mode_select_of_12 sets_block_length (unit_with empty_tape b_was_told)
+    ≡ (unit_with (tape_of_blocks 20) b_is_to_be_told, good_taking 12))
+    × (perform_at a mode_select_of_12 sets_block_length (unit_with (tape_of_blocks 20) b_was_told)
+    ≡ (unit_with (tape_of_blocks 20) b_was_told, good_taking 12))
+unfolding performed_as judged told unit_done raised_for_others selected after_header after_descriptor after_pages has_page after_page is_page
+selects_a_block_length = (refl, refl)
+
+-- WRITE (6) of two blocks of 20 bytes needs 40
+writes_blocks_of_a_tape : ((perform_at a (0x0a ∷ 1 ∷ 0 ∷ 0 ∷ 2 ∷ replicate 11 0) (replicate 39 7) (unit_with (tape_of_blocks 20) (a_was_told ∷ []))).1
+    ≡ check_condition invalid_field)
+    × ((perform_at a (0x0a ∷ 1 ∷ 0 ∷ 0 ∷ 2 ∷ replicate 11 0) (replicate 40 7) (unit_with (tape_of_blocks 20) (a_was_told ∷ []))).1 ≡ good_taking 40)
+unfolding performed_as judged told
+writes_blocks_of_a_tape = (refl, refl)

@@ -67,7 +67,7 @@ outcome_without_unit (Ok (to.Tape command)) = check_condition unsupported
 abbrev pub row_without_unit : Option Row → List ℕ → Outcome
 row_without_unit None cdb = check_condition unsupported
 row_without_unit (Some row) cdb =
-    if row.passes_missing_unit then outcome_without_unit (fields_of row.operation cdb) else check_condition unsupported
+    if row.passes_missing_unit then outcome_without_unit (fields_of row.operation cdb 0) else check_condition unsupported
 
 -- what goes on where there is no unit, by the table of operations; any other command is 05/2500
 unfoldable pub without_unit : List ℕ → Outcome

@@ -6,14 +6,14 @@ use Rattle.scsi_unit.specs.Device.{DeviceState, Disk, Tape}
 use Rattle.scsi_unit.specs.State.{UnitState}
 
 -- own: a disk's blocks, and whether writes to it are refused (SWP, SPC-4 "Control mode page"); or a tape's items before its
--- position and behind it, and whether it is loaded
+-- position and behind it, whether it is loaded, and the length of its fixed blocks
 pub data MediumState : Type 0 where
   DiskMedium : (blocks : List (List ℕ)) (write_protect : Bool) → MediumState
-  TapeMedium : (before after : List Item) (is_loaded : Bool) → MediumState
+  TapeMedium : (before after : List Item) (is_loaded : Bool) (block_length : ℕ) → MediumState
 
 abbrev pub medium_of_device : DeviceState → MediumState
 medium_of_device (Disk disk) = DiskMedium disk.disk.blocks disk.write_protect
-medium_of_device (Tape tape) = TapeMedium tape.tape.before tape.tape.after tape.tape.is_loaded
+medium_of_device (Tape tape) = TapeMedium tape.tape.before tape.tape.after tape.tape.is_loaded tape.block_length
 
 -- own: its medium, and who is registered with it and what is reserved (SPC-4 "Persistent reservations")
 pub record KeptState : Type 0 where

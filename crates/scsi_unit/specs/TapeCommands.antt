@@ -5,8 +5,8 @@ use Rattle.scsi_sense.specs.Nexus.{NexusName}
 use Rattle.scsi_sense.specs.declared.condition.Attention.TheVariants.{NotReadyToReadyChange}
 use Rattle.scsi_cdb.specs.Fault.{invalid_operation_code}
 use Rattle.scsi_cdb.specs.declared.tape.TapeCommand.{TapeCommand}
-use Rattle.scsi_cdb.specs.declared.tape.TapeCommand.TheVariants.{Rewind, ReadBlockLimits, Read, Write, WriteFilemarks, Space, SpaceToEndOfData}
-use Rattle.scsi_cdb.specs.declared.tape.TapeCommand.TheVariants.{Erase, LoadUnload, Locate, ReadPosition}
+use Rattle.scsi_cdb.specs.declared.tape.TapeCommand.TheVariants.{Rewind, ReadBlockLimits, Read, ReadFixed, Write, WriteFixed, WriteFilemarks, Space}
+use Rattle.scsi_cdb.specs.declared.tape.TapeCommand.TheVariants.{SpaceToEndOfData, Erase, LoadUnload, Locate, ReadPosition}
 use Rattle.scsi_tape.specs.CameOut.{TapeCame, tape_after, tape_told}
 use Rattle.scsi_unit.specs.Device.{DeviceState, Disk, Tape}
 use Rattle.scsi_unit.specs.Joined.{raised_for_others}
@@ -16,8 +16,10 @@ use Rattle.scsi_unit.specs.State.{UnitState}
 abbrev pub loads : TapeCommand → Bool → Bool
 loads Rewind is_loaded = false
 loads ReadBlockLimits is_loaded = false
-loads (Read asked suppressed) is_loaded = false
+loads (Read asked incorrect) is_loaded = false
+loads (ReadFixed blocks) is_loaded = false
 loads (Write count) is_loaded = false
+loads (WriteFixed blocks) is_loaded = false
 loads (WriteFilemarks count) is_loaded = false
 loads (Space code distance) is_loaded = false
 loads SpaceToEndOfData is_loaded = false

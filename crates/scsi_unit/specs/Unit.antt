@@ -14,7 +14,7 @@ use Rattle.scsi_cdb.specs.declared.command.UnitCommand.TheVariants.{TestUnitRead
 use Rattle.scsi_cdb.specs.declared.command.UnitCommand.TheVariants.{ReserveIn, ReserveOut}
 use Rattle.scsi_cdb.specs.declared.command.DiskCommand.{DiskCommand}
 use Rattle.scsi_reserve.specs.Table.{empty_table}
-use Rattle.scsi_mode.specs.ModePages.{write_protect}
+use Rattle.scsi_mode.specs.ModePages.{differ}
 use Rattle.scsi_mode.specs.ModeData.{mode_data}
 use Rattle.scsi_mode.specs.ParameterList.{fault_sense, selected}
 use Rattle.scsi_mode.specs.declared.list_fault.ListFault.{ListFault}
@@ -58,10 +58,6 @@ unfoldable pub mode_sense_outcome : ℕ → Option (List ℕ) → Outcome
 mode_sense_outcome allocation_length None = check_condition invalid_field
 mode_sense_outcome allocation_length (Some bytes) = good_with (take allocation_length bytes)
 
--- own: whether SWP of one is set and that of the other is not
-abbrev pub differ : Bool → Bool → Bool
-differ a b = if a then (if b then false else a) else b
-
 -- SPC-4 "MODE SELECT (6) command": the parameters are as the list sets them, and where they changed the others are to be
 -- told (MODE PARAMETERS CHANGED)
 abbrev pub with_modes : NexusName → Parameters → UnitState → UnitState
@@ -69,7 +65,7 @@ with_modes nexus parameters unit =
     record unit {
       device = with_parameters parameters unit.device;
       joined =
-          if differ (write_protect (parameters_of unit.device)) (write_protect parameters)
+          if differ (parameters_of unit.device) parameters
           then raised_for_others nexus ModeParametersChanged unit.joined else unit.joined;
     }
 

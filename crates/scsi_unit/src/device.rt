@@ -1,7 +1,7 @@
 //! The device of a logical unit: a disk or a tape.
 
 ghost use Rattle.std.specs.Prelude.{◌≡◌};
-ghost use Rattle.scsi_unit.specs.Device.{kind_of, device_view, parameters_of, with_parameters};
+ghost use Rattle.scsi_unit.specs.Device.{kind_of, device_view, parameters_of, with_parameters, fixed_length};
 ghost use Rattle.scsi_unit.specs.Checks.{has_range, is_protected, range_of, needs_medium, unready};
 ghost use Rattle.scsi_unit.specs.DiskCommands.{range_named};
 
@@ -90,7 +90,9 @@ impl<S: Store> Device<S> {
                 block_count: device.disk.block_count(),
                 write_protect: device.write_protect,
             },
-            Device::Tape(_) => Parameters::Tape,
+            Device::Tape(tape) => Parameters::Tape {
+                block_length: tape.block_length(),
+            },
         }
     }
 
@@ -98,8 +100,19 @@ impl<S: Store> Device<S> {
     pub fn set_parameters(&mut self, parameters: Parameters)
         ensures { device_view self.new ≡ with_parameters parameters (device_view self.old) }
     {
-        if let Device::Disk(disk) = self {
-            disk.write_protect = parameters.write_protect();
+        match self {
+            Device::Disk(disk) => disk.write_protect = parameters.write_protect(),
+            Device::Tape(tape) => tape.set_block_length(parameters.block_length()),
+        }
+    }
+
+    /// The length of a tape's fixed blocks in bytes; 0 where it has none, and of a disk.
+    pub fn fixed_length(&self) -> u32
+        ensures { result ≡ fixed_length (device_view self.now) }
+    {
+        match self {
+            Device::Disk(_) => 0,
+            Device::Tape(tape) => tape.block_length(),
         }
     }
 

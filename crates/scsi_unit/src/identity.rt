@@ -119,7 +119,7 @@ pub(crate) fn without_unit(alloc: Global, cdb: [u8; 16]) -> Result<Done, Memory>
         Some(row) if row.passes_missing_unit => row.operation,
         _ => return Ok(Done::check_condition(alloc, not_supported())),
     };
-    match operation.command(cdb) {
+    match operation.command(cdb, 0) {
         Ok(
             Command::Unit(
                 UnitCommand::Inquiry {

@@ -110,7 +110,7 @@ impl<S: Store> Unit<S> {
         let list = &data[..fields.list_length as usize];
         match select(before, fields.header, list) {
             Ok(parameters) => {
-                if parameters.write_protect() != before.write_protect() {
+                if before.differs(parameters) {
                     let attention = Attention::ModeParametersChanged;
                     self.joined.raise_for_others(nexus, attention);
                 }
@@ -215,7 +215,8 @@ impl<S: Store> Unit<S> {
         if let Some(sense) = self.device.unready(row.needs) {
             return Err(Refusal::Refused(sense));
         }
-        let command = match row.operation.command(cdb) {
+        let fixed_length = self.device.fixed_length();
+        let command = match row.operation.command(cdb, fixed_length) {
             Ok(command) => command,
             Err(fault) => return Err(Refusal::Refused(fault.sense())),
         };

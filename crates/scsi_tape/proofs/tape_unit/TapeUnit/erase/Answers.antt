@@ -10,7 +10,7 @@ use Rattle.scsi_tape.proofs.tape_unit.TapeUnit.erase.Goals as goal
 
 pub returns-in-Ok-clause-done : goal.returns-in-Ok-clause-done
 returns-in-Ok-clause-done g c bytes =
-    let unit : TapeUnitState = record { tape = c.self.inside.tape; is_working = c.self.inside.is_working } in
+    let unit : TapeUnitState = record { tape = c.self.inside.tape; is_working = c.self.inside.is_working; block_length = c.self.inside.block_length } in
     let new = c.erase.new.self in
     let told = c.in-Ok.ensures in
     let same = told.honest in
@@ -24,7 +24,7 @@ returns-in-Ok-clause-done g c bytes =
 
 pub returns-in-Err-clause-done : goal.returns-in-Err-clause-done
 returns-in-Err-clause-done g c bytes =
-    let unit : TapeUnitState = record { tape = c.self.inside.tape; is_working = c.self.inside.is_working } in
+    let unit : TapeUnitState = record { tape = c.self.inside.tape; is_working = c.self.inside.is_working; block_length = c.self.inside.block_length } in
     let new = c.erase.new.self in
     let failed = c.in-Err.ensures in
     rw (← c.self.view_is, c.write_failed.ensures.told, c.write_failed.ensures.unit)

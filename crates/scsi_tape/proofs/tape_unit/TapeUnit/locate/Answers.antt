@@ -12,7 +12,7 @@ use Rattle.scsi_tape.proofs.tape_unit.TapeUnit.locate.Goals as goal
 
 pub returns-clause-done : goal.returns-clause-done
 returns-clause-done g c bytes =
-    let unit : TapeUnitState = record { tape = c.self.inside.tape; is_working = c.self.inside.is_working } in
+    let unit : TapeUnitState = record { tape = c.self.inside.tape; is_working = c.self.inside.is_working; block_length = c.self.inside.block_length } in
     let new = c.locate.new.self in
     let number = c.args.number in
     let count = length (items unit.tape) in

@@ -23,10 +23,10 @@ told-requires-clause-few g c =
 
 pub returns-clause-done : goal.returns-clause-done
 returns-clause-done g c =
-    let unit : TapeUnitState = record { tape = c.self.inside.tape; is_working = c.self.inside.is_working } in
+    let unit : TapeUnitState = record { tape = c.self.inside.tape; is_working = c.self.inside.is_working; block_length = c.self.inside.block_length } in
     let new = c.read.new.self in
     let asked = c.args.asked in
-    let suppressed = c.args.suppressed in
+    let incorrect = c.args.incorrect_length in
     let got = drop 48 c.read.new.buffer.items in
     let items = first_data unit.tape.after in
     let front = c.extend_from_slice.new.self.items in
@@ -36,16 +36,16 @@ returns-clause-done g c =
       | in-Ok w ↦ rw w.result-is (λ (bytes : List ℕ).
           let told = rw w.in-Ok.is at c.in_ok-passed.ensures in
           let long : length got ≡ min asked (passed_length w.in-Ok.passed) = length-drop 48 c.read.new.buffer.items ∙ omega (arith, told.length, header) in
-          read_done asked suppressed bytes unit new w.in-Ok.passed got w.told.result any told.tape
-          (λ honest. w.told.ensures.told ∙ told_given asked suppressed got items _ w.in-Ok.passed (told.passed honest)
+          read_done asked incorrect bytes unit new w.in-Ok.passed got w.told.result any told.tape
+          (λ honest. w.told.ensures.told ∙ told_given asked incorrect got items _ w.in-Ok.passed (told.passed honest)
           (ap (λ (xs : List ℕ). drop 48 xs) (told.given honest) ∙ drop_at front (take asked items) 48 header))
           (λ steady honest. (told.succeeds steady honest).1)
           told.rest
-          (w.told.ensures.told ∙ told_shown asked suppressed got w.in-Ok.passed long)
+          (w.told.ensures.told ∙ told_shown asked incorrect got w.in-Ok.passed long)
           (λ none. any (told.nothing none))
           w.told.ensures.given)
       | in-Err w ↦ rw (w.result-is, w.read_failed.ensures) (λ (bytes : List ℕ).
           let failed = rw w.in-Err.is at c.in_ok-passed.ensures in
-          read_failed asked suppressed bytes unit new any failed.failed failed.back
+          read_failed asked incorrect bytes unit new any failed.failed failed.back
           (λ steady honest. false≢true (failed.succeeds steady honest).0))
     ])

@@ -11,7 +11,7 @@ use Rattle.scsi_tape.proofs.tape_unit.TapeUnit.read_position.Goals as goal
 
 pub returns-clause-done : goal.returns-clause-done
 returns-clause-done g c =
-    let unit : TapeUnitState = record { tape = c.self.inside.tape; is_working = c.self.inside.is_working } in
+    let unit : TapeUnitState = record { tape = c.self.inside.tape; is_working = c.self.inside.is_working; block_length = c.self.inside.block_length } in
     let position = c.position.result in
     let early = c.is_early.result in
     rw (← c.self.view_is) (if_both c.good_with_front.result _ _ _ (λ done is given bytes.

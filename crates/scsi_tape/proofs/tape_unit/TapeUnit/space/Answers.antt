@@ -15,7 +15,7 @@ use Rattle.scsi_tape.proofs.tape_unit.TapeUnit.space.Goals as goal
 
 pub returns-clause-done : goal.returns-clause-done
 returns-clause-done g c bytes =
-    let unit : TapeUnitState = record { tape = c.self.inside.tape; is_working = c.self.inside.is_working } in
+    let unit : TapeUnitState = record { tape = c.self.inside.tape; is_working = c.self.inside.is_working; block_length = c.self.inside.block_length } in
     let new = c.space.new.self in
     let count = c.args.distance.count in
     let same : (tape : TapeState) → spaced_told c.toward.result c.over.result count tape

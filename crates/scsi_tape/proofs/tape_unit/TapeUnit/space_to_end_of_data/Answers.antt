@@ -10,7 +10,7 @@ use Rattle.scsi_tape.proofs.tape_unit.TapeUnit.space_to_end_of_data.Goals as goa
 
 pub returns-clause-done : goal.returns-clause-done
 returns-clause-done g c bytes =
-    let unit : TapeUnitState = record { tape = c.self.inside.tape; is_working = c.self.inside.is_working } in
+    let unit : TapeUnitState = record { tape = c.self.inside.tape; is_working = c.self.inside.is_working; block_length = c.self.inside.block_length } in
     let new = c.space_to_end.new.self in
     let rest = c.space_to_end.ensures.rest in
     let same = ap (λ (t : TapeState). t.honest) rest in

@@ -5,7 +5,7 @@ use Rattle.scsi_tape.proofs.tape_unit.TapeUnit.write_filemarks.Goals as goal
 
 pub returns-in-Ok-clause-done : goal.returns-in-Ok-clause-done
 returns-in-Ok-clause-done g c bytes =
-    let unit : TapeUnitState = record { tape = c.self.inside.tape; is_working = c.self.inside.is_working } in
+    let unit : TapeUnitState = record { tape = c.self.inside.tape; is_working = c.self.inside.is_working; block_length = c.self.inside.block_length } in
     let told = rw c.in-Ok.is at c.in_ok-ended.ensures in
     rw (← c.self.view_is)
     (marks_done c.args.count bytes unit c.marks.new.self c.in-Ok.ended c.marked.result
@@ -13,7 +13,7 @@ returns-in-Ok-clause-done g c bytes =
 
 pub returns-in-Err-clause-done : goal.returns-in-Err-clause-done
 returns-in-Err-clause-done g c bytes =
-    let unit : TapeUnitState = record { tape = c.self.inside.tape; is_working = c.self.inside.is_working } in
+    let unit : TapeUnitState = record { tape = c.self.inside.tape; is_working = c.self.inside.is_working; block_length = c.self.inside.block_length } in
     let failed = rw c.in-Err.is at c.in_ok-ended.ensures in
     rw (← c.self.view_is, c.write_failed.ensures.told, c.write_failed.ensures.unit)
     (marks_failed c.args.count bytes unit c.marks.new.self failed.failed failed.none_failed failed.unsynced failed.fits failed.rest

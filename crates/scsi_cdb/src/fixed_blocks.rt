@@ -1,0 +1,73 @@
+//! Blocks of one length, of a tape.
+
+ghost use Rattle.std.specs.Prelude.{◌≡◌, ◌*◌, ◌<◌, ◌≤◌};
+ghost use Rattle.scsi_cdb.specs.Record.{most_record};
+ghost use Rattle.scsi_cdb.specs.FixedBlocks.{bytes_of, fixed_blocks_of};
+
+use crate::record_length::MOST_RECORD;
+use std::marker::Model;
+
+/// So many blocks of one length, which is not 0: [`MOST_RECORD`] bytes at most in all.
+#[derive(Clone, Copy, Debug, PartialEq, Eq)]
+pub struct FixedBlocks {
+    count: u32,
+    block_length: u32,
+}
+
+impl Model for FixedBlocks {
+    ghost use Rattle.std.specs.Prelude.{◌*◌, ◌≤◌, ◌<◌, refl};
+    ghost use Rattle.scsi_cdb.specs.Record.{most_record};
+    ghost use Rattle.scsi_cdb.specs.FixedBlocks.{Blocks};
+
+    ghost Value = { Blocks };
+
+    ghost view = { λ blocks. record { count = blocks.count; block_length = blocks.block_length } };
+
+    ghost invariant = { λ blocks. (0 < blocks.block_length)
+        × (blocks.count * blocks.block_length ≤ most_record) };
+
+    ghost inverse = { λ blocks. record { count = blocks.count; block_length = blocks.block_length } };
+
+    ghost inverse_ok = { λ blocks is. refl };
+}
+
+impl FixedBlocks {
+    /// The blocks, or none where they have no length or are too many.
+    pub fn new(count: u32, block_length: u32) -> Option<FixedBlocks>
+        ensures { result ≡ fixed_blocks_of count block_length }
+    {
+        let bytes = u64::from(count) * u64::from(block_length);
+        if block_length == 0 || bytes > u64::from(MOST_RECORD) {
+            return None;
+        }
+        Some(FixedBlocks {
+            count,
+            block_length,
+        })
+    }
+
+    /// How many there are.
+    pub fn count(self) -> u32
+        ensures value { result ≡ self.count }
+        ensures bound { result ≤ most_record }
+    {
+        self.count
+    }
+
+    /// The length of each, in bytes.
+    pub fn block_length(self) -> u32
+        ensures value { result ≡ self.block_length }
+        ensures some { 0 < result }
+        ensures few { self.count * result ≤ most_record }
+    {
+        self.block_length
+    }
+
+    /// The bytes of all.
+    pub fn bytes(self) -> u32
+        ensures value { result ≡ bytes_of self }
+        ensures bound { result ≤ most_record }
+    {
+        self.count * self.block_length
+    }
+}
