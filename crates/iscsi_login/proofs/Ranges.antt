@@ -1,4 +1,4 @@
--- The lengths that data is cut by stay in range, whatever is offered.
+-- The lengths that data is cut by and the number of open R2Ts stay in range, whatever is offered.
 use Rattle.std.proofs.Common.{◌≡◌, ℕ, ◌≤◌, min, List, [], ◌∷◌, Bool, true, false, cond, Option, Some, None, refl, sym, ap, ◌∙◌, subst, arith}
 use Rattle.std.specs.Prelude.{unwrap_or, codes, bytes_eq}
 use Rattle.std.specs.Option.{option_and_then}
@@ -38,23 +38,28 @@ unwrapped (Some m) before some was = some m refl
 segment_stays : (value : List ℕ) (before : ℕ) → 512 ≤ before → 512 ≤ segment_in value before
 segment_stays value before was = unwrapped (number_in 512 16777215 value) before (λ m e. (number_within 512 16777215 m value e).0) was
 
--- ---- MaxBurstLength
+-- ---- MaxBurstLength and MaxOutstandingR2T
 
-min_result : (o : Option ℕ) (n : ℕ) → ((m : ℕ) → o ≡ Some m → 512 ≤ m) → number_result (min 262144) o ≡ results.Number n → (512 ≤ n) × (n ≤ 262144)
-min_result None n some e = absurd cc
-min_result (Some m) n some e =
-    let is : min 262144 m ≡ n = cc in
-    let least = some m refl in
-    (omega (arith, least, is), omega (arith, is))
+min_result : (least own : ℕ) (o : Option ℕ) (n : ℕ) → least ≤ own → ((m : ℕ) → o ≡ Some m → least ≤ m)
+    → number_result (min own) o ≡ results.Number n → (least ≤ n) × (n ≤ own)
+min_result least own None n low some e = absurd cc
+min_result least own (Some m) n low some e =
+    let is : min own m ≡ n = cc in
+    let reach = some m refl in
+    (omega (arith, reach, is, low), omega (arith, is))
 
-burst_by : (b : Bool) (offer : List ℕ) (n : ℕ) → cond b results.NoAnswer (number_result (min 262144) (number_in 512 16777215 offer))
-    ≡ results.Number n → (512 ≤ n) × (n ≤ 262144)
-burst_by true offer n e = absurd cc
-burst_by false offer n e = min_result (number_in 512 16777215 offer) n (λ m is. (number_within 512 16777215 m offer is).0) e
+min_by : (b : Bool) (least most own : ℕ) (offer : List ℕ) (n : ℕ) → least ≤ own
+    → cond b results.NoAnswer (number_result (min own) (number_in least most offer)) ≡ results.Number n → (least ≤ n) × (n ≤ own)
+min_by true least most own offer n low e = absurd cc
+min_by false least most own offer n low e = min_result least own (number_in least most offer) n low (λ m is. (number_within least most m offer is).0) e
 
 burst_settled : (offer : List ℕ) (n : ℕ) → settled (codes "MaxBurstLength") offer ≡ results.Number n → (512 ≤ n) × (n ≤ 262144)
 unfolding settled negotiation_of transfer_negotiation result_by
-burst_settled offer n e = burst_by (is_answer offer) offer n e
+burst_settled offer n e = min_by (is_answer offer) 512 16777215 262144 offer n (omega arith) e
+
+outstanding_settled : (offer : List ℕ) (n : ℕ) → settled (codes "MaxOutstandingR2T") offer ≡ results.Number n → (1 ≤ n) × (n ≤ 4)
+unfolding settled negotiation_of transfer_negotiation result_by
+outstanding_settled offer n e = min_by (is_answer offer) 1 65535 4 offer n (omega arith) e
 
 -- ---- a pair
 
@@ -62,25 +67,67 @@ boolean_stays : (key : List ℕ) (value : Bool) (values : Values) → AreInRange
 boolean_stays key value values was = by_key (bytes_eq key (codes "InitialR2T")) (bytes_eq key (codes "ImmediateData"))
   where
     by_key : (a b : Bool) → AreInRange (cond a (record values { initial_r2t = value }) (cond b (record values { immediate_data = value }) values))
-    by_key true b = record { segment = was.segment; burst = was.burst; longest_burst = was.longest_burst }
-    by_key false true = record { segment = was.segment; burst = was.burst; longest_burst = was.longest_burst }
+    by_key true b = record {
+      segment = was.segment;
+      burst = was.burst;
+      longest_burst = was.longest_burst;
+      outstanding = was.outstanding;
+      most_outstanding = was.most_outstanding;
+    }
+    by_key false true = record {
+      segment = was.segment;
+      burst = was.burst;
+      longest_burst = was.longest_burst;
+      outstanding = was.outstanding;
+      most_outstanding = was.most_outstanding;
+    }
     by_key false false = was
 
 number_stays : (key : List ℕ) (value : ℕ) (values : Values) → (bytes_eq key (codes "MaxBurstLength") ≡ true → (512 ≤ value) × (value ≤ 262144))
-    → AreInRange values → AreInRange (with_number key value values)
-number_stays key value values fits was = by_key (bytes_eq key (codes "MaxBurstLength")) (bytes_eq key (codes "FirstBurstLength"))
-    (bytes_eq key (codes "DefaultTime2Wait")) (bytes_eq key (codes "DefaultTime2Retain")) (bytes_eq key (codes "MaxOutstandingR2T")) refl
+    → (bytes_eq key (codes "MaxOutstandingR2T") ≡ true → (1 ≤ value) × (value ≤ 4)) → AreInRange values → AreInRange (with_number key value values)
+number_stays key value values fits few was = by_key (bytes_eq key (codes "MaxBurstLength")) (bytes_eq key (codes "FirstBurstLength"))
+    (bytes_eq key (codes "DefaultTime2Wait")) (bytes_eq key (codes "DefaultTime2Retain")) (bytes_eq key (codes "MaxOutstandingR2T")) refl refl
   where
-    by_key : (a b d e f : Bool) → bytes_eq key (codes "MaxBurstLength") ≡ a
+    by_key : (a b d e f : Bool) → bytes_eq key (codes "MaxBurstLength") ≡ a → bytes_eq key (codes "MaxOutstandingR2T") ≡ f
         → AreInRange (cond a (record values { max_burst_length = value })
         (cond b (record values { first_burst_length = value }) (cond d (record values { default_time2wait = value })
         (cond e (record values { default_time2retain = value }) (cond f (record values { max_outstanding_r2t = value }) values)))))
-    by_key true b d e f is = record { segment = was.segment; burst = (fits is).0; longest_burst = (fits is).1 }
-    by_key false true d e f is = record { segment = was.segment; burst = was.burst; longest_burst = was.longest_burst }
-    by_key false false true e f is = record { segment = was.segment; burst = was.burst; longest_burst = was.longest_burst }
-    by_key false false false true f is = record { segment = was.segment; burst = was.burst; longest_burst = was.longest_burst }
-    by_key false false false false true is = record { segment = was.segment; burst = was.burst; longest_burst = was.longest_burst }
-    by_key false false false false false is = was
+    by_key true b d e f is at = record {
+      segment = was.segment;
+      burst = (fits is).0;
+      longest_burst = (fits is).1;
+      outstanding = was.outstanding;
+      most_outstanding = was.most_outstanding;
+    }
+    by_key false true d e f is at = record {
+      segment = was.segment;
+      burst = was.burst;
+      longest_burst = was.longest_burst;
+      outstanding = was.outstanding;
+      most_outstanding = was.most_outstanding;
+    }
+    by_key false false true e f is at = record {
+      segment = was.segment;
+      burst = was.burst;
+      longest_burst = was.longest_burst;
+      outstanding = was.outstanding;
+      most_outstanding = was.most_outstanding;
+    }
+    by_key false false false true f is at = record {
+      segment = was.segment;
+      burst = was.burst;
+      longest_burst = was.longest_burst;
+      outstanding = was.outstanding;
+      most_outstanding = was.most_outstanding;
+    }
+    by_key false false false false true is at = record {
+      segment = was.segment;
+      burst = was.burst;
+      longest_burst = was.longest_burst;
+      outstanding = (few at).0;
+      most_outstanding = (few at).1;
+    }
+    by_key false false false false false is at = was
 
 result_stays : (key offer : List ℕ) (result : KeyResult) (values : Values) → settled key offer ≡ result → AreInRange values
     → AreInRange (with_result key result values)
@@ -88,7 +135,9 @@ unfolding with_result
 result_stays key offer (results.Boolean value) values e was = boolean_stays key value values was
 result_stays key offer (results.Number value) values e was =
     number_stays key value values (λ same. burst_settled offer value (ap (λ (k : List ℕ). settled k offer)
-    (sym ((bytes_eq-Decides key (codes "MaxBurstLength")).0 same)) ∙ e)) was
+    (sym ((bytes_eq-Decides key (codes "MaxBurstLength")).0 same)) ∙ e))
+    (λ same. outstanding_settled offer value (ap (λ (k : List ℕ). settled k offer)
+    (sym ((bytes_eq-Decides key (codes "MaxOutstandingR2T")).0 same)) ∙ e)) was
 result_stays key offer results.NoAnswer values e was = was
 result_stays key offer (results.Word word) values e was = was
 
@@ -104,6 +153,8 @@ pair_stays values pair was = by_key (is_segment_key pair.0)
       segment = segment_stays pair.1 values.max_recv_data_segment_length was.segment;
       burst = was.burst;
       longest_burst = was.longest_burst;
+      outstanding = was.outstanding;
+      most_outstanding = was.most_outstanding;
     }
     by_key false = result_stays pair.0 pair.1 (settled pair.0 pair.1) values refl was
 

@@ -67,8 +67,10 @@ first_burst : answers_to (codes "FirstBurstLength") (codes "511" ∷ codes "512"
 unfolding computed
 first_burst = refl
 
-outstanding : answers_to (codes "MaxOutstandingR2T") (codes "0" ∷ codes "1" ∷ codes "16" ∷ codes "65535" ∷ codes "65536" ∷ [])
-    ≡ Some (codes "Reject") ∷ Some (codes "1") ∷ Some (codes "1") ∷ Some (codes "1") ∷ Some (codes "Reject") ∷ []
+outstanding : answers_to (codes "MaxOutstandingR2T") (codes "0" ∷ codes "1" ∷ codes "3" ∷ codes "4" ∷ codes "5" ∷ codes "16" ∷ codes "65535" ∷ codes
+    "65536" ∷ [])
+    ≡ Some (codes "Reject") ∷ Some (codes "1") ∷ Some (codes "3") ∷ Some (codes "4") ∷ Some (codes "4") ∷ Some (codes "4") ∷ Some (codes "4") ∷ Some
+    (codes "Reject") ∷ []
 unfolding computed
 outstanding = refl
 

@@ -183,7 +183,7 @@ all_values : replied [] (request operational_to_full (names ++ pair (codes "MaxR
     ++ pair (codes "DefaultTime2Wait=5") ++ pair (codes "DefaultTime2Retain=0") ++ pair (codes "MaxOutstandingR2T=8")))
     ≡ Begun (Text stages.OperationalNegotiation (steps.Enters stages.FullFeaturePhase) 1 (0 ∷ 9 ∷ 40 ∷ []) (tag ++ pair (codes "ImmediateData=No")
     ++ pair (codes "MaxBurstLength=262144") ++ pair (codes "FirstBurstLength=8192")
-    ++ pair (codes "DefaultTime2Wait=5") ++ pair (codes "DefaultTime2Retain=0") ++ pair (codes "MaxOutstandingR2T=1") ++ segment))
+    ++ pair (codes "DefaultTime2Wait=5") ++ pair (codes "DefaultTime2Retain=0") ++ pair (codes "MaxOutstandingR2T=4") ++ segment))
     (begun 1 (record {
       initial_r2t = true;
       immediate_data = false;
@@ -192,7 +192,7 @@ all_values : replied [] (request operational_to_full (names ++ pair (codes "MaxR
       first_burst_length = 8192;
       default_time2wait = 5;
       default_time2retain = 0;
-      max_outstanding_r2t = 1;
+      max_outstanding_r2t = 4;
     }))
 unfolding computed
 all_values = refl

@@ -68,7 +68,7 @@ transfer_keys =
     ∷ row (codes "FirstBurstLength") (kinds.Minimum 512 16777215 65536)  -- §13.14
     ∷ row (codes "DefaultTime2Wait") (kinds.Maximum 0 3600 2)  -- §13.15
     ∷ row (codes "DefaultTime2Retain") (kinds.Minimum 0 3600 20)  -- §13.16
-    ∷ row (codes "MaxOutstandingR2T") (kinds.Minimum 1 65535 1)  -- §13.17
+    ∷ row (codes "MaxOutstandingR2T") (kinds.Minimum 1 65535 4)  -- §13.17
     ∷ row (codes "DataPDUInOrder") (kinds.Or true)  -- §13.18
     ∷ row (codes "DataSequenceInOrder") (kinds.Or true)  -- §13.19
     ∷ []

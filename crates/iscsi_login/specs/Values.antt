@@ -58,8 +58,11 @@ with_pair values pair =
 abbrev pub with_pairs : Values → List Pair → Values
 with_pairs values pairs = fold with_pair values pairs
 
--- RFC 7143 §13.12, §13.13: no length that data is cut by is below 512, and a burst is no longer than this target's own value
+-- RFC 7143 §13.12, §13.13, §13.17: no length that data is cut by is below 512, at least one R2T may be open, and neither a burst nor
+-- the number of open R2Ts is above this target's own value
 pub record AreInRange (values : Values) : Type 0 where
   pub segment : 512 ≤ values.max_recv_data_segment_length
   pub burst : 512 ≤ values.max_burst_length
   pub longest_burst : values.max_burst_length ≤ 262144
+  pub outstanding : 1 ≤ values.max_outstanding_r2t
+  pub most_outstanding : values.max_outstanding_r2t ≤ 4

@@ -106,7 +106,7 @@ fn transfer_negotiation(key: &str) -> Negotiation
         "FirstBurstLength" => Negotiation::Minimum(512, 16_777_215, 65_536),
         "DefaultTime2Wait" => Negotiation::Maximum(0, 3600, 2),
         "DefaultTime2Retain" => Negotiation::Minimum(0, 3600, 20),
-        "MaxOutstandingR2T" => Negotiation::Minimum(1, 65535, 1),
+        "MaxOutstandingR2T" => Negotiation::Minimum(1, 65535, 4),
         "DataPDUInOrder" => Negotiation::Or(true),
         "DataSequenceInOrder" => Negotiation::Or(true),
         _ => session_negotiation(key),

@@ -9,6 +9,8 @@ use Rattle.iscsi_pdu.specs.Frames.{Frame}
 use Rattle.iscsi_pdu.specs.Answer.{spelling}
 use Rattle.iscsi_pdu.specs.TaskManagement.{ref_cmd_sn}
 use Rattle.iscsi_pdu.specs.declared.answer.Answer.{Answer}
+use Rattle.iscsi_login.specs.Values.{AreInRange}
+use Rattle.iscsi_transfer.specs.Task.{remembered as task_of}
 use Rattle.iscsi_order.specs.Window as order
 use Rattle.iscsi_order.specs.Window.{taken as taken_numbers}
 use Rattle.scsi_unit.specs.Units.{numbers_of}
@@ -17,7 +19,7 @@ use Rattle.iscsi_session.specs.declared.verdict.Verdict.TheVariants.{Ignored, Dr
 use Rattle.iscsi_session.specs.Requests.{Request, Past, Drain, drain_for, frame_of, is_command, is_function, is_in, left, numbers, held, due, queue, unfinished, pending as awaiting, functions, moved, removing, draining, answering, stamp, number_for, DataOut, SentR2t}
 use Rattle.iscsi_session.specs.Functions.{plug, plugged, reached, plugs, awaited, drained_functions, told, told_answers, function_result}
 use Rattle.iscsi_session.specs.Judging.{verdict, judged, reject}
-use Rattle.iscsi_session.specs.Transfers.{command_with, fed, asking, r2t_of, next_transfer_tag}
+use Rattle.iscsi_session.specs.Transfers.{command_with, fed, task_at, asks_of, asking, next_transfer_tag, r2ts_of, r2t_answers, sent_for}
 use Rattle.iscsi_session.specs.Texts.{exchange_of}
 use Rattle.iscsi_session.specs.Acts.{reach_of, act_answers, ended, behind, acted}
 use Rattle.iscsi_session.specs.State.{IsLawful, tasks_of, holding, takes_all}
@@ -36,7 +38,7 @@ use Rattle.iscsi_session.proofs.Telling.{functions_told}
 use Rattle.iscsi_session.proofs.Answered.{moved_other, acted_same, command_answers_none, function_is, function_waits}
 use Rattle.iscsi_session.proofs.Lawful.{moved_by, ended_lawful, more_over, act_lawful, ask_lawful, tell_lawful, first_waits}
 use Rattle.iscsi_session.proofs.Holding.{listed_in, listed_is, listed_other, listed_removing, waits_in, waiting_joined, waiting_more, waiting_told, functions_removing, left_few, pending_in, pending_held, pending_command, pending_other, pending_removing, immediate_of, immediate_less, immediate_joined, comes}
-use Rattle.iscsi_session.proofs.Room.{one_spelled, reject_long, most_answered, ask_long}
+use Rattle.iscsi_session.proofs.Room.{one_spelled, reject_long, most_answered, r2ts_long, few_asks}
 
 -- what waits of its answers, and its requests
 abbrev pub heaviness : Past → ℕ
@@ -47,9 +49,10 @@ pub record Adds (n requests : ℕ) (past after : Past) : Type 0 where
   pub within : IsWithinLimits after
   pub added : heaviness after ≤ heaviness past + n
   pub more : pending_in after ≤ pending_in past + requests
+  pub params : after.params ≡ past.params
 
 pub adds_none : (n requests : ℕ) (past : Past) → IsWithinLimits past → Adds n requests past past
-adds_none n requests past w = record { within = w; added = omega arith; more = omega arith }
+adds_none n requests past w = record { within = w; added = omega arith; more = omega arith; params = refl }
 
 pub adds_then : (n m i j : ℕ) (past middle after : Past) → Adds n i past middle → Adds m j middle after → Adds (n + m) (i + j) past after
 adds_then n m i j past middle after a b = grind arith
@@ -82,6 +85,7 @@ answered_adds n more past w short =
       };
       added = omega (arith, spelled_more past.answers more, (same_answering more past).0, short);
       more = omega (arith, (same_answering more past).0);
+      params = refl;
     }
 
 -- ---- a frame is judged
@@ -109,6 +113,7 @@ judged_adds Accepted past frame e whole w =
       };
       added = omega (arith, more);
       more = more;
+      params = refl;
     }
 judged_adds Feeding past frame e whole w =
     adds_less 0 (request_weight + 99) 0 1 past _ (omega arith) (omega arith)
@@ -286,6 +291,7 @@ acted_adds luns n past k w lawful t short =
       within = record { lawful = lawful; headers = t.headers; few = omega (arith, few, less, same.1) };
       added = omega (arith, answers, spelled_more past.answers more, fewer, same.0, short);
       more = omega (arith, fewer, same.0);
+      params = (acted_same luns k past).0;
     }
 
 header_whole : (past : Past) (k : ℕ) → IsWithinLimits past → k < length past.came → length (frame_of past.came k).header ≡ header_length
@@ -323,18 +329,30 @@ unfolding act
 act_adds work k rest is w =
     act_adds_by _ _ (numbers_of work.units.states) work.past k rest refl refl is (due_came work.past w.lawful k rest is) w (act_lawful work k rest is w.lawful)
 
--- ---- an R2T is sent
+-- ---- R2Ts are sent
 
-pub ask_adds : (work : Work) (k : ℕ) (rest : List ℕ) → asking work.past ≡ k ∷ rest → IsWithinLimits work.past → Adds 48 0 work.past (ask k work).past
+asks_long : (past : Past) (k : ℕ) → AreInRange past.params.values → length (flat_map spelling (r2t_answers (r2ts_of past k))) ≤ 98304
+unfolding r2ts_of task_at task_of
+asks_long past k range =
+    omega (
+      arith,
+      r2ts_long (frame_of past.came k).header (next_transfer_tag past) (stamp past) (asks_of past k),
+      few_asks (task_at past k) range.burst,
+    )
+
+pub ask_adds : (work : Work) (k : ℕ) (rest : List ℕ) → asking work.past ≡ k ∷ rest → AreInRange work.past.params.values → IsWithinLimits work.past
+    → Adds 98304 0 work.past (ask k work).past
 unfolding ask
-ask_adds work k rest is w =
+ask_adds work k rest is range w =
     let past = work.past in
     let few = w.few in
-    let same = same_load past past.data_outs (past.r2ts ++ record { command = k; tag = next_transfer_tag past } ∷ []) (past.answers ++ r2t_of past k) in
+    let more = r2t_answers (r2ts_of past k) in
+    let same = same_load past past.data_outs (past.r2ts ++ map (sent_for k) (r2ts_of past k)) (past.answers ++ more) in
     record {
       within = record { lawful = ask_lawful work k rest is w.lawful; headers = w.headers; few = omega (arith, few, same.1) };
-      added = omega (arith, spelled_more past.answers (r2t_of past k), ask_long past k, same.0);
+      added = omega (arith, spelled_more past.answers more, asks_long past k range, same.0);
       more = omega (arith, same.0);
+      params = refl;
     }
 
 -- ---- a function is answered whose data has come
@@ -368,4 +386,5 @@ tell_adds work k rest is w =
       };
       added = omega (arith, spelled_more past.answers more, told_short past k, (same_answering more (told k past)).0, fewer);
       more = omega (arith, (same_answering more (told k past)).0, fewer);
+      params = refl;
     }

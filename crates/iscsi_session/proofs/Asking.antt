@@ -1,59 +1,138 @@
--- An R2T is sent, and a command of the queue is done where its data is whole.
-use Rattle.std.proofs.Common.{◌≡◌, ◌≢◌, ◌==◌, ℕ, ◌<◌, List, [], ◌∷◌, ◌++◌, length, map, set, true, false, Option, Some, None, refl, sym, ap, subst, ◌∙◌, arith, append-nil}
-use Rattle.std.specs.Prelude.{filter, fold, find, is_some, slice_get}
+-- The R2Ts that are due of a command are sent, and a command of the queue is done where its data is whole.
+use Rattle.std.proofs.Common.{◌≡◌, ◌≢◌, ◌==◌, ℕ, zero, suc, ◌+◌, ◌-◌, ◌%◌, ◌<◌, List, [], ◌∷◌, ◌++◌, length, map, set, drop, Bool, true, false, Option, Some, None, refl, sym, ap, subst, ◌∙◌, arith, append-nil, append_assoc}
+use Rattle.std.specs.Prelude.{All, filter, find, is_some, slice_get}
 use Rattle.std.proofs.lemmas.Bool.{eq-eqb, ne_eqb}
-use Rattle.std.proofs.lemmas.List.{length-append}
-use Rattle.std.proofs.lemmas.List.Elements.{All-push}
-use Rattle.iscsi_pdu.specs.DataOut.{no_transfer_tag}
+use Rattle.std.proofs.lemmas.List.{length-append, length-map, map-append, drop_all}
+use Rattle.std.proofs.lemmas.List.Elements.{All-cons, All-push, filter-append}
+use Rattle.iscsi_pdu.specs.declared.r2t.R2t.{R2t}
 use Rattle.iscsi_pdu.specs.declared.stamp.Stamp.{Stamp}
-use Rattle.iscsi_transfer.specs.Task.{TaskState, remembered as task_of}
+use Rattle.iscsi_transfer.specs.Task.{TaskState, remembered as task_of, filled, due_asks, is_due, with_asked}
+use Rattle.iscsi_transfer.specs.declared.progress.Ask.{Ask}
 use Rattle.iscsi_transfer.proofs.Standing.{remembered-asked}
+use Rattle.iscsi_transfer.proofs.Due.{sent_is_due_no_more}
 use Rattle.iscsi_session.specs.declared.transfers.Transfer.{Transfer}
+use Rattle.iscsi_session.specs.Drained.{Drained}
 use Rattle.iscsi_session.specs.Requests.{Past, SentR2t, frame_of, is_in, due, queue, unfinished, stamp, statuses, bearing, functions}
-use Rattle.iscsi_session.specs.Transfers.{outs_of, tags_of, last_tag, data_past, task_at, ask_of, asking, next_transfer_tag, drains_of, r2t_answers, r2t_of, asked, asked_by, r2ts_by}
-use Rattle.iscsi_session.specs.State.{SessionState, TransferList, AreDrained, drained_of, IsLawful, Stands, tasks_of, transfers_of, transfer_of, transfer_at, no_transfer, due_of, asking_place, r2t_at, asked_at, sent_to, functions_of, standing, remembered}
+use Rattle.iscsi_session.specs.Transfers.{outs_of, tags_of, data_past, task_at, asks_of, is_due_of, asking, next_transfer_tag, drains_of, r2t_for, r2ts_for, r2ts_of, r2t_answers, sent_for, asked, asked_by, r2ts_by}
+use Rattle.iscsi_session.specs.State.{SessionState, TransferList, AreDrained, drained_of, IsLawful, Stands, tasks_of, transfers_of, transfer_of, transfer_at, no_transfer, asking_place, r2ts_at, sent_at, sent_to, functions_of, standing, remembered}
 use Rattle.iscsi_session.specs.Steps.{ready, ready_in}
+use Rattle.iscsi_session.specs.Laws.{R2tsAreSentAtOnce}
 use Rattle.iscsi_order.specs.Stat.{stat_sn}
 use Rattle.iscsi_session.proofs.Left.{in_at, in_filter}
-use Rattle.iscsi_session.proofs.Places.{in_get, Located, located, index_map, first_passes, none_passes, one_more}
+use Rattle.iscsi_session.proofs.Places.{in_get, Located, located, index_map, first_passes, none_passes}
 use Rattle.iscsi_session.proofs.Kept.{unfinished_came}
 use Rattle.iscsi_session.proofs.Parts.{parts}
 use Rattle.iscsi_session.proofs.Feeding.{list_is, list_changed, drains_kept}
 use Rattle.iscsi_session.proofs.Runs.{lawful_data, statuses_answering}
 use Rattle.iscsi_session.specs.Texts.{exchange_of}
 
--- ---- its tag is the last one
+-- ---- R2Ts for some parts of the data of a command
 
-last_push : (tags : List ℕ) (tag before : ℕ) → fold (λ before tag. tag) before (tags ++ tag ∷ []) ≡ tag
-last_push [] tag before = refl
-last_push (first ∷ tags) tag before = last_push tags tag first
+abbrev pub transfer_tag : R2t → ℕ
+transfer_tag r2t = r2t.target_transfer_tag
 
-abbrev sent_now : Past → ℕ → SentR2t
-sent_now past k = record { command = k; tag = next_transfer_tag past }
+pub length-r2ts : (header : List ℕ) (tag : ℕ) (numbers : Stamp) (asks : List Ask) → length (r2ts_for header tag numbers asks) ≡ length asks
+length-r2ts header tag numbers [] = refl
+length-r2ts header tag numbers (ask ∷ asks) = ap suc (length-r2ts header ((tag + 1) % 0xFFFFFFFF) numbers asks)
+
+pub r2ts_counted : (past : Past) (k : ℕ) → length (r2ts_of past k) ≡ length (asks_of past k)
+unfolding r2ts_of
+r2ts_counted past k = length-r2ts (frame_of past.came k).header (next_transfer_tag past) (stamp past) (asks_of past k)
+
+-- ---- what a task makes of them
+
+abbrev no_tags : List ℕ
+no_tags = []
+
+pub sent_none : (task : TaskState) → with_asked [] task ≡ task
+unfolding with_asked
+sent_none task =
+    let same : task.sent + 0 ≡ task.sent = omega arith in
+    ap (λ (l : List ℕ). record task { sent = task.sent + 0; open_tags = task.open_tags ++ l }) (drop_all (filled task - task.sent) no_tags (omega arith))
+    ∙ ap (λ (l : List ℕ). record task { sent = task.sent + 0; open_tags = l }) (append-nil task.open_tags)
+    ∙ ap (λ (k : ℕ). record task { sent = k }) same
+
+after_one : (n m : ℕ) (open_tags : List ℕ) (tag : ℕ) (tags : List ℕ) → m ≡ n - 1
+    → (open_tags ++ drop n (tag ∷ [])) ++ drop m tags ≡ open_tags ++ drop n (tag ∷ tags)
+after_one zero m open_tags tag tags e =
+    let none : m ≡ 0 = omega (arith, e) in
+    ap (λ (k : ℕ). (open_tags ++ tag ∷ []) ++ drop k tags) none ∙ append_assoc open_tags (tag ∷ []) tags
+after_one (suc n) m open_tags tag tags e =
+    let less : m ≡ n = omega (arith, e) in
+    ap (λ (k : ℕ). (open_tags ++ drop n no_tags) ++ drop k tags) less
+    ∙ ap (λ (l : List ℕ). (open_tags ++ l) ++ drop n tags) (drop_all n no_tags (omega arith))
+    ∙ ap (λ (l : List ℕ). l ++ drop n tags) (append-nil open_tags)
+
+pub sent_then : (task : TaskState) (tag : ℕ) (tags : List ℕ) → with_asked tags (with_asked (tag ∷ []) task) ≡ with_asked (tag ∷ tags) task
+unfolding with_asked
+sent_then task tag tags =
+    let n = filled task - task.sent in
+    let m = filled task - (task.sent + 1) in
+    let more : (task.sent + 1) + length tags ≡ task.sent + length (tag ∷ tags) = omega arith in
+    ap (λ (k : ℕ). record task { sent = k; open_tags = (task.open_tags ++ drop n (tag ∷ [])) ++ drop m tags }) more
+    ∙ ap (λ (l : List ℕ). record task { sent = task.sent + length (tag ∷ tags); open_tags = l })
+    (after_one n m task.open_tags tag tags (omega arith))
+
+pub one_less : (task : TaskState) (ask : Ask) (asks : List Ask) (tag : ℕ) → due_asks task ≡ ask ∷ asks → due_asks (with_asked (tag ∷ []) task) ≡ asks
+one_less task ask asks tag e = sent_is_due_no_more task tag ∙ ap (drop 1) e
+
+-- where all that are due are sent, none is due
+pub all_sent : (task : TaskState) (asks : List Ask) (tags : List ℕ) → due_asks task ≡ asks → length tags ≡ length asks → due_asks (with_asked tags task) ≡ []
+all_sent task [] [] e same = ap due_asks (sent_none task) ∙ e
+all_sent task [] (tag ∷ tags) e same = absurd (omega (arith, same))
+all_sent task (ask ∷ asks) [] e same = absurd (omega (arith, same))
+all_sent task (ask ∷ asks) (tag ∷ tags) e same =
+    ap due_asks (sym (sent_then task tag tags))
+    ∙ all_sent (with_asked (tag ∷ []) task) asks tags (one_less task ask asks tag e) (omega (arith, same))
+
+-- ---- what a command remembers of them
+
+abbrev named : ℕ → SentR2t → Bool
+named k r2t = r2t.command == k
+
+tags_there : (k : ℕ) (r2ts : List R2t) → map (λ r. r.tag) (filter (named k) (map (sent_for k) r2ts)) ≡ map transfer_tag r2ts
+tags_there k [] = refl
+tags_there k (r2t ∷ r2ts) = rw (eq-eqb k k refl) (ap (λ (l : List ℕ). r2t.target_transfer_tag ∷ l) (tags_there k r2ts))
+
+tags_elsewhere : (k j : ℕ) (r2ts : List R2t) → (k == j) ≡ false → map (λ r. r.tag) (filter (named j) (map (sent_for k) r2ts)) ≡ []
+tags_elsewhere k j [] e = refl
+tags_elsewhere k j (r2t ∷ r2ts) e = rw e (tags_elsewhere k j r2ts e)
+
+tags_more : (past : Past) (k j : ℕ) → tags_of (asked k past) j ≡ tags_of past j ++ map (λ r. r.tag) (filter (named j) (map (sent_for k) (r2ts_of past k)))
+unfolding tags_of
+tags_more past k j =
+    let more = map (sent_for k) (r2ts_of past k) in
+    ap (map (λ (r : SentR2t). r.tag)) (filter-append (named j) past.r2ts more)
+    ∙ map-append (λ (r : SentR2t). r.tag) (filter (named j) past.r2ts) (filter (named j) more)
 
 abbrev from_tags : Past → ℕ → List ℕ → Transfer
 from_tags past k tags = record {
   header = (frame_of past.came k).header;
-  task = task_of (record { values = past.params.values; command = frame_of past.came k; outs = outs_of past k; tag = last_tag tags });
-  sent = length tags;
+  task = task_of (record { values = past.params.values; command = frame_of past.came k; outs = outs_of past k; tags = tags });
 }
 
-pub asked_there : (past : Past) (k : ℕ) → transfer_of (asked k past) k ≡ sent_to (next_transfer_tag past) (transfer_of past k)
-unfolding task_at outs_of tags_of
+tags_grown : (past : Past) (k j : ℕ) (tags : List ℕ) → tags_of (asked k past) j ≡ tags → transfer_of (asked k past) j ≡ from_tags past j tags
+unfolding task_at outs_of
+tags_grown past k j tags e = ap (from_tags past j) e
+
+pub asked_there : (past : Past) (k : ℕ) → transfer_of (asked k past) k ≡ sent_to (r2ts_of past k) (transfer_of past k)
+unfolding task_at
 asked_there past k =
-    let tag = next_transfer_tag past in
-    let tags = tags_of past k in
-    ap (from_tags past k) (one_more true (λ r. r.command) (λ r. r.tag) (sent_now past k) k past.r2ts (eq-eqb k k refl))
-    ∙ ap (λ (t : ℕ). record (from_tags past k (tags ++ tag ∷ [])) { task = task_of (record (data_past past k) { tag = t }) })
-    (last_push tags tag no_transfer_tag)
-    ∙ ap (λ (t : TaskState). record (from_tags past k (tags ++ tag ∷ [])) { task = t }) (remembered-asked (data_past past k) tag)
-    ∙ ap (λ (n : ℕ). record (sent_to tag (transfer_of past k)) { sent = n }) (length-append tags (tag ∷ []))
+    tags_grown past k k _ (tags_more past k k ∙ ap (λ (l : List ℕ). tags_of past k ++ l) (tags_there k (r2ts_of past k)))
+    ∙ ap (λ (t : TaskState). record (transfer_of past k) { task = t }) (remembered-asked (data_past past k) (map transfer_tag (r2ts_of past k)))
 
 pub asked_elsewhere : (past : Past) (k j : ℕ) → j ≢ k → transfer_of (asked k past) j ≡ transfer_of past j
-unfolding task_at outs_of tags_of
+unfolding task_at
 asked_elsewhere past k j differ =
-    ap (from_tags past j) (one_more false (λ r. r.command) (λ r. r.tag) (sent_now past k) j past.r2ts (ne_eqb k j (λ e. differ (sym e)))
-    ∙ append-nil (map (λ (r : SentR2t). r.tag) (filter (λ (r : SentR2t). r.command == j) past.r2ts)))
+    tags_grown past k j _ (tags_more past k j ∙ ap (λ (l : List ℕ). tags_of past j ++ l) (tags_elsewhere k j (r2ts_of past k) (ne_eqb k j (λ e. differ (sym e))))
+    ∙ append-nil (tags_of past j))
+
+-- none is due of it behind them
+pub asks_gone : (past : Past) (k : ℕ) → asks_of (asked k past) k ≡ []
+asks_gone past k =
+    ap (λ (t : Transfer). due_asks t.task) (asked_there past k)
+    ∙ all_sent (task_at past k) (asks_of past k) (map transfer_tag (r2ts_of past k)) refl
+    (length-map (r2ts_of past k) transfer_tag ∙ r2ts_counted past k)
 
 pub unfinished_asked : (past : Past) (k : ℕ) → unfinished (asked k past) ≡ unfinished past
 unfolding unfinished
@@ -62,32 +141,32 @@ unfinished_asked past k = refl
 -- ---- which command is asked
 
 asking_in : (past : Past) (state : SessionState) → Stands past state
-    → Located (λ transfer. is_some (due_of transfer)) (transfer_of past) (unfinished past) (asking_place state.transfers.list)
+    → Located (λ transfer. is_due transfer.task) (transfer_of past) (unfinished past) (asking_place state.transfers.list)
 asking_in past state s =
-    subst (λ (l : List Transfer). Located (λ transfer. is_some (due_of transfer)) (transfer_of past) (unfinished past) (asking_place l))
-    (sym (list_is past state s)) (located (λ (transfer : Transfer). is_some (due_of transfer)) (transfer_of past) (unfinished past))
+    subst (λ (l : List Transfer). Located (λ transfer. is_due transfer.task) (transfer_of past) (unfinished past) (asking_place l))
+    (sym (list_is past state s)) (located (λ (transfer : Transfer). is_due transfer.task) (transfer_of past) (unfinished past))
 
 pub asking_came : (past : Past) (k : ℕ) (rest : List ℕ) → asking past ≡ k ∷ rest → k < length past.came
 unfolding asking
-asking_came past k rest is = unfinished_came past k (in_filter k (λ a. is_some (ask_of past a)) (unfinished past)
+asking_came past k rest is = unfinished_came past k (in_filter k (is_due_of past) (unfinished past)
     (ap (λ (l : List ℕ). is_in k l) is ∙ in_at (k ∷ rest) 0 0 (omega arith)))
 
-none_asking : (past : Past) → find (λ k. is_some (ask_of past k)) (unfinished past) ≡ None → asking past ≡ []
+none_asking : (past : Past) → find (is_due_of past) (unfinished past) ≡ None → asking past ≡ []
 unfolding asking
-none_asking past e = none_passes (λ k. is_some (ask_of past k)) (unfinished past) e
+none_asking past e = none_passes (is_due_of past) (unfinished past) e
 
-one_asking : (past : Past) (k : ℕ) → find (λ k. is_some (ask_of past k)) (unfinished past) ≡ Some k → (others : List ℕ) × (asking past ≡ k ∷ others)
+one_asking : (past : Past) (k : ℕ) → find (is_due_of past) (unfinished past) ≡ Some k → (others : List ℕ) × (asking past ≡ k ∷ others)
 unfolding asking
-one_asking past k e = first_passes (λ k. is_some (ask_of past k)) k (unfinished past) e
+one_asking past k e = first_passes (is_due_of past) k (unfinished past) e
 
 -- ---- what is remembered behind it
 
 asked_list : (past : Past) (k i : ℕ) → slice_get (unfinished past) i ≡ Some k
-    → set (map (transfer_of past) (unfinished past)) i (sent_to (next_transfer_tag past) (transfer_at (map (transfer_of past) (unfinished past)) i))
+    → set (map (transfer_of past) (unfinished past)) i (sent_to (r2ts_of past k) (transfer_at (map (transfer_of past) (unfinished past)) i))
     ≡ map (transfer_of (asked k past)) (unfinished past)
 asked_list past k i at =
     list_changed past (asked k past) k i _ at
-    (ap (sent_to (next_transfer_tag past)) (index_map (transfer_of past) no_transfer (unfinished past) i k at) ∙ sym (asked_there past k))
+    (ap (sent_to (r2ts_of past k)) (index_map (transfer_of past) no_transfer (unfinished past) i k at) ∙ sym (asked_there past k))
     (λ j differ. asked_elsewhere past k j differ)
 
 asked_drains : (past : Past) (k i : ℕ) → AreDrained past → slice_get (unfinished past) i ≡ Some k
@@ -95,62 +174,105 @@ asked_drains : (past : Past) (k i : ℕ) → AreDrained past → slice_get (unfi
 asked_drains past k i drained at =
     drains_kept past (asked k past) k drained (in_get (unfinished past) i k at) refl (λ j differ. asked_elsewhere past k j differ)
 
-asked_transfers : (past : Past) (k i : ℕ) → AreDrained past → slice_get (unfinished past) i ≡ Some k
-    → asked_at (transfers_of past) (Some i) ≡ transfers_of (asked k past)
-unfolding transfers_of
-asked_transfers past k i drained at = grind (arith, length-append, asked_list, unfinished_asked, asked_drains)
+next_behind : (past : Past) (k : ℕ) → (next_transfer_tag past + length (r2ts_of past k)) % 0xFFFFFFFF ≡ next_transfer_tag (asked k past)
+next_behind past k =
+    omega (arith, length-append past.r2ts (map (sent_for k) (r2ts_of past k)), length-map (r2ts_of past k) (sent_for k))
 
-r2t_bears_none : (past : Past) (k : ℕ) → bearing (r2t_of past k) ≡ 0
-unfolding r2t_of
-r2t_bears_none past k = grind arith
+asked_transfers : (past : Past) (k i : ℕ) → AreDrained past → slice_get (unfinished past) i ≡ Some k
+    → sent_at i (r2ts_of past k) (transfers_of past) ≡ transfers_of (asked k past)
+unfolding transfers_of
+asked_transfers past k i drained at =
+    ap (λ (n : ℕ). record (sent_at i (r2ts_of past k) (transfers_of past)) { next_tag = n }) (next_behind past k)
+    ∙ ap (λ (l : List Transfer). record (transfers_of (asked k past)) { list = l; drains = map (drained_of past) (drains_of past) })
+    (asked_list past k i at ∙ ap (map (transfer_of (asked k past))) (sym (unfinished_asked past k)))
+    ∙ ap (λ (l : List Drained). record (transfers_of (asked k past)) { drains = l }) (asked_drains past k i drained at)
+
+r2ts_bear_none : (r2ts : List R2t) → bearing (r2t_answers r2ts) ≡ 0
+r2ts_bear_none [] = refl
+r2ts_bear_none (r2t ∷ r2ts) = r2ts_bear_none r2ts
 
 statuses_asked : (past : Past) (k : ℕ) → statuses (asked k past) ≡ statuses past
-statuses_asked past k = grind (arith, statuses_answering, r2t_bears_none)
+statuses_asked past k =
+    omega (
+      arith,
+      statuses_answering (r2t_answers (r2ts_of past k)) (record past { r2ts = past.r2ts ++ map (sent_for k) (r2ts_of past k) }),
+      r2ts_bear_none (r2ts_of past k),
+    )
+
+-- ---- the numbers that they carry
+
+alike : (header : List ℕ) (tag : ℕ) (numbers : Stamp) (asks : List Ask) → All (λ r2t. r2t.stamp ≡ numbers) (r2ts_for header tag numbers asks)
+alike header tag numbers [] = λ i d lt. absurd (omega (arith, lt))
+alike header tag numbers (ask ∷ asks) =
+    All-cons (λ (r2t : R2t). r2t.stamp ≡ numbers) (r2t_for header tag numbers ask) (r2ts_for header ((tag + 1) % 0xFFFFFFFF) numbers asks) refl
+    (alike header ((tag + 1) % 0xFFFFFFFF) numbers asks)
+
+stamps_alike : (past : Past) (k : ℕ) → All (λ r2t. r2t.stamp ≡ stamp past) (r2ts_of past k)
+unfolding r2ts_of
+stamps_alike past k = alike (frame_of past.came k).header (next_transfer_tag past) (stamp past) (asks_of past k)
+
+stamp_unused : (past : Past) (k : ℕ) → stamp (asked k past) ≡ stamp past
+unfolding stamp
+stamp_unused past k = ap (λ (n : ℕ). record (stamp past) { stat_sn = stat_sn n }) (statuses_asked past k)
+
+pub r2ts_are_sent_at_once : R2tsAreSentAtOnce
+r2ts_are_sent_at_once past k = record { stamps = stamps_alike past k; unused = stamp_unused past k; none_left = asks_gone past k }
+
+all_of_command : (n k : ℕ) (r2ts : List R2t) (l : List SentR2t) → k < n → All (λ r. r.command < n) l → All (λ r. r.command < n) (l ++ map (sent_for k) r2ts)
+all_of_command n k [] l lt all = subst (All (λ (r : SentR2t). r.command < n)) (sym (append-nil l)) all
+all_of_command n k (r2t ∷ r2ts) l lt all =
+    subst (All (λ (r : SentR2t). r.command < n)) (append_assoc l (sent_for k r2t ∷ []) (map (sent_for k) r2ts))
+    (all_of_command n k r2ts (l ++ sent_for k r2t ∷ []) lt (All-push (λ (r : SentR2t). r.command < n) l (sent_for k r2t) all lt))
 
 pub lawful_asked : (past : Past) (k : ℕ) → k < length past.came → IsLawful past → IsLawful (asked k past)
 lawful_asked past k lt lawful =
-    lawful_data past past.data_outs (past.r2ts ++ sent_now past k ∷ []) (past.answers ++ r2t_of past k) lawful lawful.fed
-    (All-push (λ (r : SentR2t). r.command < length past.came) past.r2ts (sent_now past k) lawful.asked lt)
+    lawful_data past past.data_outs (past.r2ts ++ map (sent_for k) (r2ts_of past k)) (past.answers ++ r2t_answers (r2ts_of past k)) lawful lawful.fed
+    (all_of_command (length past.came) k (r2ts_of past k) past.r2ts lt lawful.asked)
 
 stands_one : (past : Past) (state : SessionState) (k i : ℕ) (others : List ℕ) → Stands past state → asking past ≡ k ∷ others
-    → slice_get (unfinished past) i ≡ Some k → Stands (asked k past) (record state { transfers = asked_at state.transfers (Some i) })
+    → slice_get (unfinished past) i ≡ Some k → Stands (asked k past) (record state { transfers = sent_at i (r2ts_of past k) state.transfers })
 unfolding tasks_of functions_of exchange_of due queue standing functions
 stands_one past state k i others s is at = record {
   lawful = lawful_asked past k (asking_came past k others is) s.lawful;
-  remembered = ap (λ (x : SessionState). record x { transfers = asked_at x.transfers (Some i) }) s.remembered
+  remembered = ap (λ (x : SessionState). record x { transfers = sent_at i (r2ts_of past k) x.transfers }) s.remembered
       ∙ ap (λ (t : TransferList). record (remembered past) { transfers = t }) (asked_transfers past k i s.lawful.drained at)
       ∙ ap (λ (n : ℕ). record (remembered (asked k past)) { stat = stat_sn n }) (sym (statuses_asked past k));
 }
 
-stands_place : (past : Past) (state : SessionState) (at : Option ℕ) → Stands past state
-    → Located (λ transfer. is_some (due_of transfer)) (transfer_of past) (unfinished past) at
-    → Stands (asked_by (asking past) past) (record state { transfers = asked_at state.transfers at })
-stands_place past state None s found = subst (λ (l : List ℕ). Stands (asked_by l past) state) (sym (none_asking past found)) s
-stands_place past state (Some i) s found =
-    let one = one_asking past found.0 found.1 in
-    subst (λ (l : List ℕ). Stands (asked_by l past) (record state { transfers = asked_at state.transfers (Some i) })) (sym one.1)
-    (stands_one past state found.0 i one.0 s one.1 found.2)
-
-pub stands_asked : (past : Past) (state : SessionState) → Stands past state
-    → Stands (asked_by (asking past) past) (record state { transfers = asked_at state.transfers (asking_place state.transfers.list) })
-stands_asked past state s = grind (arith, stands_place past state (asking_place state.transfers.list) s (asking_in past state s), asking_in past state s)
-
 -- ---- what is sent
 
-r2t_place : (past : Past) (state : SessionState) (numbers : Stamp) (at : Option ℕ) → Stands past state → numbers ≡ stamp past
-    → Located (λ transfer. is_some (due_of transfer)) (transfer_of past) (unfinished past) at
-    → r2t_answers (r2t_at state.transfers numbers at) ≡ r2ts_by (asking past) past
-unfolding r2t_of transfers_of
-r2t_place past state numbers None s same found = ap (λ (l : List ℕ). r2ts_by l past) (sym (none_asking past found))
-r2t_place past state numbers (Some i) s same found =
-    grind (arith, one_asking past found.0 found.1, parts past state s, index_map (transfer_of past) no_transfer (unfinished past) i found.0 found.2)
+r2ts_there : (past : Past) (state : SessionState) (numbers : Stamp) (k i : ℕ) → Stands past state → numbers ≡ stamp past
+    → slice_get (unfinished past) i ≡ Some k → r2ts_at state.transfers numbers i ≡ r2ts_of past k
+unfolding r2ts_of transfers_of
+r2ts_there past state numbers k i s same at = grind (arith, parts past state s, index_map (transfer_of past) no_transfer (unfinished past) i k at)
 
-pub r2ts_are : (past : Past) (state : SessionState) (numbers : Stamp) → Stands past state → numbers ≡ stamp past
-    → r2t_answers (r2t_at state.transfers numbers (asking_place state.transfers.list)) ≡ r2ts_by (asking past) past
-r2ts_are past state numbers s same = grind (arith, r2t_place, asking_in)
+-- the R2Ts that the command at this place is sent are those of the first that is to be asked
+pub record SendsAll (past : Past) (state : SessionState) (r2ts : List R2t) (i : ℕ) : Type 0 where
+  pub stands : Stands (asked_by (asking past) past) (record state { transfers = sent_at i r2ts state.transfers })
+  pub r2ts_are : r2t_answers r2ts ≡ r2ts_by (asking past) past
+
+sends_one : (past : Past) (state : SessionState) (numbers : Stamp) (at : Option ℕ) (i : ℕ) → Stands past state → numbers ≡ stamp past → at ≡ Some i
+    → Located (λ transfer. is_due transfer.task) (transfer_of past) (unfinished past) at
+    → SendsAll past state (r2ts_at state.transfers numbers i) i
+sends_one past state numbers None i s same is found = absurd cc
+sends_one past state numbers (Some j) i s same is found =
+    let here : j ≡ i = cc in
+    let k = found.0 in
+    let one = one_asking past k found.1 in
+    let place : slice_get (unfinished past) i ≡ Some k = ap (slice_get (unfinished past)) (sym here) ∙ found.2 in
+    let are = r2ts_there past state numbers k i s same place in
+    let sent = sent_at i (r2ts_of past k) state.transfers in
+    subst (λ (r2ts : List R2t). SendsAll past state r2ts i) (sym are) (record {
+      stands = subst (λ (l : List ℕ). Stands (asked_by l past) (record state { transfers = sent })) (sym one.1) (stands_one past state k i one.0 s one.1 place);
+      r2ts_are = ap (λ (l : List ℕ). r2ts_by l past) (sym one.1);
+    })
+
+pub sends_all : (past : Past) (state : SessionState) (numbers : Stamp) (i : ℕ) → Stands past state → numbers ≡ stamp past
+    → asking_place state.transfers.list ≡ Some i → SendsAll past state (r2ts_at state.transfers numbers i) i
+sends_all past state numbers i s same is = sends_one past state numbers (asking_place state.transfers.list) i s same is (asking_in past state s)
 
 -- whether there is one
-there_by : (past : Past) (at : Option ℕ) → Located (λ transfer. is_some (due_of transfer)) (transfer_of past) (unfinished past) at
+there_by : (past : Past) (at : Option ℕ) → Located (λ transfer. is_due transfer.task) (transfer_of past) (unfinished past) at
     → (is_some at ≡ true → (k : ℕ) × (others : List ℕ) × (asking past ≡ k ∷ others)) × (is_some at ≡ false → asking past ≡ [])
 there_by past None found = (λ e. absurd cc, λ e. none_asking past found)
 there_by past (Some i) found = (λ e. (let one = one_asking past found.0 found.1 in (found.0, one.0, one.1)), λ e. absurd cc)

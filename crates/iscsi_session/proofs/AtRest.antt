@@ -57,38 +57,43 @@ step_adds n i fails step does work w next = step_by work.goes_on (fails step) n 
 abbrev AddsLittle : (Past → List ℕ) → (ℕ → Work → Work) → Type 0
 AddsLittle line does = (work : Work) (k : ℕ) (rest : List ℕ) → line work.past ≡ k ∷ rest → IsWithinLimits work.past → Adds 48 0 work.past (does k work).past
 
-first_adds : (fails : Step → Bool) (step : Step) (line : Past → List ℕ) (does : ℕ → Work → Work) (l : List ℕ) (work : Work) → line work.past ≡ l
-    → AddsLittle line does → IsWithinLimits work.past → Adds 48 0 work.past (first_steps fails step does l work).past
-first_adds fails step line does [] work is little w = adds_none 48 0 work.past w
-first_adds fails step line does (k ∷ rest) work is little w = step_adds 48 0 fails step (does k) work w (little (reaches step work) k rest is w)
+first_adds : (n : ℕ) (fails : Step → Bool) (step : Step) (line : Past → List ℕ) (does : ℕ → Work → Work) (l : List ℕ) (work : Work) → line work.past ≡ l
+    → ((k : ℕ) (rest : List ℕ) → line work.past ≡ k ∷ rest → Adds n 0 work.past (does k (reaches step work)).past) → IsWithinLimits work.past
+    → Adds n 0 work.past (first_steps fails step does l work).past
+first_adds n fails step line does [] work is little w = adds_none n 0 work.past w
+first_adds n fails step line does (k ∷ rest) work is little w = step_adds n 0 fails step (does k) work w (little k rest is)
 
 all_add : (fails : Step → Bool) (step : ℕ → Step) (line : Past → List ℕ) (does : ℕ → Work → Work) (turn most : ℕ) (work : Work) → AddsLittle line does
     → IsWithinLimits work.past → Adds (most * 48) 0 work.past (one_by_one fails step line does turn most work).past
 all_add fails step line does turn zero work little w = adds_none (0 * 48) 0 work.past w
 all_add fails step line does turn (suc most) work little w =
     let next = first_steps fails (step turn) does (line work.past) work in
-    let one = first_adds fails (step turn) line does (line work.past) work refl little w in
+    let one = first_adds 48 fails (step turn) line does (line work.past) work refl (λ k rest is. little (reaches (step turn) work) k rest is w) w in
     let others = all_add fails step line does (suc turn) most next little one.within in
     adds_less (48 + most * 48) (suc most * 48) (0 + 0) 0 work.past _ (omega arith) (omega arith)
     (adds_then 48 (most * 48) 0 0 work.past next.past _ one others)
 
-pub served_adds : (fails : Step → Bool) (place : ℕ) (frame : Frame) (work : Work) → length frame.header ≡ header_length → IsWithinLimits work.past
-    → pending_in work.past ≤ 40 → Adds (2 * request_weight) 1 work.past (served fails place frame work).past
+pub served_adds : (fails : Step → Bool) (place : ℕ) (frame : Frame) (work : Work) → length frame.header ≡ header_length
+    → AreInRange work.past.params.values → IsWithinLimits work.past → pending_in work.past ≤ 40
+    → Adds (2 * request_weight) 1 work.past (served fails place frame work).past
 unfolding served asked_in taken_in act_all ask_due tell_due
-served_adds fails place frame work whole w few =
+served_adds fails place frame work whole range w few =
     let judging = take_step fails (Judging place) (judge frame) work in
     let first = step_adds (request_weight + 99) 1 fails (Judging place) (judge frame) work w (judge_adds frame (reaches (Judging place) work) whole w) in
     let fuel = waiting_in judging.past in
     let acts = one_by_one fails (Taking place) due act 0 fuel judging in
     let second = all_add fails (Taking place) due act 0 fuel judging act_adds first.within in
-    let third = first_adds fails (Asking place) asking ask (asking acts.past) acts refl ask_adds second.within in
+    let so_far = adds_then (request_weight + 99) (fuel * 48) 1 0 work.past judging.past acts.past first second in
+    let same : AreInRange acts.past.params.values = subst (λ (p : Params). AreInRange p.values) (sym so_far.params) range in
+    let third = first_adds 98304 fails (Asking place) asking ask (asking acts.past) acts refl
+    (λ k rest is. ask_adds (reaches (Asking place) acts) k rest is same second.within) second.within in
     let asks = first_steps fails (Asking place) ask (asking acts.past) acts in
-    let fourth = first_adds fails (Answering place) drained_functions tell (drained_functions asks.past) asks refl tell_adds third.within in
+    let fourth = first_adds 48 fails (Answering place) drained_functions tell (drained_functions asks.past) asks refl
+    (λ k rest is. tell_adds (reaches (Answering place) asks) k rest is third.within) third.within in
     let more = first.more in
-    adds_less (request_weight + 99 + fuel * 48 + 48 + 48) (2 * request_weight) (1 + 0 + 0 + 0) 1 work.past _ (omega (arith, more, few)) (omega arith)
-    (adds_then (request_weight + 99 + fuel * 48 + 48) 48 (1 + 0 + 0) 0 work.past asks.past _
-    (adds_then (request_weight + 99 + fuel * 48) 48 (1 + 0) 0 work.past acts.past asks.past
-    (adds_then (request_weight + 99) (fuel * 48) 1 0 work.past judging.past acts.past first second) third) fourth)
+    adds_less (request_weight + 99 + fuel * 48 + 98304 + 48) (2 * request_weight) (1 + 0 + 0 + 0) 1 work.past _ (omega (arith, more, few)) (omega arith)
+    (adds_then (request_weight + 99 + fuel * 48 + 98304) 48 (1 + 0 + 0) 0 work.past asks.past _
+    (adds_then (request_weight + 99 + fuel * 48) 98304 (1 + 0) 0 work.past acts.past asks.past so_far third) fourth)
 
 -- ---- how many are pending
 
@@ -314,8 +319,8 @@ removing_eases reach old new waiting stands r =
 
 run_loads : (frame : Frame) (failed : Option (ℕ → Step)) (goes_on : Bool) (old new : SessionState) (before waiting : Output) (units : TargetUnits)
     → Runs (λ fails place. served fails place frame) failed goes_on old new before waiting units units → length frame.header ≡ header_length
-    → (goes_on ≡ true → new.tasks.due ≡ []) → IsAtRest old → Loads goes_on old new before.bytes waiting.bytes
-run_loads frame failed goes_on old new before waiting units runs whole idle r =
+    → (goes_on ≡ true → new.tasks.due ≡ []) → AreInRange old.params.values → IsAtRest old → Loads goes_on old new before.bytes waiting.bytes
+run_loads frame failed goes_on old new before waiting units runs whole idle range r =
     let past = r.past in
     let work = begun_work past units in
     let fails : Step → Bool = is_failed failed 0 in
@@ -324,7 +329,8 @@ run_loads frame failed goes_on old new before waiting units runs whole idle r =
     let few = rest_few past r.within r.idle in
     let after = (served fails 0 frame work).past in
     let s : Stands after new = record { lawful = leaves.lawful; remembered = leaves.remembered } in
-    let adds = served_adds fails 0 frame work whole r.within few in
+    let in_range : AreInRange past.params.values = subst (λ (x : SessionState). AreInRange x.params.values) r.remembered range in
+    let adds = served_adds fails 0 frame work whole in_range r.within few in
     let added = adds.added in
     record {
       rests = λ on. record {
@@ -355,10 +361,10 @@ pub serve_loads : {E : Type 0} (result : Result Bool E) (frame : Frame) (luns : 
     → Runs (λ fails place. served fails place frame) None goes_on old new before waiting units units)
     → OnErr result (Stops is_serving (λ failed. (units : TargetUnits) → luns ≡ numbers_of units.states
     → Runs (λ fails place. served fails place frame) failed false old new before waiting units units))
-    → IfOk result (λ goes_on. goes_on ≡ true → new.tasks.due ≡ []) → length frame.header ≡ header_length → IsAtRest old
+    → IfOk result (λ goes_on. goes_on ≡ true → new.tasks.due ≡ []) → length frame.header ≡ header_length → AreInRange old.params.values → IsAtRest old
     → Loads (goes_on_by result) old new before.bytes waiting.bytes
-serve_loads (Ok goes_on) frame luns old new before waiting units numbers ok err idle whole r = grind (arith, run_loads)
-serve_loads (Err e) frame luns old new before waiting units numbers ok err idle whole r = grind (arith, run_loads)
+serve_loads (Ok goes_on) frame luns old new before waiting units numbers ok err idle whole range r = grind (arith, run_loads)
+serve_loads (Err e) frame luns old new before waiting units numbers ok err idle whole range r = grind (arith, run_loads)
 
 -- a session that begins has no requests
 pub begun_pending : (params : Params) → open_requests (remembered (begun params)) ≡ 0

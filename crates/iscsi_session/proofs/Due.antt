@@ -12,19 +12,18 @@ use Rattle.iscsi_pdu.specs.Frames.{Frame}
 use Rattle.iscsi_pdu.specs.declared.answer.Answer.{Answer}
 use Rattle.iscsi_login.specs.declared.params.Params.{Params}
 use Rattle.iscsi_order.specs.Window.{taken as taken_numbers}
-use Rattle.iscsi_transfer.specs.Task.{due_ask}
+use Rattle.iscsi_transfer.specs.Task.{first, is_due, is_asked}
 use Rattle.iscsi_transfer.specs.declared.progress.Ask.{Ask}
 use Rattle.scsi_unit.specs.Units.{numbers_of}
 use Rattle.iscsi_session.specs.declared.transfers.Transfer.{Transfer}
 use Rattle.iscsi_session.specs.declared.verdict.Verdict.{Verdict}
 use Rattle.iscsi_session.specs.declared.verdict.Verdict.TheVariants.{Ignored, Dropped, Rejected, Violating, Accepted, Feeding}
 use Rattle.iscsi_session.specs.Requests.{Request, Past, Drain, begun, drain_for, draining, frame_of, frames_of, is_in, is_command, is_function, left, pending, taken, numbers, due, queue, unfinished, moved, finished, accepted, removing, answering, number_for}
-use Rattle.iscsi_session.specs.Transfers.{outs_of, tags_of, task_at, unsent, ask_of, is_asked_of, asking, asked, command_with, fed}
+use Rattle.iscsi_session.specs.Transfers.{outs_of, tags_of, task_at, is_due_of, is_asked_of, asking, asked, command_with, fed}
 use Rattle.iscsi_session.specs.Functions.{FunctionReach, reached, awaited, plug, plugs, lacks, drained_functions, told, told_answers}
 use Rattle.iscsi_session.specs.Judging.{verdict, judged, is_refused}
 use Rattle.iscsi_session.specs.Acts.{reach_of, act_answers, ended, behind}
-use Rattle.iscsi_session.specs.State.{IsLawful, AreDistinct, standing, tasks_with, tasks_of, transfer_of, due_of, weight, waiting}
-use Rattle.iscsi_session.specs.Draining.{is_asked}
+use Rattle.iscsi_session.specs.State.{IsLawful, AreDistinct, standing, tasks_with, tasks_of, transfer_of, weight, waiting}
 use Rattle.iscsi_session.specs.Steps.{Step, Judging, Taking, Asking, Answering, Doing, Work, reaches, take_step, judge, act, act_all, ask, tell, finish, first_steps, one_by_one, waiting_in, ask_due, tell_due, taken_in, asked_in, served, ready, settled}
 use Rattle.iscsi_session.specs.Laws.{NothingIsDue, NothingStaysDue}
 use Rattle.iscsi_session.proofs.Left.{in_at, in_filter, in_filter_back, in_left, in_left_back, in_back, not_gone, passes_in, is_in_append, left_more}
@@ -35,7 +34,7 @@ use Rattle.iscsi_session.proofs.Moved.{due_came, stays_other}
 use Rattle.iscsi_session.proofs.Weights.{weight_by, weight_some, waiting_held, waiting_without, waiting_fits}
 use Rattle.iscsi_session.proofs.Removing.{tasks_removing}
 use Rattle.iscsi_session.proofs.Feeding.{feeding, unfinished_fed, fed_elsewhere}
-use Rattle.iscsi_session.proofs.Asking.{unfinished_asked, asked_there, asked_elsewhere, ready_queue}
+use Rattle.iscsi_session.proofs.Asking.{unfinished_asked, asked_elsewhere, asks_gone, ready_queue}
 use Rattle.iscsi_session.proofs.Ending.{ended_function, reached_moved, plugs_unasked, plugs_new, plugged_tasks}
 use Rattle.iscsi_session.proofs.Runs.{tasks_answering, first_stopped, stopped, idle}
 use Rattle.iscsi_session.proofs.Answered.{ended_plain, command_kind}
@@ -59,13 +58,13 @@ none_in (k ∷ l) only = absurd (let no = only k (rw (eq-eqb k k refl) refl) in 
 -- ---- which commands are to be asked, and which functions to be answered
 
 module _ (past : Past) where
-  asks_in : (k : ℕ) → is_in k (asking past) ≡ true → (is_in k (unfinished past) ≡ true) × (is_some (ask_of past k) ≡ true)
+  asks_in : (k : ℕ) → is_in k (asking past) ≡ true → (is_in k (unfinished past) ≡ true) × (is_due_of past k ≡ true)
   unfolding asking
-  asks_in k h = (in_filter k (λ a. is_some (ask_of past a)) (unfinished past) h, passes_in k (λ a. is_some (ask_of past a)) (unfinished past) h)
+  asks_in k h = (in_filter k (λ a. is_due_of past a) (unfinished past) h, passes_in k (λ a. is_due_of past a) (unfinished past) h)
 
-  asks_back : (k : ℕ) → is_in k (unfinished past) ≡ true → is_some (ask_of past k) ≡ true → is_in k (asking past) ≡ true
+  asks_back : (k : ℕ) → is_in k (unfinished past) ≡ true → is_due_of past k ≡ true → is_in k (asking past) ≡ true
   unfolding asking
-  asks_back k there asks = in_filter_back k (λ a. is_some (ask_of past a)) (unfinished past) there asks
+  asks_back k there asks = in_filter_back k (λ a. is_due_of past a) (unfinished past) there asks
 
 abbrev waits_on : (ℕ → Bool) → ℕ → Drain → Bool
 waits_on lacking a d = d.function == a && lacking d.command
@@ -125,7 +124,7 @@ answers_in : (past after : Past) → ((a : ℕ) → is_in a after.answered ≡ f
 answers_in past after fewer drains lacking a h = grind (arith, told_in, told_back, same_open)
 
 no_more : (past after : Past) → after.params ≡ past.params
-    → ((k : ℕ) → is_in k (unfinished after) ≡ true → (is_in k (unfinished past) ≡ true) × (is_some (ask_of after k) ≡ true → is_some (ask_of past k) ≡ true))
+    → ((k : ℕ) → is_in k (unfinished after) ≡ true → (is_in k (unfinished past) ≡ true) × (is_due_of after k ≡ true → is_due_of past k ≡ true))
     → ((a : ℕ) → is_in a after.answered ≡ false → is_in a past.answered ≡ false) → after.drains ≡ past.drains
     → All (λ d. is_asked_of after d.command ≡ is_asked_of past d.command) past.drains → OwesNoMore past after
 no_more past after params there fewer drains lacking = grind (arith, asks_in, asks_back, answers_in)
@@ -154,16 +153,16 @@ none_removing names past = no_more past (removing names past) refl
 
 -- a request that is no SCSI Command comes
 open_joined : (past : Past) (x : Request) → IsLawful past → All (λ d. is_asked_of (joined x past) d.command ≡ is_asked_of past d.command) past.drains
-open_joined past x lawful = λ i d lt. ap is_asked (transfer_joined past x _ (drain_commands_below past lawful.drained (removed_below past lawful) i d lt))
+open_joined past x lawful = λ i d lt. ap (λ (t : Transfer). is_asked t.task) (transfer_joined past x _ (drain_commands_below past lawful.drained (removed_below past lawful) i d lt))
 
-ask_joined : (past : Past) (x : Request) (k : ℕ) → is_in k (unfinished past) ≡ true → ask_of (joined x past) k ≡ ask_of past k
-ask_joined past x k there = ap due_of (transfer_joined past x k (unfinished_came past k there))
+ask_joined : (past : Past) (x : Request) (k : ℕ) → is_in k (unfinished past) ≡ true → is_due_of (joined x past) k ≡ is_due_of past k
+ask_joined past x k there = ap (λ (t : Transfer). is_due t.task) (transfer_joined past x k (unfinished_came past k there))
 
 none_joined : (past : Past) (x : Request) → is_command x.frame ≡ false → IsLawful past → OwesNoMore past (joined x past)
 none_joined past x e lawful = no_more past (joined x past) refl there (λ a h. h) refl (open_joined past x lawful)
   where
     there : (k : ℕ) → is_in k (unfinished (joined x past)) ≡ true
-        → (is_in k (unfinished past) ≡ true) × (is_some (ask_of (joined x past) k) ≡ true → is_some (ask_of past k) ≡ true)
+        → (is_in k (unfinished past) ≡ true) × (is_due_of (joined x past) k ≡ true → is_due_of past k ≡ true)
     there k h = grind (arith, unfinished_joined, finished_below, removed_below, append-nil, ask_joined)
 
 -- ---- a function acts and waits for data that is asked for
@@ -308,12 +307,8 @@ act_fewer work k rest is lawful =
 
 -- ---- a command is asked, a function is answered, and a command is done
 
-sent_once : (n : ℕ) (o : Option Ask) → is_some (unsent n o) ≡ true → is_some (unsent (n + 1) o) ≡ false
-sent_once n None e = absurd cc
-sent_once n (Some ask) e = grind arith
-
-ask_gone : (past : Past) (k : ℕ) → is_some (ask_of past k) ≡ true → is_some (ask_of (asked k past) k) ≡ false
-ask_gone past k e = ap (λ (t : Transfer). is_some (due_of t)) (asked_there past k) ∙ sent_once (transfer_of past k).sent (due_ask (transfer_of past k).task) e
+ask_gone : (past : Past) (k : ℕ) → is_due_of (asked k past) k ≡ false
+ask_gone past k = ap (λ (l : List Ask). is_some (first l)) (asks_gone past k)
 
 none_asked : (k : ℕ) (past : Past) → IsLawful past → is_in k (asking past) ≡ true → OwesNoMore past (asked k past)
 none_asked k past lawful there =
@@ -321,10 +316,10 @@ none_asked k past lawful there =
     no_more past (asked k past) refl (λ j h. (let u = ap (is_in j) (sym (unfinished_asked past k)) ∙ h in (
       u,
       elim (cases_eq j k) [
-        | inl same ↦ λ asks. absurd (let no = sym (ask_gone past k a.1) ∙ ap (λ (n : ℕ). is_some (ask_of (asked k past) n)) (sym same) ∙ asks in cc)
-        | inr differs ↦ λ asks. ap (λ (t : Transfer). is_some (due_of t)) (sym (asked_elsewhere past k j differs)) ∙ asks
+        | inl same ↦ λ asks. absurd (let no = sym (ask_gone past k) ∙ ap (λ (n : ℕ). is_due_of (asked k past) n) (sym same) ∙ asks in cc)
+        | inr differs ↦ λ asks. ap (λ (t : Transfer). is_due t.task) (sym (asked_elsewhere past k j differs)) ∙ asks
       ],
-    ))) (λ n h. h) refl (λ i d lt. ap is_asked (asked_elsewhere past k _ (drains_apart past k lawful.drained a.0 i d lt)))
+    ))) (λ n h. h) refl (λ i d lt. ap (λ (t : Transfer). is_asked t.task) (asked_elsewhere past k _ (drains_apart past k lawful.drained a.0 i d lt)))
 
 none_told : (k : ℕ) (past : Past) → OwesNoMore past (told k past)
 unfolding unfinished task_at outs_of tags_of
@@ -433,7 +428,7 @@ fed_owes (Some k) past frame lawful n now = (
         elim (cases_eq j k) [
           | inl here ↦ ap (λ (m : ℕ). Some m) here
           | inr differs ↦
-              let asks = ap (λ (t : Transfer). is_some (due_of t)) (sym (same j differs)) ∙ a.1 in
+              let asks = ap (λ (t : Transfer). is_due t.task) (sym (same j differs)) ∙ a.1 in
               absurd (let no = only_none (asking past) n.asks j (asks_back past j there asks) in cc)
         ]
 
@@ -443,7 +438,7 @@ fed_owes (Some k) past frame lawful n now = (
         let told : list_any (waits_on (is_asked_of past) a) past.drains ≡ false → ⊥ = λ e.
         (let no = only_none (drained_functions past) n.answers a
         (told_back past a (record { waits = t.waits; unanswered = t.unanswered; complete = e })) in cc) in
-        the_waiter (is_asked_of past) (is_asked_of after) k a past.drains lawful.drained.once (λ j differs. ap is_asked (same j differs)) (grind (arith, told))
+        the_waiter (is_asked_of past) (is_asked_of after) k a past.drains lawful.drained.once (λ j differs. ap (λ (t : Transfer). is_asked t.task) (same j differs)) (grind (arith, told))
         t.complete
 
 judged_owes : (v : Verdict) (past : Past) (frame : Frame) → verdict past frame ≡ v → IsLawful past → NothingIsDue past → IsLawful (judged v frame past)
@@ -521,7 +516,7 @@ ask_rests {c} {f} work k rest is r =
     let m = none_asked k past r.owes.lawful there in
     let o = owes_still m (ask_lawful work k rest is r.owes.lawful) r.owes in
     let gone : is_in k (asking (asked k past)) ≡ true → ⊥ = λ h.
-    (let no = sym (asks_in (asked k past) k h).1 ∙ ask_gone past k (asks_in past k there).1 in cc) in
+    (let no = sym (asks_in (asked k past) k h).1 ∙ ask_gone past k in cc) in
     let asks = owes_less past (asked k past) asking c k rest is r.owes.asks m.asks gone in
     record { owes = record { lawful = o.lawful; asks = asks; answers = o.answers; discovery = o.discovery }; acts = r.acts }
 

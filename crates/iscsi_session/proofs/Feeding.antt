@@ -6,15 +6,15 @@ use Rattle.std.proofs.lemmas.List.Elements.{All-push, All-map}
 use Rattle.iscsi_pdu.specs.Header.{is_immediate, initiator_task_tag}
 use Rattle.iscsi_pdu.specs.Frames.{Frame}
 use Rattle.iscsi_transfer.specs.Task.{TaskState, remembered as task_of, is_whole, with_data, blank}
-use Rattle.iscsi_transfer.proofs.Blank.{fault_blank, with_blank}
-use Rattle.iscsi_session.proofs.Places.{asked_blanked, Located, located, in_get, same_all, index_map, set_map, remove_map, missing, found_or_not, found_self, count_map, or_known, one_more, drain_at, LocatedAmong, located_among, same_drains, set_drains}
+use Rattle.iscsi_transfer.proofs.Blank.{asked_blank, fault_blank, with_blank}
+use Rattle.iscsi_session.proofs.Places.{Located, located, in_get, same_all, index_map, set_map, remove_map, missing, found_or_not, found_self, count_map, or_known, one_more, drain_at, LocatedAmong, located_among, same_drains, set_drains}
 use Rattle.iscsi_transfer.proofs.Standing.{remembered-accepted}
 use Rattle.iscsi_session.specs.declared.transfers.Transfer.{Transfer}
 use Rattle.iscsi_session.specs.Drained.{Drained}
 use Rattle.iscsi_session.specs.Functions.{function_with, immediate_in}
 use Rattle.iscsi_session.specs.Requests.{Request, Past, Drain, DataOut, is_command, is_function, functions, frame_of, is_in, due, queue, unfinished, finished}
 use Rattle.iscsi_session.specs.Judging.{is_live, is_full, data_verdict}
-use Rattle.iscsi_session.specs.Transfers.{tag_of, command_with, command_among, drains_of, drained, is_asked_of, outs_of, tags_of, last_tag, data_past, task_at, payload_of, is_whole_of, fed}
+use Rattle.iscsi_session.specs.Transfers.{tag_of, command_with, command_among, drains_of, drained, is_asked_of, outs_of, tags_of, data_past, task_at, payload_of, is_whole_of, fed}
 use Rattle.iscsi_session.specs.Draining.{is_draining, drain_with, drain_for, no_drained, judged_drain, fed_drain, judged_in, fed_in, is_live_in}
 use Rattle.iscsi_session.specs.State.{SessionState, TransferList, AreDrained, drained_of, IsLawful, Stands, tasks_of, transfers_of, transfer_of, no_transfer, bears, place_with, place_for, immediate_transfers, functions_of, function_place, immediate_functions, judged_at, fed_at, whole_at, payload_at, removed_at, standing, IsLawfulTask}
 use Rattle.iscsi_session.proofs.Left.{in_at, in_filter, below_of}
@@ -41,7 +41,7 @@ drain_located : (past : Past) (tag : ℕ)
 drain_located past tag =
     located_among (λ (x : Drained). is_draining x && bears tag x.transfer) (drained_of past) (is_asked_of past) (λ k. tag_of past.came k == tag)
     (drains_of past)
-    (λ d. ap (λ (b : Bool). b && bears tag (transfer_of past d.command)) (asked_blanked (transfer_of past d.command)))
+    (λ d. ap (λ (b : Bool). b && bears tag (transfer_of past d.command)) (asked_blank (task_at past d.command)))
 
 pub drains_are : (past : Past) (state : SessionState) → Stands past state → state.transfers.drains ≡ map (drained_of past) (drains_of past)
 unfolding transfers_of
@@ -151,12 +151,11 @@ out_of k frame = record { command = k; frame = frame }
 abbrev pub feeding : ℕ → Frame → Past → Past
 feeding k frame past = record past { data_outs = past.data_outs ++ out_of k frame ∷ [] }
 
--- of the past of its data, and of how many R2Ts were sent for it
+-- of what has happened to its data
 abbrev from_outs : Past → ℕ → List Frame → Transfer
 from_outs past k outs = record {
   header = (frame_of past.came k).header;
-  task = task_of (record { values = past.params.values; command = frame_of past.came k; outs = outs; tag = last_tag (tags_of past k) });
-  sent = length (tags_of past k);
+  task = task_of (record { values = past.params.values; command = frame_of past.came k; outs = outs; tags = tags_of past k });
 }
 
 fed_there : (past : Past) (k : ℕ) (frame : Frame)

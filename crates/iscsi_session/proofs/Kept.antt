@@ -8,7 +8,7 @@ use Rattle.std.proofs.lemmas.List.Elements.{filter-append, All-cons, All-nil, Al
 use Rattle.iscsi_pdu.specs.Frames.{Frame}
 use Rattle.iscsi_pdu.specs.Header.{initiator_task_tag}
 use Rattle.iscsi_session.specs.Requests.{Request, Past, is_command, is_function, frame_of, is_in, left, finished, Drain, pending, functions, unfinished, removing, commands, queue}
-use Rattle.iscsi_session.specs.Transfers.{tag_of, drains_of, outs_of, tags_of, task_at, last_tag}
+use Rattle.iscsi_session.specs.Transfers.{tag_of, drains_of, outs_of, tags_of, task_at}
 use Rattle.iscsi_session.specs.State.{AreDistinct, AreDrained, transfer_of, drained_of, transfers_of, begun_transfer}
 use Rattle.iscsi_session.proofs.Left.{filter_cong, map_cong, left_more, left_swap, left_append, left_all, left_one, in_at, in_left, in_left_back, in_filter, in_filter_back, in_range, passes_in, below_of, distinct_left, distinct_filter, distinct_range, range_below, range_more, distinct_push, distinct_map_filter, in_front, not_gone}
 use Rattle.iscsi_session.proofs.Taken.{request_before, request_new}
@@ -301,8 +301,7 @@ unfinished_other past k e = kept_other is_command past k e
 abbrev with_frame : Past → ℕ → Frame → Transfer
 with_frame past k frame = record {
   header = frame.header;
-  task = task_of (record { values = past.params.values; command = frame; outs = outs_of past k; tag = last_tag (tags_of past k) });
-  sent = length (tags_of past k);
+  task = task_of (record { values = past.params.values; command = frame; outs = outs_of past k; tags = tags_of past k });
 }
 
 pub transfer_joined : (past : Past) (x : Request) (k : ℕ) → k < length past.came → transfer_of (joined x past) k ≡ transfer_of past k

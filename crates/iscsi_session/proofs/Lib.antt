@@ -18,7 +18,8 @@ mod Voiding
 mod Ending
 pub mod Telling
 mod Feeding
-mod Asking
+pub mod Asking
+mod Sending
 mod Verdicts
 mod Answered
 pub mod Waits

@@ -1,5 +1,5 @@
 -- A search among what a function makes of names, or of data that functions wait for, and what is set or removed where it was found.
-use Rattle.std.proofs.Common.{◌≡◌, ◌≢◌, ℕ, zero, suc, ◌<◌, List, [], ◌∷◌, ◌++◌, length, map, set, Bool, true, false, cond, ◌||◌, Option, Some, None, ◌==◌, eqb, refl, sym, ap, ◌∙◌, inl, inr, arith, ◌&&◌, subst, not}
+use Rattle.std.proofs.Common.{◌≡◌, ◌≢◌, ℕ, zero, suc, ◌<◌, List, [], ◌∷◌, ◌++◌, length, map, set, Bool, true, false, cond, ◌||◌, Option, Some, None, ◌==◌, eqb, refl, sym, ap, ◌∙◌, inl, inr, arith, ◌&&◌, subst}
 use Rattle.std.specs.Prelude.{All, position, find, filter, remove, option_map, is_some, slice_get, slice_index_or}
 use Rattle.std.proofs.lemmas.Bool.{cases_eq, eq-eqb, eqb-true, ne_eqb}
 use Rattle.std.proofs.lemmas.List.{map-append}
@@ -7,13 +7,6 @@ use Rattle.std.proofs.lemmas.List.Elements.{filter-append, All-head, All-tail}
 use Rattle.iscsi_session.specs.Requests.{is_in, left, Drain}
 use Rattle.iscsi_session.specs.State.{AreDistinct}
 use Rattle.iscsi_session.proofs.Left.{left_first, map_cong}
-use Rattle.iscsi_transfer.specs.Task.{blank, lacks_data, due_ask}
-use Rattle.iscsi_transfer.specs.declared.progress.Ask.{Ask}
-use Rattle.iscsi_transfer.proofs.Blank.{lacks_blank, due_blank}
-use Rattle.iscsi_session.specs.Drained.{blanked}
-use Rattle.iscsi_session.specs.Draining.{is_asked}
-use Rattle.iscsi_session.specs.Transfers.{unsent}
-use Rattle.iscsi_session.specs.declared.transfers.Transfer.{Transfer}
 
 -- ---- a search
 
@@ -236,10 +229,3 @@ located_function p f q (d ∷ drains) all =
     rw (position_with (p (f d)) p (f d) (map f drains) refl)
     (named_by (p (f d)) q d drains (position p (map f drains)) (sym (All-head (λ (x : Drain). p (f x) ≡ q x.function) d drains all))
     (located_function p f q drains (All-tail (λ (x : Drain). p (f x) ≡ q x.function) d drains all)))
-
--- ---- what is kept of a command whose data is thrown away is judged as the command itself
-
-pub asked_blanked : (transfer : Transfer) → is_asked (blanked transfer) ≡ is_asked transfer
-asked_blanked transfer =
-    ap (λ (b : Bool). b && not (is_some (unsent transfer.sent (due_ask (blank transfer.task))))) (lacks_blank transfer.task)
-    ∙ ap (λ (o : Option Ask). lacks_data transfer.task && not (is_some (unsent transfer.sent o))) (due_blank transfer.task)

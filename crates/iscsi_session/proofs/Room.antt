@@ -1,12 +1,13 @@
 -- How many bytes the answers of a session take at most, that those of a command fit into the room that is made for them, and how they are
 -- written around the data where it lies.
 use Rattle.std.proofs.Common.{◌≡◌, ℕ, ◌+◌, ◌*◌, ◌<◌, ◌≤◌, List, [], ◌∷◌, ◌++◌, length, map, take, get_or, Some, refl, ap, subst, ◌∙◌, arith, zero, suc, ◌/◌, ◌%◌, ◌==◌, min, Bool, true, false, Option, None, append-nil, ◌-◌, drop, replicate, sym, length-drop}
-use Rattle.std.specs.Prelude.{flat_map}
-use Rattle.std.specs.List.{enumerate_from, slice_get}
+use Rattle.std.specs.Prelude.{flat_map, nat_le, if◌then◌else◌}
+use Rattle.std.specs.List.{enumerate_from, slice_get, range_with_len}
+use Rattle.std.proofs.lemmas.Bool.{leb-true}
 use Rattle.std.proofs.lemmas.Option.{slice_get-get_or, slice_get_within}
 use Rattle.std.proofs.lemmas.List.{length-append, length-map, length-take, length-replicate, get_or-map, take_more, append_assoc, take_all, drop_all, drop-take, take-replicate}
 use Rattle.std.proofs.lemmas.List.Folds.{length-flat_map-take}
-use Rattle.std.proofs.lemmas.List.FromFn.{length-enumerate_from, get_or-enumerate_from}
+use Rattle.std.proofs.lemmas.List.FromFn.{length-enumerate_from, get_or-enumerate_from, length-map-range_with_len}
 use Rattle.std.proofs.lemmas.Grind.{flat_map-append, div_ceil_times}
 use Rattle.iscsi_pdu.specs.Answer.{spelling}
 use Rattle.iscsi_pdu.specs.DataIn.{DataInFields, data_in_header, data_in_bytes}
@@ -18,6 +19,8 @@ use Rattle.iscsi_pdu.specs.declared.stamp.Stamp.{Stamp}
 use Rattle.iscsi_transfer.specs.declared.data_in.Piece.{Piece}
 use Rattle.iscsi_transfer.specs.DataIn.{piece_count, part_of}
 use Rattle.iscsi_transfer.specs.Laws.{Lies}
+use Rattle.iscsi_transfer.specs.Task.{TaskState, most_wanted, ask, lacks_data, allowed, due_asks}
+use Rattle.iscsi_transfer.specs.declared.progress.Ask.{Ask}
 use Rattle.iscsi_transfer.proofs.Pieces.{pieces_are_joined}
 use Rattle.iscsi_transfer.proofs.Counts.{pieces_are_counted, less_has_fewer, count_fits}
 use Rattle.iscsi_transfer.proofs.Lying.{pieces_lie}
@@ -29,7 +32,7 @@ use Rattle.iscsi_session.specs.Answers.{data_sent, sent_pieces, data_in, data_an
 use Rattle.iscsi_session.specs.Room.{most_sent, most_pieces, room_for}
 use Rattle.std.specs.Int.{div_ceil}
 use Rattle.std.proofs.lemmas.Nat.{div-add-mod'}
-use Rattle.std.proofs.Math.Nat.{suc-mul, mul-le-mul_left}
+use Rattle.std.proofs.Math.Nat.{suc-mul, mul-le-mul_left, lt_of_mul-lt-mul_right}
 use Rattle.iscsi_pdu.specs.declared.answer.Answer.TheVariants as answers
 use Rattle.iscsi_pdu.specs.declared.header.Opcode.{Opcode}
 use Rattle.iscsi_pdu.specs.declared.header.Opcode.TheVariants as opcodes
@@ -43,8 +46,7 @@ use Rattle.iscsi_exchange.proofs.Short.{hears_short}
 use Rattle.iscsi_session.specs.Judging.{reserved_tag, reject}
 use Rattle.iscsi_session.specs.Texts.{text_answer}
 use Rattle.iscsi_session.specs.Acts.{ping_answers, logout_answer, act_answers_by}
-use Rattle.iscsi_session.specs.Requests.{Past}
-use Rattle.iscsi_session.specs.Transfers.{r2t_of}
+use Rattle.iscsi_session.specs.Transfers.{r2t_for, r2ts_for, r2t_answers}
 use Rattle.iscsi_session.specs.Weight.{request_weight}
 
 -- ---- the length of the Data-Ins
@@ -270,11 +272,44 @@ pub command_long : (numbers : Stamp) (values : Values) (frame : Frame) (done : O
 command_long numbers values frame done range given =
     grind (arith, flat_map-append, few_pieces, length-append, one_spelled, response_long, data_fits, most_sent_fits)
 
--- ---- an R2T
+-- ---- R2Ts
 
-pub ask_long : (past : Past) (k : ℕ) → length (flat_map spelling (r2t_of past k)) ≤ 48
-unfolding r2t_of
-ask_long past k = grind arith
+r2t_long : (header : List ℕ) (tag : ℕ) (numbers : Stamp) (ask : Ask) → length (spelling (answers.R2t (r2t_for header tag numbers ask))) ≤ 48
+r2t_long header tag numbers ask = grind arith
+
+pub r2ts_long : (header : List ℕ) (tag : ℕ) (numbers : Stamp) (asks : List Ask)
+    → length (flat_map spelling (r2t_answers (r2ts_for header tag numbers asks))) ≤ length asks * 48
+r2ts_long header tag numbers [] = omega arith
+r2ts_long header tag numbers (ask ∷ asks) =
+    let next = (tag + 1) % 0xFFFFFFFF in
+    omega (
+      arith,
+      length-append (spelling (answers.R2t (r2t_for header tag numbers ask))) (flat_map spelling (r2t_answers (r2ts_for header next numbers asks))),
+      r2t_long header tag numbers ask,
+      r2ts_long header next numbers asks,
+    )
+
+few_bursts : (n burst : ℕ) → n ≤ 1048576 → 512 ≤ burst → div_ceil n burst ≤ 2048
+few_bursts n burst short least =
+    let above = (div_ceil_times n burst (omega (arith, least))).1 in
+    let below : div_ceil n burst * burst < 2049 * burst = omega (arith, above, short, least) in
+    let fewer = lt_of_mul-lt-mul_right burst below in
+    omega (arith, fewer)
+
+short_by : (b : Bool) (n unsolicited : ℕ) → (b ≡ true → n ≤ 1048576) → (if b then n else unsolicited) - unsolicited ≤ 1048576
+short_by true n unsolicited short = let le = short refl in omega (arith, le)
+short_by false n unsolicited short = omega arith
+
+many_by : (b : Bool) (asks : List Ask) (n : ℕ) → length asks ≤ n → length (if b then asks else []) ≤ n
+many_by true asks n few = few
+many_by false asks n few = omega arith
+
+-- of no command are more due than it has bursts
+pub few_asks : (task : TaskState) → 512 ≤ task.burst → length (due_asks task) ≤ 2048
+few_asks task least =
+    let short = short_by (nat_le task.expected most_wanted) task.expected task.unsolicited (leb-true task.expected most_wanted) in
+    many_by (lacks_data task) (map (ask task) (range_with_len task.sent (allowed task - task.sent))) 2048
+    (omega (arith, length-map-range_with_len (ask task) task.sent (allowed task - task.sent), few_bursts _ task.burst short least))
 
 -- ---- a header that is written into the room in front of data, and the answers that come of it
 

@@ -10,7 +10,7 @@ use Rattle.iscsi_session.specs.Judging.{verdict, judged_answers, judged}
 use Rattle.iscsi_session.specs.Acts.{acted, act_answers}
 use Rattle.iscsi_session.specs.Functions.{drained_functions, told_answers}
 use Rattle.iscsi_session.specs.Steps.{Step, Judging, Taking, Asking, Answering, Doing, Work, reaches, take_step, judge, act, ask, finish, first_steps, one_by_one, waiting_in, act_all, ask_due, tell, tell_due, taken_in, asked_in, served, ready, settled}
-use Rattle.iscsi_session.specs.Transfers.{asking, r2t_of}
+use Rattle.iscsi_session.specs.Transfers.{asking, r2t_answers, r2ts_of}
 use Rattle.iscsi_session.proofs.Answered.{acted_same}
 use Rattle.iscsi_session.specs.declared.verdict.Verdict.{Verdict}
 use Rattle.iscsi_session.specs.declared.verdict.Verdict.TheVariants.{Ignored, Dropped, Rejected, Violating, Accepted, Feeding}
@@ -182,7 +182,7 @@ served_extends fails place frame work =
     (λ w e. (let kept = judged_same (verdict w.past frame) frame w.past in extends_then (judged_answers (verdict w.past frame) w.past frame) kept.0 kept.1 e))
     (λ w k rest is e. (let luns = numbers_of w.units.states in let kept = acted_same luns k w.past in
     extends_then (act_answers luns k w.past) kept.0 kept.1 e))
-    (λ w k rest is e. extends_then (r2t_of w.past k) refl refl e) (λ w k rest is e. extends_then (told_answers w.past k) refl refl e) (extends_same work)
+    (λ w k rest is e. extends_then (r2t_answers (r2ts_of w.past k)) refl refl e) (λ w k rest is e. extends_then (told_answers w.past k) refl refl e) (extends_same work)
 
 pub settled_extends : (fails : Step → Bool) (place : ℕ) (work : Work) → Extends work (settled fails place work)
 unfolding finish

@@ -7,11 +7,12 @@ use Rattle.std.proofs.lemmas.List.Elements.{All-head, All-tail, All-nil, All-pus
 use Rattle.iscsi_pdu.specs.Header.{is_immediate, initiator_task_tag}
 use Rattle.iscsi_order.specs.Window.{taken as taken_numbers}
 use Rattle.iscsi_session.specs.Drained.{Drained}
-use Rattle.iscsi_session.proofs.Places.{asked_blanked, found_self, first_passes, none_passes, LocatedFunction, located_function, index_map, drain_at}
+use Rattle.iscsi_transfer.proofs.Blank.{asked_blank}
+use Rattle.iscsi_session.proofs.Places.{found_self, first_passes, none_passes, LocatedFunction, located_function, index_map, drain_at}
 use Rattle.iscsi_session.specs.Requests.{Past, Drain, frame_of, is_in, left, is_command, is_function, others, counted, over, pending, due, queue, unfinished, functions, stamp}
 use Rattle.iscsi_session.specs.Transfers.{tag_of, task_at, outs_of, tags_of, is_asked_of, drains_of}
 use Rattle.iscsi_session.specs.Functions.{lacks, told, drained_functions, function_answer, told_answers, told_by}
-use Rattle.iscsi_session.specs.State.{AreDistinct, IsLawful, standing, tasks_of, drained_of, transfer_of, transfers_of, functions_of, SessionState, TaskLists, TransferList, Stands, function_removed, function_place}
+use Rattle.iscsi_session.specs.State.{AreDistinct, IsLawful, standing, tasks_of, drained_of, transfers_of, functions_of, SessionState, TaskLists, TransferList, Stands, function_removed, function_place}
 use Rattle.iscsi_session.specs.Draining.{function_tag, lacks_for, drains_without, no_drained, telling_place, function_at}
 use Rattle.iscsi_session.proofs.Left.{filter_cong, filter_filter, left_more, left_swap, in_left, in_left_back, not_gone, below_of, is_in_append, all_in}
 use Rattle.iscsi_session.proofs.Kept.{function_no_command, tags_left, pending_holds, in_functions}
@@ -228,7 +229,7 @@ module _ (past : Past) (lawful : IsLawful past) where
   lacks_by [] k waits all = refl
   lacks_by (d ∷ l) k waits all =
       ap (λ (b : Bool). tag_of past.came d.function == tag_of past.came k && b || lacks_for (map (drained_of past) l) (tag_of past.came k))
-      (asked_blanked (transfer_of past d.command))
+      (asked_blank (task_at past d.command))
       ∙ rw (
         same_tag d.function k (All-head (λ (x : Drain). is_in x.function (pending past) ≡ true) d l all) waits,
         lacks_by l k waits (All-tail (λ (x : Drain). is_in x.function (pending past) ≡ true) d l all),

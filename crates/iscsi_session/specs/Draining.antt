@@ -3,20 +3,17 @@ use Rattle.std.specs.Prelude.{ℕ, List, [], map, Bool, ◌&&◌, ◌||◌, not,
 use Rattle.std.specs.List.{list_any}
 use Rattle.iscsi_pdu.specs.Header.{initiator_task_tag}
 use Rattle.iscsi_pdu.specs.Frames.{Frame}
-use Rattle.iscsi_transfer.specs.Task.{lacks_data, with_data, blank}
+use Rattle.iscsi_transfer.specs.Task.{is_asked, with_data, blank}
 use Rattle.iscsi_session.specs.Functions.{FunctionReach, reaches, waits}
 use Rattle.iscsi_session.specs.declared.transfers.Transfer.{Transfer}
 use Rattle.iscsi_session.specs.Drained.{Drained, blanked}
 use Rattle.iscsi_session.specs.declared.verdict.Verdict.{Verdict}
 use Rattle.iscsi_session.specs.Transfers.{verdict_on}
-use Rattle.iscsi_session.specs.State.{TransferList, no_transfer, bears, place_with, place_for, due_of, judged_at, fed_at}
+use Rattle.iscsi_session.specs.State.{TransferList, no_transfer, bears, place_with, place_for, judged_at, fed_at}
 
 -- the data of those that were removed, as long as an R2T is open
-abbrev pub is_asked : Transfer → Bool
-is_asked transfer = lacks_data transfer.task && not (is_some (due_of transfer))
-
 abbrev pub is_draining : Drained → Bool
-is_draining drained = is_asked drained.transfer
+is_draining drained = is_asked drained.transfer.task
 
 abbrev pub drain_with : ℕ → List Drained → Option ℕ
 drain_with tag drains = position (λ drained. is_draining drained && bears tag drained.transfer) drains
@@ -82,7 +79,7 @@ abbrev pub drained_for : List ℕ → Transfer → Drained
 drained_for function transfer = record { function = function; transfer = blanked transfer }
 
 abbrev pub is_awaited : FunctionReach → Transfer → Bool
-is_awaited reach transfer = reaches reach transfer.header && is_asked transfer
+is_awaited reach transfer = reaches reach transfer.header && is_asked transfer.task
 
 abbrev pub awaited_in : FunctionReach → List Transfer → List Drained
 awaited_in reach transfers = map (drained_for reach.function) (filter (is_awaited reach) transfers)

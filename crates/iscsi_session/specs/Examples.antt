@@ -1,5 +1,5 @@
 -- Sessions computed from the definitions alone, with the expected numbers written by hand.
-use Rattle.std.specs.Prelude.{◌≡◌, ℕ, Option, Some, None, is_some, not, filter, filter_map, List, [], ◌∷◌, ◌++◌, ◌+◌, take, drop, fold, replicate, Bool, true, false, refl}
+use Rattle.std.specs.Prelude.{◌≡◌, ℕ, Option, Some, None, is_some, not, filter, filter_map, List, [], ◌∷◌, ◌++◌, ◌+◌, ◌*◌, take, drop, fold, replicate, Bool, true, false, refl}
 use Rattle.scsi_unit.specs.Lun.{lun_number}
 use Rattle.iscsi_pdu.specs.Frames.{Frame}
 use Rattle.iscsi_pdu.specs.declared.answer.Answer.{Answer}
@@ -14,24 +14,24 @@ use Rattle.iscsi_order.specs.Window as order
 use Rattle.iscsi_session.specs.declared.verdict.Verdict.TheVariants.{Ignored, Dropped, Rejected, Violating, Accepted}
 use Rattle.iscsi_transfer.specs.Task.{remembered as task_of, fault_of}
 use Rattle.iscsi_session.specs.Requests.{functions, Past, begun, left, taken, taken_at, held, due, queue, unfinished, stamp, numbers}
-use Rattle.iscsi_session.specs.Transfers.{outs_of, tags_of, task_at, drained, asking, asked_by, r2t_of}
+use Rattle.iscsi_session.specs.Transfers.{outs_of, tags_of, task_at, drained, asking, asked_by, r2ts_of}
 use Rattle.iscsi_session.specs.Judging.{is_refused, verdict, verdict_by, task_verdict, judged, reject}
 use Rattle.scsi_sense.specs.Done.{good}
 use Rattle.iscsi_session.specs.Answers.{data_answers, scsi_answer}
 use Rattle.iscsi_session.specs.Steps.{answered_command, ready}
-use Rattle.iscsi_session.specs.Functions.{own_reach, reaches, reached, plugs, awaited, function_result, function_answer, drained_functions, told_answers}
+use Rattle.iscsi_session.specs.Functions.{own_reach, reaches, reached, plugs, awaited, function_result, function_answer, drained_functions, told_answers, answered_by}
 use Rattle.iscsi_session.specs.Acts.{acted, act_answers, ends, logout_response}
 
 -- what an example unfolds
 unfoldable pub computed : Bool
 unfolding order.taken left taken taken_at held due queue unfinished stamp task_verdict functions is_refused verdict_by act_answers ends data_answers scsi_answer
-    outs_of tags_of task_at drained task_of fault_of asking r2t_of ready reaches reached plugs awaited function_result drained_functions told_answers lun_number
+    outs_of tags_of task_at drained task_of fault_of asking r2ts_of ready reaches reached plugs awaited function_result drained_functions told_answers lun_number
 computed = true
 
 -- ---- requests
 
 -- four bytes
-abbrev low : ℕ → List ℕ
+abbrev pub low : ℕ → List ℕ
 low n = 0 ∷ 0 ∷ 0 ∷ n ∷ []
 
 abbrev high : ℕ → List ℕ
@@ -65,7 +65,7 @@ data_out tag = request 0x05 0x80 (low tag) (low 0)
 -- ---- sessions
 
 -- the first CmdSN, and behind a login of one answer; CID 0; the units of the target are 0 and 1
-abbrev params_from : ℕ → Params
+abbrev pub params_from : ℕ → Params
 params_from first = record {
   nexus = record { initiator_name = 0x61 ∷ []; isid = replicate 6 0 };
   target = Some 0;
@@ -91,7 +91,7 @@ command_stamp (answers.Reject refusal) = None
 abbrev stamps : Past → List Stamp
 stamps past = filter_map command_stamp past.answers
 
-abbrev said : Past → List Answer
+abbrev pub said : Past → List Answer
 said past = filter (λ answer. not (is_some (command_stamp answer))) past.answers
 
 abbrev from : ℕ → Past
@@ -111,15 +111,17 @@ judges past frame = judged (verdict past frame) frame past
 abbrev does_first : Past → ℕ → Past
 does_first past turn = fold does past (ready past)
 
--- a frame is judged, what is due acts, what is due is asked for, and what is in the queue is done
-abbrev comes : Past → Frame → Past
+-- a frame is judged, what is due acts, what is due is asked for, a function whose data has come is answered, and what is in the
+-- queue is done
+abbrev pub comes : Past → Frame → Past
 comes past frame =
     let a = judges past frame in
     let b = fold acts a (due a) in
     let c = asked_by (asking b) b in
-    fold does_first c (queue c)
+    let d = answered_by (drained_functions c) c in
+    fold does_first d (queue d)
 
-abbrev all_come : Past → List Frame → Past
+abbrev pub all_come : Past → List Frame → Past
 all_come past frames = fold comes past frames
 
 -- ---- held numbers: first 5, and two commands for immediate delivery before
@@ -253,15 +255,18 @@ ninth_ping = refl
 
 -- ---- data that is asked for
 
--- a command with F and W that takes eight bytes
-abbrev writing : ℕ → ℕ → Frame
-writing tag number = record {
-  header = 0x01 ∷ 0xa0 ∷ replicate 14 0 ++ low tag ++ low 8 ++ low number ++ replicate 20 0;
+-- a command with F and W that takes so many bytes
+abbrev pub taking : ℕ → ℕ → ℕ → Frame
+taking n tag number = record {
+  header = 0x01 ∷ 0xa0 ∷ replicate 14 0 ++ low tag ++ low n ++ low number ++ replicate 20 0;
   body = [];
 }
 
+abbrev writing : ℕ → ℕ → Frame
+writing tag number = taking 8 tag number
+
 -- tag, Target Transfer Tag, DataSN, Buffer Offset, and F
-abbrev brings : ℕ → List ℕ → ℕ → ℕ → ℕ → List ℕ → Frame
+abbrev pub brings : ℕ → List ℕ → ℕ → ℕ → ℕ → List ℕ → Frame
 brings tag transfer_tag data_sn offset final body = record {
   header = 0x05 ∷ final ∷ replicate 14 0 ++ low tag ++ transfer_tag ++ replicate 12 0 ++ low data_sn ++ low offset ++ replicate 4 0;
   body = body;
@@ -356,7 +361,7 @@ abbrev held_of_each : Past
 held_of_each = all_come (from 5) (command 1 6 ∷ to_unit 1 (command 2 7) ∷ to_unit 7 (command 3 8) ∷ command 4 10 ∷ [])
 
 -- for immediate delivery, with CmdSN 9: its code, and its LUN
-abbrev function_nine : ℕ → ℕ → Frame
+abbrev pub function_nine : ℕ → ℕ → Frame
 function_nine code n = to_unit n (request 0x42 (0x80 + code) (low 9) (low 9))
 
 abbrev gone_by : Frame → List ℕ

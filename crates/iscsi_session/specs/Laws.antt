@@ -1,10 +1,10 @@
 -- What holds of every past that the steps of a session can reach.
-use Rattle.std.specs.Prelude.{◌≡◌, ℕ, ◌<◌, ◌^◌, List, [], ◌∷◌, ◌++◌, Bool, true, None}
+use Rattle.std.specs.Prelude.{◌≡◌, All, ℕ, ◌<◌, ◌^◌, List, [], ◌∷◌, ◌++◌, Bool, true, None}
 use Rattle.iscsi_pdu.specs.Header.{cmd_sn}
 use Rattle.iscsi_pdu.specs.Frames.{Frame}
 use Rattle.iscsi_login.specs.declared.params.Params.{Params}
-use Rattle.iscsi_session.specs.Requests.{Request, Past, begun, left, commands, others, taken, due, queue, unfinished, moved, finished, removing}
-use Rattle.iscsi_session.specs.Transfers.{asking}
+use Rattle.iscsi_session.specs.Requests.{Request, Past, begun, left, commands, others, taken, due, queue, unfinished, stamp, moved, finished, removing}
+use Rattle.iscsi_session.specs.Transfers.{asks_of, asking, r2ts_of, asked}
 use Rattle.iscsi_session.specs.Functions.{drained_functions}
 use Rattle.iscsi_session.specs.State.{AreDistinct, IsLawful}
 use Rattle.iscsi_session.specs.Steps.{Step, Work, served, ready, settled}
@@ -37,6 +37,15 @@ pub record StepsAreLawful : Type 0 where
   pub served : (fails : Step → Bool) (place : ℕ) (frame : Frame) (work : Work) → cmd_sn frame.header < 2 ^ 32 → IsLawful work.past
       → IsLawful (served fails place frame work).past
   pub settled : (fails : Step → Bool) (place : ℕ) (work : Work) → IsLawful work.past → IsLawful (settled fails place work).past
+
+-- RFC 7143 §11.8.3: the R2Ts of a step all carry the StatSN that the next answer has, and behind them none is due of the command
+pub record AreSentAtOnce (past : Past) (k : ℕ) : Type 0 where
+  pub stamps : All (λ r2t. r2t.stamp ≡ stamp past) (r2ts_of past k)
+  pub unused : stamp (asked k past) ≡ stamp past
+  pub none_left : asks_of (asked k past) k ≡ []
+
+abbrev pub R2tsAreSentAtOnce : Type 0
+R2tsAreSentAtOnce = (past : Past) (k : ℕ) → AreSentAtOnce past k
 
 -- No request that was taken has to act, no R2T to be sent, and no Task Management Function Request to be answered whose data
 -- has come. A discovery session has no SCSI Command.

@@ -31,3 +31,4 @@ pub mod Tasks
 pub mod Weight
 pub mod Laws
 pub mod Examples
+pub mod ExamplesAsking

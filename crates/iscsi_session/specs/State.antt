@@ -11,15 +11,14 @@ use Rattle.iscsi_order.specs.Stat.{stat_sn}
 use Rattle.iscsi_session.specs.Requests.{Request, Past, Drain, has_number, numbers, numbered, counted, over, left, is_command, commands, others, is_in, frame_of, taken, due, queue, frames_of, unfinished, is_function, functions, statuses}
 use Rattle.iscsi_pdu.specs.declared.r2t.R2t.{R2t}
 use Rattle.iscsi_pdu.specs.declared.stamp.Stamp.{Stamp}
-use Rattle.iscsi_transfer.specs.Task.{TaskState, due_ask, is_whole, with_data, command_fault}
-use Rattle.iscsi_transfer.specs.declared.progress.Ask.{Ask}
+use Rattle.iscsi_transfer.specs.Task.{TaskState, due_asks, is_due, is_whole, with_data, with_asked, command_fault}
 use Rattle.iscsi_session.specs.declared.transfers.Transfer.{Transfer}
 use Rattle.iscsi_session.specs.Drained.{Drained, blanked}
 use Rattle.iscsi_session.specs.declared.verdict.Verdict.{Verdict}
 use Rattle.iscsi_session.specs.Texts.{exchange_of}
 use Rattle.iscsi_session.specs.Functions.{FunctionReach, reaches, plug, is_plug}
 use Rattle.iscsi_exchange.specs.ExchangeState.{ExchangeState}
-use Rattle.iscsi_session.specs.Transfers.{tag_of, tags_of, task_at, verdict_on, next_transfer_tag, unsent, drains_of, r2t_for}
+use Rattle.iscsi_session.specs.Transfers.{tag_of, task_at, verdict_on, next_transfer_tag, drains_of, r2ts_for}
 
 -- the requests that are not finished, and the numbers
 pub record TaskLists : Type 0 where
@@ -88,7 +87,7 @@ unfoldable pub tasks_of : Past → TaskLists
 tasks_of past = tasks_with past (numbers past).handed (frames_of (standing past) (due past))
 
 abbrev pub transfer_of : Past → ℕ → Transfer
-transfer_of past k = record { header = (frame_of past.came k).header; task = task_at past k; sent = length (tags_of past k) }
+transfer_of past k = record { header = (frame_of past.came k).header; task = task_at past k }
 
 -- the header of the function that waits for it, and the data
 abbrev pub drained_of : Past → Drain → Drained
@@ -266,8 +265,18 @@ no_transfers = record { next_tag = 0; list = []; drains = [] }
 abbrev pub no_transfer : Transfer
 no_transfer = record {
   header = [];
-  task = record { payload = []; expected = 0; first_burst = 0; burst = 0; unsolicited = 0; is_open = false; sequence_length = 0; tag = 0 };
-  sent = 0;
+  task = record {
+    payload = [];
+    expected = 0;
+    first_burst = 0;
+    burst = 0;
+    unsolicited = 0;
+    is_open = false;
+    sequence_length = 0;
+    outstanding = 0;
+    sent = 0;
+    open_tags = [];
+  };
 }
 
 abbrev pub transfer_at : List Transfer → ℕ → Transfer
@@ -283,7 +292,7 @@ abbrev pub place_for : Frame → List Transfer → Option ℕ
 place_for frame transfers = place_with (initiator_task_tag frame.header) transfers
 
 abbrev pub begun_transfer : List ℕ → TaskState → Transfer
-begun_transfer header task = record { header = header; task = task; sent = 0 }
+begun_transfer header task = record { header = header; task = task }
 
 abbrev pub immediate_transfers : List Transfer → ℕ
 immediate_transfers transfers = length (filter (λ transfer. is_immediate transfer.header) transfers)
@@ -295,10 +304,6 @@ judged_at transfers frame at = verdict_on frame (option_map (λ i. (transfer_at 
 abbrev pub fed_at : List Transfer → Frame → Option ℕ → List Transfer
 fed_at transfers frame None = transfers
 fed_at transfers frame (Some i) = slice_set transfers i (record (transfer_at transfers i) { task = with_data (transfer_at transfers i).task frame })
-
--- the part of its data that a command is to be asked for
-abbrev pub due_of : Transfer → Option Ask
-due_of transfer = unsent transfer.sent (due_ask transfer.task)
 
 -- of those that a Task Management Function Request does not reach
 abbrev pub transfers_without : FunctionReach → List Transfer → List Transfer
@@ -320,21 +325,21 @@ removed_at transfers None = transfers
 removed_at transfers (Some i) = remove transfers i
 
 abbrev pub asking_place : List Transfer → Option ℕ
-asking_place transfers = position (λ transfer. is_some (due_of transfer)) transfers
+asking_place transfers = position (λ transfer. is_due transfer.task) transfers
 
-abbrev pub r2t_at : TransferList → Stamp → Option ℕ → Option R2t
-r2t_at transfers numbers_now None = None
-r2t_at transfers numbers_now (Some i) =
-    option_map (r2t_for (transfer_at transfers.list i).header transfers.next_tag numbers_now) (due_of (transfer_at transfers.list i))
+-- the R2Ts that are due of the command at this place
+abbrev pub r2ts_at : TransferList → Stamp → ℕ → List R2t
+r2ts_at transfers numbers_now i =
+    let transfer = transfer_at transfers.list i in r2ts_for transfer.header transfers.next_tag numbers_now (due_asks transfer.task)
 
-abbrev pub sent_to : ℕ → Transfer → Transfer
-sent_to tag transfer = record transfer { task = record transfer.task { tag = tag }; sent = transfer.sent + 1 }
+abbrev pub sent_to : List R2t → Transfer → Transfer
+sent_to r2ts transfer = record transfer { task = with_asked (map (λ r2t. r2t.target_transfer_tag) r2ts) transfer.task }
 
-abbrev pub asked_at : TransferList → Option ℕ → TransferList
-asked_at transfers None = transfers
-asked_at transfers (Some i) = record {
-  next_tag = (transfers.next_tag + 1) % 0xFFFFFFFF;
-  list = slice_set transfers.list i (sent_to transfers.next_tag (transfer_at transfers.list i));
+-- these are sent
+abbrev pub sent_at : ℕ → List R2t → TransferList → TransferList
+sent_at i r2ts transfers = record {
+  next_tag = (transfers.next_tag + length r2ts) % 0xFFFFFFFF;
+  list = slice_set transfers.list i (sent_to r2ts (transfer_at transfers.list i));
   drains = transfers.drains;
 }
 

@@ -13,8 +13,8 @@ use Rattle.iscsi_session.specs.Answers.{command_answers}
 use Rattle.iscsi_session.specs.Commands.{carried_out}
 
 -- The place is that of the frame among those of its connection; the turn counts the requests that this frame
--- lets be taken, and then the commands that are done, each from 0 on. A frame makes one R2T due at most, or brings the last
--- data that one Task Management Function Request waits for.
+-- lets be taken, and then the commands that are done, each from 0 on. A frame makes R2Ts of one command due at most, or brings
+-- the last data that one Task Management Function Request waits for.
 pub data Step : Type 0 where
   Judging : (place : ℕ) → Step
   Taking : (place : ℕ) (turn : ℕ) → Step
@@ -106,7 +106,7 @@ act k work = record work {
   orders = work.orders ++ ordered k work.past;
 }
 
--- a command is asked for a part of its data by an R2T
+-- a command is asked for data by all R2Ts that are due of it
 unfoldable pub ask : ℕ → Work → Work
 ask k work = record work { past = asked k work.past }
 
@@ -145,7 +145,7 @@ waiting_in past = (length (held past) + length (due past)) * 2
 unfoldable pub act_all : (Step → Bool) → ℕ → Work → Work
 act_all fails place work = one_by_one fails (Taking place) due act 0 (waiting_in work.past) work
 
--- the R2T that is due is sent
+-- the R2Ts that are due are sent
 unfoldable pub ask_due : (Step → Bool) → ℕ → Work → Work
 ask_due fails place work = first_steps fails (Asking place) ask (asking work.past) work
 
@@ -157,7 +157,7 @@ tell_due fails place work = first_steps fails (Answering place) tell (drained_fu
 unfoldable pub taken_in : (Step → Bool) → ℕ → Frame → Work → Work
 taken_in fails place frame work = act_all fails place (take_step fails (Judging place) (judge frame) work)
 
--- and the R2T that it made due is sent
+-- and the R2Ts that it made due are sent
 unfoldable pub asked_in : (Step → Bool) → ℕ → Frame → Work → Work
 asked_in fails place frame work = ask_due fails place (taken_in fails place frame work)
 

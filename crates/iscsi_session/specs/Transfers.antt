@@ -1,18 +1,17 @@
 -- The data that initiators send for the SCSI Commands of a session, and the R2Ts that ask for it.
-use Rattle.std.specs.Prelude.{ℕ, ◌%◌, List, [], ◌∷◌, ◌++◌, length, map, filter, fold, find, Bool, ◌&&◌, not, ◌==◌, Option, Some, None, is_some, option_map, if◌then◌else◌}
+use Rattle.std.specs.Prelude.{ℕ, ◌+◌, ◌%◌, List, [], ◌∷◌, ◌++◌, length, map, filter, find, Bool, not, ◌==◌, Option, Some, None, is_some, if◌then◌else◌}
 use Rattle.iscsi_pdu.specs.Header.{initiator_task_tag, lun_field}
 use Rattle.iscsi_pdu.specs.Frames.{Frame}
 use Rattle.iscsi_pdu.specs.declared.answer.Answer.{Answer}
 use Rattle.iscsi_pdu.specs.declared.answer.Answer.TheVariants as answers
 use Rattle.iscsi_pdu.specs.declared.r2t.R2t.{R2t}
 use Rattle.iscsi_pdu.specs.declared.stamp.Stamp.{Stamp}
-use Rattle.iscsi_pdu.specs.DataOut.{no_transfer_tag}
 use Rattle.iscsi_transfer.specs.Payload as payloads
-use Rattle.iscsi_transfer.specs.Task.{TaskState, remembered as task_of, fault_of, due_ask, lacks_data, is_whole}
+use Rattle.iscsi_transfer.specs.Task.{TaskState, remembered as task_of, fault_of, due_asks, is_due, is_asked, is_whole}
 use Rattle.iscsi_transfer.specs.declared.progress.Ask.{Ask}
 use Rattle.iscsi_session.specs.declared.verdict.Verdict.{Verdict}
 use Rattle.iscsi_session.specs.declared.verdict.Verdict.TheVariants.{Dropped, Violating, Feeding}
-use Rattle.iscsi_session.specs.Requests.{Request, Past, Drain, frame_of, is_in, unfinished, stamp, answering}
+use Rattle.iscsi_session.specs.Requests.{Request, Past, SentR2t, Drain, frame_of, is_in, unfinished, stamp, answering}
 
 abbrev pub tag_of : List Request → ℕ → ℕ
 tag_of came k = initiator_task_tag (frame_of came k).header
@@ -23,17 +22,13 @@ tag_of came k = initiator_task_tag (frame_of came k).header
 unfoldable pub outs_of : Past → ℕ → List Frame
 outs_of past k = map (λ d. d.frame) (filter (λ d. d.command == k) past.data_outs)
 
--- the tags of its R2Ts
+-- the Target Transfer Tags of its R2Ts
 unfoldable pub tags_of : Past → ℕ → List ℕ
 tags_of past k = map (λ r. r.tag) (filter (λ r. r.command == k) past.r2ts)
 
--- the last of them; FFFFFFFFh before the first
-abbrev pub last_tag : List ℕ → ℕ
-last_tag tags = fold (λ before tag. tag) no_transfer_tag tags
-
 -- what has happened to its data
 abbrev pub data_past : Past → ℕ → payloads.Past
-data_past past k = record { values = past.params.values; command = frame_of past.came k; outs = outs_of past k; tag = last_tag (tags_of past k) }
+data_past past k = record { values = past.params.values; command = frame_of past.came k; outs = outs_of past k; tags = tags_of past k }
 
 unfoldable pub task_at : Past → ℕ → TaskState
 task_at past k = task_of (data_past past k)
@@ -50,18 +45,17 @@ abbrev pub verdict_on : Frame → Option TaskState → Verdict
 verdict_on frame None = Dropped
 verdict_on frame (Some task) = if is_some (fault_of task frame) then Violating else Feeding
 
--- RFC 7143 §11.8.1: R2Ts of a command are numbered, and each is sent once
-abbrev pub unsent : ℕ → Option Ask → Option Ask
-unsent sent None = None
-unsent sent (Some ask) = if ask.number == sent then Some ask else None
+-- the parts of its data that it is to be asked for
+abbrev pub asks_of : Past → ℕ → List Ask
+asks_of past k = due_asks (task_at past k)
 
--- the part of its data that it is to be asked for
-abbrev pub ask_of : Past → ℕ → Option Ask
-ask_of past k = unsent (length (tags_of past k)) (due_ask (task_at past k))
+-- there are some
+abbrev pub is_due_of : Past → ℕ → Bool
+is_due_of past k = is_due (task_at past k)
 
 -- an R2T is open: not all that it asked for has come
 abbrev pub is_asked_of : Past → ℕ → Bool
-is_asked_of past k = lacks_data (task_at past k) && not (is_some (ask_of past k))
+is_asked_of past k = is_asked (task_at past k)
 
 -- ---- of those that were removed
 
@@ -85,13 +79,13 @@ command_with past tag =
 
 -- the commands that are to be asked for data
 unfoldable pub asking : Past → List ℕ
-asking past = filter (λ k. is_some (ask_of past k)) (unfinished past)
+asking past = filter (is_due_of past) (unfinished past)
 
 -- own: the number of the session's earlier R2Ts, and never FFFFFFFFh (RFC 7143 §11.7.4)
 abbrev pub next_transfer_tag : Past → ℕ
 next_transfer_tag past = length past.r2ts % 0xFFFFFFFF
 
--- an R2T to the command with this header; it carries the next StatSN, and does not use it
+-- an R2T to the command with this header; it carries the next StatSN, and does not use it (RFC 7143 §11.8.3)
 abbrev pub r2t_for : List ℕ → ℕ → Stamp → Ask → R2t
 r2t_for header tag numbers_now ask = record {
   lun = lun_field header;
@@ -103,15 +97,24 @@ r2t_for header tag numbers_now ask = record {
   desired_length = ask.length;
 }
 
-abbrev pub r2t_answers : Option R2t → List Answer
-r2t_answers None = []
-r2t_answers (Some r2t) = answers.R2t r2t ∷ []
+-- one for each of these parts, in their order (RFC 7143 §11.8.2): their tags rise by one from this one on
+abbrev pub r2ts_for : List ℕ → ℕ → Stamp → List Ask → List R2t
+r2ts_for header tag numbers_now [] = []
+r2ts_for header tag numbers_now (ask ∷ asks) = r2t_for header tag numbers_now ask ∷ r2ts_for header ((tag + 1) % 0xFFFFFFFF) numbers_now asks
 
-unfoldable pub r2t_of : Past → ℕ → List Answer
-r2t_of past k = r2t_answers (option_map (r2t_for (frame_of past.came k).header (next_transfer_tag past) (stamp past)) (ask_of past k))
+-- RFC 7143 §13.17: those for all that a command is to be asked for, one behind the other
+unfoldable pub r2ts_of : Past → ℕ → List R2t
+r2ts_of past k = r2ts_for (frame_of past.came k).header (next_transfer_tag past) (stamp past) (asks_of past k)
 
+abbrev pub r2t_answers : List R2t → List Answer
+r2t_answers r2ts = map (λ r2t. answers.R2t r2t) r2ts
+
+abbrev pub sent_for : ℕ → R2t → SentR2t
+sent_for k r2t = record { command = k; tag = r2t.target_transfer_tag }
+
+-- they are sent
 abbrev pub asked : ℕ → Past → Past
-asked k past = answering (r2t_of past k) (record past { r2ts = past.r2ts ++ record { command = k; tag = next_transfer_tag past } ∷ [] })
+asked k past = answering (r2t_answers (r2ts_of past k)) (record past { r2ts = past.r2ts ++ map (sent_for k) (r2ts_of past k) })
 
 -- the first of these is asked
 abbrev pub asked_by : List ℕ → Past → Past
@@ -120,7 +123,7 @@ asked_by (k ∷ others) past = asked k past
 
 abbrev pub r2ts_by : List ℕ → Past → List Answer
 r2ts_by [] past = []
-r2ts_by (k ∷ others) past = r2t_of past k
+r2ts_by (k ∷ others) past = r2t_answers (r2ts_of past k)
 
 -- ---- a Data-Out is accepted
 

@@ -7,7 +7,6 @@ ghost use Rattle.iscsi_pdu.specs.Frames as pdu;
 ghost use Rattle.iscsi_login.specs.Values.{AreInRange};
 ghost use Rattle.iscsi_session.specs.Answers.{expected_length, data_sent, scsi_answer, command_answers, residual_of};
 ghost use Rattle.iscsi_pdu.specs.declared.answer.Answer.{Answer as AnyAnswer};
-ghost use Rattle.iscsi_session.specs.Transfers.{r2t_answers};
 ghost use Rattle.iscsi_session.specs.Judging.{reject};
 ghost use Rattle.scsi_unit.specs.DiskCommands.{most_given};
 ghost use Rattle.iscsi_session.specs.Room.{room_for, most_pieces, most_sent as most_data_sent};
@@ -181,14 +180,13 @@ fn asking(r2t: R2t) -> Answer<'static>
     Answer::R2t(r2t)
 }
 
-/// Writes an R2T, where there is one, and room for it.
-pub(crate) fn put_r2t(out: &mut BytesMut, r2t: Option<R2t>)
+/// Writes an R2T where there is room for it.
+pub(crate) fn put_r2t(out: &mut BytesMut, r2t: R2t)
     requires { 48 ≤ out.old.spare }
-    ensures { out.new.items ≡ out.old.items ++ flat_map spelling (r2t_answers r2t) }
+    ensures written { out.new.items ≡ out.old.items ++ spelling (AnyAnswer.R2t r2t) }
+    ensures spare { out.old.spare ≤ out.new.spare + 48 }
 {
-    if let Some(r2t) = r2t {
-        put(out, &asking(r2t));
-    }
+    put(out, &asking(r2t));
 }
 
 /// Makes room for all that a command is answered. Where an allocation fails the buffer holds what it held.

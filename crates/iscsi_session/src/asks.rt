@@ -1,44 +1,69 @@
 //! The R2Ts that ask for the data of the SCSI Commands of a session.
 
-ghost use Rattle.std.specs.Prelude.{◌≡◌, ◌<◌, ◌+◌, ◌%◌, is_some};
-ghost use Rattle.iscsi_session.specs.Transfers.{r2t_for};
-ghost use Rattle.iscsi_session.specs.State.{asking_place, r2t_at, asked_at};
+ghost use Rattle.std.specs.Prelude.{◌≡◌, ◌<◌, ◌≤◌, ◌+◌, ◌*◌, ◌%◌, ◌++◌, ◌∷◌, List, [], Some, length, flat_map, IfSome};
+ghost use Rattle.iscsi_pdu.specs.Answer.{spelling};
+ghost use Rattle.iscsi_transfer.specs.Task.{due_asks, first};
+ghost use Rattle.iscsi_session.specs.Transfers.{r2t_for, r2t_answers};
+ghost use Rattle.iscsi_session.specs.State.{transfer_at, asking_place, r2ts_at, sent_at};
 
+use crate::answers::put_r2t;
 use crate::transfers::Transfers;
-use iscsi_pdu::{Header, R2t, Stamp};
-use iscsi_transfer::{Ask, NO_TRANSFER_TAG};
+use bytes::BytesMut;
+use iscsi_pdu::{HEADER_LENGTH, Header, R2t, Stamp};
+use iscsi_transfer::{Ask, MOST_OPEN, NO_TRANSFER_TAG};
+
+/// The R2Ts that are due of one command take no more room, in bytes.
+pub(crate) const ROOM_TO_ASK: usize = MOST_OPEN * HEADER_LENGTH;
 
 impl Transfers {
     /// Where the first command stands that is to be asked for data.
-    fn asking(&self) -> Option<usize>
-        ensures { result ≡ asking_place self.now.list }
+    pub(crate) fn asking(&self) -> Option<usize>
+        ensures place { result ≡ asking_place self.now.list }
+        ensures there { IfSome result (λ place. place < length self.now.list) }
     {
         self.list
             .iter()
-            .position(|transfer| transfer.due().is_some())
+            .position(|transfer| transfer.task.due().is_some())
     }
 
-    /// A command is to be asked for data.
-    pub(crate) fn is_asking(&self) -> bool
-        ensures { result ≡ is_some (asking_place self.now.list) }
+    /// The R2Ts that are due of the command at this place are sent, with these numbers, and stand at the end of the
+    /// buffer, one behind the other.
+    pub(crate) fn ask(&mut self, place: usize, stamp: Stamp, out: &mut BytesMut)
+        requires there { place < length self.old.list }
+        requires room { ROOM_TO_ASK ≤ out.old.spare }
+        ensures written { out.new.items ≡ out.old.items ++ flat_map spelling (r2t_answers (r2ts_at self.old stamp place)) }
+        ensures sent { self.new ≡ sent_at place (r2ts_at self.old stamp place) self.old }
     {
-        self.asking().is_some()
+        let mut due = self.due_at(place);
+        while let Some(ask) = due {
+            put_r2t(out, self.send(place, ask, stamp));
+            due = self.due_at(place);
+        }
     }
 
-    /// The R2T that is due is sent, with these numbers.
-    pub(crate) fn ask(&mut self, stamp: Stamp) -> Option<R2t>
-        ensures r2t { result ≡ r2t_at self.old stamp (asking_place self.old.list) }
-        ensures same { self.new ≡ asked_at self.old (asking_place self.old.list) }
+    /// The first R2T that is due of the command at this place.
+    fn due_at(&self, place: usize) -> Option<Ask>
+        requires { place < length self.now.list }
+        ensures value { result ≡ first (due_asks (transfer_at self.now.list place).task) }
+        ensures few { length (due_asks (transfer_at self.now.list place).task) ≤ MOST_OPEN }
+        ensures tag { self.now.next_tag < 0xFFFFFFFF }
     {
-        let place = self.asking()?;
+        self.list[place].task.due()
+    }
+
+    /// It is sent, with these numbers.
+    fn send(&mut self, place: usize, ask: Ask, stamp: Stamp) -> R2t
+        requires there { place < length self.old.list }
+        requires due { first (due_asks (transfer_at self.old.list place).task) ≡ Some ask }
+        ensures rest { r2ts_at self.old stamp place ≡ result ∷ r2ts_at self.new stamp place }
+        ensures sent { self.new ≡ sent_at place (result ∷ []) self.old }
+    {
         let tag = self.next_tag;
         let transfer = &mut self.list[place];
-        let ask = transfer.due()?;
         transfer.task.asked(tag);
-        transfer.sent = ask.number as usize + 1;
         let header = transfer.header;
         self.next_tag = next_after(tag);
-        Some(r2t_to(&header, tag, stamp, ask))
+        r2t_to(&header, tag, stamp, ask)
     }
 }
 

@@ -1,10 +1,10 @@
 //! The data of SCSI Commands that were removed, for which functions wait.
 
-ghost use Rattle.std.specs.Prelude.{◌≡◌, ◌++◌, ◌&&◌, ◌==◌, is_some, OnOk, OnErr};
+ghost use Rattle.std.specs.Prelude.{◌≡◌, ◌++◌, ◌&&◌, ◌==◌, OnOk, OnErr};
 ghost use Rattle.std.specs.List.{list_any};
 ghost use Rattle.iscsi_session.specs.declared.verdict.Verdict.TheVariants.{Feeding};
-ghost use Rattle.iscsi_session.specs.Draining.{is_asked, is_awaited, drained_for, awaited_in, awaits_in, is_draining, drain_with, drain_for, judged_drain, fed_drain, function_tag, lacks_for, telling_place, function_at, drains_without};
-ghost use Rattle.iscsi_session.specs.State.{bears, due_of, transfers_without};
+ghost use Rattle.iscsi_session.specs.Draining.{is_awaited, drained_for, awaited_in, awaits_in, is_draining, drain_with, drain_for, judged_drain, fed_drain, function_tag, lacks_for, telling_place, function_at, drains_without};
+ghost use Rattle.iscsi_session.specs.State.{bears, transfers_without};
 
 use crate::reach::Reach;
 use crate::transfers::{Transfer, Transfers};
@@ -23,8 +23,6 @@ pub(crate) struct DrainedTransfer {
     /// The header of the command.
     header: Header,
     progress: Progress,
-    /// How many R2Ts were sent for it.
-    sent: usize,
 }
 
 impl Model for DrainedTransfer {
@@ -33,17 +31,10 @@ impl Model for DrainedTransfer {
 
     ghost Value = { Drained };
 
-    ghost view = { λ d. record { function = d.function; transfer = record { header = d.header; task = d.progress; sent = d.sent } } };
+    ghost view = { λ d. record { function = d.function; transfer = record { header = d.header; task = d.progress } } };
 }
 
 impl Transfer {
-    /// An R2T is open: not all that it asked for has come.
-    fn is_asked(&self) -> bool
-        ensures { result ≡ is_asked self.now }
-    {
-        self.task.lacks_data() && self.due().is_none()
-    }
-
     /// It is removed, and this function waits for its data.
     fn into_drained(self, function: Header) -> DrainedTransfer
         ensures { result ≡ drained_for function self }
@@ -52,7 +43,6 @@ impl Transfer {
             function,
             header: self.header,
             progress: self.task.into_progress(),
-            sent: self.sent,
         }
     }
 
@@ -60,7 +50,7 @@ impl Transfer {
     fn is_awaited(&self, reach: &Reach) -> bool
         ensures { result ≡ is_awaited reach.now self.now }
     {
-        reach.has(&self.header) && self.is_asked()
+        reach.has(&self.header) && self.task.is_asked()
     }
 }
 
@@ -69,17 +59,7 @@ impl DrainedTransfer {
     fn is_draining(&self) -> bool
         ensures { result ≡ is_draining self.now }
     {
-        self.progress.lacks_data() && !self.is_due()
-    }
-
-    /// All that the open R2T asked for has come.
-    fn is_due(&self) -> bool
-        ensures { result ≡ is_some (due_of self.now.transfer) }
-    {
-        match self.progress.due() {
-            Some(ask) => ask.number as usize == self.sent,
-            None => false,
-        }
+        self.progress.is_asked()
     }
 
     /// The command with this tag is drained here.
@@ -154,7 +134,7 @@ impl Transfers {
         self.list.iter().any(|transfer| transfer.is_awaited(reach))
     }
 
-    /// The commands that a function reaches are removed, and the function waits for the data that R2Ts have asked
+    /// The commands that a function reaches are removed, and the function waits for the data that open R2Ts have asked
     /// for of them. Where an allocation fails nothing changes.
     pub(crate) fn drain(&mut self, reach: &Reach) -> Result<(), Memory>
         ensures ok { OnOk result (self.new ≡ record self.old
@@ -166,7 +146,7 @@ impl Transfers {
         while place < self.list.len() {
             if reach.has(&self.list[place].header) {
                 let transfer = self.list.remove(place);
-                if transfer.is_asked() {
+                if transfer.task.is_asked() {
                     self.drains
                         .push_reserved(transfer.into_drained(reach.function));
                 }

@@ -1,9 +1,10 @@
 //! The judging of a frame.
 
-ghost use Rattle.std.specs.Prelude.{◌≡◌, ◌≢◌, ◌≤◌, ◌||◌, is_some, ◌++◌, ◌∷◌, ℕ, List, [], true, false, flat_map, IfOk, OnOk, OnErr};
+ghost use Rattle.std.specs.Prelude.{◌≡◌, ◌≢◌, ◌||◌, is_some, ◌++◌, ◌∷◌, ℕ, List, [], true, false, flat_map, IfOk, OnOk, OnErr};
 ghost use Rattle.iscsi_pdu.specs.Answer.{spelling};
 ghost use Rattle.iscsi_pdu.specs.Frames as pdu;
 ghost use Rattle.iscsi_pdu.specs.Header.{initiator_task_tag};
+ghost use Rattle.iscsi_login.specs.Values.{AreInRange};
 ghost use Rattle.iscsi_session.specs.Requests.{Past, is_command as is_command_in, is_function as is_function_in, accepted, answering, stamp};
 ghost use Rattle.iscsi_session.specs.Transfers.{command_with, fed};
 ghost use Rattle.iscsi_session.specs.Judging.{verdict, request_verdict, is_refused, is_fresh, is_full, is_live, is_over, is_taken, is_faulty, task_verdict, judged, judged_answers, reject};
@@ -31,7 +32,7 @@ impl Session {
     /// and its data, in this order. One that is accepted is kept until it acts, and one that is rejected
     /// is answered at the end of the buffer. Where an allocation fails nothing changes.
     pub(crate) fn receive(&mut self, frame: Frame, out: &mut BytesMut) -> Result<Verdict, Memory>
-        requires { 1 ≤ self.old.params.values.max_burst_length }
+        requires { AreInRange self.old.params.values }
         ensures verdict { IfOk result (λ v. (past : Past) → Stands past self.old → v ≡ verdict past frame) }
         ensures stands { OnOk result ((past : Past) → Stands past self.old → Stands (judged (verdict past frame) frame past) self.new) }
         ensures out { OnOk result ((past : Past) → Stands past self.old
@@ -181,7 +182,7 @@ impl Session {
 
     /// A request that is accepted is kept until it acts. Where an allocation fails nothing changes.
     fn accept(&mut self, frame: Frame) -> Result<(), Memory>
-        requires burst { 1 ≤ self.old.params.values.max_burst_length }
+        requires values { AreInRange self.old.params.values }
         requires vacant { is_vacant_for self.old.tasks frame ≡ true }
         requires acceptable { IsAcceptable self.old frame }
         ensures stands { OnOk result ((past : Past) → Stands past self.old → Stands (accepted frame past) self.new) }
@@ -199,7 +200,7 @@ impl Session {
 
     /// A SCSI Command is kept, with the data that it brings. Where an allocation fails nothing changes.
     fn accept_command(&mut self, frame: Frame) -> Result<(), Memory>
-        requires burst { 1 ≤ self.old.params.values.max_burst_length }
+        requires values { AreInRange self.old.params.values }
         requires command { is_command_in frame ≡ true }
         requires vacant { is_vacant_for self.old.tasks frame ≡ true }
         requires lawful { IsLawfulTask self.old frame }

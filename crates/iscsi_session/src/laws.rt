@@ -1,7 +1,7 @@
 //! What holds of every past that the steps of a session can reach. The functions do nothing: their
 //! contracts are the laws.
 
-ghost use Rattle.iscsi_session.specs.Laws.{TakenOnce, FinishedAsTaken, DueInOrder, DoneInOrder, StepsAreLawful, NothingStaysDue};
+ghost use Rattle.iscsi_session.specs.Laws.{TakenOnce, FinishedAsTaken, DueInOrder, DoneInOrder, StepsAreLawful, R2tsAreSentAtOnce, NothingStaysDue};
 
 /// Each request is taken once, those that are due act in this order, and what is finished was taken, in the
 /// order in which it was: the SCSI Commands as they were done, and every other request as it acted.
@@ -17,6 +17,12 @@ pub fn requests_are_finished_as_taken()
 #[tactic(auto, using(crate::proofs::Lawful::steps_are_lawful))]
 pub fn steps_are_lawful()
     ensures { StepsAreLawful }
+{}
+
+/// All R2Ts that are due of a command are sent in one step, with one StatSN, which the next answer uses.
+#[tactic(auto, using(crate::proofs::Asking::r2ts_are_sent_at_once))]
+pub fn r2ts_are_sent_at_once()
+    ensures { R2tsAreSentAtOnce }
 {}
 
 /// Between two frames no request that was taken has to act, no R2T to be sent, no Task Management Function Request to

@@ -12,11 +12,12 @@ ghost use Rattle.iscsi_session.specs.Steps.{Work, Asking, is_doing, is_serving, 
 ghost use Rattle.iscsi_session.specs.Weight.{IsAtRest, Eases};
 ghost use Rattle.iscsi_session.specs.Runs.{output, Starts, Runs, Stops, StepsFirst, IsSettled};
 
-use crate::answers::{make_room, put_r2t};
+use crate::answers::make_room;
+use crate::asks::ROOM_TO_ASK;
 use crate::session::Session;
 use crate::verdict::Verdict;
 use bytes::BytesMut;
-use iscsi_pdu::{Frame, HEADER_LENGTH, Header};
+use iscsi_pdu::{Frame, Header};
 use media_store::Store;
 use out_of_memory::Memory;
 use scsi_sense::{Condition, Done, Nexus, Sense};
@@ -50,7 +51,7 @@ fn carry_out<S: Store>(
 }
 
 impl Session {
-    /// A frame is judged, the requests that it lets be taken act, the R2T that it makes due is sent, and the function is
+    /// A frame is judged, the requests that it lets be taken act, the R2Ts that it makes due are sent, and the function is
     /// answered that waited for its data; all of that is added at the end of the buffer. The header of each Task Management Function Request that acts is
     /// put behind the orders: the target is to carry it out on its other sessions and on its units, which have these
     /// numbers. It tells whether the session goes on: a violation and a Logout that closes end it.
@@ -85,7 +86,8 @@ impl Session {
         Ok(true)
     }
 
-    /// The R2T that is due is added at the end of the buffer. Where an allocation fails nothing changes.
+    /// The R2Ts that are due are added at the end of the buffer. Room is made for all before the first is sent, so that
+    /// where an allocation fails nothing changes.
     fn ask_due(&mut self, out: &mut BytesMut) -> Result<(), Memory>
         ensures ok { OnOk result ((orders : List (List ℕ)) (units : TargetUnits) → Runs ask_due None true self.old self.new
             (output out.old.items orders) (output out.new.items orders) units units) }
@@ -95,13 +97,12 @@ impl Session {
         ensures tasks { self.new.tasks ≡ self.old.tasks }
         ensures params { self.new.params ≡ self.old.params }
     {
-        if !self.transfers.is_asking() {
+        let Some(place) = self.transfers.asking() else {
             return Ok(());
-        }
-        out.reserve(HEADER_LENGTH)?;
+        };
+        out.reserve(ROOM_TO_ASK)?;
         let stamp = self.stamp();
-        let r2t = self.transfers.ask(stamp);
-        put_r2t(out, r2t);
+        self.transfers.ask(place, stamp, out);
         Ok(())
     }
 

@@ -74,7 +74,7 @@ impl Session {
         }
     }
 
-    /// The sequence numbers of an R2T: StatSN is the next one, and is not used by it (RFC 7143 §11.8.2).
+    /// The sequence numbers of an R2T: StatSN is the next one, and is not used by it (RFC 7143 §11.8.3).
     pub(crate) fn stamp(&self) -> Stamp
         ensures { (past : Past) → Stands past self.now → result ≡ stamp past }
     {

@@ -1,19 +1,20 @@
 //! The data that the initiator sends for the SCSI Commands of a session.
 
-ghost use Rattle.std.specs.Prelude.{◌≡◌, ◌≤◌, ◌++◌, ◌∷◌, List, [], None, IfOk, OnOk, OnErr};
+ghost use Rattle.std.specs.Prelude.{◌≡◌, ◌++◌, ◌∷◌, List, [], None, IfOk, OnOk, OnErr};
+ghost use Rattle.iscsi_login.specs.Values.{AreInRange};
 ghost use Rattle.iscsi_transfer.specs.Payload.{begun};
 ghost use Rattle.iscsi_transfer.specs.Task.{command_fault, remembered as task_of};
 ghost use Rattle.iscsi_session.specs.declared.transfers.Transfer.{Transfer};
 ghost use Rattle.iscsi_session.specs.declared.verdict.Verdict.TheVariants.{Feeding};
 ghost use Rattle.iscsi_session.specs.Draining.{judged_in, fed_in, is_live_in};
-ghost use Rattle.iscsi_session.specs.State.{no_transfers, place_with, immediate_transfers, whole_at, payload_at, removed_at, begun_transfer, due_of, reaches_some, transfers_without};
+ghost use Rattle.iscsi_session.specs.State.{no_transfers, place_with, immediate_transfers, whole_at, payload_at, removed_at, begun_transfer, reaches_some, transfers_without};
 
 use crate::drained_transfers::DrainedTransfer;
 use crate::reach::Reach;
 use crate::verdict::Verdict;
 use iscsi_login::Values;
 use iscsi_pdu::{Frame, Header};
-use iscsi_transfer::{Ask, DataFault, Task};
+use iscsi_transfer::{DataFault, Task};
 use out_of_memory::Memory;
 use std::alloc::Global;
 use std::marker::Model;
@@ -24,8 +25,6 @@ pub(crate) struct Transfer {
     /// The header of the command.
     pub(crate) header: Header,
     pub(crate) task: Task,
-    /// How many R2Ts were sent for it.
-    pub(crate) sent: usize,
 }
 
 /// The data of the SCSI Commands of a session.
@@ -49,20 +48,6 @@ impl Model for Transfers {
     ghost view = { λ t. record { next_tag = t.next_tag; list = t.list.items; drains = t.drains.items } };
 
     ghost invariant = { λ t. t.next_tag < 0xFFFFFFFF };
-}
-
-impl Transfer {
-    /// The part of its data that the command is to be asked for. Each R2T is sent once.
-    pub(crate) fn due(&self) -> Option<Ask>
-        ensures { result ≡ due_of self.now }
-    {
-        let ask = self.task.due()?;
-        if ask.number as usize == self.sent {
-            Some(ask)
-        } else {
-            None
-        }
-    }
 }
 
 impl Transfers {
@@ -136,7 +121,7 @@ impl Transfers {
     /// A SCSI Command that has just come is kept, with the data that it brings. Where an allocation fails nothing
     /// changes.
     pub(crate) fn begin(&mut self, frame: &Frame, values: &Values) -> Result<(), Memory>
-        requires burst { 1 ≤ values.now.max_burst_length }
+        requires values { AreInRange values.now }
         requires lawful { command_fault values.now frame.now ≡ None }
         ensures ok { OnOk result (self.new ≡ record self.old
             { list = self.old.list ++ begun_transfer frame.now.header (task_of (begun values.now frame.now)) ∷ [] }) }
@@ -147,7 +132,6 @@ impl Transfers {
         self.list.push_reserved(Transfer {
             header: frame.header,
             task,
-            sent: 0,
         });
         Ok(())
     }
@@ -212,7 +196,7 @@ impl Transfers {
 
 /// The task of a command whose data is as agreed.
 fn start(alloc: Global, frame: &Frame, values: &Values) -> Result<Task, Memory>
-    requires burst { 1 ≤ values.now.max_burst_length }
+    requires values { AreInRange values.now }
     requires lawful { command_fault values.now frame.now ≡ None }
     ensures { IfOk result (λ task. task ≡ task_of (begun values.now frame.now)) }
 {

@@ -3,7 +3,7 @@
 -- a WRITE that waits for its data, and two sessions of which one resets the unit.
 use Rattle.std.specs.Prelude.{◌≡◌, ℕ, ◌+◌, List, [], ◌∷◌, ◌++◌, take, drop, map, replicate, Bool, true, false, codes, refl}
 use Rattle.media_block.specs.Blocks.{blocks_of}
-use Rattle.iscsi_transfer.specs.Task.{with_data}
+use Rattle.iscsi_transfer.specs.Task.{with_data, with_asked}
 use Rattle.iscsi_session.specs.Steps.{ready}
 use Rattle.scsi_unit.specs.Joined.{raised_for_all}
 use Rattle.scsi_unit.specs.Units.{raised_for_all_at}
@@ -18,7 +18,7 @@ use Rattle.iscsi_target.specs.ExamplesBytes.{computed, empty_tape, login_header,
 
 -- what an example unfolds
 unfoldable data_computed : Bool
-unfolding computed blocks_of with_data ready raised_for_all raised_for_all_at touch_at
+unfolding computed blocks_of with_data with_asked ready raised_for_all raised_for_all_at touch_at
 data_computed = true
 
 -- a disk of four zero blocks
@@ -158,6 +158,29 @@ each_block_is_kept = refl
 nothing_is_written_yet : kept_media (take 5 written_and_read) ≡ DiskMedium (replicate 4 (block_of 0)) false ∷ blank_tape ∷ []
 unfolding data_computed
 nothing_is_written_yet = refl
+
+-- The same where MaxOutstandingR2T is 4: 68h bytes of text, which the target takes in 81h bytes.
+abbrev offers_of_four : List ℕ
+offers_of_four = offers ++ codes "MaxOutstandingR2T=4" ++ 0 ∷ []
+
+abbrev login_for_four : List ℕ
+login_for_four = with_data_length 0x68 (login_header 0x01 0x00) ++ codes "InitiatorName=a" ++ 0 ∷ codes "TargetName=t1" ++ 0 ∷ offers_of_four
+
+abbrev logged_in_for_four : List ℕ
+logged_in_for_four = with_data_length 0x81 (take 48 logged_in)
+    ++ codes "TargetPortalGroupTag=1" ++ 0 ∷ offers_of_four ++ codes "MaxRecvDataSegmentLength=262144" ++ 0 ∷ 0 ∷ 0 ∷ 0 ∷ []
+
+abbrev written_at_once : History
+written_at_once = plain (Open 0) ∷ plain (Bytes 0 (login_for_four ++ first_of_disk)) ∷ drop 2 written_and_read
+
+-- both R2Ts come as the unsolicited data ends, and what is written is the same
+both_are_asked_at_once : outputs disk_and_tape (take 4 written_at_once) ≡ (logged_in_for_four ++ attention ++ r2t 0 2 ++ r2t 1 4) ∷ []
+unfolding data_computed
+both_are_asked_at_once = refl
+
+each_block_is_kept_so : kept_media written_at_once ≡ DiskMedium (block_of 0 ∷ block_of 0x11 ∷ block_of 0x22 ∷ block_of 0x33 ∷ []) false ∷ blank_tape ∷ []
+unfolding data_computed
+each_block_is_kept_so = refl
 
 -- ---- a record of three bytes and a filemark, written to a tape and read back
 

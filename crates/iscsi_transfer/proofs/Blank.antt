@@ -1,9 +1,9 @@
 -- Only how long the payload is counts for the rules of a command's data.
-use Rattle.std.proofs.Common.{◌≡◌, ℕ, ◌+◌, List, ◌++◌, length, replicate, Option, refl, sym, ap, ◌∙◌}
+use Rattle.std.proofs.Common.{◌≡◌, ℕ, ◌+◌, List, ◌++◌, length, replicate, refl, sym, ap, ◌∙◌}
 use Rattle.std.proofs.lemmas.List.{length-append, length-replicate}
 use Rattle.iscsi_pdu.specs.Frames.{Frame}
 use Rattle.iscsi_transfer.specs.Counted.{most}
-use Rattle.iscsi_transfer.specs.Task.{TaskState, blank, lacks_data, due_ask, fault_of, with_data}
+use Rattle.iscsi_transfer.specs.Task.{TaskState, blank, filled, lacks_data, due_asks, is_asked, fault_of, with_data, with_asked}
 
 pub long_of : (zeros items : List ℕ) → zeros ≡ replicate (length items) 0 → length zeros ≡ length items
 long_of zeros items e = ap length e ∙ length-replicate (length items) 0
@@ -18,23 +18,51 @@ pub with_same : (task : TaskState) (items : List ℕ) (out : Frame) → length t
 unfolding with_data
 with_same task items out long = rw (length-append task.payload out.body, length-append items out.body, long) refl
 
+pub due_same : (task : TaskState) (items : List ℕ) → length task.payload ≡ length items
+    → due_asks (record task { payload = items }) ≡ due_asks task
+due_same task items long = rw (← long) refl
+
+pub asked_same : (task : TaskState) (items tags : List ℕ) → length task.payload ≡ length items
+    → record (with_asked tags task) { payload = items } ≡ with_asked tags (record task { payload = items })
+unfolding with_asked
+asked_same task items tags long = rw (← long) refl
+
 blank_long : (task : TaskState) → length task.payload ≡ length (blank task).payload
 blank_long task = sym (length-replicate (length task.payload) 0)
 
 pub fault_blank : (task : TaskState) (out : Frame) → fault_of (blank task) out ≡ fault_of task out
 fault_blank task out = fault_same task (blank task).payload out (blank_long task)
 
+pub filled_blank : (task : TaskState) → filled (blank task) ≡ filled task
+filled_blank task = rw (← blank_long task) refl
+
 pub lacks_blank : (task : TaskState) → lacks_data (blank task) ≡ lacks_data task
 lacks_blank task = rw (← blank_long task) refl
 
-pub due_blank : (task : TaskState) → due_ask (blank task) ≡ due_ask task
+pub due_blank : (task : TaskState) → due_asks (blank task) ≡ due_asks task
 due_blank task = rw (← blank_long task) refl
+
+pub asked_blank : (task : TaskState) → is_asked (blank task) ≡ is_asked task
+asked_blank task = rw (← blank_long task) refl
+
+pub with_asked_blank : (task : TaskState) (tags : List ℕ) → blank (with_asked tags task) ≡ with_asked tags (blank task)
+unfolding with_asked
+with_asked_blank task tags = rw (← blank_long task) refl
 
 pub with_blank : (task : TaskState) (out : Frame) → blank (with_data (blank task) out) ≡ blank (with_data task out)
 unfolding with_data
 with_blank task out = rw (length-append (blank task).payload out.body, length-append task.payload out.body, ← blank_long task) refl
 
 -- what does not change
+pub asked_payload : (task : TaskState) (tags : List ℕ) → (with_asked tags task).payload ≡ task.payload
+unfolding with_asked
+asked_payload task tags = refl
+
+pub asked_keeps : (task : TaskState) (tags : List ℕ)
+    → most (with_asked tags task).first_burst (with_asked tags task).expected ≡ most task.first_burst task.expected
+unfolding with_asked
+asked_keeps task tags = refl
+
 pub with_keeps : (task : TaskState) (out : Frame)
     → most (blank (with_data task out)).first_burst (blank (with_data task out)).expected ≡ most task.first_burst task.expected
 unfolding with_data

@@ -1,6 +1,7 @@
 -- How far the data of a command can come.
-use Rattle.std.specs.Prelude.{ℕ, ◌≤◌, nat_le, if◌then◌else◌}
-use Rattle.iscsi_transfer.specs.Task.{most_wanted, unsolicited_limit}
+use Rattle.std.specs.Prelude.{ℕ, ◌+◌, ◌≤◌, length, nat_le, if◌then◌else◌}
+use Rattle.iscsi_pdu.specs.Frames.{Frame}
+use Rattle.iscsi_transfer.specs.Task.{TaskState, most_wanted, unsolicited_limit, filled, grown}
 use Rattle.iscsi_transfer.specs.declared.progress.Progress.TheInside.{Inside}
 
 -- the longest that the payload can come to be
@@ -14,3 +15,9 @@ pub record IsCounted (progress : Inside) : Type 0 where
   pub counted : progress.sequence_length ≤ 4294967296
   pub expects : progress.expected ≤ 4294967295
   pub short : progress.length ≤ 4294967295
+  pub few : progress.outstanding ≤ 4
+
+-- a Data-Out brings no more than is left of one R2T, and none where no R2T is open
+pub record Takes (task : TaskState) (out : Frame) : Type 0 where
+  pub step : filled (grown task out) ≤ filled task + 1
+  pub opened : filled (grown task out) ≤ filled task + length task.open_tags

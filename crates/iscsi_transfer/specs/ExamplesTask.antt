@@ -4,7 +4,7 @@ use Rattle.std.specs.List.{range_with_len}
 use Rattle.iscsi_pdu.specs.Frames.{Frame}
 use Rattle.iscsi_login.specs.declared.values.Values.{Values}
 use Rattle.iscsi_transfer.specs.Payload.{Past, begun, accepted, asked, payload, u}
-use Rattle.iscsi_transfer.specs.Task.{remembered, command_fault, ask_at, due_ask, is_whole, fault_of}
+use Rattle.iscsi_transfer.specs.Task.{remembered, command_fault, ask_at, due_asks, is_asked, is_whole, fault_of}
 use Rattle.iscsi_transfer.specs.declared.fault.DataFault.TheVariants as faults
 
 -- InitialR2T No, ImmediateData Yes, FirstBurstLength 8, MaxBurstLength 32
@@ -61,7 +61,7 @@ write_is_lawful : command_fault agreed (command w 128 1) ≡ None
 write_is_lawful = refl
 
 -- unsolicited data is to come, so nothing is asked for
-nothing_is_due : due_ask (remembered write) ≡ None
+nothing_is_due : due_asks (remembered write) ≡ []
 unfolding remembered
 nothing_is_due = refl
 
@@ -77,46 +77,46 @@ unasked_is_lawful : (fault_of (remembered write) (data_out false unsolicited_tag
 unfolding remembered fault_of
 unasked_is_lawful = (refl, refl)
 
-first_ask : due_ask (remembered unasked) ≡ Some (record { number = 0; offset = 8; length = 32 })
+first_ask : due_asks (remembered unasked) ≡ record { number = 0; offset = 8; length = 32 } ∷ []
 unfolding remembered
 first_ask = refl
 
 -- the first burst in two Data-Outs: the second ask is due when it is there, and not before
 abbrev within_first : Past
-within_first = accepted (data_out false 0 0 8 20) (asked 0 unasked)
+within_first = accepted (data_out false 0 0 8 20) (asked (0 ∷ []) unasked)
 
 abbrev first_burst : Past
 first_burst = accepted (data_out true 0 1 28 12) within_first
 
-first_burst_is_lawful : (fault_of (remembered (asked 0 unasked)) (data_out false 0 0 8 20) ≡ None)
+first_burst_is_lawful : (fault_of (remembered (asked (0 ∷ []) unasked)) (data_out false 0 0 8 20) ≡ None)
     × (fault_of (remembered within_first) (data_out true 0 1 28 12) ≡ None)
 unfolding remembered fault_of
 first_burst_is_lawful = (refl, refl)
 
-second_ask : (due_ask (remembered within_first) ≡ None)
-    × (due_ask (remembered first_burst) ≡ Some (record { number = 1; offset = 40; length = 32 }))
+second_ask : (due_asks (remembered within_first) ≡ [])
+    × (due_asks (remembered first_burst) ≡ record { number = 1; offset = 40; length = 32 } ∷ [])
 unfolding remembered
 second_ask = (refl, refl)
 
 -- a Data-Out of no bytes does not make the ask due again
-not_twice : (fault_of (remembered (asked 0 unasked)) (data_out false 0 0 8 0) ≡ None)
-    × (due_ask (remembered (accepted (data_out false 0 0 8 0) (asked 0 unasked))) ≡ None)
+not_twice : (fault_of (remembered (asked (0 ∷ []) unasked)) (data_out false 0 0 8 0) ≡ None)
+    × (due_asks (remembered (accepted (data_out false 0 0 8 0) (asked (0 ∷ []) unasked))) ≡ [])
 unfolding remembered fault_of
 not_twice = (refl, refl)
 
 -- the other bursts in one Data-Out each
 abbrev third_burst : Past
-third_burst = accepted (data_out true 2 0 72 32) (asked 2 (accepted (data_out true 1 0 40 32) (asked 1 first_burst)))
+third_burst = accepted (data_out true 2 0 72 32) (asked (2 ∷ []) (accepted (data_out true 1 0 40 32) (asked (1 ∷ []) first_burst)))
 
-last_ask : due_ask (remembered third_burst) ≡ Some (record { number = 3; offset = 104; length = 24 })
+last_ask : due_asks (remembered third_burst) ≡ record { number = 3; offset = 104; length = 24 } ∷ []
 unfolding remembered
 last_ask = refl
 
 abbrev all_bursts : Past
-all_bursts = accepted (data_out true 3 0 104 24) (asked 3 third_burst)
+all_bursts = accepted (data_out true 3 0 104 24) (asked (3 ∷ []) third_burst)
 
 whole_at_last : (is_whole (remembered third_burst) ≡ false) × (is_whole (remembered all_bursts) ≡ true)
-    × (payload all_bursts ≡ bytes 128) × (u all_bursts ≡ 8) × (due_ask (remembered all_bursts) ≡ None)
+    × (payload all_bursts ≡ bytes 128) × (u all_bursts ≡ 8) × (due_asks (remembered all_bursts) ≡ [])
 unfolding remembered
 whole_at_last = (refl, refl, refl, refl, refl)
 
@@ -128,6 +128,57 @@ four_asks : map (ask_at 65536 262144 1048576) (range_with_len 0 4) ≡ record { 
 } ∷ record { number = 2; offset = 589824; length = 262144 } ∷ record { number = 3; offset = 851968; length = 196608 } ∷ []
 four_asks = refl
 
+-- ---- the same write where more R2Ts may be open
+
+-- MaxOutstandingR2T m, and the unsolicited data has come
+abbrev unasked_of : ℕ → Past
+unasked_of m = record unasked { values = record agreed { max_outstanding_r2t = m } }
+
+-- with four all are due at once; those of which tags are sent are due no more
+all_at_once : (due_asks (remembered (unasked_of 4)) ≡ map (ask_at 8 32 128) (range_with_len 0 4))
+    × (due_asks (remembered (asked (0 ∷ 1 ∷ []) (unasked_of 4))) ≡ map (ask_at 8 32 128) (range_with_len 2 2))
+    × (due_asks (remembered (asked (0 ∷ 1 ∷ 2 ∷ 3 ∷ []) (unasked_of 4))) ≡ [])
+unfolding remembered
+all_at_once = (refl, refl, refl)
+
+-- with two the first two are, and the next as soon as the data of one has come
+abbrev two_asked : Past
+two_asked = asked (0 ∷ 1 ∷ []) (unasked_of 2)
+
+abbrev one_came : Past
+one_came = accepted (data_out true 0 1 20 20) (accepted (data_out false 0 0 8 12) two_asked)
+
+abbrev two_came : Past
+two_came = accepted (data_out true 1 0 40 32) (asked (2 ∷ []) one_came)
+
+two_at_a_time : (due_asks (remembered (unasked_of 2)) ≡ map (ask_at 8 32 128) (range_with_len 0 2))
+    × (due_asks (remembered (accepted (data_out false 0 0 8 12) two_asked)) ≡ [])
+    × (due_asks (remembered one_came) ≡ ask_at 8 32 128 2 ∷ []) × (due_asks (remembered two_came) ≡ ask_at 8 32 128 3 ∷ [])
+    × (due_asks (remembered (asked (3 ∷ []) two_came)) ≡ [])
+unfolding remembered
+two_at_a_time = (refl, refl, refl, refl, refl)
+
+-- data comes in the order of the R2Ts
+in_order : (fault_of (remembered two_asked) (data_out true 0 0 8 32) ≡ None)
+    × (fault_of (remembered two_asked) (data_out true 1 0 40 32) ≡ Some faults.TransferTag)
+    × (fault_of (remembered one_came) (data_out true 1 0 40 32) ≡ None)
+    × (fault_of (remembered one_came) (data_out true 0 0 40 32) ≡ Some faults.TransferTag)
+unfolding remembered fault_of
+in_order = (refl, refl, refl, refl)
+
+-- the tags of those that are open, and whether any is
+abbrev all_sent : Past
+all_sent = asked (3 ∷ []) two_came
+
+abbrev all_came : Past
+all_came = accepted (data_out true 3 0 104 24) (accepted (data_out true 2 0 72 32) all_sent)
+
+open_ones : ((remembered one_came).open_tags ≡ 1 ∷ []) × ((remembered all_sent).open_tags ≡ 2 ∷ 3 ∷ [])
+    × (is_asked (remembered (unasked_of 2)) ≡ false) × (is_asked (remembered all_sent) ≡ true) × (is_asked (remembered all_came) ≡ false)
+    × (is_whole (remembered all_came) ≡ true)
+unfolding remembered
+open_ones = (refl, refl, refl, refl, refl, refl)
+
 -- ---- how much is wanted
 
 -- four blocks of 512 bytes, the first unasked, in bytes
@@ -135,7 +186,7 @@ three_blocks : ask_at 512 262144 2048 0 ≡ record { number = 0; offset = 512; l
 three_blocks = refl
 
 -- F and no data: the command itself makes the first ask due
-at_once : due_ask (remembered (begun agreed (command fw 16 0))) ≡ Some (record { number = 0; offset = 0; length = 16 })
+at_once : due_asks (remembered (begun agreed (command fw 16 0))) ≡ record { number = 0; offset = 0; length = 16 } ∷ []
 unfolding remembered
 at_once = refl
 
@@ -157,8 +208,8 @@ unfolding remembered fault_of
 no_data = (refl, refl, refl)
 
 -- of 1048577 bytes none is asked for
-too_long : (is_whole (remembered (begun agreed (command fw 1048577 3))) ≡ true) × (due_ask (remembered (begun agreed (command fw 1048576 3)))
-    ≡ Some (record { number = 0; offset = 3; length = 32 }))
+too_long : (is_whole (remembered (begun agreed (command fw 1048577 3))) ≡ true) × (due_asks (remembered (begun agreed (command fw 1048576 3)))
+    ≡ record { number = 0; offset = 3; length = 32 } ∷ [])
 unfolding remembered
 too_long = (refl, refl)
 
@@ -180,35 +231,35 @@ fault_3 = refl
 
 -- DataSN goes on in a sequence, and begins again with the next
 fault_4 : (fault_of (remembered half_way) (data_out true unsolicited_tag 0 4 4) ≡ Some faults.DataSn)
-    × (fault_of (remembered (asked 0 unasked)) (data_out false 0 2 8 20) ≡ Some faults.DataSn)
+    × (fault_of (remembered (asked (0 ∷ []) unasked)) (data_out false 0 2 8 20) ≡ Some faults.DataSn)
 unfolding remembered fault_of
 fault_4 = (refl, refl)
 
 -- above FirstBurstLength or the expected length, with the command and behind it, and above what an R2T asked for
 fault_5 : (command_fault agreed (command fw 128 9) ≡ Some faults.TooMuch) × (command_fault agreed (command fw 4 5) ≡ Some faults.TooMuch)
     × (fault_of (remembered half_way) (data_out true unsolicited_tag 1 4 5) ≡ Some faults.TooMuch)
-    × (fault_of (remembered (asked 0 unasked)) (data_out true 0 0 8 33) ≡ Some faults.TooMuch)
+    × (fault_of (remembered (asked (0 ∷ []) unasked)) (data_out true 0 0 8 33) ≡ Some faults.TooMuch)
 unfolding remembered fault_of
 fault_5 = (refl, refl, refl, refl)
 
 -- another tag than that of the open R2T, unsolicited data behind its end, an R2T's tag before it, and data behind all
-fault_6 : (fault_of (remembered (asked 0 unasked)) (data_out false 1 0 8 20) ≡ Some faults.TransferTag)
-    × (fault_of (remembered (asked 0 unasked)) (data_out false unsolicited_tag 0 8 20) ≡ Some faults.TransferTag)
+fault_6 : (fault_of (remembered (asked (0 ∷ []) unasked)) (data_out false 1 0 8 20) ≡ Some faults.TransferTag)
+    × (fault_of (remembered (asked (0 ∷ []) unasked)) (data_out false unsolicited_tag 0 8 20) ≡ Some faults.TransferTag)
     × (fault_of (remembered write) (data_out false 0 0 1 3) ≡ Some faults.TransferTag)
     × (fault_of (remembered all_bursts) (data_out true 3 0 128 0) ≡ Some faults.TransferTag)
 unfolding remembered fault_of
 fault_6 = (refl, refl, refl, refl)
 
 -- what an R2T asked for ends with F, and F stands nowhere else
-fault_7 : (fault_of (remembered (asked 0 unasked)) (data_out false 0 0 8 32) ≡ Some faults.Final)
-    × (fault_of (remembered (asked 0 unasked)) (data_out true 0 0 8 0) ≡ Some faults.Final)
+fault_7 : (fault_of (remembered (asked (0 ∷ []) unasked)) (data_out false 0 0 8 32) ≡ Some faults.Final)
+    × (fault_of (remembered (asked (0 ∷ []) unasked)) (data_out true 0 0 8 0) ≡ Some faults.Final)
 unfolding remembered fault_of
 fault_7 = (refl, refl)
 
 -- the first fault counts: tag, DataSN, offset, too much, F
-first_fault : (fault_of (remembered (asked 0 unasked)) (data_out true 7 7 7 77) ≡ Some faults.TransferTag)
-    × (fault_of (remembered (asked 0 unasked)) (data_out true 0 7 7 77) ≡ Some faults.DataSn)
-    × (fault_of (remembered (asked 0 unasked)) (data_out true 0 0 7 77) ≡ Some faults.BufferOffset)
-    × (fault_of (remembered (asked 0 unasked)) (data_out false 0 0 8 77) ≡ Some faults.TooMuch)
+first_fault : (fault_of (remembered (asked (0 ∷ []) unasked)) (data_out true 7 7 7 77) ≡ Some faults.TransferTag)
+    × (fault_of (remembered (asked (0 ∷ []) unasked)) (data_out true 0 7 7 77) ≡ Some faults.DataSn)
+    × (fault_of (remembered (asked (0 ∷ []) unasked)) (data_out true 0 0 7 77) ≡ Some faults.BufferOffset)
+    × (fault_of (remembered (asked (0 ∷ []) unasked)) (data_out false 0 0 8 77) ≡ Some faults.TooMuch)
 unfolding remembered fault_of
 first_fault = (refl, refl, refl, refl)

@@ -4,7 +4,6 @@ use Rattle.std.specs.Prelude.{ℕ, List, [], ◌∷◌, ◌++◌, length, revers
 use Rattle.std.specs.List.{flat_map, list_any, take_while}
 use Rattle.iscsi_pdu.specs.Frames.{Frame}
 use Rattle.iscsi_pdu.specs.ScsiCommand.{is_final, is_write, expected_transfer_length}
-use Rattle.iscsi_pdu.specs.DataOut.{no_transfer_tag}
 use Rattle.iscsi_login.specs.declared.values.Values.{Values}
 
 -- what has happened to the data of a command
@@ -15,20 +14,20 @@ pub record Past : Type 0 where
   pub command : Frame
   -- the Data-Outs that were accepted for it, in the order in which they came
   pub outs : List Frame
-  -- the Target Transfer Tag of the last R2T for it; FFFFFFFFh before the first
-  pub tag : ℕ
+  -- the Target Transfer Tags of the R2Ts for it, in the order in which they were sent
+  pub tags : List ℕ
 
 -- the command alone has come
 abbrev pub begun : Values → Frame → Past
-begun values command = record { values = values; command = command; outs = []; tag = no_transfer_tag }
+begun values command = record { values = values; command = command; outs = []; tags = [] }
 
 -- a Data-Out is accepted
 abbrev pub accepted : Frame → Past → Past
 accepted out past = record past { outs = past.outs ++ out ∷ [] }
 
--- an R2T is sent
-abbrev pub asked : ℕ → Past → Past
-asked tag past = record past { tag = tag }
+-- R2Ts with these tags are sent
+abbrev pub asked : List ℕ → Past → Past
+asked tags past = record past { tags = past.tags ++ tags }
 
 -- ---- what is read from it
 

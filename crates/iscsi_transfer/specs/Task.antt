@@ -1,5 +1,7 @@
 -- The rules of a command's data (RFC 7143 §11.7, §11.8), in terms of what is remembered of its past.
-use Rattle.std.specs.Prelude.{ℕ, ◌+◌, ◌-◌, ◌*◌, ◌/◌, min, List, ◌++◌, length, replicate, Bool, ◌&&◌, ◌||◌, not, ◌==◌, nat_lt, nat_le, Option, Some, None, if◌then◌else◌}
+use Rattle.std.specs.Prelude.{ℕ, ◌+◌, ◌-◌, ◌*◌, ◌/◌, min, List, [], ◌∷◌, ◌++◌, length, map, drop, get_or, replicate, Bool, ◌&&◌, ◌||◌, not, ◌==◌, nat_lt, nat_le, Option, Some, None, is_some, if◌then◌else◌}
+use Rattle.std.specs.Int.{div_ceil}
+use Rattle.std.specs.List.{range_with_len}
 use Rattle.iscsi_pdu.specs.Frames.{Frame}
 use Rattle.iscsi_pdu.specs.ScsiCommand.{is_write}
 use Rattle.iscsi_pdu.specs.DataOut.{no_transfer_tag, target_transfer_tag, data_sn, buffer_offset}
@@ -23,8 +25,19 @@ pub record TaskState : Type 0 where
   pub is_open : Bool
   -- how many Data-Outs of the open sequence have come
   pub sequence_length : ℕ
-  -- the Target Transfer Tag of the last R2T
-  pub tag : ℕ
+  -- MaxOutstandingR2T: how many R2Ts may be open at a time
+  pub outstanding : ℕ
+  -- how many R2Ts were sent
+  pub sent : ℕ
+  -- the Target Transfer Tags of those whose data has not all come, in the order in which they were sent
+  pub open_tags : List ℕ
+
+-- how many bursts behind the unsolicited data have come; none while more unsolicited data is to come
+abbrev pub bursts_in : Bool → ℕ → ℕ → ℕ → ℕ
+bursts_in is_open length unsolicited burst = if is_open then 0 else (length - unsolicited) / burst
+
+abbrev pub filled_of : Past → ℕ
+filled_of past = bursts_in (is_open past) (length (payload past)) (u past) past.values.max_burst_length
 
 unfoldable pub remembered : Past → TaskState
 remembered past = record {
@@ -35,7 +48,9 @@ remembered past = record {
   unsolicited = u past;
   is_open = is_open past;
   sequence_length = sequence_length past;
-  tag = past.tag;
+  outstanding = past.values.max_outstanding_r2t;
+  sent = length past.tags;
+  open_tags = drop (filled_of past) past.tags;
 }
 
 -- ---- the command
@@ -70,18 +85,40 @@ ask_at start burst end k = let offset = start + k * burst in record { number = k
 abbrev pub ask : TaskState → ℕ → Ask
 ask task k = ask_at task.unsolicited task.burst (wanted task) k
 
+-- how many R2Ts have what they ask for
+abbrev pub filled : TaskState → ℕ
+filled task = bursts_in task.is_open (length task.payload) task.unsolicited task.burst
+
 -- the one that the payload has come to
 abbrev pub next_ask : TaskState → Ask
-next_ask task = ask task ((length task.payload - task.unsolicited) / task.burst)
+next_ask task = ask task (filled task)
 
 -- the unsolicited data has ended, and more is wanted
 abbrev pub lacks_data : TaskState → Bool
 lacks_data task = not task.is_open && nat_lt (length task.payload) (wanted task)
 
--- the ask that the last frame made due: the payload has just come to its offset
-abbrev pub due_ask : TaskState → Option Ask
-due_ask task =
-    if lacks_data task && task.sequence_length == 0 && (next_ask task).offset == length task.payload then Some (next_ask task) else None
+-- how many R2Ts the command takes in all
+abbrev pub bursts_wanted : TaskState → ℕ
+bursts_wanted task = div_ceil (wanted task - task.unsolicited) task.burst
+
+-- RFC 7143 §13.17: how many may have been sent, as no more than MaxOutstandingR2T are open
+abbrev pub allowed : TaskState → ℕ
+allowed task = min (bursts_wanted task) (filled task + task.outstanding)
+
+-- the R2Ts that are due, in rising number: those that may be sent and were not
+abbrev pub due_asks : TaskState → List Ask
+due_asks task = if lacks_data task then map (ask task) (range_with_len task.sent (allowed task - task.sent)) else []
+
+abbrev pub first : List Ask → Option Ask
+first [] = None
+first (ask ∷ asks) = Some ask
+
+abbrev pub is_due : TaskState → Bool
+is_due task = is_some (first (due_asks task))
+
+-- an R2T is open: not all that it asked for has come
+abbrev pub is_asked : TaskState → Bool
+is_asked task = lacks_data task && nat_lt (filled task) task.sent
 
 -- the payload is whole
 abbrev pub is_whole : TaskState → Bool
@@ -89,9 +126,9 @@ is_whole task = not task.is_open && length task.payload == wanted task
 
 -- ---- a Data-Out
 
--- RFC 7143 §11.7.4: the tag of the open sequence: FFFFFFFFh of unsolicited data, else that of its R2T
+-- RFC 7143 §11.7.4: the tag of the open sequence: FFFFFFFFh of unsolicited data, else that of the first open R2T
 abbrev pub sequence_tag : TaskState → ℕ
-sequence_tag task = if task.is_open then no_transfer_tag else task.tag
+sequence_tag task = if task.is_open then no_transfer_tag else get_or task.open_tags 0 no_transfer_tag
 
 -- where the open sequence ends at the latest
 abbrev pub sequence_end : TaskState → ℕ
@@ -99,7 +136,7 @@ sequence_end task =
     if task.is_open then unsolicited_limit task.first_burst task.expected else (next_ask task).offset + (next_ask task).length
 
 abbrev pub has_sequence : TaskState → Bool
-has_sequence task = task.is_open || lacks_data task
+has_sequence task = task.is_open || is_asked task
 
 -- RFC 7143 §11.7.1: F ends unsolicited data anywhere, and what an R2T asked for exactly at its end
 abbrev pub ends_rightly : TaskState → Frame → Bool
@@ -119,13 +156,24 @@ fault_of task out =
 
 -- ---- what happens
 
--- a Data-Out is accepted
-unfoldable pub with_data : TaskState → Frame → TaskState
-with_data task out = record task {
+-- the data of a Data-Out is there
+abbrev pub grown : TaskState → Frame → TaskState
+grown task out = record task {
   payload = task.payload ++ out.body;
   unsolicited = if task.is_open then length (task.payload ++ out.body) else task.unsolicited;
   is_open = task.is_open && not (is_last out);
   sequence_length = if is_last out then 0 else task.sequence_length + 1;
+}
+
+-- a Data-Out is accepted: an R2T is open until its last byte is there
+unfoldable pub with_data : TaskState → Frame → TaskState
+with_data task out = record (grown task out) { open_tags = drop (filled (grown task out) - filled task) task.open_tags }
+
+-- R2Ts with these tags are sent; one for data that has come already would not be open
+unfoldable pub with_asked : List ℕ → TaskState → TaskState
+with_asked tags task = record task {
+  sent = task.sent + length tags;
+  open_tags = task.open_tags ++ drop (filled task - task.sent) tags;
 }
 
 -- the same without the data: zeros stand in its place

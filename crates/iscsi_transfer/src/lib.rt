@@ -27,8 +27,9 @@
 //! - A [`Task`] takes a command's data: it tells the first fault of the command and of each Data-Out
 //!   ([`DataFault`]), and what stands of the payload, for every past of the task (`specs/Payload.antt`).
 //! - It asks for each byte behind the unsolicited data once and for no other
-//!   ([`laws::each_byte_is_asked_for_once`]), and where a sequence ends, it asks for more exactly where the
-//!   payload is not whole ([`laws::whole_or_asked_for`]).
+//!   ([`laws::each_byte_is_asked_for_once`]), with no more than MaxOutstandingR2T open at a time
+//!   ([`laws::few_are_open`]; where that is one, [`laws::one_is_open_at_a_time`]), and where a sequence ends,
+//!   an R2T is due or open exactly where the payload is not whole ([`laws::whole_or_asked_for`]).
 //! - Only [`Task::start`] takes memory, and for a command that takes no data it takes none.
 #![tactic(auto)]
 
@@ -40,5 +41,5 @@ mod task;
 
 pub use data_in::{Piece, data_ins, piece_at, piece_count};
 pub use fault::DataFault;
-pub use progress::{Ask, NO_TRANSFER_TAG, Progress};
+pub use progress::{Ask, MOST_OPEN, NO_TRANSFER_TAG, Progress};
 pub use task::{Task, command_fault};

@@ -1,17 +1,21 @@
 //! How far the data of a SCSI Command has come.
 
-ghost use Rattle.std.specs.Prelude.{◌≡◌, ◌+◌, ◌*◌, ◌^◌, ◌<◌, ◌≤◌, length, replicate, IfNone, IfErr, OnOk, OnErr, Some, None};
+ghost use Rattle.std.specs.Prelude.{◌≡◌, ◌+◌, ◌*◌, ◌^◌, ◌<◌, ◌≤◌, [], ◌∷◌, length, replicate, true, IfNone, IfErr, OnOk, OnErr, Some, None};
 ghost use Rattle.iscsi_transfer.specs.Payload.{announces, expected as expected_in};
-ghost use Rattle.iscsi_transfer.specs.Task.{TaskState, blank, fault_of as fault_in, with_data, due_ask, is_whole as is_whole_in, wanted as wanted_in, next_ask, sequence_tag, sequence_end, lacks_data};
-ghost use Rattle.iscsi_transfer.specs.Counted.{most};
+ghost use Rattle.iscsi_transfer.specs.Task.{TaskState, blank, fault_of as fault_in, filled, grown, with_data, with_asked, allowed, due_asks, first, is_due, is_asked, is_whole as is_whole_in, wanted as wanted_in, next_ask, sequence_tag, sequence_end, lacks_data};
+ghost use Rattle.iscsi_transfer.specs.Counted.{most, Takes};
 
 use crate::fault::DataFault;
+use arrayvec::ArrayVec;
 use iscsi_login::Values;
 use iscsi_pdu::Frame;
 use std::marker::Model;
 
 /// So many bytes are asked for at most.
 pub(crate) const MOST_WANTED: usize = 1_048_576;
+
+/// So many R2Ts of a command are open at a time at most: no login agrees on more.
+pub const MOST_OPEN: usize = 4;
 
 /// The Target Transfer Tag of unsolicited data (RFC 7143 §11.7.4). That of an R2T is below it.
 pub const NO_TRANSFER_TAG: u32 = 0xffff_ffff;
@@ -43,13 +47,15 @@ pub struct Progress {
     is_open: bool,
     /// How many Data-Outs of the open sequence have come.
     sequence_length: usize,
-    /// The tag of the last R2T.
-    tag: u32,
+    /// MaxOutstandingR2T
+    outstanding: usize,
+    /// The tags of the R2Ts whose data has not all come, in the order in which they were sent.
+    open_tags: ArrayVec<u32, MOST_OPEN>,
 }
 
 impl Model for Progress {
-    ghost use Rattle.std.specs.Prelude.{replicate};
-    ghost use Rattle.iscsi_transfer.specs.Task.{TaskState};
+    ghost use Rattle.std.specs.Prelude.{◌+◌, length as long, replicate};
+    ghost use Rattle.iscsi_transfer.specs.Task.{TaskState, bursts_in};
     ghost use Rattle.iscsi_transfer.specs.Counted.{IsCounted};
 
     ghost Value = { TaskState };
@@ -62,7 +68,9 @@ impl Model for Progress {
       unsolicited = t.unsolicited;
       is_open = t.is_open;
       sequence_length = t.sequence_length;
-      tag = t.tag;
+      outstanding = t.outstanding;
+      sent = bursts_in t.is_open t.length t.unsolicited t.burst + long t.open_tags.items;
+      open_tags = t.open_tags.items;
     } };
 
     ghost invariant = { IsCounted };
@@ -91,6 +99,7 @@ impl Progress {
     /// That of a SCSI Command that has just come.
     pub(crate) fn begun(command: &Frame, values: &Values) -> Progress
         requires burst { 1 ≤ values.now.max_burst_length }
+        requires outstanding { values.now.max_outstanding_r2t ≤ 4 }
         requires short { length command.now.body ≤ 4294967295 }
         ensures { result ≡ record {
           payload = replicate (length command.now.body) 0;
@@ -100,7 +109,9 @@ impl Progress {
           unsolicited = length command.now.body;
           is_open = announces command.now;
           sequence_length = 0;
-          tag = 0xFFFFFFFF;
+          outstanding = values.now.max_outstanding_r2t;
+          sent = 0;
+          open_tags = [];
         } }
     {
         let length = command.body.len();
@@ -112,7 +123,8 @@ impl Progress {
             unsolicited: length,
             is_open: announces(command),
             sequence_length: 0,
-            tag: NO_TRANSFER_TAG,
+            outstanding: values.max_outstanding_r2t as usize,
+            open_tags: ArrayVec::new(),
         }
     }
 
@@ -134,20 +146,26 @@ impl Progress {
         !self.is_open && self.length < self.wanted()
     }
 
-    /// The number of the R2T whose burst the payload has come to.
-    fn next_number(&self) -> usize
-        ensures value { result ≡ (next_ask self.now).number }
-        ensures bound { self.now.unsolicited + result * self.now.burst < 2 ^ 63 }
+    /// How many R2Ts have what they ask for.
+    fn filled(&self) -> usize
+        ensures value { result ≡ filled self.now }
+        ensures bound { self.now.unsolicited + result * self.now.burst ≤ length self.now.payload }
+        ensures few { result ≤ 4294967295 }
+        ensures counted { self.now.sent ≡ result + length self.now.open_tags }
     {
-        (self.length - self.unsolicited) / self.burst
+        if self.is_open {
+            0
+        } else {
+            (self.length - self.unsolicited) / self.burst
+        }
     }
 
-    /// Where that burst begins.
+    /// Where the burst begins that the payload has come to.
     fn next_offset(&self) -> usize
         ensures value { result ≡ (next_ask self.now).offset }
         ensures bound { result ≤ length self.now.payload }
     {
-        self.unsolicited + self.next_number() * self.burst
+        self.unsolicited + self.filled() * self.burst
     }
 
     /// The length of that burst.
@@ -165,7 +183,7 @@ impl Progress {
         if self.is_open {
             NO_TRANSFER_TAG
         } else {
-            self.tag
+            self.open_tags.first().copied().unwrap_or(NO_TRANSFER_TAG)
         }
     }
 
@@ -180,27 +198,56 @@ impl Progress {
         }
     }
 
-    /// What the last frame made due: the next R2T, which is to be sent now, and then [`Progress::asked`] says
-    /// its tag.
-    pub fn due(&self) -> Option<Ask>
-        ensures { result ≡ due_ask self.now }
+    /// How many R2Ts were sent.
+    fn sent(&self) -> usize
+        ensures value { result ≡ self.now.sent }
+        ensures behind { filled self.now ≤ result }
     {
-        let offset = self.next_offset();
-        if !self.lacks_data() || self.sequence_length != 0 || offset != self.length {
+        self.filled() + self.open_tags.len()
+    }
+
+    /// How many may have been sent, as no more than MaxOutstandingR2T are open (RFC 7143 §13.17).
+    fn allowed(&self) -> usize
+        ensures { result ≡ allowed self.now }
+    {
+        let bursts = self
+            .wanted()
+            .saturating_sub(self.unsolicited)
+            .div_ceil(self.burst);
+        bursts.min(self.filled() + self.outstanding)
+    }
+
+    /// The first R2T that is due, which is to be sent now, and then [`Progress::asked`] says its tag.
+    pub fn due(&self) -> Option<Ask>
+        ensures value { result ≡ first (due_asks self.now) }
+        ensures few { length (due_asks self.now) ≤ 4 }
+    {
+        let number = self.sent();
+        if !self.lacks_data() || self.allowed() <= number {
             return None;
         }
+        let offset = self.unsolicited + number * self.burst;
+        let length = self.burst.min(self.wanted() - offset);
         Some(Ask {
-            number: self.next_number() as u32,
+            number: number as u32,
             offset: offset as u32,
-            length: self.next_length() as u32,
+            length: length as u32,
         })
     }
 
-    /// The R2T that was due is sent, with this Target Transfer Tag.
-    pub fn asked(&mut self, tag: u32)
-        ensures { self.new ≡ record self.old { tag = tag } }
+    /// An R2T is open: not all that it asked for has come.
+    pub fn is_asked(&self) -> bool
+        ensures { result ≡ is_asked self.now }
     {
-        self.tag = tag;
+        self.lacks_data() && !self.open_tags.is_empty()
+    }
+
+    /// The first R2T that was due is sent, with this Target Transfer Tag.
+    pub fn asked(&mut self, tag: u32)
+        requires due { is_due self.old ≡ true }
+        ensures { self.new ≡ with_asked (tag ∷ []) self.old }
+    {
+        self.open_tags.push(tag);
     }
 
     /// What is wrong with a Data-Out of this command: the first of [`DataFault::TransferTag`],
@@ -208,17 +255,28 @@ impl Progress {
     pub fn fault_of(&self, out: &Frame) -> Option<DataFault>
         ensures { result ≡ fault_in self.now out.now }
     {
-        self.judged(out)
+        self.first_fault(out)
     }
 
     /// The same; for a Data-Out with which nothing is wrong there is room.
-    #[tactic(auto, unfolding(crate::specs::Task::fault_of))]
     pub(crate) fn judged(&self, out: &Frame) -> Option<DataFault>
         ensures fault { result ≡ fault_in self.now out.now }
         ensures counted { IfNone result (self.now.sequence_length ≤ 4294967295) }
         ensures room { IfNone result (length self.now.payload + length out.now.body ≤ most self.now.first_burst self.now.expected) }
+        ensures takes { IfNone result (Takes self.now out.now) }
     {
-        let is_expected = self.is_open || self.lacks_data();
+        let fault = self.first_fault(out);
+        // A burst has some bytes, so that the end of a sequence fills one R2T alone.
+        prove!(1 <= self.burst);
+        fault
+    }
+
+    #[tactic(auto, unfolding(crate::specs::Task::fault_of))]
+    fn first_fault(&self, out: &Frame) -> Option<DataFault>
+        ensures fault { result ≡ fault_in self.now out.now }
+        ensures counted { IfNone result (self.now.sequence_length ≤ 4294967295) }
+    {
+        let is_expected = self.is_open || self.is_asked();
         let reached = self.length + out.body.len();
         let end = self.sequence_end();
         if !(is_expected && out.header.target_transfer_tag() == self.sequence_tag()) {
@@ -251,12 +309,11 @@ impl Progress {
         Ok(())
     }
 
-    /// A Data-Out is accepted.
-    #[tactic(auto, unfolding(crate::specs::Task::with_data))]
-    pub(crate) fn take(&mut self, out: &Frame)
+    /// The data of a Data-Out is there. No R2T was sent.
+    fn grow(&mut self, out: &Frame)
         requires counted { self.old.sequence_length ≤ 4294967295 }
         requires room { length self.old.payload + length out.now.body ≤ most self.old.first_burst self.old.expected }
-        ensures { self.new ≡ blank (with_data self.old out.now) }
+        ensures grown { record self.new { sent = self.old.sent } ≡ blank (grown self.old out.now) }
     {
         let is_final = out.header.is_final();
         self.length += out.body.len();
@@ -269,6 +326,20 @@ impl Progress {
         } else {
             self.sequence_length + 1
         };
+    }
+
+    /// A Data-Out is accepted.
+    pub(crate) fn take(&mut self, out: &Frame)
+        requires counted { self.old.sequence_length ≤ 4294967295 }
+        requires room { length self.old.payload + length out.now.body ≤ most self.old.first_burst self.old.expected }
+        requires takes { Takes self.old out.now }
+        ensures { self.new ≡ blank (with_data self.old out.now) }
+    {
+        let filled = self.filled();
+        self.grow(out);
+        if filled < self.filled() {
+            self.open_tags.remove(0);
+        }
     }
 
     /// The payload is whole: no unsolicited Data-Out is to come, and nothing is to be asked for.

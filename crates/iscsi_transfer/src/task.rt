@@ -1,8 +1,8 @@
 //! The data of a SCSI Command on its way from the initiator.
 
-ghost use Rattle.std.specs.Prelude.{◌≡◌, ◌+◌, ◌*◌, ◌^◌, ◌<◌, ◌≤◌, ◌∷◌, ◌⊎◌, length, IfOk, IfErr, OnOk, OnErr, IfNone, Some, None};
+ghost use Rattle.std.specs.Prelude.{◌≡◌, ◌+◌, ◌*◌, ◌^◌, ◌<◌, ◌≤◌, [], ◌∷◌, ◌⊎◌, length, true, IfOk, IfErr, OnOk, OnErr, IfNone, Some, None};
 ghost use Rattle.iscsi_transfer.specs.Payload.{Past, begun, accepted, asked as asked_in, announces, expected as expected_in};
-ghost use Rattle.iscsi_transfer.specs.Task.{blank, remembered, command_fault as command_fault_in, fault_of as fault_in, with_data, due_ask, is_whole as is_whole_in, wanted as wanted_in, next_ask, sequence_tag, sequence_end, ends_rightly, lacks_data};
+ghost use Rattle.iscsi_transfer.specs.Task.{blank, remembered, command_fault as command_fault_in, fault_of as fault_in, with_data, with_asked, due_asks, first, is_due, is_asked, is_whole as is_whole_in, wanted as wanted_in, next_ask, sequence_tag, sequence_end, ends_rightly, lacks_data};
 ghost use Rattle.iscsi_transfer.specs.Counted.{most};
 ghost use Rattle.iscsi_transfer.specs.declared.fault.DataFault.TheVariants.{Memory};
 
@@ -67,7 +67,8 @@ impl Task {
     /// The task of a SCSI Command that has just come, with its immediate data. The room for all its data is
     /// made here, so that no later call takes memory.
     pub fn start(alloc: Global, command: &Frame, values: &Values) -> Result<Task, DataFault>
-        requires { 1 ≤ values.now.max_burst_length }
+        requires burst { 1 ≤ values.now.max_burst_length }
+        requires outstanding { values.now.max_outstanding_r2t ≤ 4 }
         ensures stands { IfOk result (λ task. task ≡ remembered (begun values.now command.now)) }
         ensures lawful { OnOk result (command_fault_in values.now command.now ≡ None) }
         ensures fault { IfErr result (λ fault. (command_fault_in values.now command.now ≡ Some fault)
@@ -91,18 +92,27 @@ impl Task {
         self.progress.lacks_data()
     }
 
-    /// What the last frame made due: the next R2T, which is to be sent now, and then [`Task::asked`] says
-    /// its tag.
+    /// The first R2T that is due (RFC 7143 §11.8), which is to be sent now, and then [`Task::asked`] says its tag.
+    /// R2Ts are due as soon as the unsolicited data has ended, and no more than MaxOutstandingR2T are open.
     pub fn due(&self) -> Option<Ask>
-        ensures { result ≡ due_ask self.now }
+        ensures value { result ≡ first (due_asks self.now) }
+        ensures few { length (due_asks self.now) ≤ 4 }
     {
         self.progress.due()
     }
 
-    /// The R2T that was due is sent, with this Target Transfer Tag.
+    /// An R2T is open: not all that it asked for has come.
+    pub fn is_asked(&self) -> bool
+        ensures { result ≡ is_asked self.now }
+    {
+        self.progress.is_asked()
+    }
+
+    /// The first R2T that was due is sent, with this Target Transfer Tag.
     pub fn asked(&mut self, tag: u32)
-        ensures same { self.new ≡ record self.old { tag = tag } }
-        ensures stands { (past : Past) → self.old ≡ remembered past → self.new ≡ remembered (asked_in tag past) }
+        requires due { is_due self.old ≡ true }
+        ensures same { self.new ≡ with_asked (tag ∷ []) self.old }
+        ensures stands { (past : Past) → self.old ≡ remembered past → self.new ≡ remembered (asked_in (tag ∷ []) past) }
     {
         self.progress.asked(tag);
     }

@@ -10,7 +10,7 @@ use Rattle.iscsi_session.proofs.session.Session.receive.Goals as goal
 
 pub accept-requires : goal.accept-requires
 accept-requires c = record {
-  burst = c.requires;
+  values = c.requires;
   vacant = c.judge-verdict.ensures.vacant c.in-Accepted.is;
   acceptable = c.judge-verdict.ensures.acceptable c.in-Accepted.is;
 }

@@ -1,17 +1,36 @@
-use Rattle.std.proofs.Common.{◌≡◌, false, get_or, Some, sym, ap, ◌∙◌}
-use Rattle.std.specs.Prelude.{is_some}
-use Rattle.std.proofs.lemmas.List.Quantifiers.{position-Some}
-use Rattle.iscsi_session.specs.declared.transfers.Transfer.{Transfer}
-use Rattle.iscsi_session.specs.State.{TransferList, asking_place, due_of}
+use Rattle.std.proofs.Common.{◌<◌, List, length, sym, ap, ◌∙◌, arith}
+use Rattle.iscsi_pdu.specs.declared.r2t.R2t.{R2t}
+use Rattle.iscsi_session.specs.State.{r2ts_at}
+use Rattle.iscsi_session.proofs.Sending.{sending_begins, sending_more, sending_ends}
 use Rattle.iscsi_session.proofs.transfers.Transfers.ask.Goals as goal
 
--- where one is asked, an ask is due
-pub returns-in_err-ask-clause-same : goal.returns-in_err-ask-clause-same
-returns-in_err-ask-clause-same c =
-    let items = c.self.inside.list.items in
-    let at : asking_place items ≡ Some c.in_ok-place.place = ap (λ (t : TransferList). asking_place t.list) c.self.view_is ∙ sym c.asking.ensures
-    ∙ c.in_ok-place.was in
-    absurd (let there = (position-Some (λ (t : Transfer). is_some (due_of t)) items c.in_ok-place.place c.index_mut-transfer.result.now at).1 in
-    let none : is_some (due_of (get_or items c.in_ok-place.place c.index_mut-transfer.result.now)) ≡ false =
-    ap (λ (t : Transfer). is_some (due_of t)) (sym c.index_mut-transfer.ensures.value) ∙ ap is_some (sym c.due.ensures ∙ c.in_err-ask.was) in
-    let no = sym there ∙ none in cc)
+pub loop-due-init : goal.loop-due-init
+loop-due-init c = record {
+  sent = sending_begins _ _ _ _ _ c.requires.there c.due_at-due.ensures.few c.requires.room;
+  next = c.due_at-due.ensures.value;
+  tag = c.due_at-due.ensures.tag;
+}
+
+pub put_r2t-requires : goal.put_r2t-requires
+put_r2t-requires c =
+    let room = c.loop-due.invariant.sent.room in
+    omega (arith, room, ap (λ (l : List R2t). length l) c.send.ensures.rest)
+
+pub loop-due-smaller : goal.loop-due-smaller
+loop-due-smaller c =
+    let less : length (r2ts_at c.send.new.self c.args.stamp c.args.place) < length (r2ts_at c.loop-due.self c.args.stamp c.args.place) =
+    omega (arith, ap (λ (l : List R2t). length l) c.send.ensures.rest) in
+    less
+
+pub loop-due-preserved : goal.loop-due-preserved
+loop-due-preserved c = record {
+  sent = sending_more c.send.result c.loop-due.invariant.sent c.send.ensures.rest c.send.ensures.sent c.put_r2t.ensures.written c.put_r2t.ensures.spare;
+  next = c.due_at-due-in-Some.ensures.value;
+  tag = c.due_at-due-in-Some.ensures.tag;
+}
+
+pub returns-clause-written : goal.returns-clause-written
+returns-clause-written c = (sending_ends c.loop-due.invariant.sent c.loop-due.invariant.tag (sym c.loop-due.invariant.next ∙ c.in_default.is)).0
+
+pub returns-clause-sent : goal.returns-clause-sent
+returns-clause-sent c = (sending_ends c.loop-due.invariant.sent c.loop-due.invariant.tag (sym c.loop-due.invariant.next ∙ c.in_default.is)).1

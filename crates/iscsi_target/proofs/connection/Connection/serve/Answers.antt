@@ -1,4 +1,5 @@
 use Rattle.std.proofs.Common.{ℕ, List, [], refl, sym, ap, ◌∙◌, subst}
+use Rattle.iscsi_login.specs.Values.{AreInRange}
 use Rattle.iscsi_session.specs.Comings.{lend}
 use Rattle.iscsi_session.specs.Runs.{output}
 use Rattle.iscsi_session.specs.Steps.{is_serving}
@@ -25,10 +26,11 @@ returns-clause-leaves c = λ session is.
 
 pub returns-clause-loads : goal.returns-clause-loads
 returns-clause-loads c = λ units numbers whole.
-    session_loads (goes_on_by c.serve.result) c.args.self.now _ c.in-FullFeature.session c.serve.new.self
-    (sym (ap (λ (l : LinkState). l.phase) c.self.view_is) ∙ c.in-FullFeature.is) refl
+    let here = sym (ap (λ (l : LinkState). l.phase) c.self.view_is) ∙ c.in-FullFeature.is in
+    let range : AreInRange c.in-FullFeature.session.params.values = c.requires.values c.in-FullFeature.session here in
+    session_loads (goes_on_by c.serve.result) c.args.self.now _ c.in-FullFeature.session c.serve.new.self here refl
     (λ rests. subst (λ (bytes : List ℕ). Loads (goes_on_by c.serve.result) c.in-FullFeature.session c.serve.new.self bytes c.serve.new.out.items)
     (ap (λ (l : LinkState). l.waiting) c.self.view_is)
     (serve_loads c.serve.result c.args.frame c.args.luns.now c.in-FullFeature.session c.serve.new.self
     (output c.self.inside.waiting.items c.args.orders.now.items) (output c.serve.new.out.items c.serve.new.orders.items) (lend units []) numbers
-    c.serve.ensures.ok c.serve.ensures.err c.serve.ensures.idle whole rests))
+    c.serve.ensures.ok c.serve.ensures.err c.serve.ensures.idle whole range rests))

@@ -1,0 +1,44 @@
+use Rattle.std.proofs.Common.{◌≡◌, ℕ, ◌+◌, ◌-◌, length, drop, ap, ◌∙◌, arith}
+use Rattle.iscsi_transfer.specs.Task.{TaskState, bursts_in, filled}
+use Rattle.iscsi_transfer.proofs.Inside.{filled_is}
+use Rattle.iscsi_transfer.proofs.Open.{reached, left_open}
+use Rattle.iscsi_transfer.proofs.progress.Progress.take.Goals as goal
+
+-- the last byte of an R2T has come, so it is open no more
+pub returns-then-filled : goal.returns-then-filled
+returns-then-filled c =
+    let old = c.args.self.now in
+    let new = c.grow.new.self in
+    let inside = c.self.inside in
+    let tags = c.remove.new.self.items in
+    let k = bursts_in inside.is_open inside.length inside.unsolicited inside.burst in
+    let is : k ≡ filled new = filled_is inside ∙ ap filled c.self.view_is in
+    let before : c.filled-filled.result ≡ filled old = c.filled-filled.ensures.value in
+    let one : 1 ≡ k - filled old = omega (
+      arith,
+      is,
+      before,
+      c.filled.ensures.value,
+      c.if-filled.true,
+      reached old new c.args.out.now c.grow.ensures.grown,
+      c.requires.takes.step,
+    ) in
+    let counted : old.sent ≡ filled old + length old.open_tags = omega (arith, before, c.filled-filled.ensures.counted) in
+    let kept : inside.open_tags.items ≡ old.open_tags =
+    ap (λ (t : TaskState). t.open_tags) c.self.view_is ∙ ap (λ (t : TaskState). t.open_tags) c.grow.ensures.grown in
+    ap (λ (t : TaskState). let s : TaskState = record t { sent = k + length tags; open_tags = tags } in s) c.self.view_is
+    ∙ left_open old new c.args.out.now k tags c.grow.ensures.grown is counted c.requires.takes
+    (c.remove.ensures.items ∙ ap (drop 1) kept ∙ ap (λ (n : ℕ). drop n old.open_tags) one)
+
+pub returns-else-filled : goal.returns-else-filled
+returns-else-filled c =
+    let old = c.args.self.now in
+    let new = c.grow.new.self in
+    let k = c.filled.result in
+    let before : c.filled-filled.result ≡ filled old = c.filled-filled.ensures.value in
+    let none : 0 ≡ k - filled old = omega (arith, before, c.if-filled.false) in
+    let counted : old.sent ≡ filled old + length old.open_tags = omega (arith, before, c.filled-filled.ensures.counted) in
+    let kept : new.open_tags ≡ old.open_tags = ap (λ (t : TaskState). t.open_tags) c.grow.ensures.grown in
+    ap (λ (n : ℕ). let s : TaskState = record new { sent = n } in s) c.filled.ensures.counted
+    ∙ left_open old new c.args.out.now k new.open_tags c.grow.ensures.grown c.filled.ensures.value counted c.requires.takes
+    (kept ∙ ap (λ (n : ℕ). drop n old.open_tags) none)
