@@ -37,12 +37,12 @@ class Watch:
             self.interrupted.set()
 
 
-def write_interrupted(disks, disk, interrupt):
+def write_interrupted(disks, disk, interrupt, rewrites=None):
     """An initiator writes a pattern of its own in each range, and is interrupted. Gives how often it logged in."""
     watch = Watch()
     words = [word for number in range(COUNT)
              for word in ("-c", f"aio_write -P {number + 1} {number * LENGTH} {LENGTH}")]
-    with relaying(("127.0.0.1", disks.port), watch.see) as relay:
+    with relaying(("127.0.0.1", disks.port), watch.see, rewrites=rewrites) as relay:
         watch.interrupt = lambda: interrupt(relay)
         with subprocess.Popen(["qemu-io", "-f", "raw", *words, "-c", "aio_flush", disks.url(disk, 0, relay.port)],
                               stdin=subprocess.DEVNULL, stdout=subprocess.PIPE, text=True) as process:
@@ -54,13 +54,13 @@ def write_interrupted(disks, disk, interrupt):
     return watch.logins
 
 
-def keeps_all_writes(program, interrupt, is_lost):
+def keeps_all_writes(program, interrupt, is_lost, rewrites=None):
     """On both disks all is there that was written, and nothing else has changed. Where its connection is lost the
     initiator logs in again."""
     for disk in KINDS:
         with served(program, seed=11) as disks, folder() as path:
             old = before(disks, disk)
-            logins = write_interrupted(disks, disk, interrupt)
+            logins = write_interrupted(disks, disk, interrupt, rewrites)
             must((logins > 1) == is_lost, f"it logged in {logins} times")
             must(disks.is_running(), "targetd has ended")
             image = read_back(disks.url(disk), path / "copy").read_bytes()

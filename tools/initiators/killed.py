@@ -43,10 +43,10 @@ class Killer:
             self.process.kill()
 
 
-def kill_while_it_writes(disks, disk, length, count, answered):
+def kill_while_it_writes(disks, disk, length, count, answered, rewrites=None):
     """An initiator writes a pattern of its own in each range, and is killed. Gives where writes were answered."""
     killer = Killer(answered)
-    with relaying(("127.0.0.1", disks.port), killer.see) as relay:
+    with relaying(("127.0.0.1", disks.port), killer.see, rewrites=rewrites) as relay:
         words = [word for number in range(count)
                  for word in ("-c", f"aio_write -P {number + 1} {number * length} {length}")]
         with subprocess.Popen(["qemu-io", "-f", "raw", *words, "-c", "aio_flush", disks.url(disk, 0, relay.port)],
@@ -62,12 +62,12 @@ def kill_while_it_writes(disks, disk, length, count, answered):
     return killer.answered
 
 
-def keeps_the_writes(program, length, count, answered):
+def keeps_the_writes(program, length, count, answered, rewrites=None):
     """Each write is whole or absent on both disks, where the initiator is killed after so many were answered."""
     for disk in KINDS:
         with served(program, seed=9) as disks, folder() as path:
             old = before(disks, disk)
-            there = kill_while_it_writes(disks, disk, length, count, answered)
+            there = kill_while_it_writes(disks, disk, length, count, answered, rewrites)
             must(disks.is_running(), "targetd has ended")
             found = read_back(disks.url(disk), path / "copy").read_bytes()
         are_whole(found, old, length, count, there, (disk, length, answered))

@@ -1,5 +1,5 @@
 """A relay between an initiator and a target, which keeps the PDUs that pass and their order. It can stall, cut a
-connection, and lose PDUs."""
+connection, lose PDUs, and send others in the place of the initiator's."""
 
 import socket
 import threading
@@ -47,13 +47,14 @@ def cut(data):
 
 
 class Relay:
-    """Listens on a free port, and passes what comes there to the target and back. Where it may lose PDUs it passes
-    whole ones only."""
+    """Listens on a free port, and passes what comes there to the target and back. Where it may lose PDUs, or rewrite the
+    bytes of those that are sent, it passes whole ones only."""
 
-    def __init__(self, target, tell=lambda event: None, loses=None):
+    def __init__(self, target, tell=lambda event: None, loses=None, rewrites=None):
         self.target = target
         self.tell = tell
         self.loses = loses
+        self.rewrites = rewrites
         self.events = []
         self.lock = threading.Lock()
         self.ends = []  # the two sockets of each connection
@@ -87,14 +88,20 @@ class Relay:
             pdus, rest = cut(rest + piece)
             events = [Event(connection, side, data) for data in pdus]
             self.keep(events)
-            if self.loses:
-                piece = b"".join(event.data for event in events if not self.loses(event))
+            if self.loses or self.rewrites:
+                piece = b"".join(map(self.passed, events))
             with self.changed:
                 self.changed.wait_for(lambda: connection not in self.stalled)
             if not is_sent(sink, piece):
                 return
         self.keep([Event(connection, side, b"")])
         shut_down(sink, socket.SHUT_WR)
+
+    def passed(self, event):
+        """The bytes of a PDU that go on."""
+        if self.loses and self.loses(event):
+            return b""
+        return self.rewrites(event.data) if self.rewrites and event.side == SENT else event.data
 
     def keep(self, events):
         """Keeps events before their bytes go on, so that an answer stands behind its request."""
@@ -146,9 +153,9 @@ def shut_down(end, how):
 
 
 @contextmanager
-def relaying(target, tell=lambda event: None, loses=None):
+def relaying(target, tell=lambda event: None, loses=None, rewrites=None):
     """A relay to this address, until it is no longer needed."""
-    relay = Relay(target, tell, loses)
+    relay = Relay(target, tell, loses, rewrites)
     thread = threading.Thread(target=relay.accept, daemon=True)
     thread.start()
     try:
